@@ -1,0 +1,167 @@
+-- A change of case keeps the class of a text, its length and its plainness, and a second change does nothing.
+use Rattle.std.proofs.Common.{◌≡◌, ℕ, ◌<◌, ◌+◌, Bool, true, false, ◌&&◌, ◌||◌, List, [], ◌∷◌, length, map, get_or, suc, zero, IsTrue, refl, ap, sym, ◌∙◌, arith, cond, ◌==◌}
+use Rattle.std.specs.List.{list_all}
+use Rattle.std.specs.Char.{is_ascii_alphabetic, is_ascii_digit, is_ascii_alphanumeric, to_ascii_lowercase, to_ascii_uppercase}
+use Rattle.std.proofs.lemmas.Bool.Decides.{nat_tests}
+use Rattle.std.proofs.lemmas.Str.Ascii.{lowercase-lowercase, uppercase-uppercase}
+use Rattle.std.proofs.lemmas.List.{length-map}
+use Rattle.icu_locale_core.specs.Subtag.{has_length, is_alphabetic, is_numeric, is_alphanumeric, starts_with_digit, is_language, is_script, is_region, is_variant, is_key, is_subtag, lowercase, uppercase, titlecase, IsWritten}
+use Rattle.icu_locale_core.specs.Class.{is_member, written_case, written_byte}
+use Rattle.icu_locale_core.specs.declared.classes.Class.{Class}
+use Rattle.icu_locale_core.specs.declared.classes.Class.TheVariants.{Language, Script, Region, Variant, Key, Subtag}
+
+-- the classes of one character do not see its case
+pub record SeesNoCase (p : ℕ → Bool) : Type 0 where
+  pub lower : (c : ℕ) → p (to_ascii_lowercase c) ≡ p c
+  pub upper : (c : ℕ) → p (to_ascii_uppercase c) ≡ p c
+
+pub alphabetic_sees_no_case : SeesNoCase is_ascii_alphabetic
+alphabetic_sees_no_case = record { lower = λ c. grind (arith, nat_tests); upper = λ c. grind (arith, nat_tests) }
+
+pub digit_sees_no_case : SeesNoCase is_ascii_digit
+digit_sees_no_case = record { lower = λ c. grind (arith, nat_tests); upper = λ c. grind (arith, nat_tests) }
+
+pub alphanumeric_sees_no_case : SeesNoCase is_ascii_alphanumeric
+alphanumeric_sees_no_case = record { lower = λ c. grind (arith, nat_tests); upper = λ c. grind (arith, nat_tests) }
+
+-- so those of a text do not either
+pub all-lowercase : (p : ℕ → Bool) → SeesNoCase p → (t : List ℕ) → list_all p (lowercase t) ≡ list_all p t
+all-lowercase p s [] = refl
+all-lowercase p s (c ∷ t) = λ i. s.lower c i && all-lowercase p s t i
+
+pub all-uppercase : (p : ℕ → Bool) → SeesNoCase p → (t : List ℕ) → list_all p (uppercase t) ≡ list_all p t
+all-uppercase p s [] = refl
+all-uppercase p s (c ∷ t) = λ i. s.upper c i && all-uppercase p s t i
+
+pub all-titlecase : (p : ℕ → Bool) → SeesNoCase p → (t : List ℕ) → list_all p (titlecase t) ≡ list_all p t
+all-titlecase p s [] = refl
+all-titlecase p s (c ∷ t) = λ i. s.upper c i && all-lowercase p s t i
+
+pub length-titlecase : (t : List ℕ) → length (titlecase t) ≡ length t
+length-titlecase [] = refl
+length-titlecase (c ∷ t) = ap suc (length-map t to_ascii_lowercase)
+
+pub lowercase-lowercase_text : (t : List ℕ) → lowercase (lowercase t) ≡ lowercase t
+lowercase-lowercase_text [] = refl
+lowercase-lowercase_text (c ∷ t) = λ i. lowercase-lowercase c i ∷ lowercase-lowercase_text t i
+
+pub uppercase-uppercase_text : (t : List ℕ) → uppercase (uppercase t) ≡ uppercase t
+uppercase-uppercase_text [] = refl
+uppercase-uppercase_text (c ∷ t) = λ i. uppercase-uppercase c i ∷ uppercase-uppercase_text t i
+
+pub titlecase-titlecase : (t : List ℕ) → titlecase (titlecase t) ≡ titlecase t
+titlecase-titlecase [] = refl
+titlecase-titlecase (c ∷ t) = λ i. uppercase-uppercase c i ∷ lowercase-lowercase_text t i
+
+starts_with_digit-lowercase : (t : List ℕ) → starts_with_digit (lowercase t) ≡ starts_with_digit t
+starts_with_digit-lowercase [] = refl
+starts_with_digit-lowercase (c ∷ t) = digit_sees_no_case.lower c
+
+is_key-lowercase : (t : List ℕ) → is_key (lowercase t) ≡ is_key t
+is_key-lowercase [] = refl
+is_key-lowercase (c ∷ []) = refl
+is_key-lowercase (c ∷ d ∷ []) = λ i. alphanumeric_sees_no_case.lower c i && alphabetic_sees_no_case.lower d i
+is_key-lowercase (c ∷ d ∷ e ∷ t) = refl
+
+has_length-same : (low high : ℕ) (s t : List ℕ) → length s ≡ length t → has_length low high s ≡ has_length low high t
+has_length-same low high s t e = cc
+
+-- the class of a text is that of its written form
+pub is_member-written_case : (class : Class) (t : List ℕ) → is_member class (written_case class t) ≡ is_member class t
+is_member-written_case Language t = λ i. has_length-same 2 3 (lowercase t) t (length-map t to_ascii_lowercase) i && all-lowercase is_ascii_alphabetic alphabetic_sees_no_case t i
+is_member-written_case Script t = λ i. has_length-same 4 4 (titlecase t) t (length-titlecase t) i && all-titlecase is_ascii_alphabetic alphabetic_sees_no_case t i
+is_member-written_case Region t = λ i. (has_length-same 2 2 (uppercase t) t (length-map t to_ascii_uppercase) i && all-uppercase is_ascii_alphabetic alphabetic_sees_no_case t i) || (has_length-same 3 3 (uppercase t) t (length-map t to_ascii_uppercase) i && all-uppercase is_ascii_digit digit_sees_no_case t i)
+is_member-written_case Variant t = λ i. (has_length-same 5 8 (lowercase t) t (length-map t to_ascii_lowercase) i || (has_length-same 4 4 (lowercase t) t (length-map t to_ascii_lowercase) i && starts_with_digit-lowercase t i)) && all-lowercase is_ascii_alphanumeric alphanumeric_sees_no_case t i
+is_member-written_case Key t = is_key-lowercase t
+is_member-written_case Subtag t = λ i. has_length-same 3 8 (lowercase t) t (length-map t to_ascii_lowercase) i && all-lowercase is_ascii_alphanumeric alphanumeric_sees_no_case t i
+
+-- to write twice is to write once
+pub written_case-written_case : (class : Class) (t : List ℕ) → written_case class (written_case class t) ≡ written_case class t
+written_case-written_case Language t = lowercase-lowercase_text t
+written_case-written_case Script t = titlecase-titlecase t
+written_case-written_case Region t = uppercase-uppercase_text t
+written_case-written_case Variant t = lowercase-lowercase_text t
+written_case-written_case Key t = lowercase-lowercase_text t
+written_case-written_case Subtag t = lowercase-lowercase_text t
+
+-- writing keeps the length
+pub length-written_case : (class : Class) (t : List ℕ) → length (written_case class t) ≡ length t
+length-written_case Language t = length-map t to_ascii_lowercase
+length-written_case Script t = length-titlecase t
+length-written_case Region t = length-map t to_ascii_uppercase
+length-written_case Variant t = length-map t to_ascii_lowercase
+length-written_case Key t = length-map t to_ascii_lowercase
+length-written_case Subtag t = length-map t to_ascii_lowercase
+
+get_or-map : (f : ℕ → ℕ) (t : List ℕ) (i : ℕ) → i < length t → get_or (map f t) i 0 ≡ f (get_or t i 0)
+get_or-map f [] i h = absurd (omega arith)
+get_or-map f (c ∷ t) zero h = refl
+get_or-map f (c ∷ t) (suc i) h = get_or-map f t i (omega arith)
+
+get_or-titlecase : (t : List ℕ) (i : ℕ) → i < length t → get_or (titlecase t) i 0 ≡ written_byte Script i (get_or t i 0)
+get_or-titlecase [] i h = absurd (omega arith)
+get_or-titlecase (c ∷ t) zero h = refl
+get_or-titlecase (c ∷ t) (suc i) h = get_or-map to_ascii_lowercase t i (omega arith)
+
+-- writing goes character by character
+pub get_or-written_case : (class : Class) (t : List ℕ) (i : ℕ) → i < length t → get_or (written_case class t) i 0 ≡ written_byte class i (get_or t i 0)
+get_or-written_case Language t i h = get_or-map to_ascii_lowercase t i h
+get_or-written_case Script t i h = get_or-titlecase t i h
+get_or-written_case Region t i h = get_or-map to_ascii_uppercase t i h
+get_or-written_case Variant t i h = get_or-map to_ascii_lowercase t i h
+get_or-written_case Key t i h = get_or-map to_ascii_lowercase t i h
+get_or-written_case Subtag t i h = get_or-map to_ascii_lowercase t i h
+
+-- a test that each character of a class passes holds of each character that another weaker one holds of
+list_all-weaker : (p q : ℕ → Bool) → ((c : ℕ) → p c ≡ true → q c ≡ true) → (t : List ℕ) → list_all p t ≡ true → list_all q t ≡ true
+list_all-weaker p q weaker [] h = refl
+list_all-weaker p q weaker (c ∷ t) h = grind (arith, nat_tests, weaker c, list_all-weaker p q weaker t)
+
+alphanumeric_from_alphabetic : (t : List ℕ) → is_alphabetic t ≡ true → is_alphanumeric t ≡ true
+alphanumeric_from_alphabetic t h = list_all-weaker is_ascii_alphabetic is_ascii_alphanumeric (λ c h. grind (arith, nat_tests)) t h
+
+alphanumeric_from_numeric : (t : List ℕ) → is_numeric t ≡ true → is_alphanumeric t ≡ true
+alphanumeric_from_numeric t h = list_all-weaker is_ascii_digit is_ascii_alphanumeric (λ c h. grind (arith, nat_tests)) t h
+
+second_true : (a b : Bool) → (a && b) ≡ true → b ≡ true
+second_true true b h = h
+second_true false b h = absurd (cc)
+
+region_plain : (a b c d : Bool) (t : List ℕ) → (b ≡ true → is_alphanumeric t ≡ true) → (d ≡ true → is_alphanumeric t ≡ true) → ((a && b) || (c && d)) ≡ true → is_alphanumeric t ≡ true
+region_plain true true c d t f g h = f refl
+region_plain true false c d t f g h = g (second_true c d h)
+region_plain false b c d t f g h = g (second_true c d h)
+
+key_plain : (t : List ℕ) → is_key t ≡ true → is_alphanumeric t ≡ true
+key_plain [] h = refl
+key_plain (c ∷ []) h = absurd (cc)
+key_plain (c ∷ d ∷ []) h = grind (arith, nat_tests, alphanumeric_from_alphabetic (d ∷ []))
+key_plain (c ∷ d ∷ e ∷ t) h = absurd (cc)
+
+-- a member of a class is letters and digits
+pub plain_from_member : (class : Class) (t : List ℕ) → is_member class t ≡ true → is_alphanumeric t ≡ true
+plain_from_member Language t h = alphanumeric_from_alphabetic t (second_true (has_length 2 3 t) (is_alphabetic t) h)
+plain_from_member Script t h = alphanumeric_from_alphabetic t (second_true (has_length 4 4 t) (is_alphabetic t) h)
+plain_from_member Region t h = region_plain (has_length 2 2 t) (is_alphabetic t) (has_length 3 3 t) (is_numeric t) t (alphanumeric_from_alphabetic t) (alphanumeric_from_numeric t) h
+plain_from_member Variant t h = second_true (has_length 5 8 t || (has_length 4 4 t && starts_with_digit t)) (is_alphanumeric t) h
+plain_from_member Key t h = key_plain t h
+plain_from_member Subtag t h = second_true (has_length 3 8 t) (is_alphanumeric t) h
+
+-- so is its written form
+pub written_plain : (class : Class) (t : List ℕ) → is_member class t ≡ true → is_alphanumeric (written_case class t) ≡ true
+written_plain class t h = plain_from_member class (written_case class t) (is_member-written_case class t ∙ h)
+
+-- and it is in its written case
+pub written_written : (class : Class) (t : List ℕ) → is_member class t ≡ true → IsWritten (is_member class) (written_case class) (written_case class t)
+written_written class t h = record { member = is_member-written_case class t ∙ h; written = written_case-written_case class t }
+
+-- a region is one of letters exactly where it has two characters
+pub is_alphabetic-region : (t : List ℕ) → is_region t ≡ true → is_alphabetic t ≡ (length t == 2)
+is_alphabetic-region [] h = absurd (cc)
+is_alphabetic-region (a ∷ []) h = absurd (cc)
+is_alphabetic-region (a ∷ b ∷ []) h = grind (arith, nat_tests)
+is_alphabetic-region (a ∷ b ∷ c ∷ []) h = 
+    let digit : is_ascii_digit a ≡ true = grind (arith, nat_tests) in
+    let none : is_ascii_alphabetic a ≡ false = grind (arith, nat_tests) in
+    rw none refl
+is_alphabetic-region (a ∷ b ∷ c ∷ d ∷ t) h = absurd (grind (arith, nat_tests))

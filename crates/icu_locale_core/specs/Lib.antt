@@ -1,0 +1,4 @@
+pub mod Class
+pub mod Padded
+pub mod ParseError
+pub mod Subtag

@@ -1,0 +1,142 @@
+// A short text of letters and digits, in an array and behind no pointer.
+ghost use Rattle.std.specs.Prelude.{◌≡◌, ◌≤◌, IsTrue, length, List, ℕ};
+ghost use Rattle.std.specs.Cmp.Lexicographic.{pointwise, slice_cmp};
+ghost use Rattle.std.specs.Ordering.{nat_cmp, as_partial_cmp};
+ghost use Rattle.std.specs.Prelude.{nat_eq};
+ghost use Rattle.icu_locale_core.specs.Class.{is_member, written_case};
+ghost use Rattle.icu_locale_core.specs.Padded.{text_of, padded, IsPadded};
+ghost use Rattle.icu_locale_core.specs.Subtag.{is_alphanumeric, IsWritten};
+
+ghost use Rattle.std.proofs.Common.{rules};
+ghost use Rattle.std.specs.Cmp.{partial_order_from_own_ties};
+ghost use Rattle.std.specs.Cmp.Rules.{comparing, hashing};
+ghost use Rattle.std.specs.Hash as fed;
+
+use crate::classes::Class;
+use std::cmp::Ordering;
+use std::fmt;
+use std::hash::{Hash, Hasher};
+use std::marker::Model;
+
+/// A text of at most `N` letters and digits.
+#[derive(Clone, Copy)]
+pub struct TinyText<const N: usize> {
+    // The text, and zeros behind it.
+    pub(crate) bytes: [u8; N],
+}
+
+impl<const N: usize> Model for TinyText<N> {
+    ghost use Rattle.std.specs.Prelude.{List, ℕ};
+    ghost use Rattle.icu_locale_core.specs.Padded.{text_of, padded, IsPadded};
+
+    ghost Value = { List ℕ };
+
+    ghost view = { λ a. text_of a.bytes };
+
+    ghost invariant = { λ a. IsPadded N a.bytes };
+
+    ghost inverse = { λ t. record { bytes = padded N t } };
+
+    ghost inverse_ok = { λ a h. λ i. record { bytes = h.zeros i } };
+}
+
+impl<const N: usize> TinyText<N> {
+    // The text in the written case of its class.
+    pub fn written(class: Class, text: &[u8]) -> Self
+        requires member { IsTrue (is_member class text.now) }
+        requires short { length text.now ≤ N }
+        ensures text { result ≡ written_case class text.now }
+        ensures known { IsWritten (is_member class) (written_case class) result }
+    {
+        let mut bytes = [0; N];
+        for (place, byte) in text.iter().enumerate() {
+            bytes[place] = class.written_byte(place, *byte);
+        }
+        TinyText { bytes }
+    }
+
+    // How many bytes the text has.
+    pub fn len(&self) -> usize
+        ensures { result ≡ length self.now }
+    {
+        let mut length = 0;
+        for byte in &self.bytes {
+            if *byte == 0 {
+                break;
+            }
+            length += 1;
+        }
+        length
+    }
+
+    pub fn as_str(&self) -> &str
+        ensures text { result.now ≡ self.now }
+        ensures plain { IsTrue (is_alphanumeric self.now) }
+    {
+        let text = &self.bytes[..self.len()];
+        unsafe { str::from_utf8_unchecked(text) }
+    }
+
+    // The text with the zeros behind it, which has the order of the text alone.
+    fn padded(&self) -> &str
+        ensures value { result.now ≡ padded N self.now }
+        ensures short { length self.now ≤ N }
+        ensures plain { IsTrue (is_alphanumeric self.now) }
+    {
+        unsafe { str::from_utf8_unchecked(&self.bytes) }
+    }
+}
+
+impl<const N: usize> PartialEq for TinyText<N> {
+    ghost eq = { pointwise nat_eq };
+
+    ghost laws = { Prim.search (comparing, rules) };
+
+    fn eq(&self, other: &Self) -> bool {
+        self.padded() == other.padded()
+    }
+}
+
+impl<const N: usize> Eq for TinyText<N> {
+    ghost laws = { Prim.search (comparing, rules) };
+}
+
+impl<const N: usize> PartialOrd for TinyText<N> {
+    ghost partial_cmp = { as_partial_cmp (slice_cmp nat_cmp) };
+
+    ghost laws = { partial_order_from_own_ties (Prim.search (comparing, rules)) (Prim.search (comparing, rules)) };
+
+    fn partial_cmp(&self, other: &Self) -> Option<Ordering> {
+        Some(self.cmp(other))
+    }
+}
+
+impl<const N: usize> Ord for TinyText<N> {
+    ghost cmp = { slice_cmp nat_cmp };
+
+    ghost total = { Prim.search (comparing, rules) };
+
+    ghost matches_partial_cmp = { Prim.search (comparing, rules) };
+
+    ghost matches_eq = { Prim.search (comparing, rules) };
+
+    fn cmp(&self, other: &Self) -> Ordering {
+        self.padded().cmp(other.padded())
+    }
+}
+
+impl<const N: usize> Hash for TinyText<N> {
+    ghost hash_input = { λ t. fed.str t };
+
+    ghost respects_eq = { Prim.search (hashing, rules) };
+
+    fn hash<H: Hasher>(&self, state: &mut H) {
+        self.as_str().hash(state);
+    }
+}
+
+impl<const N: usize> fmt::Debug for TinyText<N> {
+    fn fmt<W: fmt::Write>(&self, f: &mut fmt::Formatter<W>) -> fmt::Result {
+        f.write_str(self.as_str())
+    }
+}
