@@ -1,2 +1,5 @@
 mod Cases
 mod Padding
+mod Searches
+mod TextSets
+mod VariantLists

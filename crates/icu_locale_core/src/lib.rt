@@ -6,7 +6,9 @@ mod extensions;
 mod parse_error;
 mod subtags;
 mod tiny;
+mod variants;
 
 pub use parse_error::ParseError;
 pub use extensions::{Key, Subtag};
+pub use variants::{Variants, VariantsIter};
 pub use subtags::{Language, Region, Script, Variant};

@@ -1,0 +1,72 @@
+-- Lists of variants that rise.
+use Rattle.std.proofs.Common.{◌≡◌, ℕ, ◌==◌, Bool, true, false, List, [], ◌∷◌, length, IsTrue, nat_eq, refl, ap, sym, subst, ◌∙◌, arith}
+use Rattle.std.specs.List.{Contains, All, dedup}
+use Rattle.std.specs.List.Sorted.{IsStrictlySortedBy, IsSorted, IsPermutation}
+use Rattle.std.specs.Cmp.Lexicographic.{pointwise}
+use Rattle.std.specs.Ordering.{eq_by_cmp}
+use Rattle.std.proofs.lemmas.List.Elements.{All-nil, All-contains, All-weaker, All-contains_itself}
+use Rattle.std.proofs.lemmas.List.Kept.{IsStrictlySortedBy-dedup, Contains-dedup, Contains-from_dedup}
+use Rattle.std.proofs.lemmas.List.Sorted.{Contains-permutation, IsPermutation-sym}
+use Rattle.std.proofs.lemmas.Slice.Eq.{bytes_eq-Decides}
+use Rattle.std.specs.Cmp.{nat_eq_equiv}
+use Rattle.std.specs.Cmp.Lexicographic.{lists_equiv, texts_ties}
+use Rattle.std.specs.FinMap as fin
+use Rattle.std.proofs.lemmas.Bool.{eqb-true}
+use Rattle.std.proofs.lemmas.List.{length-map}
+use Rattle.icu_locale_core.specs.Subtag.{IsVariant}
+use Rattle.icu_locale_core.specs.Variants.{IsVariantList}
+use Rattle.icu_locale_core.specs.TextSet.{text_cmp, TextSet, empty, contains, from_list, rising}
+use Rattle.icu_locale_core.proofs.TextSets.{text_total, is_among, contains-from_list, same_set, Contains-is_among, is_among-Contains, from_list-rising}
+
+pub IsVariantList-nil : IsVariantList []
+unfolding IsStrictlySortedBy
+IsVariantList-nil = record { rise = tt; each = All-nil IsVariant }
+
+-- two tests that imply each other are equal
+pub same_tests : (a b : Bool) → (a ≡ true → b ≡ true) → (b ≡ true → a ≡ true) → a ≡ b
+same_tests true b f g = sym (f refl)
+same_tests false true f g = g refl
+same_tests false false f g = refl
+
+-- lists with the same elements have the same set
+pub from_list-same : (ts us : List (List ℕ)) → ((t : List ℕ) → Contains ts t → Contains us t) → ((t : List ℕ) → Contains us t → Contains ts t) → from_list ts ≡ from_list us
+from_list-same ts us there back = same_set (from_list ts) (from_list us) (λ q.
+    contains-from_list ts q
+    ∙ same_tests (is_among q ts) (is_among q us) (λ h. is_among-Contains q us (there q (Contains-is_among q ts h))) (λ h. is_among-Contains q ts (back q (Contains-is_among q us h)))
+    ∙ sym (contains-from_list us q))
+
+module _ (list sorted : List (List ℕ)) (moved : IsPermutation list sorted) where
+  unique : List (List ℕ)
+  unique = dedup (pointwise nat_eq) sorted
+
+  there : (t : List ℕ) → Contains unique t → Contains list t
+  unfolding unique
+  there t here = Contains-permutation sorted list t (IsPermutation-sym list sorted moved) (Contains-from_dedup (pointwise nat_eq) sorted t here)
+
+  back : (t : List ℕ) → Contains list t → Contains unique t
+  unfolding unique
+  back t here = Contains-dedup (lists_equiv nat_eq_equiv) (λ x y. (bytes_eq-Decides x y).0) sorted t (Contains-permutation list sorted t moved here)
+
+  -- a list sorted and without its repeats has the same set
+  pub from_list-dedup : from_list (dedup (pointwise nat_eq) sorted) ≡ from_list list
+  unfolding unique
+  from_list-dedup = from_list-same unique list there back
+
+  -- and it is a list of variants that rise
+  pub IsVariantList-dedup : IsSorted text_cmp sorted → All IsVariant list → IsVariantList (dedup (pointwise nat_eq) sorted)
+  unfolding unique
+  IsVariantList-dedup order each = record {
+    rise = IsStrictlySortedBy-dedup text_total texts_ties sorted order;
+    each = All-weaker (Contains unique) IsVariant (λ t here. All-contains IsVariant list t each (there t here)) unique (All-contains_itself unique);
+  }
+
+-- a set is empty exactly where its rising list is
+pub empty_from_length : (s : TextSet) → (length (rising s) == 0) ≡ true → s ≡ empty
+empty_from_length s h = sym (from_list-rising s) ∙ by (rising s) h
+  where
+    by : (ts : List (List ℕ)) → (length ts == 0) ≡ true → from_list ts ≡ empty
+    by [] h = refl
+    by (t ∷ ts) h = absurd (omega (arith, eqb-true (length (t ∷ ts)) 0 h))
+
+pub length-rising_empty : length (rising empty) ≡ 0
+length-rising_empty = length-map (fin.entries empty) (λ e. e.0) ∙ sym (fin.len-entries empty) ∙ fin.len-empty text_cmp (Unit {0})

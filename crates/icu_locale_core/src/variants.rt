@@ -1,0 +1,214 @@
+//! The variants of an identifier: a set.
+ghost use Rattle.std.specs.Prelude.{◌≡◌, ◌↔◌, IsTrue, IsOk, IfOk, IfErr, length, ℕ, List};
+ghost use Rattle.std.specs.List.{All};
+ghost use Rattle.std.specs.Iterator.{YieldsFirst, item_count};
+ghost use Rattle.std.specs.Ordering.{as_partial_cmp, on};
+ghost use Rattle.std.specs.Cmp.{partial_order_from_own_ties};
+ghost use Rattle.std.specs.Cmp.Lexicographic.{pointwise, slice_cmp};
+ghost use Rattle.std.specs.Cmp.Rules.{comparing, hashing};
+ghost use Rattle.std.specs.Hash as fed;
+ghost use Rattle.std.proofs.Common.{rules};
+ghost use Rattle.std.specs.Prelude.{nat_eq};
+ghost use Rattle.std.proofs.lemmas.Slice.Eq.{bytes_eq-Decides};
+ghost use Rattle.icu_locale_core.specs.Order.{text_lists_ties};
+ghost use Rattle.icu_locale_core.specs.Subtag.{IsVariant};
+ghost use Rattle.icu_locale_core.specs.TextSet.{text_cmp, empty, contains, from_list, rising, len};
+
+use crate::{ParseError, Variant};
+use std::alloc::Global;
+use std::cmp::Ordering;
+use std::fmt;
+use std::hash::{Hash, Hasher};
+use std::marker::Model;
+
+/// The variants of an identifier, each once and in no order (unicode_variant_subtag of UTS #35, section 3.1).
+///
+/// They stand in a sorted list, so that a look-up is a binary search.
+#[derive(Drop)]
+pub struct Variants {
+    items: Vec<Variant>,
+}
+
+impl Model for Variants {
+    ghost use Rattle.icu_locale_core.specs.TextSet.{TextSet, text_set_code, from_list};
+    ghost use Rattle.icu_locale_core.specs.Variants.{IsVariantList};
+
+    ghost Value = { TextSet };
+
+    ghost coded = { text_set_code };
+
+    ghost view = { λ a. from_list a.items.items };
+
+    ghost invariant = { λ a. IsVariantList a.items.items };
+}
+
+impl Variants {
+    /// The set without variants. It takes no memory.
+    pub fn new(alloc: Global) -> Self
+        ensures { result ≡ empty }
+    {
+        Variants {
+            items: Vec::new(alloc),
+        }
+    }
+
+    /// The set of the variants of a list, where repeats fall together. It takes no memory and refuses no list.
+    pub fn try_from_list(mut list: Vec<Variant>) -> Result<Self, ParseError>
+        ensures accepted { IsOk result }
+        ensures members { IfOk result (λ s. s ≡ from_list list.items) }
+    {
+        know_each(&list);
+        list.sort_unstable();
+        list.dedup();
+        Ok(Variants { items: list })
+    }
+
+    /// How many variants there are. It takes no memory.
+    pub fn len(&self) -> usize
+        ensures { result ≡ len self.now }
+    {
+        self.as_slice().len()
+    }
+
+    /// Whether there are none. It takes no memory.
+    pub fn is_empty(&self) -> bool
+        ensures { IsTrue result ↔ (self.now ≡ empty) }
+    {
+        self.as_slice().is_empty()
+    }
+
+    /// Whether the variant is one of them. It takes no memory.
+    pub fn contains(&self, variant: &Variant) -> bool
+        ensures { result ≡ contains self.now variant.now }
+    {
+        self.as_slice().binary_search(variant).is_ok()
+    }
+
+    /// The variants in rising order. It takes no memory.
+    pub fn iter(&self) -> VariantsIter<'_>
+        ensures { result ≡ rising self.now }
+    {
+        VariantsIter {
+            rest: self.as_slice(),
+        }
+    }
+
+    // The list behind the set.
+    fn as_slice(&self) -> &[Variant]
+        ensures { result.now ≡ rising self.now }
+    {
+        &self.items
+    }
+}
+
+impl Variants {
+    /// An equal set. Without variants it takes no memory.
+    ///
+    /// # Errors
+    ///
+    /// `Memory` where the list of variants could not be copied.
+    pub fn try_clone(&self) -> Result<Self, ParseError>
+        ensures same { IfOk result (λ s. s ≡ self.now) }
+        ensures refused { IfErr result (λ e. e ≡ ParseError.Memory) }
+        ensures free { self.now ≡ empty → IsOk result }
+    {
+        if self.is_empty() {
+            return Ok(Variants::new(*self.items.allocator()));
+        }
+        match Vec::from_slice(*self.items.allocator(), &self.items) {
+            Ok(items) => Ok(Variants { items }),
+            Err(_) => Err(ParseError::Memory),
+        }
+    }
+}
+
+impl PartialEq for Variants {
+    ghost eq = { on rising (pointwise (pointwise nat_eq)) };
+
+    ghost laws = { Prim.search (comparing, rules) };
+
+    fn eq(&self, other: &Self) -> bool {
+        self.as_slice() == other.as_slice()
+    }
+}
+
+impl Eq for Variants {
+    ghost laws = { Prim.search (comparing, rules) };
+}
+
+impl PartialOrd for Variants {
+    ghost partial_cmp = { as_partial_cmp (on rising (slice_cmp text_cmp)) };
+
+    ghost laws = { partial_order_from_own_ties (Prim.search (comparing, rules)) text_lists_ties };
+
+    fn partial_cmp(&self, other: &Self) -> Option<Ordering> {
+        Some(self.cmp(other))
+    }
+}
+
+impl Ord for Variants {
+    ghost cmp = { on rising (slice_cmp text_cmp) };
+
+    ghost total = { Prim.search (comparing, rules) };
+
+    ghost matches_partial_cmp = { Prim.search (comparing, rules) };
+
+    ghost matches_eq = { text_lists_ties };
+
+    fn cmp(&self, other: &Self) -> Ordering {
+        self.as_slice().cmp(other.as_slice())
+    }
+}
+
+impl Hash for Variants {
+    ghost hash_input = { λ s. fed.slice fed.str (rising s) };
+
+    ghost respects_eq = { λ s u h. (fed.items_Alike (fed.same_Alike fed.str (λ x y. bytes_eq-Decides x y))).fed (rising s) (rising u) h };
+
+    fn hash<H: Hasher>(&self, state: &mut H) {
+        self.as_slice().hash(state);
+    }
+}
+
+impl fmt::Debug for Variants {
+    fn fmt<W: fmt::Write>(&self, f: &mut fmt::Formatter<W>) -> fmt::Result {
+        fmt::Debug::fmt(self.as_slice(), f)
+    }
+}
+
+// Every variant of a list is one.
+fn know_each(list: &[Variant])
+    ensures { All IsVariant list.now }
+{
+    for variant in list {
+        variant.known();
+    }
+}
+
+/// A walk through variants in rising order.
+#[derive(Drop)]
+pub struct VariantsIter<'a> {
+    rest: &'a [Variant],
+}
+
+impl<'a> Model for VariantsIter<'a> {
+    ghost use Rattle.std.specs.Prelude.{List, ℕ};
+
+    ghost Value = { List (List ℕ) };
+
+    ghost view = { λ a. a.rest.now };
+}
+
+impl<'a> Iterator for VariantsIter<'a> {
+    type Item = Variant;
+
+    ghost next_gives = { YieldsFirst (λ s. s) };
+
+    ghost remaining = { item_count (λ s. s) };
+
+    fn next(&mut self) -> Option<Variant> {
+        let (first, rest) = self.rest.split_first()?;
+        self.rest = rest;
+        Some(*first)
+    }
+}
