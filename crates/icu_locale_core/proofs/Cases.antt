@@ -1,5 +1,5 @@
 -- A change of case keeps the class of a text, its length and its plainness, and a second change does nothing.
-use Rattle.std.proofs.Common.{◌≡◌, ℕ, ◌<◌, ◌+◌, Bool, true, false, ◌&&◌, ◌||◌, List, [], ◌∷◌, length, map, get_or, suc, zero, IsTrue, refl, ap, sym, ◌∙◌, arith, cond, ◌==◌}
+use Rattle.std.proofs.Common.{◌≡◌, ℕ, ◌<◌, ◌≤◌, ◌+◌, Bool, true, false, ◌&&◌, ◌||◌, List, [], ◌∷◌, length, map, get_or, suc, zero, IsTrue, refl, ap, sym, ◌∙◌, arith, cond, ◌==◌}
 use Rattle.std.specs.List.{list_all}
 use Rattle.std.specs.Char.{is_ascii_alphabetic, is_ascii_digit, is_ascii_alphanumeric, to_ascii_lowercase, to_ascii_uppercase}
 use Rattle.std.proofs.lemmas.Bool.Decides.{nat_tests}
@@ -165,3 +165,101 @@ is_alphabetic-region (a ∷ b ∷ c ∷ []) h =
     let none : is_ascii_alphabetic a ≡ false = grind (arith, nat_tests) in
     rw none refl
 is_alphabetic-region (a ∷ b ∷ c ∷ d ∷ t) h = absurd (grind (arith, nat_tests))
+
+-- ---- a text in lower case
+
+upper_lower : (c : ℕ) → to_ascii_uppercase (to_ascii_lowercase c) ≡ to_ascii_uppercase c
+upper_lower c = grind (arith, nat_tests)
+
+lower_upper : (c : ℕ) → to_ascii_lowercase (to_ascii_uppercase c) ≡ to_ascii_lowercase c
+lower_upper c = grind (arith, nat_tests)
+
+uppercase-lowercase_text : (t : List ℕ) → uppercase (lowercase t) ≡ uppercase t
+uppercase-lowercase_text [] = refl
+uppercase-lowercase_text (c ∷ t) = λ i. upper_lower c i ∷ uppercase-lowercase_text t i
+
+lowercase-uppercase_text : (t : List ℕ) → lowercase (uppercase t) ≡ lowercase t
+lowercase-uppercase_text [] = refl
+lowercase-uppercase_text (c ∷ t) = λ i. lower_upper c i ∷ lowercase-uppercase_text t i
+
+titlecase-lowercase_text : (t : List ℕ) → titlecase (lowercase t) ≡ titlecase t
+titlecase-lowercase_text [] = refl
+titlecase-lowercase_text (c ∷ t) = λ i. upper_lower c i ∷ lowercase-lowercase_text t i
+
+lowercase-titlecase_text : (t : List ℕ) → lowercase (titlecase t) ≡ lowercase t
+lowercase-titlecase_text [] = refl
+lowercase-titlecase_text (c ∷ t) = λ i. lower_upper c i ∷ lowercase-lowercase_text t i
+
+-- the written form does not see the case
+pub written_case-lowercase : (class : Class) (t : List ℕ) → written_case class (lowercase t) ≡ written_case class t
+written_case-lowercase Language t = lowercase-lowercase_text t
+written_case-lowercase Script t = titlecase-lowercase_text t
+written_case-lowercase Region t = uppercase-lowercase_text t
+written_case-lowercase Variant t = lowercase-lowercase_text t
+written_case-lowercase Key t = lowercase-lowercase_text t
+written_case-lowercase Subtag t = lowercase-lowercase_text t
+
+-- and the text is not changed by writing, case aside
+pub lowercase-written_case : (class : Class) (t : List ℕ) → lowercase (written_case class t) ≡ lowercase t
+lowercase-written_case Language t = lowercase-lowercase_text t
+lowercase-written_case Script t = lowercase-titlecase_text t
+lowercase-written_case Region t = lowercase-uppercase_text t
+lowercase-written_case Variant t = lowercase-lowercase_text t
+lowercase-written_case Key t = lowercase-lowercase_text t
+lowercase-written_case Subtag t = lowercase-lowercase_text t
+
+-- the class does not see the case
+pub is_member-lowercase : (class : Class) (t : List ℕ) → is_member class (lowercase t) ≡ is_member class t
+is_member-lowercase class t = sym (is_member-written_case class (lowercase t)) ∙ ap (is_member class) (written_case-lowercase class t) ∙ is_member-written_case class t
+
+-- ---- the classes after the language share no text
+
+first_true : (a b : Bool) → (a && b) ≡ true → a ≡ true
+first_true true b h = refl
+first_true false b h = absurd (cc)
+
+script_length : (t : List ℕ) → is_script t ≡ true → length t ≡ 4
+script_length t h = let has : has_length 4 4 t ≡ true = first_true (has_length 4 4 t) (is_alphabetic t) h in grind (arith, nat_tests)
+
+region_length : (t : List ℕ) → is_region t ≡ true → length t ≤ 3
+region_length t h = by (has_length 2 2 t) (has_length 3 3 t) (λ e. grind (arith, nat_tests)) (λ e. grind (arith, nat_tests)) (is_alphabetic t) (is_numeric t) h
+  where
+    by : (a b : Bool) → (a ≡ true → length t ≤ 3) → (b ≡ true → length t ≤ 3) → (c d : Bool) → ((a && c) || (b && d)) ≡ true → length t ≤ 3
+    by true b f g c d h = f refl
+    by false true f g c d h = g refl
+    by false false f g c d h = absurd (cc)
+
+variant_length : (t : List ℕ) → is_variant t ≡ true → 4 ≤ length t
+variant_length t h = by (has_length 5 8 t) (has_length 4 4 t) (λ e. grind (arith, nat_tests)) (λ e. grind (arith, nat_tests)) (starts_with_digit t) (first_true (has_length 5 8 t || (has_length 4 4 t && starts_with_digit t)) (is_alphanumeric t) h)
+  where
+    by : (a b : Bool) → (a ≡ true → 4 ≤ length t) → (b ≡ true → 4 ≤ length t) → (c : Bool) → (a || (b && c)) ≡ true → 4 ≤ length t
+    by true b f g c h = f refl
+    by false true f g c h = g refl
+    by false false f g c h = absurd (cc)
+
+false_from_not : (b : Bool) → (b ≡ true → ⊥) → b ≡ false
+false_from_not true no = absurd (no refl)
+false_from_not false no = refl
+
+pub script_no_region : (t : List ℕ) → is_script t ≡ true → is_region t ≡ false
+script_no_region t h = false_from_not (is_region t) (λ g. omega (arith, script_length t h, region_length t g))
+
+pub region_no_script : (t : List ℕ) → is_region t ≡ true → is_script t ≡ false
+region_no_script t h = false_from_not (is_script t) (λ g. omega (arith, script_length t g, region_length t h))
+
+pub variant_no_region : (t : List ℕ) → is_variant t ≡ true → is_region t ≡ false
+variant_no_region t h = false_from_not (is_region t) (λ g. omega (arith, variant_length t h, region_length t g))
+
+digit_first : (t : List ℕ) → is_variant t ≡ true → length t ≡ 4 → starts_with_digit t ≡ true
+digit_first t h four = by (has_length 5 8 t) (grind (arith, nat_tests)) (has_length 4 4 t) (starts_with_digit t) (first_true (has_length 5 8 t || (has_length 4 4 t && starts_with_digit t)) (is_alphanumeric t) h)
+  where
+    by : (a : Bool) → a ≡ false → (b c : Bool) → (a || (b && c)) ≡ true → c ≡ true
+    by true e b c h = absurd (cc)
+    by false e b c h = second_true b c h
+
+digit_no_letter : (t : List ℕ) → starts_with_digit t ≡ true → is_alphabetic t ≡ true → ⊥
+digit_no_letter [] h g = absurd (cc)
+digit_no_letter (c ∷ t) h g = let letter : is_ascii_alphabetic c ≡ true = first_true (is_ascii_alphabetic c) (is_alphabetic t) g in absurd (grind (arith, nat_tests))
+
+pub variant_no_script : (t : List ℕ) → is_variant t ≡ true → is_script t ≡ false
+variant_no_script t h = false_from_not (is_script t) (λ g. digit_no_letter t (digit_first t h (script_length t g)) (second_true (has_length 4 4 t) (is_alphabetic t) g))

@@ -1,4 +1,5 @@
 mod Cases
+mod Cutting
 mod Padding
 mod Searches
 mod TextSets

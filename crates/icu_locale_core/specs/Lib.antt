@@ -1,7 +1,10 @@
 pub mod Class
+pub mod Identifier
 pub mod Order
 pub mod Padded
 pub mod ParseError
+pub mod Pieces
+pub mod Reading
 pub mod Subtag
 pub mod TextSet
 pub mod Variants

@@ -3,11 +3,15 @@
 
 mod classes;
 mod extensions;
+mod langid;
 mod parse_error;
+mod pieces;
+mod reader;
 mod subtags;
 mod tiny;
 mod variants;
 
+pub use langid::LanguageIdentifier;
 pub use parse_error::ParseError;
 pub use extensions::{Key, Subtag};
 pub use variants::{Variants, VariantsIter};

@@ -1,7 +1,8 @@
 //! Why a text is refused.
-ghost use Rattle.std.specs.Prelude.{Some};
+ghost use Rattle.std.specs.Prelude.{◌≡◌, Some};
 ghost use Rattle.icu_locale_core.specs.ParseError.{error_name};
 
+use std::alloc::AllocFailed;
 use std::error::Error;
 use std::fmt;
 
@@ -29,3 +30,13 @@ impl fmt::Display for ParseError {
 }
 
 impl Error for ParseError {}
+
+impl<T: Drop> From<AllocFailed<T>> for ParseError {
+    ghost use Rattle.icu_locale_core.specs.declared.parse_error.ParseError.TheVariants.{Memory};
+
+    ghost from_gives = { λ _ e. e ≡ Memory };
+
+    fn from(_refused: AllocFailed<T>) -> Self {
+        ParseError::Memory
+    }
+}

@@ -1,0 +1,118 @@
+//! Identifiers: a language, a script, a region and variants.
+ghost use Rattle.std.specs.Fmt.{WritesOnOk};
+ghost use Rattle.std.specs.List.{flat_map};
+ghost use Rattle.icu_locale_core.specs.TextSet.{rising};
+ghost use Rattle.std.specs.Prelude.{◌≡◌, ◌↔◌, ◌++◌, codes, Some, Err, IsTrue, IsOk, IfOk, IfErr, false};
+
+use crate::pieces::Pieces;
+use crate::reader::read_identifier;
+use crate::{Language, ParseError, Region, Script, Variants};
+use std::alloc::Global;
+use std::fmt;
+
+/// An identifier (unicode_language_id of UTS #35, section 3.1): a language, a script or none, a region or none, and
+/// variants.
+///
+/// Equality, order and hash go by language, script, region and the rising list of variants, an absent part first.
+#[derive(PartialEq, Eq, PartialOrd, Ord, Hash, Debug, Drop)]
+pub struct LanguageIdentifier {
+    /// The language, `und` where it is not known.
+    pub language: Language,
+    /// The script, if any.
+    pub script: Option<Script>,
+    /// The region, if any.
+    pub region: Option<Region>,
+    /// The variants.
+    pub variants: Variants,
+}
+
+impl LanguageIdentifier {
+    ghost use Rattle.icu_locale_core.specs.Identifier.{pieces, IsIdentifier, Spells, IsOkUnlessMemory, starts_with_language, has_variant};
+    ghost use Rattle.icu_locale_core.specs.TextSet.{empty};
+
+    /// Reads an identifier in any case, with its variants in any order. It takes memory for variants alone.
+    ///
+    /// # Errors
+    ///
+    /// - `InvalidLanguage` exactly where the first piece of the text is no language.
+    /// - `InvalidSubtag` where a later piece is none of an identifier, or a variant comes twice.
+    /// - `Memory` only for a text that has a variant, and never in place of `InvalidLanguage`.
+    pub fn try_from_str(alloc: Global, text: &str) -> Result<Self, ParseError>
+        ensures found { IfOk result (λ x. IsIdentifier x × Spells text.now x) }
+        ensures only { (x : LanguageIdentifier) → IsIdentifier x → Spells text.now x → IsOkUnlessMemory result x }
+        ensures language { (result ≡ Err ParseError.InvalidLanguage) ↔ (starts_with_language text.now ≡ false) }
+        ensures subtag { result ≡ Err ParseError.InvalidSubtag
+            → (x : LanguageIdentifier) → IsIdentifier x → ¬ (Spells text.now x) }
+        ensures memory { result ≡ Err ParseError.Memory → IsTrue (has_variant text.now) }
+    {
+        LanguageIdentifier::try_from_utf8(alloc, text.as_bytes())
+    }
+
+    /// Reads an identifier as `try_from_str` does. A byte past ASCII belongs to no subtag.
+    ///
+    /// # Errors
+    ///
+    /// Those of `try_from_str`.
+    pub fn try_from_utf8(alloc: Global, text: &[u8]) -> Result<Self, ParseError>
+        ensures found { IfOk result (λ x. IsIdentifier x × Spells text.now x) }
+        ensures only { (x : LanguageIdentifier) → IsIdentifier x → Spells text.now x → IsOkUnlessMemory result x }
+        ensures language { (result ≡ Err ParseError.InvalidLanguage) ↔ (starts_with_language text.now ≡ false) }
+        ensures subtag { result ≡ Err ParseError.InvalidSubtag
+            → (x : LanguageIdentifier) → IsIdentifier x → ¬ (Spells text.now x) }
+        ensures memory { result ≡ Err ParseError.Memory → IsTrue (has_variant text.now) }
+    {
+        read_identifier(alloc, Pieces::new(text))
+    }
+
+    /// An equal identifier. Without variants it takes no memory.
+    ///
+    /// # Errors
+    ///
+    /// `Memory` where the variants could not be copied.
+    pub fn try_clone(&self) -> Result<Self, ParseError>
+        ensures same { IfOk result (λ x. x ≡ self.now) }
+        ensures refused { IfErr result (λ e. e ≡ ParseError.Memory) }
+        ensures free { self.now.variants ≡ empty → IsOk result }
+    {
+        Ok(LanguageIdentifier {
+            language: self.language,
+            script: self.script,
+            region: self.region,
+            variants: self.variants.try_clone()?,
+        })
+    }
+}
+
+impl fmt::Display for LanguageIdentifier {
+    ghost use Rattle.icu_locale_core.specs.Identifier.{written};
+
+    ghost output = { λ x. Some (written x) };
+
+    fn fmt<W: fmt::Write>(&self, f: &mut fmt::Formatter<W>) -> fmt::Result {
+        f.write_str(self.language.as_str())?;
+        if let Some(script) = &self.script {
+            write_after_dash(script.as_str(), f)?;
+        }
+        if let Some(region) = &self.region {
+            write_after_dash(region.as_str(), f)?;
+        }
+        write_variants(&self.variants, f)
+    }
+}
+
+// Each variant in rising order, with `-` before it.
+fn write_variants<W: fmt::Write>(variants: &Variants, f: &mut fmt::Formatter<W>) -> fmt::Result
+    ensures { WritesOnOk W.write_str_gives f.old result (flat_map (λ v. codes "-" ++ v) (rising variants.now)) f.new }
+{
+    for variant in variants.iter() {
+        write_after_dash(variant.as_str(), f)?;
+    }
+    Ok(())
+}
+
+fn write_after_dash<W: fmt::Write>(text: &str, f: &mut fmt::Formatter<W>) -> fmt::Result
+    ensures { WritesOnOk W.write_str_gives f.old result (codes "-" ++ text.now) f.new }
+{
+    f.write_str("-")?;
+    f.write_str(text)
+}

@@ -1,0 +1,92 @@
+// The pieces of a text, cut at every `-` and `_`.
+ghost use Rattle.std.specs.Prelude.{◌≡◌, ◌∷◌, [], List, ℕ, IfSome, MatchOption};
+ghost use Rattle.std.specs.List.{position};
+ghost use Rattle.std.specs.Iterator.{YieldsFirstRef, item_count};
+ghost use Rattle.icu_locale_core.specs.Identifier.{is_separator, pieces};
+ghost use Rattle.icu_locale_core.specs.Pieces.{pieces_of};
+
+use std::marker::Model;
+
+// The pieces that are left of a text. The first is found already, so that a look at it costs nothing.
+#[derive(Drop)]
+pub struct Pieces<'a> {
+    first: Option<&'a [u8]>,
+    rest: Option<&'a [u8]>,
+}
+
+impl<'a> Model for Pieces<'a> {
+    ghost use Rattle.std.specs.Prelude.{List, ℕ, ◌++◌};
+    ghost use Rattle.icu_locale_core.specs.Pieces.{first_of, pieces_of};
+
+    ghost Value = { List (List ℕ) };
+
+    ghost view = { λ a. first_of a.first (pieces_of a.rest) };
+}
+
+impl<'a> Pieces<'a> {
+    pub fn new(text: &'a [u8]) -> Self
+        ensures { result ≡ pieces text.now }
+    {
+        let (first, rest) = cut(text);
+        Pieces {
+            first: Some(first),
+            rest,
+        }
+    }
+
+    // The next piece.
+    pub fn peek(&self) -> Option<&'a [u8]>
+        ensures { MatchOption result (self.now ≡ []) (λ p. (ps : List (List ℕ)) × (self.now ≡ p.now ∷ ps)) }
+    {
+        self.first
+    }
+}
+
+impl<'a> Iterator for Pieces<'a> {
+    type Item = &'a [u8];
+
+    ghost next_gives = { YieldsFirstRef (λ s. s) };
+
+    ghost remaining = { item_count (λ s. s) };
+
+    fn next(&mut self) -> Option<&'a [u8]> {
+        let first = self.first?;
+        match self.rest {
+            Some(text) => {
+                let (second, rest) = cut(text);
+                *self = Pieces {
+                    first: Some(second),
+                    rest,
+                };
+            }
+            None => self.first = None,
+        }
+        Some(first)
+    }
+}
+
+// The first piece of a text, and what follows its separator.
+fn cut(text: &[u8]) -> (&[u8], Option<&[u8]>)
+    ensures { pieces text.now ≡ result.0.now ∷ pieces_of result.1 }
+{
+    match separator(text) {
+        Some(place) => {
+            let (first, rest) = text.split_at(place);
+            (first, Some(&rest[1..]))
+        }
+        None => (text, None),
+    }
+}
+
+// Where the first separator stands.
+fn separator(text: &[u8]) -> Option<usize>
+    ensures { result ≡ position is_separator text.now }
+{
+    text.iter().position(is_separator)
+}
+
+fn is_separator(byte: &u8) -> bool
+    ensures { result ≡ is_separator byte.now }
+{
+    *byte == b'-' || *byte == b'_'
+}
