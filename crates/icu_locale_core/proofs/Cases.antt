@@ -1,11 +1,11 @@
 -- A change of case keeps the class of a text, its length and its plainness, and a second change does nothing.
-use Rattle.std.proofs.Common.{◌≡◌, ℕ, ◌<◌, ◌≤◌, ◌+◌, Bool, true, false, ◌&&◌, ◌||◌, List, [], ◌∷◌, length, map, get_or, suc, zero, IsTrue, refl, ap, sym, ◌∙◌, arith, cond, ◌==◌}
+use Rattle.std.proofs.Common.{◌≡◌, ℕ, ◌<◌, ◌≤◌, Bool, true, false, ◌&&◌, ◌||◌, List, [], ◌∷◌, length, map, get_or, suc, zero, refl, ap, sym, ◌∙◌, arith, ◌==◌}
 use Rattle.std.specs.List.{list_all}
 use Rattle.std.specs.Char.{is_ascii_alphabetic, is_ascii_digit, is_ascii_alphanumeric, to_ascii_lowercase, to_ascii_uppercase}
 use Rattle.std.proofs.lemmas.Bool.Decides.{nat_tests}
 use Rattle.std.proofs.lemmas.Str.Ascii.{lowercase-lowercase, uppercase-uppercase}
 use Rattle.std.proofs.lemmas.List.{length-map}
-use Rattle.icu_locale_core.specs.Subtag.{has_length, is_alphabetic, is_numeric, is_alphanumeric, starts_with_digit, is_language, is_script, is_region, is_variant, is_key, is_subtag, lowercase, uppercase, titlecase, IsWritten}
+use Rattle.icu_locale_core.specs.Subtag.{has_length, is_alphabetic, is_numeric, is_alphanumeric, starts_with_digit, is_script, is_region, is_variant, is_key, lowercase, uppercase, titlecase, IsWritten}
 use Rattle.icu_locale_core.specs.Class.{is_member, written_case, written_byte}
 use Rattle.icu_locale_core.specs.declared.classes.Class.{Class}
 use Rattle.icu_locale_core.specs.declared.classes.Class.TheVariants.{Language, Script, Region, Variant, Key, Subtag}
@@ -160,7 +160,7 @@ pub is_alphabetic-region : (t : List ℕ) → is_region t ≡ true → is_alphab
 is_alphabetic-region [] h = absurd (cc)
 is_alphabetic-region (a ∷ []) h = absurd (cc)
 is_alphabetic-region (a ∷ b ∷ []) h = grind (arith, nat_tests)
-is_alphabetic-region (a ∷ b ∷ c ∷ []) h = 
+is_alphabetic-region (a ∷ b ∷ c ∷ []) h =
     let digit : is_ascii_digit a ≡ true = grind (arith, nat_tests) in
     let none : is_ascii_alphabetic a ≡ false = grind (arith, nat_tests) in
     rw none refl
@@ -238,8 +238,7 @@ variant_length t h = by (has_length 5 8 t) (has_length 4 4 t) (λ e. grind (arit
     by false false f g c h = absurd (cc)
 
 false_from_not : (b : Bool) → (b ≡ true → ⊥) → b ≡ false
-false_from_not true no = absurd (no refl)
-false_from_not false no = refl
+false_from_not b never = elim b as (λ v. b ≡ v → v ≡ false) [ true ↦ λ e. absurd (never e) | false ↦ λ e. refl ] refl
 
 pub script_no_region : (t : List ℕ) → is_script t ≡ true → is_region t ≡ false
 script_no_region t h = false_from_not (is_region t) (λ g. omega (arith, script_length t h, region_length t g))

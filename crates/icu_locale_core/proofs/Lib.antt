@@ -1,6 +1,7 @@
 mod Cases
 mod Cutting
 mod Padding
+mod Readings
 mod Searches
 mod TextSets
 mod VariantLists

@@ -1,14 +1,13 @@
 -- What an array of a text and zeros behind it holds, and its order.
-use Rattle.std.proofs.Common.{◌≡◌, ℕ, ◌<◌, ◌≤◌, ◌+◌, ◌-◌, Bool, true, false, ◌&&◌, List, [], ◌∷◌, ◌++◌, length, take, drop, set, replicate, get_or, suc, zero, nat_lt, if◌then◌else◌, IsTrue, refl, ap, sym, subst, ◌∙◌, arith, nat_eq}
+use Rattle.std.proofs.Common.{◌≡◌, ℕ, ◌<◌, ◌≤◌, ◌+◌, ◌-◌, true, false, ◌&&◌, List, [], ◌∷◌, ◌++◌, length, take, set, replicate, get_or, suc, zero, nat_lt, if◌then◌else◌, refl, ap, sym, subst, ◌∙◌, arith, nat_eq}
 use Rattle.std.specs.Cmp.Lexicographic.{pointwise, slice_cmp}
 use Rattle.std.specs.Ordering.{nat_cmp, ordering_then}
-use Rattle.std.specs.declared.cmp.Ordering.TheVariants.{Less, Equal, Greater}
+use Rattle.std.specs.declared.cmp.Ordering.TheVariants.{Equal}
 use Rattle.std.specs.Str.{IsUtf8, IsAscii}
 use Rattle.std.proofs.lemmas.Str.{IsUtf8-from_ascii, IsUtf8-append}
 use Rattle.std.proofs.lemmas.Str.Ascii.{IsAscii-nil, IsAscii-cons}
-use Rattle.std.specs.Char.{is_ascii_alphanumeric}
 use Rattle.std.proofs.lemmas.Bool.Decides.{nat_tests}
-use Rattle.std.proofs.lemmas.List.{set_at, length-take, take_more, length-replicate, at_drop_more, at_drop_all}
+use Rattle.std.proofs.lemmas.List.{set_at, length-take, take_more}
 use Rattle.icu_locale_core.specs.Subtag.{is_alphanumeric}
 use Rattle.icu_locale_core.specs.Padded.{text_of, padded, IsPadded}
 
@@ -16,7 +15,7 @@ use Rattle.icu_locale_core.specs.Padded.{text_of, padded, IsPadded}
 pub text_of-zeros : (t : List ℕ) (n : ℕ) → is_alphanumeric t ≡ true → text_of (t ++ replicate n 0) ≡ t
 text_of-zeros [] zero h = refl
 text_of-zeros [] (suc n) h = refl
-text_of-zeros (c ∷ t) n h = 
+text_of-zeros (c ∷ t) n h =
     let positive : nat_lt 0 c ≡ true = grind (arith, nat_tests) in
     let rest : is_alphanumeric t ≡ true = grind (arith, nat_tests) in
     rw positive (ap (λ r. c ∷ r) (text_of-zeros t n rest))

@@ -1,6 +1,6 @@
 -- A binary search in a list that rises finds exactly what the list has.
-use Rattle.std.proofs.Common.{◌≡◌, ℕ, ◌<◌, ◌≤◌, ◌+◌, Bool, true, false, List, [], ◌∷◌, length, get_or, Result, Ok, Err, is_ok, IfOk, refl, ap, sym, subst, ◌∙◌, inl, inr, arith}
-use Rattle.std.specs.List.{list_any, HoldsAt, All}
+use Rattle.std.proofs.Common.{◌≡◌, ℕ, ◌+◌, List, length, get_or, Result, Ok, Err, is_ok, IfOk, ap, sym, ◌∙◌, inl, inr, arith}
+use Rattle.std.specs.List.{list_any, HoldsAt}
 use Rattle.std.specs.List.Sorted.{IsStrictlySortedBy, IsSearchInRange, IsBinarySearchResult, IsSortedBy, IsNonDecreasingBy}
 use Rattle.std.specs.Cmp.{IsTotalOrder}
 use Rattle.std.specs.Ordering.{eq_by_cmp, is_eq, is_lt, ordering_index, ordering_reverse}
@@ -30,7 +30,7 @@ module _ {K : Type 0} {R : K → K → Ordering} (o : IsTotalOrder R) where
   is_ok-search ks x (Err i) rise range here at =
       let parts = at (rises_to ks x rise) in
       sym (list_any_none (eq_by_cmp R x) ks (λ k d within.
-          elim (cases_lt k i) [
-            | inl before ↦ ap is_eq (flipped (get_or ks k d) x Less (parts.0 k d (omega arith) before))
-            | inr behind ↦ ap is_eq (flipped (get_or ks k d) x Greater (parts.1 k d behind within))
-          ]))
+      elim (cases_lt k i) [
+        | inl before ↦ ap is_eq (flipped (get_or ks k d) x Less (parts.0 k d (omega arith) before))
+        | inr behind ↦ ap is_eq (flipped (get_or ks k d) x Greater (parts.1 k d behind within))
+      ]))

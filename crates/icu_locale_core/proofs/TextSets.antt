@@ -1,19 +1,19 @@
 -- Sets of texts by their members, and the rising list of a set.
-use Rattle.std.proofs.Common.{◌≡◌, ℕ, ◌<◌, ◌+◌, Bool, true, false, ◌&&◌, ◌||◌, not, cond, List, [], ◌∷◌, ◌++◌, length, map, get_or, suc, zero, Option, Some, None, is_some, IsTrue, T, refl, ap, sym, subst, ◌∙◌, arith}
-use Rattle.std.specs.List.{filter, list_all, list_any, Contains, AllByRecursion, Any, All}
+use Rattle.std.proofs.Common.{◌≡◌, ℕ, Bool, true, false, ◌&&◌, ◌||◌, cond, List, [], ◌∷◌, map, get_or, Option, Some, None, is_some, T, refl, ap, sym, ◌∙◌}
+use Rattle.std.specs.List.{list_any, Contains, AllByRecursion}
 use Rattle.std.specs.List.Sorted.{IsStrictlySortedBy}
 use Rattle.std.specs.Cmp.{IsTotalOrder}
-use Rattle.std.specs.Cmp.Lexicographic.{slice_cmp, nat_list_cmp_total}
-use Rattle.std.specs.Ordering.{nat_cmp, eq_by_cmp, is_eq, is_lt}
+use Rattle.std.specs.Cmp.Lexicographic.{nat_list_cmp_total}
+use Rattle.std.specs.Ordering.{eq_by_cmp, is_eq, is_lt}
 use Rattle.std.specs.declared.cmp.Ordering.{Ordering}
 use Rattle.std.specs.FinMap.Entries.{below_all, is_some-find}
 use Rattle.std.specs.declared.cmp.Ordering.TheVariants.{Less, Equal, Greater}
 use Rattle.std.specs.FinMap as fin
-use Rattle.std.specs.FinMap.{IsAntisymmetric, slice_cmp-IsAntisymmetric, nat_cmp-IsAntisymmetric, is_sorted, find}
+use Rattle.std.specs.FinMap.{IsAntisymmetric, slice_cmp-IsAntisymmetric, nat_cmp-IsAntisymmetric, is_sorted}
 use Rattle.std.proofs.lemmas.Cmp.{tied_itself}
 use Rattle.std.proofs.lemmas.Bool.{false≢true}
-use Rattle.std.proofs.lemmas.List.Folds.{Any-from_list_any, list_any-from_Any, list_any-append}
-use Rattle.icu_locale_core.specs.TextSet.{text_cmp, TextSet, empty, contains, from_list, rising, len, is_subset, union, difference, image}
+use Rattle.std.proofs.lemmas.List.Folds.{Any-from_list_any, list_any-from_Any}
+use Rattle.icu_locale_core.specs.TextSet.{text_cmp, TextSet, contains, from_list, rising}
 
 pub text_total : IsTotalOrder text_cmp
 text_total = nat_list_cmp_total
@@ -99,10 +99,10 @@ rising-from_list ts h =
     let sorted = T_from_true _ (is_sorted-with_units ts h) in
     let direct = fin.from_sorted {R = text_cmp} (with_units ts) in
     let same : from_list ts ≡ direct = same_set (from_list ts) direct (λ q.
-        contains-from_list ts q
-        ∙ ap (is_among q) (sym (keys-with_units ts))
-        ∙ sym (is_some-find text_cmp q (with_units ts))
-        ∙ ap is_some (sym (fin.get-from_sorted text_cmp (with_units ts) q sorted))) in
+    contains-from_list ts q
+    ∙ ap (is_among q) (sym (keys-with_units ts))
+    ∙ sym (is_some-find text_cmp q (with_units ts))
+    ∙ ap is_some (sym (fin.get-from_sorted text_cmp (with_units ts) q sorted))) in
     ap rising same ∙ ap (map (λ e. e.0)) (fin.entries-from_sorted text_cmp (with_units ts) sorted) ∙ keys-with_units ts
 
 less_from_test : (o : Ordering) → is_lt o ≡ true → o ≡ Less

@@ -1,9 +1,8 @@
 -- Lists of variants that rise.
-use Rattle.std.proofs.Common.{◌≡◌, ℕ, ◌==◌, Bool, true, false, List, [], ◌∷◌, length, IsTrue, nat_eq, refl, ap, sym, subst, ◌∙◌, arith}
+use Rattle.std.proofs.Common.{◌≡◌, ℕ, ◌==◌, Bool, true, false, List, [], ◌∷◌, length, nat_eq, refl, sym, ◌∙◌, arith}
 use Rattle.std.specs.List.{Contains, All, dedup}
 use Rattle.std.specs.List.Sorted.{IsStrictlySortedBy, IsSorted, IsPermutation}
 use Rattle.std.specs.Cmp.Lexicographic.{pointwise}
-use Rattle.std.specs.Ordering.{eq_by_cmp}
 use Rattle.std.proofs.lemmas.List.Elements.{All-nil, All-contains, All-weaker, All-contains_itself}
 use Rattle.std.proofs.lemmas.List.Kept.{IsStrictlySortedBy-dedup, Contains-dedup, Contains-from_dedup}
 use Rattle.std.proofs.lemmas.List.Sorted.{Contains-permutation, IsPermutation-sym}
@@ -15,7 +14,7 @@ use Rattle.std.proofs.lemmas.Bool.{eqb-true}
 use Rattle.std.proofs.lemmas.List.{length-map}
 use Rattle.icu_locale_core.specs.Subtag.{IsVariant}
 use Rattle.icu_locale_core.specs.Variants.{IsVariantList}
-use Rattle.icu_locale_core.specs.TextSet.{text_cmp, TextSet, empty, contains, from_list, rising}
+use Rattle.icu_locale_core.specs.TextSet.{text_cmp, TextSet, empty, from_list, rising}
 use Rattle.icu_locale_core.proofs.TextSets.{text_total, is_among, contains-from_list, same_set, Contains-is_among, is_among-Contains, from_list-rising}
 
 pub IsVariantList-nil : IsVariantList []

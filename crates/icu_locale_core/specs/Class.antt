@@ -1,5 +1,5 @@
 -- The classes of subtags behind one name each.
-use Rattle.std.specs.Prelude.{ℕ, Bool, List, [], ◌∷◌, suc, zero}
+use Rattle.std.specs.Prelude.{ℕ, Bool, List, zero}
 use Rattle.std.specs.Char.{to_ascii_lowercase, to_ascii_uppercase}
 use Rattle.icu_locale_core.specs.Subtag.{is_language, is_script, is_region, is_variant, is_key, is_subtag, lowercase, titlecase, uppercase}
 use Rattle.icu_locale_core.specs.declared.classes.Class.{Class}

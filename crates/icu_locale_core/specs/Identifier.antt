@@ -1,5 +1,5 @@
 -- Identifiers and their texts (UTS #35 Part 1, section 3.1, unicode_language_id).
-use Rattle.std.specs.Prelude.{◌≡◌, ℕ, Bool, ◌||◌, ◌==◌, true, List, [], ◌∷◌, ◌++◌, length, slice_index_or, map, codes, IfSome, Option, Some, None, Result, Ok, Err, ◌⊎◌}
+use Rattle.std.specs.Prelude.{◌≡◌, ℕ, Bool, ◌||◌, ◌==◌, true, List, [], ◌∷◌, ◌++◌, length, slice_index_or, map, codes, IfSome, Result, Ok, Err, ◌⊎◌}
 use Rattle.std.specs.Option.{option_to_list}
 use Rattle.std.specs.List.{slice_split, list_any, join_by}
 use Rattle.icu_locale_core.specs.Subtag.{is_language, is_variant, lowercase, IsLanguage, IsScript, IsRegion, IsVariant}

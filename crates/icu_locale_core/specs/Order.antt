@@ -1,9 +1,7 @@
 -- Lists of texts: their order ties exactly where they are equal, and equal ones hash alike.
-use Rattle.std.specs.Prelude.{◌≡◌, ℕ, Bool, true, List, nat_eq}
-use Rattle.std.specs.Bool.{Decides}
+use Rattle.std.specs.Prelude.{◌≡◌, nat_eq}
 use Rattle.std.specs.Cmp.Lexicographic.{pointwise, slice_cmp, lists_ties, texts_ties}
 use Rattle.std.specs.Ordering.{eq_by_cmp}
-use Rattle.std.proofs.Common.{ap, sym, subst}
 use Rattle.icu_locale_core.specs.TextSet.{text_cmp, TextSet, rising}
 
 -- two lists of texts tie exactly where they have the same texts

@@ -11,8 +11,8 @@ mod subtags;
 mod tiny;
 mod variants;
 
+pub use extensions::{Key, Subtag};
 pub use langid::LanguageIdentifier;
 pub use parse_error::ParseError;
-pub use extensions::{Key, Subtag};
-pub use variants::{Variants, VariantsIter};
 pub use subtags::{Language, Region, Script, Variant};
+pub use variants::{Variants, VariantsIter};

@@ -8,7 +8,10 @@ use crate::pieces::Pieces;
 use crate::{Language, LanguageIdentifier, ParseError, Region, Script, Variant, Variants};
 use std::alloc::Global;
 
-pub fn read_identifier(alloc: Global, mut pieces: Pieces<'_>) -> Result<LanguageIdentifier, ParseError>
+pub fn read_identifier(
+    alloc: Global,
+    mut pieces: Pieces<'_>,
+) -> Result<LanguageIdentifier, ParseError>
     ensures read { (result ≡ Err ParseError.Memory) ⊎ (result ≡ read_pieces pieces.entry) }
     ensures language { result ≡ Err ParseError.Memory → is_language (slice_index_or pieces.entry 0 []) ≡ true }
     ensures memory { result ≡ Err ParseError.Memory → list_any is_variant pieces.entry ≡ true }

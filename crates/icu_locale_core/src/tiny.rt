@@ -6,7 +6,6 @@ ghost use Rattle.std.specs.Prelude.{nat_eq};
 ghost use Rattle.icu_locale_core.specs.Class.{is_member, written_case};
 ghost use Rattle.icu_locale_core.specs.Padded.{text_of, padded, IsPadded};
 ghost use Rattle.icu_locale_core.specs.Subtag.{is_alphanumeric, IsWritten};
-
 ghost use Rattle.std.proofs.Common.{rules};
 ghost use Rattle.std.specs.Cmp.{partial_order_from_own_ties};
 ghost use Rattle.std.specs.Cmp.Rules.{comparing, hashing};

@@ -1,8 +1,7 @@
-use Rattle.std.proofs.Common.{◌≡◌, ◌==◌, length, sym, ◌∙◌, ap, subst}
 use Rattle.icu_locale_core.proofs.Cases.{is_alphabetic-region}
 use Rattle.icu_locale_core.proofs.subtags.Region.is_alphabetic.Goals as goal
 
 pub returns : goal.returns
-returns c = 
+returns c =
     let known = is_alphabetic-region c.self.inside.0 c.self.invariant.member in
     cc (c.len.ensures, c.self.view_is, known)

@@ -1,4 +1,4 @@
-use Rattle.std.proofs.Common.{◌≡◌, ◌≤◌, ◌∙◌, ◌++◌, ◌-◌, length, take, replicate, subst, sym, ap, arith, List, ℕ}
+use Rattle.std.proofs.Common.{◌≡◌, ◌∙◌, ◌++◌, ◌-◌, length, take, replicate, subst, sym, ap, arith, List, ℕ}
 use Rattle.std.proofs.lemmas.List.{take_all}
 use Rattle.icu_locale_core.specs.Class.{is_member, written_case}
 use Rattle.icu_locale_core.specs.Subtag.{IsWritten}

@@ -1,5 +1,5 @@
-use Rattle.std.proofs.Common.{◌≡◌, ◌∙◌, sym, ap, subst, nat_eq}
-use Rattle.std.specs.List.{All, dedup}
+use Rattle.std.proofs.Common.{◌∙◌, sym, ap, subst, nat_eq}
+use Rattle.std.specs.List.{All}
 use Rattle.std.specs.Cmp.Lexicographic.{pointwise}
 use Rattle.std.proofs.lemmas.List.Filters.{dedup_is}
 use Rattle.icu_locale_core.specs.Subtag.{IsVariant}
