@@ -1,3 +1,4 @@
+pub mod Agreement
 pub mod Class
 pub mod Identifier
 pub mod Order

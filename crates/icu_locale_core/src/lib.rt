@@ -4,6 +4,7 @@
 mod classes;
 mod extensions;
 mod langid;
+pub mod laws;
 mod parse_error;
 mod pieces;
 mod reader;
