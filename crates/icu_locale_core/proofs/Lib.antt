@@ -1,3 +1,4 @@
+mod Agreements
 mod Cases
 mod Cutting
 mod Padding
@@ -5,3 +6,4 @@ mod Readings
 mod Searches
 mod TextSets
 mod VariantLists
+mod Written

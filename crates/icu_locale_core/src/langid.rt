@@ -64,6 +64,20 @@ impl LanguageIdentifier {
         read_identifier(alloc, Pieces::new(text))
     }
 
+    /// Nothing, but that each subtag belongs to its class and stands in its written case.
+    pub fn known(&self)
+        ensures { IsIdentifier self.now }
+    {
+        self.language.known();
+        if let Some(script) = &self.script {
+            script.known();
+        }
+        if let Some(region) = &self.region {
+            region.known();
+        }
+        self.variants.known();
+    }
+
     /// An equal identifier. Without variants it takes no memory.
     ///
     /// # Errors

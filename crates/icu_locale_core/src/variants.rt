@@ -1,5 +1,5 @@
 //! The variants of an identifier: a set.
-ghost use Rattle.std.specs.Prelude.{◌≡◌, ◌↔◌, IsTrue, IsOk, IfOk, IfErr, length, ℕ, List};
+ghost use Rattle.std.specs.Prelude.{◌≡◌, ◌↔◌, IsTrue, IsOk, IfOk, IfErr, true, length, ℕ, List};
 ghost use Rattle.std.specs.List.{All};
 ghost use Rattle.std.specs.Iterator.{YieldsFirst, item_count};
 ghost use Rattle.std.specs.Ordering.{as_partial_cmp, on};
@@ -91,6 +91,13 @@ impl Variants {
         VariantsIter {
             rest: self.as_slice(),
         }
+    }
+
+    /// Nothing, but that every member is a variant in its written case.
+    pub fn known(&self)
+        ensures { (v : List ℕ) → contains self.now v ≡ true → IsVariant v }
+    {
+        let _ = &self.items;
     }
 
     // The list behind the set.
