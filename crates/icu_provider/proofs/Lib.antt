@@ -1,0 +1,2 @@
+pub mod Maps
+mod Places

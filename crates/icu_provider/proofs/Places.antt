@@ -1,0 +1,112 @@
+-- What a search finds among the rows of a sorted map, and what an edit at that place does.
+use Rattle.std.proofs.Common.{◌≡◌, ℕ, zero, suc, ◌+◌, ◌<◌, List, [], ◌∷◌, length, get_or, set, Some, None, Result, Ok, Err, MatchResult, refl, sym, ap, ◌∙◌, arith}
+use Rattle.std.specs.declared.cmp.Ordering.{Ordering}
+use Rattle.std.specs.declared.cmp.Ordering.TheVariants.{Less, Equal, Greater}
+use Rattle.std.specs.Ordering.{is_lt, ordering_reverse}
+use Rattle.std.specs.Cmp.{IsTotalOrder}
+use Rattle.std.specs.List.{AllWithin, insert}
+use Rattle.std.specs.List.Sorted.{IsSearchInRange, IsBinarySearchResult}
+use Rattle.std.specs.Map.{keys_of, lookup}
+use Rattle.std.specs.BTreeMap.{is_at, insert_entry}
+use Rattle.std.proofs.lemmas.Cmp.{tied_back, alike_right}
+use Rattle.std.proofs.lemmas.List.{get_or-map}
+use Rattle.std.proofs.lemmas.List.Sorted.{searchable_from_sorted}
+use Rattle.std.proofs.lemmas.Map.Keys.{sorted_tail, Less-from_sorted}
+use Rattle.std.proofs.lemmas.Map.Entries.{length-keys_of}
+use Rattle.icu_provider.specs.Maps.{IsSortedMap, SetsOnly, IsAt, IsGapFor}
+use Rattle.icu_provider.proofs.Maps.{insert_entry-step, IsSortedMap-insert_entry, SetsOnly-insert_entry}
+
+-- new has the rows of old with the value inserted at the key
+pub record Inserts {K V : Type 0} (compare : K → K → Ordering) (old new : List (K × V)) (key : K) (value : V) : Type 0 where
+  pub rows : new ≡ insert_entry compare old key value
+  pub sets : SetsOnly compare old new key value
+  pub sorted : IsSortedMap compare new
+
+module _ {K V : Type 0} {compare : K → K → Ordering} (total : IsTotalOrder compare) where
+  -- each row's key is below that of a later row
+  keys_rise : (rows : List (K × V)) (i j : ℕ) (default : K × V) → IsSortedMap compare rows → i < j → j < length rows → compare (get_or rows i default).0 (get_or rows j default).0 ≡ Less
+  keys_rise rows i j default sorted lt in_range =
+      let at = λ (k : ℕ) (h : k < length rows). get_or-map (λ (row : K × V). row.0) rows k default default.0 h in
+      rw (← at i (omega arith), ← at j in_range) (Less-from_sorted compare (keys_of rows) i j default.0 sorted lt (omega (arith, length-keys_of rows)))
+
+  -- a binary search ends at the key, or at the gap for it
+  pub searched : (rows : List (K × V)) (key : K) (place : Result ℕ ℕ) → IsSortedMap compare rows → IsSearchInRange place (length rows) → IsBinarySearchResult (λ row. compare row.0 key) rows place → MatchResult place (IsAt compare rows key) (IsGapFor compare rows key)
+  searched rows key (Ok at) sorted in_range equal = record { in_range = in_range; has_key = λ d. tied_back total _ _ (equal d) }
+  searched rows key (Err at) sorted in_range parted =
+      let rise = searchable_from_sorted total (λ (row : K × V). row.0) rows key (λ k d low high. ap is_lt (total.antisymm _ _ ∙ ap ordering_reverse (keys_rise rows k (k + 1) d sorted (omega arith) high))) in
+      record {
+        in_range = in_range;
+        above_before = λ k d low high. total.antisymm _ _ ∙ ap ordering_reverse ((parted rise).0 k d low high);
+        below_after = λ k d low high. total.antisymm _ _ ∙ ap ordering_reverse ((parted rise).1 k d low high);
+      }
+
+  -- a key in a later row is above the first
+  above_first : (row : K × V) (rows : List (K × V)) (key : K) (at : ℕ) → IsSortedMap compare (row ∷ rows) → IsAt compare rows key at → compare key row.0 ≡ Greater
+  above_first row rows key at sorted is =
+      let rise = keys_rise (row ∷ rows) 0 (suc at) row sorted (omega arith) (omega (arith, is.in_range)) in
+      total.antisymm key row.0 ∙ ap ordering_reverse (alike_right total key (get_or rows at row).0 row.0 (is.has_key row) ∙ rise)
+
+  -- in the tail, a key's place is one lower
+  is_at_tail : (row : K × V) (rows : List (K × V)) (key : K) (at : ℕ) → IsAt compare (row ∷ rows) key (suc at) → IsAt compare rows key at
+  is_at_tail row rows key at is = record { in_range = omega (arith, is.in_range); has_key = is.has_key }
+
+  -- so is a gap
+  gap_tail : (row : K × V) (rows : List (K × V)) (key : K) (at : ℕ) → IsGapFor compare (row ∷ rows) key (suc at) → IsGapFor compare rows key at
+  gap_tail row rows key at gap = record {
+    in_range = omega (arith, gap.in_range);
+    above_before = λ k d low high. gap.above_before (suc k) d (omega arith) (omega arith);
+    below_after = λ k d low high. gap.below_after (suc k) d (omega arith) (omega arith);
+  }
+
+  -- the value at the key's place is found
+  pub lookup_at : (rows : List (K × V)) (key : K) (at : ℕ) (default : K × V) → IsSortedMap compare rows → IsAt compare rows key at → lookup (is_at (compare key)) rows ≡ Some (get_or rows at default).1
+  lookup_at [] key at default sorted is = absurd (omega (arith, is.in_range))
+  lookup_at (row ∷ rows) key zero default sorted is = grind (arith, is.has_key row)
+  lookup_at (row ∷ rows) key (suc at) default sorted is =
+      let later = is_at_tail row rows key at is in
+      grind (arith, above_first row rows key at sorted later, lookup_at rows key at default (sorted_tail compare _ _ sorted) later)
+
+  -- below the first key nothing is found
+  lookup_below : (rows : List (K × V)) (key : K) → AllWithin (λ row. compare key row.0 ≡ Less) rows 0 (length rows) → lookup (is_at (compare key)) rows ≡ None
+  lookup_below [] key below = refl
+  lookup_below (row ∷ rows) key below = grind (arith, below 0 row (omega arith) (omega arith), lookup_below rows key (λ k d low high. below (suc k) d (omega arith) (omega arith)))
+
+  -- in a gap nothing is found
+  pub lookup_in_gap : (rows : List (K × V)) (key : K) (at : ℕ) → IsGapFor compare rows key at → lookup (is_at (compare key)) rows ≡ None
+  lookup_in_gap rows key zero gap = lookup_below rows key gap.below_after
+  lookup_in_gap [] key (suc at) gap = refl
+  lookup_in_gap (row ∷ rows) key (suc at) gap = grind (arith, gap.above_before 0 row (omega arith) (omega arith), lookup_in_gap rows key at (gap_tail row rows key at gap))
+
+  -- writing over the key's row inserts the value
+  insert_entry-at : (rows : List (K × V)) (key : K) (value : V) (at : ℕ) (row : K × V) → IsSortedMap compare rows → IsAt compare rows key at → row ≡ get_or rows at row → set rows at (row.0, value) ≡ insert_entry compare rows key value
+  insert_entry-at [] key value at row sorted is here = absurd (omega (arith, is.in_range))
+  insert_entry-at (first ∷ rows) key value zero row sorted is here = grind (arith, insert_entry-step compare key value first rows Equal (is.has_key row))
+  insert_entry-at (first ∷ rows) key value (suc at) row sorted is here =
+      let later = is_at_tail first rows key at is in
+      let step = insert_entry-step compare key value first rows Greater (above_first first rows key at sorted later) in
+      ap (λ rest. first ∷ rest) (insert_entry-at rows key value at row (sorted_tail compare _ _ sorted) later here) ∙ sym step
+
+  -- a new row in the gap inserts it
+  insert_entry-in_gap : (rows : List (K × V)) (key : K) (value : V) (at : ℕ) → IsGapFor compare rows key at → insert rows at (key, value) ≡ insert_entry compare rows key value
+  insert_entry-in_gap [] key value zero gap = refl
+  insert_entry-in_gap [] key value (suc at) gap = absurd (omega (arith, gap.in_range))
+  insert_entry-in_gap (row ∷ rows) key value zero gap = sym (insert_entry-step compare key value row rows Less (gap.below_after 0 row (omega arith) (omega arith)))
+  insert_entry-in_gap (row ∷ rows) key value (suc at) gap =
+      let step = insert_entry-step compare key value row rows Greater (gap.above_before 0 row (omega arith) (omega arith)) in
+      ap (λ rest. row ∷ rest) (insert_entry-in_gap rows key value at (gap_tail row rows key at gap)) ∙ sym step
+
+  -- rows with the value inserted stay in order, and find it
+  inserts_from_rows : (old new : List (K × V)) (key : K) (value : V) → IsSortedMap compare old → new ≡ insert_entry compare old key value → Inserts compare old new key value
+  inserts_from_rows old new key value sorted rows = record {
+    rows = rows;
+    sets = λ q. rw rows (SetsOnly-insert_entry total old key value q);
+    sorted = rw rows (IsSortedMap-insert_entry total old key value sorted);
+  }
+
+  -- a value that is written over the key's row
+  pub inserts_at : (rows : List (K × V)) (key : K) (value : V) (at : ℕ) (row : K × V) → IsSortedMap compare rows → IsAt compare rows key at → row ≡ get_or rows at row → Inserts compare rows (set rows at (row.0, value)) key value
+  inserts_at rows key value at row sorted is here = inserts_from_rows rows _ key value sorted (insert_entry-at rows key value at row sorted is here)
+
+  -- a new row in the gap
+  pub inserts_in_gap : (rows : List (K × V)) (key : K) (value : V) (at : ℕ) → IsSortedMap compare rows → IsGapFor compare rows key at → Inserts compare rows (insert rows at (key, value)) key value
+  inserts_in_gap rows key value at sorted gap = inserts_from_rows rows _ key value sorted (insert_entry-in_gap rows key value at gap)

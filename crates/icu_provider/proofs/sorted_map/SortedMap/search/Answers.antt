@@ -1,0 +1,11 @@
+use Rattle.std.proofs.Common.{rules}
+use Rattle.std.proofs.lemmas.Fn.{always_returns_same}
+use Rattle.icu_provider.proofs.Places.{searched}
+use Rattle.icu_provider.proofs.sorted_map.SortedMap.search.Goals as goal
+
+-- the closure compares a row's key with the one that is sought
+pub returns : goal.returns
+returns g c =
+    let facts = c.binary_search_by.ensures in
+    let by_key = facts.position (λ row. g.K.Ord.cmp row.0 c.args.key.now) (always_returns_same _ _ _ (λ a r f called. search rules)) in
+    rw (← c.self.view_is, ← c.deref.ensures.value) (searched g.met.K.Ord.total c.deref.result.now c.args.key.now _ (rw c.deref.ensures.value c.self.invariant) facts.bound by_key)

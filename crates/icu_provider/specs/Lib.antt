@@ -1,0 +1,3 @@
+pub mod DataError
+pub mod Maps
+pub mod Provider

@@ -1,0 +1,133 @@
+//! Likely subtags by language.
+ghost use Rattle.std.specs.Prelude.{◌≡◌, [], IsSome, IsOk, IfErr, OnOk, OnErr};
+ghost use Rattle.std.specs.BTreeMap.{insert_entry};
+ghost use Rattle.icu_locale_core.specs.TextSet.{text_cmp};
+ghost use Rattle.icu_provider.specs.Maps.{IsSortedMap, SetsOnly, value_at, pair_cmp};
+
+use crate::{DataError, DataErrorKind, Rows, SortedMap};
+use icu_locale_core::{Language, Region, Script};
+use std::alloc::Global;
+
+/// Likely subtags by language (UTS #35, section 4.3), and those of `und`.
+#[derive(Debug, Drop)]
+pub struct LikelySubtagsForLanguage {
+    /// The language, script and region of `und`, which also serves as a row for its script and its region.
+    pub und: (Language, Script, Region),
+    /// The script and the region of a language.
+    pub language: SortedMap<Language, (Script, Region)>,
+    /// The region of a language and a script.
+    pub language_script: SortedMap<(Language, Script), Region>,
+    /// The script of a language and a region.
+    pub language_region: SortedMap<(Language, Region), Script>,
+}
+
+impl LikelySubtagsForLanguage {
+    /// A table without rows and with the triple of `und`. It takes no memory.
+    pub fn new(alloc: Global, und: (Language, Script, Region)) -> Self
+        ensures { result ≡ record { und = und; language = []; language_script = []; language_region = [] } }
+    {
+        LikelySubtagsForLanguage {
+            und,
+            language: SortedMap::new(alloc),
+            language_script: SortedMap::new(alloc),
+            language_region: SortedMap::new(alloc),
+        }
+    }
+
+    /// The triple of `und`. It takes no memory.
+    pub fn und(&self) -> (Language, Script, Region)
+        ensures { result ≡ self.now.und }
+    {
+        self.und
+    }
+
+    /// Sets the script and the region of a language. A row that is there takes the new value and no memory.
+    ///
+    /// # Errors
+    ///
+    /// `Memory`, only where the list of rows had to grow and could not: the table is unchanged then.
+    pub fn insert_language(&mut self, language: Language, script: Script, region: Region) -> Result<(), DataError>
+        ensures ok { OnOk result (self.new ≡ record self.old { language = insert_entry text_cmp self.old.language language (script, region) }) }
+        ensures sets { OnOk result (SetsOnly text_cmp self.old.language self.new.language language (script, region)) }
+        ensures err { OnErr result (self.new ≡ self.old) }
+        ensures refused { IfErr result (λ e. e.kind ≡ DataErrorKind.Memory) }
+        ensures present { IsSome (value_at text_cmp self.old.language language) → IsOk result }
+    {
+        self.language.insert(language, (script, region))
+    }
+
+    /// The script and the region of a language, if there is a row. It takes no memory.
+    pub fn get_language(&self, language: Language) -> Option<(Script, Region)>
+        ensures { result ≡ value_at text_cmp self.now.language language }
+    {
+        self.language.get(&language).copied()
+    }
+
+    /// A walk over the rows of `language`, rising by key. It takes no memory.
+    pub fn iter_language(&self) -> Rows<'_, Language, (Script, Region)>
+        ensures rows { result ≡ self.now.language }
+        ensures sorted { IsSortedMap text_cmp self.now.language }
+    {
+        self.language.iter()
+    }
+
+    /// Sets the region of a language and a script. A row that is there takes the new value and no memory.
+    ///
+    /// # Errors
+    ///
+    /// `Memory`, only where the list of rows had to grow and could not: the table is unchanged then.
+    pub fn insert_language_script(&mut self, language: Language, script: Script, region: Region) -> Result<(), DataError>
+        ensures ok { OnOk result (self.new ≡ record self.old { language_script = insert_entry pair_cmp self.old.language_script (language, script) region }) }
+        ensures sets { OnOk result (SetsOnly pair_cmp self.old.language_script self.new.language_script (language, script) region) }
+        ensures err { OnErr result (self.new ≡ self.old) }
+        ensures refused { IfErr result (λ e. e.kind ≡ DataErrorKind.Memory) }
+        ensures present { IsSome (value_at pair_cmp self.old.language_script (language, script)) → IsOk result }
+    {
+        self.language_script.insert((language, script), region)
+    }
+
+    /// The region of a language and a script, if there is a row. It takes no memory.
+    pub fn get_language_script(&self, language: Language, script: Script) -> Option<Region>
+        ensures { result ≡ value_at pair_cmp self.now.language_script (language, script) }
+    {
+        self.language_script.get(&(language, script)).copied()
+    }
+
+    /// A walk over the rows of `language_script`, rising by key. It takes no memory.
+    pub fn iter_language_script(&self) -> Rows<'_, (Language, Script), Region>
+        ensures rows { result ≡ self.now.language_script }
+        ensures sorted { IsSortedMap pair_cmp self.now.language_script }
+    {
+        self.language_script.iter()
+    }
+
+    /// Sets the script of a language and a region. A row that is there takes the new value and no memory.
+    ///
+    /// # Errors
+    ///
+    /// `Memory`, only where the list of rows had to grow and could not: the table is unchanged then.
+    pub fn insert_language_region(&mut self, language: Language, region: Region, script: Script) -> Result<(), DataError>
+        ensures ok { OnOk result (self.new ≡ record self.old { language_region = insert_entry pair_cmp self.old.language_region (language, region) script }) }
+        ensures sets { OnOk result (SetsOnly pair_cmp self.old.language_region self.new.language_region (language, region) script) }
+        ensures err { OnErr result (self.new ≡ self.old) }
+        ensures refused { IfErr result (λ e. e.kind ≡ DataErrorKind.Memory) }
+        ensures present { IsSome (value_at pair_cmp self.old.language_region (language, region)) → IsOk result }
+    {
+        self.language_region.insert((language, region), script)
+    }
+
+    /// The script of a language and a region, if there is a row. It takes no memory.
+    pub fn get_language_region(&self, language: Language, region: Region) -> Option<Script>
+        ensures { result ≡ value_at pair_cmp self.now.language_region (language, region) }
+    {
+        self.language_region.get(&(language, region)).copied()
+    }
+
+    /// A walk over the rows of `language_region`, rising by key. It takes no memory.
+    pub fn iter_language_region(&self) -> Rows<'_, (Language, Region), Script>
+        ensures rows { result ≡ self.now.language_region }
+        ensures sorted { IsSortedMap pair_cmp self.now.language_region }
+    {
+        self.language_region.iter()
+    }
+}

@@ -1,0 +1,123 @@
+//! Likely subtags by script and region.
+ghost use Rattle.std.specs.Prelude.{◌≡◌, [], IsSome, IsOk, IfErr, OnOk, OnErr};
+ghost use Rattle.std.specs.BTreeMap.{insert_entry};
+ghost use Rattle.icu_locale_core.specs.TextSet.{text_cmp};
+ghost use Rattle.icu_provider.specs.Maps.{IsSortedMap, SetsOnly, value_at, pair_cmp};
+
+use crate::{DataError, DataErrorKind, Rows, SortedMap};
+use icu_locale_core::{Language, Region, Script};
+use std::alloc::Global;
+
+/// Likely subtags of identifiers whose language is not known, by script and region (UTS #35, section 4.3).
+#[derive(Debug, Drop)]
+pub struct LikelySubtagsForScriptRegion {
+    /// The language of a script and a region.
+    pub script_region: SortedMap<(Script, Region), Language>,
+    /// The language and the region of a script.
+    pub script: SortedMap<Script, (Language, Region)>,
+    /// The language and the script of a region.
+    pub region: SortedMap<Region, (Language, Script)>,
+}
+
+impl LikelySubtagsForScriptRegion {
+    /// A table without rows. It takes no memory.
+    pub fn new(alloc: Global) -> Self
+        ensures { result ≡ record { script_region = []; script = []; region = [] } }
+    {
+        LikelySubtagsForScriptRegion {
+            script_region: SortedMap::new(alloc),
+            script: SortedMap::new(alloc),
+            region: SortedMap::new(alloc),
+        }
+    }
+
+    /// Sets the language of a script and a region. A row that is there takes the new value and no memory.
+    ///
+    /// # Errors
+    ///
+    /// `Memory`, only where the list of rows had to grow and could not: the table is unchanged then.
+    pub fn insert_script_region(&mut self, script: Script, region: Region, language: Language) -> Result<(), DataError>
+        ensures ok { OnOk result (self.new ≡ record self.old { script_region = insert_entry pair_cmp self.old.script_region (script, region) language }) }
+        ensures sets { OnOk result (SetsOnly pair_cmp self.old.script_region self.new.script_region (script, region) language) }
+        ensures err { OnErr result (self.new ≡ self.old) }
+        ensures refused { IfErr result (λ e. e.kind ≡ DataErrorKind.Memory) }
+        ensures present { IsSome (value_at pair_cmp self.old.script_region (script, region)) → IsOk result }
+    {
+        self.script_region.insert((script, region), language)
+    }
+
+    /// The language of a script and a region, if there is a row. It takes no memory.
+    pub fn get_script_region(&self, script: Script, region: Region) -> Option<Language>
+        ensures { result ≡ value_at pair_cmp self.now.script_region (script, region) }
+    {
+        self.script_region.get(&(script, region)).copied()
+    }
+
+    /// A walk over the rows of `script_region`, rising by key. It takes no memory.
+    pub fn iter_script_region(&self) -> Rows<'_, (Script, Region), Language>
+        ensures rows { result ≡ self.now.script_region }
+        ensures sorted { IsSortedMap pair_cmp self.now.script_region }
+    {
+        self.script_region.iter()
+    }
+
+    /// Sets the language and the region of a script. A row that is there takes the new value and no memory.
+    ///
+    /// # Errors
+    ///
+    /// `Memory`, only where the list of rows had to grow and could not: the table is unchanged then.
+    pub fn insert_script(&mut self, script: Script, language: Language, region: Region) -> Result<(), DataError>
+        ensures ok { OnOk result (self.new ≡ record self.old { script = insert_entry text_cmp self.old.script script (language, region) }) }
+        ensures sets { OnOk result (SetsOnly text_cmp self.old.script self.new.script script (language, region)) }
+        ensures err { OnErr result (self.new ≡ self.old) }
+        ensures refused { IfErr result (λ e. e.kind ≡ DataErrorKind.Memory) }
+        ensures present { IsSome (value_at text_cmp self.old.script script) → IsOk result }
+    {
+        self.script.insert(script, (language, region))
+    }
+
+    /// The language and the region of a script, if there is a row. It takes no memory.
+    pub fn get_script(&self, script: Script) -> Option<(Language, Region)>
+        ensures { result ≡ value_at text_cmp self.now.script script }
+    {
+        self.script.get(&script).copied()
+    }
+
+    /// A walk over the rows of `script`, rising by key. It takes no memory.
+    pub fn iter_script(&self) -> Rows<'_, Script, (Language, Region)>
+        ensures rows { result ≡ self.now.script }
+        ensures sorted { IsSortedMap text_cmp self.now.script }
+    {
+        self.script.iter()
+    }
+
+    /// Sets the language and the script of a region. A row that is there takes the new value and no memory.
+    ///
+    /// # Errors
+    ///
+    /// `Memory`, only where the list of rows had to grow and could not: the table is unchanged then.
+    pub fn insert_region(&mut self, region: Region, language: Language, script: Script) -> Result<(), DataError>
+        ensures ok { OnOk result (self.new ≡ record self.old { region = insert_entry text_cmp self.old.region region (language, script) }) }
+        ensures sets { OnOk result (SetsOnly text_cmp self.old.region self.new.region region (language, script)) }
+        ensures err { OnErr result (self.new ≡ self.old) }
+        ensures refused { IfErr result (λ e. e.kind ≡ DataErrorKind.Memory) }
+        ensures present { IsSome (value_at text_cmp self.old.region region) → IsOk result }
+    {
+        self.region.insert(region, (language, script))
+    }
+
+    /// The language and the script of a region, if there is a row. It takes no memory.
+    pub fn get_region(&self, region: Region) -> Option<(Language, Script)>
+        ensures { result ≡ value_at text_cmp self.now.region region }
+    {
+        self.region.get(&region).copied()
+    }
+
+    /// A walk over the rows of `region`, rising by key. It takes no memory.
+    pub fn iter_region(&self) -> Rows<'_, Region, (Language, Script)>
+        ensures rows { result ≡ self.now.region }
+        ensures sorted { IsSortedMap text_cmp self.now.region }
+    {
+        self.region.iter()
+    }
+}

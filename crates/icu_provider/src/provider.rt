@@ -1,0 +1,42 @@
+//! Where data comes from.
+
+use crate::{DataError, LikelySubtagsExtended, LikelySubtagsForLanguage, LikelySubtagsForScriptRegion};
+
+/// A source of data. Each load answers the provider's meaning at that request, at every call the same one, and lends
+/// it for the life of the provider.
+pub trait DataProvider {
+    ghost use Rattle.std.specs.Prelude.{◌≡◌, Result};
+    ghost use Rattle.icu_provider.specs.Provider.{lent};
+    ghost use Rattle.icu_provider.specs.declared.error.DataError.{DataError};
+    ghost use Rattle.icu_provider.specs.declared.likely.language.LikelySubtagsForLanguage.{LikelySubtagsForLanguage};
+    ghost use Rattle.icu_provider.specs.declared.likely.script_region.LikelySubtagsForScriptRegion.{LikelySubtagsForScriptRegion};
+    ghost use Rattle.icu_provider.specs.declared.likely.extended.LikelySubtagsExtended.{LikelySubtagsExtended};
+
+    ghost likely_language: { Self → Result LikelySubtagsForLanguage DataError };
+    ghost likely_script_region: { Self → Result LikelySubtagsForScriptRegion DataError };
+    ghost likely_extended: { Self → Result LikelySubtagsExtended DataError };
+
+    /// The likely subtags by language.
+    ///
+    /// # Errors
+    ///
+    /// Those of the provider.
+    fn load_likely_language(&self) -> Result<&LikelySubtagsForLanguage, DataError>
+        ensures { lent result ≡ likely_language self.now };
+
+    /// The likely subtags by script and region.
+    ///
+    /// # Errors
+    ///
+    /// Those of the provider.
+    fn load_likely_script_region(&self) -> Result<&LikelySubtagsForScriptRegion, DataError>
+        ensures { lent result ≡ likely_script_region self.now };
+
+    /// The further likely subtags, which the other two tables cover.
+    ///
+    /// # Errors
+    ///
+    /// Those of the provider.
+    fn load_likely_extended(&self) -> Result<&LikelySubtagsExtended, DataError>
+        ensures { lent result ≡ likely_extended self.now };
+}

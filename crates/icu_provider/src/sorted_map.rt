@@ -1,0 +1,260 @@
+//! A map in a sorted list: look-ups by binary search, and walks in the keys' order.
+ghost use Rattle.std.specs.Prelude.{◌≡◌, ◌==◌, [], length, IsSome, IsOk, IfErr, MatchResult, OnOk, OnErr, is_some, option_copied};
+ghost use Rattle.std.specs.List.{All};
+ghost use Rattle.std.specs.Map.Iter.{deref_pair};
+ghost use Rattle.std.specs.Iterator.{YieldsFirstBy, item_count};
+ghost use Rattle.std.specs.BTreeMap.{insert_entry};
+ghost use Rattle.icu_provider.specs.Maps.{IsSortedMap, SetsOnly, IsAt, IsGapFor, value_at};
+
+use crate::{DataError, DataErrorKind};
+use std::alloc::{AllocError, Global};
+use std::cmp::{Ord, Ordering};
+use std::marker::Model;
+
+/// A map whose rows stand in one list, in the order of their keys.
+#[derive(Debug, Drop)]
+pub struct SortedMap<K: Ord, V> {
+    entries: Vec<(K, V)>,
+}
+
+impl<K: Ord, V> Model for SortedMap<K, V> {
+    ghost use Rattle.std.specs.Prelude.{List};
+    ghost use Rattle.icu_provider.specs.Maps.{IsSortedMap};
+
+    ghost Value = { List (K × V) };
+
+    ghost view = { λ m. m.entries.items };
+
+    ghost invariant = { λ m. IsSortedMap K.cmp m.entries.items };
+}
+
+impl<K: Ord, V> SortedMap<K, V> {
+    /// A map with no rows, which takes no memory yet.
+    pub fn new(alloc: Global) -> Self
+        ensures { result ≡ [] }
+    {
+        SortedMap {
+            entries: Vec::new(alloc),
+        }
+    }
+
+    /// How many rows there are.
+    pub fn len(&self) -> usize
+        ensures { result ≡ length self.now }
+    {
+        self.entries.len()
+    }
+
+    /// Whether there is no row.
+    pub fn is_empty(&self) -> bool
+        ensures { result ≡ (length self.now == 0) }
+    {
+        self.entries.is_empty()
+    }
+
+    /// The value at the key, found by binary search.
+    pub fn get(&self, key: &K) -> Option<&V>
+        ensures { option_copied result ≡ value_at K.cmp self.now key.now }
+    {
+        match self.search(key) {
+            Ok(at) => Some(&self.entries[at].1),
+            Err(_) => None,
+        }
+    }
+
+    /// Whether some row has the key, found by binary search.
+    pub fn contains_key(&self, key: &K) -> bool
+        ensures { result ≡ is_some (value_at K.cmp self.now key.now) }
+    {
+        self.get(key).is_some()
+    }
+
+    /// Puts the value at the key. A key that is there stays and takes the value, with no memory taken; a new row goes
+    /// to its place, and the list grows once if it is full. If that memory is refused, the map stays as it was, and
+    /// the new row is let go.
+    pub fn insert(&mut self, key: K, value: V) -> Result<(), DataError>
+    where
+        K: Drop,
+        V: Drop,
+        ensures ok { OnOk result (self.new ≡ insert_entry K.cmp self.old key value) }
+        ensures updates { OnOk result (SetsOnly K.cmp self.old self.new key value) }
+        ensures err { OnErr result (self.new ≡ self.old) }
+        ensures refused { IfErr result (λ e. e.kind ≡ DataErrorKind.Memory) }
+        ensures present { IsSome (value_at K.cmp self.old key) → IsOk result }
+    {
+        match self.search(&key) {
+            Ok(at) => {
+                self.entries[at].1 = value;
+                Ok(())
+            }
+            Err(at) => Ok(self.entries.insert(at, (key, value))?),
+        }
+    }
+
+    /// The rows, in the keys' order.
+    pub fn as_slice(&self) -> &[(K, V)]
+        ensures rows { result.now ≡ self.now }
+        ensures sorted { IsSortedMap K.cmp self.now }
+    {
+        &self.entries
+    }
+
+    /// A walk over the rows, in the keys' order.
+    pub fn iter(&self) -> Rows<'_, K, V>
+        ensures rows { result ≡ self.now }
+        ensures sorted { IsSortedMap K.cmp self.now }
+        ensures found { All (λ row. value_at K.cmp self.now row.0 ≡ Some row.1) self.now }
+    {
+        Rows {
+            rows: &self.entries,
+        }
+    }
+
+    // Where the key stands, or where it would go.
+    fn search(&self, key: &K) -> Result<usize, usize>
+        ensures { MatchResult result (IsAt K.cmp self.now key.now) (IsGapFor K.cmp self.now key.now) }
+    {
+        self.entries.binary_search_by(
+            |row: &(K, V)| -> Ordering
+                ensures { result ≡ K.cmp row.now.0 key.entry.now }
+            { row.0.cmp(key) },
+        )
+    }
+}
+
+/// The rows of a sorted map that a walk has not come to yet, in the keys' order.
+#[derive(Debug, Drop)]
+pub struct Rows<'a, K, V> {
+    rows: &'a [(K, V)],
+}
+
+impl<'a, K, V> Model for Rows<'a, K, V> {
+    ghost use Rattle.std.specs.Prelude.{List};
+
+    ghost Value = { List (K × V) };
+
+    ghost view = { λ r. r.rows.now };
+}
+
+impl<'a, K, V> Rows<'a, K, V> {
+    /// The rows that are left.
+    pub fn as_slice(&self) -> &'a [(K, V)]
+        ensures { result.now ≡ self.now }
+    {
+        self.rows
+    }
+}
+
+impl<'a, K, V> Clone for Rows<'a, K, V> {
+    ghost use Rattle.std.specs.Prelude.{◌≡◌, ⊤};
+
+    ghost is_clone = { λ s r. r ≡ s };
+
+    ghost is_infallible = { λ _. ⊤ };
+
+    fn clone(&self) -> Result<Rows<'a, K, V>, AllocError> {
+        Ok(Rows { rows: self.rows })
+    }
+}
+
+impl<'a, K, V> Iterator for Rows<'a, K, V> {
+    type Item = (&'a K, &'a V);
+
+    ghost next_gives = { YieldsFirstBy deref_pair (λ s. s) };
+
+    ghost remaining = { item_count (λ s. s) };
+
+    fn next(&mut self) -> Option<(&'a K, &'a V)> {
+        let (first, others) = self.rows.split_first()?;
+        self.rows = others;
+        Some((&first.0, &first.1))
+    }
+}
+
+#[cfg(test)]
+mod tests {
+    use super::*;
+    use std::test::Fail;
+
+    // A map with a row for each number, whose value is one more.
+    fn filled(alloc: Global, keys: &[u16]) -> Result<SortedMap<u16, u16>, DataError> {
+        let mut map = SortedMap::new(alloc);
+        for key in keys {
+            map.insert(*key, key.wrapping_add(1))?;
+        }
+        Ok(map)
+    }
+
+    #[test]
+    fn each_order_of_inserts_gives_the_same_walk(rt: HostRuntime) -> Result<(), Fail> {
+        let alloc = rt.alloc();
+        let rising: Vec<u16> = (0..200).collect(alloc)?;
+        let falling: Vec<u16> = (0..200).map(|key: u16| 199 - key).collect(alloc)?;
+        let mixed: Vec<u16> = (0..200).map(|key: u16| key * 77 % 200).collect(alloc)?;
+        let first = filled(alloc, &rising)?;
+        let second = filled(alloc, &falling)?;
+        let third = filled(alloc, &mixed)?;
+        assert_eq!(rt; first.len(), 200);
+        assert_eq!(rt; second.as_slice(), first.as_slice());
+        assert_eq!(rt; third.as_slice(), first.as_slice());
+        let walked: Vec<u16> = third.iter().map(|(key, _)| *key).collect(alloc)?;
+        assert_eq!(rt; walked.as_slice(), rising.as_slice());
+        Ok(())
+    }
+
+    #[test]
+    fn an_insert_at_a_key_that_is_there_changes_its_value_alone(
+        rt: HostRuntime,
+    ) -> Result<(), Fail> {
+        let mut map = filled(rt.alloc(), &[5, 3, 9])?;
+        map.insert(5, 70)?;
+        assert_eq!(rt; map.as_slice(), [(3, 4), (5, 70), (9, 10)].as_slice());
+        assert_eq!(rt; map.get(&5).copied(), Some(70));
+        assert_eq!(rt; map.get(&4).copied(), None);
+        assert!(rt; map.contains_key(&9));
+        assert!(rt; !map.contains_key(&10));
+        Ok(())
+    }
+
+    #[test]
+    fn keys_of_two_parts_rise_by_the_first_and_then_the_second(
+        rt: HostRuntime,
+    ) -> Result<(), Fail> {
+        let mut map = SortedMap::<(u8, u8), char>::new(rt.alloc());
+        for (first, second, value) in [(2, 1, 'c'), (1, 9, 'b'), (2, 2, 'd'), (1, 2, 'a')] {
+            map.insert((first, second), value)?;
+        }
+        let walked: Vec<char> = map.iter().map(|(_, value)| *value).collect(rt.alloc())?;
+        assert_eq!(rt; walked.as_slice(), ['a', 'b', 'c', 'd'].as_slice());
+        assert_eq!(rt; map.get(&(2, 1)).copied(), Some('c'));
+        assert_eq!(rt; map.get(&(1, 1)).copied(), None);
+        Ok(())
+    }
+
+    #[test]
+    fn a_map_to_nothing_is_a_set(rt: HostRuntime) -> Result<(), Fail> {
+        let mut set = SortedMap::<u8, ()>::new(rt.alloc());
+        assert!(rt; set.is_empty());
+        for key in [7, 3, 7] {
+            set.insert(key, ())?;
+        }
+        assert_eq!(rt; set.len(), 2);
+        assert!(rt; set.contains_key(&7));
+        assert!(rt; !set.contains_key(&4));
+        Ok(())
+    }
+
+    #[test]
+    fn a_walk_shows_what_is_left(rt: HostRuntime) -> Result<(), Fail> {
+        let map = filled(rt.alloc(), &[2, 1, 3])?;
+        let mut rows = map.iter();
+        assert_eq!(rt;
+            rows.next().map(|(key, value)| (*key, *value)),
+            Some((1, 2))
+        );
+        assert_eq!(rt; rows.as_slice(), [(2, 3), (3, 4)].as_slice());
+        assert_eq!(rt; rows.clone()?.count(), 2);
+        assert_eq!(rt; rows.count(), 2);
+        Ok(())
+    }
+}

@@ -1,0 +1,84 @@
+//! Tables in memory, and the provider that they are.
+ghost use Rattle.std.specs.Prelude.{◌≡◌, Some, None};
+ghost use Rattle.icu_provider.specs.Provider.{lent};
+ghost use Rattle.icu_tables.specs.Tables.{held};
+
+use icu_provider::{
+    DataError, DataErrorKind, DataProvider, LikelySubtagsExtended, LikelySubtagsForLanguage,
+    LikelySubtagsForScriptRegion,
+};
+use std::alloc::Global;
+
+/// Data in memory. A load of what is not held is refused by `IdentifierNotFound`.
+#[derive(Debug, Drop)]
+pub struct Tables {
+    /// The likely subtags by language, if any are held.
+    pub likely_language: Option<LikelySubtagsForLanguage>,
+    /// The likely subtags by script and region, if any are held.
+    pub likely_script_region: Option<LikelySubtagsForScriptRegion>,
+    /// The further likely subtags, if any are held.
+    pub likely_extended: Option<LikelySubtagsExtended>,
+}
+
+impl Tables {
+    /// Tables that hold nothing. It takes no memory.
+    pub fn new(alloc: Global) -> Self
+        ensures { result ≡ record { likely_language = None; likely_script_region = None; likely_extended = None } }
+    {
+        let _ = alloc;
+        Tables {
+            likely_language: None,
+            likely_script_region: None,
+            likely_extended: None,
+        }
+    }
+
+    /// Takes the likely subtags by language, in place of what was held. It takes no memory.
+    pub fn set_likely_language(&mut self, table: LikelySubtagsForLanguage)
+        ensures { self.new ≡ record self.old { likely_language = Some table } }
+    {
+        self.likely_language = Some(table);
+    }
+
+    /// Takes the likely subtags by script and region, in place of what was held. It takes no memory.
+    pub fn set_likely_script_region(&mut self, table: LikelySubtagsForScriptRegion)
+        ensures { self.new ≡ record self.old { likely_script_region = Some table } }
+    {
+        self.likely_script_region = Some(table);
+    }
+
+    /// Takes the further likely subtags, in place of what was held. It takes no memory.
+    pub fn set_likely_extended(&mut self, table: LikelySubtagsExtended)
+        ensures { self.new ≡ record self.old { likely_extended = Some table } }
+    {
+        self.likely_extended = Some(table);
+    }
+}
+
+const NOT_FOUND: DataError = DataError {
+    kind: DataErrorKind::IdentifierNotFound,
+};
+
+impl DataProvider for Tables {
+    ghost likely_language = { λ t. held t.likely_language };
+    ghost likely_script_region = { λ t. held t.likely_script_region };
+    ghost likely_extended = { λ t. held t.likely_extended };
+
+    fn load_likely_language(&self) -> Result<&LikelySubtagsForLanguage, DataError>
+        ensures { lent result ≡ held self.now.likely_language }
+    {
+        self.likely_language.as_ref().ok_or(NOT_FOUND)
+    }
+
+    fn load_likely_script_region(&self) -> Result<&LikelySubtagsForScriptRegion, DataError>
+        ensures { lent result ≡ held self.now.likely_script_region }
+    {
+        self.likely_script_region.as_ref().ok_or(NOT_FOUND)
+    }
+
+    fn load_likely_extended(&self) -> Result<&LikelySubtagsExtended, DataError>
+        ensures { lent result ≡ held self.now.likely_extended }
+    {
+        self.likely_extended.as_ref().ok_or(NOT_FOUND)
+    }
+}
