@@ -1,6 +1,6 @@
 mod Agreements
 mod Cases
-mod Cutting
+pub mod Cutting
 mod Padding
 mod Readings
 mod Searches

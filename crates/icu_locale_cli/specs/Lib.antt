@@ -1,0 +1,3 @@
+pub mod CliError
+pub mod Lines
+pub mod Output

@@ -1,0 +1,17 @@
+-- The lines of a text.
+use Rattle.std.specs.Prelude.{ℕ, Bool, ◌==◌, List, [], ◌∷◌}
+use Rattle.std.specs.List.{slice_split}
+
+-- a line feed
+abbrev pub is_line_feed : ℕ → Bool
+is_line_feed c = c == 10
+
+-- a list of pieces, the last only where it is not empty
+abbrev pub without_empty_last : List (List ℕ) → List (List ℕ)
+without_empty_last [] = []
+without_empty_last ([] ∷ []) = []
+without_empty_last (x ∷ xs) = x ∷ without_empty_last xs
+
+-- a text cut at each line feed; what follows the last one is a line where it is not empty
+abbrev pub lines : List ℕ → List (List ℕ)
+lines t = without_empty_last (slice_split is_line_feed t)

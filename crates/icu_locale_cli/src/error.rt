@@ -1,0 +1,41 @@
+//! Why a run ends before its last line.
+ghost use Rattle.std.specs.Prelude.{Some};
+ghost use Rattle.icu_locale_cli.specs.CliError.{error_words};
+
+use icu_provider::DataError;
+use std::error::Error;
+use std::fmt;
+
+/// Why a run ends early. Its words go to standard error, and the status is then 2.
+#[derive(Clone, Copy, Debug, PartialEq, Eq)]
+pub enum CliError {
+    /// The words are no command.
+    Usage,
+    /// A table that the command needs cannot be loaded.
+    Data(DataError),
+    /// A read failed, or the input did not end. Nothing was written.
+    Read,
+    /// A write failed, or took no byte. The earlier lines were written, and a beginning of the one in hand.
+    Write,
+    /// Memory was asked for and refused. Whole lines only were written.
+    Memory,
+}
+
+impl fmt::Display for CliError {
+    ghost output = { λ e. Some (error_words e) };
+
+    fn fmt<W: fmt::Write>(&self, f: &mut fmt::Formatter<W>) -> fmt::Result {
+        match self {
+            CliError::Usage => f.write_str("usage: icu_locale_cli COMMAND [json]"),
+            CliError::Data(refusal) => {
+                f.write_str("data: ")?;
+                fmt::Display::fmt(refusal, f)
+            }
+            CliError::Read => f.write_str("read failed"),
+            CliError::Write => f.write_str("write failed"),
+            CliError::Memory => f.write_str("no memory"),
+        }
+    }
+}
+
+impl Error for CliError {}

@@ -1,0 +1,74 @@
+// The lines of a text.
+ghost use Rattle.std.specs.Prelude.{◌≡◌, ◌≢◌, ◌∷◌, []};
+ghost use Rattle.std.specs.List.{position};
+ghost use Rattle.std.specs.Iterator.{YieldsFirstRef, item_count};
+ghost use Rattle.icu_locale_cli.specs.Lines.{is_line_feed, lines};
+
+use std::marker::Model;
+
+// The lines that are left of a text.
+#[derive(Drop)]
+pub struct Lines<'a> {
+    rest: &'a [u8],
+}
+
+impl<'a> Model for Lines<'a> {
+    ghost use Rattle.std.specs.Prelude.{List, ℕ};
+    ghost use Rattle.icu_locale_cli.specs.Lines.{lines};
+
+    ghost Value = { List (List ℕ) };
+
+    ghost view = { λ a. lines a.rest.now };
+}
+
+impl<'a> Lines<'a> {
+    pub fn new(text: &'a [u8]) -> Self
+        ensures { result ≡ lines text.now }
+    {
+        Lines { rest: text }
+    }
+}
+
+impl<'a> Iterator for Lines<'a> {
+    type Item = &'a [u8];
+
+    ghost next_gives = { YieldsFirstRef (λ s. s) };
+
+    ghost remaining = { item_count (λ s. s) };
+
+    fn next(&mut self) -> Option<&'a [u8]> {
+        if self.rest.is_empty() {
+            return None;
+        }
+        let (line, rest) = cut(self.rest);
+        self.rest = rest;
+        Some(line)
+    }
+}
+
+// The first line, and what follows its line feed.
+fn cut(text: &[u8]) -> (&[u8], &[u8])
+    requires { text.now ≢ [] }
+    ensures { lines text.now ≡ result.0.now ∷ lines result.1.now }
+{
+    match line_feed(text) {
+        Some(place) => {
+            let (line, rest) = text.split_at(place);
+            (line, &rest[1..])
+        }
+        None => (text, &[]),
+    }
+}
+
+// Where the first line feed stands.
+fn line_feed(text: &[u8]) -> Option<usize>
+    ensures { result ≡ position is_line_feed text.now }
+{
+    text.iter().position(is_line_feed)
+}
+
+fn is_line_feed(byte: &u8) -> bool
+    ensures { result ≡ is_line_feed byte.now }
+{
+    *byte == b'\n'
+}

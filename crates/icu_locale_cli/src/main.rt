@@ -1,0 +1,11 @@
+//! Locale identifiers on the command line: each line of the input is one, and each line of the output its answer.
+#![tactic(auto)]
+
+mod error;
+mod input;
+mod lines;
+mod output;
+
+fn main(rt: HostRuntime) {
+    let _ = rt;
+}
