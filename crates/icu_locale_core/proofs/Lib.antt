@@ -4,6 +4,7 @@ pub mod Cutting
 mod Padding
 mod Readings
 mod Searches
+mod SetOperations
 mod TextSets
 mod VariantLists
 mod Written

@@ -51,7 +51,7 @@ contains-rising s q = fin.contains_key-keys s q
 pub from_list-rising : (s : TextSet) → from_list (rising s) ≡ s
 from_list-rising s = same_set (from_list (rising s)) s (λ q. contains-from_list (rising s) q ∙ sym (contains-rising s q))
 
-equal_from_tied : (o : Ordering) → is_eq o ≡ true → o ≡ Equal
+pub equal_from_tied : (o : Ordering) → is_eq o ≡ true → o ≡ Equal
 equal_from_tied Less e = absurd (false≢true e)
 equal_from_tied Equal e = refl
 equal_from_tied Greater e = absurd (false≢true e)
@@ -110,7 +110,7 @@ less_from_test Less e = refl
 less_from_test Equal e = absurd (false≢true e)
 less_from_test Greater e = absurd (false≢true e)
 
-both_true : (a b : Bool) → (a && b) ≡ true → (a ≡ true) × (b ≡ true)
+pub both_true : (a b : Bool) → (a && b) ≡ true → (a ≡ true) × (b ≡ true)
 both_true true b e = (refl, e)
 both_true false b e = absurd (false≢true e)
 

@@ -1,6 +1,7 @@
 pub mod Agreement
 pub mod Class
 pub mod Identifier
+pub mod Keywords
 pub mod Order
 pub mod Padded
 pub mod ParseError
@@ -8,4 +9,5 @@ pub mod Pieces
 pub mod Reading
 pub mod Subtag
 pub mod TextSet
+pub mod Value
 pub mod Variants

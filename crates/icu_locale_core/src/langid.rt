@@ -124,7 +124,7 @@ fn write_variants<W: fmt::Write>(variants: &Variants, f: &mut fmt::Formatter<W>)
     Ok(())
 }
 
-fn write_after_dash<W: fmt::Write>(text: &str, f: &mut fmt::Formatter<W>) -> fmt::Result
+pub(crate) fn write_after_dash<W: fmt::Write>(text: &str, f: &mut fmt::Formatter<W>) -> fmt::Result
     ensures { WritesOnOk W.write_str_gives f.old result (codes "-" ++ text.now) f.new }
 {
     f.write_str("-")?;

@@ -3,17 +3,23 @@
 
 mod classes;
 mod extensions;
+mod keywords;
 mod langid;
 pub mod laws;
+mod locale;
 mod parse_error;
 mod pieces;
 mod reader;
 mod subtags;
 mod tiny;
+mod value;
 mod variants;
 
 pub use extensions::{Key, Subtag};
+pub use keywords::Keywords;
 pub use langid::LanguageIdentifier;
+pub use locale::{Extensions, Locale, Transform, Unicode};
 pub use parse_error::ParseError;
 pub use subtags::{Language, Region, Script, Variant};
+pub use value::Value;
 pub use variants::{Variants, VariantsIter};

@@ -12,7 +12,7 @@ ghost use Rattle.std.specs.Prelude.{nat_eq};
 ghost use Rattle.std.proofs.lemmas.Slice.Eq.{bytes_eq-Decides};
 ghost use Rattle.icu_locale_core.specs.Order.{text_lists_ties};
 ghost use Rattle.icu_locale_core.specs.Subtag.{IsVariant};
-ghost use Rattle.icu_locale_core.specs.TextSet.{text_cmp, empty, contains, from_list, rising, len};
+ghost use Rattle.icu_locale_core.specs.TextSet.{text_cmp, empty, contains, from_list, rising, len, is_subset, union, difference};
 
 use crate::{ParseError, Variant};
 use std::alloc::Global;
@@ -98,6 +98,47 @@ impl Variants {
         ensures { (v : List ℕ) → contains self.now v ≡ true → IsVariant v }
     {
         let _ = &self.items;
+    }
+
+    /// Whether every one of them is one of the others. It takes no memory.
+    pub fn is_subset(&self, others: &Variants) -> bool
+        ensures { result ≡ is_subset self.now others.now }
+    {
+        self.as_slice()
+            .iter()
+            .all(|variant| others.contains(variant))
+    }
+
+    /// Those that are not `removed`, together with those that are `added`. Where that is none it takes no memory.
+    ///
+    /// # Errors
+    ///
+    /// `Memory` where the list of variants could not be made.
+    pub fn try_replaced(&self, removed: &Variants, added: &Variants) -> Result<Self, ParseError>
+        ensures members { IfOk result (λ s. s ≡ union (difference self.now removed.now) added.now) }
+        ensures refused { IfErr result (λ e. e ≡ ParseError.Memory) }
+        ensures free { union (difference self.now removed.now) added.now ≡ empty → IsOk result }
+    {
+        let alloc = *self.items.allocator();
+        if self.leaves_none(removed, added) {
+            return Ok(Variants::new(alloc));
+        }
+        let Ok(mut list) = Vec::from_slice(alloc, added.as_slice()) else {
+            return Err(ParseError::Memory);
+        };
+        for variant in self.as_slice() {
+            if !removed.contains(variant) {
+                list.push(*variant)?;
+            }
+        }
+        Variants::try_from_list(list)
+    }
+
+    // Whether none is left without `removed` and with `added`.
+    fn leaves_none(&self, removed: &Variants, added: &Variants) -> bool
+        ensures { IsTrue result ↔ (union (difference self.now removed.now) added.now ≡ empty) }
+    {
+        added.is_empty() && self.is_subset(removed)
     }
 
     // The list behind the set.

@@ -1,14 +1,18 @@
 //! The data that the crates above are asked over: tables of likely subtags, and the trait of its sources.
 #![tactic(auto)]
 
+mod aliases;
 mod data_locale;
 mod error;
 mod likely;
 mod provider;
+mod row_list;
 mod sorted_map;
 
+pub use aliases::{Aliases, LanguageStrStrPair, StrStrPair};
 pub use data_locale::DataLocale;
 pub use error::{DataError, DataErrorKind};
 pub use likely::{LikelySubtagsExtended, LikelySubtagsForLanguage, LikelySubtagsForScriptRegion};
 pub use provider::DataProvider;
+pub use row_list::RowList;
 pub use sorted_map::{Rows, SortedMap};

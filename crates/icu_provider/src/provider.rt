@@ -1,6 +1,9 @@
 //! Where data comes from.
 
-use crate::{DataError, LikelySubtagsExtended, LikelySubtagsForLanguage, LikelySubtagsForScriptRegion};
+use crate::{
+    Aliases, DataError, LikelySubtagsExtended, LikelySubtagsForLanguage,
+    LikelySubtagsForScriptRegion,
+};
 
 /// A source of data. Each load answers the provider's meaning at that request, at every call the same one, and lends
 /// it for the life of the provider.
@@ -8,13 +11,18 @@ pub trait DataProvider {
     ghost use Rattle.std.specs.Prelude.{◌≡◌, Result};
     ghost use Rattle.icu_provider.specs.Provider.{lent};
     ghost use Rattle.icu_provider.specs.declared.error.DataError.{DataError};
+    ghost use Rattle.icu_provider.specs.declared.aliases.Aliases.{Aliases};
     ghost use Rattle.icu_provider.specs.declared.likely.language.LikelySubtagsForLanguage.{LikelySubtagsForLanguage};
     ghost use Rattle.icu_provider.specs.declared.likely.script_region.LikelySubtagsForScriptRegion.{LikelySubtagsForScriptRegion};
     ghost use Rattle.icu_provider.specs.declared.likely.extended.LikelySubtagsExtended.{LikelySubtagsExtended};
 
     ghost likely_language: { Self → Result LikelySubtagsForLanguage DataError };
+
     ghost likely_script_region: { Self → Result LikelySubtagsForScriptRegion DataError };
+
     ghost likely_extended: { Self → Result LikelySubtagsExtended DataError };
+
+    ghost aliases: { Self → Result Aliases DataError };
 
     /// The likely subtags by language.
     ///
@@ -39,4 +47,12 @@ pub trait DataProvider {
     /// Those of the provider.
     fn load_likely_extended(&self) -> Result<&LikelySubtagsExtended, DataError>
         ensures { lent result ≡ likely_extended self.now };
+
+    /// The rules of canonicalization.
+    ///
+    /// # Errors
+    ///
+    /// Those of the provider.
+    fn load_aliases(&self) -> Result<&Aliases, DataError>
+        ensures { lent result ≡ aliases self.now };
 }

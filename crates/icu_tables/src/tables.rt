@@ -4,8 +4,8 @@ ghost use Rattle.icu_provider.specs.Provider.{lent};
 ghost use Rattle.icu_tables.specs.Tables.{held};
 
 use icu_provider::{
-    DataError, DataErrorKind, DataProvider, LikelySubtagsExtended, LikelySubtagsForLanguage,
-    LikelySubtagsForScriptRegion,
+    Aliases, DataError, DataErrorKind, DataProvider, LikelySubtagsExtended,
+    LikelySubtagsForLanguage, LikelySubtagsForScriptRegion,
 };
 use std::alloc::Global;
 
@@ -18,18 +18,21 @@ pub struct Tables {
     pub likely_script_region: Option<LikelySubtagsForScriptRegion>,
     /// The further likely subtags, if any are held.
     pub likely_extended: Option<LikelySubtagsExtended>,
+    /// The rules of canonicalization, if any are held.
+    pub aliases: Option<Aliases>,
 }
 
 impl Tables {
     /// Tables that hold nothing. It takes no memory.
     pub fn new(alloc: Global) -> Self
-        ensures { result ≡ record { likely_language = None; likely_script_region = None; likely_extended = None } }
+        ensures { result ≡ record { likely_language = None; likely_script_region = None; likely_extended = None; aliases = None } }
     {
         let _ = alloc;
         Tables {
             likely_language: None,
             likely_script_region: None,
             likely_extended: None,
+            aliases: None,
         }
     }
 
@@ -53,6 +56,13 @@ impl Tables {
     {
         self.likely_extended = Some(table);
     }
+
+    /// Takes the rules of canonicalization, in place of what was held. It takes no memory.
+    pub fn set_aliases(&mut self, table: Aliases)
+        ensures { self.new ≡ record self.old { aliases = Some table } }
+    {
+        self.aliases = Some(table);
+    }
 }
 
 const NOT_FOUND: DataError = DataError {
@@ -61,8 +71,12 @@ const NOT_FOUND: DataError = DataError {
 
 impl DataProvider for Tables {
     ghost likely_language = { λ t. held t.likely_language };
+
     ghost likely_script_region = { λ t. held t.likely_script_region };
+
     ghost likely_extended = { λ t. held t.likely_extended };
+
+    ghost aliases = { λ t. held t.aliases };
 
     fn load_likely_language(&self) -> Result<&LikelySubtagsForLanguage, DataError>
         ensures { lent result ≡ held self.now.likely_language }
@@ -80,5 +94,11 @@ impl DataProvider for Tables {
         ensures { lent result ≡ held self.now.likely_extended }
     {
         self.likely_extended.as_ref().ok_or(NOT_FOUND)
+    }
+
+    fn load_aliases(&self) -> Result<&Aliases, DataError>
+        ensures { lent result ≡ held self.now.aliases }
+    {
+        self.aliases.as_ref().ok_or(NOT_FOUND)
     }
 }

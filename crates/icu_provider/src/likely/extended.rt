@@ -45,7 +45,12 @@ impl LikelySubtagsExtended {
     /// # Errors
     ///
     /// `Memory`, only where the list of rows had to grow and could not: the table is unchanged then.
-    pub fn insert_language(&mut self, language: Language, script: Script, region: Region) -> Result<(), DataError>
+    pub fn insert_language(
+        &mut self,
+        language: Language,
+        script: Script,
+        region: Region,
+    ) -> Result<(), DataError>
         ensures ok { OnOk result (self.new ≡ record self.old { language = insert_entry text_cmp self.old.language language (script, region) }) }
         ensures sets { OnOk result (SetsOnly text_cmp self.old.language self.new.language language (script, region)) }
         ensures err { OnErr result (self.new ≡ self.old) }
@@ -75,7 +80,12 @@ impl LikelySubtagsExtended {
     /// # Errors
     ///
     /// `Memory`, only where the list of rows had to grow and could not: the table is unchanged then.
-    pub fn insert_language_script(&mut self, language: Language, script: Script, region: Region) -> Result<(), DataError>
+    pub fn insert_language_script(
+        &mut self,
+        language: Language,
+        script: Script,
+        region: Region,
+    ) -> Result<(), DataError>
         ensures ok { OnOk result (self.new ≡ record self.old { language_script = insert_entry pair_cmp self.old.language_script (language, script) region }) }
         ensures sets { OnOk result (SetsOnly pair_cmp self.old.language_script self.new.language_script (language, script) region) }
         ensures err { OnErr result (self.new ≡ self.old) }
@@ -105,7 +115,12 @@ impl LikelySubtagsExtended {
     /// # Errors
     ///
     /// `Memory`, only where the list of rows had to grow and could not: the table is unchanged then.
-    pub fn insert_language_region(&mut self, language: Language, region: Region, script: Script) -> Result<(), DataError>
+    pub fn insert_language_region(
+        &mut self,
+        language: Language,
+        region: Region,
+        script: Script,
+    ) -> Result<(), DataError>
         ensures ok { OnOk result (self.new ≡ record self.old { language_region = insert_entry pair_cmp self.old.language_region (language, region) script }) }
         ensures sets { OnOk result (SetsOnly pair_cmp self.old.language_region self.new.language_region (language, region) script) }
         ensures err { OnErr result (self.new ≡ self.old) }
@@ -135,7 +150,12 @@ impl LikelySubtagsExtended {
     /// # Errors
     ///
     /// `Memory`, only where the list of rows had to grow and could not: the table is unchanged then.
-    pub fn insert_script_region(&mut self, script: Script, region: Region, language: Language) -> Result<(), DataError>
+    pub fn insert_script_region(
+        &mut self,
+        script: Script,
+        region: Region,
+        language: Language,
+    ) -> Result<(), DataError>
         ensures ok { OnOk result (self.new ≡ record self.old { script_region = insert_entry pair_cmp self.old.script_region (script, region) language }) }
         ensures sets { OnOk result (SetsOnly pair_cmp self.old.script_region self.new.script_region (script, region) language) }
         ensures err { OnErr result (self.new ≡ self.old) }
@@ -165,7 +185,12 @@ impl LikelySubtagsExtended {
     /// # Errors
     ///
     /// `Memory`, only where the list of rows had to grow and could not: the table is unchanged then.
-    pub fn insert_script(&mut self, script: Script, language: Language, region: Region) -> Result<(), DataError>
+    pub fn insert_script(
+        &mut self,
+        script: Script,
+        language: Language,
+        region: Region,
+    ) -> Result<(), DataError>
         ensures ok { OnOk result (self.new ≡ record self.old { script = insert_entry text_cmp self.old.script script (language, region) }) }
         ensures sets { OnOk result (SetsOnly text_cmp self.old.script self.new.script script (language, region)) }
         ensures err { OnErr result (self.new ≡ self.old) }
@@ -195,7 +220,12 @@ impl LikelySubtagsExtended {
     /// # Errors
     ///
     /// `Memory`, only where the list of rows had to grow and could not: the table is unchanged then.
-    pub fn insert_region(&mut self, region: Region, language: Language, script: Script) -> Result<(), DataError>
+    pub fn insert_region(
+        &mut self,
+        region: Region,
+        language: Language,
+        script: Script,
+    ) -> Result<(), DataError>
         ensures ok { OnOk result (self.new ≡ record self.old { region = insert_entry text_cmp self.old.region region (language, script) }) }
         ensures sets { OnOk result (SetsOnly text_cmp self.old.region self.new.region region (language, script)) }
         ensures err { OnErr result (self.new ≡ self.old) }

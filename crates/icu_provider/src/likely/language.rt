@@ -46,7 +46,12 @@ impl LikelySubtagsForLanguage {
     /// # Errors
     ///
     /// `Memory`, only where the list of rows had to grow and could not: the table is unchanged then.
-    pub fn insert_language(&mut self, language: Language, script: Script, region: Region) -> Result<(), DataError>
+    pub fn insert_language(
+        &mut self,
+        language: Language,
+        script: Script,
+        region: Region,
+    ) -> Result<(), DataError>
         ensures ok { OnOk result (self.new ≡ record self.old { language = insert_entry text_cmp self.old.language language (script, region) }) }
         ensures sets { OnOk result (SetsOnly text_cmp self.old.language self.new.language language (script, region)) }
         ensures err { OnErr result (self.new ≡ self.old) }
@@ -76,7 +81,12 @@ impl LikelySubtagsForLanguage {
     /// # Errors
     ///
     /// `Memory`, only where the list of rows had to grow and could not: the table is unchanged then.
-    pub fn insert_language_script(&mut self, language: Language, script: Script, region: Region) -> Result<(), DataError>
+    pub fn insert_language_script(
+        &mut self,
+        language: Language,
+        script: Script,
+        region: Region,
+    ) -> Result<(), DataError>
         ensures ok { OnOk result (self.new ≡ record self.old { language_script = insert_entry pair_cmp self.old.language_script (language, script) region }) }
         ensures sets { OnOk result (SetsOnly pair_cmp self.old.language_script self.new.language_script (language, script) region) }
         ensures err { OnErr result (self.new ≡ self.old) }
@@ -106,7 +116,12 @@ impl LikelySubtagsForLanguage {
     /// # Errors
     ///
     /// `Memory`, only where the list of rows had to grow and could not: the table is unchanged then.
-    pub fn insert_language_region(&mut self, language: Language, region: Region, script: Script) -> Result<(), DataError>
+    pub fn insert_language_region(
+        &mut self,
+        language: Language,
+        region: Region,
+        script: Script,
+    ) -> Result<(), DataError>
         ensures ok { OnOk result (self.new ≡ record self.old { language_region = insert_entry pair_cmp self.old.language_region (language, region) script }) }
         ensures sets { OnOk result (SetsOnly pair_cmp self.old.language_region self.new.language_region (language, region) script) }
         ensures err { OnErr result (self.new ≡ self.old) }

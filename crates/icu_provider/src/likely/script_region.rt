@@ -36,7 +36,12 @@ impl LikelySubtagsForScriptRegion {
     /// # Errors
     ///
     /// `Memory`, only where the list of rows had to grow and could not: the table is unchanged then.
-    pub fn insert_script_region(&mut self, script: Script, region: Region, language: Language) -> Result<(), DataError>
+    pub fn insert_script_region(
+        &mut self,
+        script: Script,
+        region: Region,
+        language: Language,
+    ) -> Result<(), DataError>
         ensures ok { OnOk result (self.new ≡ record self.old { script_region = insert_entry pair_cmp self.old.script_region (script, region) language }) }
         ensures sets { OnOk result (SetsOnly pair_cmp self.old.script_region self.new.script_region (script, region) language) }
         ensures err { OnErr result (self.new ≡ self.old) }
@@ -66,7 +71,12 @@ impl LikelySubtagsForScriptRegion {
     /// # Errors
     ///
     /// `Memory`, only where the list of rows had to grow and could not: the table is unchanged then.
-    pub fn insert_script(&mut self, script: Script, language: Language, region: Region) -> Result<(), DataError>
+    pub fn insert_script(
+        &mut self,
+        script: Script,
+        language: Language,
+        region: Region,
+    ) -> Result<(), DataError>
         ensures ok { OnOk result (self.new ≡ record self.old { script = insert_entry text_cmp self.old.script script (language, region) }) }
         ensures sets { OnOk result (SetsOnly text_cmp self.old.script self.new.script script (language, region)) }
         ensures err { OnErr result (self.new ≡ self.old) }
@@ -96,7 +106,12 @@ impl LikelySubtagsForScriptRegion {
     /// # Errors
     ///
     /// `Memory`, only where the list of rows had to grow and could not: the table is unchanged then.
-    pub fn insert_region(&mut self, region: Region, language: Language, script: Script) -> Result<(), DataError>
+    pub fn insert_region(
+        &mut self,
+        region: Region,
+        language: Language,
+        script: Script,
+    ) -> Result<(), DataError>
         ensures ok { OnOk result (self.new ≡ record self.old { region = insert_entry text_cmp self.old.region region (language, script) }) }
         ensures sets { OnOk result (SetsOnly text_cmp self.old.region self.new.region region (language, script)) }
         ensures err { OnErr result (self.new ≡ self.old) }

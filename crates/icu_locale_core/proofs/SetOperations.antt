@@ -1,0 +1,125 @@
+-- The members of unions and differences, and when a set is inside another.
+use Rattle.std.proofs.Common.{◌≡◌, ℕ, Bool, true, false, not, ◌&&◌, ◌||◌, List, [], ◌∷◌, ◌++◌, refl, ap, sym, ◌∙◌}
+use Rattle.std.specs.List.{list_all, filter}
+use Rattle.std.specs.Ordering.{eq_by_cmp, is_eq}
+use Rattle.std.proofs.lemmas.Bool.{false≢true}
+use Rattle.std.proofs.lemmas.Cmp.{tied_itself}
+use Rattle.std.proofs.lemmas.List.Folds.{list_any-append}
+use Rattle.std.proofs.lemmas.Map.Views.{any-filter_same}
+use Rattle.icu_locale_core.specs.TextSet.{text_cmp, TextSet, empty, contains, from_list, rising, is_subset, union, difference}
+use Rattle.icu_locale_core.proofs.TextSets.{text_same, text_total, is_among, equal_from_tied, both_true, contains-from_list, contains-rising, same_set}
+use Rattle.icu_locale_core.proofs.VariantLists.{same_tests}
+
+-- a text that ties with another is that other
+pub same_from_tied : (q t : List ℕ) → eq_by_cmp text_cmp q t ≡ true → q ≡ t
+same_from_tied q t e = text_same q t (equal_from_tied (text_cmp q t) e)
+
+pub is_among-append : (q : List ℕ) (ts us : List (List ℕ)) → is_among q (ts ++ us) ≡ (is_among q ts || is_among q us)
+is_among-append q ts us = list_any-append (λ u. eq_by_cmp text_cmp q u) ts us
+
+pub is_among-filter : (p : List ℕ → Bool) (q : List ℕ) (ts : List (List ℕ)) → is_among q (filter p ts) ≡ (p q && is_among q ts)
+is_among-filter p q ts = any-filter_same (λ u. eq_by_cmp text_cmp q u) p (p q) (λ k tied. ap p (sym (same_from_tied q k tied))) ts
+
+pub contains-union : (s u : TextSet) (q : List ℕ) → contains (union s u) q ≡ (contains s q || contains u q)
+contains-union s u q =
+    contains-from_list (rising s ++ rising u) q
+    ∙ is_among-append q (rising s) (rising u)
+    ∙ (λ i. sym (contains-rising s q) i || sym (contains-rising u q) i)
+
+pub contains-difference : (s u : TextSet) (q : List ℕ) → contains (difference s u) q ≡ (not (contains u q) && contains s q)
+contains-difference s u q =
+    contains-from_list (filter (λ t. not (contains u t)) (rising s)) q
+    ∙ is_among-filter (λ t. not (contains u t)) q (rising s)
+    ∙ ap (λ b. not (contains u q) && b) (sym (contains-rising s q))
+
+pub contains-empty : (q : List ℕ) → contains empty q ≡ false
+contains-empty q = contains-from_list [] q
+
+-- ---- a test of every text of a list
+
+step_true : (a b : Bool) → a ≡ true → b ≡ true → (a && b) ≡ true
+step_true a b p q = λ i. p i && q i
+
+or_right : (a b : Bool) → b ≡ true → (a || b) ≡ true
+or_right true b e = refl
+or_right false b e = e
+
+or_left : (a b : Bool) → a ≡ true → (a || b) ≡ true
+or_left a b e = ap (λ c. c || b) e
+
+pub list_all-from : (p : List ℕ → Bool) (ts : List (List ℕ)) → ((t : List ℕ) → is_among t ts ≡ true → p t ≡ true) → list_all p ts ≡ true
+list_all-from p [] each = refl
+list_all-from p (t ∷ ts) each =
+    step_true (p t) (list_all p ts) (each t (or_left (eq_by_cmp text_cmp t t) (is_among t ts) (ap is_eq (tied_itself text_total t)))) (list_all-from p ts (λ u here. each u (or_right (eq_by_cmp text_cmp u t) (is_among u ts) here)))
+
+among_cases : (p : List ℕ → Bool) (q t : List ℕ) (ts : List (List ℕ)) (tied : Bool) → eq_by_cmp text_cmp q t ≡ tied → p t ≡ true → (is_among q ts ≡ true → p q ≡ true) → (tied || is_among q ts) ≡ true → p q ≡ true
+among_cases p q t ts true e first rest here = ap p (same_from_tied q t e) ∙ first
+among_cases p q t ts false e first rest here = rest here
+
+pub list_all-at : (p : List ℕ → Bool) (ts : List (List ℕ)) (q : List ℕ) → list_all p ts ≡ true → is_among q ts ≡ true → p q ≡ true
+list_all-at p [] q all here = absurd (false≢true here)
+list_all-at p (t ∷ ts) q all here =
+    let both = both_true (p t) (list_all p ts) all in
+    among_cases p q t ts (eq_by_cmp text_cmp q t) refl both.0 (list_all-at p ts q both.1) here
+
+-- ---- sets inside others
+
+pub is_subset-from : (s u : TextSet) → ((q : List ℕ) → contains s q ≡ true → contains u q ≡ true) → is_subset s u ≡ true
+is_subset-from s u inside = list_all-from (contains u) (rising s) (λ t here. inside t (contains-rising s t ∙ here))
+
+pub is_subset-at : (s u : TextSet) (q : List ℕ) → is_subset s u ≡ true → contains s q ≡ true → contains u q ≡ true
+is_subset-at s u q all here = list_all-at (contains u) (rising s) q all (sym (contains-rising s q) ∙ here)
+
+-- ---- the members of s without r, together with a
+
+module _ (s r a : TextSet) where
+  pub contains-replaced : (q : List ℕ) → contains (union (difference s r) a) q ≡ ((not (contains r q) && contains s q) || contains a q)
+  contains-replaced q = contains-union (difference s r) a q ∙ ap (λ b. b || contains a q) (contains-difference s r q)
+
+  or_swap : (x y : Bool) → (x || y) ≡ (y || x)
+  or_swap true true = refl
+  or_swap true false = refl
+  or_swap false true = refl
+  or_swap false false = refl
+
+  -- they are made by putting those of s behind those of a
+  pub from_list-replaced : from_list (rising a ++ filter (λ t. not (contains r t)) (rising s)) ≡ union (difference s r) a
+  from_list-replaced = same_set _ _ (λ q.
+      contains-from_list (rising a ++ filter (λ t. not (contains r t)) (rising s)) q
+      ∙ is_among-append q (rising a) (filter (λ t. not (contains r t)) (rising s))
+      ∙ (λ i. sym (contains-rising a q) i || is_among-filter (λ t. not (contains r t)) q (rising s) i)
+      ∙ ap (λ b. contains a q || (not (contains r q) && b)) (sym (contains-rising s q))
+      ∙ or_swap (contains a q) (not (contains r q) && contains s q)
+      ∙ sym (contains-replaced q))
+
+  nothing : (in_r in_s : Bool) → (in_s ≡ true → in_r ≡ true) → (not in_r && in_s) ≡ false
+  nothing true in_s inside = refl
+  nothing false true inside = absurd (false≢true (inside refl))
+  nothing false false inside = refl
+
+  -- there are none where all of s are among r, and there is none of a
+  pub replaced-empty : is_subset s r ≡ true → a ≡ empty → empty ≡ union (difference s r) a
+  replaced-empty inside none = same_set empty (union (difference s r) a) (λ q.
+      contains-empty q
+      ∙ sym (nothing (contains r q) (contains s q) (is_subset-at s r q inside))
+      ∙ or_false (not (contains r q) && contains s q)
+      ∙ ap (λ b. (not (contains r q) && contains s q) || b) (sym (ap (λ set. contains set q) none ∙ contains-empty q))
+      ∙ sym (contains-replaced q))
+    where
+      or_false : (b : Bool) → b ≡ (b || false)
+      or_false true = refl
+      or_false false = refl
+
+  left_false : (x y : Bool) → (x || y) ≡ false → (x ≡ false) × (y ≡ false)
+  left_false true y e = absurd (false≢true (sym e))
+  left_false false y e = (refl, e)
+
+  both_false : (in_r in_s : Bool) → (not in_r && in_s) ≡ false → in_s ≡ true → in_r ≡ true
+  both_false true in_s e h = refl
+  both_false false in_s e h = absurd (false≢true (sym e ∙ h))
+
+  -- and only there
+  pub empty_from_replaced : union (difference s r) a ≡ empty → (is_subset s r ≡ true) × (a ≡ empty)
+  empty_from_replaced none =
+      let off : (q : List ℕ) → ((not (contains r q) && contains s q) || contains a q) ≡ false = λ q. sym (contains-replaced q) ∙ ap (λ set. contains set q) none ∙ contains-empty q in
+      (is_subset-from s r (λ q. both_false (contains r q) (contains s q) (left_false (not (contains r q) && contains s q) (contains a q) (off q)).0), same_set a empty (λ q. (left_false (not (contains r q) && contains s q) (contains a q) (off q)).1 ∙ sym (contains-empty q)))

@@ -1,0 +1,28 @@
+-- Values of keywords and their texts (UTS #35 Part 1, section 3.6.1, type).
+use Rattle.std.specs.Prelude.{ℕ, Bool, ◌||◌, ◌==◌, not, List, [], ◌∷◌, length, map, filter, codes, nat_eq, Option, Some, None, if◌then◌else◌}
+use Rattle.std.specs.List.{list_all, join_by}
+use Rattle.std.specs.Cmp.Lexicographic.{pointwise}
+use Rattle.icu_locale_core.specs.Identifier.{pieces}
+use Rattle.icu_locale_core.specs.Subtag.{is_subtag, lowercase}
+
+-- a text reads as a value where it is empty, or each piece has 3 to 8 letters or digits
+abbrev pub is_value : List ℕ → Bool
+is_value t = (length t == 0) || list_all is_subtag (pieces t)
+
+-- pieces in lower case without the pieces `true`
+abbrev pub read_subtags : List (List ℕ) → List (List ℕ)
+read_subtags ps = filter (λ p. not (pointwise nat_eq p (codes "true"))) (map lowercase ps)
+
+-- the value of a text: its pieces so read, and none where it is empty
+abbrev pub read_value : List ℕ → List (List ℕ)
+read_value t = if length t == 0 then [] else read_subtags (pieces t)
+
+-- the piece of a value of exactly one
+abbrev pub only_piece : List (List ℕ) → Option (List ℕ)
+only_piece [] = None
+only_piece (p ∷ []) = Some p
+only_piece (p ∷ q ∷ ps) = None
+
+-- a value is written with `-` between its pieces
+abbrev pub written_value : List (List ℕ) → List ℕ
+written_value v = join_by (λ t. t) (codes "-") v

@@ -1,0 +1,125 @@
+//! The keywords of a locale: a map from keys to values.
+ghost use Rattle.std.specs.Prelude.{◌≡◌, ◌↔◌, [], List, ℕ, IsTrue, IsSome, IsOk, IfOk, IfErr, OnOk, OnErr, Some, None, option_copied};
+ghost use Rattle.std.specs.Cmp.Lexicographic.{pointwise};
+ghost use Rattle.std.specs.Cmp.{partial_equiv_from_equiv};
+ghost use Rattle.std.specs.Cmp.Lexicographic.{lists_equiv};
+ghost use Rattle.icu_locale_core.specs.Keywords.{value_at, with_value, without_key, SetsOnly, row_eq, rows_equiv};
+
+use crate::{Key, ParseError, Value};
+use std::alloc::Global;
+use std::collections::BTreeMap;
+use std::fmt;
+use std::marker::Model;
+
+/// The keywords of a locale (keyword of UTS #35, section 3.6.1): a finite map from keys to values.
+///
+/// A contract sees the rows of the map, a key and its value each, the keys rising.
+#[derive(Drop)]
+pub struct Keywords {
+    map: BTreeMap<Key, Value>,
+    alloc: Global,
+}
+
+impl Model for Keywords {
+    ghost use Rattle.icu_locale_core.specs.Keywords.{KeywordRows};
+
+    ghost Value = { KeywordRows };
+
+    ghost view = { λ a. a.map.entries };
+}
+
+impl Keywords {
+    /// The map without keys. It takes no memory.
+    pub fn new(alloc: Global) -> Self
+        ensures { result ≡ [] }
+    {
+        Keywords {
+            map: BTreeMap::new(alloc),
+            alloc,
+        }
+    }
+
+    /// Whether there is no key. It takes no memory.
+    pub fn is_empty(&self) -> bool
+        ensures { IsTrue result ↔ (self.now ≡ []) }
+    {
+        self.map.is_empty()
+    }
+
+    /// The value at a key. It takes no memory.
+    pub fn get(&self, key: Key) -> Option<&Value>
+        ensures { option_copied result ≡ value_at self.now key }
+    {
+        self.map.get(&key)
+    }
+
+    /// Puts a value at a key, and gives the value that was there. At a key that is there it takes no memory.
+    ///
+    /// # Errors
+    ///
+    /// `Memory` where the map could not grow. It is unchanged then, and the value is dropped.
+    pub fn set(&mut self, key: Key, value: Value) -> Result<Option<Value>, ParseError>
+        ensures rows { OnOk result (self.new ≡ with_value self.old key value) }
+        ensures sets { OnOk result (SetsOnly self.old self.new key (Some value)) }
+        ensures before { IfOk result (λ before. before ≡ value_at self.old key) }
+        ensures refused { IfErr result (λ e. e ≡ ParseError.Memory) }
+        ensures unchanged { OnErr result (self.new ≡ self.old) }
+        ensures present { IsSome (value_at self.old key) → IsOk result }
+    {
+        match self.map.insert(key, value) {
+            Ok(before) => Ok(before),
+            Err(_) => Err(ParseError::Memory),
+        }
+    }
+
+    /// Takes a key and its value out. It takes no memory.
+    pub fn remove(&mut self, key: Key) -> Option<Value>
+        ensures value { result ≡ value_at self.old key }
+        ensures rows { self.new ≡ without_key self.old key }
+        ensures sets { SetsOnly self.old self.new key None }
+    {
+        self.map.remove(&key)
+    }
+
+    /// An equal map. Without keys it takes no memory.
+    ///
+    /// # Errors
+    ///
+    /// `Memory` where the rows could not be copied.
+    pub fn try_clone(&self) -> Result<Self, ParseError>
+        ensures same { IfOk result (λ m. m ≡ self.now) }
+        ensures refused { IfErr result (λ e. e ≡ ParseError.Memory) }
+        ensures free { self.now ≡ [] → IsOk result }
+    {
+        if self.map.is_empty() {
+            return Ok(Keywords::new(self.alloc));
+        }
+        match self.map.clone() {
+            Ok(map) => Ok(Keywords {
+                map,
+                alloc: self.alloc,
+            }),
+            Err(_) => Err(ParseError::Memory),
+        }
+    }
+}
+
+impl PartialEq for Keywords {
+    ghost eq = { pointwise row_eq };
+
+    ghost laws = { partial_equiv_from_equiv (lists_equiv rows_equiv) };
+
+    fn eq(&self, other: &Self) -> bool {
+        self.map == other.map
+    }
+}
+
+impl Eq for Keywords {
+    ghost laws = { lists_equiv rows_equiv };
+}
+
+impl fmt::Debug for Keywords {
+    fn fmt<W: fmt::Write>(&self, f: &mut fmt::Formatter<W>) -> fmt::Result {
+        fmt::Debug::fmt(&self.map, f)
+    }
+}

@@ -1,0 +1,174 @@
+//! Values of keywords.
+ghost use Rattle.std.specs.Prelude.{◌≡◌, ◌↔◌, ◌++◌, [], false, codes, map, length, ◌==◌, filter, Some, Err, IsOk, IfOk, IfErr, IsTrue, ⊤};
+ghost use Rattle.std.specs.List.{list_all, flat_map};
+ghost use Rattle.std.specs.Fmt.{WritesOnOk};
+ghost use Rattle.std.specs.Cmp.Lexicographic.{pointwise};
+ghost use Rattle.std.specs.Cmp.Rules.{comparing};
+ghost use Rattle.std.specs.Prelude.{nat_eq};
+ghost use Rattle.std.proofs.Common.{rules};
+ghost use Rattle.icu_locale_core.specs.Subtag.{is_subtag};
+ghost use Rattle.icu_locale_core.specs.Value.{is_value, read_value, read_subtags, only_piece, written_value};
+
+use crate::classes::Class;
+use crate::langid::write_after_dash;
+use crate::pieces::Pieces;
+use crate::{ParseError, Subtag};
+use std::alloc::{AllocError, Global};
+use std::fmt;
+use std::marker::Model;
+
+/// The value of a keyword (type of UTS #35, section 3.6.1): a list of pieces of 3 to 8 letters or digits, in lower case.
+#[derive(Drop)]
+pub struct Value {
+    pieces: Vec<Subtag>,
+}
+
+impl Model for Value {
+    ghost use Rattle.std.specs.Prelude.{List, ℕ};
+
+    ghost Value = { List (List ℕ) };
+
+    ghost view = { λ a. a.pieces.items };
+}
+
+impl Value {
+    /// Reads a value in any case, its pieces apart by `-` or `_`. A piece `true` is dropped, and the empty text is the
+    /// value without pieces. It takes memory for its pieces alone.
+    ///
+    /// # Errors
+    ///
+    /// - `InvalidSubtag` exactly where the text is not empty and some piece is not of 3 to 8 letters or digits.
+    /// - `Memory` where the list of pieces could not grow.
+    pub fn try_from_str(alloc: Global, text: &str) -> Result<Self, ParseError>
+        ensures read { IfOk result (λ v. v ≡ read_value text.now) }
+        ensures refused { (result ≡ Err ParseError.InvalidSubtag) ↔ (is_value text.now ≡ false) }
+        ensures language { result ≡ Err ParseError.InvalidLanguage → ⊥ }
+    {
+        if text.is_empty() {
+            return Ok(Value {
+                pieces: Vec::new(alloc),
+            });
+        }
+        if !are_subtags(Pieces::new(text.as_bytes())) {
+            return Err(ParseError::InvalidSubtag);
+        }
+        match read_subtags(alloc, Pieces::new(text.as_bytes())) {
+            Ok(pieces) => Ok(Value { pieces }),
+            Err(refusal) => Err(refusal),
+        }
+    }
+
+    /// The piece of a value that has exactly one, else none. It takes no memory.
+    pub fn as_single_subtag(&self) -> Option<Subtag>
+        ensures { result ≡ only_piece self.now }
+    {
+        match self.pieces.as_slice() {
+            [only] => Some(*only),
+            _ => None,
+        }
+    }
+
+    /// An equal value. Without pieces it takes no memory.
+    ///
+    /// # Errors
+    ///
+    /// `Memory` where the pieces could not be copied.
+    pub fn try_clone(&self) -> Result<Self, ParseError>
+        ensures same { IfOk result (λ v. v ≡ self.now) }
+        ensures refused { IfErr result (λ e. e ≡ ParseError.Memory) }
+        ensures free { self.now ≡ [] → IsOk result }
+    {
+        if self.pieces.is_empty() {
+            return Ok(Value {
+                pieces: Vec::new(*self.pieces.allocator()),
+            });
+        }
+        match Vec::from_slice(*self.pieces.allocator(), &self.pieces) {
+            Ok(pieces) => Ok(Value { pieces }),
+            Err(_) => Err(ParseError::Memory),
+        }
+    }
+}
+
+impl Clone for Value {
+    ghost is_clone = { λ v w. w ≡ v };
+
+    fn clone(&self) -> Result<Self, AllocError> {
+        match self.try_clone() {
+            Ok(copy) => Ok(copy),
+            Err(_) => Err(AllocError),
+        }
+    }
+}
+
+impl PartialEq for Value {
+    ghost eq = { pointwise (pointwise nat_eq) };
+
+    ghost laws = { Prim.search (comparing, rules) };
+
+    fn eq(&self, other: &Self) -> bool {
+        self.pieces.as_slice() == other.pieces.as_slice()
+    }
+}
+
+impl Eq for Value {
+    ghost laws = { Prim.search (comparing, rules) };
+}
+
+impl fmt::Display for Value {
+    ghost output = { λ v. Some (written_value v) };
+
+    fn fmt<W: fmt::Write>(&self, f: &mut fmt::Formatter<W>) -> fmt::Result {
+        let Some((first, rest)) = self.pieces.split_first() else {
+            return Ok(());
+        };
+        f.write_str(first.as_str())?;
+        write_pieces(rest, f)
+    }
+}
+
+impl fmt::Debug for Value {
+    fn fmt<W: fmt::Write>(&self, f: &mut fmt::Formatter<W>) -> fmt::Result {
+        fmt::Display::fmt(self, f)
+    }
+}
+
+// Each piece, with `-` before it.
+fn write_pieces<W: fmt::Write>(pieces: &[Subtag], f: &mut fmt::Formatter<W>) -> fmt::Result
+    ensures { WritesOnOk W.write_str_gives f.old result (flat_map (λ p. codes "-" ++ p) pieces.now) f.new }
+{
+    for piece in pieces {
+        write_after_dash(piece.as_str(), f)?;
+    }
+    Ok(())
+}
+
+// Whether each piece may stand in a value.
+fn are_subtags(pieces: Pieces<'_>) -> bool
+    ensures { result ≡ list_all is_subtag pieces.entry }
+{
+    for piece in pieces {
+        if !Class::Subtag.has(piece) {
+            return false;
+        }
+    }
+    true
+}
+
+// The pieces in lower case without `true`.
+fn read_subtags(alloc: Global, pieces: Pieces<'_>) -> Result<Vec<Subtag>, ParseError>
+    ensures read { IfOk result (λ v. v.items ≡ read_subtags pieces.entry) }
+    ensures refused { result ≡ Err ParseError.InvalidSubtag → list_all is_subtag pieces.entry ≡ false }
+    ensures language { result ≡ Err ParseError.InvalidLanguage → ⊥ }
+{
+    let mut list = Vec::new(alloc);
+    for piece in pieces {
+        let Some(subtag) = Subtag::try_from_bytes(piece) else {
+            return Err(ParseError::InvalidSubtag);
+        };
+        if subtag.as_str() != "true" {
+            list.push(subtag)?;
+        }
+    }
+    Ok(list)
+}

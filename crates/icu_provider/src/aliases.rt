@@ -1,0 +1,390 @@
+//! Aliases of subtags (UTS #35 Part 1, Annex C, "LocaleId Canonicalization"): the rules of canonicalization, as the
+//! caller hands them in.
+ghost use Rattle.std.specs.Prelude.{◌≡◌, ◌++◌, ◌∷◌, [], IsSome, IsOk, IfErr, OnOk, OnErr, option_copied};
+ghost use Rattle.std.specs.Option.{option_map};
+ghost use Rattle.std.specs.String.{string_bytes};
+ghost use Rattle.std.specs.BTreeMap.{insert_entry};
+ghost use Rattle.icu_locale_core.specs.TextSet.{text_cmp};
+ghost use Rattle.icu_provider.specs.Maps.{IsSortedMap, SetsOnly, value_at};
+
+use crate::{DataError, DataErrorKind, RowList, Rows, SortedMap};
+use icu_locale_core::{Language, Region, Script, Subtag, Variant};
+use std::alloc::Global;
+
+/// A rule text and a replacement text.
+#[derive(Debug, Drop)]
+pub struct StrStrPair(pub String, pub String);
+
+/// A language, a text of variants and a replacement text.
+#[derive(Debug, Drop)]
+pub struct LanguageStrStrPair(pub Language, pub String, pub String);
+
+/// The rules of canonicalization. Texts are of any content: who reads them skips those that cannot be read.
+#[derive(Debug, Drop)]
+pub struct Aliases {
+    /// Rules with variants, asked in order: a language, a text of variants and a replacement text.
+    pub language_variants: RowList<LanguageStrStrPair>,
+    /// Rules with no variants, asked in order: a rule text and a replacement text.
+    pub language: RowList<StrStrPair>,
+    /// The language of a sign language's region.
+    pub sgn_region: SortedMap<Region, Language>,
+    /// The replacement text of a language of two letters.
+    pub language_len2: SortedMap<Language, String>,
+    /// The replacement text of a language of three letters.
+    pub language_len3: SortedMap<Language, String>,
+    /// The script that replaces a script.
+    pub script: SortedMap<Script, Script>,
+    /// The region that replaces a region of letters.
+    pub region_alpha: SortedMap<Region, Region>,
+    /// The region that replaces a region of digits.
+    pub region_num: SortedMap<Region, Region>,
+    /// The regions of which one replaces a region.
+    pub complex_region: SortedMap<Region, Vec<Region>>,
+    /// The variant that replaces a variant.
+    pub variant: SortedMap<Variant, Variant>,
+    /// The value text that replaces a subdivision.
+    pub subdivision: SortedMap<Subtag, String>,
+}
+
+impl Aliases {
+    /// A table without rows. It takes no memory.
+    pub fn new(alloc: Global) -> Self
+        ensures { result ≡ record { language_variants = []; language = []; sgn_region = []; language_len2 = []; language_len3 = []; script = []; region_alpha = []; region_num = []; complex_region = []; variant = []; subdivision = [] } }
+    {
+        Aliases {
+            language_variants: RowList::new(alloc),
+            language: RowList::new(alloc),
+            sgn_region: SortedMap::new(alloc),
+            language_len2: SortedMap::new(alloc),
+            language_len3: SortedMap::new(alloc),
+            script: SortedMap::new(alloc),
+            region_alpha: SortedMap::new(alloc),
+            region_num: SortedMap::new(alloc),
+            complex_region: SortedMap::new(alloc),
+            variant: SortedMap::new(alloc),
+            subdivision: SortedMap::new(alloc),
+        }
+    }
+
+    /// Puts a rule behind the others: a language, a text of variants and a replacement text.
+    ///
+    /// # Errors
+    ///
+    /// `Memory`, only where the list had to grow and could not: the table is unchanged then.
+    pub fn push_language_variants(&mut self, row: LanguageStrStrPair) -> Result<(), DataError>
+        ensures ok { OnOk result (self.new ≡ record self.old { language_variants = self.old.language_variants ++ row ∷ [] }) }
+        ensures err { OnErr result (self.new ≡ self.old) }
+        ensures refused { IfErr result (λ e. e.kind ≡ DataErrorKind.Memory) }
+    {
+        self.language_variants.push(row)
+    }
+
+    /// The rules of `language_variants` in order. It takes no memory.
+    pub fn language_variants(&self) -> &[LanguageStrStrPair]
+        ensures { result.now ≡ self.now.language_variants }
+    {
+        self.language_variants.as_slice()
+    }
+
+    /// Puts a rule behind the others: a rule text and a replacement text.
+    ///
+    /// # Errors
+    ///
+    /// `Memory`, only where the list had to grow and could not: the table is unchanged then.
+    pub fn push_language(&mut self, row: StrStrPair) -> Result<(), DataError>
+        ensures ok { OnOk result (self.new ≡ record self.old { language = self.old.language ++ row ∷ [] }) }
+        ensures err { OnErr result (self.new ≡ self.old) }
+        ensures refused { IfErr result (λ e. e.kind ≡ DataErrorKind.Memory) }
+    {
+        self.language.push(row)
+    }
+
+    /// The rules of `language` in order. It takes no memory.
+    pub fn language(&self) -> &[StrStrPair]
+        ensures { result.now ≡ self.now.language }
+    {
+        self.language.as_slice()
+    }
+
+    /// Sets the language of a sign language's region. A row that is there takes the new value and no memory.
+    ///
+    /// # Errors
+    ///
+    /// `Memory`, only where the list of rows had to grow and could not: the table is unchanged then.
+    pub fn insert_sgn_region(&mut self, region: Region, value: Language) -> Result<(), DataError>
+        ensures ok { OnOk result (self.new ≡ record self.old { sgn_region = insert_entry text_cmp self.old.sgn_region region value }) }
+        ensures sets { OnOk result (SetsOnly text_cmp self.old.sgn_region self.new.sgn_region region value) }
+        ensures err { OnErr result (self.new ≡ self.old) }
+        ensures refused { IfErr result (λ e. e.kind ≡ DataErrorKind.Memory) }
+        ensures present { IsSome (value_at text_cmp self.old.sgn_region region) → IsOk result }
+    {
+        self.sgn_region.insert(region, value)
+    }
+
+    /// The language of a sign language's region, if there is a row. It takes no memory.
+    pub fn get_sgn_region(&self, region: Region) -> Option<Language>
+        ensures { result ≡ value_at text_cmp self.now.sgn_region region }
+    {
+        self.sgn_region.get(&region).copied()
+    }
+
+    /// A walk over the rows of `sgn_region`, rising by key. It takes no memory.
+    pub fn iter_sgn_region(&self) -> Rows<'_, Region, Language>
+        ensures rows { result ≡ self.now.sgn_region }
+        ensures sorted { IsSortedMap text_cmp self.now.sgn_region }
+    {
+        self.sgn_region.iter()
+    }
+
+    /// Sets the replacement text of a language of two letters. A row that is there takes the new value and no memory.
+    ///
+    /// # Errors
+    ///
+    /// `Memory`, only where the list of rows had to grow and could not: the table is unchanged then.
+    pub fn insert_language_len2(
+        &mut self,
+        language: Language,
+        value: String,
+    ) -> Result<(), DataError>
+        ensures ok { OnOk result (self.new ≡ record self.old { language_len2 = insert_entry text_cmp self.old.language_len2 language value }) }
+        ensures sets { OnOk result (SetsOnly text_cmp self.old.language_len2 self.new.language_len2 language value) }
+        ensures err { OnErr result (self.new ≡ self.old) }
+        ensures refused { IfErr result (λ e. e.kind ≡ DataErrorKind.Memory) }
+        ensures present { IsSome (value_at text_cmp self.old.language_len2 language) → IsOk result }
+    {
+        self.language_len2.insert(language, value)
+    }
+
+    /// The replacement text of a language of two letters, if there is a row. It takes no memory.
+    pub fn get_language_len2(&self, language: Language) -> Option<&str>
+        ensures { option_copied result ≡ option_map string_bytes (value_at text_cmp self.now.language_len2 language) }
+    {
+        Some(self.language_len2.get(&language)?.as_str())
+    }
+
+    /// A walk over the rows of `language_len2`, rising by key. It takes no memory.
+    pub fn iter_language_len2(&self) -> Rows<'_, Language, String>
+        ensures rows { result ≡ self.now.language_len2 }
+        ensures sorted { IsSortedMap text_cmp self.now.language_len2 }
+    {
+        self.language_len2.iter()
+    }
+
+    /// Sets the replacement text of a language of three letters. A row that is there takes the new value and no memory.
+    ///
+    /// # Errors
+    ///
+    /// `Memory`, only where the list of rows had to grow and could not: the table is unchanged then.
+    pub fn insert_language_len3(
+        &mut self,
+        language: Language,
+        value: String,
+    ) -> Result<(), DataError>
+        ensures ok { OnOk result (self.new ≡ record self.old { language_len3 = insert_entry text_cmp self.old.language_len3 language value }) }
+        ensures sets { OnOk result (SetsOnly text_cmp self.old.language_len3 self.new.language_len3 language value) }
+        ensures err { OnErr result (self.new ≡ self.old) }
+        ensures refused { IfErr result (λ e. e.kind ≡ DataErrorKind.Memory) }
+        ensures present { IsSome (value_at text_cmp self.old.language_len3 language) → IsOk result }
+    {
+        self.language_len3.insert(language, value)
+    }
+
+    /// The replacement text of a language of three letters, if there is a row. It takes no memory.
+    pub fn get_language_len3(&self, language: Language) -> Option<&str>
+        ensures { option_copied result ≡ option_map string_bytes (value_at text_cmp self.now.language_len3 language) }
+    {
+        Some(self.language_len3.get(&language)?.as_str())
+    }
+
+    /// A walk over the rows of `language_len3`, rising by key. It takes no memory.
+    pub fn iter_language_len3(&self) -> Rows<'_, Language, String>
+        ensures rows { result ≡ self.now.language_len3 }
+        ensures sorted { IsSortedMap text_cmp self.now.language_len3 }
+    {
+        self.language_len3.iter()
+    }
+
+    /// Sets the script that replaces a script. A row that is there takes the new value and no memory.
+    ///
+    /// # Errors
+    ///
+    /// `Memory`, only where the list of rows had to grow and could not: the table is unchanged then.
+    pub fn insert_script(&mut self, script: Script, value: Script) -> Result<(), DataError>
+        ensures ok { OnOk result (self.new ≡ record self.old { script = insert_entry text_cmp self.old.script script value }) }
+        ensures sets { OnOk result (SetsOnly text_cmp self.old.script self.new.script script value) }
+        ensures err { OnErr result (self.new ≡ self.old) }
+        ensures refused { IfErr result (λ e. e.kind ≡ DataErrorKind.Memory) }
+        ensures present { IsSome (value_at text_cmp self.old.script script) → IsOk result }
+    {
+        self.script.insert(script, value)
+    }
+
+    /// The script that replaces a script, if there is a row. It takes no memory.
+    pub fn get_script(&self, script: Script) -> Option<Script>
+        ensures { result ≡ value_at text_cmp self.now.script script }
+    {
+        self.script.get(&script).copied()
+    }
+
+    /// A walk over the rows of `script`, rising by key. It takes no memory.
+    pub fn iter_script(&self) -> Rows<'_, Script, Script>
+        ensures rows { result ≡ self.now.script }
+        ensures sorted { IsSortedMap text_cmp self.now.script }
+    {
+        self.script.iter()
+    }
+
+    /// Sets the region that replaces a region of letters. A row that is there takes the new value and no memory.
+    ///
+    /// # Errors
+    ///
+    /// `Memory`, only where the list of rows had to grow and could not: the table is unchanged then.
+    pub fn insert_region_alpha(&mut self, region: Region, value: Region) -> Result<(), DataError>
+        ensures ok { OnOk result (self.new ≡ record self.old { region_alpha = insert_entry text_cmp self.old.region_alpha region value }) }
+        ensures sets { OnOk result (SetsOnly text_cmp self.old.region_alpha self.new.region_alpha region value) }
+        ensures err { OnErr result (self.new ≡ self.old) }
+        ensures refused { IfErr result (λ e. e.kind ≡ DataErrorKind.Memory) }
+        ensures present { IsSome (value_at text_cmp self.old.region_alpha region) → IsOk result }
+    {
+        self.region_alpha.insert(region, value)
+    }
+
+    /// The region that replaces a region of letters, if there is a row. It takes no memory.
+    pub fn get_region_alpha(&self, region: Region) -> Option<Region>
+        ensures { result ≡ value_at text_cmp self.now.region_alpha region }
+    {
+        self.region_alpha.get(&region).copied()
+    }
+
+    /// A walk over the rows of `region_alpha`, rising by key. It takes no memory.
+    pub fn iter_region_alpha(&self) -> Rows<'_, Region, Region>
+        ensures rows { result ≡ self.now.region_alpha }
+        ensures sorted { IsSortedMap text_cmp self.now.region_alpha }
+    {
+        self.region_alpha.iter()
+    }
+
+    /// Sets the region that replaces a region of digits. A row that is there takes the new value and no memory.
+    ///
+    /// # Errors
+    ///
+    /// `Memory`, only where the list of rows had to grow and could not: the table is unchanged then.
+    pub fn insert_region_num(&mut self, region: Region, value: Region) -> Result<(), DataError>
+        ensures ok { OnOk result (self.new ≡ record self.old { region_num = insert_entry text_cmp self.old.region_num region value }) }
+        ensures sets { OnOk result (SetsOnly text_cmp self.old.region_num self.new.region_num region value) }
+        ensures err { OnErr result (self.new ≡ self.old) }
+        ensures refused { IfErr result (λ e. e.kind ≡ DataErrorKind.Memory) }
+        ensures present { IsSome (value_at text_cmp self.old.region_num region) → IsOk result }
+    {
+        self.region_num.insert(region, value)
+    }
+
+    /// The region that replaces a region of digits, if there is a row. It takes no memory.
+    pub fn get_region_num(&self, region: Region) -> Option<Region>
+        ensures { result ≡ value_at text_cmp self.now.region_num region }
+    {
+        self.region_num.get(&region).copied()
+    }
+
+    /// A walk over the rows of `region_num`, rising by key. It takes no memory.
+    pub fn iter_region_num(&self) -> Rows<'_, Region, Region>
+        ensures rows { result ≡ self.now.region_num }
+        ensures sorted { IsSortedMap text_cmp self.now.region_num }
+    {
+        self.region_num.iter()
+    }
+
+    /// Sets the regions of which one replaces a region. A row that is there takes the new value and no memory.
+    ///
+    /// # Errors
+    ///
+    /// `Memory`, only where the list of rows had to grow and could not: the table is unchanged then.
+    pub fn insert_complex_region(
+        &mut self,
+        region: Region,
+        value: Vec<Region>,
+    ) -> Result<(), DataError>
+        ensures ok { OnOk result (self.new ≡ record self.old { complex_region = insert_entry text_cmp self.old.complex_region region value }) }
+        ensures sets { OnOk result (SetsOnly text_cmp self.old.complex_region self.new.complex_region region value) }
+        ensures err { OnErr result (self.new ≡ self.old) }
+        ensures refused { IfErr result (λ e. e.kind ≡ DataErrorKind.Memory) }
+        ensures present { IsSome (value_at text_cmp self.old.complex_region region) → IsOk result }
+    {
+        self.complex_region.insert(region, value)
+    }
+
+    /// The regions of which one replaces a region, if there is a row. It takes no memory.
+    pub fn get_complex_region(&self, region: Region) -> Option<&[Region]>
+        ensures { option_copied result ≡ option_map (λ regions. regions.items) (value_at text_cmp self.now.complex_region region) }
+    {
+        Some(self.complex_region.get(&region)?.as_slice())
+    }
+
+    /// A walk over the rows of `complex_region`, rising by key. It takes no memory.
+    pub fn iter_complex_region(&self) -> Rows<'_, Region, Vec<Region>>
+        ensures rows { result ≡ self.now.complex_region }
+        ensures sorted { IsSortedMap text_cmp self.now.complex_region }
+    {
+        self.complex_region.iter()
+    }
+
+    /// Sets the variant that replaces a variant. A row that is there takes the new value and no memory.
+    ///
+    /// # Errors
+    ///
+    /// `Memory`, only where the list of rows had to grow and could not: the table is unchanged then.
+    pub fn insert_variant(&mut self, variant: Variant, value: Variant) -> Result<(), DataError>
+        ensures ok { OnOk result (self.new ≡ record self.old { variant = insert_entry text_cmp self.old.variant variant value }) }
+        ensures sets { OnOk result (SetsOnly text_cmp self.old.variant self.new.variant variant value) }
+        ensures err { OnErr result (self.new ≡ self.old) }
+        ensures refused { IfErr result (λ e. e.kind ≡ DataErrorKind.Memory) }
+        ensures present { IsSome (value_at text_cmp self.old.variant variant) → IsOk result }
+    {
+        self.variant.insert(variant, value)
+    }
+
+    /// The variant that replaces a variant, if there is a row. It takes no memory.
+    pub fn get_variant(&self, variant: Variant) -> Option<Variant>
+        ensures { result ≡ value_at text_cmp self.now.variant variant }
+    {
+        self.variant.get(&variant).copied()
+    }
+
+    /// A walk over the rows of `variant`, rising by key. It takes no memory.
+    pub fn iter_variant(&self) -> Rows<'_, Variant, Variant>
+        ensures rows { result ≡ self.now.variant }
+        ensures sorted { IsSortedMap text_cmp self.now.variant }
+    {
+        self.variant.iter()
+    }
+
+    /// Sets the value text that replaces a subdivision. A row that is there takes the new value and no memory.
+    ///
+    /// # Errors
+    ///
+    /// `Memory`, only where the list of rows had to grow and could not: the table is unchanged then.
+    pub fn insert_subdivision(&mut self, subtag: Subtag, value: String) -> Result<(), DataError>
+        ensures ok { OnOk result (self.new ≡ record self.old { subdivision = insert_entry text_cmp self.old.subdivision subtag value }) }
+        ensures sets { OnOk result (SetsOnly text_cmp self.old.subdivision self.new.subdivision subtag value) }
+        ensures err { OnErr result (self.new ≡ self.old) }
+        ensures refused { IfErr result (λ e. e.kind ≡ DataErrorKind.Memory) }
+        ensures present { IsSome (value_at text_cmp self.old.subdivision subtag) → IsOk result }
+    {
+        self.subdivision.insert(subtag, value)
+    }
+
+    /// The value text that replaces a subdivision, if there is a row. It takes no memory.
+    pub fn get_subdivision(&self, subtag: Subtag) -> Option<&str>
+        ensures { option_copied result ≡ option_map string_bytes (value_at text_cmp self.now.subdivision subtag) }
+    {
+        Some(self.subdivision.get(&subtag)?.as_str())
+    }
+
+    /// A walk over the rows of `subdivision`, rising by key. It takes no memory.
+    pub fn iter_subdivision(&self) -> Rows<'_, Subtag, String>
+        ensures rows { result ≡ self.now.subdivision }
+        ensures sorted { IsSortedMap text_cmp self.now.subdivision }
+    {
+        self.subdivision.iter()
+    }
+}

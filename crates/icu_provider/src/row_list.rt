@@ -1,0 +1,58 @@
+//! A list of rows in the order in which they were pushed.
+ghost use Rattle.std.specs.Prelude.{◌≡◌, ◌++◌, ◌∷◌, [], IfErr, OnOk, OnErr};
+
+use crate::{DataError, DataErrorKind};
+use std::alloc::Global;
+use std::marker::Model;
+
+/// Rows in the order in which they were pushed. A contract sees the list of them.
+#[derive(Debug, Drop)]
+pub struct RowList<T> {
+    rows: Vec<T>,
+}
+
+impl<T> Model for RowList<T> {
+    ghost use Rattle.std.specs.Prelude.{List};
+
+    ghost Value = { List T };
+
+    ghost view = { λ a. a.rows.items };
+}
+
+impl<T> RowList<T> {
+    /// A list without rows. It takes no memory.
+    pub fn new(alloc: Global) -> Self
+        ensures { result ≡ [] }
+    {
+        RowList {
+            rows: Vec::new(alloc),
+        }
+    }
+
+    /// Puts a row behind the others.
+    ///
+    /// # Errors
+    ///
+    /// `Memory`, only where the list had to grow and could not: it is unchanged then, and the row is dropped.
+    pub fn push(&mut self, row: T) -> Result<(), DataError>
+    where
+        T: Drop,
+        ensures ok { OnOk result (self.new ≡ self.old ++ row ∷ []) }
+        ensures err { OnErr result (self.new ≡ self.old) }
+        ensures refused { IfErr result (λ e. e.kind ≡ DataErrorKind.Memory) }
+    {
+        match self.rows.push(row) {
+            Ok(()) => Ok(()),
+            Err(_) => Err(DataError {
+                kind: DataErrorKind::Memory,
+            }),
+        }
+    }
+
+    /// The rows in order. It takes no memory.
+    pub fn as_slice(&self) -> &[T]
+        ensures { result.now ≡ self.now }
+    {
+        &self.rows
+    }
+}
