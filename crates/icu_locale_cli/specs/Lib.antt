@@ -1,3 +1,4 @@
 pub mod CliError
+pub mod Commands
 pub mod Lines
 pub mod Output

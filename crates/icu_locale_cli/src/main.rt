@@ -1,6 +1,7 @@
 //! Locale identifiers on the command line: each line of the input is one, and each line of the output its answer.
 #![tactic(auto)]
 
+mod command;
 mod error;
 mod input;
 mod lines;
