@@ -6,6 +6,7 @@ mod error;
 mod input;
 mod lines;
 mod output;
+mod work;
 
 fn main(rt: HostRuntime) {
     let _ = rt;
