@@ -1,0 +1,4 @@
+mod Changes
+mod Least
+mod Locales
+mod Maximal

@@ -1,0 +1,5 @@
+pub mod Expander
+pub mod LikelySubtags
+pub mod Minimal
+pub mod Settled
+pub mod Trials
