@@ -1,4 +1,7 @@
 mod Changes
+mod Classes
 mod Least
 mod Locales
 mod Maximal
+mod Settling
+mod TableRows

@@ -1,11 +1,12 @@
 -- The one likely table that an expander looks up in (UTS #35 Part 1, section 4.3).
-use Rattle.std.specs.Prelude.{ℕ, List, Option, Some, None, ◌&&◌, if◌then◌else◌}
+use Rattle.std.specs.Prelude.{ℕ, List, Option, Some, None, Result, Ok, Err, ◌&&◌, if◌then◌else◌}
 use Rattle.std.specs.Borrow.{Bor}
-use Rattle.std.specs.Option.{option_or, option_map}
+use Rattle.std.specs.Option.{option_or, option_map, option_copied}
 use Rattle.std.specs.Str.{bytes_eq}
 use Rattle.icu_locale_core.specs.Subtag.{und}
 use Rattle.icu_locale_core.specs.TextSet.{text_cmp}
 use Rattle.icu_provider.specs.Maps.{value_at, pair_cmp}
+use Rattle.icu_provider.specs.declared.error.DataError.{DataError}
 use Rattle.icu_provider.specs.declared.likely.language.LikelySubtagsForLanguage.{LikelySubtagsForLanguage}
 use Rattle.icu_provider.specs.declared.likely.script_region.LikelySubtagsForScriptRegion.{LikelySubtagsForScriptRegion}
 use Rattle.icu_provider.specs.declared.likely.extended.LikelySubtagsExtended.{LikelySubtagsExtended}
@@ -47,3 +48,27 @@ und_row t (LanguageAlone l) = None
 -- the rows of the common tables cover those of the extended one, and the triple of `und` serves last
 abbrev pub likely : LocaleExpander → LikelySubtags
 likely e k = option_or (common_row e.language.now e.script_region.now k) (option_or (extension_row e.extended k) (und_row e.language.now.und k))
+
+-- the tables that an expander stands on
+pub record LikelyTables : Type 0 where
+  pub language : LikelySubtagsForLanguage
+  pub script_region : LikelySubtagsForScriptRegion
+  pub extended : Option LikelySubtagsExtended
+
+-- the tables of an expander that was made, or why it was not
+abbrev pub seen : Result LocaleExpander DataError → Result LikelyTables DataError
+seen (Ok e) = Ok (record { language = e.language.now; script_region = e.script_region.now; extended = option_copied e.extended })
+seen (Err refusal) = Err refusal
+
+-- two tables that were loaded in this order, or the first refusal
+abbrev pub common_tables : Result LikelySubtagsForLanguage DataError → Result LikelySubtagsForScriptRegion DataError → Result LikelyTables DataError
+common_tables (Err refusal) b = Err refusal
+common_tables (Ok a) (Err refusal) = Err refusal
+common_tables (Ok a) (Ok b) = Ok (record { language = a; script_region = b; extended = None })
+
+-- three tables that were loaded in this order, or the first refusal
+abbrev pub all_tables : Result LikelySubtagsForLanguage DataError → Result LikelySubtagsForScriptRegion DataError → Result LikelySubtagsExtended DataError → Result LikelyTables DataError
+all_tables (Err refusal) b c = Err refusal
+all_tables (Ok a) (Err refusal) c = Err refusal
+all_tables (Ok a) (Ok b) (Err refusal) = Err refusal
+all_tables (Ok a) (Ok b) (Ok c) = Ok (record { language = a; script_region = b; extended = Some c })

@@ -2,4 +2,5 @@ pub mod Expander
 pub mod LikelySubtags
 pub mod Minimal
 pub mod Settled
+pub mod SettledRows
 pub mod Trials

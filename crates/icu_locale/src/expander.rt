@@ -1,10 +1,10 @@
 //! Likely subtags: maximal and minimal forms of identifiers.
 
-ghost use Rattle.std.specs.Prelude.{◌≡◌, ◌≢◌, ◌↔◌, false};
+ghost use Rattle.std.specs.Prelude.{◌≡◌, ◌≢◌, ◌↔◌, false, Some, None};
 ghost use Rattle.icu_locale.specs.LikelySubtags.{bare_locale, locale_of, with_locale, maximal_of_bare, maximal_locale, maximal, IsModified};
 ghost use Rattle.icu_locale.specs.Trials.{alone, with_favored, with_other};
 
-mod looks;
+pub(crate) mod looks;
 
 use crate::expander::looks::{bare_locale, filled};
 use icu_locale_core::{LanguageIdentifier, Script};
@@ -41,7 +41,7 @@ pub struct LocaleExpander<'d> {
 }
 
 impl<'d> LocaleExpander<'d> {
-    ghost use Rattle.icu_locale.specs.Expander.{likely};
+    ghost use Rattle.icu_locale.specs.Expander.{likely, seen, common_tables, all_tables};
     ghost use Rattle.icu_locale.specs.Minimal.{IsMinimalForm};
     ghost use Rattle.icu_locale.specs.Trials.{trials, first_trial, same_locale};
 
@@ -81,11 +81,29 @@ impl<'d> LocaleExpander<'d> {
     ///
     /// The first refusal of the provider, unchanged.
     pub fn try_new_common_unstable<P: DataProvider>(provider: &'d P) -> Result<Self, DataError>
-        ensures { Gives common_likely result (both (P.likely_language provider.now) (P.likely_script_region provider.now)) }
+        ensures { seen result ≡ common_tables (P.likely_language provider.now) (P.likely_script_region provider.now) }
     {
         let language = provider.load_likely_language()?;
         let script_region = provider.load_likely_script_region()?;
         Ok(LocaleExpander::new_common(language, script_region))
+    }
+
+    /// Over the common tables of a provider and its extended one, which is loaded last.
+    ///
+    /// # Errors
+    ///
+    /// The first refusal of the provider, unchanged.
+    pub fn try_new_extended_unstable<P: DataProvider>(provider: &'d P) -> Result<Self, DataError>
+        ensures { seen result ≡ all_tables (P.likely_language provider.now) (P.likely_script_region provider.now) (P.likely_extended provider.now) }
+    {
+        let language = provider.load_likely_language()?;
+        let script_region = provider.load_likely_script_region()?;
+        let extended = provider.load_likely_extended()?;
+        Ok(LocaleExpander::new_extended(
+            language,
+            script_region,
+            extended,
+        ))
     }
 
     /// Adds the likely subtags: the identifier becomes its maximal form. The answer is `Modified` exactly where a
@@ -170,7 +188,7 @@ impl<'d> LocaleExpander<'d> {
     }
 
     // Whether a trial has the maximal form.
-    fn leads_to(&self, trial: &DataLocale, maximal: &DataLocale) -> bool
+    pub(crate) fn leads_to(&self, trial: &DataLocale, maximal: &DataLocale) -> bool
         ensures { result ≡ same_locale (maximal_locale (likely self.now) trial.now) maximal.now }
     {
         self.maximal_locale(*trial) == *maximal
