@@ -1,1 +1,3 @@
+mod LineAnswers
 mod LineCuts
+mod Progress

@@ -3,4 +3,5 @@ pub mod CliError
 pub mod Commands
 pub mod Lines
 pub mod Output
+pub mod Runs
 pub mod Texts

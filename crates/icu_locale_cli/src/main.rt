@@ -1,11 +1,13 @@
 //! Locale identifiers on the command line: each line of the input is one, and each line of the output its answer.
 #![tactic(auto)]
 
+mod answers;
 mod command;
 mod error;
 mod input;
 mod lines;
 mod output;
+mod status;
 mod work;
 
 fn main(rt: HostRuntime) {

@@ -31,7 +31,7 @@ pub struct Answer {
 }
 
 impl<'d> Work<'d> {
-    ghost use Rattle.icu_locale_cli.specs.Answers.{IsAnswer, IsAccepted};
+    ghost use Rattle.icu_locale_cli.specs.Answers.{IsAnswer, IsAccepted, Transforms};
 
     // The answer to one line.
     pub fn answer(&self, alloc: Global, line: &[u8]) -> Result<Answer, CliError>
@@ -50,12 +50,19 @@ impl<'d> Work<'d> {
         ensures answer { IfOk result (λ a. IsAccepted self.now identifier (string_bytes a.text) × (a.accepted ≡ true)) }
         ensures refused { IfErr result (λ e. e ≡ CliError.Memory) }
     {
-        let changed = match self {
-            Work::Maximize(expander) => expander.maximize(&mut identifier),
-            Work::Minimize(expander) => expander.minimize(&mut identifier),
-            Work::MinimizeScript(expander) => expander.minimize_favor_script(&mut identifier),
-        };
+        let changed = self.transform(&mut identifier);
         transformed(alloc, &identifier, changed)
+    }
+
+    // What the work makes of an identifier.
+    fn transform(&self, identifier: &mut LanguageIdentifier) -> TransformResult
+        ensures { Transforms self.now identifier.old identifier.new result }
+    {
+        match self {
+            Work::Maximize(expander) => expander.maximize(identifier),
+            Work::Minimize(expander) => expander.minimize(identifier),
+            Work::MinimizeScript(expander) => expander.minimize_favor_script(identifier),
+        }
     }
 }
 
