@@ -5,3 +5,4 @@ mod Locales
 mod Maximal
 mod Settling
 mod TableRows
+mod Directions

@@ -55,9 +55,13 @@ pub record LikelyTables : Type 0 where
   pub script_region : LikelySubtagsForScriptRegion
   pub extended : Option LikelySubtagsExtended
 
+-- those of an expander
+abbrev pub tables_of : LocaleExpander → LikelyTables
+tables_of e = record { language = e.language.now; script_region = e.script_region.now; extended = option_copied e.extended }
+
 -- the tables of an expander that was made, or why it was not
 abbrev pub seen : Result LocaleExpander DataError → Result LikelyTables DataError
-seen (Ok e) = Ok (record { language = e.language.now; script_region = e.script_region.now; extended = option_copied e.extended })
+seen (Ok e) = Ok (tables_of e)
 seen (Err refusal) = Err refusal
 
 -- two tables that were loaded in this order, or the first refusal
@@ -72,3 +76,9 @@ all_tables (Err refusal) b c = Err refusal
 all_tables (Ok a) (Err refusal) c = Err refusal
 all_tables (Ok a) (Ok b) (Err refusal) = Err refusal
 all_tables (Ok a) (Ok b) (Ok c) = Ok (record { language = a; script_region = b; extended = Some c })
+
+-- two answers in this order, or the first refusal
+abbrev pub both : {A B : Type 0} → Result A DataError → Result B DataError → Result (A × B) DataError
+both (Err refusal) b = Err refusal
+both (Ok a) (Err refusal) = Err refusal
+both (Ok a) (Ok b) = Ok (a, b)

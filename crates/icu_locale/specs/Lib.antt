@@ -1,3 +1,4 @@
+pub mod Direction
 pub mod Expander
 pub mod LikelySubtags
 pub mod Minimal

@@ -24,7 +24,7 @@ pub enum TransformResult {
 
 // Which of script and region decides between two minimal forms.
 #[derive(Clone, Copy, Debug, PartialEq, Eq)]
-pub(crate) enum Favor {
+pub enum Favor {
     Region,
     Script,
 }

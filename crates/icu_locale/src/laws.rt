@@ -10,6 +10,10 @@ ghost use Rattle.icu_locale.specs.LikelySubtags.{LikelySubtags, Key, Triple, unk
 ghost use Rattle.icu_locale.specs.Expander.{likely, common_row, extension_row, und_row};
 ghost use Rattle.icu_locale.specs.Minimal.{IsMinimalForm, IsLeast};
 ghost use Rattle.icu_locale.specs.Settled.{IsSettled, AreSettled};
+ghost use Rattle.icu_provider.specs.declared.direction.ScriptDirection.{ScriptDirection};
+ghost use Rattle.icu_locale.specs.Direction.{is_script_in, direction_of, AreDisjoint};
+ghost use Rattle.icu_locale.specs.declared.directionality.Direction.{Direction};
+ghost use Rattle.std.specs.Prelude.{Option, true};
 
 /// Every identifier has a minimal form, and only one, over every table.
 #[tactic(auto, using(crate::proofs::Classes::minimal_form_is_one))]
@@ -66,4 +70,16 @@ pub fn maximizing_keeps_subtags()
     ensures region { (likely : LikelySubtags) (x : LanguageIdentifier) (region : List ℕ) →
         x.region ≡ Some region → region ≢ unknown_region → (maximal likely x).region ≡ Some region }
     ensures variants { (likely : LikelySubtags) (x : LanguageIdentifier) → (maximal likely x).variants ≡ x.variants }
+{}
+
+/// Over every list, `is_left_to_right` answers true exactly where `get` answers left to right.
+pub fn left_to_right_is_a_direction()
+    ensures { (d : ScriptDirection) (s : Option (List ℕ)) →
+        (is_script_in d.ltr s ≡ true) ↔ (direction_of d s ≡ Some Direction.LeftToRight) }
+{}
+
+/// Over lists that share no script, `is_right_to_left` answers true exactly where `get` answers right to left.
+pub fn right_to_left_is_a_direction()
+    ensures { (d : ScriptDirection) (s : Option (List ℕ)) → AreDisjoint d →
+        (is_script_in d.rtl s ≡ true) ↔ (direction_of d s ≡ Some Direction.RightToLeft) }
 {}

@@ -2,9 +2,11 @@
 #![tactic(auto)]
 
 mod as_expander;
+mod directionality;
 mod expander;
 pub mod laws;
 mod settled;
 
 pub use as_expander::AsExpander;
-pub use expander::{LocaleExpander, TransformResult};
+pub use directionality::{Direction, LocaleDirectionality};
+pub use expander::{Favor, LocaleExpander, TransformResult};
