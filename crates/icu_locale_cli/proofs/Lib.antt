@@ -1,3 +1,4 @@
 mod LineAnswers
 mod LineCuts
 mod Progress
+mod RunEnds

@@ -51,13 +51,16 @@ AllZip-push-answers work (l ∷ ls) (b ∷ answers) line a each answer = (each.0
 module _ (work : Work) (input : List ℕ) (old mid : Option (List ℕ)) (status : Status) (line : List ℕ) (rest : List (List ℕ)) (before : Progress work input old mid status (line ∷ rest)) where
   -- a refusal before the next line is answered leaves whole lines
   pub WritesWholeLines-before : WritesWholeLines work input old mid
-  WritesWholeLines-before = (line ∷ rest, record {
+  WritesWholeLines-before = (
+    line ∷ rest,
+    record {
       answered = before.answered;
       parted = before.parted;
       answers = before.answers;
       each = before.each;
       written = subst (Appends old mid) (sym (append-nil (text_of before.answers))) before.written;
-    })
+    },
+  )
 
   module _ (text : List ℕ) (accepted : Bool) (answer : IsAnswer work line text accepted) (new : Option (List ℕ)) where
     -- one more line
@@ -68,10 +71,10 @@ module _ (work : Work) (input : List ℕ) (old mid : Option (List ℕ)) (status 
       answers = before.answers ++ (text, accepted) ∷ [];
       each = AllZip-push-answers work before.answered before.answers line (text, accepted) before.each answer;
       written = subst (Appends old new) (sym (text_of-push before.answers text accepted)) (Appends-trans old mid new (text_of before.answers) text before.written appended);
-      status_is =
-        ( λ e. let both = after.0 e in list_all-append was_accepted before.answers ((text, accepted) ∷ []) ∙ true_and (all_accepted before.answers) accepted (before.status_is.0 both.0) both.1
-        , λ e. let both = and_true (all_accepted before.answers) accepted (sym (list_all-append was_accepted before.answers ((text, accepted) ∷ [])) ∙ e) in after.1 (before.status_is.1 both.0, both.1)
-        );
+      status_is = (
+        λ e. let both = after.0 e in list_all-append was_accepted before.answers ((text, accepted) ∷ []) ∙ true_and (all_accepted before.answers) accepted (before.status_is.0 both.0) both.1,
+        λ e. let both = and_true (all_accepted before.answers) accepted (sym (list_all-append was_accepted before.answers ((text, accepted) ∷ [])) ∙ e) in after.1 (before.status_is.1 both.0, both.1),
+      );
     }
 
     -- a failed write leaves a beginning of the line

@@ -7,6 +7,7 @@ mod error;
 mod input;
 mod lines;
 mod output;
+mod run;
 mod status;
 mod work;
 
