@@ -6,8 +6,8 @@ use Rattle.icu_locale_core.specs.declared.langid.LanguageIdentifier.{LanguageIde
 use Rattle.icu_provider.specs.declared.data_locale.DataLocale.{DataLocale}
 use Rattle.icu_locale.specs.declared.expander.Favor.{Favor}
 use Rattle.icu_locale.specs.declared.expander.Favor.TheVariants.{Region, Script}
-use Rattle.icu_locale.specs.LikelySubtags.{LikelySubtags, known_subtag, unknown_script, unknown_region, bare_locale, first_found, keys, maximal_of_bare, maximal_locale, locale_of, with_locale, maximal}
-use Rattle.icu_locale.specs.Minimal.{count, subtag_count, favored, Precedes, IsInClass, IsLeast, IsMinimalForm}
+use Rattle.icu_locale.specs.LikelySubtags.{LikelySubtags, known_subtag, unknown_script, unknown_region, bare_locale, first_found, keys, maximal_locale, locale_of, with_locale}
+use Rattle.icu_locale.specs.Minimal.{count, Precedes, IsInClass, IsMinimalForm}
 use Rattle.icu_locale.specs.Trials.{same_locale, alone, with_favored, with_other, first_trial, trials}
 use Rattle.icu_locale.proofs.Locales.{same_locale-Decides}
 use Rattle.icu_locale.proofs.Maximal.{known_subtag-cases, maximal_locale-bare, filled-script, filled-region}
@@ -91,14 +91,17 @@ module _ (likely : LikelySubtags) (x : LanguageIdentifier) where
       let script = part_of unknown_script z.script m.script (⊎_elim inl (λ e. inr (sym (ap (λ (w : DataLocale). w.script) is_m) ∙ e)) (filled-script bare found)) in
       let region = part_of unknown_region z.region m.region (⊎_elim inl (λ e. inr (sym (ap (λ (w : DataLocale). w.region) is_m) ∙ e)) (filled-region bare found)) in
       let language : z.language ≡ m.language = member.language in
-      let same : bare ≡ candidate m script.0 region.0 = λ i. record { language = language i; script = script.1 i; region = region.1 i } in
-      (script.0, region.0, record {
-        leading = (same_locale-Decides _ m).1 (ap (maximal_locale likely) (sym same) ∙ maximal_locale-bare likely (locale_of z) ∙ is_m);
-        script = script.2;
-        region = region.2;
-        language = language;
-        variants = ap (λ (w : LanguageIdentifier). w.variants) member.same;
-      })
+      let same : bare ≡ candidate m script.0 region.0 = λ i. record { language = language i; script = script.1 i; region = region.1 i } in (
+        script.0,
+        region.0,
+        record {
+          leading = (same_locale-Decides _ m).1 (ap (maximal_locale likely) (sym same) ∙ maximal_locale-bare likely (locale_of z) ∙ is_m);
+          script = script.2;
+          region = region.2;
+          language = language;
+          variants = ap (λ (w : LanguageIdentifier). w.variants) member.same;
+        },
+      )
 
   -- a member with no more subtags than its candidate is the candidate
   meets : (z : LanguageIdentifier) (s r : Bool) → IsShaped z s r → count z.script + count z.region ≤ one s + one r → trial s r ≡ z
@@ -120,16 +123,16 @@ module _ (likely : LikelySubtags) (x : LanguageIdentifier) where
   -- of two that are equally short, the one with the region precedes
   tied_region : (z : LanguageIdentifier) → z.variants ≡ x.variants → 1 ≤ count z.script → count z.script + count z.region ≤ 1 → Precedes Region (trial false true) z
   tied_region z variants there few = ⊎_elim
-    (λ absent. inl (omega (arith, absent, ap len variants)))
-    (λ present. inr (omega (arith, present.0, count-one z.script, ap len variants), present.1, count-zero z.region (omega arith)))
-    (presence m.region)
+      (λ absent. inl (omega (arith, absent, ap len variants)))
+      (λ present. inr (omega (arith, present.0, count-one z.script, ap len variants), present.1, count-zero z.region (omega arith)))
+      (presence m.region)
 
   -- or the one with the script
   tied_script : (z : LanguageIdentifier) → z.variants ≡ x.variants → 1 ≤ count z.region → count z.script + count z.region ≤ 1 → Precedes Script (trial true false) z
   tied_script z variants there few = ⊎_elim
-    (λ absent. inl (omega (arith, absent, ap len variants)))
-    (λ present. inr (omega (arith, present.0, count-one z.region, ap len variants), present.1, count-zero z.script (omega arith)))
-    (presence m.script)
+      (λ absent. inl (omega (arith, absent, ap len variants)))
+      (λ present. inr (omega (arith, present.0, count-one z.region, ap len variants), present.1, count-zero z.script (omega arith)))
+      (presence m.script)
 
   beats_region : (z : LanguageIdentifier) → IsShaped z true false → Beats Region false true z
   beats_region z shape = inr (⊎_elim (λ lt. fewer Region z false true shape.variants lt) (λ few. tied_region z shape.variants shape.script.at_least few) (cases_lt 1 (count z.script + count z.region)))

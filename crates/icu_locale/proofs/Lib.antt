@@ -4,4 +4,5 @@ mod Least
 mod Locales
 mod Maximal
 mod Settling
+mod TableLaws
 mod TableRows

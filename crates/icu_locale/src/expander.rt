@@ -99,11 +99,7 @@ impl<'d> LocaleExpander<'d> {
         let language = provider.load_likely_language()?;
         let script_region = provider.load_likely_script_region()?;
         let extended = provider.load_likely_extended()?;
-        Ok(LocaleExpander::new_extended(
-            language,
-            script_region,
-            extended,
-        ))
+        Ok(LocaleExpander::new_extended(language, script_region, extended))
     }
 
     /// Adds the likely subtags: the identifier becomes its maximal form. The answer is `Modified` exactly where a
