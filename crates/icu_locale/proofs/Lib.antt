@@ -4,5 +4,6 @@ mod Least
 mod Locales
 mod Maximal
 mod Settling
+mod TableLaws
 mod TableRows
 mod Directions

@@ -1,5 +1,5 @@
 -- How a minimal form is found: what only the expander's own functions cite.
-use Rattle.std.specs.Prelude.{Bool, ◌&&◌, List, [], ◌∷◌, Option, Some, None, if◌then◌else◌}
+use Rattle.std.specs.Prelude.{Bool, ◌&&◌, List, [], ◌∷◌, None, if◌then◌else◌}
 use Rattle.std.specs.Option.{option_eq}
 use Rattle.std.specs.Str.{bytes_eq}
 use Rattle.icu_provider.specs.declared.data_locale.DataLocale.{DataLocale}

@@ -1,19 +1,36 @@
 //! Laws of likely subtags: what follows from the definitions alone, over every table, for what the expander's calls
 //! leave. The functions do nothing.
 ghost use Rattle.std.specs.Prelude.{◌≡◌, ◌≢◌, ◌⊎◌, ◌↔◌, ℕ, List, Some, None};
+ghost use Rattle.std.specs.List.{Contains};
 ghost use Rattle.icu_locale_core.specs.Identifier.{IsIdentifier};
 ghost use Rattle.icu_locale_core.specs.Subtag.{und};
 ghost use Rattle.icu_locale_core.specs.declared.langid.LanguageIdentifier.{LanguageIdentifier};
 ghost use Rattle.icu_locale.specs.declared.expander.LocaleExpander.{LocaleExpander};
 ghost use Rattle.icu_locale.specs.declared.expander.Favor.{Favor};
 ghost use Rattle.icu_locale.specs.LikelySubtags.{LikelySubtags, Key, Triple, unknown_script, unknown_region, maximal, IsModified};
-ghost use Rattle.icu_locale.specs.Expander.{likely, common_row, extension_row, und_row};
+ghost use Rattle.icu_locale.specs.Expander.{likely, common_row, extension_row, und_row, HasKey, table_keys};
 ghost use Rattle.icu_locale.specs.Minimal.{IsMinimalForm, IsLeast};
 ghost use Rattle.icu_locale.specs.Settled.{IsSettled, AreSettled};
 ghost use Rattle.icu_provider.specs.declared.direction.ScriptDirection.{ScriptDirection};
 ghost use Rattle.icu_locale.specs.Direction.{is_script_in, direction_of, AreDisjoint};
 ghost use Rattle.icu_locale.specs.declared.directionality.Direction.{Direction};
 ghost use Rattle.std.specs.Prelude.{Option, true};
+
+/// The likely table of an expander is one map from finitely many keys: a key has at most one triple, which has the
+/// key's own subtags. A row of the common tables covers the row of the extended table with the same key, and both cover
+/// those that the triple of `und` serves as.
+#[tactic(auto, using(crate::proofs::TableLaws::one_triple, crate::proofs::TableLaws::table_has_key, crate::proofs::TableLaws::table_key_among, crate::proofs::TableLaws::common_row_covers, crate::proofs::TableLaws::extended_row_covers, crate::proofs::TableLaws::und_row_serves))]
+pub fn the_likely_table_is_one_map()
+    ensures one { (e : LocaleExpander) (k : Key) (t u : Triple) → likely e k ≡ Some t → likely e k ≡ Some u → t ≡ u }
+    ensures own_subtags { (e : LocaleExpander) (k : Key) (t : Triple) → likely e k ≡ Some t → HasKey t k }
+    ensures finite { (e : LocaleExpander) (k : Key) (t : Triple) → likely e k ≡ Some t → Contains (table_keys e) k }
+
+    ensures common { (e : LocaleExpander) (k : Key) (t : Triple) → common_row e k ≡ Some t → likely e k ≡ Some t }
+    ensures extended { (e : LocaleExpander) (k : Key) (t : Triple) →
+        common_row e k ≡ None → extension_row e.extended k ≡ Some t → likely e k ≡ Some t }
+    ensures und { (e : LocaleExpander) (k : Key) →
+        common_row e k ≡ None → extension_row e.extended k ≡ None → likely e k ≡ und_row e.language.now.und k }
+{}
 
 /// Every identifier has a minimal form, and only one, over every table.
 #[tactic(auto, using(crate::proofs::Classes::minimal_form_is_one))]

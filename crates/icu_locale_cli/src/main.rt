@@ -10,6 +10,8 @@ mod output;
 mod run;
 mod sample;
 mod status;
+#[cfg(test)]
+mod tests;
 mod work;
 
 use crate::command::Command;

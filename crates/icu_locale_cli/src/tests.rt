@@ -1,0 +1,7 @@
+//! Worked rows over all crates: expected values stand beside each call.
+mod likely;
+mod memory;
+mod program;
+mod settled;
+mod tables;
+mod texts;
