@@ -8,7 +8,7 @@ use icu_provider::{DataError, DataErrorKind};
 use icu_tables::Tables;
 use std::alloc::Global;
 use std::io;
-use std::io::{Cursor, Read, Write};
+use std::io::{Read, Write};
 use std::test::Fail;
 
 // A reader that gives some bytes and then fails.
