@@ -2,6 +2,8 @@
 mod likely;
 mod memory;
 mod program;
+mod providers;
 mod settled;
 mod tables;
 mod texts;
+mod world;
