@@ -6,10 +6,9 @@ ghost use Rattle.icu_locale_core.specs.Identifier.{IsIdentifier};
 ghost use Rattle.icu_locale_core.specs.Subtag.{und};
 ghost use Rattle.icu_locale_core.specs.declared.langid.LanguageIdentifier.{LanguageIdentifier};
 ghost use Rattle.icu_locale.specs.declared.expander.LocaleExpander.{LocaleExpander};
-ghost use Rattle.icu_locale.specs.declared.expander.Favor.{Favor};
 ghost use Rattle.icu_locale.specs.LikelySubtags.{LikelySubtags, Key, Triple, unknown_script, unknown_region, maximal, IsModified};
 ghost use Rattle.icu_locale.specs.Expander.{likely, common_row, extension_row, und_row, HasKey, table_keys};
-ghost use Rattle.icu_locale.specs.Minimal.{IsMinimalForm, IsLeast};
+ghost use Rattle.icu_locale.specs.Minimal.{Favor, IsMinimalForm, IsLeast};
 ghost use Rattle.icu_locale.specs.Settled.{IsSettled, AreSettled};
 
 /// The likely table of an expander is one map from finitely many keys: a key has at most one triple, which has the
