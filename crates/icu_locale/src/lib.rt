@@ -9,4 +9,4 @@ mod settled;
 
 pub use as_expander::AsExpander;
 pub use directionality::{Direction, LocaleDirectionality};
-pub use expander::{Favor, LocaleExpander, TransformResult};
+pub use expander::{LocaleExpander, TransformResult};

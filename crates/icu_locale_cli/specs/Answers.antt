@@ -6,10 +6,9 @@ use Rattle.icu_locale_core.specs.declared.langid.LanguageIdentifier.{LanguageIde
 use Rattle.icu_locale_core.specs.declared.parse_error.ParseError.{ParseError}
 use Rattle.icu_locale_core.specs.declared.parse_error.ParseError.TheVariants.{InvalidLanguage, InvalidSubtag, Memory}
 use Rattle.icu_locale.specs.LikelySubtags.{LikelySubtags, maximal, IsModified}
-use Rattle.icu_locale.specs.Minimal.{IsMinimalForm}
+use Rattle.icu_locale.specs.Minimal.{IsMinimalForm, RegionFirst, ScriptFirst}
 use Rattle.icu_locale.specs.Expander.{likely}
 use Rattle.icu_locale.specs.Direction.{likely_script, direction_of}
-use Rattle.icu_locale.specs.declared.expander.Favor.TheVariants.{Region, Script}
 use Rattle.icu_locale.specs.declared.expander.TransformResult.{TransformResult}
 use Rattle.icu_locale.specs.declared.expander.TransformResult.TheVariants.{Modified, Unmodified}
 use Rattle.icu_locale_cli.specs.declared.work.Work.{Work}
@@ -23,8 +22,8 @@ IsTransformed Fits text accepted = (y : LanguageIdentifier) × (m : TransformRes
 -- the line of an identifier: what the work makes of it
 abbrev pub IsLineOf : Work → LanguageIdentifier → List ℕ → Bool → Type 0
 IsLineOf (Maximize e) x text accepted = IsTransformed (λ y m. (y ≡ maximal (likely e) x) × ((m ≡ Modified) ↔ IsModified (likely e) x)) text accepted
-IsLineOf (Minimize e) x text accepted = IsTransformed (λ y m. IsMinimalForm Region (likely e) x y × ((m ≡ Modified) ↔ (y ≢ x))) text accepted
-IsLineOf (MinimizeScript e) x text accepted = IsTransformed (λ y m. IsMinimalForm Script (likely e) x y × ((m ≡ Modified) ↔ (y ≢ x))) text accepted
+IsLineOf (Minimize e) x text accepted = IsTransformed (λ y m. IsMinimalForm RegionFirst (likely e) x y × ((m ≡ Modified) ↔ (y ≢ x))) text accepted
+IsLineOf (MinimizeScript e) x text accepted = IsTransformed (λ y m. IsMinimalForm ScriptFirst (likely e) x y × ((m ≡ Modified) ↔ (y ≢ x))) text accepted
 IsLineOf (Direction d) x text accepted = (text ≡ direction_line (direction_of d.script_direction.now (likely_script (likely d.expander) x))) × (accepted ≡ true)
 
 -- why a line spells no identifier
