@@ -4,6 +4,7 @@ use icu_locale::{LocaleExpander, TransformResult};
 use icu_locale_core::{Language, LanguageIdentifier, Region, Script};
 use icu_provider::{LikelySubtagsExtended, LikelySubtagsForLanguage, LikelySubtagsForScriptRegion};
 use std::alloc::Global;
+use std::process::Abort;
 use std::test::Fail;
 
 // The sample's triple of `und`.
@@ -39,30 +40,55 @@ pub fn minimized_to_script(alloc: Global, expander: &LocaleExpander<'_>, text: &
     after(alloc, &identifier, changed)
 }
 
+const MAXIMAL_FORMS: [(&str, &str); 17] = [
+    ("zh-CN", "zh-Hans-CN M"),
+    ("zh-Hant-TW", "zh-Hant-TW U"),
+    ("und-SA", "ar-Arab-SA M"),
+    ("und-US", "en-Latn-US M"),
+    ("und", "und U"),
+    ("und-Zzzz-ZZ", "und M"),
+    ("tlh-Zzzz-ZZ", "tlh M"),
+    ("tlh-US", "tlh-US U"),
+    ("de-Zzzz-ZZ", "de-Latn-DE M"),
+    ("und-Latn-DE", "en-Latn-DE M"),
+    ("en", "en-Latn-US M"),
+    ("en-US", "en-Latn-US M"),
+    ("tlh", "tlh U"),
+    ("tlh-SA", "tlh-SA U"),
+    ("de-Latn-ZZ", "de-Latn-DE M"),
+    ("de-Zzzz-DE", "de-Latn-DE M"),
+    ("zh-CN-fonipa", "zh-Hans-CN-fonipa M"),
+];
+
+fn are_maximal_forms(rt: &impl Abort, alloc: Global, expander: &LocaleExpander<'_>) -> Result<(), Fail> {
+    for (text, want) in MAXIMAL_FORMS {
+        let found = maximized(alloc, expander, text)?;
+        assert_eq!(rt; found.as_str(), want, "at {text}");
+    }
+    Ok(())
+}
+
 #[test]
 fn maximal_forms_over_the_sample(rt: HostRuntime) -> Result<(), Fail> {
     let tables = sample(rt.alloc())?;
     let expander = LocaleExpander::try_new_common_unstable(&tables)?;
-    for (text, want) in [
-        ("zh-CN", "zh-Hans-CN M"),
-        ("zh-Hant-TW", "zh-Hant-TW U"),
-        ("und-SA", "ar-Arab-SA M"),
-        ("und-US", "en-Latn-US M"),
-        ("und", "und U"),
-        ("und-Zzzz-ZZ", "und M"),
-        ("tlh-Zzzz-ZZ", "tlh M"),
-        ("tlh-US", "tlh-US U"),
-        ("de-Zzzz-ZZ", "de-Latn-DE M"),
-        ("und-Latn-DE", "en-Latn-DE M"),
-        ("en", "en-Latn-US M"),
-        ("en-US", "en-Latn-US M"),
-        ("tlh", "tlh U"),
-        ("tlh-SA", "tlh-SA U"),
-        ("de-Latn-ZZ", "de-Latn-DE M"),
-        ("de-Zzzz-DE", "de-Latn-DE M"),
-        ("zh-CN-fonipa", "zh-Hans-CN-fonipa M"),
-    ] {
-        assert_eq!(rt; maximized(rt.alloc(), &expander, text)?.as_str(), want, "at {text}");
+    are_maximal_forms(&rt, rt.alloc(), &expander)
+}
+
+const MINIMAL_FORMS: [(&str, &str, &str); 5] = [
+    ("zh-Hans-CN", "zh M", "zh M"),
+    ("zh", "zh U", "zh U"),
+    ("yue-Hans", "yue-CN M", "yue-Hans U"),
+    ("zh-TW", "zh-TW U", "zh-Hant M"),
+    ("zh-Hans-CN-fonipa", "zh-fonipa M", "zh-fonipa M"),
+];
+
+fn are_minimal_forms(rt: &impl Abort, alloc: Global, expander: &LocaleExpander<'_>) -> Result<(), Fail> {
+    for (text, want, to_script) in MINIMAL_FORMS {
+        let found = minimized(alloc, expander, text)?;
+        assert_eq!(rt; found.as_str(), want, "at {text}");
+        let found = minimized_to_script(alloc, expander, text)?;
+        assert_eq!(rt; found.as_str(), to_script, "at {text}");
     }
     Ok(())
 }
@@ -71,15 +97,30 @@ fn maximal_forms_over_the_sample(rt: HostRuntime) -> Result<(), Fail> {
 fn minimal_forms_over_the_sample(rt: HostRuntime) -> Result<(), Fail> {
     let tables = sample(rt.alloc())?;
     let expander = LocaleExpander::try_new_common_unstable(&tables)?;
-    for (text, want, to_script) in [
-        ("zh-Hans-CN", "zh M", "zh M"),
-        ("zh", "zh U", "zh U"),
-        ("yue-Hans", "yue-CN M", "yue-Hans U"),
-        ("zh-TW", "zh-TW U", "zh-Hant M"),
-        ("zh-Hans-CN-fonipa", "zh-fonipa M", "zh-fonipa M"),
-    ] {
-        assert_eq!(rt; minimized(rt.alloc(), &expander, text)?.as_str(), want, "at {text}");
-        assert_eq!(rt; minimized_to_script(rt.alloc(), &expander, text)?.as_str(), to_script, "at {text}");
+    are_minimal_forms(&rt, rt.alloc(), &expander)
+}
+
+const LIKELY_SCRIPTS: [(&str, &str); 11] = [
+    ("en", "Latn"),
+    ("en-US", "Latn"),
+    ("und-US", "Latn"),
+    ("tlh", "none"),
+    ("tlh-US", "none"),
+    ("tlh-SA", "none"),
+    ("de-Zzzz", "Latn"),
+    ("und-ZZ", "none"),
+    ("de-Zzzz-ZZ", "Latn"),
+    ("und-SA", "Arab"),
+    ("und", "none"),
+];
+
+fn are_likely_scripts(rt: &impl Abort, alloc: Global, expander: &LocaleExpander<'_>) -> Result<(), Fail> {
+    for (text, want) in LIKELY_SCRIPTS {
+        let identifier = LanguageIdentifier::try_from_str(alloc, text)?;
+        match expander.get_likely_script(&identifier) {
+            Some(script) => assert_eq!(rt; script.as_str(), want, "at {text}"),
+            None => assert_eq!(rt; "none", want, "at {text}"),
+        }
     }
     Ok(())
 }
@@ -88,26 +129,7 @@ fn minimal_forms_over_the_sample(rt: HostRuntime) -> Result<(), Fail> {
 fn likely_scripts_over_the_sample(rt: HostRuntime) -> Result<(), Fail> {
     let tables = sample(rt.alloc())?;
     let expander = LocaleExpander::try_new_common_unstable(&tables)?;
-    for (text, want) in [
-        ("en", "Latn"),
-        ("en-US", "Latn"),
-        ("und-US", "Latn"),
-        ("tlh", "none"),
-        ("tlh-US", "none"),
-        ("tlh-SA", "none"),
-        ("de-Zzzz", "Latn"),
-        ("und-ZZ", "none"),
-        ("de-Zzzz-ZZ", "Latn"),
-        ("und-SA", "Arab"),
-        ("und", "none"),
-    ] {
-        let identifier = LanguageIdentifier::try_from_str(rt.alloc(), text)?;
-        match expander.get_likely_script(&identifier) {
-            Some(script) => assert_eq!(rt; script.as_str(), want, "at {text}"),
-            None => assert_eq!(rt; "none", want, "at {text}"),
-        }
-    }
-    Ok(())
+    are_likely_scripts(&rt, rt.alloc(), &expander)
 }
 
 #[test]

@@ -6,6 +6,7 @@ use crate::sample::sample;
 use crate::status::Status;
 use icu_locale_core::{LanguageIdentifier, ParseError};
 use icu_provider::SortedMap;
+use icu_tables::Tables;
 use std::alloc::{AllocError, Global};
 use std::io;
 use std::io::Write;
@@ -36,41 +37,91 @@ pub fn take_all(alloc: Global) -> Result<Vec<Vec<u8>>, AllocError> {
     Ok(held)
 }
 
-#[test]
-fn identifiers_with_variants(rt: HostRuntime) -> Result<(), Fail> {
-    let alloc = rt.alloc();
-    let spare = Vec::<u8>::with_capacity(alloc, 65_536)?;
-    let held = take_all(alloc)?;
-    drop(spare);
-    let (mut refused, mut accepted, mut wrong) = (false, false, false);
+// What a call answered: as it should with memory, as it should without, or otherwise.
+#[derive(Clone, Copy, PartialEq, Eq)]
+enum Answered {
+    Whole,
+    Refused,
+    Wrong,
+}
+
+// How a call answers at every budget.
+#[derive(Clone, Copy, PartialEq, Eq)]
+struct Tally {
+    whole: bool,
+    refused: bool,
+    wrong: bool,
+}
+
+impl Tally {
+    fn new() -> Tally {
+        Tally {
+            whole: false,
+            refused: false,
+            wrong: false,
+        }
+    }
+
+    fn count(&mut self, answered: Answered) {
+        match answered {
+            Answered::Whole => self.whole = true,
+            Answered::Refused => self.refused = true,
+            Answered::Wrong => self.wrong = true,
+        }
+    }
+
+    // Some answers of either kind, and none other.
+    fn is_good(&self) -> bool {
+        self.whole && self.refused && !self.wrong
+    }
+}
+
+fn read_and_copy(alloc: Global) -> Answered {
+    match LanguageIdentifier::try_from_str(alloc, "de-Latn-DE-1901-1996-fonipa-posix") {
+        Ok(identifier) => copy(&identifier),
+        Err(ParseError::Memory) => Answered::Refused,
+        Err(_) => Answered::Wrong,
+    }
+}
+
+fn copy(identifier: &LanguageIdentifier) -> Answered {
+    match identifier.try_clone() {
+        Ok(copy) if copy == *identifier && copy.variants.len() == 4 => Answered::Whole,
+        Err(ParseError::Memory) => Answered::Refused,
+        _ => Answered::Wrong,
+    }
+}
+
+// Without variants nothing is asked of memory.
+fn read_without_memory(alloc: Global) -> Answered {
+    match LanguageIdentifier::try_from_str(alloc, "de-Latn-DE") {
+        Ok(identifier) if identifier.try_clone().is_ok() => Answered::Whole,
+        _ => Answered::Wrong,
+    }
+}
+
+// Each budget in turn: what the filler leaves of the memory that is there.
+fn reads_by_budget(alloc: Global) -> (Tally, Tally) {
+    let (mut with, mut without) = (Tally::new(), Tally::new());
     for step in 0..500 {
         if let Ok(filler) = Vec::<u8>::with_capacity(alloc, 65_536 - 16 * step) {
-            match LanguageIdentifier::try_from_str(alloc, "de-Latn-DE-1901-1996-fonipa-posix") {
-                Ok(identifier) => {
-                    accepted = true;
-                    wrong |= identifier.variants.len() != 4;
-                    match identifier.try_clone() {
-                        Ok(copy) => wrong |= copy != identifier,
-                        Err(refusal) => wrong |= refusal != ParseError::Memory,
-                    }
-                }
-                Err(refusal) => {
-                    refused = true;
-                    wrong |= refusal != ParseError::Memory;
-                }
-            }
-            // Without variants nothing is asked of memory.
-            match LanguageIdentifier::try_from_str(alloc, "de-Latn-DE") {
-                Ok(identifier) => wrong |= identifier.try_clone().is_err(),
-                Err(_) => wrong = true,
-            }
+            with.count(read_and_copy(alloc));
+            without.count(read_without_memory(alloc));
             drop(filler);
         }
     }
+    (with, without)
+}
+
+#[test]
+fn identifiers_with_variants(rt: HostRuntime) -> Result<(), Fail> {
+    let spare = Vec::<u8>::with_capacity(rt.alloc(), 65_536)?;
+    let held = take_all(rt.alloc())?;
+    drop(spare);
+    let (with, without) = reads_by_budget(rt.alloc());
     drop(held);
-    assert!(rt; !wrong);
-    assert!(rt; refused);
-    assert!(rt; accepted);
+    assert!(rt; with.is_good());
+    assert!(rt; without.whole && !without.refused && !without.wrong);
     Ok(())
 }
 
@@ -101,41 +152,42 @@ impl Write for HeldWriter {
 
 const ANSWERS: &[u8; 50] = b"zh-Hans-CN\tM\nen-Latn-US-posix\tM\n?\tInvalidLanguage\n";
 
-#[test]
-fn a_run_writes_whole_lines(rt: HostRuntime) -> Result<(), Fail> {
-    let alloc = rt.alloc();
-    let tables = sample(alloc)?;
-    let spare = Vec::<u8>::with_capacity(alloc, 65_536)?;
-    let held = take_all(alloc)?;
-    drop(spare);
-    let (mut refused, mut accepted, mut wrong) = (false, false, false);
+fn one_run(alloc: Global, tables: &Tables) -> Answered {
+    let mut writer = HeldWriter {
+        bytes: [0; 128],
+        len: 0,
+    };
+    let mut reader = b"zh-CN\nEN_us-posix\n\n".as_slice();
+    let ended = run(alloc, &Command::Maximize, tables, &mut reader, &mut writer);
+    let written = writer.bytes.get(..writer.len).unwrap_or(&[]);
+    let whole_lines = written.last().copied().unwrap_or(b'\n') == b'\n';
+    match ended {
+        Ok(Status::Refused) if written == ANSWERS.as_slice() => Answered::Whole,
+        Err(CliError::Memory) if whole_lines && ANSWERS.starts_with(written) => Answered::Refused,
+        _ => Answered::Wrong,
+    }
+}
+
+fn runs_by_budget(alloc: Global, tables: &Tables) -> Tally {
+    let mut tally = Tally::new();
     for step in 0..1_000 {
         if let Ok(filler) = Vec::<u8>::with_capacity(alloc, 65_536 - 16 * step) {
-            let mut writer = HeldWriter {
-                bytes: [0; 128],
-                len: 0,
-            };
-            let mut reader = b"zh-CN\nEN_us-posix\n\n".as_slice();
-            let ended = run(alloc, &Command::Maximize, &tables, &mut reader, &mut writer);
-            let written = writer.bytes.get(..writer.len).unwrap_or(&[]);
-            match ended {
-                Ok(status) => {
-                    accepted = true;
-                    wrong |= status != Status::Refused || written != ANSWERS.as_slice();
-                }
-                Err(refusal) => {
-                    refused = true;
-                    wrong |= refusal != CliError::Memory || !ANSWERS.starts_with(written);
-                    wrong |= written.last().copied().unwrap_or(b'\n') != b'\n';
-                }
-            }
+            tally.count(one_run(alloc, tables));
             drop(filler);
         }
     }
+    tally
+}
+
+#[test]
+fn a_run_writes_whole_lines(rt: HostRuntime) -> Result<(), Fail> {
+    let tables = sample(rt.alloc())?;
+    let spare = Vec::<u8>::with_capacity(rt.alloc(), 65_536)?;
+    let held = take_all(rt.alloc())?;
+    drop(spare);
+    let tally = runs_by_budget(rt.alloc(), &tables);
     drop(held);
-    assert!(rt; !wrong);
-    assert!(rt; refused);
-    assert!(rt; accepted);
+    assert!(rt; tally.is_good());
     Ok(())
 }
 

@@ -9,6 +9,7 @@ use icu_tables::Tables;
 use std::alloc::Global;
 use std::io;
 use std::io::{Read, Write};
+use std::process::Abort;
 use std::test::Fail;
 
 // A reader that gives some bytes and then fails.
@@ -53,10 +54,7 @@ fn output(alloc: Global, command: Command, tables: &Tables, input: &str) -> Resu
     Ok((written, status))
 }
 
-#[test]
-fn lines(rt: HostRuntime) -> Result<(), Fail> {
-    let tables = sample(rt.alloc())?;
-    for (command, input, want, status) in [
+const RUNS: [(Command, &str, &str, Status); 9] = [
         (Command::Maximize, "zh-CN\nund-SA\n", "zh-Hans-CN\tM\nar-Arab-SA\tM\n", Status::Accepted),
         (
             Command::Maximize,
@@ -71,51 +69,87 @@ fn lines(rt: HostRuntime) -> Result<(), Fail> {
         (Command::MinimizeScript, "yue-Hans\nzh-TW\n", "yue-Hans\tU\nzh-Hant\tM\n", Status::Accepted),
         (Command::Direction, "en-Arab\nar\nund\n", "rtl\nrtl\nnone\n", Status::Accepted),
         (Command::Settled, "never read", "yes\n", Status::Accepted),
-    ] {
-        let (written, ended) = output(rt.alloc(), command, &tables, input)?;
-        assert_eq!(rt; written.as_slice(), want.as_bytes(), "at {input}");
-        assert_eq!(rt; ended, status, "at {input}");
+];
+
+fn one_run(
+    rt: &impl Abort,
+    alloc: Global,
+    tables: &Tables,
+    row: (Command, &str, &str, Status),
+) -> Result<(), Fail> {
+    let (command, input, want, status) = row;
+    let (written, ended) = output(alloc, command, tables, input)?;
+    assert_eq!(rt; written.as_slice(), want.as_bytes(), "at {input}");
+    assert_eq!(rt; ended, status, "at {input}");
+    Ok(())
+}
+
+fn all_runs(rt: &impl Abort, alloc: Global, tables: &Tables) -> Result<(), Fail> {
+    for row in RUNS {
+        one_run(rt, alloc, tables, row)?;
     }
     Ok(())
 }
 
 #[test]
-fn hostile_lines(rt: HostRuntime) -> Result<(), Fail> {
+fn lines(rt: HostRuntime) -> Result<(), Fail> {
     let tables = sample(rt.alloc())?;
-    let input = "e\nengl\n-\nLatn-US\nen--US\nen-US \nen-ab1\nen-abcdefghi\nen-abcde-abcd\nen-ABCDE-abcde\nen-1abc\nen-abcd\nDE_1996-1901\n";
-    let want = "?\tInvalidLanguage\n?\tInvalidLanguage\n?\tInvalidLanguage\n?\tInvalidLanguage\n?\tInvalidSubtag\n?\tInvalidSubtag\n?\tInvalidSubtag\n?\tInvalidSubtag\n?\tInvalidSubtag\n?\tInvalidSubtag\nen-Latn-US-1abc\tM\nen-Abcd-US\tM\nde-Latn-DE-1901-1996\tM\n";
-    let (written, status) = output(rt.alloc(), Command::Maximize, &tables, input)?;
-    assert_eq!(rt; written.as_slice(), want.as_bytes());
-    assert_eq!(rt; status, Status::Refused);
-    let mut bytes = Vec::new(rt.alloc());
-    let status = run(rt.alloc(), &Command::Maximize, &tables, &mut b"en-\xff\n\xff".as_slice(), &mut bytes)?;
+    all_runs(&rt, rt.alloc(), &tables)
+}
+
+const HOSTILE: &str = "e\nengl\n-\nLatn-US\nen--US\nen-US \nen-ab1\nen-abcdefghi\nen-abcde-abcd\nen-ABCDE-abcde\nen-1abc\nen-abcd\nDE_1996-1901\n";
+
+const REFUSED: &str = "?\tInvalidLanguage\n?\tInvalidLanguage\n?\tInvalidLanguage\n?\tInvalidLanguage\n?\tInvalidSubtag\n?\tInvalidSubtag\n?\tInvalidSubtag\n?\tInvalidSubtag\n?\tInvalidSubtag\n?\tInvalidSubtag\nen-Latn-US-1abc\tM\nen-Abcd-US\tM\nde-Latn-DE-1901-1996\tM\n";
+
+fn refused_bytes(rt: &impl Abort, alloc: Global, tables: &Tables) -> Result<(), Fail> {
+    let mut bytes = Vec::new(alloc);
+    let status = run(alloc, &Command::Maximize, tables, &mut b"en-\xff\n\xff".as_slice(), &mut bytes)?;
     assert_eq!(rt; bytes.as_slice(), b"?\tInvalidSubtag\n?\tInvalidLanguage\n".as_slice());
     assert_eq!(rt; status, Status::Refused);
     Ok(())
 }
 
 #[test]
-fn refusals(rt: HostRuntime) -> Result<(), Fail> {
+fn hostile_lines(rt: HostRuntime) -> Result<(), Fail> {
     let tables = sample(rt.alloc())?;
-    let nothing = Tables::new(rt.alloc());
+    one_run(&rt, rt.alloc(), &tables, (Command::Maximize, HOSTILE, REFUSED, Status::Refused))?;
+    refused_bytes(&rt, rt.alloc(), &tables)
+}
+
+fn needs_tables(rt: &impl Abort, alloc: Global, command: Command) {
+    let nothing = Tables::new(alloc);
     let not_found = CliError::Data(DataError {
         kind: DataErrorKind::IdentifierNotFound,
     });
-    for command in [Command::Maximize, Command::Direction, Command::Settled] {
-        assert!(rt; output(rt.alloc(), command, &nothing, "en\n").err() == Some(not_found));
-    }
-    let mut written = Vec::new(rt.alloc());
+    assert!(rt; output(alloc, command, &nothing, "en\n").err() == Some(not_found));
+}
+
+fn a_failed_read(rt: &impl Abort, alloc: Global, tables: &Tables) {
+    let mut written = Vec::new(alloc);
     let mut reader = FailingReader { bytes: b"zh-" };
-    let failed = run(rt.alloc(), &Command::Maximize, &tables, &mut reader, &mut written);
+    let failed = run(alloc, &Command::Maximize, tables, &mut reader, &mut written);
     assert!(rt; failed.err() == Some(CliError::Read));
     assert!(rt; written.is_empty());
+}
+
+fn a_failed_write(rt: &impl Abort, alloc: Global, tables: &Tables) {
     let mut writer = FullWriter {
-        bytes: Vec::new(rt.alloc()),
+        bytes: Vec::new(alloc),
         room: 17,
     };
-    let failed = run(rt.alloc(), &Command::Maximize, &tables, &mut b"zh-CN\nde\n".as_slice(), &mut writer);
+    let failed = run(alloc, &Command::Maximize, tables, &mut b"zh-CN\nde\n".as_slice(), &mut writer);
     assert!(rt; failed.err() == Some(CliError::Write));
     assert_eq!(rt; writer.bytes.as_slice(), b"zh-Hans-CN\tM\nde-L".as_slice());
+}
+
+#[test]
+fn refusals(rt: HostRuntime) -> Result<(), Fail> {
+    needs_tables(&rt, rt.alloc(), Command::Maximize);
+    needs_tables(&rt, rt.alloc(), Command::Direction);
+    needs_tables(&rt, rt.alloc(), Command::Settled);
+    let tables = sample(rt.alloc())?;
+    a_failed_read(&rt, rt.alloc(), &tables);
+    a_failed_write(&rt, rt.alloc(), &tables);
     Ok(())
 }
 

@@ -10,6 +10,7 @@ use icu_provider::{
     LikelySubtagsForLanguage, LikelySubtagsForScriptRegion, ScriptDirection,
 };
 use icu_tables::Tables;
+use std::process::Abort;
 use std::test::Fail;
 
 // Tables behind a provider that refuses some loads.
@@ -94,35 +95,51 @@ fn refusal(kind: DataErrorKind) -> Option<DataError> {
     Some(DataError { kind })
 }
 
+fn refused_language(rt: &impl Abort, tables: &Tables, want: Option<DataError>) {
+    let mut provider = willing(tables);
+    provider.language = want;
+    assert!(rt; LocaleExpander::try_new_common_unstable(&provider).err() == want);
+    assert!(rt; LocaleExpander::try_new_extended_unstable(&provider).err() == want);
+    assert!(rt; LocaleDirectionality::try_new_common_unstable(&provider).err() == want);
+}
+
+fn refused_script_region(rt: &impl Abort, tables: &Tables, want: Option<DataError>) {
+    let mut provider = willing(tables);
+    provider.script_region = want;
+    assert!(rt; LocaleExpander::try_new_common_unstable(&provider).err() == want);
+    assert!(rt; LocaleExpander::try_new_extended_unstable(&provider).err() == want);
+    assert!(rt; LocaleDirectionality::try_new_extended_unstable(&provider).err() == want);
+}
+
+fn refused_extended(rt: &impl Abort, tables: &Tables, want: Option<DataError>) {
+    let mut provider = willing(tables);
+    provider.extended = want;
+    assert!(rt; LocaleExpander::try_new_common_unstable(&provider).is_ok());
+    assert!(rt; LocaleExpander::try_new_extended_unstable(&provider).err() == want);
+    assert!(rt; LocaleDirectionality::try_new_common_unstable(&provider).is_ok());
+    assert!(rt; LocaleDirectionality::try_new_extended_unstable(&provider).err() == want);
+}
+
+fn refused_directions(rt: &impl Abort, tables: &Tables, want: Option<DataError>) -> Result<(), Fail> {
+    let mut provider = willing(tables);
+    provider.directions = want;
+    let expander = LocaleExpander::try_new_extended_unstable(&provider)?;
+    assert!(rt; LocaleDirectionality::try_new_common_unstable(&provider).err() == want);
+    assert!(rt; LocaleDirectionality::try_new_extended_unstable(&provider).err() == want);
+    assert!(rt; LocaleDirectionality::try_new_with_expander_unstable(&provider, expander).err() == want);
+    assert!(rt; LocaleDirectionality::try_new_with_expander_unstable(&provider, &expander).err() == want);
+    Ok(())
+}
+
 #[test]
 fn each_refusal_at_each_load(rt: HostRuntime) -> Result<(), Fail> {
     let mut tables = sample(rt.alloc())?;
     tables.set_likely_extended(LikelySubtagsExtended::new(rt.alloc()));
     for kind in KINDS {
-        let want = refusal(kind);
-        let mut provider = willing(&tables);
-        provider.language = want;
-        assert!(rt; LocaleExpander::try_new_common_unstable(&provider).err() == want);
-        assert!(rt; LocaleExpander::try_new_extended_unstable(&provider).err() == want);
-        assert!(rt; LocaleDirectionality::try_new_common_unstable(&provider).err() == want);
-        let mut provider = willing(&tables);
-        provider.script_region = want;
-        assert!(rt; LocaleExpander::try_new_common_unstable(&provider).err() == want);
-        assert!(rt; LocaleExpander::try_new_extended_unstable(&provider).err() == want);
-        assert!(rt; LocaleDirectionality::try_new_extended_unstable(&provider).err() == want);
-        let mut provider = willing(&tables);
-        provider.extended = want;
-        assert!(rt; LocaleExpander::try_new_common_unstable(&provider).is_ok());
-        assert!(rt; LocaleExpander::try_new_extended_unstable(&provider).err() == want);
-        assert!(rt; LocaleDirectionality::try_new_common_unstable(&provider).is_ok());
-        assert!(rt; LocaleDirectionality::try_new_extended_unstable(&provider).err() == want);
-        let mut provider = willing(&tables);
-        provider.directions = want;
-        let expander = LocaleExpander::try_new_extended_unstable(&provider)?;
-        assert!(rt; LocaleDirectionality::try_new_common_unstable(&provider).err() == want);
-        assert!(rt; LocaleDirectionality::try_new_extended_unstable(&provider).err() == want);
-        assert!(rt; LocaleDirectionality::try_new_with_expander_unstable(&provider, expander).err() == want);
-        assert!(rt; LocaleDirectionality::try_new_with_expander_unstable(&provider, &expander).err() == want);
+        refused_language(&rt, &tables, refusal(kind));
+        refused_script_region(&rt, &tables, refusal(kind));
+        refused_extended(&rt, &tables, refusal(kind));
+        refused_directions(&rt, &tables, refusal(kind))?;
     }
     Ok(())
 }

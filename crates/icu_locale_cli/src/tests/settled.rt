@@ -4,47 +4,85 @@ use crate::sample::sample;
 use icu_locale::LocaleExpander;
 use icu_locale_core::{Language, Region, Script};
 use icu_provider::{LikelySubtagsExtended, LikelySubtagsForLanguage, LikelySubtagsForScriptRegion};
+use std::alloc::Global;
 use std::test::Fail;
 
+// The common table by language, with the sample's triple and no row.
+fn plain(alloc: Global) -> Result<LikelySubtagsForLanguage, Fail> {
+    Ok(LikelySubtagsForLanguage::new(alloc, american()?))
+}
+
+fn script(text: &str) -> Result<Script, Fail> {
+    Ok(Script::try_from_str(text)?)
+}
+
+fn region(text: &str) -> Result<Region, Fail> {
+    Ok(Region::try_from_str(text)?)
+}
+
+fn language(text: &str) -> Result<Language, Fail> {
+    Ok(Language::try_from_str(text)?)
+}
+
 #[test]
-fn rows_decide(rt: HostRuntime) -> Result<(), Fail> {
-    let alloc = rt.alloc();
-    let (zzzz, zz) = (Script::try_from_str("Zzzz")?, Region::try_from_str("ZZ")?);
-    let (latin, greek) = (Script::try_from_str("Latn")?, Script::try_from_str("Grek")?);
-    let (cyprus, hellenic) = (Region::try_from_str("CY")?, Language::try_from_str("el")?);
-    let none = LikelySubtagsForScriptRegion::new(alloc);
-
-    let plain = LikelySubtagsForLanguage::new(alloc, american()?);
-    assert!(rt; LocaleExpander::new_common(&plain, &none).is_settled());
-
-    let mut extended = LikelySubtagsExtended::new(alloc);
-    extended.insert_language(Language::try_from_str("yy")?, latin, zz)?;
+fn a_bad_extended_row(rt: HostRuntime) -> Result<(), Fail> {
+    let (yy, latin, zz) = (language("yy")?, script("Latn")?, region("ZZ")?);
+    let plain = plain(rt.alloc())?;
+    let none = LikelySubtagsForScriptRegion::new(rt.alloc());
+    let mut extended = LikelySubtagsExtended::new(rt.alloc());
+    extended.insert_language(yy, latin, zz)?;
     assert!(rt; LocaleExpander::new_common(&plain, &none).is_settled());
     assert!(rt; !LocaleExpander::new_extended(&plain, &none, &extended).is_settled());
+    Ok(())
+}
 
-    let azerbaijani = Language::try_from_str("az")?;
-    let mut covering = LikelySubtagsForLanguage::new(alloc, american()?);
-    covering.insert_language(azerbaijani, latin, Region::try_from_str("AZ")?)?;
-    let mut covered = LikelySubtagsExtended::new(alloc);
-    covered.insert_language(azerbaijani, zzzz, zz)?;
+#[test]
+fn a_bad_extended_row_that_is_covered(rt: HostRuntime) -> Result<(), Fail> {
+    let (az, latin, azerbaijan) = (language("az")?, script("Latn")?, region("AZ")?);
+    let (zzzz, zz) = (script("Zzzz")?, region("ZZ")?);
+    let mut covering = plain(rt.alloc())?;
+    covering.insert_language(az, latin, azerbaijan)?;
+    let none = LikelySubtagsForScriptRegion::new(rt.alloc());
+    let mut covered = LikelySubtagsExtended::new(rt.alloc());
+    covered.insert_language(az, zzzz, zz)?;
     assert!(rt; LocaleExpander::new_extended(&covering, &none, &covered).is_settled());
+    Ok(())
+}
 
-    let mut with_und = LikelySubtagsForScriptRegion::new(alloc);
-    with_und.insert_script(Script::try_from_str("Cpmn")?, Language::UNKNOWN, cyprus)?;
-    with_und.insert_region(cyprus, hellenic, greek)?;
-    assert!(rt; LocaleExpander::new_common(&plain, &with_und).is_settled());
+#[test]
+fn rows_with_the_language_und(rt: HostRuntime) -> Result<(), Fail> {
+    let (cpmn, greek, el) = (script("Cpmn")?, script("Grek")?, language("el")?);
+    let (cyprus, greece) = (region("CY")?, region("GR")?);
+    let plain = plain(rt.alloc())?;
+    let mut stays = LikelySubtagsForScriptRegion::new(rt.alloc());
+    stays.insert_script(cpmn, Language::UNKNOWN, cyprus)?;
+    stays.insert_region(cyprus, el, greek)?;
+    assert!(rt; LocaleExpander::new_common(&plain, &stays).is_settled());
+    let mut leads_on = LikelySubtagsForScriptRegion::new(rt.alloc());
+    leads_on.insert_region(cyprus, Language::UNKNOWN, greek)?;
+    leads_on.insert_script(greek, el, greece)?;
+    assert!(rt; !LocaleExpander::new_common(&plain, &leads_on).is_settled());
+    Ok(())
+}
 
-    let mut leading_on = LikelySubtagsForScriptRegion::new(alloc);
-    leading_on.insert_region(cyprus, Language::UNKNOWN, greek)?;
-    leading_on.insert_script(greek, hellenic, Region::try_from_str("GR")?)?;
-    assert!(rt; !LocaleExpander::new_common(&plain, &leading_on).is_settled());
-
-    let mut never_asked = LikelySubtagsForLanguage::new(alloc, american()?);
-    never_asked.insert_language_script(Language::try_from_str("xx")?, zzzz, zz)?;
+#[test]
+fn a_row_that_no_look_up_asks_for(rt: HostRuntime) -> Result<(), Fail> {
+    let (xx, zzzz, zz) = (language("xx")?, script("Zzzz")?, region("ZZ")?);
+    let mut never_asked = plain(rt.alloc())?;
+    never_asked.insert_language_script(xx, zzzz, zz)?;
+    let none = LikelySubtagsForScriptRegion::new(rt.alloc());
     assert!(rt; LocaleExpander::new_common(&never_asked, &none).is_settled());
+    Ok(())
+}
 
+#[test]
+fn the_triple_of_und(rt: HostRuntime) -> Result<(), Fail> {
     let (english, _, america) = american()?;
-    let unknown_script = LikelySubtagsForLanguage::new(alloc, (english, zzzz, america));
+    let zzzz = script("Zzzz")?;
+    let plain = plain(rt.alloc())?;
+    let none = LikelySubtagsForScriptRegion::new(rt.alloc());
+    assert!(rt; LocaleExpander::new_common(&plain, &none).is_settled());
+    let unknown_script = LikelySubtagsForLanguage::new(rt.alloc(), (english, zzzz, america));
     assert!(rt; !LocaleExpander::new_common(&unknown_script, &none).is_settled());
     Ok(())
 }

@@ -4,29 +4,40 @@ use icu_locale::{Direction, LocaleDirectionality, LocaleExpander};
 use icu_locale_core::{Language, LanguageIdentifier, Region, Script};
 use icu_provider::{LikelySubtagsForLanguage, LikelySubtagsForScriptRegion, ScriptDirection, SortedMap};
 use crate::sample::sample;
+use std::alloc::Global;
 use std::test::Fail;
 
-#[test]
-fn two_hundred_rows_in_any_order(rt: HostRuntime) -> Result<(), Fail> {
-    let mut rising: SortedMap<u16, u16> = SortedMap::new(rt.alloc());
-    let mut falling: SortedMap<u16, u16> = SortedMap::new(rt.alloc());
-    let mut mixed: SortedMap<u16, u16> = SortedMap::new(rt.alloc());
-    for step in 0u16..200 {
-        rising.insert(step, step)?;
-        falling.insert(199 - step, 199 - step)?;
-        let place = u16::try_from(u32::from(step) * 77 % 200).unwrap_or(0);
-        mixed.insert(place, place)?;
+// Two hundred rows, put in at the places that a factor gives.
+fn two_hundred_rows(alloc: Global, factor: u32, from: u32) -> Result<SortedMap<u32, u32>, Fail> {
+    let mut map = SortedMap::new(alloc);
+    for step in 0u32..200 {
+        let place = step.wrapping_mul(factor).wrapping_add(from) % 200;
+        map.insert(place, place)?;
     }
+    Ok(map)
+}
+
+#[test]
+fn rows_in_any_order(rt: HostRuntime) -> Result<(), Fail> {
+    let rising = two_hundred_rows(rt.alloc(), 1, 0)?;
+    let falling = two_hundred_rows(rt.alloc(), 199, 199)?;
+    let mixed = two_hundred_rows(rt.alloc(), 77, 3)?;
     assert_eq!(rt; rising.len(), 200);
     assert!(rt; rising.as_slice() == falling.as_slice());
     assert!(rt; rising.as_slice() == mixed.as_slice());
-    rising.insert(100, 7)?;
-    assert_eq!(rt; rising.len(), 200);
-    assert!(rt; rising.get(&100) == Some(&7));
-    assert!(rt; rising.get(&101) == Some(&101));
     let mut walk = rising.iter();
     assert!(rt; walk.next() == Some((&0, &0)));
     assert_eq!(rt; walk.as_slice().len(), 199);
+    Ok(())
+}
+
+#[test]
+fn a_row_that_is_there_changes_one_value(rt: HostRuntime) -> Result<(), Fail> {
+    let mut map = two_hundred_rows(rt.alloc(), 1, 0)?;
+    map.insert(100, 7)?;
+    assert_eq!(rt; map.len(), 200);
+    assert!(rt; map.get(&100) == Some(&7));
+    assert!(rt; map.get(&101) == Some(&101));
     Ok(())
 }
 

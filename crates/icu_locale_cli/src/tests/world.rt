@@ -190,34 +190,52 @@ fn precedes(a: &LanguageIdentifier, b: &LanguageIdentifier, favors_region: bool)
     count(a) < count(b) || (count(a) == count(b) && favored(a) && !favored(b))
 }
 
+// Whether the minimal forms of an identifier are those that a search finds.
+fn is_minimized(expander: &LocaleExpander<'_>, identifier: &LanguageIdentifier, all: &[LanguageIdentifier]) -> Result<bool, Fail> {
+    let mut by_region = identifier.try_clone()?;
+    let _ = expander.minimize(&mut by_region);
+    let mut by_script = identifier.try_clone()?;
+    let _ = expander.minimize_favor_script(&mut by_script);
+    Ok(by_region == minimal_by_search(expander, identifier, all, true)?
+        && by_script == minimal_by_search(expander, identifier, all, false)?)
+}
+
+// Whether an expander answers as a search does, and whether its table is settled.
+fn agrees(expander: &LocaleExpander<'_>, world: &World, all: &[LanguageIdentifier]) -> Result<(bool, bool), Fail> {
+    let settled = expander.is_settled();
+    let mut agreed = settled == is_settled_by_search(expander, world, all)?;
+    for identifier in all {
+        agreed &= is_minimized(expander, identifier, all)?;
+    }
+    Ok((agreed, settled))
+}
+
+// The same of the next tables, with the extended one and without.
+fn next_tables_agree(
+    alloc: Global,
+    numbers: &mut Numbers,
+    world: &World,
+    all: &[LanguageIdentifier],
+) -> Result<((bool, bool), (bool, bool)), Fail> {
+    let language = numbers.by_language(alloc, world)?;
+    let script_region = numbers.by_script_region(alloc, world)?;
+    let extended = numbers.extended(alloc, world)?;
+    let common = agrees(&LocaleExpander::new_common(&language, &script_region), world, all)?;
+    let whole = agrees(&LocaleExpander::new_extended(&language, &script_region, &extended), world, all)?;
+    Ok((common, whole))
+}
+
 #[test]
 fn three_hundred_tables(rt: HostRuntime) -> Result<(), Fail> {
     let world = World::new()?;
     let all = world.identifiers(rt.alloc())?;
     let mut numbers = Numbers { state: 7 };
-    let mut settled = false;
-    let mut unsettled = false;
+    let (mut settled, mut unsettled) = (false, false);
     for _ in 0..300 {
-        let language = numbers.by_language(rt.alloc(), &world)?;
-        let script_region = numbers.by_script_region(rt.alloc(), &world)?;
-        let extended = numbers.extended(rt.alloc(), &world)?;
-        for expander in [
-            LocaleExpander::new_common(&language, &script_region),
-            LocaleExpander::new_extended(&language, &script_region, &extended),
-        ] {
-            let answer = expander.is_settled();
-            assert!(rt; answer == is_settled_by_search(&expander, &world, &all)?);
-            settled |= answer;
-            unsettled |= !answer;
-            for identifier in &all {
-                let mut by_region = identifier.try_clone()?;
-                let _ = expander.minimize(&mut by_region);
-                assert!(rt; by_region == minimal_by_search(&expander, identifier, &all, true)?);
-                let mut by_script = identifier.try_clone()?;
-                let _ = expander.minimize_favor_script(&mut by_script);
-                assert!(rt; by_script == minimal_by_search(&expander, identifier, &all, false)?);
-            }
-        }
+        let (common, whole) = next_tables_agree(rt.alloc(), &mut numbers, &world, &all)?;
+        assert!(rt; common.0 && whole.0);
+        settled |= common.1 || whole.1;
+        unsettled |= !common.1 || !whole.1;
     }
     assert!(rt; settled);
     assert!(rt; unsettled);
