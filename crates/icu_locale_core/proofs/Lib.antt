@@ -4,7 +4,7 @@ pub mod Cutting
 mod Padding
 mod Readings
 mod Searches
-mod SetOperations
-mod TextSets
-mod VariantLists
+pub mod SetOperations
+pub mod TextSets
+pub mod VariantLists
 mod Written

@@ -1,0 +1,9 @@
+pub mod Canonical
+pub mod Change
+pub mod Kinds
+pub mod LikelySubtags
+pub mod Replacement
+pub mod Rules
+pub mod Run
+pub mod Tally
+pub mod Walk
