@@ -4,3 +4,7 @@ pub mod Runs
 pub mod Walks
 pub mod Replacing
 pub mod Images
+pub mod Lists
+pub mod Subsets
+pub mod Made
+pub mod Universes

@@ -6,4 +6,5 @@ pub mod Replacement
 pub mod Rules
 pub mod Run
 pub mod Tally
+pub mod Universe
 pub mod Walk

@@ -1,4 +1,4 @@
-mod Agreements
+pub mod Agreements
 mod Cases
 pub mod Cutting
 mod Padding
