@@ -1,10 +1,17 @@
+mod Changes
+mod Classes
+mod Least
+mod Locales
+mod Maximal
+mod Settling
+mod TableRows
 pub mod Counts
-pub mod Places
-pub mod Runs
-pub mod Walks
-pub mod Replacing
 pub mod Images
 pub mod Lists
-pub mod Subsets
 pub mod Made
+pub mod Places
+pub mod Replacing
+pub mod Runs
+pub mod Subsets
 pub mod Universes
+pub mod Walks

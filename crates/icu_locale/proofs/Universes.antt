@@ -1,5 +1,6 @@
 -- A run stays among the identifiers of its universe.
 use Rattle.std.proofs.Common.{◌≡◌, ◌==◌, ℕ, Bool, true, false, not, cond, List, [], ◌∷◌, length, map, Option, Some, None, is_some, ◌⊎◌, inl, inr, unwrap_or, codes, refl, ap, sym, ◌∙◌, subst, arith, ◌||◌, Vec, Global}
+use Rattle.std.specs.Str.{bytes_eq}
 use Rattle.std.specs.List.{Contains, find, list_any, flat_map}
 use Rattle.std.specs.Option.{option_map, option_and_then, option_or}
 use Rattle.std.specs.Ordering.{eq_by_cmp}
@@ -13,7 +14,7 @@ use Rattle.icu_locale_core.specs.declared.langid.LanguageIdentifier.{LanguageIde
 use Rattle.icu_locale_core.proofs.SetOperations.{same_from_tied}
 use Rattle.icu_provider.specs.Maps.{value_at}
 use Rattle.icu_locale.specs.LikelySubtags.{LikelySubtags, maximal}
-use Rattle.icu_locale.specs.Replacement.{is_text, is_known, matches, replaced, of_language}
+use Rattle.icu_locale.specs.Replacement.{is_known, matches, replaced, of_language}
 use Rattle.icu_locale.specs.Kinds.{rules_for, by_rule, sign_language, by_sign_region, language_alias, by_language_alias, by_script, region_alias, by_region, chosen, likely_region, complex_region, by_complex_region, variant_alias, by_variant, next, next_of}
 use Rattle.icu_locale.specs.Run.{IsUniverse}
 use Rattle.icu_locale.specs.Universe.{parts_by_kind, parts, universe, of_script, of_region, of_variant}
@@ -79,15 +80,15 @@ some_guarded : {X : Type 0} (test : Bool) (o : Option X) (z : X) → cond test o
 some_guarded true o z e = e
 some_guarded false o z e = absurd (none-some z e)
 
-any_text : (l : List ℕ) (rs : List (List ℕ)) → list_any (λ s. is_text s l) rs ≡ true → Contains rs l
+any_text : (l : List ℕ) (rs : List (List ℕ)) → list_any (λ s. bytes_eq s l) rs ≡ true → Contains rs l
 any_text l [] e = absurd (false≢true e)
 any_text l (r ∷ rs) e =
-    elim (or_cases (is_text r l) (list_any (λ s. is_text s l) rs) e) [
+    elim (or_cases (bytes_eq r l) (list_any (λ s. bytes_eq s l) rs) e) [
       | inl here ↦ subst (λ t. Contains (r ∷ rs) t) ((bytes_eq-Decides r l).0 here) (Contains-here r rs)
       | inr later ↦ Contains-there r l rs (any_text l rs later)
     ]
 
-chosen_test : (l r z : List ℕ) (rs : List (List ℕ)) (test : Bool) → list_any (λ s. is_text s l) (r ∷ rs) ≡ test → cond test (Some l) (Some r) ≡ Some z → Contains (r ∷ rs) z
+chosen_test : (l r z : List ℕ) (rs : List (List ℕ)) (test : Bool) → list_any (λ s. bytes_eq s l) (r ∷ rs) ≡ test → cond test (Some l) (Some r) ≡ Some z → Contains (r ∷ rs) z
 chosen_test l r z rs true any e = subst (Contains (r ∷ rs)) (same_Some l z e) (any_text l (r ∷ rs) any)
 chosen_test l r z rs false any e = subst (Contains (r ∷ rs)) (same_Some r z e) (Contains-here r rs)
 
@@ -95,7 +96,7 @@ chosen_test l r z rs false any e = subst (Contains (r ∷ rs)) (same_Some r z e)
 chosen_among : (likely : Option (List ℕ)) (rs : List (List ℕ)) (z : List ℕ) → chosen likely rs ≡ Some z → Contains rs z
 chosen_among likely [] z e = absurd (none-some z e)
 chosen_among None (r ∷ rs) z e = subst (Contains (r ∷ rs)) (same_Some r z e) (Contains-here r rs)
-chosen_among (Some l) (r ∷ rs) z e = chosen_test l r z rs (list_any (λ s. is_text s l) (r ∷ rs)) refl e
+chosen_among (Some l) (r ∷ rs) z e = chosen_test l r z rs (list_any (λ s. bytes_eq s l) (r ∷ rs)) refl e
 
 module _ (likely : LikelySubtags) (rules : Rules) (ps : List LanguageIdentifier) (has : HasParts rules ps) where
   rule_among : (test : Bool) (r : Rule) → Contains (cond test rules.language rules.language_variants) r → Contains ps r.replacement
@@ -112,7 +113,7 @@ module _ (likely : LikelySubtags) (rules : Rules) (ps : List LanguageIdentifier)
   made_by_sign_region y z made e =
       let source : LanguageIdentifier = record { language = codes "sgn"; script = None; region = y.region; variants = empty } in
       let found = some_map (λ l. replaced y source (of_language l)) (sign_language rules y) z e in
-      let looked = some_guarded (is_text y.language (codes "sgn")) (option_and_then (value_at text_cmp rules.aliases.now.sgn_region) y.region) found.0 found.1 in
+      let looked = some_guarded (bytes_eq y.language (codes "sgn")) (option_and_then (value_at text_cmp rules.aliases.now.sgn_region) y.region) found.0 found.1 in
       let here : Contains ps (of_language found.0) = option_and_then_some (value_at text_cmp rules.aliases.now.sgn_region) y.region found.0 looked (λ k is at. has.sign k found.0 at) in
       subst (IsMadeOf ps) found.2 (IsMadeOf-replaced ps y source (of_language found.0) made (IsMadeOf-itself ps (of_language found.0) here))
 

@@ -1,4 +1,5 @@
 -- The seven kinds of rules, and the one turn that they make (UTS #35 Part 1, Annex C "LocaleId Canonicalization").
+use Rattle.std.specs.Str.{bytes_eq}
 use Rattle.std.specs.Prelude.{◌==◌, ℕ, Bool, List, [], ◌∷◌, length, codes, map, Option, Some, None, is_some, unwrap_or, if◌then◌else◌}
 use Rattle.std.specs.Option.{option_map, option_and_then, option_or}
 use Rattle.std.specs.List.{find, list_any}
@@ -7,7 +8,7 @@ use Rattle.icu_locale_core.specs.TextSet.{text_cmp, empty, rising, len, image}
 use Rattle.icu_locale_core.specs.declared.langid.LanguageIdentifier.{LanguageIdentifier}
 use Rattle.icu_provider.specs.Maps.{value_at}
 use Rattle.icu_locale.specs.LikelySubtags.{LikelySubtags, maximal}
-use Rattle.icu_locale.specs.Replacement.{is_text, is_known, matches, replaced, of_language}
+use Rattle.icu_locale.specs.Replacement.{is_known, matches, replaced, of_language}
 use Rattle.icu_locale.specs.declared.canonicalizer.rules.Rule.{Rule}
 use Rattle.icu_locale.specs.declared.canonicalizer.rules.Rules.{Rules}
 
@@ -21,7 +22,7 @@ by_rule rules x = option_map (λ r. replaced x r.source r.replacement) (find (λ
 
 -- the language that stands for `sgn` in a region
 abbrev pub sign_language : Rules → LanguageIdentifier → Option (List ℕ)
-sign_language rules x = if is_text x.language (codes "sgn") then option_and_then (value_at text_cmp rules.aliases.now.sgn_region) x.region else None
+sign_language rules x = if bytes_eq x.language (codes "sgn") then option_and_then (value_at text_cmp rules.aliases.now.sgn_region) x.region else None
 
 -- kind 2: the language `sgn` with a region that is a key of `sgn_region` becomes the language of that region
 abbrev pub by_sign_region : Rules → LanguageIdentifier → Option LanguageIdentifier
@@ -53,10 +54,10 @@ by_region rules x = option_map (λ r. record x { region = Some r }) (option_and_
 abbrev pub chosen : Option (List ℕ) → List (List ℕ) → Option (List ℕ)
 chosen likely [] = None
 chosen None (r ∷ rs) = Some r
-chosen (Some l) (r ∷ rs) = if list_any (λ s. is_text s l) (r ∷ rs) then Some l else Some r
+chosen (Some l) (r ∷ rs) = if list_any (λ s. bytes_eq s l) (r ∷ rs) then Some l else Some r
 
 -- the region of the maximal form of language and script alone
-abbrev pub likely_region : LikelySubtags → LanguageIdentifier → Option (List ℕ)
+unfoldable pub likely_region : LikelySubtags → LanguageIdentifier → Option (List ℕ)
 likely_region likely x = (maximal likely (record { language = x.language; script = x.script; region = None; variants = empty })).region
 
 -- the region chosen for a key of `complex_region`

@@ -1,10 +1,15 @@
 pub mod Canonical
 pub mod Change
+pub mod Expander
 pub mod Kinds
 pub mod LikelySubtags
+pub mod Minimal
 pub mod Replacement
 pub mod Rules
 pub mod Run
+pub mod Settled
+pub mod SettledRows
 pub mod Tally
+pub mod Trials
 pub mod Universe
 pub mod Walk

@@ -1,13 +1,97 @@
--- A stand-in for likely subtags until the expander is there.
-use Rattle.std.specs.Prelude.{ℕ}
+-- Likely subtags and maximal forms (UTS #35 Part 1, section 4.3, Likely Subtags).
+use Rattle.std.specs.Prelude.{◌≡◌, ◌≢◌, ◌⊎◌, ℕ, List, [], ◌∷◌, codes, Option, Some, None, if◌then◌else◌}
+use Rattle.std.specs.Option.{option_or, unwrap_or}
+use Rattle.std.specs.Str.{bytes_eq}
+use Rattle.icu_locale_core.specs.Subtag.{und}
 use Rattle.icu_locale_core.specs.declared.langid.LanguageIdentifier.{LanguageIdentifier}
-use Rattle.icu_locale.specs.declared.expander.LocaleExpander.{LocaleExpander}
+use Rattle.icu_provider.specs.declared.data_locale.DataLocale.{DataLocale}
 
+-- a language, a script and a region
+abbrev pub Triple : Type 0
+Triple = List ℕ × List ℕ × List ℕ
+
+-- the subtags by which a row of the likely table is looked up
+pub data Key : Type 0 where
+  LanguageRegion : List ℕ → List ℕ → Key
+  LanguageScript : List ℕ → List ℕ → Key
+  LanguageAlone : List ℕ → Key
+  ScriptRegion : List ℕ → List ℕ → Key
+  ScriptAlone : List ℕ → Key
+  RegionAlone : List ℕ → Key
+
+-- a likely table: each key has at most one triple
 abbrev pub LikelySubtags : Type 0
-LikelySubtags = ℕ
+LikelySubtags = Key → Option Triple
 
-unfoldable pub likely : LocaleExpander → LikelySubtags
-likely e = 0
+-- the script that stands for none
+abbrev pub unknown_script : List ℕ
+unknown_script = codes "Zzzz"
 
-unfoldable pub maximal : LikelySubtags → LanguageIdentifier → LanguageIdentifier
-maximal likely x = x
+-- the region that stands for none
+abbrev pub unknown_region : List ℕ
+unknown_region = codes "ZZ"
+
+-- a subtag, unless it stands for none
+abbrev pub known_subtag : List ℕ → Option (List ℕ) → Option (List ℕ)
+known_subtag unknown None = None
+known_subtag unknown (Some t) = if bytes_eq t unknown then None else Some t
+
+-- without script `Zzzz` and region `ZZ`, as the first step of section 4.3 removes them
+abbrev pub bare_locale : DataLocale → DataLocale
+bare_locale x = record { language = x.language; script = known_subtag unknown_script x.script; region = known_subtag unknown_region x.region }
+
+-- the keys of a known language: with the region, with the script, alone
+abbrev pub known_keys : List ℕ → Option (List ℕ) → Option (List ℕ) → List Key
+known_keys l None None = LanguageAlone l ∷ []
+known_keys l None (Some r) = LanguageRegion l r ∷ LanguageAlone l ∷ []
+known_keys l (Some s) None = LanguageScript l s ∷ LanguageAlone l ∷ []
+known_keys l (Some s) (Some r) = LanguageRegion l r ∷ LanguageScript l s ∷ LanguageAlone l ∷ []
+
+-- the keys of the language `und`: script and region, the script alone, the region alone
+abbrev pub und_keys : Option (List ℕ) → Option (List ℕ) → List Key
+und_keys None None = []
+und_keys None (Some r) = RegionAlone r ∷ []
+und_keys (Some s) None = ScriptAlone s ∷ []
+und_keys (Some s) (Some r) = ScriptRegion s r ∷ ScriptAlone s ∷ RegionAlone r ∷ []
+
+-- the keys that are looked up, in their order (section 4.3, the look-up step)
+abbrev pub keys : DataLocale → List Key
+keys x = if bytes_eq x.language und then und_keys x.script x.region else known_keys x.language x.script x.region
+
+-- the triple of the first key that the table has
+abbrev pub first_found : LikelySubtags → List Key → Option Triple
+first_found likely [] = None
+first_found likely (k ∷ ks) = option_or (likely k) (first_found likely ks)
+
+-- what is missing, taken from the triple: the language where it is `und`, the script and the region where there is none
+abbrev pub filled : DataLocale → Option Triple → DataLocale
+filled x None = x
+filled x (Some t) = record { language = (if bytes_eq x.language und then t.0 else x.language); script = Some (unwrap_or x.script t.1); region = Some (unwrap_or x.region t.2) }
+
+-- the maximal form of what is bare already
+abbrev pub maximal_of_bare : LikelySubtags → DataLocale → DataLocale
+maximal_of_bare likely x = filled x (first_found likely (keys x))
+
+-- the maximal form of a language, a script and a region (section 4.3, Add Likely Subtags)
+abbrev pub maximal_locale : LikelySubtags → DataLocale → DataLocale
+maximal_locale likely x = maximal_of_bare likely (bare_locale x)
+
+-- the language, the script and the region of an identifier
+abbrev pub locale_of : LanguageIdentifier → DataLocale
+locale_of x = record { language = x.language; script = x.script; region = x.region }
+
+-- an identifier with another language, script and region, and its own variants
+abbrev pub with_locale : LanguageIdentifier → DataLocale → LanguageIdentifier
+with_locale x y = record { language = y.language; script = y.script; region = y.region; variants = x.variants }
+
+-- the maximal form of an identifier: its variants stay
+abbrev pub maximal : LikelySubtags → LanguageIdentifier → LanguageIdentifier
+maximal likely x = with_locale x (maximal_locale likely (locale_of x))
+
+-- no script `Zzzz` and no region `ZZ`
+abbrev pub IsBare : LanguageIdentifier → Type 0
+IsBare x = with_locale x (bare_locale (locale_of x)) ≡ x
+
+-- something was removed from x or filled in
+abbrev pub IsModified : LikelySubtags → LanguageIdentifier → Type 0
+IsModified likely x = (IsBare x → ⊥) ⊎ (maximal likely x ≢ x)

@@ -1,17 +1,13 @@
 -- When a rule matches an identifier, and what it makes of it (UTS #35 Part 1, Annex C "LocaleId Canonicalization").
-use Rattle.std.specs.Prelude.{ℕ, Bool, true, false, not, ◌&&◌, ◌||◌, nat_eq, List, Option, Some, None, if◌then◌else◌}
-use Rattle.std.specs.Cmp.Lexicographic.{pointwise}
+use Rattle.std.specs.Prelude.{ℕ, Bool, true, false, not, ◌&&◌, ◌||◌, List, Option, Some, None, if◌then◌else◌}
+use Rattle.std.specs.Str.{bytes_eq}
 use Rattle.icu_locale_core.specs.Subtag.{und}
 use Rattle.icu_locale_core.specs.TextSet.{empty, is_subset, union, difference}
 use Rattle.icu_locale_core.specs.declared.langid.LanguageIdentifier.{LanguageIdentifier}
 
--- two texts are the same
-abbrev pub is_text : List ℕ → List ℕ → Bool
-is_text = pointwise nat_eq
-
 -- a language other than `und`
 abbrev pub is_known : List ℕ → Bool
-is_known language = not (is_text language und)
+is_known language = not (bytes_eq language und)
 
 -- the part of a rule is absent or that of the identifier
 abbrev pub fits : {T : Type 0} → (T → T → Bool) → Option T → Option T → Bool
@@ -22,7 +18,7 @@ fits is_same (Some t) (Some u) = is_same t u
 -- a rule matches where its language is `und` or that of x, its script and region are absent or those of x, and its variants are among those of x
 abbrev pub matches : LanguageIdentifier → LanguageIdentifier → Bool
 matches x rule =
-    (not (is_known rule.language) || is_text rule.language x.language) && fits is_text rule.script x.script && fits is_text rule.region x.region && is_subset rule.variants x.variants
+    (not (is_known rule.language) || bytes_eq rule.language x.language) && fits bytes_eq rule.script x.script && fits bytes_eq rule.region x.region && is_subset rule.variants x.variants
 
 -- the part of the replacement where the rule has that part, else that of the source, else that of the replacement
 abbrev pub part : {T : Type 0} → Option T → Option T → Option T → Option T

@@ -1,4 +1,5 @@
 -- The rules that can be read of a table of aliases (UTS #35 Part 1, Annex C "LocaleId Canonicalization").
+use Rattle.std.specs.Str.{bytes_eq}
 use Rattle.std.specs.Prelude.{◌≡◌, ◌==◌, ◌⊎◌, ℕ, Bool, true, ◌&&◌, List, [], ◌∷◌, None, String}
 use Rattle.std.specs.List.{list_all, slice_split}
 use Rattle.std.specs.Global.{Global}
@@ -11,7 +12,6 @@ use Rattle.icu_locale_core.specs.declared.langid.LanguageIdentifier.{LanguageIde
 use Rattle.icu_provider.specs.declared.aliases.StrStrPair.{StrStrPair}
 use Rattle.icu_provider.specs.declared.aliases.LanguageStrStrPair.{LanguageStrStrPair}
 use Rattle.icu_provider.specs.declared.aliases.Aliases.{Aliases}
-use Rattle.icu_locale.specs.Replacement.{is_text}
 use Rattle.icu_locale.specs.declared.canonicalizer.rules.Rule.{Rule}
 use Rattle.icu_locale.specs.declared.canonicalizer.rules.Rules.{Rules}
 
@@ -31,7 +31,7 @@ variant_pieces t = slice_split (λ c. c == 45) t
 
 -- each of them is a variant in lower case
 abbrev pub are_variants : List ℕ → Bool
-are_variants t = list_all (λ p. is_variant p && is_text (lowercase p) p) (variant_pieces t)
+are_variants t = list_all (λ p. is_variant p && bytes_eq (lowercase p) p) (variant_pieces t)
 
 -- a row of the list `language_variants`: the variants are taken as a set, and the replacement is read
 pub record ReadsVariantRule (row : LanguageStrStrPair) (rule : Rule) : Type 0 where

@@ -1,41 +1,270 @@
-//! A stand-in for the expander until it is there.
-ghost use Rattle.std.specs.Prelude.{◌≡◌};
-ghost use Rattle.icu_locale.specs.LikelySubtags.{likely, maximal};
+//! Likely subtags: maximal and minimal forms of identifiers.
 
-use icu_locale_core::LanguageIdentifier;
-use icu_provider::{LikelySubtagsExtended, LikelySubtagsForLanguage, LikelySubtagsForScriptRegion};
+ghost use Rattle.std.specs.Prelude.{◌≡◌, ◌≢◌, ◌↔◌, false, Some, None};
+ghost use Rattle.icu_locale.specs.LikelySubtags.{bare_locale, locale_of, with_locale, maximal_of_bare, maximal_locale, maximal, IsModified};
+ghost use Rattle.icu_locale.specs.Trials.{alone, with_favored, with_other};
 
-/// Whether an operation changed something.
+pub(crate) mod looks;
+
+use crate::expander::looks::{bare_locale, filled};
+use icu_locale_core::{LanguageIdentifier, Script};
+use icu_provider::{
+    DataError, DataLocale, DataProvider, LikelySubtagsExtended, LikelySubtagsForLanguage,
+    LikelySubtagsForScriptRegion,
+};
+
+/// Whether an identifier was changed.
 #[derive(Clone, Copy, Debug, PartialEq, Eq)]
 pub enum TransformResult {
-    /// It was changed.
+    /// It was.
     Modified,
-    /// It stayed as it was.
+    /// It was not.
     Unmodified,
 }
 
-/// A stand-in.
-#[derive(Clone, Copy)]
+// Which of script and region decides between two minimal forms.
+#[derive(Clone, Copy, Debug, PartialEq, Eq)]
+pub(crate) enum Favor {
+    Region,
+    Script,
+}
+
+/// Likely subtags (UTS #35, section 4.3) over tables that it borrows. No call takes memory.
+#[derive(Clone, Copy, Debug)]
 pub struct LocaleExpander<'d> {
+    /// The likely subtags by language.
     pub language: &'d LikelySubtagsForLanguage,
+    /// The likely subtags by script and region.
     pub script_region: &'d LikelySubtagsForScriptRegion,
+    /// The further likely subtags, if any.
     pub extended: Option<&'d LikelySubtagsExtended>,
 }
 
 impl<'d> LocaleExpander<'d> {
+    ghost use Rattle.icu_locale.specs.Expander.{likely, seen, common_tables, all_tables};
+    ghost use Rattle.icu_locale.specs.Minimal.{IsMinimalForm};
+    ghost use Rattle.icu_locale.specs.Trials.{trials, first_trial, same_locale};
+
+    /// Over the common tables alone.
+    pub fn new_common(
+        language: &'d LikelySubtagsForLanguage,
+        script_region: &'d LikelySubtagsForScriptRegion,
+    ) -> Self
+        ensures { result ≡ record { language = language.entry; script_region = script_region.entry; extended = None } }
+    {
+        LocaleExpander {
+            language,
+            script_region,
+            extended: None,
+        }
+    }
+
+    /// Over the common tables and the extended one, whose rows they cover.
+    pub fn new_extended(
+        language: &'d LikelySubtagsForLanguage,
+        script_region: &'d LikelySubtagsForScriptRegion,
+        extended: &'d LikelySubtagsExtended,
+    ) -> Self
+        ensures { result ≡ record { language = language.entry; script_region = script_region.entry; extended = Some extended.entry } }
+    {
+        LocaleExpander {
+            language,
+            script_region,
+            extended: Some(extended),
+        }
+    }
+
+    /// Over the common tables of a provider: the likely subtags by language are loaded first, then those by script and
+    /// region.
+    ///
+    /// # Errors
+    ///
+    /// The first refusal of the provider, unchanged.
+    pub fn try_new_common_unstable<P: DataProvider>(provider: &'d P) -> Result<Self, DataError>
+        ensures { seen result ≡ common_tables (P.likely_language provider.now) (P.likely_script_region provider.now) }
+    {
+        let language = provider.load_likely_language()?;
+        let script_region = provider.load_likely_script_region()?;
+        Ok(LocaleExpander::new_common(language, script_region))
+    }
+
+    /// Over the common tables of a provider and its extended one, which is loaded last.
+    ///
+    /// # Errors
+    ///
+    /// The first refusal of the provider, unchanged.
+    pub fn try_new_extended_unstable<P: DataProvider>(provider: &'d P) -> Result<Self, DataError>
+        ensures { seen result ≡ all_tables (P.likely_language provider.now) (P.likely_script_region provider.now) (P.likely_extended provider.now) }
+    {
+        let language = provider.load_likely_language()?;
+        let script_region = provider.load_likely_script_region()?;
+        let extended = provider.load_likely_extended()?;
+        Ok(LocaleExpander::new_extended(
+            language,
+            script_region,
+            extended,
+        ))
+    }
+
+    /// Adds the likely subtags: the identifier becomes its maximal form. The answer is `Modified` exactly where a
+    /// subtag was removed or filled in, also where both leave it as it was.
     pub fn maximize(&self, id: &mut LanguageIdentifier) -> TransformResult
         ensures maximal { id.new ≡ maximal (likely self.now) id.old }
+        ensures modified { (result ≡ TransformResult.Modified) ↔ IsModified (likely self.now) id.old }
     {
-        let _ = id;
-        TransformResult::Unmodified
+        let given = locale_of(id);
+        let bare = bare_locale(given);
+        let maximal = self.maximal_of_bare(bare);
+        let changed = set_locale(id, maximal);
+        if bare == given {
+            changed
+        } else {
+            TransformResult::Modified
+        }
+    }
+
+    /// Removes the subtags that likely subtags give back: the identifier becomes its minimal form, the shortest with
+    /// the same maximal form. Of two that are equally short it takes the one with the region. The answer is `Modified`
+    /// exactly where the identifier changed.
+    pub fn minimize(&self, id: &mut LanguageIdentifier) -> TransformResult
+        ensures minimal { IsMinimalForm Favor.Region (likely self.now) id.old id.new }
+        ensures modified { (result ≡ TransformResult.Modified) ↔ (id.new ≢ id.old) }
+    {
+        self.minimize_favoring(Favor::Region, id)
+    }
+
+    /// As `minimize`, but of two that are equally short it takes the one with the script.
+    pub fn minimize_favor_script(&self, id: &mut LanguageIdentifier) -> TransformResult
+        ensures minimal { IsMinimalForm Favor.Script (likely self.now) id.old id.new }
+        ensures modified { (result ≡ TransformResult.Modified) ↔ (id.new ≢ id.old) }
+    {
+        self.minimize_favoring(Favor::Script, id)
+    }
+
+    /// The script of the maximal form, if it has one.
+    pub fn get_likely_script(&self, id: &LanguageIdentifier) -> Option<Script>
+        ensures { result ≡ (maximal (likely self.now) id.now).script }
+    {
+        self.maximal_locale(locale_of(id)).script
+    }
+
+    fn minimize_favoring(&self, favor: Favor, id: &mut LanguageIdentifier) -> TransformResult
+        ensures minimal { IsMinimalForm favor (likely self.now) id.old id.new }
+        ensures modified { (result ≡ TransformResult.Modified) ↔ (id.new ≢ id.old) }
+    {
+        let given = locale_of(id);
+        let minimal = self.minimal_locale(favor, given);
+        set_locale(id, minimal)
+    }
+
+    // The first of the three trials that has the maximal form of the given subtags, or that form.
+    fn minimal_locale(&self, favor: Favor, given: DataLocale) -> DataLocale
+        ensures { let m = maximal_locale (likely self.now) given in result ≡ first_trial (likely self.now) m (trials favor m) }
+    {
+        let maximal = self.maximal_locale(given);
+        let alone = language_alone(&maximal);
+        if self.leads_to(&alone, &maximal) {
+            return alone;
+        }
+        let (second, third) = with_one(favor, &maximal);
+        if self.leads_further(&second, &alone, &maximal) {
+            return second;
+        }
+        if self.leads_further(&third, &alone, &maximal) {
+            return third;
+        }
+        maximal
+    }
+
+    // Whether a trial has the maximal form, where the language alone has not: that one is not asked again.
+    fn leads_further(&self, trial: &DataLocale, alone: &DataLocale, maximal: &DataLocale) -> bool
+        requires { same_locale (maximal_locale (likely self.now) alone.now) maximal.now ≡ false }
+        ensures { result ≡ same_locale (maximal_locale (likely self.now) trial.now) maximal.now }
+    {
+        if trial == alone {
+            return false;
+        }
+        self.leads_to(trial, maximal)
+    }
+
+    // Whether a trial has the maximal form.
+    pub(crate) fn leads_to(&self, trial: &DataLocale, maximal: &DataLocale) -> bool
+        ensures { result ≡ same_locale (maximal_locale (likely self.now) trial.now) maximal.now }
+    {
+        self.maximal_locale(*trial) == *maximal
+    }
+
+    // The maximal form of a language, a script and a region.
+    pub(crate) fn maximal_locale(&self, given: DataLocale) -> DataLocale
+        ensures { result ≡ maximal_locale (likely self.now) given }
+    {
+        self.maximal_of_bare(bare_locale(given))
+    }
+
+    // The maximal form of what has neither script `Zzzz` nor region `ZZ`.
+    fn maximal_of_bare(&self, bare: DataLocale) -> DataLocale
+        ensures { result ≡ maximal_of_bare (likely self.now) bare }
+    {
+        let found = self.first_found(bare);
+        filled(&bare, found)
     }
 }
 
-pub trait AsExpander<'d> {
-    ghost use Rattle.icu_locale.specs.declared.expander.LocaleExpander.{LocaleExpander};
+// The language, the script and the region of an identifier.
+fn locale_of(id: &LanguageIdentifier) -> DataLocale
+    ensures { result ≡ locale_of id.now }
+{
+    DataLocale {
+        language: id.language,
+        script: id.script,
+        region: id.region,
+    }
+}
 
-    ghost expander: { Self → LocaleExpander };
+// The language alone.
+fn language_alone(maximal: &DataLocale) -> DataLocale
+    ensures { result ≡ alone maximal.now }
+{
+    DataLocale {
+        language: maximal.language,
+        script: None,
+        region: None,
+    }
+}
 
-    fn as_expander(&self) -> LocaleExpander<'d>
-        ensures { result ≡ expander self.now };
+// The language with the favored subtag, and with the other one.
+fn with_one(favor: Favor, maximal: &DataLocale) -> (DataLocale, DataLocale)
+    ensures favored { result.0 ≡ with_favored favor maximal.now }
+    ensures other { result.1 ≡ with_other favor maximal.now }
+{
+    let with_region = DataLocale {
+        language: maximal.language,
+        script: None,
+        region: maximal.region,
+    };
+    let with_script = DataLocale {
+        language: maximal.language,
+        script: maximal.script,
+        region: None,
+    };
+    match favor {
+        Favor::Region => (with_region, with_script),
+        Favor::Script => (with_script, with_region),
+    }
+}
+
+// Writes a language, a script and a region, leaves the variants, and tells whether that changed anything.
+fn set_locale(id: &mut LanguageIdentifier, locale: DataLocale) -> TransformResult
+    ensures value { id.new ≡ with_locale id.old locale }
+    ensures modified { (result ≡ TransformResult.Modified) ↔ (id.new ≢ id.old) }
+{
+    let given = locale_of(id);
+    id.language = locale.language;
+    id.script = locale.script;
+    id.region = locale.region;
+    if locale == given {
+        TransformResult::Unmodified
+    } else {
+        TransformResult::Modified
+    }
 }

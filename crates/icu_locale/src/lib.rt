@@ -1,10 +1,14 @@
-//! Locale operations of UTS #35: canonicalization.
+//! Maximal, minimal and canonical forms of locale identifiers, over tables that a caller hands in.
 #![tactic(auto)]
 
+mod as_expander;
 mod canonicalizer;
 mod expander;
+pub mod laws;
 pub mod rewriting;
+mod settled;
 
+pub use as_expander::AsExpander;
 pub use canonicalizer::rules::{Rule, Rules};
 pub use canonicalizer::{CanonicalizeError, LocaleCanonicalizer};
-pub use expander::{AsExpander, LocaleExpander, TransformResult};
+pub use expander::{LocaleExpander, TransformResult};

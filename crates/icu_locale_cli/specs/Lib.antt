@@ -1,3 +1,6 @@
+pub mod Answers
 pub mod CliError
+pub mod Commands
 pub mod Lines
 pub mod Output
+pub mod Texts

@@ -32,6 +32,12 @@ module _ {K V : Type 0} (compare : K → K → Ordering) where
   pub insert_entry-step : (key : K) (value : V) (row : K × V) (rows : List (K × V)) (answer : Ordering) → compare key row.0 ≡ answer → insert_entry compare (row ∷ rows) key value ≡ match_ordering answer ((key, value) ∷ row ∷ rows) ((row.0, value) ∷ rows) (row ∷ insert_entry compare rows key value)
   insert_entry-step key value row rows answer is = ap (λ o. match_ordering o ((key, value) ∷ row ∷ rows) ((row.0, value) ∷ rows) (row ∷ insert_entry compare rows key value)) is
 
+  -- a key that is found is that of a row of the map, up to the comparison
+  pub Contains-from_lookup : (rows : List (K × V)) (key : K) (value : V) → lookup (is_at (compare key)) rows ≡ Some value → (row : K × V) × Contains rows row × (compare key row.0 ≡ Equal) × (row.1 ≡ value)
+  Contains-from_lookup rows key value found =
+      let place = place_from_lookup (is_at (compare key)) rows value found in
+      ((place.1, value), (place.0, slice_get_within rows place.0 _ place.2, get_or_from_slice_get rows place.0 _ _ place.2), (Equal-is _).0 place.3, refl)
+
 module _ {K V : Type 0} {compare : K → K → Ordering} (total : IsTotalOrder compare) where
   -- an insert changes what is found at its key, and nothing else
   pub SetsOnly-insert_entry : (rows : List (K × V)) (key : K) (value : V) → SetsOnly compare rows (insert_entry compare rows key value) key value
@@ -66,9 +72,3 @@ module _ {K V : Type 0} {compare : K → K → Ordering} (total : IsTotalOrder c
   -- so each row is
   pub All-lookup_own_key : (rows : List (K × V)) → IsSortedMap compare rows → All (λ row. lookup (is_at (compare row.0)) rows ≡ Some row.1) rows
   All-lookup_own_key rows sorted k default in_range = lookup_own_key rows _ sorted (Contains-get_or rows k default in_range)
-
-  -- a key that is found is that of a row of the map, up to the comparison
-  pub Contains-from_lookup : (rows : List (K × V)) (key : K) (value : V) → lookup (is_at (compare key)) rows ≡ Some value → (row : K × V) × Contains rows row × (compare key row.0 ≡ Equal) × (row.1 ≡ value)
-  Contains-from_lookup rows key value found =
-      let place = place_from_lookup (is_at (compare key)) rows value found in
-      ((place.1, value), (place.0, slice_get_within rows place.0 _ place.2, get_or_from_slice_get rows place.0 _ _ place.2), (Equal-is _).0 place.3, refl)

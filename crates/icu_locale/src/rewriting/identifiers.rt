@@ -2,7 +2,7 @@
 ghost use Rattle.std.specs.Prelude.{◌≡◌, ◌+◌, None, IfOk, IfErr, IfSome, IsOk, unwrap_or};
 ghost use Rattle.std.specs.Option.{option_map};
 ghost use Rattle.icu_locale_core.specs.TextSet.{empty, image};
-ghost use Rattle.icu_locale.specs.LikelySubtags.{likely};
+ghost use Rattle.icu_locale.specs.Expander.{likely};
 ghost use Rattle.icu_locale.specs.Kinds.{variant_alias, next_of};
 ghost use Rattle.icu_locale.specs.Change.{applied};
 

@@ -1,10 +1,11 @@
 // The seven kinds of rules. Each finds what is to be changed and takes no memory.
+ghost use Rattle.std.specs.Str.{bytes_eq};
 ghost use Rattle.std.specs.Prelude.{◌≡◌, option_copied, is_some};
 ghost use Rattle.std.specs.Option.{option_map};
 ghost use Rattle.std.specs.List.{find, list_any};
 ghost use Rattle.icu_locale_core.specs.TextSet.{rising};
-ghost use Rattle.icu_locale.specs.LikelySubtags.{likely, maximal};
-ghost use Rattle.icu_locale.specs.Replacement.{is_text, matches};
+ghost use Rattle.icu_locale.specs.Expander.{likely};
+ghost use Rattle.icu_locale.specs.Replacement.{matches};
 ghost use Rattle.icu_locale.specs.Kinds.{rules_for, by_rule, sign_language, by_sign_region, language_alias, by_language_alias, by_script, region_alias, by_region, chosen, likely_region, complex_region, by_complex_region, variant_alias, by_variant, next};
 ghost use Rattle.icu_locale.specs.Change.{applied};
 

@@ -1,0 +1,29 @@
+-- Whether an identifier is changed, told by its language, script and region.
+use Rattle.std.proofs.Common.{◌≡◌, ◌≢◌, true, false, ap, sym, ◌∙◌, inl}
+use Rattle.icu_locale_core.specs.declared.langid.LanguageIdentifier.{LanguageIdentifier}
+use Rattle.icu_provider.specs.declared.data_locale.DataLocale.{DataLocale}
+use Rattle.icu_locale.specs.LikelySubtags.{LikelySubtags, bare_locale, locale_of, with_locale, maximal, IsBare, IsModified}
+use Rattle.icu_locale.specs.Trials.{same_locale}
+use Rattle.icu_locale.proofs.Locales.{same_from_test, other_from_test}
+
+-- an identifier with its own locale is itself
+pub same_with_locale : (x : LanguageIdentifier) (y : DataLocale) → y ≡ locale_of x → with_locale x y ≡ x
+same_with_locale x y e = ap (with_locale x) e
+
+-- and with another one it is another
+pub locale_from_same : (x : LanguageIdentifier) (y : DataLocale) → with_locale x y ≡ x → y ≡ locale_of x
+locale_from_same x y e = ap locale_of e
+
+-- a locale that is the same leaves the identifier
+pub unchanged : (x : LanguageIdentifier) (given y : DataLocale) → given ≡ locale_of x → true ≡ same_locale y given → with_locale x y ≡ x
+unchanged x given y is e = same_with_locale x y (same_from_test y given (sym e) ∙ is)
+
+-- another one changes it
+pub changed : (x : LanguageIdentifier) (given y : DataLocale) → given ≡ locale_of x → false ≡ same_locale y given → with_locale x y ≢ x
+changed x given y is e same = other_from_test y given (sym e) (locale_from_same x y same ∙ sym is)
+
+-- something was removed
+pub IsModified-removed : (likely : LikelySubtags) (x : LanguageIdentifier) (given bare : DataLocale) → given ≡ locale_of x → bare ≡ bare_locale given → false ≡ same_locale bare given → IsModified likely x
+IsModified-removed likely x given bare is removed e =
+    let bare_is : bare ≡ bare_locale (locale_of x) = removed ∙ ap bare_locale is in
+    inl (λ is_bare. other_from_test bare given (sym e) (bare_is ∙ locale_from_same x (bare_locale (locale_of x)) is_bare ∙ sym is))

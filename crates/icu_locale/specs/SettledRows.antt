@@ -1,0 +1,74 @@
+-- How a table is seen to be settled, row by row: what only the expander's own functions cite.
+use Rattle.std.specs.Prelude.{◌≡◌, ℕ, Bool, true, ◌&&◌, List, Option, Some, None, IfSome}
+use Rattle.std.specs.List.{All}
+use Rattle.icu_locale_core.specs.Subtag.{und, IsLanguage, IsScript, IsRegion}
+use Rattle.icu_locale_core.specs.Identifier.{IsIdentifier}
+use Rattle.icu_locale_core.specs.declared.langid.LanguageIdentifier.{LanguageIdentifier}
+use Rattle.icu_provider.specs.declared.data_locale.DataLocale.{DataLocale}
+use Rattle.icu_locale.specs.LikelySubtags.{Key, LanguageRegion, LanguageScript, LanguageAlone, ScriptRegion, ScriptAlone, RegionAlone, LikelySubtags, Triple, bare_locale, maximal_locale, maximal}
+use Rattle.icu_locale.specs.declared.expander.LocaleExpander.{LocaleExpander}
+use Rattle.icu_locale.specs.Expander.{likely}
+use Rattle.icu_locale.specs.Settled.{IsSettled}
+use Rattle.icu_locale.specs.Trials.{same_locale}
+
+-- the key's own subtags
+abbrev pub key_locale : Key → DataLocale
+key_locale (LanguageRegion l r) = record { language = l; script = None; region = Some r }
+key_locale (LanguageScript l s) = record { language = l; script = Some s; region = None }
+key_locale (LanguageAlone l) = record { language = l; script = None; region = None }
+key_locale (ScriptRegion s r) = record { language = und; script = Some s; region = Some r }
+key_locale (ScriptAlone s) = record { language = und; script = Some s; region = None }
+key_locale (RegionAlone r) = record { language = und; script = None; region = Some r }
+
+-- each subtag belongs to its class
+pub record IsLocale (x : DataLocale) : Type 0 where
+  pub language : IsLanguage x.language
+  pub script : IfSome x.script IsScript
+  pub region : IfSome x.region IsRegion
+
+-- whether a locale is bare and its own maximal form
+abbrev pub is_settled_locale : LikelySubtags → DataLocale → Bool
+is_settled_locale table y = same_locale (bare_locale y) y && same_locale (maximal_locale table y) y
+
+-- whether the maximal form of a key's own subtags is settled
+unfoldable pub settles : LikelySubtags → Key → Bool
+settles table k = is_settled_locale table (maximal_locale table (key_locale k))
+
+-- each row's key settles
+abbrev pub AllSettle : {K V : Type 0} → LikelySubtags → (K → Key) → List (K × V) → Type 0
+AllSettle table key rows = All (λ row. settles table (key row.0) ≡ true) rows
+
+-- some identifier's maximal form is not settled
+pub record IsUnsettled (table : LikelySubtags) : Type 0 where
+  pub identifier : LanguageIdentifier
+  pub is_identifier : IsIdentifier identifier
+  pub unsettled : IsSettled table (maximal table identifier) → ⊥
+
+-- so do the rows of each of the six maps of a table
+pub record RowsSettle {A B C D E F : Type 0} (table : LikelySubtags) (language : List (List ℕ × A)) (language_script : List ((List ℕ × List ℕ) × B)) (language_region : List ((List ℕ × List ℕ) × C)) (script_region : List ((List ℕ × List ℕ) × D)) (script : List (List ℕ × E)) (region : List (List ℕ × F)) : Type 0 where
+  pub language_rows : AllSettle table LanguageAlone language
+  pub language_script_rows : AllSettle table (λ k. LanguageScript k.0 k.1) language_script
+  pub language_region_rows : AllSettle table (λ k. LanguageRegion k.0 k.1) language_region
+  pub script_region_rows : AllSettle table (λ k. ScriptRegion k.0 k.1) script_region
+  pub script_rows : AllSettle table ScriptAlone script
+  pub region_rows : AllSettle table RegionAlone region
+
+-- the rows of the common tables settle
+abbrev pub CommonRowsSettle : LocaleExpander → Type 0
+CommonRowsSettle e = let a = e.language.now in let b = e.script_region.now in RowsSettle (likely e) a.language a.language_script a.language_region b.script_region b.script b.region
+
+-- the rows of the extended table settle, if there is one
+abbrev pub ExtendedRowsSettle : LocaleExpander → Type 0
+ExtendedRowsSettle e = IfSome e.extended (λ x. let a = x.now in RowsSettle (likely e) a.language a.language_script a.language_region a.script_region a.script a.region)
+
+-- the keys that the triple of `und` serves settle
+pub record UndRowsSettle (table : LikelySubtags) (t : Triple) : Type 0 where
+  pub script_region : settles table (ScriptRegion t.1 t.2) ≡ true
+  pub script : settles table (ScriptAlone t.1) ≡ true
+  pub region : settles table (RegionAlone t.2) ≡ true
+
+-- every row of an expander's table settles
+pub record AllRowsSettle (e : LocaleExpander) : Type 0 where
+  pub common : CommonRowsSettle e
+  pub extended : ExtendedRowsSettle e
+  pub und_rows : UndRowsSettle (likely e) e.language.now.und

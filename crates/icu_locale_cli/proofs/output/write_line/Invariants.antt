@@ -1,0 +1,11 @@
+use Rattle.std.proofs.Common.{◌≡◌, ◌++◌, List, ℕ, length}
+use Rattle.std.specs.Io.KnownBytes.{Appends}
+use Rattle.icu_locale_cli.specs.Output.{AppendsPart}
+use Rattle.icu_locale_cli.proofs.output.write_line.Given as goal
+
+-- a beginning of the line is written, and the rest is left
+abbrev pub invariant-loop-rest : goal.invariant-loop-rest
+invariant-loop-rest g l = record { written : List ℕ; parted : l.line ≡ written ++ l.rest; appended : Appends (g.W.Write.contents l.initial.writer) (g.W.Write.contents l.writer) written }
+
+abbrev pub decreases-loop-rest : goal.decreases-loop-rest
+decreases-loop-rest g l = length l.rest

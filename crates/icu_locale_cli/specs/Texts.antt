@@ -1,0 +1,19 @@
+-- The lines that are written.
+use Rattle.std.specs.Prelude.{ℕ, List, [], ◌∷◌, ◌++◌, codes}
+use Rattle.icu_locale_core.specs.Identifier.{written}
+use Rattle.icu_locale_core.specs.declared.langid.LanguageIdentifier.{LanguageIdentifier}
+use Rattle.icu_locale.specs.declared.expander.TransformResult.{TransformResult}
+use Rattle.icu_locale.specs.declared.expander.TransformResult.TheVariants.{Modified, Unmodified}
+
+-- `M` or `U`
+abbrev pub mark : TransformResult → List ℕ
+mark Modified = codes "M"
+mark Unmodified = codes "U"
+
+-- the identifier in written case, a tab, and whether it was changed
+abbrev pub transformed_line : LanguageIdentifier → TransformResult → List ℕ
+transformed_line x m = written x ++ (codes "\t" ++ (mark m ++ codes "\n"))
+
+-- `?`, a tab, and the name of the refusal
+abbrev pub refused_line : List ℕ → List ℕ
+refused_line name = codes "?\t" ++ (name ++ codes "\n")
