@@ -7,6 +7,7 @@ mod Settling
 mod TableRows
 pub mod Counts
 pub mod Images
+pub mod Keywords
 pub mod Lists
 pub mod Made
 pub mod Places

@@ -1,5 +1,6 @@
 pub mod Canonical
 pub mod Change
+pub mod Ends
 pub mod Expander
 pub mod Kinds
 pub mod LikelySubtags

@@ -1,14 +1,18 @@
 // Runs of identifiers.
-ghost use Rattle.std.specs.Prelude.{◌≡◌, ◌+◌, None, IfOk, IfErr, IfSome, IsOk, unwrap_or};
+ghost use Rattle.std.specs.Prelude.{◌≡◌, ◌+◌, ℕ, None, Some, IfOk, IfErr, IfSome, IsOk, unwrap_or};
 ghost use Rattle.std.specs.Option.{option_map};
 ghost use Rattle.icu_locale_core.specs.TextSet.{empty, image};
 ghost use Rattle.icu_locale.specs.Expander.{likely};
 ghost use Rattle.icu_locale.specs.Kinds.{variant_alias, next_of};
 ghost use Rattle.icu_locale.specs.Change.{applied};
+ghost use Rattle.icu_locale.specs.Run.{HasDistinct};
+ghost use Rattle.icu_locale.specs.Canonical.{IsOutOfMemory};
+ghost use Rattle.icu_locale.specs.Ends.{IsLaterEnd, IsRunRefusal, IsFree, IsRunCounted};
 
 use super::kinds::{Change, by_language_alias, find_change, variant_alias};
 use super::replacing::replacement;
 use super::turns::Turns;
+use super::{Outcome, Rewriting, end_of_run};
 use crate::{AsExpander, CanonicalizeError, LocaleCanonicalizer, Rules};
 use icu_locale_core::{LanguageIdentifier, Variants};
 
@@ -81,6 +85,77 @@ fn replaced_variants(rules: &Rules<'_>, variants: &Variants) -> Result<Variants,
     }
     match Variants::try_from_list(list) {
         Ok(image) => Ok(image),
+        Err(_) => Err(CanonicalizeError::Memory),
+    }
+}
+
+// One run of identifiers: by all rules, or of a transform language by language aliases alone.
+struct Run<'c, 'd, E> {
+    canonicalizer: &'c LocaleCanonicalizer<'d, E>,
+    transform: bool,
+}
+
+impl<'c, 'd, E> Drop for Run<'c, 'd, E> {
+    fn drop(self) {
+        let Run {
+            canonicalizer: _,
+            transform: _,
+        } = self;
+    }
+}
+
+impl<'c, 'd, E: AsExpander<'d>> Rewriting for Run<'c, 'd, E> {
+    ghost use Rattle.std.specs.Prelude.{◌≡◌, IfSome};
+    ghost use Rattle.icu_locale_core.specs.TextSet.{empty};
+    ghost use Rattle.icu_locale_core.proofs.Agreements.{identifiers_decide};
+    ghost use Rattle.icu_locale.specs.Expander.{likely};
+    ghost use Rattle.icu_locale.specs.Kinds.{next_of};
+    ghost use Rattle.icu_locale.specs.Universe.{universe};
+    ghost use Rattle.icu_locale.specs.declared.canonicalizer.CanonicalizeError.TheVariants.{Memory};
+
+    type State = LanguageIdentifier;
+
+    type Error = CanonicalizeError;
+
+    ghost next = { λ r. next_of (likely (E.expander r.canonicalizer.now.expander)) r.canonicalizer.now.rules r.transform };
+
+    ghost universe = { λ r x. universe r.canonicalizer.now.rules x };
+
+    ghost refuses = { λ e. e ≡ Memory };
+
+    ghost needs_none = { λ r y. IfSome (next_of (likely (E.expander r.canonicalizer.now.expander)) r.canonicalizer.now.rules r.transform y) (λ z. z.variants ≡ empty) };
+
+    fn search(
+        &self,
+        state: &LanguageIdentifier,
+        turns: &mut Turns,
+    ) -> Result<Option<LanguageIdentifier>, CanonicalizeError> {
+        search(self.canonicalizer, state, self.transform, turns)
+    }
+
+    ghost exact = { λ y z e. (identifiers_decide y z).0 e };
+}
+
+// Where a run ends, if that is at a later place than its start.
+pub fn later_end<'d, E: AsExpander<'d>>(
+    canonicalizer: &LocaleCanonicalizer<'d, E>,
+    id: &LanguageIdentifier,
+    transform: bool,
+    turns: &mut Turns,
+) -> Result<Option<LanguageIdentifier>, CanonicalizeError>
+    ensures end { IfOk result (IsLaterEnd (next_of (likely (E.expander canonicalizer.now.expander)) canonicalizer.now.rules transform) id.now) }
+    ensures refused { IfErr result (IsRunRefusal (next_of (likely (E.expander canonicalizer.now.expander)) canonicalizer.now.rules transform) id.now) }
+    ensures free { IsFree (next_of (likely (E.expander canonicalizer.now.expander)) canonicalizer.now.rules transform) id.now → ¬ (IsOutOfMemory result) }
+    ensures count { IsRunCounted (next_of (likely (E.expander canonicalizer.now.expander)) canonicalizer.now.rules transform) (Some id.now) result turns.old turns.new }
+{
+    let run = Run {
+        canonicalizer,
+        transform,
+    };
+    match end_of_run(&run, id, turns) {
+        Ok(Outcome::Same) => Ok(None),
+        Ok(Outcome::Ends(last)) => Ok(Some(last)),
+        Ok(Outcome::Repeats(first)) => Err(CanonicalizeError::NoFixedPoint(first)),
         Err(_) => Err(CanonicalizeError::Memory),
     }
 }
