@@ -113,7 +113,7 @@ module _ {X : Type 0} (next : X → Option X) (start : X) where
         ]
       ]
 
-  has_count : (same : (y z : X) → (y ≡ z) ⊎ (y ≢ z)) (states : List X) → IsUniverse next start states → (n : ℕ) × (n ≤ length states) × IsCount next start n
+  pub has_count : (same : (y z : X) → (y ≡ z) ⊎ (y ≢ z)) (states : List X) → IsUniverse next start states → (n : ℕ) × (n ≤ length states) × IsCount next start n
   has_count same states universe =
       elim (count_or_front same (suc (length states))) [
         | inl (m, below, is) ↦ (m, omega arith, is)

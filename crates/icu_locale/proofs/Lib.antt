@@ -5,6 +5,8 @@ mod Locales
 mod Maximal
 mod Settling
 mod TableRows
+pub mod Bare
+pub mod Canonicals
 pub mod Counts
 pub mod Images
 pub mod Keywords
