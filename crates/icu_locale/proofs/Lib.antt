@@ -13,6 +13,7 @@ pub mod Keywords
 pub mod Lists
 pub mod Made
 pub mod Places
+pub mod Readings
 pub mod Replacing
 pub mod Runs
 pub mod Subsets

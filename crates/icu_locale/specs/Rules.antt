@@ -25,13 +25,17 @@ pub record ReadsRule (row : StrStrPair) (rule : Rule) : Type 0 where
   pub source : Reads (string_bytes row.0) rule.source
   pub replacement : Reads (string_bytes row.1) rule.replacement
 
+-- a variant in lower case
+abbrev pub is_lower_variant : List ℕ → Bool
+is_lower_variant p = is_variant p && bytes_eq (lowercase p) p
+
 -- the pieces of a text of variants, cut at `-`, which is 45
 abbrev pub variant_pieces : List ℕ → List (List ℕ)
 variant_pieces t = slice_split (λ c. c == 45) t
 
--- each of them is a variant in lower case
+-- each of them is one
 abbrev pub are_variants : List ℕ → Bool
-are_variants t = list_all (λ p. is_variant p && bytes_eq (lowercase p) p) (variant_pieces t)
+are_variants t = list_all is_lower_variant (variant_pieces t)
 
 -- a row of the list `language_variants`: the variants are taken as a set, and the replacement is read
 pub record ReadsVariantRule (row : LanguageStrStrPair) (rule : Rule) : Type 0 where

@@ -13,6 +13,7 @@ use std::error::Error;
 use std::fmt;
 
 mod changes;
+mod reading;
 pub mod rules;
 
 use changes::{Changes, region_override_key, subdivision_key};
