@@ -1,6 +1,11 @@
 -- What is kept of rows, one row after another.
-use Rattle.std.proofs.Common.{◌≡◌, ℕ, zero, suc, ◌<◌, Bool, true, false, ◌&&◌, List, [], ◌∷◌, ◌++◌, map, length, get_or, Option, Some, None, inl, inr, refl, ap, sym, subst, arith, append-nil}
-use Rattle.std.specs.List.{list_all}
+use Rattle.std.proofs.Common.{◌≡◌, ℕ, zero, suc, ◌<◌, Bool, true, false, ◌&&◌, List, [], ◌∷◌, ◌++◌, map, length, get_or, Option, Some, None, inl, inr, refl, ap, sym, ◌∙◌, subst, arith, append-nil}
+use Rattle.std.specs.List.{list_all, AllByRecursion}
+use Rattle.std.specs.List.Sorted.{IsStrictlySortedBy}
+use Rattle.std.specs.Map.{keys_of}
+use Rattle.std.specs.declared.cmp.Ordering.TheVariants.{Less}
+use Rattle.icu_locale_core.specs.TextSet.{text_cmp}
+use Rattle.icu_provider.specs.Maps.{IsSortedMap}
 use Rattle.std.specs.Option.{option_to_list, MatchOption}
 use Rattle.icu_locale.specs.Rules.{AreRead}
 
@@ -32,3 +37,19 @@ list_all-off p f (x ∷ xs) (suc k) d within off = rw (list_all-off p f xs k d (
     and_false : (b : Bool) → (b && false) ≡ false
     and_false true = refl
     and_false false = refl
+
+-- ---- keys that rise still rise among the rows that were read
+
+module _ {V W : Type 0} (reads : (List ℕ × V) → (List ℕ × W) → Type 0) (same_key : (row : List ℕ × V) (kept : List ℕ × W) → reads row kept → kept.0 ≡ row.0) where
+  above_all : (x : List ℕ) (rows : List (List ℕ × V)) (kept : List (List ℕ × W)) → AreRead reads rows kept → AllByRecursion (λ y. text_cmp x y ≡ Less) (keys_of rows) → AllByRecursion (λ y. text_cmp x y ≡ Less) (keys_of kept)
+  above_all x [] kept none above = subst (λ ks. AllByRecursion (λ y. text_cmp x y ≡ Less) (keys_of ks)) (sym none) tt
+  above_all x (row ∷ rows) kept (inl (k, rest, is, here, later)) above =
+      subst (λ ks. AllByRecursion (λ y. text_cmp x y ≡ Less) (keys_of ks)) (sym is) (ap (text_cmp x) (same_key row k here) ∙ above.0, above_all x rows rest later above.1)
+  above_all x (row ∷ rows) kept (inr (off, later)) above = above_all x rows kept later above.1
+
+  pub IsSortedMap-from_read : (rows : List (List ℕ × V)) (kept : List (List ℕ × W)) → AreRead reads rows kept → IsSortedMap text_cmp rows → IsSortedMap text_cmp kept
+  unfolding IsStrictlySortedBy
+  IsSortedMap-from_read [] kept none rise = subst (IsSortedMap text_cmp) (sym none) tt
+  IsSortedMap-from_read (row ∷ rows) kept (inl (k, rest, is, here, later)) rise =
+      subst (IsSortedMap text_cmp) (sym is) (subst (λ x. AllByRecursion (λ y. text_cmp x y ≡ Less) (keys_of rest)) (sym (same_key row k here)) (above_all row.0 rows rest later rise.0), IsSortedMap-from_read rows rest later rise.1)
+  IsSortedMap-from_read (row ∷ rows) kept (inr (off, later)) rise = IsSortedMap-from_read rows kept later rise.1

@@ -4,6 +4,7 @@ pub mod Ends
 pub mod Expander
 pub mod Kinds
 pub mod LikelySubtags
+pub mod Making
 pub mod Minimal
 pub mod Replacement
 pub mod Rules

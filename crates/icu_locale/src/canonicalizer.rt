@@ -13,6 +13,7 @@ use std::error::Error;
 use std::fmt;
 
 mod changes;
+mod making;
 mod reading;
 pub mod rules;
 
