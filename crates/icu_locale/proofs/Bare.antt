@@ -77,7 +77,7 @@ module _ (likely : LikelySubtags) (rules : Rules) where
 -- ---- along a run
 
 module _ (turn : LanguageIdentifier → Option LanguageIdentifier) (x : LanguageIdentifier) where
-  none_later : turn x ≡ None → (place : ℕ) → at turn x (suc place) ≡ None
+  pub none_later : turn x ≡ None → (place : ℕ) → at turn x (suc place) ≡ None
   none_later none zero = none
   none_later none (suc place) = ap (option_and_then turn) (none_later none place)
 

@@ -9,6 +9,7 @@ pub mod Bare
 pub mod Canonicals
 pub mod Counts
 pub mod Images
+pub mod Kept
 pub mod Keywords
 pub mod Lists
 pub mod Made

@@ -25,7 +25,7 @@ use Rattle.icu_locale.proofs.Subsets.{or_cases}
 use Rattle.icu_locale.proofs.Lists.{Contains-nil, Contains-here, Contains-there, Contains-map, Contains-flat_map, Contains-find}
 use Rattle.icu_locale.proofs.Made.{IsMadeOf, IsMadeOf-itself, made_of-has, IsMadeOf-from, IsMadeOf-replaced, IsMadeOf-bare, IsMadeOf-script, IsMadeOf-region, IsMadeOf-image}
 
-has_row : {V : Type 0} (rows : List (List ℕ × V)) (k : List ℕ) (v : V) → value_at text_cmp rows k ≡ Some v → Contains rows (k, v)
+pub has_row : {V : Type 0} (rows : List (List ℕ × V)) (k : List ℕ) (v : V) → value_at text_cmp rows k ≡ Some v → Contains rows (k, v)
 has_row rows k v found = Contains-from_lookup {eq = eq_by_cmp text_cmp} same_from_tied k v rows found
 
 has_value : {V W : Type 0} (f : V → W) (rows : List (List ℕ × V)) (k : List ℕ) (v : V) → value_at text_cmp rows k ≡ Some v → Contains (map (λ row. f row.1) rows) (f v)

@@ -109,6 +109,10 @@ pub record NeedsNoMemory (likely : LikelySubtags) (rules : Rules) (old : Locale)
   pub region_override : subdivision_alias rules old.extensions.unicode.keywords rg ≡ None
   pub subdivision : subdivision_alias rules old.extensions.unicode.keywords sd ≡ None
 
+-- no value of `subdivision` is one piece that is a key of it again
+abbrev pub HasFinalSubdivisions : Rules → Type 0
+HasFinalSubdivisions rules = All (λ row. option_and_then (value_at text_cmp rules.subdivision) (only_piece row.1) ≡ None) rules.subdivision
+
 -- what Display writes of a refusal
 abbrev pub error_name : CanonicalizeError → List ℕ
 error_name Memory = codes "Memory"

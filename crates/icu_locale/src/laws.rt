@@ -11,6 +11,12 @@ ghost use Rattle.icu_locale.specs.Expander.{likely, common_row, extension_row, u
 ghost use Rattle.icu_locale.specs.Minimal.{IsMinimalForm, IsLeast};
 ghost use Rattle.icu_locale.specs.Settled.{IsSettled, AreSettled};
 
+mod canonicalization;
+
+pub use crate::rewriting::identifiers::search;
+pub use crate::rewriting::replacing::{replacement, rule_matches};
+pub use canonicalization::{applied_where_changed, canonical_stays_canonical, runs_end_or_repeat};
+
 /// Every identifier has a minimal form, and only one, over every table.
 #[tactic(auto, using(crate::proofs::Classes::minimal_form_is_one))]
 pub fn minimal_form_is_one()

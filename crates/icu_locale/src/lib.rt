@@ -5,10 +5,11 @@ mod as_expander;
 mod canonicalizer;
 mod expander;
 pub mod laws;
-pub mod rewriting;
+mod rewriting;
 mod settled;
 
 pub use as_expander::AsExpander;
 pub use canonicalizer::rules::{Rule, Rules};
 pub use canonicalizer::{CanonicalizeError, LocaleCanonicalizer};
 pub use expander::{LocaleExpander, TransformResult};
+pub use rewriting::turns::Turns;

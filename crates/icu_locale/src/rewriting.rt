@@ -6,7 +6,7 @@ ghost use Rattle.icu_locale.specs.Walk.{IsCount, IsMeeting, IsWalk};
 
 pub mod identifiers;
 mod kinds;
-mod replacing;
+pub mod replacing;
 pub mod turns;
 
 use turns::Turns;

@@ -16,6 +16,12 @@ use super::{Outcome, Rewriting, end_of_run};
 use crate::{AsExpander, CanonicalizeError, LocaleCanonicalizer, Rules};
 use icu_locale_core::{LanguageIdentifier, Variants};
 
+/// What follows an identifier in one turn: by all rules, or by language aliases alone where it is a transform language.
+/// It is the only search for a rule that matches, and it adds one to the turns.
+///
+/// # Errors
+///
+/// `Memory` where what follows has variants and no room was found for them.
 pub fn search<'d, E: AsExpander<'d>>(
     canonicalizer: &LocaleCanonicalizer<'d, E>,
     id: &LanguageIdentifier,

@@ -27,6 +27,8 @@ fn fits<T: PartialEq + Copy>(rule: Option<T>, source: Option<T>) -> bool
     }
 }
 
+/// Whether a rule matches an identifier: its language is `und` or the same, its script and region are absent or the
+/// same, and its variants are all there. It takes no memory.
 pub fn rule_matches(source: &LanguageIdentifier, rule: &LanguageIdentifier) -> bool
     ensures { result ≡ matches source.now rule.now }
 {
@@ -56,6 +58,11 @@ fn replaced_language(source: Language, rule: Language, replacement: Language) ->
     }
 }
 
+/// What a rule makes of an identifier that it matches.
+///
+/// # Errors
+///
+/// `Memory` where the replacement has variants and no room was found for them.
 pub fn replacement(
     source: &LanguageIdentifier,
     rule: &LanguageIdentifier,
