@@ -1,9 +1,8 @@
 -- Minimal forms as the least of their classes: they exist, are one, and tell maximal forms apart.
 use Rattle.std.proofs.Common.{◌≡◌, ◌≢◌, ◌⊎◌, ◌↔◌, refl, ap, subst, sym, ◌∙◌, inl, inr, ⊎_elim, arith}
 use Rattle.icu_locale_core.specs.declared.langid.LanguageIdentifier.{LanguageIdentifier}
-use Rattle.icu_locale.specs.declared.expander.Favor.{Favor}
 use Rattle.icu_locale.specs.LikelySubtags.{LikelySubtags, IsBare, IsModified, locale_of, with_locale, maximal_locale, maximal}
-use Rattle.icu_locale.specs.Minimal.{Precedes, IsInClass, IsLeast, IsMinimalForm}
+use Rattle.icu_locale.specs.Minimal.{Favor, Precedes, IsInClass, IsLeast, IsMinimalForm}
 use Rattle.icu_locale.specs.Settled.{IsSettled}
 use Rattle.icu_locale.specs.Trials.{first_trial, trials}
 use Rattle.icu_locale.proofs.Least.{IsMinimalForm-first_trial}
@@ -57,9 +56,10 @@ maximal_of_minimal favor likely x y settled is = (minimal_form_is_least favor li
 
 -- minimal forms are equal exactly where maximal forms are
 pub minimal_forms_tell_apart : (favor : Favor) (likely : LikelySubtags) (x y u v : LanguageIdentifier) → IsSettled likely (maximal likely x) → IsSettled likely (maximal likely y) → IsMinimalForm favor likely x u → IsMinimalForm favor likely y v → (u ≡ v) ↔ (maximal likely x ≡ maximal likely y)
-minimal_forms_tell_apart favor likely x y u v sx sy is_u is_v =
-    (λ same. sym (maximal_of_minimal favor likely x u sx is_u) ∙ ap (maximal likely) same ∙ maximal_of_minimal favor likely y v sy is_v,
-     λ same. minimal_form_is_one favor likely y u v (same_minimal_form favor likely x y u same is_u) is_v)
+minimal_forms_tell_apart favor likely x y u v sx sy is_u is_v = (
+  λ same. sym (maximal_of_minimal favor likely x u sx is_u) ∙ ap (maximal likely) same ∙ maximal_of_minimal favor likely y v sy is_v,
+  λ same. minimal_form_is_one favor likely y u v (same_minimal_form favor likely x y u same is_u) is_v,
+)
 
 -- over a settled table: maximizing again changes nothing
 pub maximal_of_maximal : (likely : LikelySubtags) (x : LanguageIdentifier) → IsSettled likely (maximal likely x) → maximal likely (maximal likely x) ≡ maximal likely x

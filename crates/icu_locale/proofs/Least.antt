@@ -4,10 +4,8 @@ use Rattle.std.proofs.lemmas.Bool.{cases_lt, false≢true}
 use Rattle.icu_locale_core.specs.TextSet.{len}
 use Rattle.icu_locale_core.specs.declared.langid.LanguageIdentifier.{LanguageIdentifier}
 use Rattle.icu_provider.specs.declared.data_locale.DataLocale.{DataLocale}
-use Rattle.icu_locale.specs.declared.expander.Favor.{Favor}
-use Rattle.icu_locale.specs.declared.expander.Favor.TheVariants.{Region, Script}
-use Rattle.icu_locale.specs.LikelySubtags.{LikelySubtags, known_subtag, unknown_script, unknown_region, bare_locale, first_found, keys, maximal_of_bare, maximal_locale, locale_of, with_locale, maximal}
-use Rattle.icu_locale.specs.Minimal.{count, subtag_count, favored, Precedes, IsInClass, IsLeast, IsMinimalForm}
+use Rattle.icu_locale.specs.LikelySubtags.{LikelySubtags, known_subtag, unknown_script, unknown_region, bare_locale, first_found, keys, maximal_locale, locale_of, with_locale}
+use Rattle.icu_locale.specs.Minimal.{Favor, RegionFirst, ScriptFirst, count, Precedes, IsInClass, IsMinimalForm}
 use Rattle.icu_locale.specs.Trials.{same_locale, alone, with_favored, with_other, first_trial, trials}
 use Rattle.icu_locale.proofs.Locales.{same_locale-Decides}
 use Rattle.icu_locale.proofs.Maximal.{known_subtag-cases, maximal_locale-bare, filled-script, filled-region}
@@ -91,14 +89,17 @@ module _ (likely : LikelySubtags) (x : LanguageIdentifier) where
       let script = part_of unknown_script z.script m.script (⊎_elim inl (λ e. inr (sym (ap (λ (w : DataLocale). w.script) is_m) ∙ e)) (filled-script bare found)) in
       let region = part_of unknown_region z.region m.region (⊎_elim inl (λ e. inr (sym (ap (λ (w : DataLocale). w.region) is_m) ∙ e)) (filled-region bare found)) in
       let language : z.language ≡ m.language = member.language in
-      let same : bare ≡ candidate m script.0 region.0 = λ i. record { language = language i; script = script.1 i; region = region.1 i } in
-      (script.0, region.0, record {
-        leading = (same_locale-Decides _ m).1 (ap (maximal_locale likely) (sym same) ∙ maximal_locale-bare likely (locale_of z) ∙ is_m);
-        script = script.2;
-        region = region.2;
-        language = language;
-        variants = ap (λ (w : LanguageIdentifier). w.variants) member.same;
-      })
+      let same : bare ≡ candidate m script.0 region.0 = λ i. record { language = language i; script = script.1 i; region = region.1 i } in (
+        script.0,
+        region.0,
+        record {
+          leading = (same_locale-Decides _ m).1 (ap (maximal_locale likely) (sym same) ∙ maximal_locale-bare likely (locale_of z) ∙ is_m);
+          script = script.2;
+          region = region.2;
+          language = language;
+          variants = ap (λ (w : LanguageIdentifier). w.variants) member.same;
+        },
+      )
 
   -- a member with no more subtags than its candidate is the candidate
   meets : (z : LanguageIdentifier) (s r : Bool) → IsShaped z s r → count z.script + count z.region ≤ one s + one r → trial s r ≡ z
@@ -118,24 +119,24 @@ module _ (likely : LikelySubtags) (x : LanguageIdentifier) where
   beats_own favor z s r shape = ⊎_elim (λ lt. inr (fewer favor z s r shape.variants lt)) (λ few. inl (meets z s r shape few)) (cases_lt (one s + one r) (count z.script + count z.region))
 
   -- of two that are equally short, the one with the region precedes
-  tied_region : (z : LanguageIdentifier) → z.variants ≡ x.variants → 1 ≤ count z.script → count z.script + count z.region ≤ 1 → Precedes Region (trial false true) z
+  tied_region : (z : LanguageIdentifier) → z.variants ≡ x.variants → 1 ≤ count z.script → count z.script + count z.region ≤ 1 → Precedes RegionFirst (trial false true) z
   tied_region z variants there few = ⊎_elim
-    (λ absent. inl (omega (arith, absent, ap len variants)))
-    (λ present. inr (omega (arith, present.0, count-one z.script, ap len variants), present.1, count-zero z.region (omega arith)))
-    (presence m.region)
+      (λ absent. inl (omega (arith, absent, ap len variants)))
+      (λ present. inr (omega (arith, present.0, count-one z.script, ap len variants), present.1, count-zero z.region (omega arith)))
+      (presence m.region)
 
   -- or the one with the script
-  tied_script : (z : LanguageIdentifier) → z.variants ≡ x.variants → 1 ≤ count z.region → count z.script + count z.region ≤ 1 → Precedes Script (trial true false) z
+  tied_script : (z : LanguageIdentifier) → z.variants ≡ x.variants → 1 ≤ count z.region → count z.script + count z.region ≤ 1 → Precedes ScriptFirst (trial true false) z
   tied_script z variants there few = ⊎_elim
-    (λ absent. inl (omega (arith, absent, ap len variants)))
-    (λ present. inr (omega (arith, present.0, count-one z.region, ap len variants), present.1, count-zero z.script (omega arith)))
-    (presence m.script)
+      (λ absent. inl (omega (arith, absent, ap len variants)))
+      (λ present. inr (omega (arith, present.0, count-one z.region, ap len variants), present.1, count-zero z.script (omega arith)))
+      (presence m.script)
 
-  beats_region : (z : LanguageIdentifier) → IsShaped z true false → Beats Region false true z
-  beats_region z shape = inr (⊎_elim (λ lt. fewer Region z false true shape.variants lt) (λ few. tied_region z shape.variants shape.script.at_least few) (cases_lt 1 (count z.script + count z.region)))
+  beats_region : (z : LanguageIdentifier) → IsShaped z true false → Beats RegionFirst false true z
+  beats_region z shape = inr (⊎_elim (λ lt. fewer RegionFirst z false true shape.variants lt) (λ few. tied_region z shape.variants shape.script.at_least few) (cases_lt 1 (count z.script + count z.region)))
 
-  beats_script : (z : LanguageIdentifier) → IsShaped z false true → Beats Script true false z
-  beats_script z shape = inr (⊎_elim (λ lt. fewer Script z true false shape.variants lt) (λ few. tied_script z shape.variants shape.region.at_least few) (cases_lt 1 (count z.script + count z.region)))
+  beats_script : (z : LanguageIdentifier) → IsShaped z false true → Beats ScriptFirst true false z
+  beats_script z shape = inr (⊎_elim (λ lt. fewer ScriptFirst z true false shape.variants lt) (λ few. tied_script z shape.variants shape.region.at_least few) (cases_lt 1 (count z.script + count z.region)))
 
   -- the language alone is the least where it leads to the maximal form
   least_alone : (favor : Favor) (z : LanguageIdentifier) (s r : Bool) → IsShaped z s r → Beats favor false false z
@@ -145,30 +146,30 @@ module _ (likely : LikelySubtags) (x : LanguageIdentifier) where
   least_alone favor z true true shape = inr (fewer favor z false false shape.variants (omega (arith, shape.script.at_least)))
 
   -- then the favored trial
-  least_region : leads false false ≡ false → (z : LanguageIdentifier) (s r : Bool) → IsShaped z s r → Beats Region false true z
+  least_region : leads false false ≡ false → (z : LanguageIdentifier) (s r : Bool) → IsShaped z s r → Beats RegionFirst false true z
   least_region a z false false shape = absurd (false≢true (sym a ∙ shape.leading))
-  least_region a z false true shape = beats_own Region z false true shape
+  least_region a z false true shape = beats_own RegionFirst z false true shape
   least_region a z true false shape = beats_region z shape
-  least_region a z true true shape = inr (fewer Region z false true shape.variants (omega (arith, shape.script.at_least, shape.region.at_least)))
+  least_region a z true true shape = inr (fewer RegionFirst z false true shape.variants (omega (arith, shape.script.at_least, shape.region.at_least)))
 
-  least_script : leads false false ≡ false → (z : LanguageIdentifier) (s r : Bool) → IsShaped z s r → Beats Script true false z
+  least_script : leads false false ≡ false → (z : LanguageIdentifier) (s r : Bool) → IsShaped z s r → Beats ScriptFirst true false z
   least_script a z false false shape = absurd (false≢true (sym a ∙ shape.leading))
-  least_script a z true false shape = beats_own Script z true false shape
+  least_script a z true false shape = beats_own ScriptFirst z true false shape
   least_script a z false true shape = beats_script z shape
-  least_script a z true true shape = inr (fewer Script z true false shape.variants (omega (arith, shape.script.at_least, shape.region.at_least)))
+  least_script a z true true shape = inr (fewer ScriptFirst z true false shape.variants (omega (arith, shape.script.at_least, shape.region.at_least)))
 
   -- then the other trial
-  least_other_script : leads false false ≡ false → leads false true ≡ false → (z : LanguageIdentifier) (s r : Bool) → IsShaped z s r → Beats Region true false z
+  least_other_script : leads false false ≡ false → leads false true ≡ false → (z : LanguageIdentifier) (s r : Bool) → IsShaped z s r → Beats RegionFirst true false z
   least_other_script a b z false false shape = absurd (false≢true (sym a ∙ shape.leading))
   least_other_script a b z false true shape = absurd (false≢true (sym b ∙ shape.leading))
-  least_other_script a b z true false shape = beats_own Region z true false shape
-  least_other_script a b z true true shape = inr (fewer Region z true false shape.variants (omega (arith, shape.script.at_least, shape.region.at_least)))
+  least_other_script a b z true false shape = beats_own RegionFirst z true false shape
+  least_other_script a b z true true shape = inr (fewer RegionFirst z true false shape.variants (omega (arith, shape.script.at_least, shape.region.at_least)))
 
-  least_other_region : leads false false ≡ false → leads true false ≡ false → (z : LanguageIdentifier) (s r : Bool) → IsShaped z s r → Beats Script false true z
+  least_other_region : leads false false ≡ false → leads true false ≡ false → (z : LanguageIdentifier) (s r : Bool) → IsShaped z s r → Beats ScriptFirst false true z
   least_other_region a b z false false shape = absurd (false≢true (sym a ∙ shape.leading))
   least_other_region a b z true false shape = absurd (false≢true (sym b ∙ shape.leading))
-  least_other_region a b z false true shape = beats_own Script z false true shape
-  least_other_region a b z true true shape = inr (fewer Script z false true shape.variants (omega (arith, shape.script.at_least, shape.region.at_least)))
+  least_other_region a b z false true shape = beats_own ScriptFirst z false true shape
+  least_other_region a b z true true shape = inr (fewer ScriptFirst z false true shape.variants (omega (arith, shape.script.at_least, shape.region.at_least)))
 
   -- then the maximal form itself
   least_whole : (favor : Favor) → leads false false ≡ false → leads false true ≡ false → leads true false ≡ false → (z : LanguageIdentifier) (s r : Bool) → IsShaped z s r → Beats favor true true z
@@ -192,22 +193,22 @@ module _ (likely : LikelySubtags) (x : LanguageIdentifier) where
   is_whole favor true d a b c = is_minimal favor true true d (least_whole favor a b c)
   is_whole favor false d a b c = inr (λ z member. let shape = shaped z member in empty a b c d z shape.0 shape.1 shape.2, refl)
 
-  by_region : (a b c : Bool) → leads false false ≡ a → leads false true ≡ b → leads true false ≡ c → IsMinimalForm Region likely x (with_locale x (if a then alone m else (if b then with_favored Region m else (if c then with_other Region m else m))))
-  by_region true b c ea eb ec = is_minimal Region false false ea (least_alone Region)
-  by_region false true c ea eb ec = is_minimal Region false true eb (least_region ea)
-  by_region false false true ea eb ec = is_minimal Region true false ec (least_other_script ea eb)
-  by_region false false false ea eb ec = is_whole Region (leads true true) refl ea eb ec
+  by_region : (a b c : Bool) → leads false false ≡ a → leads false true ≡ b → leads true false ≡ c → IsMinimalForm RegionFirst likely x (with_locale x (if a then alone m else (if b then with_favored RegionFirst m else (if c then with_other RegionFirst m else m))))
+  by_region true b c ea eb ec = is_minimal RegionFirst false false ea (least_alone RegionFirst)
+  by_region false true c ea eb ec = is_minimal RegionFirst false true eb (least_region ea)
+  by_region false false true ea eb ec = is_minimal RegionFirst true false ec (least_other_script ea eb)
+  by_region false false false ea eb ec = is_whole RegionFirst (leads true true) refl ea eb ec
 
-  by_script : (a b c : Bool) → leads false false ≡ a → leads true false ≡ b → leads false true ≡ c → IsMinimalForm Script likely x (with_locale x (if a then alone m else (if b then with_favored Script m else (if c then with_other Script m else m))))
-  by_script true b c ea eb ec = is_minimal Script false false ea (least_alone Script)
-  by_script false true c ea eb ec = is_minimal Script true false eb (least_script ea)
-  by_script false false true ea eb ec = is_minimal Script false true ec (least_other_region ea eb)
-  by_script false false false ea eb ec = is_whole Script (leads true true) refl ea ec eb
+  by_script : (a b c : Bool) → leads false false ≡ a → leads true false ≡ b → leads false true ≡ c → IsMinimalForm ScriptFirst likely x (with_locale x (if a then alone m else (if b then with_favored ScriptFirst m else (if c then with_other ScriptFirst m else m))))
+  by_script true b c ea eb ec = is_minimal ScriptFirst false false ea (least_alone ScriptFirst)
+  by_script false true c ea eb ec = is_minimal ScriptFirst true false eb (least_script ea)
+  by_script false false true ea eb ec = is_minimal ScriptFirst false true ec (least_other_region ea eb)
+  by_script false false false ea eb ec = is_whole ScriptFirst (leads true true) refl ea ec eb
 
   -- the first trial that leads to the maximal form, or that form, is the minimal form
   pub IsMinimalForm-first_trial : (favor : Favor) → IsMinimalForm favor likely x (with_locale x (first_trial likely m (trials favor m)))
-  IsMinimalForm-first_trial Region = by_region _ _ _ refl refl refl
-  IsMinimalForm-first_trial Script = by_script _ _ _ refl refl refl
+  IsMinimalForm-first_trial RegionFirst = by_region _ _ _ refl refl refl
+  IsMinimalForm-first_trial ScriptFirst = by_script _ _ _ refl refl refl
 
 -- so what the trials leave of an identifier is its minimal form
 pub IsMinimalForm-trials : (favor : Favor) (likely : LikelySubtags) (x y : LanguageIdentifier) (given minimal : DataLocale) → given ≡ locale_of x → minimal ≡ first_trial likely (maximal_locale likely given) (trials favor (maximal_locale likely given)) → y ≡ with_locale x minimal → IsMinimalForm favor likely x y

@@ -1,9 +1,11 @@
 mod Changes
 mod Classes
+mod Directions
 mod Least
 mod Locales
 mod Maximal
 mod Settling
+mod TableLaws
 mod TableRows
 pub mod Bare
 pub mod Canonicals

@@ -1,16 +1,16 @@
 -- A table whose rows' keys settle is settled, and a key that does not settle is an identifier that does not.
-use Rattle.std.proofs.Common.{◌≡◌, ◌≢◌, ◌⊎◌, ℕ, List, [], ◌∷◌, Bool, true, false, ◌&&◌, Option, Some, None, is_some, MatchBool, if◌then◌else◌, refl, ap, subst, sym, ◌∙◌, inl, inr, ⊎_elim}
+use Rattle.std.proofs.Common.{◌≡◌, ℕ, List, Bool, true, false, Option, Some, None, is_some, MatchBool, if◌then◌else◌, refl, ap, subst, sym, ◌∙◌}
 use Rattle.std.specs.Option.{unwrap_or, option_or}
 use Rattle.std.specs.Str.{bytes_eq}
 use Rattle.std.specs.FinMap as fin
 use Rattle.std.proofs.lemmas.Bool.{and_parts, and_from, false≢true}
 use Rattle.icu_locale_core.specs.Subtag.{und}
-use Rattle.icu_locale_core.specs.TextSet.{text_cmp, empty, contains}
+use Rattle.icu_locale_core.specs.TextSet.{text_cmp, empty}
 use Rattle.icu_locale_core.specs.Identifier.{IsIdentifier}
 use Rattle.icu_locale_core.specs.declared.langid.LanguageIdentifier.{LanguageIdentifier}
 use Rattle.icu_provider.specs.declared.data_locale.DataLocale.{DataLocale}
-use Rattle.icu_locale.specs.LikelySubtags.{Key, LanguageRegion, LanguageScript, LanguageAlone, ScriptRegion, ScriptAlone, RegionAlone, LikelySubtags, Triple, known_subtag, unknown_script, unknown_region, bare_locale, keys, known_keys, und_keys, first_found, filled, maximal_of_bare, maximal_locale, locale_of, with_locale, maximal}
-use Rattle.icu_locale.specs.Settled.{IsSettled, AreSettled}
+use Rattle.icu_locale.specs.LikelySubtags.{Key, LanguageRegion, LanguageScript, LanguageAlone, ScriptAlone, RegionAlone, LikelySubtags, Triple, known_subtag, unknown_script, unknown_region, bare_locale, known_keys, und_keys, first_found, maximal_of_bare, maximal_locale, locale_of, with_locale}
+use Rattle.icu_locale.specs.Settled.{AreSettled}
 use Rattle.icu_locale.specs.SettledRows.{key_locale, IsLocale, is_settled_locale, settles, IsUnsettled}
 use Rattle.icu_locale.specs.Trials.{same_locale}
 use Rattle.icu_locale.proofs.Locales.{same_locale-Decides, same_text}

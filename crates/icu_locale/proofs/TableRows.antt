@@ -1,28 +1,33 @@
 -- A key of the likely table is that of some row, and its own subtags are looked at.
-use Rattle.std.proofs.Common.{◌≡◌, ◌⊎◌, ◌↔◌, ℕ, List, Bool, true, false, ◌&&◌, Option, Some, None, IfSome, MatchBool, IsTrue, if◌then◌else◌, refl, ap, subst, sym, ◌∙◌, inl, inr, ⊎_elim}
+use Rattle.std.proofs.Common.{◌≡◌, ◌⊎◌, ◌↔◌, List, Bool, true, false, ◌&&◌, map, Option, Some, None, IfSome, MatchBool, IsTrue, if◌then◌else◌, refl, ap, subst, sym, ◌∙◌, inl, inr, ⊎_elim}
 use Rattle.std.specs.Option.{option_or, option_map}
 use Rattle.std.specs.Str.{bytes_eq}
+use Rattle.std.specs.List.{Contains}
 use Rattle.std.specs.Borrow.{Bor}
 use Rattle.std.specs.declared.cmp.Ordering.{Ordering}
 use Rattle.std.specs.declared.cmp.Ordering.TheVariants.{Less, Equal, Greater}
 use Rattle.std.specs.Ordering.{ordering_then}
 use Rattle.std.specs.FinMap.{IsAntisymmetric, slice_cmp-IsAntisymmetric, nat_cmp-IsAntisymmetric}
+use Rattle.std.proofs.lemmas.List.{get_or-map, length-map}
 use Rattle.std.proofs.lemmas.Bool.{and_parts, false≢true}
-use Rattle.icu_locale_core.specs.Subtag.{und}
 use Rattle.icu_locale_core.specs.TextSet.{text_cmp}
 use Rattle.icu_provider.specs.Maps.{value_at, pair_cmp}
 use Rattle.icu_provider.proofs.Maps.{Contains-from_lookup}
 use Rattle.icu_provider.specs.declared.likely.extended.LikelySubtagsExtended.{LikelySubtagsExtended}
 use Rattle.icu_locale.specs.LikelySubtags.{Key, LanguageRegion, LanguageScript, LanguageAlone, ScriptRegion, ScriptAlone, RegionAlone, LikelySubtags, Triple}
-use Rattle.icu_locale.specs.Expander.{likely, common_row, extended_row, extension_row, und_row}
+use Rattle.icu_locale.specs.Expander.{Rows, common_rows, extended_rows, row_at, common_row, extension_row, und_row, likely, keys_by}
 use Rattle.icu_locale.specs.Settled.{AreSettled}
-use Rattle.icu_locale.specs.SettledRows.{settles, AllSettle, RowsSettle, CommonRowsSettle, ExtendedRowsSettle, UndRowsSettle, AllRowsSettle, IsUnsettled}
+use Rattle.icu_locale.specs.SettledRows.{settles, AllSettle, RowsSettle, UndRowsSettle, AllRowsSettle, IsUnsettled}
 use Rattle.icu_locale.specs.declared.expander.LocaleExpander.{LocaleExpander}
 use Rattle.icu_locale.proofs.Locales.{same_text}
 use Rattle.icu_locale.proofs.Settling.{AreSettled-from_rows}
 
+-- what is in a list is in its image
+Contains-map : {A B : Type 0} (f : A → B) (xs : List A) (x : A) → Contains xs x → Contains (map f xs) (f x)
+Contains-map f xs x (k, in_range, is) = (k, rw length-map in_range, get_or-map f xs k x (f x) in_range ∙ ap f is)
+
 -- texts that tie are equal
-text_same : IsAntisymmetric text_cmp
+pub text_same : IsAntisymmetric text_cmp
 text_same = slice_cmp-IsAntisymmetric nat_cmp-IsAntisymmetric
 
 both_tie : (a b : Ordering) → ordering_then a b ≡ Equal → (a ≡ Equal) × (b ≡ Equal)
@@ -31,46 +36,52 @@ both_tie Equal b e = (refl, e)
 both_tie Greater b e = absurd (cc)
 
 -- so are pairs
-pair_same : IsAntisymmetric pair_cmp
+pub pair_same : IsAntisymmetric pair_cmp
 pair_same x y e =
     let ties = both_tie (text_cmp x.0 y.0) (text_cmp x.1 y.1) e in
     let first : x.0 ≡ y.0 = text_same x.0 y.0 ties.0 in
     let second : x.1 ≡ y.1 = text_same x.1 y.1 ties.1 in
     λ i. (first i, second i)
 
--- a key with a value is looked at
-settled_at : {K V : Type 0} (compare : K → K → Ordering) → IsAntisymmetric compare → (table : LikelySubtags) (key : K → Key) (rows : List (K × V)) (q : K) (v : V) → AllSettle table key rows → value_at compare rows q ≡ Some v → settles table (key q) ≡ true
-settled_at compare same table key rows q v all found =
+-- a key with a value is that of a row
+pub row_found : {K V : Type 0} (compare : K → K → Ordering) → IsAntisymmetric compare → (rows : List (K × V)) (q : K) (v : V) → value_at compare rows q ≡ Some v → (row : K × V) × Contains rows row × (row.0 ≡ q)
+row_found compare same rows q v found =
     let row = Contains-from_lookup compare rows q v found in
-    let here : settles table (key row.0.0) ≡ true = subst (λ w. settles table (key w.0) ≡ true) row.1.2 (all row.1.0 row.0 row.1.1) in
-    subst (λ w. settles table (key w) ≡ true) (sym (same q row.0.0 row.2)) here
+    (row.0, row.1, sym (same q row.0.0 row.2))
+
+-- so it is looked at
+settled_at : {K V : Type 0} (table : LikelySubtags) (key : K → Key) (rows : List (K × V)) (q : K) → AllSettle table key rows → (row : K × V) × Contains rows row × (row.0 ≡ q) → settles table (key q) ≡ true
+settled_at table key rows q all (row, among, is) = subst (λ w. settles table (key w) ≡ true) is (subst (λ w. settles table (key w.0) ≡ true) among.2 (all among.0 row among.1))
+
+-- and stands among the keys
+pub key_among : {K V : Type 0} (key : K → Key) (rows : List (K × V)) (q : K) → (row : K × V) × Contains rows row × (row.0 ≡ q) → Contains (keys_by key rows) (key q)
+key_among key rows q (row, among, is) = subst (λ w. Contains (keys_by key rows) (key w)) is (Contains-map (λ r. key r.0) rows row among)
 
 -- a value that was mapped was there
-mapped : {A B : Type 0} (f : A → B) (o : Option A) (y : B) → option_map f o ≡ Some y → (x : A) × (o ≡ Some x)
+pub mapped : {A B : Type 0} (f : A → B) (o : Option A) (y : B) → option_map f o ≡ Some y → (x : A) × (o ≡ Some x) × (f x ≡ y)
 mapped f None y e = absurd (cc)
-mapped f (Some x) y e = (x, refl)
+mapped f (Some x) y e = (x, refl, cc)
 
-either : {A : Type 0} (a b : Option A) (x : A) → option_or a b ≡ Some x → (a ≡ Some x) ⊎ (b ≡ Some x)
+pub either : {A : Type 0} (a b : Option A) (x : A) → option_or a b ≡ Some x → (a ≡ Some x) ⊎ (b ≡ Some x)
 either None b x e = inr e
 either (Some y) b x e = inl e
 
-test_of : {A : Type 0} (b : Bool) (x y : A) → (if b then Some x else None) ≡ Some y → b ≡ true
+pub test_of : {A : Type 0} (b : Bool) (x y : A) → (if b then Some x else None) ≡ Some y → b ≡ true
 test_of true x y e = refl
 test_of false x y e = absurd (cc)
 
 module _ (table : LikelySubtags) where
-  -- a row of the extended table
-  extended_settles : (a : LikelySubtagsExtended) → RowsSettle table a.language a.language_script a.language_region a.script_region a.script a.region → (k : Key) (t : Triple) → extended_row a k ≡ Some t → settles table k ≡ true
-  extended_settles a all (LanguageRegion l r) t e = let v = mapped _ (value_at pair_cmp a.language_region (l, r)) t e in settled_at pair_cmp pair_same table (λ k. LanguageRegion k.0 k.1) a.language_region (l, r) v.0 all.language_region_rows v.1
-  extended_settles a all (LanguageScript l s) t e = let v = mapped _ (value_at pair_cmp a.language_script (l, s)) t e in settled_at pair_cmp pair_same table (λ k. LanguageScript k.0 k.1) a.language_script (l, s) v.0 all.language_script_rows v.1
-  extended_settles a all (LanguageAlone l) t e = let v = mapped _ (value_at text_cmp a.language l) t e in settled_at text_cmp text_same table LanguageAlone a.language l v.0 all.language_rows v.1
-  extended_settles a all (ScriptRegion s r) t e = let v = mapped _ (value_at pair_cmp a.script_region (s, r)) t e in settled_at pair_cmp pair_same table (λ k. ScriptRegion k.0 k.1) a.script_region (s, r) v.0 all.script_region_rows v.1
-  extended_settles a all (ScriptAlone s) t e = let v = mapped _ (value_at text_cmp a.script s) t e in settled_at text_cmp text_same table ScriptAlone a.script s v.0 all.script_rows v.1
-  extended_settles a all (RegionAlone r) t e = let v = mapped _ (value_at text_cmp a.region r) t e in settled_at text_cmp text_same table RegionAlone a.region r v.0 all.region_rows v.1
+  row_settles : (rows : Rows) → RowsSettle table rows → (k : Key) (t : Triple) → row_at rows k ≡ Some t → settles table k ≡ true
+  row_settles rows all (LanguageRegion l r) t e = let v = mapped _ (value_at pair_cmp rows.language_region (l, r)) t e in settled_at table (λ k. LanguageRegion k.0 k.1) rows.language_region (l, r) all.language_region (row_found pair_cmp pair_same _ (l, r) v.0 v.1)
+  row_settles rows all (LanguageScript l s) t e = let v = mapped _ (value_at pair_cmp rows.language_script (l, s)) t e in settled_at table (λ k. LanguageScript k.0 k.1) rows.language_script (l, s) all.language_script (row_found pair_cmp pair_same _ (l, s) v.0 v.1)
+  row_settles rows all (LanguageAlone l) t e = let v = mapped _ (value_at text_cmp rows.language l) t e in settled_at table LanguageAlone rows.language l all.language (row_found text_cmp text_same _ l v.0 v.1)
+  row_settles rows all (ScriptRegion s r) t e = let v = mapped _ (value_at pair_cmp rows.script_region (s, r)) t e in settled_at table (λ k. ScriptRegion k.0 k.1) rows.script_region (s, r) all.script_region (row_found pair_cmp pair_same _ (s, r) v.0 v.1)
+  row_settles rows all (ScriptAlone s) t e = let v = mapped _ (value_at text_cmp rows.script s) t e in settled_at table ScriptAlone rows.script s all.script (row_found text_cmp text_same _ s v.0 v.1)
+  row_settles rows all (RegionAlone r) t e = let v = mapped _ (value_at text_cmp rows.region r) t e in settled_at table RegionAlone rows.region r all.region (row_found text_cmp text_same _ r v.0 v.1)
 
-  extension_settles : (extended : Option (Bor LikelySubtagsExtended)) → IfSome extended (λ x. let a = x.now in RowsSettle table a.language a.language_script a.language_region a.script_region a.script a.region) → (k : Key) (t : Triple) → extension_row extended k ≡ Some t → settles table k ≡ true
+  extension_settles : (extended : Option (Bor LikelySubtagsExtended)) → IfSome extended (λ x. RowsSettle table (extended_rows x.now)) → (k : Key) (t : Triple) → extension_row extended k ≡ Some t → settles table k ≡ true
   extension_settles None all k t e = absurd (cc)
-  extension_settles (Some a) all k t e = extended_settles a.now all k t e
+  extension_settles (Some a) all k t e = row_settles (extended_rows a.now) all k t e
 
   -- a row that the triple of `und` serves as
   und_settles : (u : Triple) → UndRowsSettle table u → (k : Key) (t : Triple) → und_row u k ≡ Some t → settles table k ≡ true
@@ -85,22 +96,13 @@ module _ (table : LikelySubtags) where
   und_settles u all (ScriptAlone s) t e = ap (λ w. settles table (ScriptAlone w)) (same_text s u.1 (test_of (bytes_eq s u.1) u t e)) ∙ all.script
   und_settles u all (RegionAlone r) t e = ap (λ w. settles table (RegionAlone w)) (same_text r u.2 (test_of (bytes_eq r u.2) u t e)) ∙ all.region
 
--- a row of the common tables
-common_settles : (e : LocaleExpander) → CommonRowsSettle e → (k : Key) (t : Triple) → common_row e.language.now e.script_region.now k ≡ Some t → settles (likely e) k ≡ true
-common_settles e all (LanguageRegion l r) t f = let v = mapped _ (value_at pair_cmp e.language.now.language_region (l, r)) t f in settled_at pair_cmp pair_same (likely e) (λ k. LanguageRegion k.0 k.1) _ (l, r) v.0 all.language_region_rows v.1
-common_settles e all (LanguageScript l s) t f = let v = mapped _ (value_at pair_cmp e.language.now.language_script (l, s)) t f in settled_at pair_cmp pair_same (likely e) (λ k. LanguageScript k.0 k.1) _ (l, s) v.0 all.language_script_rows v.1
-common_settles e all (LanguageAlone l) t f = let v = mapped _ (value_at text_cmp e.language.now.language l) t f in settled_at text_cmp text_same (likely e) LanguageAlone _ l v.0 all.language_rows v.1
-common_settles e all (ScriptRegion s r) t f = let v = mapped _ (value_at pair_cmp e.script_region.now.script_region (s, r)) t f in settled_at pair_cmp pair_same (likely e) (λ k. ScriptRegion k.0 k.1) _ (s, r) v.0 all.script_region_rows v.1
-common_settles e all (ScriptAlone s) t f = let v = mapped _ (value_at text_cmp e.script_region.now.script s) t f in settled_at text_cmp text_same (likely e) ScriptAlone _ s v.0 all.script_rows v.1
-common_settles e all (RegionAlone r) t f = let v = mapped _ (value_at text_cmp e.script_region.now.region r) t f in settled_at text_cmp text_same (likely e) RegionAlone _ r v.0 all.region_rows v.1
-
 -- each key that the table has settles
 every_row : (e : LocaleExpander) → AllRowsSettle e → (k : Key) (t : Triple) → likely e k ≡ Some t → settles (likely e) k ≡ true
 every_row e all k t f =
-    let common = common_row e.language.now e.script_region.now k in
+    let common = common_row e k in
     let extended = extension_row e.extended k in
     let served = und_row e.language.now.und k in
-    ⊎_elim (common_settles e all.common k t) (λ rest. ⊎_elim (extension_settles (likely e) e.extended all.extended k t) (und_settles (likely e) e.language.now.und all.und_rows k t) (either extended served t rest)) (either common (option_or extended served) t f)
+    ⊎_elim (row_settles (likely e) (common_rows e.language.now e.script_region.now) all.common k t) (λ rest. ⊎_elim (extension_settles (likely e) e.extended all.extended k t) (und_settles (likely e) e.language.now.und all.und_rows k t) (either extended served t rest)) (either common (option_or extended served) t f)
 
 -- the table is settled exactly where its rows are
 pub settled_exactly : (e : LocaleExpander) (b : Bool) → MatchBool b (AllRowsSettle e) (IsUnsettled (likely e)) → IsTrue b ↔ AreSettled (likely e)

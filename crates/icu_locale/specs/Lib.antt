@@ -1,5 +1,6 @@
 pub mod Canonical
 pub mod Change
+pub mod Direction
 pub mod Ends
 pub mod Expander
 pub mod Kinds

@@ -3,8 +3,11 @@ use Rattle.std.specs.Prelude.{◌≡◌, ℕ, List, ◌+◌, ◌<◌, Option, So
 use Rattle.icu_locale_core.specs.TextSet.{len}
 use Rattle.icu_locale_core.specs.declared.langid.LanguageIdentifier.{LanguageIdentifier}
 use Rattle.icu_locale.specs.LikelySubtags.{LikelySubtags, maximal}
-use Rattle.icu_locale.specs.declared.expander.Favor.{Favor}
-use Rattle.icu_locale.specs.declared.expander.Favor.TheVariants.{Region, Script}
+
+-- which of two identifiers with equally many subtags is taken: the one with the region, or the one with the script
+pub data Favor : Type 0 where
+  RegionFirst : Favor
+  ScriptFirst : Favor
 
 -- 1 for a subtag that is there
 abbrev pub count : Option (List ℕ) → ℕ
@@ -17,8 +20,8 @@ subtag_count x = 1 + count x.script + count x.region + len x.variants
 
 -- the subtag that decides between two identifiers with equally many
 abbrev pub favored : Favor → LanguageIdentifier → Option (List ℕ)
-favored Region x = x.region
-favored Script x = x.script
+favored RegionFirst x = x.region
+favored ScriptFirst x = x.script
 
 -- y has fewer subtags than z, or as many and, unlike z, the favored one
 abbrev pub Precedes : Favor → LanguageIdentifier → LanguageIdentifier → Type 0

@@ -1,5 +1,5 @@
 -- How a table is seen to be settled, row by row: what only the expander's own functions cite.
-use Rattle.std.specs.Prelude.{◌≡◌, ℕ, Bool, true, ◌&&◌, List, Option, Some, None, IfSome}
+use Rattle.std.specs.Prelude.{◌≡◌, Bool, true, ◌&&◌, List, Some, None, IfSome}
 use Rattle.std.specs.List.{All}
 use Rattle.icu_locale_core.specs.Subtag.{und, IsLanguage, IsScript, IsRegion}
 use Rattle.icu_locale_core.specs.Identifier.{IsIdentifier}
@@ -7,7 +7,7 @@ use Rattle.icu_locale_core.specs.declared.langid.LanguageIdentifier.{LanguageIde
 use Rattle.icu_provider.specs.declared.data_locale.DataLocale.{DataLocale}
 use Rattle.icu_locale.specs.LikelySubtags.{Key, LanguageRegion, LanguageScript, LanguageAlone, ScriptRegion, ScriptAlone, RegionAlone, LikelySubtags, Triple, bare_locale, maximal_locale, maximal}
 use Rattle.icu_locale.specs.declared.expander.LocaleExpander.{LocaleExpander}
-use Rattle.icu_locale.specs.Expander.{likely}
+use Rattle.icu_locale.specs.Expander.{Rows, common_rows, extended_rows, likely}
 use Rattle.icu_locale.specs.Settled.{IsSettled}
 use Rattle.icu_locale.specs.Trials.{same_locale}
 
@@ -44,22 +44,22 @@ pub record IsUnsettled (table : LikelySubtags) : Type 0 where
   pub is_identifier : IsIdentifier identifier
   pub unsettled : IsSettled table (maximal table identifier) → ⊥
 
--- so do the rows of each of the six maps of a table
-pub record RowsSettle {A B C D E F : Type 0} (table : LikelySubtags) (language : List (List ℕ × A)) (language_script : List ((List ℕ × List ℕ) × B)) (language_region : List ((List ℕ × List ℕ) × C)) (script_region : List ((List ℕ × List ℕ) × D)) (script : List (List ℕ × E)) (region : List (List ℕ × F)) : Type 0 where
-  pub language_rows : AllSettle table LanguageAlone language
-  pub language_script_rows : AllSettle table (λ k. LanguageScript k.0 k.1) language_script
-  pub language_region_rows : AllSettle table (λ k. LanguageRegion k.0 k.1) language_region
-  pub script_region_rows : AllSettle table (λ k. ScriptRegion k.0 k.1) script_region
-  pub script_rows : AllSettle table ScriptAlone script
-  pub region_rows : AllSettle table RegionAlone region
+-- the keys of all rows of a table settle
+pub record RowsSettle (table : LikelySubtags) (rows : Rows) : Type 0 where
+  pub language : AllSettle table LanguageAlone rows.language
+  pub language_script : AllSettle table (λ k. LanguageScript k.0 k.1) rows.language_script
+  pub language_region : AllSettle table (λ k. LanguageRegion k.0 k.1) rows.language_region
+  pub script_region : AllSettle table (λ k. ScriptRegion k.0 k.1) rows.script_region
+  pub script : AllSettle table ScriptAlone rows.script
+  pub region : AllSettle table RegionAlone rows.region
 
--- the rows of the common tables settle
+-- those of the common tables do
 abbrev pub CommonRowsSettle : LocaleExpander → Type 0
-CommonRowsSettle e = let a = e.language.now in let b = e.script_region.now in RowsSettle (likely e) a.language a.language_script a.language_region b.script_region b.script b.region
+CommonRowsSettle e = RowsSettle (likely e) (common_rows e.language.now e.script_region.now)
 
--- the rows of the extended table settle, if there is one
+-- those of the extended table do, if there is one
 abbrev pub ExtendedRowsSettle : LocaleExpander → Type 0
-ExtendedRowsSettle e = IfSome e.extended (λ x. let a = x.now in RowsSettle (likely e) a.language a.language_script a.language_region a.script_region a.script a.region)
+ExtendedRowsSettle e = IfSome e.extended (λ x. RowsSettle (likely e) (extended_rows x.now))
 
 -- the keys that the triple of `und` serves settle
 pub record UndRowsSettle (table : LikelySubtags) (t : Triple) : Type 0 where

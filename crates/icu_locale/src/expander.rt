@@ -2,7 +2,7 @@
 
 ghost use Rattle.std.specs.Prelude.{◌≡◌, ◌≢◌, ◌↔◌, false, Some, None};
 ghost use Rattle.icu_locale.specs.LikelySubtags.{bare_locale, locale_of, with_locale, maximal_of_bare, maximal_locale, maximal, IsModified};
-ghost use Rattle.icu_locale.specs.Trials.{alone, with_favored, with_other};
+ghost use Rattle.icu_locale.specs.Trials.{favor_of, alone, with_favored, with_other};
 
 pub(crate) mod looks;
 
@@ -22,9 +22,9 @@ pub enum TransformResult {
     Unmodified,
 }
 
-// Which of script and region decides between two minimal forms.
+// Which of two equally short trials comes first: the one with the region, or the one with the script.
 #[derive(Clone, Copy, Debug, PartialEq, Eq)]
-pub(crate) enum Favor {
+enum First {
     Region,
     Script,
 }
@@ -42,8 +42,8 @@ pub struct LocaleExpander<'d> {
 
 impl<'d> LocaleExpander<'d> {
     ghost use Rattle.icu_locale.specs.Expander.{likely, seen, common_tables, all_tables};
-    ghost use Rattle.icu_locale.specs.Minimal.{IsMinimalForm};
-    ghost use Rattle.icu_locale.specs.Trials.{trials, first_trial, same_locale};
+    ghost use Rattle.icu_locale.specs.Minimal.{RegionFirst, ScriptFirst, IsMinimalForm};
+    ghost use Rattle.icu_locale.specs.Trials.{favor_of, trials, first_trial, same_locale};
 
     /// Over the common tables alone.
     pub fn new_common(
@@ -99,11 +99,7 @@ impl<'d> LocaleExpander<'d> {
         let language = provider.load_likely_language()?;
         let script_region = provider.load_likely_script_region()?;
         let extended = provider.load_likely_extended()?;
-        Ok(LocaleExpander::new_extended(
-            language,
-            script_region,
-            extended,
-        ))
+        Ok(LocaleExpander::new_extended(language, script_region, extended))
     }
 
     /// Adds the likely subtags: the identifier becomes its maximal form. The answer is `Modified` exactly where a
@@ -127,18 +123,18 @@ impl<'d> LocaleExpander<'d> {
     /// the same maximal form. Of two that are equally short it takes the one with the region. The answer is `Modified`
     /// exactly where the identifier changed.
     pub fn minimize(&self, id: &mut LanguageIdentifier) -> TransformResult
-        ensures minimal { IsMinimalForm Favor.Region (likely self.now) id.old id.new }
+        ensures minimal { IsMinimalForm RegionFirst (likely self.now) id.old id.new }
         ensures modified { (result ≡ TransformResult.Modified) ↔ (id.new ≢ id.old) }
     {
-        self.minimize_favoring(Favor::Region, id)
+        self.minimize_favoring(First::Region, id)
     }
 
     /// As `minimize`, but of two that are equally short it takes the one with the script.
     pub fn minimize_favor_script(&self, id: &mut LanguageIdentifier) -> TransformResult
-        ensures minimal { IsMinimalForm Favor.Script (likely self.now) id.old id.new }
+        ensures minimal { IsMinimalForm ScriptFirst (likely self.now) id.old id.new }
         ensures modified { (result ≡ TransformResult.Modified) ↔ (id.new ≢ id.old) }
     {
-        self.minimize_favoring(Favor::Script, id)
+        self.minimize_favoring(First::Script, id)
     }
 
     /// The script of the maximal form, if it has one.
@@ -148,25 +144,25 @@ impl<'d> LocaleExpander<'d> {
         self.maximal_locale(locale_of(id)).script
     }
 
-    fn minimize_favoring(&self, favor: Favor, id: &mut LanguageIdentifier) -> TransformResult
-        ensures minimal { IsMinimalForm favor (likely self.now) id.old id.new }
+    fn minimize_favoring(&self, first: First, id: &mut LanguageIdentifier) -> TransformResult
+        ensures minimal { IsMinimalForm (favor_of first) (likely self.now) id.old id.new }
         ensures modified { (result ≡ TransformResult.Modified) ↔ (id.new ≢ id.old) }
     {
         let given = locale_of(id);
-        let minimal = self.minimal_locale(favor, given);
+        let minimal = self.minimal_locale(first, given);
         set_locale(id, minimal)
     }
 
     // The first of the three trials that has the maximal form of the given subtags, or that form.
-    fn minimal_locale(&self, favor: Favor, given: DataLocale) -> DataLocale
-        ensures { let m = maximal_locale (likely self.now) given in result ≡ first_trial (likely self.now) m (trials favor m) }
+    fn minimal_locale(&self, first: First, given: DataLocale) -> DataLocale
+        ensures { let m = maximal_locale (likely self.now) given in result ≡ first_trial (likely self.now) m (trials (favor_of first) m) }
     {
         let maximal = self.maximal_locale(given);
         let alone = language_alone(&maximal);
         if self.leads_to(&alone, &maximal) {
             return alone;
         }
-        let (second, third) = with_one(favor, &maximal);
+        let (second, third) = with_one(first, &maximal);
         if self.leads_further(&second, &alone, &maximal) {
             return second;
         }
@@ -233,9 +229,9 @@ fn language_alone(maximal: &DataLocale) -> DataLocale
 }
 
 // The language with the favored subtag, and with the other one.
-fn with_one(favor: Favor, maximal: &DataLocale) -> (DataLocale, DataLocale)
-    ensures favored { result.0 ≡ with_favored favor maximal.now }
-    ensures other { result.1 ≡ with_other favor maximal.now }
+fn with_one(first: First, maximal: &DataLocale) -> (DataLocale, DataLocale)
+    ensures favored { result.0 ≡ with_favored (favor_of first) maximal.now }
+    ensures other { result.1 ≡ with_other (favor_of first) maximal.now }
 {
     let with_region = DataLocale {
         language: maximal.language,
@@ -247,9 +243,9 @@ fn with_one(favor: Favor, maximal: &DataLocale) -> (DataLocale, DataLocale)
         script: maximal.script,
         region: None,
     };
-    match favor {
-        Favor::Region => (with_region, with_script),
-        Favor::Script => (with_script, with_region),
+    match first {
+        First::Region => (with_region, with_script),
+        First::Script => (with_script, with_region),
     }
 }
 

@@ -1,1 +1,4 @@
+mod LineAnswers
 mod LineCuts
+mod Progress
+mod RunEnds

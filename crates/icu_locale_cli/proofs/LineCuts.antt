@@ -13,9 +13,9 @@ without_empty_last-more (c ∷ x) y ys = refl
 split_more : (t : List ℕ) → record { first : List ℕ; others : List (List ℕ); is : slice_split is_line_feed t ≡ first ∷ others }
 split_more [] = record { first = []; others = []; is = refl }
 split_more (c ∷ t) = elim (is_line_feed c) as (λ b. record { first : List ℕ; others : List (List ℕ); is : cond b ([] ∷ slice_split is_line_feed t) (onto_first c (slice_split is_line_feed t)) ≡ first ∷ others }) [
-    | true ↦ record { first = []; others = slice_split is_line_feed t; is = refl }
-    | false ↦ let more = split_more t in record { first = c ∷ more.first; others = more.others; is = ap (onto_first c) more.is }
-  ]
+  | true ↦ record { first = []; others = slice_split is_line_feed t; is = refl }
+  | false ↦ let more = split_more t in record { first = c ∷ more.first; others = more.others; is = ap (onto_first c) more.is }
+]
 
 pub lines-position : (t : List ℕ) (n : ℕ) → position is_line_feed t ≡ Some n → lines t ≡ take n t ∷ lines (drop (n + 1) t)
 lines-position t n at =

@@ -2,5 +2,9 @@ pub mod Answers
 pub mod CliError
 pub mod Commands
 pub mod Lines
+pub mod Loads
 pub mod Output
+pub mod Runs
 pub mod Texts
+pub mod WholeRuns
+pub mod Works

@@ -1,5 +1,7 @@
 -- The lines that are written.
-use Rattle.std.specs.Prelude.{ℕ, List, [], ◌∷◌, ◌++◌, codes}
+use Rattle.std.specs.Prelude.{ℕ, List, [], ◌∷◌, ◌++◌, codes, Bool, true, false, Option, Some, None}
+use Rattle.icu_locale.specs.declared.directionality.Direction.{Direction}
+use Rattle.icu_locale.specs.declared.directionality.Direction.TheVariants.{LeftToRight, RightToLeft}
 use Rattle.icu_locale_core.specs.Identifier.{written}
 use Rattle.icu_locale_core.specs.declared.langid.LanguageIdentifier.{LanguageIdentifier}
 use Rattle.icu_locale.specs.declared.expander.TransformResult.{TransformResult}
@@ -17,3 +19,14 @@ transformed_line x m = written x ++ (codes "\t" ++ (mark m ++ codes "\n"))
 -- `?`, a tab, and the name of the refusal
 abbrev pub refused_line : List ℕ → List ℕ
 refused_line name = codes "?\t" ++ (name ++ codes "\n")
+
+-- `ltr`, `rtl` or `none`
+abbrev pub direction_line : Option Direction → List ℕ
+direction_line (Some LeftToRight) = codes "ltr\n"
+direction_line (Some RightToLeft) = codes "rtl\n"
+direction_line None = codes "none\n"
+
+-- `yes` or `no`
+abbrev pub settled_line : Bool → List ℕ
+settled_line true = codes "yes\n"
+settled_line false = codes "no\n"

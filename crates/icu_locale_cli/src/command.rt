@@ -10,8 +10,6 @@ pub enum Command {
     Minimize,
     /// The minimal form of each identifier, the script kept before the region.
     MinimizeScript,
-    /// The canonical form of each identifier.
-    Canonicalize,
     /// Which way the likely script of each identifier runs.
     Direction,
     /// Whether the tables are settled. No line is used.
@@ -42,7 +40,6 @@ impl Command {
             "maximize" => Command::Maximize,
             "minimize" => Command::Minimize,
             "minimize-script" => Command::MinimizeScript,
-            "canonicalize" => Command::Canonicalize,
             "direction" => Command::Direction,
             "settled" => Command::Settled,
             _ => return Err(CliError::Usage),

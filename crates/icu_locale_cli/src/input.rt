@@ -10,7 +10,11 @@ use std::io::Read;
 pub const MOST_READS: u64 = 1 << 40;
 
 // All that the reader gives. An input that has not ended after the last read counts as a failed read.
-pub fn read_all<R: Read>(alloc: Global, reader: &mut R, most_reads: u64) -> Result<Vec<u8>, CliError>
+pub fn read_all<R: Read>(
+    alloc: Global,
+    reader: &mut R,
+    most_reads: u64,
+) -> Result<Vec<u8>, CliError>
     ensures whole { IfOk result (λ text. Consumes (R.remaining reader.old) (R.remaining reader.new) text.items) }
     ensures end { IfOk result (λ text. IsAtEnd (R.remaining reader.new)) }
     ensures refused { IfErr result (λ e. (e ≡ CliError.Read) ⊎ (e ≡ CliError.Memory)) }

@@ -1,13 +1,13 @@
 //! What a command works with, and what it makes of one line.
-ghost use Rattle.std.specs.Prelude.{◌≡◌, IfOk, IfErr, IfSome, true, false};
+ghost use Rattle.std.specs.Prelude.{◌≡◌, ◌≢◌, IfOk, IfErr, IfSome, is_ok, true, false};
 ghost use Rattle.std.specs.String.{string_bytes};
-ghost use Rattle.icu_locale_cli.specs.Texts.{transformed_line, refused_line};
+ghost use Rattle.icu_locale_cli.specs.Texts.{transformed_line, refused_line, direction_line};
+ghost use Rattle.icu_locale_cli.specs.Loads.{IsExpanderOf, has_likely, not_found};
 
 use crate::command::Command;
 use crate::error::CliError;
-use icu_locale::{LocaleExpander, TransformResult};
+use icu_locale::{Direction, LocaleDirectionality, LocaleExpander, TransformResult};
 use icu_locale_core::{LanguageIdentifier, ParseError};
-use icu_provider::DataError;
 use icu_tables::Tables;
 use std::alloc::Global;
 use std::fmt;
@@ -21,6 +21,8 @@ pub enum Work<'d> {
     Minimize(LocaleExpander<'d>),
     /// Minimal forms, the script kept before the region.
     MinimizeScript(LocaleExpander<'d>),
+    /// Directions.
+    Direction(LocaleDirectionality<'d>),
 }
 
 // The line that is written for one that was read, and whether that one was accepted.
@@ -31,7 +33,30 @@ pub struct Answer {
 }
 
 impl<'d> Work<'d> {
-    ghost use Rattle.icu_locale_cli.specs.Answers.{IsAnswer, IsAccepted};
+    ghost use Rattle.icu_locale_cli.specs.Answers.{IsAnswer, IsLineOf};
+    ghost use Rattle.icu_locale_cli.specs.Works.{IsWorkOf, has_tables};
+
+    // What a command of lines works with: its tables are loaded in their order.
+    pub fn load(command: &Command, tables: &'d Tables) -> Result<Self, CliError>
+        requires { command.now ≢ Command.Settled }
+        ensures made { IfOk result (IsWorkOf command.now tables.now) }
+        ensures loaded { is_ok result ≡ has_tables command.now tables.now }
+        ensures refused { IfErr result (λ e. e ≡ CliError.Data not_found) }
+    {
+        let expander = load_expander(tables)?;
+        match command {
+            Command::Maximize => Ok(Work::Maximize(expander)),
+            Command::Minimize => Ok(Work::Minimize(expander)),
+            Command::MinimizeScript => Ok(Work::MinimizeScript(expander)),
+            Command::Direction => {
+                match LocaleDirectionality::try_new_with_expander_unstable(tables, expander) {
+                    Ok(directionality) => Ok(Work::Direction(directionality)),
+                    Err(refusal) => Err(CliError::Data(refusal)),
+                }
+            }
+            Command::Settled => unreachable!(),
+        }
+    }
 
     // The answer to one line.
     pub fn answer(&self, alloc: Global, line: &[u8]) -> Result<Answer, CliError>
@@ -46,21 +71,74 @@ impl<'d> Work<'d> {
     }
 
     // The answer to an identifier.
-    fn answer_identifier(&self, alloc: Global, mut identifier: LanguageIdentifier) -> Result<Answer, CliError>
-        ensures answer { IfOk result (λ a. IsAccepted self.now identifier (string_bytes a.text) × (a.accepted ≡ true)) }
+    fn answer_identifier(
+        &self,
+        alloc: Global,
+        mut identifier: LanguageIdentifier,
+    ) -> Result<Answer, CliError>
+        ensures answer { IfOk result (λ a. IsLineOf self.now identifier (string_bytes a.text) a.accepted) }
         ensures refused { IfErr result (λ e. e ≡ CliError.Memory) }
     {
-        let changed = match self {
-            Work::Maximize(expander) => expander.maximize(&mut identifier),
-            Work::Minimize(expander) => expander.minimize(&mut identifier),
-            Work::MinimizeScript(expander) => expander.minimize_favor_script(&mut identifier),
-        };
-        transformed(alloc, &identifier, changed)
+        match self {
+            Work::Maximize(expander) => {
+                let changed = expander.maximize(&mut identifier);
+                transformed(alloc, &identifier, changed)
+            }
+            Work::Minimize(expander) => {
+                let changed = expander.minimize(&mut identifier);
+                transformed(alloc, &identifier, changed)
+            }
+            Work::MinimizeScript(expander) => {
+                let changed = expander.minimize_favor_script(&mut identifier);
+                transformed(alloc, &identifier, changed)
+            }
+            Work::Direction(directionality) => directed(alloc, directionality.get(&identifier)),
+        }
+    }
+}
+
+// The expander over the tables, with the extended one where it is held.
+pub fn load_expander(tables: &Tables) -> Result<LocaleExpander<'_>, CliError>
+    ensures made { IfOk result (IsExpanderOf tables.entry.now) }
+    ensures loaded { is_ok result ≡ has_likely tables.entry.now }
+    ensures refused { IfErr result (λ e. e ≡ CliError.Data not_found) }
+{
+    let made = if tables.likely_extended.is_some() {
+        LocaleExpander::try_new_extended_unstable(tables)
+    } else {
+        LocaleExpander::try_new_common_unstable(tables)
+    };
+    match made {
+        Ok(expander) => Ok(expander),
+        Err(refusal) => Err(CliError::Data(refusal)),
+    }
+}
+
+// The line of a direction.
+fn directed(alloc: Global, direction: Option<Direction>) -> Result<Answer, CliError>
+    ensures answer { IfOk result (λ a. (string_bytes a.text ≡ direction_line direction) × (a.accepted ≡ true)) }
+    ensures refused { IfErr result (λ e. e ≡ CliError.Memory) }
+{
+    let line = match direction {
+        Some(Direction::LeftToRight) => "ltr\n",
+        Some(Direction::RightToLeft) => "rtl\n",
+        None => "none\n",
+    };
+    match String::from_str(alloc, line) {
+        Ok(text) => Ok(Answer {
+            text,
+            accepted: true,
+        }),
+        Err(_) => Err(CliError::Memory),
     }
 }
 
 // The line of an identifier and whether it was changed.
-fn transformed(alloc: Global, identifier: &LanguageIdentifier, changed: TransformResult) -> Result<Answer, CliError>
+fn transformed(
+    alloc: Global,
+    identifier: &LanguageIdentifier,
+    changed: TransformResult,
+) -> Result<Answer, CliError>
     ensures answer { IfOk result (λ a. (string_bytes a.text ≡ transformed_line identifier.now changed) × (a.accepted ≡ true)) }
     ensures refused { IfErr result (λ e. e ≡ CliError.Memory) }
 {

@@ -63,27 +63,27 @@ true_and false b e = absurd (false≢true e)
 pub identifiers_decide : (x y : LanguageIdentifier)
     → ((same_text x.language y.language && (option_eq same_text x.script y.script && (option_eq same_text x.region y.region && pointwise same_text (rising x.variants) (rising y.variants)))) ≡ true → x ≡ y)
     × (x ≡ y → (same_text x.language y.language && (option_eq same_text x.script y.script && (option_eq same_text x.region y.region && pointwise same_text (rising x.variants) (rising y.variants)))) ≡ true)
-identifiers_decide x y =
-    ( λ e.
-        let l = true_and (same_text x.language y.language) _ e in
-        let s = true_and (option_eq same_text x.script y.script) _ l.1 in
-        let r = true_and (option_eq same_text x.region y.region) _ s.1 in
-        λ i. record {
-          language = (bytes_eq-Decides x.language y.language).0 l.0 i;
-          script = (option_decides x.script y.script).0 s.0 i;
-          region = (option_decides x.region y.region).0 r.0 i;
-          variants = (variants_decide x.variants y.variants).0 r.1 i;
-        }
-    , λ e. λ i. (bytes_eq-Decides x.language y.language).1 (ap (λ (z : LanguageIdentifier). z.language) e) i
-        && ((option_decides x.script y.script).1 (ap (λ (z : LanguageIdentifier). z.script) e) i
-        && ((option_decides x.region y.region).1 (ap (λ (z : LanguageIdentifier). z.region) e) i
-        && (variants_decide x.variants y.variants).1 (ap (λ (z : LanguageIdentifier). z.variants) e) i))
-    )
+identifiers_decide x y = (
+  λ e.
+      let l = true_and (same_text x.language y.language) _ e in
+      let s = true_and (option_eq same_text x.script y.script) _ l.1 in
+      let r = true_and (option_eq same_text x.region y.region) _ s.1 in
+      λ i. record {
+        language = (bytes_eq-Decides x.language y.language).0 l.0 i;
+        script = (option_decides x.script y.script).0 s.0 i;
+        region = (option_decides x.region y.region).0 r.0 i;
+        variants = (variants_decide x.variants y.variants).0 r.1 i;
+      },
+  λ e. λ i. (bytes_eq-Decides x.language y.language).1 (ap (λ (z : LanguageIdentifier). z.language) e) i
+      && ((option_decides x.script y.script).1 (ap (λ (z : LanguageIdentifier). z.script) e) i
+      && ((option_decides x.region y.region).1 (ap (λ (z : LanguageIdentifier). z.region) e) i
+      && (variants_decide x.variants y.variants).1 (ap (λ (z : LanguageIdentifier). z.variants) e) i)),
+)
 
 pub identifiers_tie : (x y : LanguageIdentifier)
     → (same_text x.language y.language && (option_eq same_text x.script y.script && (option_eq same_text x.region y.region && pointwise same_text (rising x.variants) (rising y.variants))))
     ≡ is_eq (ordering_then (text_cmp x.language y.language) (ordering_then (option_cmp text_cmp x.script y.script) (ordering_then (option_cmp text_cmp x.region y.region) (slice_cmp text_cmp (rising x.variants) (rising y.variants)))))
 identifiers_tie x y =
     both_tied _ _ (text_cmp x.language y.language) _ (texts_ties x.language y.language)
-      (both_tied _ _ (option_cmp text_cmp x.script y.script) _ (option_ties x.script y.script)
-        (both_tied _ _ (option_cmp text_cmp x.region y.region) _ (option_ties x.region y.region) (text_lists_ties x.variants y.variants)))
+    (both_tied _ _ (option_cmp text_cmp x.script y.script) _ (option_ties x.script y.script)
+    (both_tied _ _ (option_cmp text_cmp x.region y.region) _ (option_ties x.region y.region) (text_lists_ties x.variants y.variants)))

@@ -50,7 +50,7 @@ module _ (x : LanguageIdentifier) (is : IsIdentifier x) where
   whole_subtags : All Whole (subtags x (rising x.variants))
   whole_subtags = All-cons Whole x.language _ (whole_member Language x.language is.language.member)
       (All-append Whole (option_to_list x.script) _ (whole_option Script x.script is.script)
-        (All-append Whole (option_to_list x.region) (rising x.variants) (whole_option Region x.region is.region) whole_variants))
+      (All-append Whole (option_to_list x.region) (rising x.variants) (whole_option Region x.region is.region) whole_variants))
 
   pub Spells-written : Spells (written x) x
   Spells-written = record {

@@ -1,3 +1,4 @@
 pub mod DataError
 pub mod Maps
 pub mod Provider
+pub mod ScriptDirection

@@ -2,7 +2,7 @@
 ghost use Rattle.std.specs.Prelude.{◌≡◌, Some};
 ghost use Rattle.icu_provider.specs.DataError.{kind_name};
 
-use std::alloc::AllocFailed;
+use std::alloc::{AllocError, AllocFailed};
 use std::error::Error;
 use std::fmt;
 
@@ -46,6 +46,18 @@ impl fmt::Display for DataError {
 }
 
 impl Error for DataError {}
+
+impl From<AllocError> for DataError {
+    ghost use Rattle.icu_provider.specs.declared.error.DataErrorKind.TheVariants.{Memory};
+
+    ghost from_gives = { λ _ e. e.kind ≡ Memory };
+
+    fn from(_refused: AllocError) -> Self {
+        DataError {
+            kind: DataErrorKind::Memory,
+        }
+    }
+}
 
 impl<T: Drop> From<AllocFailed<T>> for DataError {
     ghost use Rattle.icu_provider.specs.declared.error.DataErrorKind.TheVariants.{Memory};

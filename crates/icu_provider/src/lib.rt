@@ -3,6 +3,7 @@
 
 mod aliases;
 mod data_locale;
+mod direction;
 mod error;
 mod likely;
 mod provider;
@@ -11,6 +12,7 @@ mod sorted_map;
 
 pub use aliases::{Aliases, LanguageStrStrPair, StrStrPair};
 pub use data_locale::DataLocale;
+pub use direction::ScriptDirection;
 pub use error::{DataError, DataErrorKind};
 pub use likely::{LikelySubtagsExtended, LikelySubtagsForLanguage, LikelySubtagsForScriptRegion};
 pub use provider::DataProvider;

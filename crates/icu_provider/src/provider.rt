@@ -2,7 +2,7 @@
 
 use crate::{
     Aliases, DataError, LikelySubtagsExtended, LikelySubtagsForLanguage,
-    LikelySubtagsForScriptRegion,
+    LikelySubtagsForScriptRegion, ScriptDirection,
 };
 
 /// A source of data. Each load answers the provider's meaning at that request, at every call the same one, and lends
@@ -15,6 +15,7 @@ pub trait DataProvider {
     ghost use Rattle.icu_provider.specs.declared.likely.language.LikelySubtagsForLanguage.{LikelySubtagsForLanguage};
     ghost use Rattle.icu_provider.specs.declared.likely.script_region.LikelySubtagsForScriptRegion.{LikelySubtagsForScriptRegion};
     ghost use Rattle.icu_provider.specs.declared.likely.extended.LikelySubtagsExtended.{LikelySubtagsExtended};
+    ghost use Rattle.icu_provider.specs.declared.direction.ScriptDirection.{ScriptDirection};
 
     ghost likely_language: { Self → Result LikelySubtagsForLanguage DataError };
 
@@ -23,6 +24,8 @@ pub trait DataProvider {
     ghost likely_extended: { Self → Result LikelySubtagsExtended DataError };
 
     ghost aliases: { Self → Result Aliases DataError };
+
+    ghost script_direction: { Self → Result ScriptDirection DataError };
 
     /// The likely subtags by language.
     ///
@@ -55,4 +58,12 @@ pub trait DataProvider {
     /// Those of the provider.
     fn load_aliases(&self) -> Result<&Aliases, DataError>
         ensures { lent result ≡ aliases self.now };
+
+    /// Which way scripts run.
+    ///
+    /// # Errors
+    ///
+    /// Those of the provider.
+    fn load_script_direction(&self) -> Result<&ScriptDirection, DataError>
+        ensures { lent result ≡ script_direction self.now };
 }

@@ -5,7 +5,7 @@ ghost use Rattle.icu_tables.specs.Tables.{held};
 
 use icu_provider::{
     Aliases, DataError, DataErrorKind, DataProvider, LikelySubtagsExtended,
-    LikelySubtagsForLanguage, LikelySubtagsForScriptRegion,
+    LikelySubtagsForLanguage, LikelySubtagsForScriptRegion, ScriptDirection,
 };
 use std::alloc::Global;
 
@@ -20,12 +20,14 @@ pub struct Tables {
     pub likely_extended: Option<LikelySubtagsExtended>,
     /// The rules of canonicalization, if any are held.
     pub aliases: Option<Aliases>,
+    /// Which way scripts run, if it is held.
+    pub script_direction: Option<ScriptDirection>,
 }
 
 impl Tables {
     /// Tables that hold nothing. It takes no memory.
     pub fn new(alloc: Global) -> Self
-        ensures { result ≡ record { likely_language = None; likely_script_region = None; likely_extended = None; aliases = None } }
+        ensures { result ≡ record { likely_language = None; likely_script_region = None; likely_extended = None; aliases = None; script_direction = None } }
     {
         let _ = alloc;
         Tables {
@@ -33,6 +35,7 @@ impl Tables {
             likely_script_region: None,
             likely_extended: None,
             aliases: None,
+            script_direction: None,
         }
     }
 
@@ -63,6 +66,13 @@ impl Tables {
     {
         self.aliases = Some(table);
     }
+
+    /// Takes which way scripts run, in place of what was held. It takes no memory.
+    pub fn set_script_direction(&mut self, table: ScriptDirection)
+        ensures { self.new ≡ record self.old { script_direction = Some table } }
+    {
+        self.script_direction = Some(table);
+    }
 }
 
 const NOT_FOUND: DataError = DataError {
@@ -77,6 +87,8 @@ impl DataProvider for Tables {
     ghost likely_extended = { λ t. held t.likely_extended };
 
     ghost aliases = { λ t. held t.aliases };
+
+    ghost script_direction = { λ t. held t.script_direction };
 
     fn load_likely_language(&self) -> Result<&LikelySubtagsForLanguage, DataError>
         ensures { lent result ≡ held self.now.likely_language }
@@ -100,5 +112,11 @@ impl DataProvider for Tables {
         ensures { lent result ≡ held self.now.aliases }
     {
         self.aliases.as_ref().ok_or(NOT_FOUND)
+    }
+
+    fn load_script_direction(&self) -> Result<&ScriptDirection, DataError>
+        ensures { lent result ≡ held self.now.script_direction }
+    {
+        self.script_direction.as_ref().ok_or(NOT_FOUND)
     }
 }

@@ -74,7 +74,9 @@ impl<'d> LocaleExpander<'d> {
         ensures { result ≡ likely self.now (LanguageRegion language region) }
     {
         let mut script = self.language.get_language_region(language, region);
-        if script.is_none() && let Some(extended) = self.extended {
+        if script.is_none()
+            && let Some(extended) = self.extended
+        {
             script = extended.get_language_region(language, region);
         }
         Some((language, script?, region))
@@ -84,7 +86,9 @@ impl<'d> LocaleExpander<'d> {
         ensures { result ≡ likely self.now (LanguageScript language script) }
     {
         let mut region = self.language.get_language_script(language, script);
-        if region.is_none() && let Some(extended) = self.extended {
+        if region.is_none()
+            && let Some(extended) = self.extended
+        {
             region = extended.get_language_script(language, script);
         }
         Some((language, script, region?))
@@ -94,7 +98,9 @@ impl<'d> LocaleExpander<'d> {
         ensures { result ≡ likely self.now (LanguageAlone language) }
     {
         let mut rest = self.language.get_language(language);
-        if rest.is_none() && let Some(extended) = self.extended {
+        if rest.is_none()
+            && let Some(extended) = self.extended
+        {
             rest = extended.get_language(language);
         }
         let (script, region) = rest?;
@@ -105,7 +111,9 @@ impl<'d> LocaleExpander<'d> {
         ensures { result ≡ likely self.now (ScriptRegion script region) }
     {
         let mut language = self.script_region.get_script_region(script, region);
-        if language.is_none() && let Some(extended) = self.extended {
+        if language.is_none()
+            && let Some(extended) = self.extended
+        {
             language = extended.get_script_region(script, region);
         }
         let und = self.language.und();
@@ -120,7 +128,9 @@ impl<'d> LocaleExpander<'d> {
         ensures { result ≡ likely self.now (ScriptAlone script) }
     {
         let mut rest = self.script_region.get_script(script);
-        if rest.is_none() && let Some(extended) = self.extended {
+        if rest.is_none()
+            && let Some(extended) = self.extended
+        {
             rest = extended.get_script(script);
         }
         let und = self.language.und();
@@ -135,7 +145,9 @@ impl<'d> LocaleExpander<'d> {
         ensures { result ≡ likely self.now (RegionAlone region) }
     {
         let mut rest = self.script_region.get_region(region);
-        if rest.is_none() && let Some(extended) = self.extended {
+        if rest.is_none()
+            && let Some(extended) = self.extended
+        {
             rest = extended.get_region(region);
         }
         let und = self.language.und();

@@ -1,0 +1,163 @@
+//! Which way the script of an identifier runs.
+ghost use Rattle.std.specs.Prelude.{◌≡◌};
+
+use crate::{AsExpander, LocaleExpander};
+use icu_locale_core::{LanguageIdentifier, Script};
+use icu_provider::{
+    DataError, DataProvider, LikelySubtagsExtended, LikelySubtagsForLanguage,
+    LikelySubtagsForScriptRegion, ScriptDirection,
+};
+
+/// Which way a script runs.
+#[derive(Clone, Copy, Debug, PartialEq, Eq)]
+pub enum Direction {
+    /// From left to right, as Latin.
+    LeftToRight,
+    /// From right to left, as Arabic.
+    RightToLeft,
+}
+
+/// Which way identifiers run, over tables that it borrows. No call takes memory.
+#[derive(Clone, Copy, Debug)]
+pub struct LocaleDirectionality<'d, E = LocaleExpander<'d>> {
+    /// What finds the likely script.
+    pub expander: E,
+    /// Which way scripts run.
+    pub script_direction: &'d ScriptDirection,
+}
+
+impl<'d> LocaleDirectionality<'d> {
+    ghost use Rattle.icu_locale.specs.Expander.{common_tables, all_tables, both};
+    ghost use Rattle.icu_locale.specs.Direction.{with_directions};
+
+    /// Over the common tables of likely subtags.
+    pub fn new_common(
+        language: &'d LikelySubtagsForLanguage,
+        script_region: &'d LikelySubtagsForScriptRegion,
+        script_direction: &'d ScriptDirection,
+    ) -> Self
+        ensures expander { result.expander ≡ record { language = language.entry; script_region = script_region.entry; extended = None } }
+        ensures directions { result.script_direction ≡ script_direction.entry }
+    {
+        LocaleDirectionality::new_with_expander(
+            script_direction,
+            LocaleExpander::new_common(language, script_region),
+        )
+    }
+
+    /// Over the common tables of likely subtags and the extended one, whose rows they cover.
+    pub fn new_extended(
+        language: &'d LikelySubtagsForLanguage,
+        script_region: &'d LikelySubtagsForScriptRegion,
+        extended: &'d LikelySubtagsExtended,
+        script_direction: &'d ScriptDirection,
+    ) -> Self
+        ensures expander { result.expander ≡ record { language = language.entry; script_region = script_region.entry; extended = Some extended.entry } }
+        ensures directions { result.script_direction ≡ script_direction.entry }
+    {
+        LocaleDirectionality::new_with_expander(
+            script_direction,
+            LocaleExpander::new_extended(language, script_region, extended),
+        )
+    }
+
+    /// Over the common tables of a provider, and then its directions.
+    ///
+    /// # Errors
+    ///
+    /// The first refusal of the provider, unchanged.
+    pub fn try_new_common_unstable<P: DataProvider>(provider: &'d P) -> Result<Self, DataError>
+        ensures { with_directions result ≡ both (common_tables (P.likely_language provider.now) (P.likely_script_region provider.now)) (P.script_direction provider.now) }
+    {
+        let expander = LocaleExpander::try_new_common_unstable(provider)?;
+        LocaleDirectionality::try_new_with_expander_unstable(provider, expander)
+    }
+
+    /// Over the common tables of a provider and its extended one, and then its directions.
+    ///
+    /// # Errors
+    ///
+    /// The first refusal of the provider, unchanged.
+    pub fn try_new_extended_unstable<P: DataProvider>(provider: &'d P) -> Result<Self, DataError>
+        ensures { with_directions result ≡ both (all_tables (P.likely_language provider.now) (P.likely_script_region provider.now) (P.likely_extended provider.now)) (P.script_direction provider.now) }
+    {
+        let expander = LocaleExpander::try_new_extended_unstable(provider)?;
+        LocaleDirectionality::try_new_with_expander_unstable(provider, expander)
+    }
+}
+
+impl<'d, E: AsExpander<'d>> LocaleDirectionality<'d, E> {
+    ghost use Rattle.std.specs.Prelude.{IfOk};
+    ghost use Rattle.icu_locale.specs.Expander.{likely};
+    ghost use Rattle.icu_locale.specs.Direction.{likely_script, is_script_in, direction_of, directions_of};
+
+    /// Over an expander, or a reference to one.
+    pub fn new_with_expander(script_direction: &'d ScriptDirection, expander: E) -> Self
+        ensures expander { result.expander ≡ expander }
+        ensures directions { result.script_direction ≡ script_direction.entry }
+    {
+        LocaleDirectionality {
+            expander,
+            script_direction,
+        }
+    }
+
+    /// Over an expander, or a reference to one, and the directions of a provider.
+    ///
+    /// # Errors
+    ///
+    /// The refusal of the provider, unchanged.
+    pub fn try_new_with_expander_unstable<P: DataProvider>(
+        provider: &'d P,
+        expander: E,
+    ) -> Result<Self, DataError>
+    where
+        E: Drop,
+        ensures expander { IfOk result (λ d. d.expander ≡ expander) }
+        ensures directions { directions_of result ≡ P.script_direction provider.now }
+    {
+        let script_direction = provider.load_script_direction()?;
+        Ok(LocaleDirectionality::new_with_expander(script_direction, expander))
+    }
+
+    /// Which way the likely script of the identifier runs: left to right where that list has it, else right to left
+    /// where the other has it, else none.
+    pub fn get(&self, id: &LanguageIdentifier) -> Option<Direction>
+        ensures { result ≡ direction_of self.now.script_direction.now (likely_script (likely (E.expander self.now.expander)) id.now) }
+    {
+        let script = self.likely_script(id)?;
+        if self.script_direction.is_ltr(script) {
+            Some(Direction::LeftToRight)
+        } else if self.script_direction.is_rtl(script) {
+            Some(Direction::RightToLeft)
+        } else {
+            None
+        }
+    }
+
+    /// Whether the likely script of the identifier is one of those from right to left.
+    pub fn is_right_to_left(&self, id: &LanguageIdentifier) -> bool
+        ensures { result ≡ is_script_in self.now.script_direction.now.rtl (likely_script (likely (E.expander self.now.expander)) id.now) }
+    {
+        match self.likely_script(id) {
+            Some(script) => self.script_direction.is_rtl(script),
+            None => false,
+        }
+    }
+
+    /// Whether the likely script of the identifier is one of those from left to right.
+    pub fn is_left_to_right(&self, id: &LanguageIdentifier) -> bool
+        ensures { result ≡ is_script_in self.now.script_direction.now.ltr (likely_script (likely (E.expander self.now.expander)) id.now) }
+    {
+        match self.likely_script(id) {
+            Some(script) => self.script_direction.is_ltr(script),
+            None => false,
+        }
+    }
+
+    fn likely_script(&self, id: &LanguageIdentifier) -> Option<Script>
+        ensures { result ≡ likely_script (likely (E.expander self.now.expander)) id.now }
+    {
+        self.expander.as_expander().get_likely_script(id)
+    }
+}

@@ -1,0 +1,21 @@
+use Rattle.std.proofs.Common.{◌≡◌, ◌∷◌, List, ℕ, subst, sym, ap}
+use Rattle.std.specs.Io.KnownBytes.{Appends}
+use Rattle.icu_locale_cli.specs.Output.{AppendsPart}
+use Rattle.icu_locale_cli.proofs.Progress.{Progress, Progress-more, WritesPart-from_part}
+use Rattle.icu_locale_cli.proofs.answers.write_answers.Goals as goal
+
+-- a beginning of the next line is written
+pub returns-in-Err-write_line-clause-write : goal.returns-in-Err-write_line-clause-write
+returns-in-Err-write_line-clause-write g c = λ refused.
+    let contents = g.W.Write.contents in
+    let before = subst (Progress c.args.work.now c.args.input.now (contents c.args.writer.now) (contents c.loop-line.writer) c.loop-line.status) c.in-Some.ensures.steps c.loop-line.invariant in
+    let part = subst (AppendsPart (contents c.loop-line.writer) (contents c.write_line.new.writer)) c.as_bytes.ensures.value c.in-Err-write_line.ensures.part in
+    WritesPart-from_part c.args.work.now c.args.input.now (contents c.args.writer.now) (contents c.loop-line.writer) c.loop-line.status c.in-Some.line.now c.next.new.self before _ c.in-Ok.answer.accepted c.in-Ok.ensures.answer (contents c.write_line.new.writer) part
+
+-- one more line is answered and written
+pub loop-line-preserved : goal.loop-line-preserved
+loop-line-preserved g c =
+    let contents = g.W.Write.contents in
+    let before = subst (Progress c.args.work.now c.args.input.now (contents c.args.writer.now) (contents c.loop-line.writer) c.loop-line.status) c.in-Some.ensures.steps c.loop-line.invariant in
+    let whole = subst (Appends (contents c.loop-line.writer) (contents c.write_line.new.writer)) c.as_bytes.ensures.value c.in-Ok-write_line.ensures.whole in
+    Progress-more c.args.work.now c.args.input.now (contents c.args.writer.now) (contents c.loop-line.writer) c.loop-line.status c.in-Some.line.now c.next.new.self before _ c.in-Ok.answer.accepted c.in-Ok.ensures.answer (contents c.write_line.new.writer) whole c.after-status.result c.after-status.ensures

@@ -1,0 +1,21 @@
+-- The tables that a command needs.
+use Rattle.std.specs.Prelude.{◌≡◌, Bool, ◌&&◌, Option, Some, is_some}
+use Rattle.std.specs.Option.{option_copied}
+use Rattle.icu_locale.specs.declared.expander.LocaleExpander.{LocaleExpander}
+use Rattle.icu_provider.specs.declared.error.DataError.{DataError}
+use Rattle.icu_provider.specs.declared.error.DataErrorKind.TheVariants.{IdentifierNotFound}
+use Rattle.icu_tables.specs.declared.tables.Tables.{Tables}
+
+-- why a table is not loaded
+abbrev pub not_found : DataError
+not_found = record { kind = IdentifierNotFound }
+
+-- the common likely tables are held
+abbrev pub has_likely : Tables → Bool
+has_likely t = is_some t.likely_language && is_some t.likely_script_region
+
+-- an expander over the tables, with the extended one where it is held
+pub record IsExpanderOf (t : Tables) (e : LocaleExpander) : Type 0 where
+  pub language : t.likely_language ≡ Some e.language.now
+  pub script_region : t.likely_script_region ≡ Some e.script_region.now
+  pub extended : t.likely_extended ≡ option_copied e.extended

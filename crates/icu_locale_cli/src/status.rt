@@ -1,0 +1,21 @@
+//! How a run ends.
+
+/// Whether every line was accepted.
+#[derive(Clone, Copy, Debug, PartialEq, Eq)]
+pub enum Status {
+    /// Every line was.
+    Accepted = 0,
+    /// Some line was refused.
+    Refused = 1,
+}
+
+impl Status {
+    ghost use Rattle.std.specs.Prelude.{◌≡◌, ◌↔◌, true};
+
+    // The status after one more line.
+    pub(crate) fn after(self, accepted: bool) -> Status
+        ensures { (result ≡ Status.Accepted) ↔ ((self ≡ Status.Accepted) × (accepted ≡ true)) }
+    {
+        if accepted { self } else { Status::Refused }
+    }
+}

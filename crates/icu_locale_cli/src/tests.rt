@@ -1,0 +1,9 @@
+//! Worked rows over all crates: expected values stand beside each call.
+mod likely;
+mod memory;
+mod program;
+mod providers;
+mod settled;
+mod tables;
+mod texts;
+mod world;

@@ -1,0 +1,162 @@
+//! Calls under refused memory. All memory is taken first, and then a budget of bytes is handed back, step by step.
+use crate::command::Command;
+use crate::error::CliError;
+use crate::run::run;
+use crate::sample::sample;
+use crate::status::Status;
+use icu_locale_core::{LanguageIdentifier, ParseError};
+use icu_provider::SortedMap;
+use std::alloc::{AllocError, Global};
+use std::io;
+use std::io::Write;
+use std::test::Fail;
+
+// How many blocks are taken at the most.
+const MOST_BLOCKS: usize = 262_144;
+
+// Blocks that together leave no memory: ever smaller ones, each size until it is refused.
+pub fn take_all(alloc: Global) -> Result<Vec<Vec<u8>>, AllocError> {
+    let mut held = Vec::with_capacity(alloc, MOST_BLOCKS)?;
+    let mut size: usize = 1 << 44;
+    for _ in 0..41 {
+        for _ in 0..MOST_BLOCKS {
+            match Vec::<u8>::with_capacity(alloc, size) {
+                Ok(block) => {
+                    if held.len() == MOST_BLOCKS || held.push(block).is_err() {
+                        break;
+                    }
+                }
+                Err(_) => break,
+            }
+        }
+        if size > 16 {
+            size /= 2;
+        }
+    }
+    Ok(held)
+}
+
+#[test]
+fn identifiers_with_variants(rt: HostRuntime) -> Result<(), Fail> {
+    let alloc = rt.alloc();
+    let spare = Vec::<u8>::with_capacity(alloc, 65_536)?;
+    let held = take_all(alloc)?;
+    drop(spare);
+    let (mut refused, mut accepted, mut wrong) = (false, false, false);
+    for step in 0..500 {
+        if let Ok(filler) = Vec::<u8>::with_capacity(alloc, 65_536 - 16 * step) {
+            match LanguageIdentifier::try_from_str(alloc, "de-Latn-DE-1901-1996-fonipa-posix") {
+                Ok(identifier) => {
+                    accepted = true;
+                    wrong |= identifier.variants.len() != 4;
+                    match identifier.try_clone() {
+                        Ok(copy) => wrong |= copy != identifier,
+                        Err(refusal) => wrong |= refusal != ParseError::Memory,
+                    }
+                }
+                Err(refusal) => {
+                    refused = true;
+                    wrong |= refusal != ParseError::Memory;
+                }
+            }
+            // Without variants nothing is asked of memory.
+            match LanguageIdentifier::try_from_str(alloc, "de-Latn-DE") {
+                Ok(identifier) => wrong |= identifier.try_clone().is_err(),
+                Err(_) => wrong = true,
+            }
+            drop(filler);
+        }
+    }
+    drop(held);
+    assert!(rt; !wrong);
+    assert!(rt; refused);
+    assert!(rt; accepted);
+    Ok(())
+}
+
+// A writer over memory that it holds already.
+#[derive(Drop)]
+struct HeldWriter {
+    bytes: [u8; 128],
+    len: usize,
+}
+
+impl Write for HeldWriter {
+    fn write(&mut self, buf: &[u8]) -> io::Result<usize> {
+        let room = self.bytes.len().saturating_sub(self.len);
+        let count = buf.len().min(room);
+        for place in 0..count {
+            if let (Some(from), Some(to)) = (buf.get(place), self.bytes.get_mut(self.len.saturating_add(place))) {
+                *to = *from;
+            }
+        }
+        self.len = self.len.saturating_add(count);
+        Ok(count)
+    }
+
+    fn flush(&mut self) -> io::Result<()> {
+        Ok(())
+    }
+}
+
+const ANSWERS: &[u8; 50] = b"zh-Hans-CN\tM\nen-Latn-US-posix\tM\n?\tInvalidLanguage\n";
+
+#[test]
+fn a_run_writes_whole_lines(rt: HostRuntime) -> Result<(), Fail> {
+    let alloc = rt.alloc();
+    let tables = sample(alloc)?;
+    let spare = Vec::<u8>::with_capacity(alloc, 65_536)?;
+    let held = take_all(alloc)?;
+    drop(spare);
+    let (mut refused, mut accepted, mut wrong) = (false, false, false);
+    for step in 0..1_000 {
+        if let Ok(filler) = Vec::<u8>::with_capacity(alloc, 65_536 - 16 * step) {
+            let mut writer = HeldWriter {
+                bytes: [0; 128],
+                len: 0,
+            };
+            let mut reader = b"zh-CN\nEN_us-posix\n\n".as_slice();
+            let ended = run(alloc, &Command::Maximize, &tables, &mut reader, &mut writer);
+            let written = writer.bytes.get(..writer.len).unwrap_or(&[]);
+            match ended {
+                Ok(status) => {
+                    accepted = true;
+                    wrong |= status != Status::Refused || written != ANSWERS.as_slice();
+                }
+                Err(refusal) => {
+                    refused = true;
+                    wrong |= refusal != CliError::Memory || !ANSWERS.starts_with(written);
+                    wrong |= written.last().copied().unwrap_or(b'\n') != b'\n';
+                }
+            }
+            drop(filler);
+        }
+    }
+    drop(held);
+    assert!(rt; !wrong);
+    assert!(rt; refused);
+    assert!(rt; accepted);
+    Ok(())
+}
+
+#[test]
+fn a_refused_insert_leaves_the_table(rt: HostRuntime) -> Result<(), Fail> {
+    let alloc = rt.alloc();
+    let mut map: SortedMap<u64, u64> = SortedMap::new(alloc);
+    for key in 0..64 {
+        map.insert(2 * key, key)?;
+    }
+    let spare = Vec::<u8>::with_capacity(alloc, 65_536)?;
+    let held = take_all(alloc)?;
+    let refused = map.insert(7, 7).is_err();
+    let unchanged = map.len() == 64 && map.get(&7).is_none() && map.get(&8) == Some(&4);
+    let present = map.insert(8, 9).is_ok() && map.get(&8) == Some(&9);
+    drop(spare);
+    drop(held);
+    assert!(rt; refused);
+    assert!(rt; unchanged);
+    assert!(rt; present);
+    assert!(rt; map.insert(7, 7).is_ok());
+    assert_eq!(rt; map.len(), 65);
+    Ok(())
+}

@@ -1,0 +1,159 @@
+//! Runs of the program over readers and writers in memory.
+use crate::command::Command;
+use crate::error::CliError;
+use crate::run::run;
+use crate::sample::sample;
+use crate::status::Status;
+use icu_provider::{DataError, DataErrorKind};
+use icu_tables::Tables;
+use std::alloc::Global;
+use std::io;
+use std::io::{Read, Write};
+use std::test::Fail;
+
+// A reader that gives some bytes and then fails.
+#[derive(Drop)]
+struct FailingReader<'a> {
+    bytes: &'a [u8],
+}
+
+impl Read for FailingReader<'_> {
+    fn read(&mut self, buf: &mut [u8]) -> io::Result<usize> {
+        if self.bytes.is_empty() {
+            return Err(io::Error::from(io::ErrorKind::Other));
+        }
+        self.bytes.read(buf)
+    }
+}
+
+// A writer that takes so many bytes, and then no more.
+#[derive(Drop)]
+struct FullWriter {
+    bytes: Vec<u8>,
+    room: usize,
+}
+
+impl Write for FullWriter {
+    fn write(&mut self, buf: &[u8]) -> io::Result<usize> {
+        let count = buf.len().min(self.room);
+        self.bytes.extend_from_slice(&buf[..count])?;
+        self.room -= count;
+        Ok(count)
+    }
+
+    fn flush(&mut self) -> io::Result<()> {
+        Ok(())
+    }
+}
+
+fn output(alloc: Global, command: Command, tables: &Tables, input: &str) -> Result<(Vec<u8>, Status), CliError> {
+    let mut written = Vec::new(alloc);
+    let mut reader = input.as_bytes();
+    let status = run(alloc, &command, tables, &mut reader, &mut written)?;
+    Ok((written, status))
+}
+
+#[test]
+fn lines(rt: HostRuntime) -> Result<(), Fail> {
+    let tables = sample(rt.alloc())?;
+    for (command, input, want, status) in [
+        (Command::Maximize, "zh-CN\nund-SA\n", "zh-Hans-CN\tM\nar-Arab-SA\tM\n", Status::Accepted),
+        (
+            Command::Maximize,
+            "zh-CN\nEN_us\n\n",
+            "zh-Hans-CN\tM\nen-Latn-US\tM\n?\tInvalidLanguage\n",
+            Status::Refused,
+        ),
+        (Command::Maximize, "zh-CN\r\n", "?\tInvalidSubtag\n", Status::Refused),
+        (Command::Maximize, "", "", Status::Accepted),
+        (Command::Maximize, "en-\nde", "?\tInvalidSubtag\nde-Latn-DE\tM\n", Status::Refused),
+        (Command::Minimize, "zh-Hans-CN\nyue-Hans", "zh\tM\nyue-CN\tM\n", Status::Accepted),
+        (Command::MinimizeScript, "yue-Hans\nzh-TW\n", "yue-Hans\tU\nzh-Hant\tM\n", Status::Accepted),
+        (Command::Direction, "en-Arab\nar\nund\n", "rtl\nrtl\nnone\n", Status::Accepted),
+        (Command::Settled, "never read", "yes\n", Status::Accepted),
+    ] {
+        let (written, ended) = output(rt.alloc(), command, &tables, input)?;
+        assert_eq!(rt; written.as_slice(), want.as_bytes(), "at {input}");
+        assert_eq!(rt; ended, status, "at {input}");
+    }
+    Ok(())
+}
+
+#[test]
+fn hostile_lines(rt: HostRuntime) -> Result<(), Fail> {
+    let tables = sample(rt.alloc())?;
+    let input = "e\nengl\n-\nLatn-US\nen--US\nen-US \nen-ab1\nen-abcdefghi\nen-abcde-abcd\nen-ABCDE-abcde\nen-1abc\nen-abcd\nDE_1996-1901\n";
+    let want = "?\tInvalidLanguage\n?\tInvalidLanguage\n?\tInvalidLanguage\n?\tInvalidLanguage\n?\tInvalidSubtag\n?\tInvalidSubtag\n?\tInvalidSubtag\n?\tInvalidSubtag\n?\tInvalidSubtag\n?\tInvalidSubtag\nen-Latn-US-1abc\tM\nen-Abcd-US\tM\nde-Latn-DE-1901-1996\tM\n";
+    let (written, status) = output(rt.alloc(), Command::Maximize, &tables, input)?;
+    assert_eq!(rt; written.as_slice(), want.as_bytes());
+    assert_eq!(rt; status, Status::Refused);
+    let mut bytes = Vec::new(rt.alloc());
+    let status = run(rt.alloc(), &Command::Maximize, &tables, &mut b"en-\xff\n\xff".as_slice(), &mut bytes)?;
+    assert_eq!(rt; bytes.as_slice(), b"?\tInvalidSubtag\n?\tInvalidLanguage\n".as_slice());
+    assert_eq!(rt; status, Status::Refused);
+    Ok(())
+}
+
+#[test]
+fn refusals(rt: HostRuntime) -> Result<(), Fail> {
+    let tables = sample(rt.alloc())?;
+    let nothing = Tables::new(rt.alloc());
+    let not_found = CliError::Data(DataError {
+        kind: DataErrorKind::IdentifierNotFound,
+    });
+    for command in [Command::Maximize, Command::Direction, Command::Settled] {
+        assert!(rt; output(rt.alloc(), command, &nothing, "en\n").err() == Some(not_found));
+    }
+    let mut written = Vec::new(rt.alloc());
+    let mut reader = FailingReader { bytes: b"zh-" };
+    let failed = run(rt.alloc(), &Command::Maximize, &tables, &mut reader, &mut written);
+    assert!(rt; failed.err() == Some(CliError::Read));
+    assert!(rt; written.is_empty());
+    let mut writer = FullWriter {
+        bytes: Vec::new(rt.alloc()),
+        room: 17,
+    };
+    let failed = run(rt.alloc(), &Command::Maximize, &tables, &mut b"zh-CN\nde\n".as_slice(), &mut writer);
+    assert!(rt; failed.err() == Some(CliError::Write));
+    assert_eq!(rt; writer.bytes.as_slice(), b"zh-Hans-CN\tM\nde-L".as_slice());
+    Ok(())
+}
+
+#[test]
+fn words(rt: HostRuntime) -> Result<(), Fail> {
+    for (word, want) in [
+        ("maximize", Some(Command::Maximize)),
+        ("minimize", Some(Command::Minimize)),
+        ("minimize-script", Some(Command::MinimizeScript)),
+        ("direction", Some(Command::Direction)),
+        ("settled", Some(Command::Settled)),
+        ("Maximize", None),
+        ("", None),
+        ("name", None),
+    ] {
+        let words = vec![in rt.alloc(); String::from_str(rt.alloc(), word)?]?;
+        match Command::from_words(&words) {
+            Ok((command, json)) => {
+                assert!(rt; Some(command) == want, "at {word}");
+                assert!(rt; !json);
+            }
+            Err(refusal) => {
+                assert!(rt; want.is_none(), "at {word}");
+                assert!(rt; refusal == CliError::Usage);
+            }
+        }
+    }
+    let two = vec![in rt.alloc(); String::from_str(rt.alloc(), "maximize")?, String::from_str(rt.alloc(), "json")?]?;
+    assert!(rt; Command::from_words(&two).is_err());
+    assert!(rt; Command::from_words(&[]).is_err());
+    for (refusal, want) in [
+        (CliError::Usage, "usage: icu_locale_cli COMMAND [json]"),
+        (CliError::Data(DataError { kind: DataErrorKind::Custom }), "data: Custom"),
+        (CliError::Read, "read failed"),
+        (CliError::Write, "write failed"),
+        (CliError::Memory, "no memory"),
+    ] {
+        assert_eq!(rt; format!(in rt.alloc(); "{refusal}")?.as_str(), want);
+    }
+    Ok(())
+}

@@ -1,0 +1,142 @@
+//! Providers that refuse a load.
+ghost use Rattle.std.specs.Prelude.{Err};
+ghost use Rattle.std.specs.Option.{option_map, unwrap_or};
+ghost use Rattle.icu_tables.specs.Tables.{held};
+
+use crate::sample::sample;
+use icu_locale::{LocaleDirectionality, LocaleExpander};
+use icu_provider::{
+    Aliases, DataError, DataErrorKind, DataProvider, LikelySubtagsExtended,
+    LikelySubtagsForLanguage, LikelySubtagsForScriptRegion, ScriptDirection,
+};
+use icu_tables::Tables;
+use std::test::Fail;
+
+// Tables behind a provider that refuses some loads.
+#[derive(Drop)]
+struct Refusing<'t> {
+    tables: &'t Tables,
+    language: Option<DataError>,
+    script_region: Option<DataError>,
+    extended: Option<DataError>,
+    aliases: Option<DataError>,
+    directions: Option<DataError>,
+}
+
+impl DataProvider for Refusing<'_> {
+    ghost likely_language = { λ p. unwrap_or (option_map (λ e. Err e) p.language) (held p.tables.now.likely_language) };
+
+    ghost likely_script_region = { λ p. unwrap_or (option_map (λ e. Err e) p.script_region) (held p.tables.now.likely_script_region) };
+
+    ghost likely_extended = { λ p. unwrap_or (option_map (λ e. Err e) p.extended) (held p.tables.now.likely_extended) };
+
+    ghost aliases = { λ p. unwrap_or (option_map (λ e. Err e) p.aliases) (held p.tables.now.aliases) };
+
+    ghost script_direction = { λ p. unwrap_or (option_map (λ e. Err e) p.directions) (held p.tables.now.script_direction) };
+
+    fn load_likely_language(&self) -> Result<&LikelySubtagsForLanguage, DataError> {
+        match self.language {
+            Some(refusal) => Err(refusal),
+            None => self.tables.load_likely_language(),
+        }
+    }
+
+    fn load_likely_script_region(&self) -> Result<&LikelySubtagsForScriptRegion, DataError> {
+        match self.script_region {
+            Some(refusal) => Err(refusal),
+            None => self.tables.load_likely_script_region(),
+        }
+    }
+
+    fn load_likely_extended(&self) -> Result<&LikelySubtagsExtended, DataError> {
+        match self.extended {
+            Some(refusal) => Err(refusal),
+            None => self.tables.load_likely_extended(),
+        }
+    }
+
+    fn load_aliases(&self) -> Result<&Aliases, DataError> {
+        match self.aliases {
+            Some(refusal) => Err(refusal),
+            None => self.tables.load_aliases(),
+        }
+    }
+
+    fn load_script_direction(&self) -> Result<&ScriptDirection, DataError> {
+        match self.directions {
+            Some(refusal) => Err(refusal),
+            None => self.tables.load_script_direction(),
+        }
+    }
+}
+
+const KINDS: [DataErrorKind; 6] = [
+    DataErrorKind::IdentifierNotFound,
+    DataErrorKind::MarkerNotFound,
+    DataErrorKind::InvalidRequest,
+    DataErrorKind::Deserialize,
+    DataErrorKind::Custom,
+    DataErrorKind::Memory,
+];
+
+fn willing(tables: &Tables) -> Refusing<'_> {
+    Refusing {
+        tables,
+        language: None,
+        script_region: None,
+        extended: None,
+        aliases: None,
+        directions: None,
+    }
+}
+
+fn refusal(kind: DataErrorKind) -> Option<DataError> {
+    Some(DataError { kind })
+}
+
+#[test]
+fn each_refusal_at_each_load(rt: HostRuntime) -> Result<(), Fail> {
+    let mut tables = sample(rt.alloc())?;
+    tables.set_likely_extended(LikelySubtagsExtended::new(rt.alloc()));
+    for kind in KINDS {
+        let want = refusal(kind);
+        let mut provider = willing(&tables);
+        provider.language = want;
+        assert!(rt; LocaleExpander::try_new_common_unstable(&provider).err() == want);
+        assert!(rt; LocaleExpander::try_new_extended_unstable(&provider).err() == want);
+        assert!(rt; LocaleDirectionality::try_new_common_unstable(&provider).err() == want);
+        let mut provider = willing(&tables);
+        provider.script_region = want;
+        assert!(rt; LocaleExpander::try_new_common_unstable(&provider).err() == want);
+        assert!(rt; LocaleExpander::try_new_extended_unstable(&provider).err() == want);
+        assert!(rt; LocaleDirectionality::try_new_extended_unstable(&provider).err() == want);
+        let mut provider = willing(&tables);
+        provider.extended = want;
+        assert!(rt; LocaleExpander::try_new_common_unstable(&provider).is_ok());
+        assert!(rt; LocaleExpander::try_new_extended_unstable(&provider).err() == want);
+        assert!(rt; LocaleDirectionality::try_new_common_unstable(&provider).is_ok());
+        assert!(rt; LocaleDirectionality::try_new_extended_unstable(&provider).err() == want);
+        let mut provider = willing(&tables);
+        provider.directions = want;
+        let expander = LocaleExpander::try_new_extended_unstable(&provider)?;
+        assert!(rt; LocaleDirectionality::try_new_common_unstable(&provider).err() == want);
+        assert!(rt; LocaleDirectionality::try_new_extended_unstable(&provider).err() == want);
+        assert!(rt; LocaleDirectionality::try_new_with_expander_unstable(&provider, expander).err() == want);
+        assert!(rt; LocaleDirectionality::try_new_with_expander_unstable(&provider, &expander).err() == want);
+    }
+    Ok(())
+}
+
+#[test]
+fn the_first_refusal_decides(rt: HostRuntime) -> Result<(), Fail> {
+    let tables = sample(rt.alloc())?;
+    let mut provider = willing(&tables);
+    provider.language = refusal(DataErrorKind::IdentifierNotFound);
+    provider.script_region = refusal(DataErrorKind::Custom);
+    assert!(rt; LocaleExpander::try_new_common_unstable(&provider).err() == refusal(DataErrorKind::IdentifierNotFound));
+    let mut provider = willing(&tables);
+    provider.language = refusal(DataErrorKind::Custom);
+    provider.script_region = refusal(DataErrorKind::IdentifierNotFound);
+    assert!(rt; LocaleExpander::try_new_common_unstable(&provider).err() == refusal(DataErrorKind::Custom));
+    Ok(())
+}

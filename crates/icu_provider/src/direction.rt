@@ -1,0 +1,76 @@
+//! Which way scripts run.
+ghost use Rattle.std.specs.Prelude.{◌≡◌, [], IsOk, IsTrue, IfErr, OnOk, OnErr};
+ghost use Rattle.std.specs.BTreeMap.{insert_entry};
+ghost use Rattle.icu_locale_core.specs.TextSet.{text_cmp};
+ghost use Rattle.icu_provider.specs.Maps.{SetsOnly};
+ghost use Rattle.icu_provider.specs.ScriptDirection.{is_listed};
+
+use crate::{DataError, DataErrorKind, SortedMap};
+use icu_locale_core::Script;
+use std::alloc::Global;
+
+/// Two sets of scripts: those that run from right to left, and those that run from left to right. They may share
+/// scripts.
+#[derive(Debug, Drop)]
+pub struct ScriptDirection {
+    /// The scripts from right to left.
+    pub rtl: SortedMap<Script, ()>,
+    /// The scripts from left to right.
+    pub ltr: SortedMap<Script, ()>,
+}
+
+impl ScriptDirection {
+    /// No script in either set. It takes no memory.
+    pub fn new(alloc: Global) -> Self
+        ensures { result ≡ record { rtl = []; ltr = [] } }
+    {
+        ScriptDirection {
+            rtl: SortedMap::new(alloc),
+            ltr: SortedMap::new(alloc),
+        }
+    }
+
+    /// Adds a script to those from right to left. One that is there takes no memory.
+    ///
+    /// # Errors
+    ///
+    /// `Memory`, only where the list of scripts had to grow and could not: both sets are unchanged then.
+    pub fn insert_rtl(&mut self, script: Script) -> Result<(), DataError>
+        ensures ok { OnOk result (self.new ≡ record self.old { rtl = insert_entry text_cmp self.old.rtl script tt }) }
+        ensures sets { OnOk result (SetsOnly text_cmp self.old.rtl self.new.rtl script tt) }
+        ensures err { OnErr result (self.new ≡ self.old) }
+        ensures refused { IfErr result (λ e. e.kind ≡ DataErrorKind.Memory) }
+        ensures present { IsTrue (is_listed self.old.rtl script) → IsOk result }
+    {
+        self.rtl.insert(script, ())
+    }
+
+    /// Adds a script to those from left to right. One that is there takes no memory.
+    ///
+    /// # Errors
+    ///
+    /// `Memory`, only where the list of scripts had to grow and could not: both sets are unchanged then.
+    pub fn insert_ltr(&mut self, script: Script) -> Result<(), DataError>
+        ensures ok { OnOk result (self.new ≡ record self.old { ltr = insert_entry text_cmp self.old.ltr script tt }) }
+        ensures sets { OnOk result (SetsOnly text_cmp self.old.ltr self.new.ltr script tt) }
+        ensures err { OnErr result (self.new ≡ self.old) }
+        ensures refused { IfErr result (λ e. e.kind ≡ DataErrorKind.Memory) }
+        ensures present { IsTrue (is_listed self.old.ltr script) → IsOk result }
+    {
+        self.ltr.insert(script, ())
+    }
+
+    /// Whether a script is one of those from right to left. It takes no memory.
+    pub fn is_rtl(&self, script: Script) -> bool
+        ensures { result ≡ is_listed self.now.rtl script }
+    {
+        self.rtl.contains_key(&script)
+    }
+
+    /// Whether a script is one of those from left to right. It takes no memory.
+    pub fn is_ltr(&self, script: Script) -> bool
+        ensures { result ≡ is_listed self.now.ltr script }
+    {
+        self.ltr.contains_key(&script)
+    }
+}
