@@ -31,6 +31,12 @@ pub fn the_likely_table_is_one_map()
         common_row e k ≡ None → extension_row e.extended k ≡ None → likely e k ≡ und_row e.language.now.und k }
 {}
 
+mod canonicalization;
+
+pub use crate::rewriting::identifiers::search;
+pub use crate::rewriting::replacing::{replacement, rule_matches};
+pub use canonicalization::{applied_where_changed, canonical_stays_canonical, runs_end_or_repeat};
+
 /// Every identifier has a minimal form, and only one, over every table.
 #[tactic(auto, using(crate::proofs::Classes::minimal_form_is_one))]
 pub fn minimal_form_is_one()

@@ -2,11 +2,16 @@
 #![tactic(auto)]
 
 mod as_expander;
+mod canonicalizer;
 mod directionality;
 mod expander;
 pub mod laws;
+mod rewriting;
 mod settled;
 
 pub use as_expander::AsExpander;
+pub use canonicalizer::rules::{Rule, Rules};
+pub use canonicalizer::{CanonicalizeError, LocaleCanonicalizer};
 pub use directionality::{Direction, LocaleDirectionality};
 pub use expander::{LocaleExpander, TransformResult};
+pub use rewriting::turns::Turns;

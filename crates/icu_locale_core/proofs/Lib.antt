@@ -1,10 +1,10 @@
-mod Agreements
+pub mod Agreements
 mod Cases
 pub mod Cutting
 mod Padding
 mod Readings
 mod Searches
-mod SetOperations
-mod TextSets
-mod VariantLists
+pub mod SetOperations
+pub mod TextSets
+pub mod VariantLists
 mod Written

@@ -29,6 +29,13 @@ impl<T> RowList<T> {
         }
     }
 
+    /// The rows of a list, in its order. It takes no memory.
+    pub fn from_vec(rows: Vec<T>) -> Self
+        ensures { result ≡ rows.items }
+    {
+        RowList { rows }
+    }
+
     /// Puts a row behind the others.
     ///
     /// # Errors

@@ -38,6 +38,14 @@ impl<K: Ord, V> SortedMap<K, V> {
         }
     }
 
+    /// A map with the rows of a list whose keys rise. It takes no memory.
+    pub fn from_sorted(rows: Vec<(K, V)>) -> Self
+        requires { IsSortedMap K.cmp rows.items }
+        ensures { result ≡ rows.items }
+    {
+        SortedMap { entries: rows }
+    }
+
     /// How many rows there are.
     pub fn len(&self) -> usize
         ensures { result ≡ length self.now }

@@ -1,0 +1,94 @@
+-- The sets of texts of a list are exactly those whose members the list has.
+use Rattle.std.proofs.Common.{◌≡◌, ℕ, Bool, true, false, not, ◌&&◌, ◌||◌, cond, List, [], ◌∷◌, ◌++◌, map, Some, None, is_some, Option, ◌⊎◌, inl, inr, refl, ap, sym, ◌∙◌, subst}
+use Rattle.std.specs.List.{Contains}
+use Rattle.std.specs.Ordering.{eq_by_cmp, is_eq}
+use Rattle.std.specs.FinMap as fin
+use Rattle.std.proofs.lemmas.Bool.{false≢true, cases_Bool}
+use Rattle.std.proofs.lemmas.Cmp.{tied_itself}
+use Rattle.std.proofs.lemmas.List.Elements.{Contains-append_left, Contains-append_right, Contains-append_cases}
+use Rattle.icu_locale_core.specs.TextSet.{TextSet, text_cmp, empty, contains, from_list, difference}
+use Rattle.icu_locale_core.proofs.TextSets.{text_total, same_set}
+use Rattle.icu_locale_core.proofs.SetOperations.{same_from_tied, contains-difference, contains-empty}
+use Rattle.icu_locale.specs.Universe.{subsets}
+use Rattle.icu_locale.proofs.Lists.{Contains-here, Contains-there, Contains-cons_cases, Contains-nil, Contains-map, Contains-from_map}
+
+some_or : (b : Bool) (o : Option (Unit {0})) → is_some (cond b (Some tt) o) ≡ (b || is_some o)
+some_or true o = refl
+some_or false o = refl
+
+pub contains-insert : (s : TextSet) (t q : List ℕ) → contains (fin.insert s t tt) q ≡ (eq_by_cmp text_cmp q t || contains s q)
+contains-insert s t q = ap is_some (fin.get-insert text_total s t tt q) ∙ some_or (eq_by_cmp text_cmp q t) (fin.get s q)
+
+pub contains-one : (t q : List ℕ) → contains (from_list (t ∷ [])) q ≡ eq_by_cmp text_cmp q t
+contains-one t q = contains-insert empty t q ∙ ap (λ b. eq_by_cmp text_cmp q t || b) (contains-empty q) ∙ or_false (eq_by_cmp text_cmp q t)
+  where
+    or_false : (b : Bool) → (b || false) ≡ b
+    or_false true = refl
+    or_false false = refl
+
+false_from : (b : Bool) → (b ≡ true → ⊥) → b ≡ false
+false_from true off = absurd (off refl)
+false_from false off = refl
+
+pub or_cases : (a b : Bool) → (a || b) ≡ true → (a ≡ true) ⊎ (b ≡ true)
+or_cases true b e = inl refl
+or_cases false b e = inr e
+
+-- a set with t is the set without t, and t
+put_back : (s : TextSet) (t : List ℕ) → contains s t ≡ true → fin.insert (difference s (from_list (t ∷ []))) t tt ≡ s
+put_back s t here = same_set _ s (λ q.
+    contains-insert (difference s (from_list (t ∷ []))) t q
+    ∙ ap (λ b. eq_by_cmp text_cmp q t || b) (contains-difference s (from_list (t ∷ [])) q ∙ ap (λ b. not b && contains s q) (contains-one t q))
+    ∙ same (eq_by_cmp text_cmp q t) (contains s q) (λ tied. ap (contains s) (same_from_tied q t tied) ∙ here))
+  where
+    same : (tied there : Bool) → (tied ≡ true → there ≡ true) → (tied || (not tied && there)) ≡ there
+    same true there h = sym (h refl)
+    same false there h = refl
+
+taken_out : (tied there : Bool) → (not tied && there) ≡ true → (tied ≡ false) × (there ≡ true)
+taken_out true there e = absurd (false≢true e)
+taken_out false there e = (refl, e)
+
+pub subset_among : (ts : List (List ℕ)) (s : TextSet) → ((q : List ℕ) → contains s q ≡ true → Contains ts q) → Contains (subsets ts) s
+subset_among [] s inside =
+    let none : empty ≡ s = same_set empty s (λ q. contains-empty q ∙ sym (false_from (contains s q) (λ here. Contains-nil q (inside q here)))) in
+    subst (Contains (empty ∷ [])) none (Contains-here empty [])
+subset_among (t ∷ ts) s inside =
+    elim (cases_Bool (contains s t)) [
+      | inl here ↦
+          let rest = difference s (from_list (t ∷ [])) in
+          let among : Contains (subsets ts) rest = subset_among ts rest (λ q there.
+          let parts = taken_out (eq_by_cmp text_cmp q t) (contains s q) (sym (contains-difference s (from_list (t ∷ [])) q ∙ ap (λ b. not b && contains s q) (contains-one t q)) ∙ there) in
+          elim (Contains-cons_cases t q ts (inside q parts.1)) [
+            | inl same ↦ absurd (false≢true (sym parts.0 ∙ ap (λ u. eq_by_cmp text_cmp q u) same ∙ itself q))
+            | inr later ↦ later
+          ]) in
+          Contains-append_right (subsets ts) (map (λ u. fin.insert u t tt) (subsets ts)) s (subst (Contains (map (λ u. fin.insert u t tt) (subsets ts))) (put_back s t here) (Contains-map (λ u. fin.insert u t tt) (subsets ts) rest among))
+      | inr off ↦
+          Contains-append_left (subsets ts) (map (λ u. fin.insert u t tt) (subsets ts)) s (subset_among ts s (λ q there.
+          elim (Contains-cons_cases t q ts (inside q there)) [
+            | inl same ↦ absurd (false≢true (sym off ∙ ap (contains s) same ∙ there))
+            | inr later ↦ later
+          ]))
+    ]
+  where
+    itself : (q : List ℕ) → eq_by_cmp text_cmp q q ≡ true
+    itself q = ap is_eq (tied_itself text_total q)
+
+pub among_subset : (ts : List (List ℕ)) (s : TextSet) (q : List ℕ) → Contains (subsets ts) s → contains s q ≡ true → Contains ts q
+among_subset [] s q here there =
+    elim (Contains-cons_cases empty s [] here) [
+      | inl same ↦ absurd (false≢true (sym (contains-empty q) ∙ ap (λ u. contains u q) same ∙ there))
+      | inr later ↦ absurd (Contains-nil s later)
+    ]
+among_subset (t ∷ ts) s q here there =
+    elim (Contains-append_cases (subsets ts) (map (λ u. fin.insert u t tt) (subsets ts)) s here) [
+      | inl first ↦ Contains-there t q ts (among_subset ts s q first there)
+      | inr later ↦
+          let found = Contains-from_map (λ u. fin.insert u t tt) (subsets ts) s later in
+          let either : (eq_by_cmp text_cmp q t || contains found.0 q) ≡ true = sym (contains-insert found.0 t q) ∙ ap (λ u. contains u q) found.2 ∙ there in
+          elim (or_cases (eq_by_cmp text_cmp q t) (contains found.0 q) either) [
+            | inl tied ↦ subst (λ u. Contains (u ∷ ts) q) (same_from_tied q t tied) (Contains-here q ts)
+            | inr inside ↦ Contains-there t q ts (among_subset ts found.0 q found.1 inside)
+          ]
+    ]

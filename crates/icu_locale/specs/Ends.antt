@@ -1,0 +1,64 @@
+-- What the parts of a canonicalization find: what only private functions cite.
+use Rattle.std.specs.Prelude.{◌≡◌, ℕ, Bool, ◌||◌, Option, Some, None, is_some, IsSome, IfSome, IsSomeAnd, MatchOption, Result, unwrap_or, List}
+use Rattle.std.specs.Option.{option_or}
+use Rattle.icu_locale_core.specs.TextSet.{empty}
+use Rattle.icu_locale_core.specs.declared.langid.LanguageIdentifier.{LanguageIdentifier}
+use Rattle.icu_locale_core.specs.declared.locale.Locale.{Locale}
+use Rattle.icu_locale.specs.LikelySubtags.{LikelySubtags}
+use Rattle.icu_locale.specs.Kinds.{next, by_language_alias}
+use Rattle.icu_locale.specs.Run.{StandsIn, EndsAt, IsRepeat, HasDistinct}
+use Rattle.icu_locale.specs.Canonical.{IsCounted, rg, sd, put, subdivision_alias}
+use Rattle.icu_locale.specs.declared.canonicalizer.rules.Rules.{Rules}
+use Rattle.icu_locale.specs.declared.canonicalizer.changes.Changes.{Changes}
+use Rattle.icu_locale.specs.declared.canonicalizer.CanonicalizeError.{CanonicalizeError}
+use Rattle.icu_locale.specs.declared.canonicalizer.CanonicalizeError.TheVariants.{Memory, NoFixedPoint}
+
+-- the end of a run at a later place than its start, or none where nothing follows the start
+abbrev pub IsLaterEnd : (LanguageIdentifier → Option LanguageIdentifier) → LanguageIdentifier → Option LanguageIdentifier → Type 0
+IsLaterEnd turn x None = turn x ≡ None
+IsLaterEnd turn x (Some y) = IsSome (turn x) × EndsAt turn x y
+
+-- the same of a run that there may be
+abbrev pub IsLaterEndOf : (LanguageIdentifier → Option LanguageIdentifier) → Option LanguageIdentifier → Option LanguageIdentifier → Type 0
+IsLaterEndOf turn None end = end ≡ None
+IsLaterEndOf turn (Some x) end = IsLaterEnd turn x end
+
+-- a refusal of a run names its first repeat
+abbrev pub IsRunRefusal : (LanguageIdentifier → Option LanguageIdentifier) → LanguageIdentifier → CanonicalizeError → Type 0
+IsRunRefusal turn x Memory = Unit {0}
+IsRunRefusal turn x (NoFixedPoint z) = IsRepeat turn x z
+
+-- what each identifier of a run becomes has no variants
+abbrev pub IsFree : (LanguageIdentifier → Option LanguageIdentifier) → LanguageIdentifier → Type 0
+IsFree turn x = (y : LanguageIdentifier) → StandsIn turn x y → IfSome (turn y) (λ z. z.variants ≡ empty)
+
+-- the turns along a run that there may be
+abbrev pub IsRunCounted : {T : Type 0} → (LanguageIdentifier → Option LanguageIdentifier) → Option LanguageIdentifier → Result T CanonicalizeError → ℕ → ℕ → Type 0
+IsRunCounted turn start result before after =
+    (n : ℕ) × MatchOption start (n ≡ 0) (λ x. HasDistinct turn x n) × IsCounted result before after n
+
+-- a refusal of a run that there may be names its first repeat
+abbrev pub IsRunRefusalOf : (LanguageIdentifier → Option LanguageIdentifier) → Option LanguageIdentifier → CanonicalizeError → Type 0
+IsRunRefusalOf turn start Memory = Unit {0}
+IsRunRefusalOf turn start (NoFixedPoint z) = IsSomeAnd start (λ x. IsRepeat turn x z)
+
+-- what is to be changed of a locale: the ends of the runs, and the values in place of those at `rg` and `sd`
+pub record IsChanges (likely : LikelySubtags) (rules : Rules) (old : Locale) (changes : Changes) : Type 0 where
+  pub id : IsLaterEnd (next likely rules) old.id changes.id
+  pub transform : IsLaterEndOf (by_language_alias rules) old.extensions.transform.lang changes.transform
+  pub region_override : changes.region_override ≡ subdivision_alias rules old.extensions.unicode.keywords rg
+  pub subdivision : changes.subdivision ≡ subdivision_alias rules old.extensions.unicode.keywords sd
+
+-- the locale with the changes
+abbrev pub changed : Changes → Locale → Locale
+changed changes old = record {
+  id = unwrap_or changes.id old.id;
+  extensions = record {
+    unicode = record { keywords = put (put old.extensions.unicode.keywords rg changes.region_override) sd changes.subdivision };
+    transform = record { lang = option_or changes.transform old.extensions.transform.lang };
+  };
+}
+
+-- there is a change
+abbrev pub is_change : Changes → Bool
+is_change changes = is_some changes.id || (is_some changes.transform || (is_some changes.region_override || is_some changes.subdivision))

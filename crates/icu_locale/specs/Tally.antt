@@ -1,0 +1,8 @@
+use Rattle.std.specs.Prelude.{ℕ, suc}
+use Rattle.icu_locale.specs.declared.rewriting.turns.Tally.{Tally}
+use Rattle.icu_locale.specs.declared.rewriting.turns.Tally.TheVariants.{None, OneMore'}
+
+-- how many strokes a tally has
+abbrev pub strokes : Tally → ℕ
+strokes None = 0
+strokes (OneMore' mark below) = suc (strokes below)

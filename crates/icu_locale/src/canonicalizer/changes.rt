@@ -1,0 +1,119 @@
+// What is to be changed of a locale.
+ghost use Rattle.std.specs.Prelude.{◌≡◌, is_some, IsSome, IsTrue, unwrap_or};
+ghost use Rattle.std.specs.Option.{option_or};
+ghost use Rattle.icu_locale_core.specs.Subtag.{is_key, lowercase};
+ghost use Rattle.icu_locale_core.specs.Keywords.{value_at};
+ghost use Rattle.icu_locale.specs.Canonical.{rg, sd, put, answer_of};
+
+use crate::TransformResult;
+use icu_locale_core::{Key, Keywords, LanguageIdentifier, Locale, Value};
+
+/// What is to be changed of a locale, where none stands for no change.
+#[derive(Drop)]
+pub struct Changes {
+    pub id: Option<LanguageIdentifier>,
+    pub transform: Option<LanguageIdentifier>,
+    pub region_override: Option<Value>,
+    pub subdivision: Option<Value>,
+}
+
+impl Changes {
+    ghost use Rattle.icu_locale.specs.Ends.{changed, is_change};
+
+    // Writes the changes, all of them.
+    pub fn write(self, locale: &mut Locale) -> TransformResult
+        requires region_override { IsSome self.region_override → IsSome (value_at locale.old.extensions.unicode.keywords rg) }
+        requires subdivision { IsSome self.subdivision → IsSome (value_at locale.old.extensions.unicode.keywords sd) }
+        ensures changed { locale.new ≡ changed self locale.old }
+        ensures answer { result ≡ answer_of (is_change self) }
+    {
+        let Changes {
+            id,
+            transform,
+            region_override,
+            subdivision,
+        } = self;
+        let keywords = &mut locale.extensions.unicode.keywords;
+        let is_region_changed = put(keywords, region_override_key(), region_override);
+        let is_subdivision_changed = put(keywords, subdivision_key(), subdivision);
+        let is_id_changed = replace(&mut locale.id, id);
+        let is_transform_changed = replace_option(&mut locale.extensions.transform.lang, transform);
+        answer_of(is_id_changed || is_transform_changed || is_region_changed || is_subdivision_changed)
+    }
+}
+
+fn answer_of(is_changed: bool) -> TransformResult
+    ensures { result ≡ answer_of is_changed }
+{
+    if is_changed {
+        TransformResult::Modified
+    } else {
+        TransformResult::Unmodified
+    }
+}
+
+fn replace(id: &mut LanguageIdentifier, by: Option<LanguageIdentifier>) -> bool
+    ensures written { id.new ≡ unwrap_or by id.old }
+    ensures answer { result ≡ is_some by }
+{
+    match by {
+        Some(new) => {
+            *id = new;
+            true
+        }
+        None => false,
+    }
+}
+
+fn replace_option(
+    id: &mut Option<LanguageIdentifier>,
+    by: Option<LanguageIdentifier>,
+) -> bool
+    ensures written { id.new ≡ option_or by id.old }
+    ensures answer { result ≡ is_some by }
+{
+    match by {
+        Some(new) => {
+            *id = Some(new);
+            true
+        }
+        None => false,
+    }
+}
+
+// Puts a value at a key that is there.
+fn put(keywords: &mut Keywords, key: Key, value: Option<Value>) -> bool
+    requires { IsSome value → IsSome (value_at keywords.old key) }
+    ensures rows { keywords.new ≡ put keywords.old key value }
+    ensures answer { result ≡ is_some value }
+{
+    match value {
+        Some(value) => {
+            let _ = keywords.set(key, value);
+            true
+        }
+        None => false,
+    }
+}
+
+pub fn region_override_key() -> Key
+    ensures { result ≡ rg }
+{
+    key("rg")
+}
+
+pub fn subdivision_key() -> Key
+    ensures { result ≡ sd }
+{
+    key("sd")
+}
+
+fn key(text: &str) -> Key
+    requires { IsTrue (is_key text.now) }
+    ensures { result ≡ lowercase text.now }
+{
+    match Key::try_from_str(text) {
+        Ok(key) => key,
+        Err(_) => unreachable!(),
+    }
+}

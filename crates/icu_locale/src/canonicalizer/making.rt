@@ -1,0 +1,158 @@
+//! Canonicalizers over tables or a provider.
+ghost use Rattle.std.specs.Prelude.{◌≡◌, Some, None, Err, IfOk, IfErr, MatchResult};
+ghost use Rattle.icu_locale.specs.Expander.{common_tables, all_tables, seen};
+ghost use Rattle.icu_locale.specs.Rules.{AreRules};
+ghost use Rattle.icu_locale.specs.Making.{then_aliases, IsOver};
+
+use super::LocaleCanonicalizer;
+use super::reading::read_all;
+use super::rules::Rules;
+use crate::LocaleExpander;
+use icu_provider::{
+    Aliases, DataError, DataErrorKind, DataProvider, LikelySubtagsExtended,
+    LikelySubtagsForLanguage, LikelySubtagsForScriptRegion, RowList, SortedMap,
+};
+use std::alloc::Global;
+
+impl<'d, E> LocaleCanonicalizer<'d, E> {
+    /// Over a table of aliases, whose texts are read here, and an expander. A row that cannot be read is left out.
+    ///
+    /// # Errors
+    ///
+    /// `Memory` where the rules that were read found no room.
+    pub fn new_with_expander(
+        alloc: Global,
+        aliases: &'d Aliases,
+        expander: E,
+    ) -> Result<Self, DataError>
+    where
+        E: Drop,
+        ensures rules { IfOk result (λ c. AreRules aliases.now c.rules) }
+        ensures expander { IfOk result (λ c. c.expander ≡ expander) }
+        ensures refused { IfErr result (λ e. e.kind ≡ DataErrorKind.Memory) }
+    {
+        match read_rules(alloc, aliases) {
+            Ok(rules) => Ok(LocaleCanonicalizer { rules, expander }),
+            Err(refusal) => Err(refusal),
+        }
+    }
+
+    /// Over the aliases of a provider and an expander.
+    ///
+    /// # Errors
+    ///
+    /// The refusal of the provider, unchanged, and then `Memory` where the rules that were read found no room.
+    pub fn try_new_with_expander_unstable<P: DataProvider>(
+        alloc: Global,
+        provider: &'d P,
+        expander: E,
+    ) -> Result<Self, DataError>
+    where
+        E: Drop,
+        ensures made { MatchResult (P.aliases provider.now) (λ table. MatchResult result (λ c. AreRules table c.rules) (λ e. e.kind ≡ DataErrorKind.Memory)) (λ refusal. result ≡ Err refusal) }
+        ensures expander { IfOk result (λ c. c.expander ≡ expander) }
+    {
+        match provider.load_aliases() {
+            Ok(aliases) => LocaleCanonicalizer::new_with_expander(alloc, aliases, expander),
+            Err(refusal) => Err(refusal),
+        }
+    }
+}
+
+impl<'d> LocaleCanonicalizer<'d, LocaleExpander<'d>> {
+    /// Over the common tables of likely subtags and a table of aliases, whose texts are read here.
+    ///
+    /// # Errors
+    ///
+    /// `Memory` where the rules that were read found no room.
+    pub fn new_common(
+        alloc: Global,
+        language: &'d LikelySubtagsForLanguage,
+        script_region: &'d LikelySubtagsForScriptRegion,
+        aliases: &'d Aliases,
+    ) -> Result<Self, DataError>
+        ensures made { IfOk result (λ c. IsOver (record { language = language.now; script_region = script_region.now; extended = None }, aliases.now) c.expander c.rules) }
+        ensures refused { IfErr result (λ e. e.kind ≡ DataErrorKind.Memory) }
+    {
+        let expander = LocaleExpander::new_common(language, script_region);
+        LocaleCanonicalizer::new_with_expander(alloc, aliases, expander)
+    }
+
+    /// Over the common tables of likely subtags, the extended one, and a table of aliases, whose texts are read here.
+    ///
+    /// # Errors
+    ///
+    /// `Memory` where the rules that were read found no room.
+    pub fn new_extended(
+        alloc: Global,
+        language: &'d LikelySubtagsForLanguage,
+        script_region: &'d LikelySubtagsForScriptRegion,
+        extended: &'d LikelySubtagsExtended,
+        aliases: &'d Aliases,
+    ) -> Result<Self, DataError>
+        ensures made { IfOk result (λ c. IsOver (record { language = language.now; script_region = script_region.now; extended = Some extended.now }, aliases.now) c.expander c.rules) }
+        ensures refused { IfErr result (λ e. e.kind ≡ DataErrorKind.Memory) }
+    {
+        let expander = LocaleExpander::new_extended(language, script_region, extended);
+        LocaleCanonicalizer::new_with_expander(alloc, aliases, expander)
+    }
+
+    /// Over the common tables of likely subtags of a provider, which are loaded first, and its aliases.
+    ///
+    /// # Errors
+    ///
+    /// The first refusal of the provider, unchanged, and then `Memory` where the rules that were read found no room.
+    pub fn try_new_common_unstable<P: DataProvider>(
+        alloc: Global,
+        provider: &'d P,
+    ) -> Result<Self, DataError>
+        ensures { MatchResult (then_aliases (common_tables (P.likely_language provider.now) (P.likely_script_region provider.now)) (P.aliases provider.now))
+            (λ tables. MatchResult result (λ c. IsOver tables c.expander c.rules) (λ e. e.kind ≡ DataErrorKind.Memory))
+            (λ refusal. result ≡ Err refusal) }
+    {
+        match LocaleExpander::try_new_common_unstable(provider) {
+            Ok(expander) => LocaleCanonicalizer::try_new_with_expander_unstable(alloc, provider, expander),
+            Err(refusal) => Err(refusal),
+        }
+    }
+
+    /// Over all tables of likely subtags of a provider, which are loaded first, and its aliases.
+    ///
+    /// # Errors
+    ///
+    /// The first refusal of the provider, unchanged, and then `Memory` where the rules that were read found no room.
+    pub fn try_new_extended_unstable<P: DataProvider>(
+        alloc: Global,
+        provider: &'d P,
+    ) -> Result<Self, DataError>
+        ensures { MatchResult (then_aliases (all_tables (P.likely_language provider.now) (P.likely_script_region provider.now) (P.likely_extended provider.now)) (P.aliases provider.now))
+            (λ tables. MatchResult result (λ c. IsOver tables c.expander c.rules) (λ e. e.kind ≡ DataErrorKind.Memory))
+            (λ refusal. result ≡ Err refusal) }
+    {
+        match LocaleExpander::try_new_extended_unstable(provider) {
+            Ok(expander) => LocaleCanonicalizer::try_new_with_expander_unstable(alloc, provider, expander),
+            Err(refusal) => Err(refusal),
+        }
+    }
+}
+
+// The rules that can be read of a table.
+fn read_rules<'d>(alloc: Global, aliases: &'d Aliases) -> Result<Rules<'d>, DataError>
+    ensures rules { IfOk result (AreRules aliases.now) }
+    ensures refused { IfErr result (λ e. e.kind ≡ DataErrorKind.Memory) }
+{
+    let language = read_all(alloc, aliases.language.as_slice())?;
+    let language_variants = read_all(alloc, aliases.language_variants.as_slice())?;
+    let language_len2 = read_all(alloc, aliases.language_len2.as_slice())?;
+    let language_len3 = read_all(alloc, aliases.language_len3.as_slice())?;
+    let subdivision = read_all(alloc, aliases.subdivision.as_slice())?;
+    Ok(Rules {
+        language: RowList::from_vec(language),
+        language_variants: RowList::from_vec(language_variants),
+        language_len2: SortedMap::from_sorted(language_len2),
+        language_len3: SortedMap::from_sorted(language_len3),
+        subdivision: SortedMap::from_sorted(subdivision),
+        aliases,
+        alloc,
+    })
+}

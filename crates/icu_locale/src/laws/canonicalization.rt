@@ -1,0 +1,33 @@
+//! Laws of canonicalization. Each function here takes nothing, answers nothing and carries a proved fact.
+ghost use Rattle.std.specs.Prelude.{◌≡◌, ◌≢◌, ◌↔◌, true, false};
+ghost use Rattle.icu_locale_core.specs.declared.langid.LanguageIdentifier.{LanguageIdentifier};
+ghost use Rattle.icu_locale_core.specs.declared.locale.Locale.{Locale};
+ghost use Rattle.icu_locale.specs.LikelySubtags.{LikelySubtags};
+ghost use Rattle.icu_locale.specs.Kinds.{next_of};
+ghost use Rattle.icu_locale.specs.Run.{EndsOrRepeats, EndsWithNoRepeat, HasOneEnd, HasOneRepeat};
+ghost use Rattle.icu_locale.specs.Canonical.{IsCanonical, is_applied, NeedsNoMemory, HasFinalSubdivisions};
+ghost use Rattle.icu_locale.specs.declared.canonicalizer.rules.Rules.{Rules};
+ghost use Rattle.std.specs.Prelude.{Bool};
+
+/// Of each run of an identifier, by all rules or by language aliases alone, exactly one holds: it ends, or it has a
+/// first identifier that comes again. The end is one, and so is the repeat.
+pub fn runs_end_or_repeat()
+    ensures one { (likely : LikelySubtags) (rules : Rules) (transform : Bool) (x : LanguageIdentifier) → EndsOrRepeats (next_of likely rules transform) x }
+    ensures not_both { (likely : LikelySubtags) (rules : Rules) (transform : Bool) (x : LanguageIdentifier) → EndsWithNoRepeat (next_of likely rules transform) x }
+    ensures one_end { (likely : LikelySubtags) (rules : Rules) (transform : Bool) (x : LanguageIdentifier) → HasOneEnd (next_of likely rules transform) x }
+    ensures one_repeat { (likely : LikelySubtags) (rules : Rules) (transform : Bool) (x : LanguageIdentifier) → HasOneRepeat (next_of likely rules transform) x }
+{}
+
+/// A canonical locale is canonical itself: where no value of a subdivision is a key again, nothing more is applied to
+/// it, and no memory is needed to find that.
+pub fn canonical_stays_canonical()
+    ensures canonical { (likely : LikelySubtags) (rules : Rules) (old new : Locale) → HasFinalSubdivisions rules → IsCanonical likely rules old new → IsCanonical likely rules new new }
+    ensures unapplied { (likely : LikelySubtags) (rules : Rules) (old new : Locale) → HasFinalSubdivisions rules → IsCanonical likely rules old new → is_applied likely rules new ≡ false }
+    ensures free { (likely : LikelySubtags) (rules : Rules) (old new : Locale) → HasFinalSubdivisions rules → IsCanonical likely rules old new → NeedsNoMemory likely rules new }
+{}
+
+/// Something is applied to a locale exactly where its canonical form differs, where no value of a subdivision is a key
+/// again.
+pub fn applied_where_changed()
+    ensures { (likely : LikelySubtags) (rules : Rules) (old new : Locale) → HasFinalSubdivisions rules → IsCanonical likely rules old new → (is_applied likely rules old ≡ true) ↔ (old ≢ new) }
+{}

@@ -1,0 +1,179 @@
+// Runs of replacements, of which UTS #35 Part 1, Annex C "LocaleId Canonicalization", has one for each identifier.
+// Two walkers go along a run, one twice as fast as the other, so no list of states is kept.
+ghost use Rattle.std.specs.Prelude.{◌≡◌, ◌<◌, ◌≤◌, ◌+◌, ◌*◌, ℕ, List, Option, Some, None, true, IfOk, IfErr, IsOk, OnOk, IsSome};
+ghost use Rattle.icu_locale.specs.Run.{at, StandsIn, HasDistinct, IsUniverse, IsOutcome, IsRepeat, EndsAt, EndsOrRepeats, EndsWithNoRepeat, HasOneEnd, HasOneRepeat, KeepsEnd};
+ghost use Rattle.icu_locale.specs.Walk.{IsCount, IsMeeting, IsWalk};
+
+pub mod identifiers;
+mod kinds;
+pub mod replacing;
+pub mod turns;
+
+use turns::Turns;
+
+/// A rule that leads from a state to the next, or to none.
+pub trait Rewriting {
+    type State: Eq + Drop;
+
+    type Error: Drop;
+
+    /// What follows a state.
+    ghost next: { Self → Self.State → Option Self.State };
+
+    /// States among which a run from the given one stays.
+    ghost universe: { Self → Self.State → List Self.State };
+
+    /// The errors with which a search may be refused.
+    ghost refuses: { Self.Error → Type 0 };
+
+    /// A search here takes no memory.
+    ghost needs_none: { Self → Self.State → Type 0 };
+
+    /// What follows `state`, in one turn.
+    fn search(
+        &self,
+        state: &Self::State,
+        turns: &mut Turns,
+    ) -> Result<Option<Self::State>, Self::Error>
+        ensures found { IfOk result (λ found. found ≡ next self.now state.now) }
+        ensures refused { IfErr result refuses }
+        ensures counted { turns.new ≡ turns.old + 1 }
+        ensures free { needs_none self.now state.now → IsOk result };
+
+    /// Equal states are the same.
+    ghost exact: { (y z : Self.State) → Self.State.eq y z ≡ true → y ≡ z };
+}
+
+/// How a run goes on.
+#[derive(Drop, Debug, Clone, Copy, PartialEq, Eq)]
+pub enum Outcome<X> {
+    /// Nothing follows the start.
+    Same,
+    /// The run ends here, at a later place than its start.
+    Ends(X),
+    /// The run has no end, and this is the first of its states that comes again.
+    Repeats(X),
+}
+
+/// How the two walkers fare.
+#[derive(Drop)]
+enum Walk<X> {
+    Alone,
+    Stops(X),
+    Meets(X),
+}
+
+/// Where the run from `start` ends, or the first state of it that comes again.
+pub fn end_of_run<R: Rewriting>(
+    rewriting: &R,
+    start: &R::State,
+    turns: &mut Turns,
+) -> Result<Outcome<R::State>, R::Error>
+    requires { IsUniverse (R.next rewriting.now) start.now (R.universe rewriting.now start.now) }
+    ensures outcome { IfOk result (IsOutcome (R.next rewriting.now) start.now) }
+    ensures refused { IfErr result R.refuses }
+    ensures free { ((y : R.State) → StandsIn (R.next rewriting.now) start.now y → R.needs_none rewriting.now y)
+        → IsOk result }
+    ensures count { (n : ℕ) × HasDistinct (R.next rewriting.now) start.now n
+        × (turns.new ≤ turns.old + 6 * n) × OnOk result (turns.old + n ≤ turns.new) }
+{
+    match meet(rewriting, start, turns)? {
+        Walk::Alone => Ok(Outcome::Same),
+        Walk::Stops(last) => Ok(Outcome::Ends(last)),
+        Walk::Meets(meeting) => {
+            let first = first_repeat(rewriting, start, meeting, turns)?;
+            Ok(Outcome::Repeats(first))
+        }
+    }
+}
+
+/// Of a run among finitely many states exactly one holds: it ends, or a state comes again.
+pub fn ends_or_repeats<R: Rewriting>(rewriting: &R, start: &R::State)
+    requires { IsUniverse (R.next rewriting.now) start.now (R.universe rewriting.now start.now) }
+    ensures one { EndsOrRepeats (R.next rewriting.now) start.now }
+    ensures not_both { EndsWithNoRepeat (R.next rewriting.now) start.now }
+{}
+
+/// The end of a run is one, and is kept from each state on the way; so is the first repeat one.
+pub fn one_end<R: Rewriting>(rewriting: &R, start: &R::State)
+    ensures end { HasOneEnd (R.next rewriting.now) start.now }
+    ensures kept { KeepsEnd (R.next rewriting.now) start.now }
+    ensures repeat { HasOneRepeat (R.next rewriting.now) start.now }
+{}
+
+// Sends one walker a step at a time and another two, until the second comes to an end or they meet.
+fn meet<R: Rewriting>(
+    rewriting: &R,
+    start: &R::State,
+    turns: &mut Turns,
+) -> Result<Walk<R::State>, R::Error>
+    requires { IsUniverse (R.next rewriting.now) start.now (R.universe rewriting.now start.now) }
+    ensures walk { IfOk result (IsWalk (R.next rewriting.now) start.now) }
+    ensures refused { IfErr result R.refuses }
+    ensures free { ((y : R.State) → StandsIn (R.next rewriting.now) start.now y → R.needs_none rewriting.now y)
+        → IsOk result }
+    ensures most { (n : ℕ) → IsCount (R.next rewriting.now) start.now n → turns.new ≤ turns.old + 3 * n }
+    ensures least { OnOk result
+        ((n : ℕ) → IsCount (R.next rewriting.now) start.now n → turns.old + n ≤ turns.new) }
+{
+    let Some(mut slow) = rewriting.search(start, turns)? else {
+        return Ok(Walk::Alone);
+    };
+    let Some(mut fast) = rewriting.search(&slow, turns)? else {
+        return Ok(Walk::Stops(slow));
+    };
+    'walkers: while slow != fast {
+        slow = go_on(rewriting, &slow, turns)?;
+        let Some(middle) = rewriting.search(&fast, turns)? else {
+            return Ok(Walk::Stops(fast));
+        };
+        let Some(far) = rewriting.search(&middle, turns)? else {
+            return Ok(Walk::Stops(middle));
+        };
+        fast = far;
+    }
+    Ok(Walk::Meets(fast))
+}
+
+// Sends one walker from the start and one from the meeting, a step each, until they stand on the same state.
+fn first_repeat<R: Rewriting>(
+    rewriting: &R,
+    start: &R::State,
+    meeting: R::State,
+    turns: &mut Turns,
+) -> Result<R::State, R::Error>
+    requires meets { IsMeeting (R.next rewriting.now) start.now meeting }
+    requires universe { IsUniverse (R.next rewriting.now) start.now (R.universe rewriting.now start.now) }
+    ensures first { IfOk result (IsRepeat (R.next rewriting.now) start.now) }
+    ensures refused { IfErr result R.refuses }
+    ensures free { ((y : R.State) → StandsIn (R.next rewriting.now) start.now y → R.needs_none rewriting.now y)
+        → IsOk result }
+    ensures most { (n : ℕ) → IsCount (R.next rewriting.now) start.now n → turns.new ≤ turns.old + 2 * n }
+    ensures least { turns.old ≤ turns.new }
+{
+    if *start == meeting {
+        return Ok(meeting);
+    }
+    let mut near = go_on(rewriting, start, turns)?;
+    let mut far = go_on(rewriting, &meeting, turns)?;
+    'walkers: while near != far {
+        near = go_on(rewriting, &near, turns)?;
+        far = go_on(rewriting, &far, turns)?;
+    }
+    Ok(near)
+}
+
+// What follows a state that something follows.
+fn go_on<R: Rewriting>(
+    rewriting: &R,
+    state: &R::State,
+    turns: &mut Turns,
+) -> Result<R::State, R::Error>
+    requires { IsSome (R.next rewriting.now state.now) }
+    ensures found { IfOk result (λ found. R.next rewriting.now state.now ≡ Some found) }
+    ensures refused { IfErr result R.refuses }
+    ensures counted { turns.new ≡ turns.old + 1 }
+    ensures free { R.needs_none rewriting.now state.now → IsOk result }
+{
+    Ok(rewriting.search(state, turns)?.unwrap())
+}

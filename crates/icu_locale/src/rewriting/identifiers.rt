@@ -1,0 +1,167 @@
+// Runs of identifiers.
+ghost use Rattle.std.specs.Prelude.{◌≡◌, ◌+◌, ℕ, None, Some, IfOk, IfErr, IfSome, IsOk, unwrap_or};
+ghost use Rattle.std.specs.Option.{option_map};
+ghost use Rattle.icu_locale_core.specs.TextSet.{empty, image};
+ghost use Rattle.icu_locale.specs.Expander.{likely};
+ghost use Rattle.icu_locale.specs.Kinds.{variant_alias, next_of};
+ghost use Rattle.icu_locale.specs.Change.{applied};
+ghost use Rattle.icu_locale.specs.Run.{HasDistinct};
+ghost use Rattle.icu_locale.specs.Canonical.{IsOutOfMemory};
+ghost use Rattle.icu_locale.specs.Ends.{IsLaterEnd, IsRunRefusal, IsFree, IsRunCounted};
+
+use super::kinds::{Change, by_language_alias, find_change, variant_alias};
+use super::replacing::replacement;
+use super::turns::Turns;
+use super::{Outcome, Rewriting, end_of_run};
+use crate::{AsExpander, CanonicalizeError, LocaleCanonicalizer, Rules};
+use icu_locale_core::{LanguageIdentifier, Variants};
+
+/// What follows an identifier in one turn: by all rules, or by language aliases alone where it is a transform language.
+/// It is the only search for a rule that matches, and it adds one to the turns.
+///
+/// # Errors
+///
+/// `Memory` where what follows has variants and no room was found for them.
+pub fn search<'d, E: AsExpander<'d>>(
+    canonicalizer: &LocaleCanonicalizer<'d, E>,
+    id: &LanguageIdentifier,
+    transform: bool,
+    turns: &mut Turns,
+) -> Result<Option<LanguageIdentifier>, CanonicalizeError>
+    ensures found { IfOk result (λ found. found ≡ next_of (likely (E.expander canonicalizer.now.expander)) canonicalizer.now.rules transform id.now) }
+    ensures refused { IfErr result (λ e. e ≡ CanonicalizeError.Memory) }
+    ensures counted { turns.new ≡ turns.old + 1 }
+    ensures free { IfSome (next_of (likely (E.expander canonicalizer.now.expander)) canonicalizer.now.rules transform id.now) (λ z. z.variants ≡ empty) → IsOk result }
+{
+    turns.take();
+    let rules = &canonicalizer.rules;
+    let change = if transform {
+        by_language_alias(rules, id)
+    } else {
+        find_change(rules, &canonicalizer.expander.as_expander(), id)
+    };
+    match change {
+        Some(change) => Ok(Some(changed(rules, id, &change)?)),
+        None => Ok(None),
+    }
+}
+
+// What a change makes of an identifier.
+fn changed(
+    rules: &Rules<'_>,
+    id: &LanguageIdentifier,
+    change: &Change<'_>,
+) -> Result<LanguageIdentifier, CanonicalizeError>
+    ensures found { IfOk result (λ z. z ≡ applied rules.now id.now change.now) }
+    ensures refused { IfErr result (λ e. e ≡ CanonicalizeError.Memory) }
+    ensures free { (applied rules.now id.now change.now).variants ≡ empty → IsOk result }
+{
+    match change {
+        Change::Rule(rule) => replacement(id, &rule.source, &rule.replacement),
+        Change::Subtags(language, script, region) => Ok(LanguageIdentifier {
+            language: *language,
+            script: *script,
+            region: *region,
+            variants: id.variants.try_clone()?,
+        }),
+        Change::Variants => Ok(LanguageIdentifier {
+            language: id.language,
+            script: id.script,
+            region: id.region,
+            variants: replaced_variants(rules, &id.variants)?,
+        }),
+    }
+}
+
+// The image of a set of variants under their aliases.
+fn replaced_variants(rules: &Rules<'_>, variants: &Variants) -> Result<Variants, CanonicalizeError>
+    ensures found { IfOk result (λ s. s ≡ image (λ v. unwrap_or (variant_alias rules.now v) v) variants.now) }
+    ensures refused { IfErr result (λ e. e ≡ CanonicalizeError.Memory) }
+    ensures free { image (λ v. unwrap_or (variant_alias rules.now v) v) variants.now ≡ empty → IsOk result }
+{
+    if variants.is_empty() {
+        return Ok(Variants::new(rules.alloc));
+    }
+    let mut list = Vec::new(rules.alloc);
+    for variant in variants.iter() {
+        match list.push(variant_alias(rules, variant).unwrap_or(variant)) {
+            Ok(()) => {}
+            Err(_) => return Err(CanonicalizeError::Memory),
+        }
+    }
+    match Variants::try_from_list(list) {
+        Ok(image) => Ok(image),
+        Err(_) => Err(CanonicalizeError::Memory),
+    }
+}
+
+// One run of identifiers: by all rules, or of a transform language by language aliases alone.
+struct Run<'c, 'd, E> {
+    canonicalizer: &'c LocaleCanonicalizer<'d, E>,
+    transform: bool,
+}
+
+impl<'c, 'd, E> Drop for Run<'c, 'd, E> {
+    fn drop(self) {
+        let Run {
+            canonicalizer: _,
+            transform: _,
+        } = self;
+    }
+}
+
+impl<'c, 'd, E: AsExpander<'d>> Rewriting for Run<'c, 'd, E> {
+    ghost use Rattle.std.specs.Prelude.{◌≡◌, IfSome};
+    ghost use Rattle.icu_locale_core.specs.TextSet.{empty};
+    ghost use Rattle.icu_locale_core.proofs.Agreements.{identifiers_decide};
+    ghost use Rattle.icu_locale.specs.Expander.{likely};
+    ghost use Rattle.icu_locale.specs.Kinds.{next_of};
+    ghost use Rattle.icu_locale.specs.Universe.{universe};
+    ghost use Rattle.icu_locale.specs.declared.canonicalizer.CanonicalizeError.TheVariants.{Memory};
+
+    type State = LanguageIdentifier;
+
+    type Error = CanonicalizeError;
+
+    ghost next = { λ r. next_of (likely (E.expander r.canonicalizer.now.expander)) r.canonicalizer.now.rules r.transform };
+
+    ghost universe = { λ r x. universe r.canonicalizer.now.rules x };
+
+    ghost refuses = { λ e. e ≡ Memory };
+
+    ghost needs_none = { λ r y. IfSome (next_of (likely (E.expander r.canonicalizer.now.expander)) r.canonicalizer.now.rules r.transform y) (λ z. z.variants ≡ empty) };
+
+    fn search(
+        &self,
+        state: &LanguageIdentifier,
+        turns: &mut Turns,
+    ) -> Result<Option<LanguageIdentifier>, CanonicalizeError> {
+        search(self.canonicalizer, state, self.transform, turns)
+    }
+
+    ghost exact = { λ y z e. (identifiers_decide y z).0 e };
+}
+
+// Where a run ends, if that is at a later place than its start.
+pub fn later_end<'d, E: AsExpander<'d>>(
+    canonicalizer: &LocaleCanonicalizer<'d, E>,
+    id: &LanguageIdentifier,
+    transform: bool,
+    turns: &mut Turns,
+) -> Result<Option<LanguageIdentifier>, CanonicalizeError>
+    ensures end { IfOk result (IsLaterEnd (next_of (likely (E.expander canonicalizer.now.expander)) canonicalizer.now.rules transform) id.now) }
+    ensures refused { IfErr result (IsRunRefusal (next_of (likely (E.expander canonicalizer.now.expander)) canonicalizer.now.rules transform) id.now) }
+    ensures free { IsFree (next_of (likely (E.expander canonicalizer.now.expander)) canonicalizer.now.rules transform) id.now → ¬ (IsOutOfMemory result) }
+    ensures count { IsRunCounted (next_of (likely (E.expander canonicalizer.now.expander)) canonicalizer.now.rules transform) (Some id.now) result turns.old turns.new }
+{
+    let run = Run {
+        canonicalizer,
+        transform,
+    };
+    match end_of_run(&run, id, turns) {
+        Ok(Outcome::Same) => Ok(None),
+        Ok(Outcome::Ends(last)) => Ok(Some(last)),
+        Ok(Outcome::Repeats(first)) => Err(CanonicalizeError::NoFixedPoint(first)),
+        Err(_) => Err(CanonicalizeError::Memory),
+    }
+}

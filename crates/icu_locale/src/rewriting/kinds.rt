@@ -1,0 +1,224 @@
+// The seven kinds of rules. Each finds what is to be changed and takes no memory.
+ghost use Rattle.std.specs.Str.{bytes_eq};
+ghost use Rattle.std.specs.Prelude.{◌≡◌, option_copied, is_some};
+ghost use Rattle.std.specs.Option.{option_map};
+ghost use Rattle.std.specs.List.{find, list_any};
+ghost use Rattle.icu_locale_core.specs.TextSet.{rising};
+ghost use Rattle.icu_locale.specs.Expander.{likely};
+ghost use Rattle.icu_locale.specs.Replacement.{matches};
+ghost use Rattle.icu_locale.specs.Kinds.{rules_for, by_rule, sign_language, by_sign_region, language_alias, by_language_alias, by_script, region_alias, by_region, chosen, likely_region, complex_region, by_complex_region, variant_alias, by_variant, next};
+ghost use Rattle.icu_locale.specs.Change.{applied};
+
+use super::replacing::{is_known, rule_matches};
+use crate::{LocaleExpander, Rule, Rules};
+use icu_locale_core::{Language, LanguageIdentifier, Region, Script, Variant, Variants};
+
+// What a turn changes.
+#[derive(Clone, Copy)]
+pub enum Change<'r> {
+    // The rule is applied.
+    Rule(&'r Rule),
+    // These stand in the place of the subtags but the variants.
+    Subtags(Language, Option<Script>, Option<Region>),
+    // The variants that have an alias are replaced.
+    Variants,
+}
+
+// The change of the first kind that matches.
+pub fn find_change<'r>(
+    rules: &'r Rules<'_>,
+    expander: &LocaleExpander<'_>,
+    x: &LanguageIdentifier,
+) -> Option<Change<'r>>
+    ensures { option_map (applied rules.now x.now) result ≡ next (likely expander.now) rules.now x.now }
+{
+    if let Some(change) = by_rule(rules, x) {
+        return Some(change);
+    }
+    if let Some(change) = by_sign_region(rules, x) {
+        return Some(change);
+    }
+    if let Some(change) = by_language_alias(rules, x) {
+        return Some(change);
+    }
+    if let Some(change) = by_script(rules, x) {
+        return Some(change);
+    }
+    if let Some(change) = by_region(rules, x) {
+        return Some(change);
+    }
+    if let Some(change) = by_complex_region(rules, expander, x) {
+        return Some(change);
+    }
+    by_variant(rules, x)
+}
+
+fn by_rule<'r>(rules: &'r Rules<'_>, x: &LanguageIdentifier) -> Option<Change<'r>>
+    ensures { option_map (applied rules.now x.now) result ≡ by_rule rules.now x.now }
+{
+    Some(Change::Rule(first_match(rules_for(rules, x), x)?))
+}
+
+fn rules_for<'r>(rules: &'r Rules<'_>, x: &LanguageIdentifier) -> &'r [Rule]
+    ensures { result.now ≡ rules_for rules.now x.now }
+{
+    if x.variants.len() == 0 {
+        rules.language.as_slice()
+    } else {
+        rules.language_variants.as_slice()
+    }
+}
+
+fn first_match<'r>(rules: &'r [Rule], x: &LanguageIdentifier) -> Option<&'r Rule>
+    ensures { option_copied result ≡ find (λ r. matches x.now r.source) rules.now }
+{
+    rules.iter().find(|rule| rule_matches(x, &rule.source))
+}
+
+fn by_sign_region<'r>(rules: &'r Rules<'_>, x: &LanguageIdentifier) -> Option<Change<'r>>
+    ensures { option_map (applied rules.now x.now) result ≡ by_sign_region rules.now x.now }
+{
+    let language = sign_language(rules, x)?;
+    Some(Change::Subtags(language, x.script, None))
+}
+
+fn sign_language(rules: &Rules<'_>, x: &LanguageIdentifier) -> Option<Language>
+    ensures { result ≡ sign_language rules.now x.now }
+{
+    if x.language.as_str() == "sgn" {
+        rules.aliases.get_sgn_region(x.region?)
+    } else {
+        None
+    }
+}
+
+// The change by a language alias.
+pub fn by_language_alias<'r>(rules: &'r Rules<'_>, x: &LanguageIdentifier) -> Option<Change<'r>>
+    ensures { option_map (applied rules.now x.now) result ≡ by_language_alias rules.now x.now }
+{
+    let alias = language_alias(rules, &x.language)?;
+    Some(Change::Subtags(
+        alias.language,
+        x.script.or(alias.script),
+        x.region.or(alias.region),
+    ))
+}
+
+fn language_alias<'r>(rules: &'r Rules<'_>, language: &Language) -> Option<&'r LanguageIdentifier>
+    ensures { option_copied result ≡ language_alias rules.now language.now }
+{
+    if !is_known(language) {
+        None
+    } else if language.as_str().len() == 2 {
+        rules.language_len2.get(language)
+    } else {
+        rules.language_len3.get(language)
+    }
+}
+
+fn by_script<'r>(rules: &'r Rules<'_>, x: &LanguageIdentifier) -> Option<Change<'r>>
+    ensures { option_map (applied rules.now x.now) result ≡ by_script rules.now x.now }
+{
+    let script = rules.aliases.get_script(x.script?)?;
+    Some(Change::Subtags(x.language, Some(script), x.region))
+}
+
+fn by_region<'r>(rules: &'r Rules<'_>, x: &LanguageIdentifier) -> Option<Change<'r>>
+    ensures { option_map (applied rules.now x.now) result ≡ by_region rules.now x.now }
+{
+    let region = region_alias(rules, x.region?)?;
+    Some(Change::Subtags(x.language, x.script, Some(region)))
+}
+
+fn region_alias(rules: &Rules<'_>, region: Region) -> Option<Region>
+    ensures { result ≡ region_alias rules.now region }
+{
+    if region.is_alphabetic() {
+        rules.aliases.get_region_alpha(region)
+    } else {
+        rules.aliases.get_region_num(region)
+    }
+}
+
+fn by_complex_region<'r>(
+    rules: &'r Rules<'_>,
+    expander: &LocaleExpander<'_>,
+    x: &LanguageIdentifier,
+) -> Option<Change<'r>>
+    ensures { option_map (applied rules.now x.now) result ≡ by_complex_region (likely expander.now) rules.now x.now }
+{
+    let region = complex_region(rules, expander, x)?;
+    Some(Change::Subtags(x.language, x.script, Some(region)))
+}
+
+fn complex_region(
+    rules: &Rules<'_>,
+    expander: &LocaleExpander<'_>,
+    x: &LanguageIdentifier,
+) -> Option<Region>
+    ensures { result ≡ complex_region (likely expander.now) rules.now x.now }
+{
+    let regions = rules.aliases.get_complex_region(x.region?)?;
+    chosen(likely_region(rules, expander, x), regions)
+}
+
+// The region of the maximal form of language and script alone.
+fn likely_region(
+    rules: &Rules<'_>,
+    expander: &LocaleExpander<'_>,
+    x: &LanguageIdentifier,
+) -> Option<Region>
+    ensures { result ≡ likely_region (likely expander.now) x.now }
+{
+    let mut maximal = LanguageIdentifier {
+        language: x.language,
+        script: x.script,
+        region: None,
+        variants: Variants::new(rules.alloc),
+    };
+    let _ = expander.maximize(&mut maximal);
+    maximal.region
+}
+
+fn chosen(likely: Option<Region>, regions: &[Region]) -> Option<Region>
+    ensures { result ≡ chosen likely regions.now }
+{
+    let first = regions.first()?;
+    match likely {
+        Some(region) => {
+            if regions.contains(&region) {
+                Some(region)
+            } else {
+                Some(*first)
+            }
+        }
+        None => Some(*first),
+    }
+}
+
+fn by_variant<'r>(rules: &'r Rules<'_>, x: &LanguageIdentifier) -> Option<Change<'r>>
+    ensures { option_map (applied rules.now x.now) result ≡ by_variant rules.now x.now }
+{
+    if has_variant_alias(rules, &x.variants) {
+        Some(Change::Variants)
+    } else {
+        None
+    }
+}
+
+fn has_variant_alias(rules: &Rules<'_>, variants: &Variants) -> bool
+    ensures { result ≡ list_any (λ v. is_some (variant_alias rules.now v)) (rising variants.now) }
+{
+    for variant in variants.iter() {
+        if variant_alias(rules, variant).is_some() {
+            return true;
+        }
+    }
+    false
+}
+
+pub fn variant_alias(rules: &Rules<'_>, variant: Variant) -> Option<Variant>
+    ensures { result ≡ variant_alias rules.now variant }
+{
+    rules.aliases.get_variant(variant)
+}
