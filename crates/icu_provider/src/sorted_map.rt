@@ -11,7 +11,7 @@ use std::alloc::{AllocError, Global};
 use std::cmp::{Ord, Ordering};
 use std::marker::Model;
 
-/// A map whose rows stand in one list, in the order of their keys.
+/// A map whose rows stand in one list, in the order of their keys. Only `insert` takes memory.
 #[derive(Debug, Drop)]
 pub struct SortedMap<K: Ord, V> {
     entries: Vec<(K, V)>,
@@ -29,7 +29,7 @@ impl<K: Ord, V> Model for SortedMap<K, V> {
 }
 
 impl<K: Ord, V> SortedMap<K, V> {
-    /// A map with no rows, which takes no memory yet.
+    /// A map with no rows.
     pub fn new(alloc: Global) -> Self
         ensures { result ≡ [] }
     {
@@ -78,8 +78,11 @@ impl<K: Ord, V> SortedMap<K, V> {
     }
 
     /// Puts the value at the key. A key that is there stays and takes the value, with no memory taken; a new row goes
-    /// to its place, and the list grows once if it is full. If that memory is refused, the map stays as it was, and
-    /// the new row is let go.
+    /// to its place, and the list grows once if it is full.
+    ///
+    /// # Errors
+    ///
+    /// `Memory`, only where the list had to grow and could not: the map stays as it was then, and the row is dropped.
     pub fn insert(&mut self, key: K, value: V) -> Result<(), DataError>
     where
         K: Drop,
@@ -130,7 +133,7 @@ impl<K: Ord, V> SortedMap<K, V> {
     }
 }
 
-/// The rows of a sorted map that a walk has not come to yet, in the keys' order.
+/// The rows of a sorted map that a walk has not come to yet, in the keys' order. It takes no memory.
 #[derive(Debug, Drop)]
 pub struct Rows<'a, K, V> {
     rows: &'a [(K, V)],
