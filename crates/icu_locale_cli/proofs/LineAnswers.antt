@@ -1,14 +1,18 @@
 -- The answer to one line.
-use Rattle.std.proofs.Common.{◌≡◌, true, List, ℕ, Result, Ok, Err, IfOk, inl}
+use Rattle.std.proofs.Common.{◌≡◌, true, false, List, [], None, codes, ℕ, Result, Ok, Err, IfOk, inl, inr, subst}
 use Rattle.std.specs.String.{string_bytes}
 use Rattle.icu_locale_core.specs.Identifier.{IsIdentifier, Spells}
 use Rattle.icu_locale_core.specs.declared.langid.LanguageIdentifier.{LanguageIdentifier}
+use Rattle.icu_locale_core.specs.declared.locale.Locale.{Locale}
+use Rattle.icu_locale.specs.Canonical.{IsCanonical, ComesAgainFirst, is_applied, answer_of}
+use Rattle.icu_locale.specs.LikelySubtags.{LikelySubtags}
+use Rattle.icu_locale.specs.declared.canonicalizer.rules.Rules.{Rules}
 use Rattle.icu_locale.specs.declared.expander.TransformResult.{TransformResult}
 use Rattle.icu_locale_cli.specs.declared.work.Work.{Work}
 use Rattle.icu_locale_cli.specs.declared.work.Answer.{Answer}
 use Rattle.icu_locale_cli.specs.declared.error.CliError.{CliError}
-use Rattle.icu_locale_cli.specs.Answers.{IsTransformed, IsLineOf, IsAnswer}
-use Rattle.icu_locale_cli.specs.Texts.{transformed_line}
+use Rattle.icu_locale_cli.specs.Answers.{IsTransformed, IsPlain, IsCanonicalized, IsLineOf, IsAnswer}
+use Rattle.icu_locale_cli.specs.Texts.{transformed_line, refused_line}
 
 -- a line of a fitting identifier and answer is that of a transformed identifier
 pub transformed_from_line : (Fits : LanguageIdentifier → TransformResult → Type 0) (y : LanguageIdentifier) (m : TransformResult) → Fits y m → (r : Result Answer CliError)
@@ -21,3 +25,23 @@ pub answer_from_accepted : (work : Work) (line : List ℕ) (x : LanguageIdentifi
     → IfOk r (λ a. IsLineOf work x (string_bytes a.text) a.accepted) → IfOk r (λ a. IsAnswer work line (string_bytes a.text) a.accepted)
 answer_from_accepted work line x spelled (Ok a) h = inl (x, spelled.0, spelled.1, h)
 answer_from_accepted work line x spelled (Err e) h = tt
+
+module _ (likely : LikelySubtags) (rules : Rules) (old : Locale) where
+  -- the line of a canonical locale
+  pub canonicalized_from_line : (new : Locale) (m : TransformResult) → IsCanonical likely rules old new → m ≡ answer_of (is_applied likely rules old) → (r : Result Answer CliError)
+      → IfOk r (λ a. (string_bytes a.text ≡ transformed_line new.id m) × (a.accepted ≡ true)) → IfOk r (λ a. IsCanonicalized likely rules old (string_bytes a.text) a.accepted)
+  canonicalized_from_line new m canonical answer (Ok a) h = inl (new, canonical, subst (λ k. string_bytes a.text ≡ transformed_line new.id k) answer h.0, h.1)
+  canonicalized_from_line new m canonical answer (Err e) h = tt
+
+  -- the line of an identifier that comes again
+  pub repeated_from_line : (z : LanguageIdentifier) → ComesAgainFirst likely rules old z → (r : Result Answer CliError)
+      → IfOk r (λ a. (string_bytes a.text ≡ refused_line (codes "NoFixedPoint")) × (a.accepted ≡ false)) → IfOk r (λ a. IsCanonicalized likely rules old (string_bytes a.text) a.accepted)
+  repeated_from_line z again (Ok a) h = inr (z, again, h.0, h.1)
+  repeated_from_line z again (Err e) h = tt
+
+  -- the line of an identifier is that of its locale
+  pub plain_from_line : (x : LanguageIdentifier) → old.id ≡ x → old.extensions.unicode.keywords ≡ [] → old.extensions.transform.lang ≡ None → (r : Result Answer CliError)
+      → IfOk r (λ a. IsCanonicalized likely rules old (string_bytes a.text) a.accepted)
+      → IfOk r (λ a. (locale : Locale) × IsPlain x locale × IsCanonicalized likely rules locale (string_bytes a.text) a.accepted)
+  plain_from_line x id keywords transform (Ok a) h = (old, record { id = id; keywords = keywords; transform = transform }, h)
+  plain_from_line x id keywords transform (Err e) h = tt

@@ -24,6 +24,7 @@ module _ (t : Tables) (read read' wrote wrote' : Option (List ℕ)) where
   write_among_lines command.Maximize other h = h
   write_among_lines command.Minimize other h = h
   write_among_lines command.MinimizeScript other h = h
+  write_among_lines command.Canonicalize other h = h
   write_among_lines command.Direction other h = h
 
   memory_among_lines : (c : Command) → StopsAmongLines WritesWholeLines c t read read' wrote wrote' → IsRefusedRun c t read read' wrote wrote' Memory

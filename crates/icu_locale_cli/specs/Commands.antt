@@ -1,12 +1,13 @@
 -- The commands by their words.
 use Rattle.std.specs.Prelude.{ℕ, List, codes}
 use Rattle.icu_locale_cli.specs.declared.command.Command.{Command}
-use Rattle.icu_locale_cli.specs.declared.command.Command.TheVariants.{Maximize, Minimize, MinimizeScript, Direction, Settled}
+use Rattle.icu_locale_cli.specs.declared.command.Command.TheVariants.{Maximize, Minimize, MinimizeScript, Canonicalize, Direction, Settled}
 
 -- the word of each command
 abbrev pub command_word : Command → List ℕ
 command_word Maximize = codes "maximize"
 command_word Minimize = codes "minimize"
 command_word MinimizeScript = codes "minimize-script"
+command_word Canonicalize = codes "canonicalize"
 command_word Direction = codes "direction"
 command_word Settled = codes "settled"

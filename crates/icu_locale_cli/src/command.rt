@@ -10,6 +10,8 @@ pub enum Command {
     Minimize,
     /// The minimal form of each identifier, the script kept before the region.
     MinimizeScript,
+    /// The canonical form of each identifier, as that of a locale without extensions.
+    Canonicalize,
     /// Which way the likely script of each identifier runs.
     Direction,
     /// Whether the tables are settled. No line is used.
@@ -40,6 +42,7 @@ impl Command {
             "maximize" => Command::Maximize,
             "minimize" => Command::Minimize,
             "minimize-script" => Command::MinimizeScript,
+            "canonicalize" => Command::Canonicalize,
             "direction" => Command::Direction,
             "settled" => Command::Settled,
             _ => return Err(CliError::Usage),

@@ -17,10 +17,9 @@ mod work;
 use crate::command::Command;
 use crate::error::CliError;
 use crate::status::Status;
-use std::env;
-use std::io;
 use std::io::{BufWriter, Write};
 use std::process::ExitCode;
+use std::{env, io};
 
 fn main(rt: HostRuntime) -> ExitCode {
     match start(&rt) {

@@ -41,7 +41,7 @@ pub fn run<R: Read, W: Write>(
     if *command == Command::Settled {
         return write_settled(tables, writer);
     }
-    let work = match Work::load(command, tables) {
+    let work = match Work::load(alloc, command, tables) {
         Ok(work) => work,
         Err(refusal) => return Err(refusal),
     };

@@ -1,19 +1,26 @@
 //! What a command works with, and what it makes of one line.
-ghost use Rattle.std.specs.Prelude.{◌≡◌, ◌≢◌, IfOk, IfErr, IfSome, is_ok, true, false};
+ghost use Rattle.std.specs.Prelude.{◌≡◌, ◌≢◌, ◌↔◌, ◌⊎◌, Err, IfOk, IfErr, IfSome, IsSomeAnd, is_ok, is_some, true, false};
 ghost use Rattle.std.specs.String.{string_bytes};
 ghost use Rattle.icu_locale_cli.specs.Texts.{transformed_line, refused_line, direction_line};
+ghost use Rattle.icu_locale.specs.Expander.{likely};
+ghost use Rattle.icu_locale.specs.Rules.{AreRules};
+ghost use Rattle.icu_locale_cli.specs.Answers.{IsCanonicalized};
 ghost use Rattle.icu_locale_cli.specs.Loads.{IsExpanderOf, has_likely, not_found};
 
 use crate::command::Command;
 use crate::error::CliError;
-use icu_locale::{Direction, LocaleDirectionality, LocaleExpander, TransformResult};
-use icu_locale_core::{LanguageIdentifier, ParseError};
+use icu_locale::{
+    CanonicalizeError, Direction, LocaleCanonicalizer, LocaleDirectionality, LocaleExpander,
+    TransformResult,
+};
+use icu_locale_core::{LanguageIdentifier, Locale, ParseError};
+use icu_provider::{DataError, DataErrorKind};
 use icu_tables::Tables;
 use std::alloc::Global;
 use std::fmt;
 
 /// What a command works with, over tables that it borrows.
-#[derive(Clone, Copy)]
+#[derive(Drop)]
 pub enum Work<'d> {
     /// Maximal forms.
     Maximize(LocaleExpander<'d>),
@@ -21,6 +28,8 @@ pub enum Work<'d> {
     Minimize(LocaleExpander<'d>),
     /// Minimal forms, the script kept before the region.
     MinimizeScript(LocaleExpander<'d>),
+    /// Canonical forms.
+    Canonicalize(LocaleCanonicalizer<'d>),
     /// Directions.
     Direction(LocaleDirectionality<'d>),
 }
@@ -37,17 +46,21 @@ impl<'d> Work<'d> {
     ghost use Rattle.icu_locale_cli.specs.Works.{IsWorkOf, has_tables};
 
     // What a command of lines works with: its tables are loaded in their order.
-    pub fn load(command: &Command, tables: &'d Tables) -> Result<Self, CliError>
+    pub fn load(alloc: Global, command: &Command, tables: &'d Tables) -> Result<Self, CliError>
         requires { command.now ≢ Command.Settled }
         ensures made { IfOk result (IsWorkOf command.now tables.now) }
-        ensures loaded { is_ok result ≡ has_tables command.now tables.now }
-        ensures refused { IfErr result (λ e. e ≡ CliError.Data not_found) }
+        ensures data { (result ≡ Err (CliError.Data not_found)) ↔ (has_tables command.now tables.now ≡ false) }
+        ensures refused { IfErr result (λ e. (e ≡ CliError.Data not_found) ⊎ (e ≡ CliError.Memory)) }
     {
         let expander = load_expander(tables)?;
         match command {
             Command::Maximize => Ok(Work::Maximize(expander)),
             Command::Minimize => Ok(Work::Minimize(expander)),
             Command::MinimizeScript => Ok(Work::MinimizeScript(expander)),
+            Command::Canonicalize => match load_canonicalizer(alloc, tables, expander) {
+                Ok(canonicalizer) => Ok(Work::Canonicalize(canonicalizer)),
+                Err(refusal) => Err(refusal),
+            },
             Command::Direction => {
                 match LocaleDirectionality::try_new_with_expander_unstable(tables, expander) {
                     Ok(directionality) => Ok(Work::Direction(directionality)),
@@ -92,6 +105,9 @@ impl<'d> Work<'d> {
                 let changed = expander.minimize_favor_script(&mut identifier);
                 transformed(alloc, &identifier, changed)
             }
+            Work::Canonicalize(canonicalizer) => {
+                canonicalized(alloc, canonicalizer, Locale::new(alloc, identifier))
+            }
             Work::Direction(directionality) => directed(alloc, directionality.get(&identifier)),
         }
     }
@@ -111,6 +127,46 @@ pub fn load_expander(tables: &Tables) -> Result<LocaleExpander<'_>, CliError>
     match made {
         Ok(expander) => Ok(expander),
         Err(refusal) => Err(CliError::Data(refusal)),
+    }
+}
+
+// The canonicalizer over the tables and the expander.
+fn load_canonicalizer<'d>(
+    alloc: Global,
+    tables: &'d Tables,
+    expander: LocaleExpander<'d>,
+) -> Result<LocaleCanonicalizer<'d>, CliError>
+    ensures expander { IfOk result (λ c. c.expander ≡ expander.entry) }
+    ensures rules { IfOk result (λ c. IsSomeAnd tables.now.aliases (λ table. AreRules table c.rules)) }
+    ensures data { (result ≡ Err (CliError.Data not_found)) ↔ (is_some tables.now.aliases ≡ false) }
+    ensures refused { IfErr result (λ e. (e ≡ CliError.Data not_found) ⊎ (e ≡ CliError.Memory)) }
+{
+    let Some(aliases) = &tables.aliases else {
+        return Err(CliError::Data(DataError {
+            kind: DataErrorKind::IdentifierNotFound,
+        }));
+    };
+    match LocaleCanonicalizer::new_with_expander(alloc, aliases, expander) {
+        Ok(canonicalizer) => Ok(canonicalizer),
+        Err(_) => Err(CliError::Memory),
+    }
+}
+
+// The line of a locale, of which the identifier is written.
+fn canonicalized(
+    alloc: Global,
+    canonicalizer: &LocaleCanonicalizer<'_>,
+    mut locale: Locale,
+) -> Result<Answer, CliError>
+    ensures answer { IfOk result (λ a. IsCanonicalized (likely canonicalizer.now.expander) canonicalizer.now.rules locale (string_bytes a.text) a.accepted) }
+    ensures refused { IfErr result (λ e. e ≡ CliError.Memory) }
+{
+    match canonicalizer.canonicalize(&mut locale) {
+        Ok(changed) => transformed(alloc, &locale.id, changed),
+        Err(CanonicalizeError::Memory) => Err(CliError::Memory),
+        Err(CanonicalizeError::NoFixedPoint(again)) => {
+            refused(alloc, CanonicalizeError::NoFixedPoint(again))
+        }
     }
 }
 

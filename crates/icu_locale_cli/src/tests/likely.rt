@@ -17,8 +17,16 @@ pub fn american() -> Result<(Language, Script, Region), Fail> {
 }
 
 // What a call leaves of an identifier, and `M` or `U`.
-fn after(alloc: Global, identifier: &LanguageIdentifier, changed: TransformResult) -> Result<String, Fail> {
-    let mark = if changed == TransformResult::Modified { 'M' } else { 'U' };
+fn after(
+    alloc: Global,
+    identifier: &LanguageIdentifier,
+    changed: TransformResult,
+) -> Result<String, Fail> {
+    let mark = if changed == TransformResult::Modified {
+        'M'
+    } else {
+        'U'
+    };
     Ok(format!(in alloc; "{identifier} {mark}")?)
 }
 
@@ -34,7 +42,11 @@ pub fn minimized(alloc: Global, expander: &LocaleExpander<'_>, text: &str) -> Re
     after(alloc, &identifier, changed)
 }
 
-pub fn minimized_to_script(alloc: Global, expander: &LocaleExpander<'_>, text: &str) -> Result<String, Fail> {
+pub fn minimized_to_script(
+    alloc: Global,
+    expander: &LocaleExpander<'_>,
+    text: &str,
+) -> Result<String, Fail> {
     let mut identifier = LanguageIdentifier::try_from_str(alloc, text)?;
     let changed = expander.minimize_favor_script(&mut identifier);
     after(alloc, &identifier, changed)
@@ -60,7 +72,11 @@ const MAXIMAL_FORMS: [(&str, &str); 17] = [
     ("zh-CN-fonipa", "zh-Hans-CN-fonipa M"),
 ];
 
-fn are_maximal_forms(rt: &impl Abort, alloc: Global, expander: &LocaleExpander<'_>) -> Result<(), Fail> {
+fn are_maximal_forms(
+    rt: &impl Abort,
+    alloc: Global,
+    expander: &LocaleExpander<'_>,
+) -> Result<(), Fail> {
     for (text, want) in MAXIMAL_FORMS {
         let found = maximized(alloc, expander, text)?;
         assert_eq!(rt; found.as_str(), want, "at {text}");
@@ -83,7 +99,11 @@ const MINIMAL_FORMS: [(&str, &str, &str); 5] = [
     ("zh-Hans-CN-fonipa", "zh-fonipa M", "zh-fonipa M"),
 ];
 
-fn are_minimal_forms(rt: &impl Abort, alloc: Global, expander: &LocaleExpander<'_>) -> Result<(), Fail> {
+fn are_minimal_forms(
+    rt: &impl Abort,
+    alloc: Global,
+    expander: &LocaleExpander<'_>,
+) -> Result<(), Fail> {
     for (text, want, to_script) in MINIMAL_FORMS {
         let found = minimized(alloc, expander, text)?;
         assert_eq!(rt; found.as_str(), want, "at {text}");
@@ -114,7 +134,11 @@ const LIKELY_SCRIPTS: [(&str, &str); 11] = [
     ("und", "none"),
 ];
 
-fn are_likely_scripts(rt: &impl Abort, alloc: Global, expander: &LocaleExpander<'_>) -> Result<(), Fail> {
+fn are_likely_scripts(
+    rt: &impl Abort,
+    alloc: Global,
+    expander: &LocaleExpander<'_>,
+) -> Result<(), Fail> {
     for (text, want) in LIKELY_SCRIPTS {
         let identifier = LanguageIdentifier::try_from_str(alloc, text)?;
         match expander.get_likely_script(&identifier) {
@@ -139,16 +163,32 @@ fn common_rows_cover_extended_rows(rt: HostRuntime) -> Result<(), Fail> {
     language.insert_language(azerbaijani, latin, Region::try_from_str("AZ")?)?;
     let script_region = LikelySubtagsForScriptRegion::new(rt.alloc());
     let mut extended = LikelySubtagsExtended::new(rt.alloc());
-    extended.insert_language_region(azerbaijani, Region::try_from_str("IR")?, Script::try_from_str("Arab")?)?;
-    extended.insert_language(azerbaijani, Script::try_from_str("Cyrl")?, Region::try_from_str("RU")?)?;
-    extended.insert_region(Region::try_from_str("US")?, Language::try_from_str("es")?, latin)?;
+    extended.insert_language_region(
+        azerbaijani,
+        Region::try_from_str("IR")?,
+        Script::try_from_str("Arab")?,
+    )?;
+    extended.insert_language(
+        azerbaijani,
+        Script::try_from_str("Cyrl")?,
+        Region::try_from_str("RU")?,
+    )?;
+    extended.insert_region(
+        Region::try_from_str("US")?,
+        Language::try_from_str("es")?,
+        latin,
+    )?;
     let expander = LocaleExpander::new_extended(&language, &script_region, &extended);
     for (text, want) in [
         ("az-IR", "az-Arab-IR M"),
         ("az", "az-Latn-AZ M"),
         ("und-US", "es-Latn-US M"),
     ] {
-        assert_eq!(rt; maximized(rt.alloc(), &expander, text)?.as_str(), want, "at {text}");
+        assert_eq!(rt;
+            maximized(rt.alloc(), &expander, text)?.as_str(),
+            want,
+            "at {text}"
+        );
     }
     Ok(())
 }
@@ -159,9 +199,16 @@ fn trials_begin_with_the_language_of_the_maximal_form(rt: HostRuntime) -> Result
     let language = LikelySubtagsForLanguage::new(rt.alloc(), american()?);
     let mut script_region = LikelySubtagsForScriptRegion::new(rt.alloc());
     script_region.insert_script(cypro_minoan, Language::UNKNOWN, cyprus)?;
-    script_region.insert_region(cyprus, Language::try_from_str("el")?, Script::try_from_str("Grek")?)?;
+    script_region.insert_region(
+        cyprus,
+        Language::try_from_str("el")?,
+        Script::try_from_str("Grek")?,
+    )?;
     let expander = LocaleExpander::new_common(&language, &script_region);
-    assert_eq!(rt; minimized(rt.alloc(), &expander, "und-Cpmn-CY")?.as_str(), "und-Cpmn M");
+    assert_eq!(rt;
+        minimized(rt.alloc(), &expander, "und-Cpmn-CY")?.as_str(),
+        "und-Cpmn M"
+    );
     Ok(())
 }
 
@@ -172,7 +219,10 @@ fn an_empty_class_has_the_maximal_form(rt: HostRuntime) -> Result<(), Fail> {
     let (cyprus, greek) = (Region::try_from_str("CY")?, Language::try_from_str("el")?);
     script_region.insert_region(cyprus, greek, Script::try_from_str("Zzzz")?)?;
     let expander = LocaleExpander::new_common(&language, &script_region);
-    assert_eq!(rt; minimized(rt.alloc(), &expander, "und-CY")?.as_str(), "el-Zzzz-CY M");
+    assert_eq!(rt;
+        minimized(rt.alloc(), &expander, "und-CY")?.as_str(),
+        "el-Zzzz-CY M"
+    );
     Ok(())
 }
 
@@ -182,9 +232,19 @@ fn und_may_lead_to_und(rt: HostRuntime) -> Result<(), Fail> {
     let language = LikelySubtagsForLanguage::new(rt.alloc(), american()?);
     let mut script_region = LikelySubtagsForScriptRegion::new(rt.alloc());
     script_region.insert_region(cyprus, Language::UNKNOWN, greek)?;
-    script_region.insert_script(greek, Language::try_from_str("el")?, Region::try_from_str("GR")?)?;
+    script_region.insert_script(
+        greek,
+        Language::try_from_str("el")?,
+        Region::try_from_str("GR")?,
+    )?;
     let expander = LocaleExpander::new_common(&language, &script_region);
-    assert_eq!(rt; minimized(rt.alloc(), &expander, "und-CY")?.as_str(), "und-CY U");
-    assert_eq!(rt; minimized_to_script(rt.alloc(), &expander, "und-CY")?.as_str(), "und-CY U");
+    assert_eq!(rt;
+        minimized(rt.alloc(), &expander, "und-CY")?.as_str(),
+        "und-CY U"
+    );
+    assert_eq!(rt;
+        minimized_to_script(rt.alloc(), &expander, "und-CY")?.as_str(),
+        "und-CY U"
+    );
     Ok(())
 }

@@ -137,7 +137,10 @@ impl Write for HeldWriter {
         let room = self.bytes.len().saturating_sub(self.len);
         let count = buf.len().min(room);
         for place in 0..count {
-            if let (Some(from), Some(to)) = (buf.get(place), self.bytes.get_mut(self.len.saturating_add(place))) {
+            if let (Some(from), Some(to)) = (
+                buf.get(place),
+                self.bytes.get_mut(self.len.saturating_add(place)),
+            ) {
                 *to = *from;
             }
         }

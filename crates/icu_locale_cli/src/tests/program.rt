@@ -47,28 +47,69 @@ impl Write for FullWriter {
     }
 }
 
-fn output(alloc: Global, command: Command, tables: &Tables, input: &str) -> Result<(Vec<u8>, Status), CliError> {
+fn output(
+    alloc: Global,
+    command: Command,
+    tables: &Tables,
+    input: &str,
+) -> Result<(Vec<u8>, Status), CliError> {
     let mut written = Vec::new(alloc);
     let mut reader = input.as_bytes();
     let status = run(alloc, &command, tables, &mut reader, &mut written)?;
     Ok((written, status))
 }
 
-const RUNS: [(Command, &str, &str, Status); 9] = [
-        (Command::Maximize, "zh-CN\nund-SA\n", "zh-Hans-CN\tM\nar-Arab-SA\tM\n", Status::Accepted),
-        (
-            Command::Maximize,
-            "zh-CN\nEN_us\n\n",
-            "zh-Hans-CN\tM\nen-Latn-US\tM\n?\tInvalidLanguage\n",
-            Status::Refused,
-        ),
-        (Command::Maximize, "zh-CN\r\n", "?\tInvalidSubtag\n", Status::Refused),
-        (Command::Maximize, "", "", Status::Accepted),
-        (Command::Maximize, "en-\nde", "?\tInvalidSubtag\nde-Latn-DE\tM\n", Status::Refused),
-        (Command::Minimize, "zh-Hans-CN\nyue-Hans", "zh\tM\nyue-CN\tM\n", Status::Accepted),
-        (Command::MinimizeScript, "yue-Hans\nzh-TW\n", "yue-Hans\tU\nzh-Hant\tM\n", Status::Accepted),
-        (Command::Direction, "en-Arab\nar\nund\n", "rtl\nrtl\nnone\n", Status::Accepted),
-        (Command::Settled, "never read", "yes\n", Status::Accepted),
+const RUNS: [(Command, &str, &str, Status); 10] = [
+    (
+        Command::Maximize,
+        "zh-CN\nund-SA\n",
+        "zh-Hans-CN\tM\nar-Arab-SA\tM\n",
+        Status::Accepted,
+    ),
+    (
+        Command::Maximize,
+        "zh-CN\nEN_us\n\n",
+        "zh-Hans-CN\tM\nen-Latn-US\tM\n?\tInvalidLanguage\n",
+        Status::Refused,
+    ),
+    (
+        Command::Maximize,
+        "zh-CN\r\n",
+        "?\tInvalidSubtag\n",
+        Status::Refused,
+    ),
+    (Command::Maximize, "", "", Status::Accepted),
+    (
+        Command::Maximize,
+        "en-\nde",
+        "?\tInvalidSubtag\nde-Latn-DE\tM\n",
+        Status::Refused,
+    ),
+    (
+        Command::Minimize,
+        "zh-Hans-CN\nyue-Hans",
+        "zh\tM\nyue-CN\tM\n",
+        Status::Accepted,
+    ),
+    (
+        Command::MinimizeScript,
+        "yue-Hans\nzh-TW\n",
+        "yue-Hans\tU\nzh-Hant\tM\n",
+        Status::Accepted,
+    ),
+    (
+        Command::Canonicalize,
+        "sgn-DD\nsh\nja\n",
+        "gsg\tM\nsr-Latn\tM\nja\tU\n",
+        Status::Accepted,
+    ),
+    (
+        Command::Direction,
+        "en-Arab\nar\nund\n",
+        "rtl\nrtl\nnone\n",
+        Status::Accepted,
+    ),
+    (Command::Settled, "never read", "yes\n", Status::Accepted),
 ];
 
 fn one_run(
@@ -97,14 +138,25 @@ fn lines(rt: HostRuntime) -> Result<(), Fail> {
     all_runs(&rt, rt.alloc(), &tables)
 }
 
-const HOSTILE: &str = "e\nengl\n-\nLatn-US\nen--US\nen-US \nen-ab1\nen-abcdefghi\nen-abcde-abcd\nen-ABCDE-abcde\nen-1abc\nen-abcd\nDE_1996-1901\n";
+const HOSTILE: &str =
+    "e\nengl\n-\nLatn-US\nen--US\nen-US \nen-ab1\nen-abcdefghi\nen-abcde-abcd\nen-ABCDE-abcde\nen-1abc\nen-abcd\nDE_1996-1901\n";
 
-const REFUSED: &str = "?\tInvalidLanguage\n?\tInvalidLanguage\n?\tInvalidLanguage\n?\tInvalidLanguage\n?\tInvalidSubtag\n?\tInvalidSubtag\n?\tInvalidSubtag\n?\tInvalidSubtag\n?\tInvalidSubtag\n?\tInvalidSubtag\nen-Latn-US-1abc\tM\nen-Abcd-US\tM\nde-Latn-DE-1901-1996\tM\n";
+const REFUSED: &str =
+    "?\tInvalidLanguage\n?\tInvalidLanguage\n?\tInvalidLanguage\n?\tInvalidLanguage\n?\tInvalidSubtag\n?\tInvalidSubtag\n?\tInvalidSubtag\n?\tInvalidSubtag\n?\tInvalidSubtag\n?\tInvalidSubtag\nen-Latn-US-1abc\tM\nen-Abcd-US\tM\nde-Latn-DE-1901-1996\tM\n";
 
 fn refused_bytes(rt: &impl Abort, alloc: Global, tables: &Tables) -> Result<(), Fail> {
     let mut bytes = Vec::new(alloc);
-    let status = run(alloc, &Command::Maximize, tables, &mut b"en-\xff\n\xff".as_slice(), &mut bytes)?;
-    assert_eq!(rt; bytes.as_slice(), b"?\tInvalidSubtag\n?\tInvalidLanguage\n".as_slice());
+    let status = run(
+        alloc,
+        &Command::Maximize,
+        tables,
+        &mut b"en-\xff\n\xff".as_slice(),
+        &mut bytes,
+    )?;
+    assert_eq!(rt;
+        bytes.as_slice(),
+        b"?\tInvalidSubtag\n?\tInvalidLanguage\n".as_slice()
+    );
     assert_eq!(rt; status, Status::Refused);
     Ok(())
 }
@@ -112,7 +164,12 @@ fn refused_bytes(rt: &impl Abort, alloc: Global, tables: &Tables) -> Result<(), 
 #[test]
 fn hostile_lines(rt: HostRuntime) -> Result<(), Fail> {
     let tables = sample(rt.alloc())?;
-    one_run(&rt, rt.alloc(), &tables, (Command::Maximize, HOSTILE, REFUSED, Status::Refused))?;
+    one_run(
+        &rt,
+        rt.alloc(),
+        &tables,
+        (Command::Maximize, HOSTILE, REFUSED, Status::Refused),
+    )?;
     refused_bytes(&rt, rt.alloc(), &tables)
 }
 
@@ -137,7 +194,13 @@ fn a_failed_write(rt: &impl Abort, alloc: Global, tables: &Tables) {
         bytes: Vec::new(alloc),
         room: 17,
     };
-    let failed = run(alloc, &Command::Maximize, tables, &mut b"zh-CN\nde\n".as_slice(), &mut writer);
+    let failed = run(
+        alloc,
+        &Command::Maximize,
+        tables,
+        &mut b"zh-CN\nde\n".as_slice(),
+        &mut writer,
+    );
     assert!(rt; failed.err() == Some(CliError::Write));
     assert_eq!(rt; writer.bytes.as_slice(), b"zh-Hans-CN\tM\nde-L".as_slice());
 }
@@ -146,6 +209,7 @@ fn a_failed_write(rt: &impl Abort, alloc: Global, tables: &Tables) {
 fn refusals(rt: HostRuntime) -> Result<(), Fail> {
     needs_tables(&rt, rt.alloc(), Command::Maximize);
     needs_tables(&rt, rt.alloc(), Command::Direction);
+    needs_tables(&rt, rt.alloc(), Command::Canonicalize);
     needs_tables(&rt, rt.alloc(), Command::Settled);
     let tables = sample(rt.alloc())?;
     a_failed_read(&rt, rt.alloc(), &tables);
@@ -159,6 +223,7 @@ fn words(rt: HostRuntime) -> Result<(), Fail> {
         ("maximize", Some(Command::Maximize)),
         ("minimize", Some(Command::Minimize)),
         ("minimize-script", Some(Command::MinimizeScript)),
+        ("canonicalize", Some(Command::Canonicalize)),
         ("direction", Some(Command::Direction)),
         ("settled", Some(Command::Settled)),
         ("Maximize", None),
@@ -177,12 +242,20 @@ fn words(rt: HostRuntime) -> Result<(), Fail> {
             }
         }
     }
-    let two = vec![in rt.alloc(); String::from_str(rt.alloc(), "maximize")?, String::from_str(rt.alloc(), "json")?]?;
+    let two = vec![in rt.alloc();
+        String::from_str(rt.alloc(), "maximize")?,
+        String::from_str(rt.alloc(), "json")?,
+    ]?;
     assert!(rt; Command::from_words(&two).is_err());
     assert!(rt; Command::from_words(&[]).is_err());
     for (refusal, want) in [
         (CliError::Usage, "usage: icu_locale_cli COMMAND [json]"),
-        (CliError::Data(DataError { kind: DataErrorKind::Custom }), "data: Custom"),
+        (
+            CliError::Data(DataError {
+                kind: DataErrorKind::Custom,
+            }),
+            "data: Custom",
+        ),
         (CliError::Read, "read failed"),
         (CliError::Write, "write failed"),
         (CliError::Memory, "no memory"),

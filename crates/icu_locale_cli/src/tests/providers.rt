@@ -120,14 +120,22 @@ fn refused_extended(rt: &impl Abort, tables: &Tables, want: Option<DataError>) {
     assert!(rt; LocaleDirectionality::try_new_extended_unstable(&provider).err() == want);
 }
 
-fn refused_directions(rt: &impl Abort, tables: &Tables, want: Option<DataError>) -> Result<(), Fail> {
+fn refused_directions(
+    rt: &impl Abort,
+    tables: &Tables,
+    want: Option<DataError>,
+) -> Result<(), Fail> {
     let mut provider = willing(tables);
     provider.directions = want;
     let expander = LocaleExpander::try_new_extended_unstable(&provider)?;
     assert!(rt; LocaleDirectionality::try_new_common_unstable(&provider).err() == want);
     assert!(rt; LocaleDirectionality::try_new_extended_unstable(&provider).err() == want);
-    assert!(rt; LocaleDirectionality::try_new_with_expander_unstable(&provider, expander).err() == want);
-    assert!(rt; LocaleDirectionality::try_new_with_expander_unstable(&provider, &expander).err() == want);
+    assert!(rt;
+        LocaleDirectionality::try_new_with_expander_unstable(&provider, expander).err() == want
+    );
+    assert!(rt;
+        LocaleDirectionality::try_new_with_expander_unstable(&provider, &expander).err() == want
+    );
     Ok(())
 }
 
@@ -150,10 +158,15 @@ fn the_first_refusal_decides(rt: HostRuntime) -> Result<(), Fail> {
     let mut provider = willing(&tables);
     provider.language = refusal(DataErrorKind::IdentifierNotFound);
     provider.script_region = refusal(DataErrorKind::Custom);
-    assert!(rt; LocaleExpander::try_new_common_unstable(&provider).err() == refusal(DataErrorKind::IdentifierNotFound));
+    assert!(rt;
+        LocaleExpander::try_new_common_unstable(&provider).err()
+            == refusal(DataErrorKind::IdentifierNotFound)
+    );
     let mut provider = willing(&tables);
     provider.language = refusal(DataErrorKind::Custom);
     provider.script_region = refusal(DataErrorKind::IdentifierNotFound);
-    assert!(rt; LocaleExpander::try_new_common_unstable(&provider).err() == refusal(DataErrorKind::Custom));
+    assert!(rt;
+        LocaleExpander::try_new_common_unstable(&provider).err() == refusal(DataErrorKind::Custom)
+    );
     Ok(())
 }

@@ -95,7 +95,10 @@ fn a_row_that_gives_an_unknown_script(rt: HostRuntime) -> Result<(), Fail> {
     let script_region = LikelySubtagsForScriptRegion::new(rt.alloc());
     let expander = LocaleExpander::new_common(&language, &script_region);
     assert!(rt; !expander.is_settled());
-    assert_eq!(rt; maximized(rt.alloc(), &expander, "xx-Zzzz-DE")?.as_str(), "xx-Zzzz-DE M");
+    assert_eq!(rt;
+        maximized(rt.alloc(), &expander, "xx-Zzzz-DE")?.as_str(),
+        "xx-Zzzz-DE M"
+    );
     let tables = sample(rt.alloc())?;
     assert!(rt; LocaleExpander::try_new_common_unstable(&tables)?.is_settled());
     Ok(())

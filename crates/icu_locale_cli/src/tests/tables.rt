@@ -1,9 +1,11 @@
 //! Providers and tables.
 use super::likely::american;
+use crate::sample::sample;
 use icu_locale::{Direction, LocaleDirectionality, LocaleExpander};
 use icu_locale_core::{Language, LanguageIdentifier, Region, Script};
-use icu_provider::{LikelySubtagsForLanguage, LikelySubtagsForScriptRegion, ScriptDirection, SortedMap};
-use crate::sample::sample;
+use icu_provider::{
+    LikelySubtagsForLanguage, LikelySubtagsForScriptRegion, ScriptDirection, SortedMap,
+};
 use std::alloc::Global;
 use std::test::Fail;
 
@@ -52,8 +54,12 @@ fn directions(rt: HostRuntime) -> Result<(), Fail> {
     ] {
         let identifier = LanguageIdentifier::try_from_str(rt.alloc(), text)?;
         assert!(rt; directionality.get(&identifier) == want, "at {text}");
-        assert!(rt; directionality.is_right_to_left(&identifier) == (want == Some(Direction::RightToLeft)));
-        assert!(rt; directionality.is_left_to_right(&identifier) == (want == Some(Direction::LeftToRight)));
+        assert!(rt;
+            directionality.is_right_to_left(&identifier) == (want == Some(Direction::RightToLeft))
+        );
+        assert!(rt;
+            directionality.is_left_to_right(&identifier) == (want == Some(Direction::LeftToRight))
+        );
     }
     Ok(())
 }
@@ -62,7 +68,11 @@ fn directions(rt: HostRuntime) -> Result<(), Fail> {
 fn a_script_in_both_lists(rt: HostRuntime) -> Result<(), Fail> {
     let latin = Script::try_from_str("Latn")?;
     let mut language = LikelySubtagsForLanguage::new(rt.alloc(), american()?);
-    language.insert_language(Language::try_from_str("en")?, latin, Region::try_from_str("US")?)?;
+    language.insert_language(
+        Language::try_from_str("en")?,
+        latin,
+        Region::try_from_str("US")?,
+    )?;
     let script_region = LikelySubtagsForScriptRegion::new(rt.alloc());
     let mut both = ScriptDirection::new(rt.alloc());
     both.insert_ltr(latin)?;

@@ -1,5 +1,7 @@
 //! Texts of subtags and identifiers.
-use icu_locale_core::{Key, Language, LanguageIdentifier, Region, Script, Subtag, Variant, Variants};
+use icu_locale_core::{
+    Key, Language, LanguageIdentifier, Region, Script, Subtag, Variant, Variants,
+};
 use std::alloc::Global;
 use std::process::Abort;
 use std::test::Fail;
@@ -37,7 +39,11 @@ fn identifiers(rt: HostRuntime) -> Result<(), Fail> {
         ("zh-CN\r", "InvalidSubtag"),
         ("ZH-hANT-tw-Fonipa", "zh-Hant-TW-fonipa"),
     ] {
-        assert_eq!(rt; read(rt.alloc(), text.as_bytes())?.as_str(), want, "at {text}");
+        assert_eq!(rt;
+            read(rt.alloc(), text.as_bytes())?.as_str(),
+            want,
+            "at {text}"
+        );
     }
     assert_eq!(rt; read(rt.alloc(), b"en-\xff")?.as_str(), "InvalidSubtag");
     assert_eq!(rt; read(rt.alloc(), b"\xff")?.as_str(), "InvalidLanguage");
@@ -55,7 +61,10 @@ fn ten_thousand_variants(rt: HostRuntime) -> Result<(), Fail> {
     }
     let identifier = LanguageIdentifier::try_from_str(rt.alloc(), falling.as_str())?;
     assert_eq!(rt; identifier.variants.len(), 10_000);
-    assert_eq!(rt; format!(in rt.alloc(); "{identifier}")?.as_str(), rising.as_str());
+    assert_eq!(rt;
+        format!(in rt.alloc(); "{identifier}")?.as_str(),
+        rising.as_str()
+    );
     let copy = identifier.try_clone()?;
     assert!(rt; copy == identifier);
     Ok(())
@@ -86,7 +95,10 @@ fn subtags(rt: HostRuntime) -> Result<(), Fail> {
     }
     let (first, second) = (Region::try_from_str("150")?, Region::try_from_str("DE")?);
     assert!(rt; first < second);
-    assert_eq!(rt; format!(in rt.alloc(); "{first} {second}")?.as_str(), "150 DE");
+    assert_eq!(rt;
+        format!(in rt.alloc(); "{first} {second}")?.as_str(),
+        "150 DE"
+    );
     Ok(())
 }
 

@@ -1,7 +1,12 @@
 //! A small world, searched through: three languages, scripts and regions, the unknown ones among them.
+ghost use Rattle.std.specs.Prelude.{◌<◌};
+
 use icu_locale::LocaleExpander;
 use icu_locale_core::{Language, LanguageIdentifier, Region, Script, Variants};
-use icu_provider::{DataError, LikelySubtagsExtended, LikelySubtagsForLanguage, LikelySubtagsForScriptRegion};
+use icu_provider::{
+    DataError, DataErrorKind, LikelySubtagsExtended, LikelySubtagsForLanguage,
+    LikelySubtagsForScriptRegion,
+};
 use std::alloc::Global;
 use std::test::Fail;
 
@@ -34,22 +39,61 @@ impl World {
     }
 
     // Every identifier of the world without variants.
-    fn identifiers(&self, alloc: Global) -> Result<Vec<LanguageIdentifier>, Fail> {
+    fn identifiers(&self, alloc: Global) -> Result<Vec<LanguageIdentifier>, DataError> {
         let mut all = Vec::new(alloc);
         for language in self.languages {
-            for script in [None, Some(self.scripts[0]), Some(self.scripts[1]), Some(self.scripts[2])] {
-                for region in [None, Some(self.regions[0]), Some(self.regions[1]), Some(self.regions[2])] {
-                    all.push(LanguageIdentifier {
-                        language,
-                        script,
-                        region,
-                        variants: Variants::new(alloc),
-                    })?;
-                }
-            }
+            self.put_scripts(alloc, &mut all, &language)?;
         }
         Ok(all)
     }
+
+    fn put_scripts(
+        &self,
+        alloc: Global,
+        all: &mut Vec<LanguageIdentifier>,
+        language: &Language,
+    ) -> Result<(), DataError> {
+        self.put_regions(alloc, all, language, &None)?;
+        for script in self.scripts {
+            self.put_regions(alloc, all, language, &Some(script))?;
+        }
+        Ok(())
+    }
+
+    fn put_regions(
+        &self,
+        alloc: Global,
+        all: &mut Vec<LanguageIdentifier>,
+        language: &Language,
+        script: &Option<Script>,
+    ) -> Result<(), DataError> {
+        put(alloc, all, language, script, &None)?;
+        for region in self.regions {
+            put(alloc, all, language, script, &Some(region))?;
+        }
+        Ok(())
+    }
+}
+
+fn put(
+    alloc: Global,
+    all: &mut Vec<LanguageIdentifier>,
+    language: &Language,
+    script: &Option<Script>,
+    region: &Option<Region>,
+) -> Result<(), DataError> {
+    let identifier = LanguageIdentifier {
+        language: *language,
+        script: *script,
+        region: *region,
+        variants: Variants::new(alloc),
+    };
+    if all.push(identifier).is_err() {
+        return Err(DataError {
+            kind: DataErrorKind::Memory,
+        });
+    }
+    Ok(())
 }
 
 // A fixed sequence of numbers.
@@ -62,7 +106,10 @@ impl Numbers {
     fn below_three(&mut self) -> usize
         ensures { result < 3 }
     {
-        self.state = self.state.wrapping_mul(1_664_525).wrapping_add(1_013_904_223);
+        self.state = self
+            .state
+            .wrapping_mul(1_664_525)
+            .wrapping_add(1_013_904_223);
         match (self.state >> 24) % 3 {
             0 => 0,
             1 => 1,
@@ -87,28 +134,52 @@ impl Numbers {
         self.below_three() == 0
     }
 
-    fn by_language(&mut self, alloc: Global, world: &World) -> Result<LikelySubtagsForLanguage, DataError> {
+    fn by_language(
+        &mut self,
+        alloc: Global,
+        world: &World,
+    ) -> Result<LikelySubtagsForLanguage, DataError> {
         let und = (self.language(world), self.script(world), self.region(world));
         let mut table = LikelySubtagsForLanguage::new(alloc, und);
         for _ in 0..3 {
             if self.is_there() {
-                table.insert_language(self.language(world), self.script(world), self.region(world))?;
+                table.insert_language(
+                    self.language(world),
+                    self.script(world),
+                    self.region(world),
+                )?;
             }
             if self.is_there() {
-                table.insert_language_script(self.language(world), self.script(world), self.region(world))?;
+                table.insert_language_script(
+                    self.language(world),
+                    self.script(world),
+                    self.region(world),
+                )?;
             }
             if self.is_there() {
-                table.insert_language_region(self.language(world), self.region(world), self.script(world))?;
+                table.insert_language_region(
+                    self.language(world),
+                    self.region(world),
+                    self.script(world),
+                )?;
             }
         }
         Ok(table)
     }
 
-    fn by_script_region(&mut self, alloc: Global, world: &World) -> Result<LikelySubtagsForScriptRegion, DataError> {
+    fn by_script_region(
+        &mut self,
+        alloc: Global,
+        world: &World,
+    ) -> Result<LikelySubtagsForScriptRegion, DataError> {
         let mut table = LikelySubtagsForScriptRegion::new(alloc);
         for _ in 0..3 {
             if self.is_there() {
-                table.insert_script_region(self.script(world), self.region(world), self.language(world))?;
+                table.insert_script_region(
+                    self.script(world),
+                    self.region(world),
+                    self.language(world),
+                )?;
             }
             if self.is_there() {
                 table.insert_script(self.script(world), self.language(world), self.region(world))?;
@@ -120,14 +191,26 @@ impl Numbers {
         Ok(table)
     }
 
-    fn extended(&mut self, alloc: Global, world: &World) -> Result<LikelySubtagsExtended, DataError> {
+    fn extended(
+        &mut self,
+        alloc: Global,
+        world: &World,
+    ) -> Result<LikelySubtagsExtended, DataError> {
         let mut table = LikelySubtagsExtended::new(alloc);
         for _ in 0..2 {
             if self.is_there() {
-                table.insert_language(self.language(world), self.script(world), self.region(world))?;
+                table.insert_language(
+                    self.language(world),
+                    self.script(world),
+                    self.region(world),
+                )?;
             }
             if self.is_there() {
-                table.insert_language_region(self.language(world), self.region(world), self.script(world))?;
+                table.insert_language_region(
+                    self.language(world),
+                    self.region(world),
+                    self.script(world),
+                )?;
             }
             if self.is_there() {
                 table.insert_script(self.script(world), self.language(world), self.region(world))?;
@@ -140,14 +223,21 @@ impl Numbers {
     }
 }
 
-fn maximal(expander: &LocaleExpander<'_>, identifier: &LanguageIdentifier) -> Result<LanguageIdentifier, Fail> {
+fn maximal(
+    expander: &LocaleExpander<'_>,
+    identifier: &LanguageIdentifier,
+) -> Result<LanguageIdentifier, Fail> {
     let mut copy = identifier.try_clone()?;
     let _ = expander.maximize(&mut copy);
     Ok(copy)
 }
 
 // Whether the maximal form of every identifier is bare and its own maximal form, by looking at each.
-fn is_settled_by_search(expander: &LocaleExpander<'_>, world: &World, all: &[LanguageIdentifier]) -> Result<bool, Fail> {
+fn is_settled_by_search(
+    expander: &LocaleExpander<'_>,
+    world: &World,
+    all: &[LanguageIdentifier],
+) -> Result<bool, Fail> {
     for identifier in all {
         let form = maximal(expander, identifier)?;
         let bare = form.script != Some(world.scripts[0]) && form.region != Some(world.regions[0]);
@@ -185,23 +275,38 @@ fn minimal_by_search(
 }
 
 fn precedes(a: &LanguageIdentifier, b: &LanguageIdentifier, favors_region: bool) -> bool {
-    let count = |x: &LanguageIdentifier| u8::from(x.script.is_some()) + u8::from(x.region.is_some());
-    let favored = |x: &LanguageIdentifier| if favors_region { x.region.is_some() } else { x.script.is_some() };
+    let count = |x: &LanguageIdentifier| u8::from(x.script.is_some())
+        + u8::from(x.region.is_some());
+    let favored = |x: &LanguageIdentifier| if favors_region {
+        x.region.is_some()
+    } else {
+        x.script.is_some()
+    };
     count(a) < count(b) || (count(a) == count(b) && favored(a) && !favored(b))
 }
 
 // Whether the minimal forms of an identifier are those that a search finds.
-fn is_minimized(expander: &LocaleExpander<'_>, identifier: &LanguageIdentifier, all: &[LanguageIdentifier]) -> Result<bool, Fail> {
+fn is_minimized(
+    expander: &LocaleExpander<'_>,
+    identifier: &LanguageIdentifier,
+    all: &[LanguageIdentifier],
+) -> Result<bool, Fail> {
     let mut by_region = identifier.try_clone()?;
     let _ = expander.minimize(&mut by_region);
     let mut by_script = identifier.try_clone()?;
     let _ = expander.minimize_favor_script(&mut by_script);
-    Ok(by_region == minimal_by_search(expander, identifier, all, true)?
-        && by_script == minimal_by_search(expander, identifier, all, false)?)
+    Ok(
+        by_region == minimal_by_search(expander, identifier, all, true)?
+            && by_script == minimal_by_search(expander, identifier, all, false)?,
+    )
 }
 
 // Whether an expander answers as a search does, and whether its table is settled.
-fn agrees(expander: &LocaleExpander<'_>, world: &World, all: &[LanguageIdentifier]) -> Result<(bool, bool), Fail> {
+fn agrees(
+    expander: &LocaleExpander<'_>,
+    world: &World,
+    all: &[LanguageIdentifier],
+) -> Result<(bool, bool), Fail> {
     let settled = expander.is_settled();
     let mut agreed = settled == is_settled_by_search(expander, world, all)?;
     for identifier in all {
@@ -220,8 +325,16 @@ fn next_tables_agree(
     let language = numbers.by_language(alloc, world)?;
     let script_region = numbers.by_script_region(alloc, world)?;
     let extended = numbers.extended(alloc, world)?;
-    let common = agrees(&LocaleExpander::new_common(&language, &script_region), world, all)?;
-    let whole = agrees(&LocaleExpander::new_extended(&language, &script_region, &extended), world, all)?;
+    let common = agrees(
+        &LocaleExpander::new_common(&language, &script_region),
+        world,
+        all,
+    )?;
+    let whole = agrees(
+        &LocaleExpander::new_extended(&language, &script_region, &extended),
+        world,
+        all,
+    )?;
     Ok((common, whole))
 }
 
