@@ -179,10 +179,13 @@ module _ (likely : LikelySubtags) (rules : Rules) (old : Locale) where
   counted_both id transform whole end before middle after fine passes ends (a, of_run, first) (b, of_transform, second) =
       let most_first : middle ≤ before + 6 * a = first.most in
       let most_second : after ≤ middle + 6 * b = second.most in
-      let least_first : before + a ≤ middle = first.least fine in
-      (a + b, identifiers_where_ends a b (unwrap_or end old.id) (EndsAt-later_end (next likely rules) old.id end ends) of_run of_transform, record {
-        most = omega (arith, most_first, most_second);
-        least = λ no_memory.
-            let least_second : middle + b ≤ after = second.least (λ out. no_memory (passes out)) in
-            omega (arith, least_first, least_second);
-      })
+      let least_first : before + a ≤ middle = first.least fine in (
+        a + b,
+        identifiers_where_ends a b (unwrap_or end old.id) (EndsAt-later_end (next likely rules) old.id end ends) of_run of_transform,
+        record {
+          most = omega (arith, most_first, most_second);
+          least = λ no_memory.
+              let least_second : middle + b ≤ after = second.least (λ out. no_memory (passes out)) in
+              omega (arith, least_first, least_second);
+        },
+      )

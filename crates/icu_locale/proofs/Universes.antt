@@ -181,6 +181,6 @@ pub IsUniverse-universe : (likely : LikelySubtags) (rules : Rules) (transform : 
 IsUniverse-universe likely rules transform x =
     let ps = parts rules x in
     record {
-  has_start = made_of-has ps x (IsMadeOf-itself ps x (parts-start rules x));
-  leads = λ y z here e. made_of-has ps z (made_next_of likely rules transform ps (parts-HasParts rules x) y z (IsMadeOf-from ps y here) e);
-}
+      has_start = made_of-has ps x (IsMadeOf-itself ps x (parts-start rules x));
+      leads = λ y z here e. made_of-has ps z (made_next_of likely rules transform ps (parts-HasParts rules x) y z (IsMadeOf-from ps y here) e);
+    }

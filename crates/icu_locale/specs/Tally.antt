@@ -1,3 +1,4 @@
+-- A count of turns, which only contracts see.
 use Rattle.std.specs.Prelude.{ℕ, suc}
 use Rattle.icu_locale.specs.declared.rewriting.turns.Tally.{Tally}
 use Rattle.icu_locale.specs.declared.rewriting.turns.Tally.TheVariants.{None, OneMore'}

@@ -92,7 +92,11 @@ impl<'d, E: AsExpander<'d>> LocaleCanonicalizer<'d, E> {
     /// # Errors
     ///
     /// Those of `canonicalize`.
-    pub fn canonicalize_counted(&self, locale: &mut Locale, turns: &mut Turns) -> Result<TransformResult, CanonicalizeError>
+    pub fn canonicalize_counted(
+        &self,
+        locale: &mut Locale,
+        turns: &mut Turns,
+    ) -> Result<TransformResult, CanonicalizeError>
         ensures canonical { OnOk result (IsCanonical (likely (E.expander self.now.expander)) self.now.rules locale.old locale.new) }
         ensures answer { IfOk result (λ answer. answer ≡ answer_of (is_applied (likely (E.expander self.now.expander)) self.now.rules locale.old)) }
         ensures refusal { IfErr result (IsRefusal (likely (E.expander self.now.expander)) self.now.rules locale.old) }
@@ -125,7 +129,8 @@ impl<'d, E: AsExpander<'d>> LocaleCanonicalizer<'d, E> {
             Err(refusal) => return Err(refusal),
         };
         let keywords = &locale.extensions.unicode.keywords;
-        let Ok(region_override) = subdivision_alias(&self.rules, keywords, region_override_key()) else {
+        let Ok(region_override) = subdivision_alias(&self.rules, keywords, region_override_key())
+        else {
             return Err(CanonicalizeError::Memory);
         };
         let Ok(subdivision) = subdivision_alias(&self.rules, keywords, subdivision_key()) else {

@@ -1,4 +1,5 @@
 //! Worked rows over all crates: expected values stand beside each call.
+mod canonical;
 mod likely;
 mod memory;
 mod program;

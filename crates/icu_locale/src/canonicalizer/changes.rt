@@ -38,7 +38,9 @@ impl Changes {
         let is_subdivision_changed = put(keywords, subdivision_key(), subdivision);
         let is_id_changed = replace(&mut locale.id, id);
         let is_transform_changed = replace_option(&mut locale.extensions.transform.lang, transform);
-        answer_of(is_id_changed || is_transform_changed || is_region_changed || is_subdivision_changed)
+        answer_of(
+            is_id_changed || is_transform_changed || is_region_changed || is_subdivision_changed,
+        )
     }
 }
 
@@ -65,10 +67,7 @@ fn replace(id: &mut LanguageIdentifier, by: Option<LanguageIdentifier>) -> bool
     }
 }
 
-fn replace_option(
-    id: &mut Option<LanguageIdentifier>,
-    by: Option<LanguageIdentifier>,
-) -> bool
+fn replace_option(id: &mut Option<LanguageIdentifier>, by: Option<LanguageIdentifier>) -> bool
     ensures written { id.new ≡ option_or by id.old }
     ensures answer { result ≡ is_some by }
 {

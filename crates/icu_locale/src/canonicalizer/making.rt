@@ -111,7 +111,9 @@ impl<'d> LocaleCanonicalizer<'d, LocaleExpander<'d>> {
             (λ refusal. result ≡ Err refusal) }
     {
         match LocaleExpander::try_new_common_unstable(provider) {
-            Ok(expander) => LocaleCanonicalizer::try_new_with_expander_unstable(alloc, provider, expander),
+            Ok(expander) => LocaleCanonicalizer::try_new_with_expander_unstable(
+                alloc, provider, expander,
+            ),
             Err(refusal) => Err(refusal),
         }
     }
@@ -130,7 +132,9 @@ impl<'d> LocaleCanonicalizer<'d, LocaleExpander<'d>> {
             (λ refusal. result ≡ Err refusal) }
     {
         match LocaleExpander::try_new_extended_unstable(provider) {
-            Ok(expander) => LocaleCanonicalizer::try_new_with_expander_unstable(alloc, provider, expander),
+            Ok(expander) => LocaleCanonicalizer::try_new_with_expander_unstable(
+                alloc, provider, expander,
+            ),
             Err(refusal) => Err(refusal),
         }
     }

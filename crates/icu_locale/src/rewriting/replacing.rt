@@ -72,7 +72,10 @@ pub fn replacement(
     ensures refused { IfErr result (λ e. e ≡ CanonicalizeError.Memory) }
     ensures free { (replaced source.now rule.now replacement.now).variants ≡ empty → IsOk result }
 {
-    let variants = match source.variants.try_replaced(&rule.variants, &replacement.variants) {
+    let variants = match source
+        .variants
+        .try_replaced(&rule.variants, &replacement.variants)
+    {
         Ok(variants) => variants,
         Err(_) => return Err(CanonicalizeError::Memory),
     };
