@@ -1,14 +1,17 @@
 //! Canonical forms over small tables of aliases.
 use crate::sample::sample;
+use crate::tests::memory::take_all;
 use icu_locale::{
     CanonicalizeError, LocaleCanonicalizer, LocaleExpander, TransformResult, Turns, laws,
 };
 use icu_locale_core::{
     Key, Language, LanguageIdentifier, Locale, Region, Script, Subtag, Value, Variant,
 };
-use icu_provider::{Aliases, DataError, LanguageStrStrPair, StrStrPair};
+use icu_provider::{
+    Aliases, DataError, DataProvider, LanguageStrStrPair, LikelySubtagsExtended, StrStrPair,
+};
 use icu_tables::Tables;
-use std::alloc::Global;
+use std::alloc::{AllocError, Global};
 use std::process::Abort;
 use std::test::Fail;
 
@@ -499,6 +502,175 @@ fn extensions(rt: HostRuntime) -> Result<(), Fail> {
     let expander = of_sample(&tables)?;
     languages_of_transforms(&rt, rt.alloc(), &expander)?;
     subdivisions(&rt, rt.alloc(), &expander)
+}
+
+// A transform language, or none for the empty text.
+fn transform(alloc: Global, text: &str) -> Result<Option<LanguageIdentifier>, Fail> {
+    if text.is_empty() {
+        return Ok(None);
+    }
+    Ok(Some(LanguageIdentifier::try_from_str(alloc, text)?))
+}
+
+// What a call answers while no memory is left.
+fn starved(
+    alloc: Global,
+    canonicalizer: &LocaleCanonicalizer<'_>,
+    locale: &mut Locale,
+) -> Result<Result<TransformResult, CanonicalizeError>, AllocError> {
+    let held = take_all(alloc)?;
+    let answer = canonicalizer.canonicalize(locale);
+    drop(held);
+    Ok(answer)
+}
+
+fn starved_call(
+    rt: &impl Abort,
+    alloc: Global,
+    canonicalizer: &LocaleCanonicalizer<'_>,
+    from: (&str, &str),
+    want: &str,
+) -> Result<(), Fail> {
+    let mut locale = Locale::new(alloc, LanguageIdentifier::try_from_str(alloc, from.0)?);
+    locale.extensions.transform.lang = transform(alloc, from.1)?;
+    let answer = starved(alloc, canonicalizer, &mut locale)?;
+    let left = told(alloc, &answer, &locale.id)?;
+    assert_eq!(rt; left.as_str(), want);
+    Ok(())
+}
+
+fn starved_ends(rt: &impl Abort, alloc: Global, e: &LocaleExpander<'_>) -> Result<(), Fail> {
+    let table = aliases(
+        alloc,
+        &[
+            Row::Two("sh", "sr-Latn"),
+            Row::Two("aa", "bb"),
+            Row::Two("bb", "cc"),
+            Row::Script("Qaai", "Zinh"),
+            Row::Digits("276", "DE"),
+        ],
+    )?;
+    let canonicalizer = LocaleCanonicalizer::new_with_expander(alloc, &table, *e)?;
+    starved_call(rt, alloc, &canonicalizer, ("sh", ""), "sr-Latn M")?;
+    starved_call(rt, alloc, &canonicalizer, ("sh-Cyrl", ""), "sr-Cyrl M")?;
+    starved_call(rt, alloc, &canonicalizer, ("aa", ""), "cc M")?;
+    starved_call(
+        rt,
+        alloc,
+        &canonicalizer,
+        ("en-Qaai-276", ""),
+        "en-Zinh-DE M",
+    )
+}
+
+fn starved_cycles(rt: &impl Abort, alloc: Global, e: &LocaleExpander<'_>) -> Result<(), Fail> {
+    let table = aliases(
+        alloc,
+        &[
+            Row::Two("aa", "bb"),
+            Row::Two("bb", "aa"),
+            Row::Two("sh", "sr-Latn"),
+            Row::Two("xx", "yy"),
+            Row::Two("yy", "zz"),
+            Row::Two("zz", "yy"),
+        ],
+    )?;
+    let canonicalizer = LocaleCanonicalizer::new_with_expander(alloc, &table, *e)?;
+    starved_call(rt, alloc, &canonicalizer, ("aa", ""), "aa again aa")?;
+    starved_call(rt, alloc, &canonicalizer, ("sh", "aa"), "sh again aa")?;
+    starved_call(rt, alloc, &canonicalizer, ("xx", ""), "xx again yy")
+}
+
+#[test]
+fn no_memory_is_left(rt: HostRuntime) -> Result<(), Fail> {
+    let tables = sample(rt.alloc())?;
+    let expander = of_sample(&tables)?;
+    starved_ends(&rt, rt.alloc(), &expander)?;
+    starved_cycles(&rt, rt.alloc(), &expander)
+}
+
+fn made_of_a_provider(rt: &impl Abort, alloc: Global, tables: &Tables) -> Result<(), Fail> {
+    let canonicalizer = LocaleCanonicalizer::try_new_common_unstable(alloc, tables)?;
+    one_call(rt, alloc, &canonicalizer, ("sgn-DD", "gsg M"))
+}
+
+fn made_of_tables(rt: &impl Abort, alloc: Global, tables: &Tables) -> Result<(), Fail> {
+    let language = tables.load_likely_language()?;
+    let script_region = tables.load_likely_script_region()?;
+    let aliases = tables.load_aliases()?;
+    let canonicalizer = LocaleCanonicalizer::new_common(alloc, language, script_region, aliases)?;
+    one_call(rt, alloc, &canonicalizer, ("hy-SU", "hy-AM M"))
+}
+
+fn made_of_all_tables(rt: &impl Abort, alloc: Global, tables: &mut Tables) -> Result<(), Fail> {
+    tables.set_likely_extended(LikelySubtagsExtended::new(alloc));
+    let canonicalizer = LocaleCanonicalizer::try_new_extended_unstable(alloc, &*tables)?;
+    one_call(rt, alloc, &canonicalizer, ("en-SU", "en-RU M"))
+}
+
+fn over_a_lent_expander(rt: &impl Abort, alloc: Global, tables: &Tables) -> Result<(), Fail> {
+    let expander = of_sample(tables)?;
+    let canonicalizer = LocaleCanonicalizer::try_new_with_expander_unstable(
+        alloc, tables, &expander,
+    )?;
+    let mut locale = Locale::new(alloc, LanguageIdentifier::try_from_str(alloc, "ja")?);
+    let answer = canonicalizer.canonicalize(&mut locale);
+    let left = told(alloc, &answer, &locale.id)?;
+    assert_eq!(rt; left.as_str(), "ja U");
+    Ok(())
+}
+
+#[test]
+fn each_constructor(rt: HostRuntime) -> Result<(), Fail> {
+    let mut tables = sample(rt.alloc())?;
+    made_of_a_provider(&rt, rt.alloc(), &tables)?;
+    made_of_tables(&rt, rt.alloc(), &tables)?;
+    over_a_lent_expander(&rt, rt.alloc(), &tables)?;
+    made_of_all_tables(&rt, rt.alloc(), &mut tables)
+}
+
+// What one turn makes of an identifier.
+fn one_turn(
+    alloc: Global,
+    canonicalizer: &LocaleCanonicalizer<'_>,
+    from: &str,
+    transform: bool,
+) -> Result<String, Fail> {
+    let id = LanguageIdentifier::try_from_str(alloc, from)?;
+    match laws::search(canonicalizer, &id, transform, &mut Turns::new()) {
+        Ok(Some(next)) => Ok(format!(in alloc; "{next}")?),
+        Ok(None) => text(alloc, "none"),
+        Err(_) => text(alloc, "refused"),
+    }
+}
+
+fn turns(rt: &impl Abort, alloc: Global, tables: &Tables) -> Result<(), Fail> {
+    let canonicalizer = LocaleCanonicalizer::try_new_common_unstable(alloc, tables)?;
+    let by_all = one_turn(alloc, &canonicalizer, "sgn-DD", false)?;
+    assert_eq!(rt; by_all.as_str(), "sgn-DE");
+    let by_language = one_turn(alloc, &canonicalizer, "sgn-DD", true)?;
+    assert_eq!(rt; by_language.as_str(), "none");
+    Ok(())
+}
+
+#[test]
+fn one_turn_each(rt: HostRuntime) -> Result<(), Fail> {
+    let tables = sample(rt.alloc())?;
+    turns(&rt, rt.alloc(), &tables)
+}
+
+#[test]
+fn replacements(rt: HostRuntime) -> Result<(), Fail> {
+    let source = LanguageIdentifier::try_from_str(rt.alloc(), "ja-Latn-fonipa-hepburn-heploc")?;
+    let rule = LanguageIdentifier::try_from_str(rt.alloc(), "und-hepburn-heploc")?;
+    let instead = LanguageIdentifier::try_from_str(rt.alloc(), "und-alalc97")?;
+    let Ok(replaced) = laws::replacement(&source, &rule, &instead) else {
+        assert!(rt; false);
+        return Ok(());
+    };
+    let replaced = format!(in rt.alloc(); "{replaced}")?;
+    assert_eq!(rt; replaced.as_str(), "ja-Latn-alalc97-fonipa");
+    Ok(())
 }
 
 #[test]

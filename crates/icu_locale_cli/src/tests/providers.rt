@@ -4,12 +4,13 @@ ghost use Rattle.std.specs.Option.{option_map, unwrap_or};
 ghost use Rattle.icu_tables.specs.Tables.{held};
 
 use crate::sample::sample;
-use icu_locale::{LocaleDirectionality, LocaleExpander};
+use icu_locale::{LocaleCanonicalizer, LocaleDirectionality, LocaleExpander};
 use icu_provider::{
     Aliases, DataError, DataErrorKind, DataProvider, LikelySubtagsExtended,
     LikelySubtagsForLanguage, LikelySubtagsForScriptRegion, ScriptDirection,
 };
 use icu_tables::Tables;
+use std::alloc::Global;
 use std::process::Abort;
 use std::test::Fail;
 
@@ -169,4 +170,24 @@ fn the_first_refusal_decides(rt: HostRuntime) -> Result<(), Fail> {
         LocaleExpander::try_new_common_unstable(&provider).err() == refusal(DataErrorKind::Custom)
     );
     Ok(())
+}
+
+fn aliases_come_last(rt: &impl Abort, alloc: Global, tables: &Tables) -> Result<(), Fail> {
+    let mut provider = willing(tables);
+    provider.language = refusal(DataErrorKind::Custom);
+    provider.aliases = refusal(DataErrorKind::MarkerNotFound);
+    let common = LocaleCanonicalizer::try_new_common_unstable(alloc, &provider).err();
+    assert!(rt; common == refusal(DataErrorKind::Custom));
+    let expander = LocaleExpander::try_new_common_unstable(tables)?;
+    let with = LocaleCanonicalizer::try_new_with_expander_unstable(
+        alloc, &provider, expander,
+    ).err();
+    assert!(rt; with == refusal(DataErrorKind::MarkerNotFound));
+    Ok(())
+}
+
+#[test]
+fn the_expander_is_loaded_before_the_aliases(rt: HostRuntime) -> Result<(), Fail> {
+    let tables = sample(rt.alloc())?;
+    aliases_come_last(&rt, rt.alloc(), &tables)
 }

@@ -1,6 +1,7 @@
 //! Texts of subtags and identifiers.
 use icu_locale_core::{
-    Key, Language, LanguageIdentifier, Region, Script, Subtag, Variant, Variants,
+    Key, Keywords, Language, LanguageIdentifier, Locale, Region, Script, Subtag, Value, Variant,
+    Variants,
 };
 use std::alloc::Global;
 use std::process::Abort;
@@ -131,4 +132,67 @@ fn sizes(rt: HostRuntime) {
     assert_eq!(rt; size_of::<Variant>(), 8);
     assert_eq!(rt; size_of::<Key>(), 2);
     assert_eq!(rt; size_of::<Subtag>(), 8);
+}
+
+fn read_value(alloc: Global, text: &str) -> Result<String, Fail> {
+    match Value::try_from_str(alloc, text) {
+        Ok(value) => Ok(format!(in alloc; "{value}")?),
+        Err(refusal) => Ok(format!(in alloc; "{refusal}")?),
+    }
+}
+
+#[test]
+fn values(rt: HostRuntime) -> Result<(), Fail> {
+    for (text, want) in [
+        ("true", ""),
+        ("foo-TRUE-bar", "foo-bar"),
+        ("", ""),
+        ("ab", "InvalidSubtag"),
+        ("foo--bar", "InvalidSubtag"),
+        ("-", "InvalidSubtag"),
+    ] {
+        let read = read_value(rt.alloc(), text)?;
+        assert_eq!(rt; read.as_str(), want, "at {text}");
+    }
+    Ok(())
+}
+
+// Keywords with one value, which is copied first.
+fn keywords(rt: &impl Abort, alloc: Global, key: Key) -> Result<Keywords, Fail> {
+    let value = Value::try_from_str(alloc, "abcdefg")?;
+    let copy = value.try_clone()?;
+    assert!(rt; copy == value);
+    assert!(rt; value.as_single_subtag() == Some(Subtag::try_from_str("abcdefg")?));
+    let mut keywords = Keywords::new(alloc);
+    assert!(rt; keywords.is_empty());
+    let _ = keywords.set(key, value)?;
+    Ok(keywords)
+}
+
+fn copies_of_keywords(rt: &impl Abort, alloc: Global) -> Result<(), Fail> {
+    let key = Key::try_from_str("sd")?;
+    let keywords = keywords(rt, alloc, key)?;
+    let mut copy = keywords.try_clone()?;
+    assert!(rt; copy == keywords);
+    assert!(rt; copy.get(key).is_some());
+    assert!(rt; copy.remove(key).is_some());
+    assert!(rt; copy != keywords);
+    Ok(())
+}
+
+fn copies_of_locales(rt: &impl Abort, alloc: Global) -> Result<(), Fail> {
+    let mut locale = Locale::new(
+        alloc,
+        LanguageIdentifier::try_from_str(alloc, "de-DE-1996")?,
+    );
+    locale.extensions.transform.lang = Some(LanguageIdentifier::try_from_str(alloc, "en-fonipa")?);
+    let copy = locale.try_clone()?;
+    assert!(rt; copy == locale);
+    Ok(())
+}
+
+#[test]
+fn copies(rt: HostRuntime) -> Result<(), Fail> {
+    copies_of_keywords(&rt, rt.alloc())?;
+    copies_of_locales(&rt, rt.alloc())
 }
