@@ -1,26 +1,26 @@
 -- Identifiers without variants stay so, where no replacement adds variants.
-use Rattle.std.proofs.Common.{◌≡◌, ◌==◌, ℕ, zero, suc, Bool, true, false, cond, List, length, map, Option, Some, None, IfSome, is_some, option_and_then, unwrap_or, ◌⊎◌, inl, inr, codes, refl, ap, sym, ◌∙◌, subst}
-use Rattle.std.specs.List.{All, Contains, find, list_any}
+use Rattle.std.proofs.Common.{◌≡◌, ◌==◌, ℕ, zero, suc, Bool, true, false, cond, List, length, Option, Some, None, IfSome, is_some, option_and_then, unwrap_or, inl, inr, codes, refl, ap, sym, ◌∙◌, subst}
+use Rattle.std.specs.List.{find, list_any}
 use Rattle.std.specs.Option.{option_map, option_or}
 use Rattle.std.proofs.lemmas.Bool.{false≢true}
 use Rattle.std.proofs.lemmas.List.Elements.{All-contains}
 use Rattle.std.proofs.lemmas.Option.{none-some, same_Some, option_and_then_some}
-use Rattle.icu_locale_core.specs.TextSet.{TextSet, text_cmp, empty, contains, rising, len, is_subset, union, difference, image}
+use Rattle.icu_locale_core.specs.TextSet.{TextSet, text_cmp, empty, contains, rising, len, union, difference, image}
 use Rattle.icu_locale_core.specs.declared.langid.LanguageIdentifier.{LanguageIdentifier}
 use Rattle.icu_locale_core.proofs.SetOperations.{contains-empty, is_subset-from, replaced-empty}
 use Rattle.icu_locale_core.proofs.VariantLists.{length-rising_empty}
-use Rattle.icu_provider.specs.Maps.{value_at}
+use Rattle.icu_locale_core.specs.Maps.{value_at}
 use Rattle.icu_locale.specs.LikelySubtags.{LikelySubtags}
 use Rattle.icu_locale.specs.Replacement.{matches, replaced, of_language}
-use Rattle.icu_locale.specs.Kinds.{rules_for, by_rule, sign_language, by_sign_region, language_alias, by_language_alias, by_script, region_alias, by_region, complex_region, by_complex_region, variant_alias, by_variant, next}
-use Rattle.icu_locale.specs.Run.{at, StandsIn}
+use Rattle.icu_locale.specs.Kinds.{by_rule, sign_language, by_sign_region, language_alias, by_language_alias, by_script, region_alias, by_region, complex_region, by_complex_region, variant_alias, by_variant, next}
+use Rattle.icu_locale.specs.Run.{at}
 use Rattle.icu_locale.specs.Canonical.{AddsNoVariants}
 use Rattle.icu_locale.specs.Ends.{IsFree}
 use Rattle.icu_locale.specs.declared.canonicalizer.rules.Rule.{Rule}
 use Rattle.icu_locale.specs.declared.canonicalizer.rules.Rules.{Rules}
 use Rattle.icu_locale.proofs.Lists.{Contains-find}
 use Rattle.icu_locale.proofs.Images.{image-empty}
-use Rattle.icu_locale.proofs.Universes.{some_map, some_or}
+use Rattle.icu_locale.proofs.Options.{some_map, some_or}
 
 pub IfSome-from : {X : Type 0} (o : Option X) (P : X → Type 0) → ((z : X) → o ≡ Some z → P z) → IfSome o P
 IfSome-from None P h = tt

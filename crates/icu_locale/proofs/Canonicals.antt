@@ -1,5 +1,5 @@
 -- Canonical locales from the ends of their runs, and refusals from runs without an end.
-use Rattle.std.proofs.Common.{◌≡◌, ◌≢◌, ◌+◌, ◌*◌, ◌≤◌, ℕ, Bool, true, false, List, Option, Some, None, IfSome, IsSome, unwrap_or, Result, Ok, Err, ◌⊎◌, inl, inr, refl, ap, sym, ◌∙◌, subst, arith}
+use Rattle.std.proofs.Common.{◌≡◌, ◌≢◌, ◌+◌, ◌*◌, ◌≤◌, ℕ, Bool, true, false, Option, Some, None, IfSome, unwrap_or, Result, Err, ◌⊎◌, inl, inr, refl, ap, sym, ◌∙◌, arith}
 use Rattle.std.specs.Option.{IsSomeAnd, MatchOption, option_or}
 use Rattle.std.proofs.lemmas.Bool.{cases_Bool, false≢true}
 use Rattle.icu_locale_core.specs.TextSet.{empty}
@@ -8,10 +8,10 @@ use Rattle.icu_locale_core.specs.declared.locale.Locale.{Locale}
 use Rattle.icu_locale_core.proofs.Agreements.{identifiers_decide}
 use Rattle.icu_locale.specs.LikelySubtags.{LikelySubtags}
 use Rattle.icu_locale.specs.Kinds.{next, by_language_alias, next_of}
-use Rattle.icu_locale.specs.Run.{StandsIn, EndsAt, IsRepeat, HasDistinct, EndsOrRepeats}
+use Rattle.icu_locale.specs.Run.{EndsAt, IsRepeat, HasDistinct, EndsOrRepeats}
 use Rattle.icu_locale.specs.Walk.{IsCount}
 use Rattle.icu_locale.specs.Universe.{universe}
-use Rattle.icu_locale.specs.Canonical.{rg, sd, put, canonical_keywords, IsCanonicalTransform, IsCanonical, RulesEnd, ComesAgainFirst, IsRefusal, HasIdentifiers, IsMemory, IsOutOfMemory, IsCounted, NeedsNoMemory}
+use Rattle.icu_locale.specs.Canonical.{rg, sd, put, IsCanonicalTransform, IsCanonical, RulesEnd, ComesAgainFirst, IsRefusal, HasIdentifiers, IsMemory, IsOutOfMemory, IsCounted, NeedsNoMemory}
 use Rattle.icu_locale.specs.Ends.{IsLaterEnd, IsLaterEndOf, IsRunRefusal, IsRunRefusalOf, IsFree, IsRunCounted, IsChanges, changed}
 use Rattle.icu_locale.specs.declared.canonicalizer.rules.Rules.{Rules}
 use Rattle.icu_locale.specs.declared.canonicalizer.changes.Changes.{Changes}

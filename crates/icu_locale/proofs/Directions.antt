@@ -4,7 +4,6 @@ use Rattle.std.proofs.lemmas.Bool.{false≢true}
 use Rattle.icu_provider.specs.ScriptDirection.{is_listed}
 use Rattle.icu_provider.specs.declared.direction.ScriptDirection.{ScriptDirection}
 use Rattle.icu_locale.specs.Direction.{is_script_in, direction_of, AreDisjoint}
-use Rattle.icu_locale.specs.declared.directionality.Direction.{Direction}
 use Rattle.icu_locale.specs.declared.directionality.Direction.TheVariants.{LeftToRight, RightToLeft}
 
 by_lists : (l r : Bool) → (l ≡ true → r ≡ false) → (r ≡ true) ↔ ((if l then Some LeftToRight else (if r then Some RightToLeft else None)) ≡ Some RightToLeft)

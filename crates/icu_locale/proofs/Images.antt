@@ -1,9 +1,9 @@
 -- The image of a set is empty exactly where the set is.
-use Rattle.std.proofs.Common.{◌≡◌, ℕ, Bool, true, false, ◌||◌, List, [], ◌∷◌, map, length, refl, ap, sym, ◌∙◌, arith}
-use Rattle.std.specs.Ordering.{eq_by_cmp, is_eq}
+use Rattle.std.proofs.Common.{◌≡◌, ℕ, true, ◌||◌, List, [], ◌∷◌, map, length, refl, ap, sym, ◌∙◌, arith}
+use Rattle.std.specs.Ordering.{is_eq}
 use Rattle.std.proofs.lemmas.Bool.{false≢true}
 use Rattle.std.proofs.lemmas.Cmp.{tied_itself}
-use Rattle.icu_locale_core.specs.TextSet.{TextSet, text_cmp, empty, contains, from_list, rising, image}
+use Rattle.icu_locale_core.specs.TextSet.{TextSet, empty, contains, from_list, rising, image}
 use Rattle.icu_locale_core.proofs.TextSets.{text_total, is_among, contains-from_list, from_list-rising}
 use Rattle.icu_locale_core.proofs.SetOperations.{contains-empty}
 use Rattle.icu_locale_core.proofs.VariantLists.{length-rising_empty}

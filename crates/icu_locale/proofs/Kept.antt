@@ -1,26 +1,22 @@
 -- A canonical locale is kept, and a locale that changes is one to which something is applied.
 use Rattle.std.proofs.Common.{◌≡◌, ◌≢◌, ℕ, zero, suc, Bool, true, false, ◌||◌, List, Option, Some, None, is_some, option_and_then, IfSome, ◌⊎◌, inl, inr, refl, ap, sym, ◌∙◌, subst}
-use Rattle.std.specs.List.{All}
-use Rattle.std.specs.Option.{IsSomeAnd}
 use Rattle.std.proofs.lemmas.Bool.{false≢true, cases_Bool}
 use Rattle.std.proofs.lemmas.List.Elements.{All-contains}
 use Rattle.std.proofs.lemmas.Option.{none-some, same_Some, option_and_then_some}
 use Rattle.icu_locale_core.specs.TextSet.{text_cmp, empty}
 use Rattle.icu_locale_core.specs.Value.{only_piece}
-use Rattle.icu_locale_core.specs.Keywords.{KeywordRows, value_at as keyword_at}
+use Rattle.icu_locale_core.specs.Keywords.{KeywordRows}
 use Rattle.icu_locale_core.specs.declared.langid.LanguageIdentifier.{LanguageIdentifier}
 use Rattle.icu_locale_core.specs.declared.locale.Locale.{Locale}
-use Rattle.icu_locale_core.proofs.TextSets.{text_total}
-use Rattle.icu_provider.specs.Maps.{value_at}
-use Rattle.icu_provider.proofs.Maps.{SetsOnly-insert_entry}
+use Rattle.icu_locale_core.specs.Maps.{value_at}
 use Rattle.icu_locale.specs.LikelySubtags.{LikelySubtags}
 use Rattle.icu_locale.specs.Kinds.{next, by_language_alias}
 use Rattle.icu_locale.specs.Run.{at, EndsAt}
 use Rattle.icu_locale.specs.Canonical.{rg, sd, subdivision_alias, put, canonical_keywords, IsCanonicalTransform, IsCanonical, is_applied, NeedsNoMemory, HasFinalSubdivisions}
 use Rattle.icu_locale.specs.declared.canonicalizer.rules.Rules.{Rules}
 use Rattle.icu_locale.proofs.Universes.{has_row}
-use Rattle.icu_locale.proofs.Bare.{none_later, IfSome-from}
-use Rattle.icu_locale.proofs.Keywords.{put-other}
+use Rattle.icu_locale.proofs.Bare.{none_later}
+use Rattle.icu_locale.proofs.Keywords.{put-own, put-other}
 
 -- ---- keywords
 
@@ -38,32 +34,22 @@ module _ (rules : Rules) where
   put_final ends value v found =
       option_and_then_some (value_at text_cmp rules.subdivision) (option_and_then only_piece value) v found (λ piece is at. final ends piece v at)
 
-  at_rg : (keywords : KeywordRows) (v : List (List ℕ)) → keyword_at (put keywords rg (Some v)) rg ≡ Some v
-  at_rg keywords v = SetsOnly-insert_entry text_total keywords rg v rg
-
-  at_sd : (keywords : KeywordRows) (v : List (List ℕ)) → keyword_at (put keywords sd (Some v)) sd ≡ Some v
-  at_sd keywords v = SetsOnly-insert_entry text_total keywords sd v sd
-
-  rg_beside_sd : (keywords : KeywordRows) (value : Option (List (List ℕ))) → keyword_at (put keywords sd value) rg ≡ keyword_at keywords rg
-  rg_beside_sd keywords None = refl
-  rg_beside_sd keywords (Some value) = SetsOnly-insert_entry text_total keywords sd value rg
-
-  rg_once : HasFinalSubdivisions rules → (keywords : KeywordRows) (a : Option (List (List ℕ))) → subdivision_alias rules keywords rg ≡ a → alias_of (keyword_at (put keywords rg a) rg) ≡ None
+  rg_once : HasFinalSubdivisions rules → (keywords : KeywordRows) (a : Option (List (List ℕ))) → subdivision_alias rules keywords rg ≡ a → alias_of (value_at text_cmp (put keywords rg a) rg) ≡ None
   rg_once ends keywords None is = is
-  rg_once ends keywords (Some v) is = ap alias_of (at_rg keywords v) ∙ put_final ends (keyword_at keywords rg) v is
+  rg_once ends keywords (Some v) is = ap alias_of (put-own keywords rg (Some v)) ∙ put_final ends (value_at text_cmp keywords rg) v is
 
-  sd_once : HasFinalSubdivisions rules → (before keywords : KeywordRows) (b : Option (List (List ℕ))) → keyword_at keywords sd ≡ keyword_at before sd → subdivision_alias rules before sd ≡ b → alias_of (keyword_at (put keywords sd b) sd) ≡ None
+  sd_once : HasFinalSubdivisions rules → (before keywords : KeywordRows) (b : Option (List (List ℕ))) → value_at text_cmp keywords sd ≡ value_at text_cmp before sd → subdivision_alias rules before sd ≡ b → alias_of (value_at text_cmp (put keywords sd b) sd) ≡ None
   sd_once ends before keywords None same is = ap alias_of same ∙ is
-  sd_once ends before keywords (Some v) same is = ap alias_of (at_sd keywords v) ∙ put_final ends (keyword_at before sd) v is
+  sd_once ends before keywords (Some v) same is = ap alias_of (put-own keywords sd (Some v)) ∙ put_final ends (value_at text_cmp before sd) v is
 
   rg_done : HasFinalSubdivisions rules → (keywords : KeywordRows) → subdivision_alias rules (canonical_keywords rules keywords) rg ≡ None
   rg_done ends keywords =
-      ap alias_of (rg_beside_sd (put keywords rg (subdivision_alias rules keywords rg)) (subdivision_alias rules keywords sd))
+      ap alias_of (put-other (put keywords rg (subdivision_alias rules keywords rg)) sd rg (subdivision_alias rules keywords sd) refl)
       ∙ rg_once ends keywords (subdivision_alias rules keywords rg) refl
 
   sd_done : HasFinalSubdivisions rules → (keywords : KeywordRows) → subdivision_alias rules (canonical_keywords rules keywords) sd ≡ None
   sd_done ends keywords =
-      sd_once ends keywords (put keywords rg (subdivision_alias rules keywords rg)) (subdivision_alias rules keywords sd) (put-other keywords (subdivision_alias rules keywords rg)) refl
+      sd_once ends keywords (put keywords rg (subdivision_alias rules keywords rg)) (subdivision_alias rules keywords sd) (put-other keywords rg sd (subdivision_alias rules keywords rg) refl) refl
 
 -- ---- the runs
 

@@ -15,6 +15,7 @@ pub mod Kept
 pub mod Keywords
 pub mod Lists
 pub mod Made
+pub mod Options
 pub mod Places
 pub mod Readings
 pub mod Replacing

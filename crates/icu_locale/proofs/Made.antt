@@ -2,16 +2,16 @@
 use Rattle.std.proofs.Common.{◌≡◌, ℕ, Bool, true, false, not, ◌&&◌, ◌||◌, cond, List, [], ◌∷◌, map, Option, Some, None, ◌⊎◌, inl, inr, unwrap_or, refl, ap, sym, ◌∙◌, subst}
 use Rattle.std.specs.List.{Contains, flat_map}
 use Rattle.std.specs.Ordering.{is_eq}
-use Rattle.std.proofs.lemmas.Bool.{false≢true}
+use Rattle.std.proofs.lemmas.Bool.{false≢true, or_cases, and_parts}
 use Rattle.std.proofs.lemmas.Cmp.{tied_itself}
-use Rattle.icu_locale_core.specs.TextSet.{TextSet, text_cmp, empty, contains, from_list, rising, union, difference, image}
+use Rattle.icu_locale_core.specs.TextSet.{TextSet, empty, contains, from_list, rising, image}
 use Rattle.icu_locale_core.specs.declared.langid.LanguageIdentifier.{LanguageIdentifier}
 use Rattle.icu_locale_core.proofs.TextSets.{text_total, contains-rising, contains-from_list, Contains-is_among, is_among-Contains}
 use Rattle.icu_locale_core.proofs.SetOperations.{contains-replaced, contains-empty}
 use Rattle.icu_locale.specs.Replacement.{is_known, part, replaced}
 use Rattle.icu_locale.specs.Universe.{subsets, made_of, of_script, of_region, of_variant}
 use Rattle.icu_locale.proofs.Lists.{Contains-here, Contains-there, Contains-cons_cases, Contains-map, Contains-from_map, Contains-flat_map, Contains-from_flat_map}
-use Rattle.icu_locale.proofs.Subsets.{subset_among, among_subset, contains-one, or_cases}
+use Rattle.icu_locale.proofs.Subsets.{subset_among, among_subset, contains-one}
 
 -- the language, script and region of z, and each of its variants, are those of some of ps
 pub record IsMadeOf (ps : List LanguageIdentifier) (z : LanguageIdentifier) : Type 0 where
@@ -102,10 +102,6 @@ module _ (ps : List LanguageIdentifier) where
   made_part f (Some u) None b of_s of_b = of_s
   made_part f None None b of_s of_b = of_b
 
-  and_right : (a b : Bool) → (a && b) ≡ true → b ≡ true
-  and_right true b e = e
-  and_right false b e = absurd (false≢true e)
-
   pub IsMadeOf-replaced : (s a b : LanguageIdentifier) → IsMadeOf ps s → IsMadeOf ps b → IsMadeOf ps (replaced s a b)
   IsMadeOf-replaced s a b of_s of_b = record {
     language = made_language (is_known a.language || (not (is_known s.language) && is_known b.language)) s b (replaced s a b) of_s of_b refl;
@@ -113,7 +109,7 @@ module _ (ps : List LanguageIdentifier) where
     region = made_part (λ p. p.region) s.region a.region b.region of_s.region of_b.region;
     variants = λ q here.
         elim (or_cases (not (contains a.variants q) && contains s.variants q) (contains b.variants q) (sym (contains-replaced s.variants a.variants b.variants q) ∙ here)) [
-          | inl old ↦ of_s.variants q (and_right (not (contains a.variants q)) (contains s.variants q) old)
+          | inl old ↦ of_s.variants q (and_parts (not (contains a.variants q)) (contains s.variants q) old).1
           | inr added ↦ of_b.variants q added
         ];
   }

@@ -1,23 +1,19 @@
 -- The sets of texts of a list are exactly those whose members the list has.
-use Rattle.std.proofs.Common.{◌≡◌, ℕ, Bool, true, false, not, ◌&&◌, ◌||◌, cond, List, [], ◌∷◌, ◌++◌, map, Some, None, is_some, Option, ◌⊎◌, inl, inr, refl, ap, sym, ◌∙◌, subst}
+use Rattle.std.proofs.Common.{◌≡◌, ℕ, Bool, true, false, not, ◌&&◌, ◌||◌, List, [], ◌∷◌, map, is_some, inl, inr, refl, ap, sym, ◌∙◌, subst}
 use Rattle.std.specs.List.{Contains}
 use Rattle.std.specs.Ordering.{eq_by_cmp, is_eq}
 use Rattle.std.specs.FinMap as fin
-use Rattle.std.proofs.lemmas.Bool.{false≢true, cases_Bool}
+use Rattle.std.proofs.lemmas.Bool.{false≢true, cases_Bool, or_cases, false_from_ne_true}
 use Rattle.std.proofs.lemmas.Cmp.{tied_itself}
 use Rattle.std.proofs.lemmas.List.Elements.{Contains-append_left, Contains-append_right, Contains-append_cases}
 use Rattle.icu_locale_core.specs.TextSet.{TextSet, text_cmp, empty, contains, from_list, difference}
-use Rattle.icu_locale_core.proofs.TextSets.{text_total, same_set}
+use Rattle.icu_locale_core.proofs.TextSets.{text_total, same_set, is_some-insert}
 use Rattle.icu_locale_core.proofs.SetOperations.{same_from_tied, contains-difference, contains-empty}
 use Rattle.icu_locale.specs.Universe.{subsets}
 use Rattle.icu_locale.proofs.Lists.{Contains-here, Contains-there, Contains-cons_cases, Contains-nil, Contains-map, Contains-from_map}
 
-some_or : (b : Bool) (o : Option (Unit {0})) → is_some (cond b (Some tt) o) ≡ (b || is_some o)
-some_or true o = refl
-some_or false o = refl
-
 pub contains-insert : (s : TextSet) (t q : List ℕ) → contains (fin.insert s t tt) q ≡ (eq_by_cmp text_cmp q t || contains s q)
-contains-insert s t q = ap is_some (fin.get-insert text_total s t tt q) ∙ some_or (eq_by_cmp text_cmp q t) (fin.get s q)
+contains-insert s t q = ap is_some (fin.get-insert text_total s t tt q) ∙ is_some-insert (eq_by_cmp text_cmp q t) (fin.get s q)
 
 pub contains-one : (t q : List ℕ) → contains (from_list (t ∷ [])) q ≡ eq_by_cmp text_cmp q t
 contains-one t q = contains-insert empty t q ∙ ap (λ b. eq_by_cmp text_cmp q t || b) (contains-empty q) ∙ or_false (eq_by_cmp text_cmp q t)
@@ -25,14 +21,6 @@ contains-one t q = contains-insert empty t q ∙ ap (λ b. eq_by_cmp text_cmp q 
     or_false : (b : Bool) → (b || false) ≡ b
     or_false true = refl
     or_false false = refl
-
-false_from : (b : Bool) → (b ≡ true → ⊥) → b ≡ false
-false_from true off = absurd (off refl)
-false_from false off = refl
-
-pub or_cases : (a b : Bool) → (a || b) ≡ true → (a ≡ true) ⊎ (b ≡ true)
-or_cases true b e = inl refl
-or_cases false b e = inr e
 
 -- a set with t is the set without t, and t
 put_back : (s : TextSet) (t : List ℕ) → contains s t ≡ true → fin.insert (difference s (from_list (t ∷ []))) t tt ≡ s
@@ -51,7 +39,7 @@ taken_out false there e = (refl, e)
 
 pub subset_among : (ts : List (List ℕ)) (s : TextSet) → ((q : List ℕ) → contains s q ≡ true → Contains ts q) → Contains (subsets ts) s
 subset_among [] s inside =
-    let none : empty ≡ s = same_set empty s (λ q. contains-empty q ∙ sym (false_from (contains s q) (λ here. Contains-nil q (inside q here)))) in
+    let none : empty ≡ s = same_set empty s (λ q. contains-empty q ∙ sym (false_from_ne_true (contains s q) (λ here. Contains-nil q (inside q here)))) in
     subst (Contains (empty ∷ [])) none (Contains-here empty [])
 subset_among (t ∷ ts) s inside =
     elim (cases_Bool (contains s t)) [

@@ -7,23 +7,26 @@ use Rattle.std.specs.Borrow.{Bor}
 use Rattle.std.proofs.lemmas.Bool.{and_parts}
 use Rattle.std.proofs.lemmas.List.Elements.{Contains-append_left, Contains-append_right}
 use Rattle.icu_locale_core.specs.TextSet.{text_cmp}
-use Rattle.icu_provider.specs.Maps.{value_at, pair_cmp}
+use Rattle.icu_locale_core.specs.Maps.{value_at}
+use Rattle.icu_provider.specs.Maps.{pair_cmp}
 use Rattle.icu_provider.specs.declared.likely.extended.LikelySubtagsExtended.{LikelySubtagsExtended}
 use Rattle.icu_locale.specs.LikelySubtags.{Key, LanguageRegion, LanguageScript, LanguageAlone, ScriptRegion, ScriptAlone, RegionAlone, Triple}
-use Rattle.icu_locale.specs.Expander.{Rows, common_rows, extended_rows, row_at, common_row, extension_row, und_row, likely, HasKey, keys_by, row_keys, extension_keys, und_row_keys, table_keys}
+use Rattle.icu_locale.specs.Expander.{LikelyRows, common_rows, extended_rows, row_at, common_row, extension_row, und_row, likely, HasKey, keys_by, row_keys, extension_keys, und_row_keys, table_keys}
 use Rattle.icu_locale.specs.declared.expander.LocaleExpander.{LocaleExpander}
 use Rattle.icu_locale.proofs.Locales.{same_text}
-use Rattle.icu_locale.proofs.TableRows.{row_found, key_among, mapped, either, test_of, text_same, pair_same}
+use Rattle.icu_locale_core.proofs.TextSets.{text_same}
+use Rattle.icu_locale.proofs.Options.{some_map, some_or}
+use Rattle.icu_locale.proofs.TableRows.{row_found, key_among, test_of, pair_same}
 
 -- ---- the triple at a key has the subtags of the key
 
-row_has_key : (rows : Rows) (k : Key) (t : Triple) → row_at rows k ≡ Some t → HasKey t k
-row_has_key rows (LanguageRegion l r) t e = let v = mapped _ (value_at pair_cmp rows.language_region (l, r)) t e in (ap (λ (w : Triple). w.0) (sym v.2), ap (λ (w : Triple). w.2) (sym v.2))
-row_has_key rows (LanguageScript l s) t e = let v = mapped _ (value_at pair_cmp rows.language_script (l, s)) t e in (ap (λ (w : Triple). w.0) (sym v.2), ap (λ (w : Triple). w.1) (sym v.2))
-row_has_key rows (LanguageAlone l) t e = let v = mapped _ (value_at text_cmp rows.language l) t e in ap (λ (w : Triple). w.0) (sym v.2)
-row_has_key rows (ScriptRegion s r) t e = let v = mapped _ (value_at pair_cmp rows.script_region (s, r)) t e in (ap (λ (w : Triple). w.1) (sym v.2), ap (λ (w : Triple). w.2) (sym v.2))
-row_has_key rows (ScriptAlone s) t e = let v = mapped _ (value_at text_cmp rows.script s) t e in ap (λ (w : Triple). w.1) (sym v.2)
-row_has_key rows (RegionAlone r) t e = let v = mapped _ (value_at text_cmp rows.region r) t e in ap (λ (w : Triple). w.2) (sym v.2)
+row_has_key : (rows : LikelyRows) (k : Key) (t : Triple) → row_at rows k ≡ Some t → HasKey t k
+row_has_key rows (LanguageRegion l r) t e = let v = some_map _ (value_at pair_cmp rows.language_region (l, r)) t e in (ap (λ (w : Triple). w.0) (sym v.2), ap (λ (w : Triple). w.2) (sym v.2))
+row_has_key rows (LanguageScript l s) t e = let v = some_map _ (value_at pair_cmp rows.language_script (l, s)) t e in (ap (λ (w : Triple). w.0) (sym v.2), ap (λ (w : Triple). w.1) (sym v.2))
+row_has_key rows (LanguageAlone l) t e = let v = some_map _ (value_at text_cmp rows.language l) t e in ap (λ (w : Triple). w.0) (sym v.2)
+row_has_key rows (ScriptRegion s r) t e = let v = some_map _ (value_at pair_cmp rows.script_region (s, r)) t e in (ap (λ (w : Triple). w.1) (sym v.2), ap (λ (w : Triple). w.2) (sym v.2))
+row_has_key rows (ScriptAlone s) t e = let v = some_map _ (value_at text_cmp rows.script s) t e in ap (λ (w : Triple). w.1) (sym v.2)
+row_has_key rows (RegionAlone r) t e = let v = some_map _ (value_at text_cmp rows.region r) t e in ap (λ (w : Triple). w.2) (sym v.2)
 
 extension_has_key : (extended : Option (Bor LikelySubtagsExtended)) (k : Key) (t : Triple) → extension_row extended k ≡ Some t → HasKey t k
 extension_has_key None k t e = absurd (cc)
@@ -48,28 +51,28 @@ pub table_has_key : (e : LocaleExpander) (k : Key) (t : Triple) → likely e k �
 table_has_key e k t f =
     let extended = extension_row e.extended k in
     let served = und_row e.language.now.und k in
-    ⊎_elim (row_has_key _ k t) (λ rest. ⊎_elim (extension_has_key e.extended k t) (und_has_key e.language.now.und k t) (either extended served t rest)) (either (common_row e k) (option_or extended served) t f)
+    ⊎_elim (row_has_key _ k t) (λ rest. ⊎_elim (extension_has_key e.extended k t) (und_has_key e.language.now.und k t) (some_or extended served t rest)) (some_or (common_row e k) (option_or extended served) t f)
 
 -- ---- a key with a triple is that of a row
 
-row_key_among : (rows : Rows) (k : Key) (t : Triple) → row_at rows k ≡ Some t → Contains (row_keys rows) k
+row_key_among : (rows : LikelyRows) (k : Key) (t : Triple) → row_at rows k ≡ Some t → Contains (row_keys rows) k
 row_key_among rows (LanguageAlone l) t e =
-    let v = mapped _ (value_at text_cmp rows.language l) t e in
+    let v = some_map _ (value_at text_cmp rows.language l) t e in
     Contains-append_left (keys_by LanguageAlone rows.language) _ _ (key_among LanguageAlone rows.language l (row_found text_cmp text_same _ l v.0 v.1))
 row_key_among rows (LanguageScript l s) t e =
-    let v = mapped _ (value_at pair_cmp rows.language_script (l, s)) t e in
+    let v = some_map _ (value_at pair_cmp rows.language_script (l, s)) t e in
     Contains-append_right (keys_by LanguageAlone rows.language) _ _ (Contains-append_left (keys_by (λ q. LanguageScript q.0 q.1) rows.language_script) _ _ (key_among (λ q. LanguageScript q.0 q.1) rows.language_script (l, s) (row_found pair_cmp pair_same _ (l, s) v.0 v.1)))
 row_key_among rows (LanguageRegion l r) t e =
-    let v = mapped _ (value_at pair_cmp rows.language_region (l, r)) t e in
+    let v = some_map _ (value_at pair_cmp rows.language_region (l, r)) t e in
     Contains-append_right (keys_by LanguageAlone rows.language) _ _ (Contains-append_right (keys_by (λ q. LanguageScript q.0 q.1) rows.language_script) _ _ (Contains-append_left (keys_by (λ q. LanguageRegion q.0 q.1) rows.language_region) _ _ (key_among (λ q. LanguageRegion q.0 q.1) rows.language_region (l, r) (row_found pair_cmp pair_same _ (l, r) v.0 v.1))))
 row_key_among rows (ScriptRegion s r) t e =
-    let v = mapped _ (value_at pair_cmp rows.script_region (s, r)) t e in
+    let v = some_map _ (value_at pair_cmp rows.script_region (s, r)) t e in
     Contains-append_right (keys_by LanguageAlone rows.language) _ _ (Contains-append_right (keys_by (λ q. LanguageScript q.0 q.1) rows.language_script) _ _ (Contains-append_right (keys_by (λ q. LanguageRegion q.0 q.1) rows.language_region) _ _ (Contains-append_left (keys_by (λ q. ScriptRegion q.0 q.1) rows.script_region) _ _ (key_among (λ q. ScriptRegion q.0 q.1) rows.script_region (s, r) (row_found pair_cmp pair_same _ (s, r) v.0 v.1)))))
 row_key_among rows (ScriptAlone s) t e =
-    let v = mapped _ (value_at text_cmp rows.script s) t e in
+    let v = some_map _ (value_at text_cmp rows.script s) t e in
     Contains-append_right (keys_by LanguageAlone rows.language) _ _ (Contains-append_right (keys_by (λ q. LanguageScript q.0 q.1) rows.language_script) _ _ (Contains-append_right (keys_by (λ q. LanguageRegion q.0 q.1) rows.language_region) _ _ (Contains-append_right (keys_by (λ q. ScriptRegion q.0 q.1) rows.script_region) _ _ (Contains-append_left (keys_by ScriptAlone rows.script) _ _ (key_among ScriptAlone rows.script s (row_found text_cmp text_same _ s v.0 v.1))))))
 row_key_among rows (RegionAlone r) t e =
-    let v = mapped _ (value_at text_cmp rows.region r) t e in
+    let v = some_map _ (value_at text_cmp rows.region r) t e in
     Contains-append_right (keys_by LanguageAlone rows.language) _ _ (Contains-append_right (keys_by (λ q. LanguageScript q.0 q.1) rows.language_script) _ _ (Contains-append_right (keys_by (λ q. LanguageRegion q.0 q.1) rows.language_region) _ _ (Contains-append_right (keys_by (λ q. ScriptRegion q.0 q.1) rows.script_region) _ _ (Contains-append_right (keys_by ScriptAlone rows.script) _ _ (key_among RegionAlone rows.region r (row_found text_cmp text_same _ r v.0 v.1))))))
 
 extension_key_among : (extended : Option (Bor LikelySubtagsExtended)) (k : Key) (t : Triple) → extension_row extended k ≡ Some t → Contains (extension_keys extended) k
@@ -100,8 +103,8 @@ table_key_among e k t f =
     (λ rest. Contains-append_right first (second ++ third) k (⊎_elim
     (λ here. Contains-append_left second third k (extension_key_among e.extended k t here))
     (λ here. Contains-append_right second third k (und_key_among e.language.now.und k t here))
-    (either extended served t rest)))
-    (either (common_row e k) (option_or extended served) t f)
+    (some_or extended served t rest)))
+    (some_or (common_row e k) (option_or extended served) t f)
 
 -- ---- which row covers which
 

@@ -1,34 +1,29 @@
 -- A key of the likely table is that of some row, and its own subtags are looked at.
-use Rattle.std.proofs.Common.{◌≡◌, ◌⊎◌, ◌↔◌, List, Bool, true, false, ◌&&◌, map, Option, Some, None, IfSome, MatchBool, IsTrue, if◌then◌else◌, refl, ap, subst, sym, ◌∙◌, inl, inr, ⊎_elim}
-use Rattle.std.specs.Option.{option_or, option_map}
+use Rattle.std.proofs.Common.{◌≡◌, ◌↔◌, List, Bool, true, false, ◌&&◌, Option, Some, None, IfSome, MatchBool, IsTrue, if◌then◌else◌, refl, ap, subst, sym, ◌∙◌, ⊎_elim}
+use Rattle.std.specs.Option.{option_or}
 use Rattle.std.specs.Str.{bytes_eq}
 use Rattle.std.specs.List.{Contains}
 use Rattle.std.specs.Borrow.{Bor}
 use Rattle.std.specs.declared.cmp.Ordering.{Ordering}
 use Rattle.std.specs.declared.cmp.Ordering.TheVariants.{Less, Equal, Greater}
 use Rattle.std.specs.Ordering.{ordering_then}
-use Rattle.std.specs.FinMap.{IsAntisymmetric, slice_cmp-IsAntisymmetric, nat_cmp-IsAntisymmetric}
-use Rattle.std.proofs.lemmas.List.{get_or-map, length-map}
+use Rattle.std.specs.FinMap.{IsAntisymmetric}
 use Rattle.std.proofs.lemmas.Bool.{and_parts, false≢true}
 use Rattle.icu_locale_core.specs.TextSet.{text_cmp}
-use Rattle.icu_provider.specs.Maps.{value_at, pair_cmp}
+use Rattle.icu_locale_core.specs.Maps.{value_at}
+use Rattle.icu_provider.specs.Maps.{pair_cmp}
 use Rattle.icu_provider.proofs.Maps.{Contains-from_lookup}
 use Rattle.icu_provider.specs.declared.likely.extended.LikelySubtagsExtended.{LikelySubtagsExtended}
 use Rattle.icu_locale.specs.LikelySubtags.{Key, LanguageRegion, LanguageScript, LanguageAlone, ScriptRegion, ScriptAlone, RegionAlone, LikelySubtags, Triple}
-use Rattle.icu_locale.specs.Expander.{Rows, common_rows, extended_rows, row_at, common_row, extension_row, und_row, likely, keys_by}
+use Rattle.icu_locale.specs.Expander.{LikelyRows, common_rows, extended_rows, row_at, common_row, extension_row, und_row, likely, keys_by}
 use Rattle.icu_locale.specs.Settled.{AreSettled}
 use Rattle.icu_locale.specs.SettledRows.{settles, AllSettle, RowsSettle, UndRowsSettle, AllRowsSettle, IsUnsettled}
 use Rattle.icu_locale.specs.declared.expander.LocaleExpander.{LocaleExpander}
+use Rattle.icu_locale_core.proofs.TextSets.{text_same}
+use Rattle.icu_locale.proofs.Lists.{Contains-map}
+use Rattle.icu_locale.proofs.Options.{some_map, some_or}
 use Rattle.icu_locale.proofs.Locales.{same_text}
 use Rattle.icu_locale.proofs.Settling.{AreSettled-from_rows}
-
--- what is in a list is in its image
-Contains-map : {A B : Type 0} (f : A → B) (xs : List A) (x : A) → Contains xs x → Contains (map f xs) (f x)
-Contains-map f xs x (k, in_range, is) = (k, rw length-map in_range, get_or-map f xs k x (f x) in_range ∙ ap f is)
-
--- texts that tie are equal
-pub text_same : IsAntisymmetric text_cmp
-text_same = slice_cmp-IsAntisymmetric nat_cmp-IsAntisymmetric
 
 both_tie : (a b : Ordering) → ordering_then a b ≡ Equal → (a ≡ Equal) × (b ≡ Equal)
 both_tie Less b e = absurd (cc)
@@ -58,26 +53,18 @@ pub key_among : {K V : Type 0} (key : K → Key) (rows : List (K × V)) (q : K) 
 key_among key rows q (row, among, is) = subst (λ w. Contains (keys_by key rows) (key w)) is (Contains-map (λ r. key r.0) rows row among)
 
 -- a value that was mapped was there
-pub mapped : {A B : Type 0} (f : A → B) (o : Option A) (y : B) → option_map f o ≡ Some y → (x : A) × (o ≡ Some x) × (f x ≡ y)
-mapped f None y e = absurd (cc)
-mapped f (Some x) y e = (x, refl, cc)
-
-pub either : {A : Type 0} (a b : Option A) (x : A) → option_or a b ≡ Some x → (a ≡ Some x) ⊎ (b ≡ Some x)
-either None b x e = inr e
-either (Some y) b x e = inl e
-
 pub test_of : {A : Type 0} (b : Bool) (x y : A) → (if b then Some x else None) ≡ Some y → b ≡ true
 test_of true x y e = refl
 test_of false x y e = absurd (cc)
 
 module _ (table : LikelySubtags) where
-  row_settles : (rows : Rows) → RowsSettle table rows → (k : Key) (t : Triple) → row_at rows k ≡ Some t → settles table k ≡ true
-  row_settles rows all (LanguageRegion l r) t e = let v = mapped _ (value_at pair_cmp rows.language_region (l, r)) t e in settled_at table (λ k. LanguageRegion k.0 k.1) rows.language_region (l, r) all.language_region (row_found pair_cmp pair_same _ (l, r) v.0 v.1)
-  row_settles rows all (LanguageScript l s) t e = let v = mapped _ (value_at pair_cmp rows.language_script (l, s)) t e in settled_at table (λ k. LanguageScript k.0 k.1) rows.language_script (l, s) all.language_script (row_found pair_cmp pair_same _ (l, s) v.0 v.1)
-  row_settles rows all (LanguageAlone l) t e = let v = mapped _ (value_at text_cmp rows.language l) t e in settled_at table LanguageAlone rows.language l all.language (row_found text_cmp text_same _ l v.0 v.1)
-  row_settles rows all (ScriptRegion s r) t e = let v = mapped _ (value_at pair_cmp rows.script_region (s, r)) t e in settled_at table (λ k. ScriptRegion k.0 k.1) rows.script_region (s, r) all.script_region (row_found pair_cmp pair_same _ (s, r) v.0 v.1)
-  row_settles rows all (ScriptAlone s) t e = let v = mapped _ (value_at text_cmp rows.script s) t e in settled_at table ScriptAlone rows.script s all.script (row_found text_cmp text_same _ s v.0 v.1)
-  row_settles rows all (RegionAlone r) t e = let v = mapped _ (value_at text_cmp rows.region r) t e in settled_at table RegionAlone rows.region r all.region (row_found text_cmp text_same _ r v.0 v.1)
+  row_settles : (rows : LikelyRows) → RowsSettle table rows → (k : Key) (t : Triple) → row_at rows k ≡ Some t → settles table k ≡ true
+  row_settles rows all (LanguageRegion l r) t e = let v = some_map _ (value_at pair_cmp rows.language_region (l, r)) t e in settled_at table (λ k. LanguageRegion k.0 k.1) rows.language_region (l, r) all.language_region (row_found pair_cmp pair_same _ (l, r) v.0 v.1)
+  row_settles rows all (LanguageScript l s) t e = let v = some_map _ (value_at pair_cmp rows.language_script (l, s)) t e in settled_at table (λ k. LanguageScript k.0 k.1) rows.language_script (l, s) all.language_script (row_found pair_cmp pair_same _ (l, s) v.0 v.1)
+  row_settles rows all (LanguageAlone l) t e = let v = some_map _ (value_at text_cmp rows.language l) t e in settled_at table LanguageAlone rows.language l all.language (row_found text_cmp text_same _ l v.0 v.1)
+  row_settles rows all (ScriptRegion s r) t e = let v = some_map _ (value_at pair_cmp rows.script_region (s, r)) t e in settled_at table (λ k. ScriptRegion k.0 k.1) rows.script_region (s, r) all.script_region (row_found pair_cmp pair_same _ (s, r) v.0 v.1)
+  row_settles rows all (ScriptAlone s) t e = let v = some_map _ (value_at text_cmp rows.script s) t e in settled_at table ScriptAlone rows.script s all.script (row_found text_cmp text_same _ s v.0 v.1)
+  row_settles rows all (RegionAlone r) t e = let v = some_map _ (value_at text_cmp rows.region r) t e in settled_at table RegionAlone rows.region r all.region (row_found text_cmp text_same _ r v.0 v.1)
 
   extension_settles : (extended : Option (Bor LikelySubtagsExtended)) → IfSome extended (λ x. RowsSettle table (extended_rows x.now)) → (k : Key) (t : Triple) → extension_row extended k ≡ Some t → settles table k ≡ true
   extension_settles None all k t e = absurd (cc)
@@ -102,7 +89,7 @@ every_row e all k t f =
     let common = common_row e k in
     let extended = extension_row e.extended k in
     let served = und_row e.language.now.und k in
-    ⊎_elim (row_settles (likely e) (common_rows e.language.now e.script_region.now) all.common k t) (λ rest. ⊎_elim (extension_settles (likely e) e.extended all.extended k t) (und_settles (likely e) e.language.now.und all.und_rows k t) (either extended served t rest)) (either common (option_or extended served) t f)
+    ⊎_elim (row_settles (likely e) (common_rows e.language.now e.script_region.now) all.common k t) (λ rest. ⊎_elim (extension_settles (likely e) e.extended all.extended k t) (und_settles (likely e) e.language.now.und all.und_rows k t) (some_or extended served t rest)) (some_or common (option_or extended served) t f)
 
 -- the table is settled exactly where its rows are
 pub settled_exactly : (e : LocaleExpander) (b : Bool) → MatchBool b (AllRowsSettle e) (IsUnsettled (likely e)) → IsTrue b ↔ AreSettled (likely e)

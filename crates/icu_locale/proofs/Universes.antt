@@ -1,28 +1,27 @@
 -- A run stays among the identifiers of its universe.
-use Rattle.std.proofs.Common.{◌≡◌, ◌==◌, ℕ, Bool, true, false, not, cond, List, [], ◌∷◌, length, map, Option, Some, None, is_some, ◌⊎◌, inl, inr, unwrap_or, codes, refl, ap, sym, ◌∙◌, subst, arith, ◌||◌, Vec, Global}
+use Rattle.std.proofs.Common.{◌≡◌, ◌==◌, ℕ, Bool, true, false, cond, List, [], ◌∷◌, length, map, Option, Some, None, is_some, inl, inr, unwrap_or, codes, refl, subst, arith, Vec, Global}
 use Rattle.std.specs.Str.{bytes_eq}
 use Rattle.std.specs.List.{Contains, find, list_any, flat_map}
-use Rattle.std.specs.Option.{option_map, option_and_then, option_or}
+use Rattle.std.specs.Option.{option_and_then, option_or}
 use Rattle.std.specs.Ordering.{eq_by_cmp}
-use Rattle.std.proofs.lemmas.Bool.{false≢true}
+use Rattle.std.proofs.lemmas.Bool.{false≢true, or_cases}
 use Rattle.std.proofs.lemmas.Map.Views.{Contains-from_lookup}
-use Rattle.std.proofs.lemmas.List.Elements.{Contains-append_left, Contains-append_right}
 use Rattle.std.proofs.lemmas.Option.{none-some, same_Some, option_and_then_some}
 use Rattle.icu_locale_core.specs.Subtag.{is_alphabetic}
 use Rattle.icu_locale_core.specs.TextSet.{text_cmp, empty, len, rising, image}
 use Rattle.icu_locale_core.specs.declared.langid.LanguageIdentifier.{LanguageIdentifier}
 use Rattle.icu_locale_core.proofs.SetOperations.{same_from_tied}
-use Rattle.icu_provider.specs.Maps.{value_at}
-use Rattle.icu_locale.specs.LikelySubtags.{LikelySubtags, maximal}
+use Rattle.icu_locale_core.specs.Maps.{value_at}
+use Rattle.icu_locale.specs.LikelySubtags.{LikelySubtags}
 use Rattle.icu_locale.specs.Replacement.{is_known, matches, replaced, of_language}
 use Rattle.icu_locale.specs.Kinds.{rules_for, by_rule, sign_language, by_sign_region, language_alias, by_language_alias, by_script, region_alias, by_region, chosen, likely_region, complex_region, by_complex_region, variant_alias, by_variant, next, next_of}
-use Rattle.icu_locale.specs.Run.{IsUniverse}
+use Rattle.icu_locale.specs.Walk.{IsUniverse}
 use Rattle.icu_locale.specs.Universe.{parts_by_kind, parts, universe, of_script, of_region, of_variant}
 use Rattle.icu_locale.specs.declared.canonicalizer.rules.Rule.{Rule}
 use Rattle.icu_locale.specs.declared.canonicalizer.rules.Rules.{Rules}
 use Rattle.std.proofs.lemmas.Slice.Eq.{bytes_eq-Decides}
-use Rattle.icu_locale.proofs.Subsets.{or_cases}
-use Rattle.icu_locale.proofs.Lists.{Contains-nil, Contains-here, Contains-there, Contains-map, Contains-flat_map, Contains-find}
+use Rattle.icu_locale.proofs.Options.{some_map, some_or}
+use Rattle.icu_locale.proofs.Lists.{Contains-here, Contains-there, Contains-map, Contains-flat_map, Contains-find}
 use Rattle.icu_locale.proofs.Made.{IsMadeOf, IsMadeOf-itself, made_of-has, IsMadeOf-from, IsMadeOf-replaced, IsMadeOf-bare, IsMadeOf-script, IsMadeOf-region, IsMadeOf-image}
 
 pub has_row : {V : Type 0} (rows : List (List ℕ × V)) (k : List ℕ) (v : V) → value_at text_cmp rows k ≡ Some v → Contains rows (k, v)
@@ -67,14 +66,6 @@ parts-HasParts rules x = record {
 }
 
 -- ---- one turn
-
-pub some_map : {X Y : Type 0} (f : X → Y) (o : Option X) (z : Y) → option_map f o ≡ Some z → (b : X) × (o ≡ Some b) × (f b ≡ z)
-some_map f None z e = absurd (none-some z e)
-some_map f (Some b) z e = (b, refl, same_Some (f b) z e)
-
-pub some_or : {X : Type 0} (a b : Option X) (z : X) → option_or a b ≡ Some z → (a ≡ Some z) ⊎ (b ≡ Some z)
-some_or None b z e = inr e
-some_or (Some y) b z e = inl e
 
 some_guarded : {X : Type 0} (test : Bool) (o : Option X) (z : X) → cond test o None ≡ Some z → o ≡ Some z
 some_guarded true o z e = e

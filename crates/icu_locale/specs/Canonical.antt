@@ -1,13 +1,13 @@
 -- Canonical locales (UTS #35 Part 1, Annex C "LocaleId Canonicalization").
-use Rattle.std.specs.Prelude.{◌≡◌, ◌⊎◌, ◌+◌, ◌*◌, ◌≤◌, ℕ, Bool, true, false, ◌||◌, List, codes, Option, Some, None, is_some, Result, Ok, Err, IsOk, IsSome, IfSome, IsSomeAnd, MatchOption}
+use Rattle.std.specs.Prelude.{◌≡◌, ◌⊎◌, ◌+◌, ◌*◌, ◌≤◌, ℕ, Bool, true, false, ◌||◌, List, codes, Option, Some, None, is_some, Result, Ok, Err, IfSome, IsSomeAnd, MatchOption}
 use Rattle.std.specs.List.{All}
 use Rattle.std.specs.Option.{option_and_then}
 use Rattle.icu_locale_core.specs.TextSet.{text_cmp, empty}
 use Rattle.icu_locale_core.specs.Value.{only_piece}
-use Rattle.icu_locale_core.specs.Keywords.{KeywordRows, with_value, value_at as keyword_at}
+use Rattle.icu_locale_core.specs.Keywords.{KeywordRows, with_value}
 use Rattle.icu_locale_core.specs.declared.langid.LanguageIdentifier.{LanguageIdentifier}
 use Rattle.icu_locale_core.specs.declared.locale.Locale.{Locale}
-use Rattle.icu_provider.specs.Maps.{value_at}
+use Rattle.icu_locale_core.specs.Maps.{value_at}
 use Rattle.icu_locale.specs.LikelySubtags.{LikelySubtags}
 use Rattle.icu_locale.specs.Kinds.{next, by_language_alias}
 use Rattle.icu_locale.specs.Run.{EndsAt, IsRepeat, HasDistinct}
@@ -27,7 +27,7 @@ sd = codes "sd"
 
 -- the value in place of the one at a key, where that has one piece, which is a key of `subdivision`
 abbrev pub subdivision_alias : Rules → KeywordRows → List ℕ → Option (List (List ℕ))
-subdivision_alias rules keywords key = option_and_then (value_at text_cmp rules.subdivision) (option_and_then only_piece (keyword_at keywords key))
+subdivision_alias rules keywords key = option_and_then (value_at text_cmp rules.subdivision) (option_and_then only_piece (value_at text_cmp keywords key))
 
 -- a value put at a key, if there is one
 abbrev pub put : KeywordRows → List ℕ → Option (List (List ℕ)) → KeywordRows

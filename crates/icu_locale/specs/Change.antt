@@ -1,5 +1,5 @@
 -- What a turn finds, before anything is made of it.
-use Rattle.std.specs.Prelude.{ℕ, List, Some, None, unwrap_or}
+use Rattle.std.specs.Prelude.{unwrap_or}
 use Rattle.icu_locale_core.specs.TextSet.{image}
 use Rattle.icu_locale_core.specs.declared.langid.LanguageIdentifier.{LanguageIdentifier}
 use Rattle.icu_locale.specs.Replacement.{replaced}

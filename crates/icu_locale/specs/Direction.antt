@@ -1,20 +1,13 @@
 -- Which way the likely script of an identifier runs.
-use Rattle.std.specs.Prelude.{ℕ, Bool, false, true, List, Option, Some, None, if◌then◌else◌, ◌≡◌}
-use Rattle.icu_locale_core.specs.declared.langid.LanguageIdentifier.{LanguageIdentifier}
+use Rattle.std.specs.Prelude.{ℕ, Bool, false, true, List, Option, Some, None, if◌then◌else◌, ◌≡◌, Result, Ok, Err}
 use Rattle.icu_provider.specs.ScriptDirection.{is_listed}
 use Rattle.icu_provider.specs.declared.direction.ScriptDirection.{ScriptDirection}
-use Rattle.std.specs.Prelude.{Result, Ok, Err}
 use Rattle.icu_provider.specs.declared.error.DataError.{DataError}
-use Rattle.icu_locale.specs.LikelySubtags.{LikelySubtags, maximal}
 use Rattle.icu_locale.specs.Expander.{LikelyTables, tables_of}
 use Rattle.icu_locale.specs.declared.expander.LocaleExpander.{LocaleExpander}
 use Rattle.icu_locale.specs.declared.directionality.LocaleDirectionality.{LocaleDirectionality}
 use Rattle.icu_locale.specs.declared.directionality.Direction.{Direction}
 use Rattle.icu_locale.specs.declared.directionality.Direction.TheVariants.{LeftToRight, RightToLeft}
-
--- the script of the maximal form (UTS #35 Part 1, section 4.3)
-abbrev pub likely_script : LikelySubtags → LanguageIdentifier → Option (List ℕ)
-likely_script likely x = (maximal likely x).script
 
 -- a script that is there is in a list
 abbrev pub is_script_in : List (List ℕ × Unit {0}) → Option (List ℕ) → Bool

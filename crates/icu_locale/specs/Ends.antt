@@ -1,12 +1,13 @@
 -- What the parts of a canonicalization find: what only private functions cite.
-use Rattle.std.specs.Prelude.{◌≡◌, ℕ, Bool, ◌||◌, Option, Some, None, is_some, IsSome, IfSome, IsSomeAnd, MatchOption, Result, unwrap_or, List}
+use Rattle.std.specs.Prelude.{◌≡◌, ℕ, Bool, ◌||◌, Option, Some, None, is_some, IfSome, IsSomeAnd, MatchOption, Result, unwrap_or}
 use Rattle.std.specs.Option.{option_or}
 use Rattle.icu_locale_core.specs.TextSet.{empty}
 use Rattle.icu_locale_core.specs.declared.langid.LanguageIdentifier.{LanguageIdentifier}
 use Rattle.icu_locale_core.specs.declared.locale.Locale.{Locale}
 use Rattle.icu_locale.specs.LikelySubtags.{LikelySubtags}
 use Rattle.icu_locale.specs.Kinds.{next, by_language_alias}
-use Rattle.icu_locale.specs.Run.{StandsIn, EndsAt, IsRepeat, HasDistinct}
+use Rattle.icu_locale.specs.Run.{StandsIn, IsRepeat, HasDistinct}
+use Rattle.icu_locale.specs.Walk.{EndsLater}
 use Rattle.icu_locale.specs.Canonical.{IsCounted, rg, sd, put, subdivision_alias}
 use Rattle.icu_locale.specs.declared.canonicalizer.rules.Rules.{Rules}
 use Rattle.icu_locale.specs.declared.canonicalizer.changes.Changes.{Changes}
@@ -16,7 +17,7 @@ use Rattle.icu_locale.specs.declared.canonicalizer.CanonicalizeError.TheVariants
 -- the end of a run at a later place than its start, or none where nothing follows the start
 abbrev pub IsLaterEnd : (LanguageIdentifier → Option LanguageIdentifier) → LanguageIdentifier → Option LanguageIdentifier → Type 0
 IsLaterEnd turn x None = turn x ≡ None
-IsLaterEnd turn x (Some y) = IsSome (turn x) × EndsAt turn x y
+IsLaterEnd turn x (Some y) = EndsLater turn x y
 
 -- the same of a run that there may be
 abbrev pub IsLaterEndOf : (LanguageIdentifier → Option LanguageIdentifier) → Option LanguageIdentifier → Option LanguageIdentifier → Type 0

@@ -4,7 +4,8 @@ use Rattle.std.specs.Borrow.{Bor}
 use Rattle.std.specs.Option.{option_or, option_map, option_copied}
 use Rattle.std.specs.Str.{bytes_eq}
 use Rattle.icu_locale_core.specs.TextSet.{text_cmp}
-use Rattle.icu_provider.specs.Maps.{value_at, pair_cmp}
+use Rattle.icu_locale_core.specs.Maps.{value_at}
+use Rattle.icu_provider.specs.Maps.{pair_cmp}
 use Rattle.icu_provider.specs.declared.error.DataError.{DataError}
 use Rattle.icu_provider.specs.declared.likely.language.LikelySubtagsForLanguage.{LikelySubtagsForLanguage}
 use Rattle.icu_provider.specs.declared.likely.script_region.LikelySubtagsForScriptRegion.{LikelySubtagsForScriptRegion}
@@ -13,7 +14,7 @@ use Rattle.icu_locale.specs.LikelySubtags.{Key, LanguageRegion, LanguageScript, 
 use Rattle.icu_locale.specs.declared.expander.LocaleExpander.{LocaleExpander}
 
 -- the rows of a table, by the subtags of their keys
-pub record Rows : Type 0 where
+pub record LikelyRows : Type 0 where
   pub language : List (List ℕ × (List ℕ × List ℕ))
   pub language_script : List ((List ℕ × List ℕ) × List ℕ)
   pub language_region : List ((List ℕ × List ℕ) × List ℕ)
@@ -22,15 +23,15 @@ pub record Rows : Type 0 where
   pub region : List (List ℕ × (List ℕ × List ℕ))
 
 -- the rows of the two common tables
-abbrev pub common_rows : LikelySubtagsForLanguage → LikelySubtagsForScriptRegion → Rows
+abbrev pub common_rows : LikelySubtagsForLanguage → LikelySubtagsForScriptRegion → LikelyRows
 common_rows a b = record { language = a.language; language_script = a.language_script; language_region = a.language_region; script_region = b.script_region; script = b.script; region = b.region }
 
 -- the rows of the extended table
-abbrev pub extended_rows : LikelySubtagsExtended → Rows
+abbrev pub extended_rows : LikelySubtagsExtended → LikelyRows
 extended_rows e = record { language = e.language; language_script = e.language_script; language_region = e.language_region; script_region = e.script_region; script = e.script; region = e.region }
 
 -- the triple at a key: the key's own subtags, and the values of the row
-abbrev pub row_at : Rows → LikelySubtags
+abbrev pub row_at : LikelyRows → LikelySubtags
 row_at rows (LanguageRegion l r) = option_map (λ s. (l, s, r)) (value_at pair_cmp rows.language_region (l, r))
 row_at rows (LanguageScript l s) = option_map (λ r. (l, s, r)) (value_at pair_cmp rows.language_script (l, s))
 row_at rows (LanguageAlone l) = option_map (λ v. (l, v.0, v.1)) (value_at text_cmp rows.language l)
@@ -74,7 +75,7 @@ abbrev pub keys_by : {K V : Type 0} → (K → Key) → List (K × V) → List K
 keys_by key rows = map (λ row. key row.0) rows
 
 -- the keys of all rows of a table
-abbrev pub row_keys : Rows → List Key
+abbrev pub row_keys : LikelyRows → List Key
 row_keys rows = keys_by LanguageAlone rows.language ++ (keys_by (λ k. LanguageScript k.0 k.1) rows.language_script ++ (keys_by (λ k. LanguageRegion k.0 k.1) rows.language_region ++ (keys_by (λ k. ScriptRegion k.0 k.1) rows.script_region ++ (keys_by ScriptAlone rows.script ++ keys_by RegionAlone rows.region))))
 
 -- the keys of the extended table, if there is one

@@ -1,12 +1,12 @@
 -- The seven kinds of rules, and the one turn that they make (UTS #35 Part 1, Annex C "LocaleId Canonicalization").
 use Rattle.std.specs.Str.{bytes_eq}
-use Rattle.std.specs.Prelude.{◌==◌, ℕ, Bool, List, [], ◌∷◌, length, codes, map, Option, Some, None, is_some, unwrap_or, if◌then◌else◌}
+use Rattle.std.specs.Prelude.{◌==◌, ℕ, Bool, List, [], ◌∷◌, length, codes, Option, Some, None, is_some, unwrap_or, if◌then◌else◌}
 use Rattle.std.specs.Option.{option_map, option_and_then, option_or}
 use Rattle.std.specs.List.{find, list_any}
 use Rattle.icu_locale_core.specs.Subtag.{is_alphabetic}
 use Rattle.icu_locale_core.specs.TextSet.{text_cmp, empty, rising, len, image}
 use Rattle.icu_locale_core.specs.declared.langid.LanguageIdentifier.{LanguageIdentifier}
-use Rattle.icu_provider.specs.Maps.{value_at}
+use Rattle.icu_locale_core.specs.Maps.{value_at}
 use Rattle.icu_locale.specs.LikelySubtags.{LikelySubtags, maximal}
 use Rattle.icu_locale.specs.Replacement.{is_known, matches, replaced, of_language}
 use Rattle.icu_locale.specs.declared.canonicalizer.rules.Rule.{Rule}

@@ -88,6 +88,10 @@ with_locale x y = record { language = y.language; script = y.script; region = y.
 abbrev pub maximal : LikelySubtags → LanguageIdentifier → LanguageIdentifier
 maximal likely x = with_locale x (maximal_locale likely (locale_of x))
 
+-- the script of the maximal form
+abbrev pub likely_script : LikelySubtags → LanguageIdentifier → Option (List ℕ)
+likely_script likely x = (maximal likely x).script
+
 -- no script `Zzzz` and no region `ZZ`
 abbrev pub IsBare : LanguageIdentifier → Type 0
 IsBare x = with_locale x (bare_locale (locale_of x)) ≡ x

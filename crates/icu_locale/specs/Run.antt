@@ -1,9 +1,7 @@
 -- A run is a start and whatever follows it, one state after another, until nothing follows. UTS #35 Part 1,
 -- Annex C "LocaleId Canonicalization", has such runs: there a state is an identifier, and `next` one replacement.
-use Rattle.std.specs.Prelude.{◌≡◌, ◌≢◌, ℕ, zero, suc, ◌<◌, ◌⊎◌, List, length, Option, Some, None, IsSome, option_and_then}
+use Rattle.std.specs.Prelude.{◌≡◌, ◌≢◌, ℕ, zero, suc, ◌<◌, ◌⊎◌, List, length, Option, Some, None, option_and_then}
 use Rattle.std.specs.List.{AllPairs, Contains}
-use Rattle.icu_locale.specs.declared.rewriting.Outcome.{Outcome}
-use Rattle.icu_locale.specs.declared.rewriting.Outcome.TheVariants.{Same, Ends, Repeats}
 
 -- the state at a place of the run, where the start has place 0; none past the end
 abbrev pub at : {X : Type 0} → (X → Option X) → X → ℕ → Option X
@@ -41,17 +39,6 @@ pub record HasEachOnce {X : Type 0} (next : X → Option X) (start : X) (states 
 abbrev pub HasDistinct : {X : Type 0} → (X → Option X) → X → ℕ → Type 0
 HasDistinct {X} next start n =
     (states : List X) × HasEachOnce next start states × (length states ≡ n)
-
--- the list has the start, and with each state the one that follows it
-pub record IsUniverse {X : Type 0} (next : X → Option X) (start : X) (states : List X) : Type 0 where
-  pub has_start : Contains states start
-  pub leads : (y z : X) → Contains states y → next y ≡ Some z → Contains states z
-
--- the answer tells the truth of the run: nothing follows the start, or where the run ends, or its first repeat
-abbrev pub IsOutcome : {X : Type 0} → (X → Option X) → X → Outcome X → Type 0
-IsOutcome next start Same = next start ≡ None
-IsOutcome next start (Ends y) = IsSome (next start) × EndsAt next start y
-IsOutcome next start (Repeats z) = IsRepeat next start z
 
 -- the run ends, or it has a first repeat
 abbrev pub EndsOrRepeats : {X : Type 0} → (X → Option X) → X → Type 0

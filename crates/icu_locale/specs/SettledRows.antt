@@ -7,7 +7,7 @@ use Rattle.icu_locale_core.specs.declared.langid.LanguageIdentifier.{LanguageIde
 use Rattle.icu_provider.specs.declared.data_locale.DataLocale.{DataLocale}
 use Rattle.icu_locale.specs.LikelySubtags.{Key, LanguageRegion, LanguageScript, LanguageAlone, ScriptRegion, ScriptAlone, RegionAlone, LikelySubtags, Triple, bare_locale, maximal_locale, maximal}
 use Rattle.icu_locale.specs.declared.expander.LocaleExpander.{LocaleExpander}
-use Rattle.icu_locale.specs.Expander.{Rows, common_rows, extended_rows, likely}
+use Rattle.icu_locale.specs.Expander.{LikelyRows, common_rows, extended_rows, likely}
 use Rattle.icu_locale.specs.Settled.{IsSettled}
 use Rattle.icu_locale.specs.Trials.{same_locale}
 
@@ -45,7 +45,7 @@ pub record IsUnsettled (table : LikelySubtags) : Type 0 where
   pub unsettled : IsSettled table (maximal table identifier) → ⊥
 
 -- the keys of all rows of a table settle
-pub record RowsSettle (table : LikelySubtags) (rows : Rows) : Type 0 where
+pub record RowsSettle (table : LikelySubtags) (rows : LikelyRows) : Type 0 where
   pub language : AllSettle table LanguageAlone rows.language
   pub language_script : AllSettle table (λ k. LanguageScript k.0 k.1) rows.language_script
   pub language_region : AllSettle table (λ k. LanguageRegion k.0 k.1) rows.language_region

@@ -1,5 +1,5 @@
 -- Finitely many identifiers among which a run stays: what only proofs cite.
-use Rattle.std.specs.Prelude.{ℕ, List, [], ◌∷◌, ◌++◌, map, Option, Some, None}
+use Rattle.std.specs.Prelude.{ℕ, List, [], ◌∷◌, ◌++◌, map, Some, None}
 use Rattle.std.specs.List.{flat_map}
 use Rattle.std.specs.FinMap as fin
 use Rattle.icu_locale_core.specs.Subtag.{und}
@@ -13,12 +13,15 @@ abbrev pub subsets : List (List ℕ) → List TextSet
 subsets [] = empty ∷ []
 subsets (t ∷ ts) = subsets ts ++ map (λ s. fin.insert s t tt) (subsets ts)
 
+-- the identifier of a script alone
 abbrev pub of_script : List ℕ → LanguageIdentifier
 of_script s = record { language = und; script = Some s; region = None; variants = empty }
 
+-- the identifier of a region alone
 abbrev pub of_region : List ℕ → LanguageIdentifier
 of_region r = record { language = und; script = None; region = Some r; variants = empty }
 
+-- the identifier of a variant alone
 abbrev pub of_variant : List ℕ → LanguageIdentifier
 of_variant v = record { language = und; script = None; region = None; variants = from_list (v ∷ []) }
 

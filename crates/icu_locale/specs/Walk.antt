@@ -1,6 +1,9 @@
--- What the two walkers know on the way.
-use Rattle.std.specs.Prelude.{◌≡◌, ◌≢◌, ℕ, ◌+◌, ◌<◌, ◌⊎◌, Option, Some, None, IsSome}
-use Rattle.icu_locale.specs.Run.{at, EndsAt}
+-- What the two walkers know on the way, and what they answer: what only the walk's own functions cite.
+use Rattle.std.specs.Prelude.{◌≡◌, ◌≢◌, ℕ, ◌+◌, ◌<◌, ◌⊎◌, List, Option, Some, None, IsSome}
+use Rattle.std.specs.List.{Contains}
+use Rattle.icu_locale.specs.Run.{at, EndsAt, IsRepeat}
+use Rattle.icu_locale.specs.declared.rewriting.Outcome.{Outcome}
+use Rattle.icu_locale.specs.declared.rewriting.Outcome.TheVariants.{Same, Ends, Repeats}
 use Rattle.icu_locale.specs.declared.rewriting.Walk.{Walk}
 use Rattle.icu_locale.specs.declared.rewriting.Walk.TheVariants.{Alone, Stops, Meets}
 
@@ -21,8 +24,23 @@ pub record IsMeeting {X : Type 0} (next : X → Option X) (start z : X) : Type 0
   pub here : at next start place ≡ Some z
   pub again : at next start (place + place) ≡ Some z
 
+-- the run ends at y, at a later place than its start
+abbrev pub EndsLater : {X : Type 0} → (X → Option X) → X → X → Type 0
+EndsLater next start y = IsSome (next start) × EndsAt next start y
+
 -- the walk tells the truth of the run: nothing follows the start, or where it ends, or where the walkers meet
 abbrev pub IsWalk : {X : Type 0} → (X → Option X) → X → Walk X → Type 0
 IsWalk next start Alone = next start ≡ None
-IsWalk next start (Stops y) = IsSome (next start) × EndsAt next start y
+IsWalk next start (Stops y) = EndsLater next start y
 IsWalk next start (Meets z) = IsMeeting next start z
+
+-- the answer tells the truth of the run: nothing follows the start, or where it ends, or its first repeat
+abbrev pub IsOutcome : {X : Type 0} → (X → Option X) → X → Outcome X → Type 0
+IsOutcome next start Same = next start ≡ None
+IsOutcome next start (Ends y) = EndsLater next start y
+IsOutcome next start (Repeats z) = IsRepeat next start z
+
+-- the list has the start, and with each state the one that follows it
+pub record IsUniverse {X : Type 0} (next : X → Option X) (start : X) (states : List X) : Type 0 where
+  pub has_start : Contains states start
+  pub leads : (y z : X) → Contains states y → next y ≡ Some z → Contains states z

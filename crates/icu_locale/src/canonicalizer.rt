@@ -21,7 +21,7 @@ use changes::{Changes, region_override_key, subdivision_key};
 use rules::Rules;
 
 /// Canonicalizes locales by the rules of a table of aliases.
-#[derive(Drop)]
+#[derive(Debug, Drop)]
 pub struct LocaleCanonicalizer<'d, E = LocaleExpander<'d>> {
     /// The rules.
     pub rules: Rules<'d>,
@@ -51,16 +51,6 @@ impl fmt::Display for CanonicalizeError {
 
 impl Error for CanonicalizeError {}
 
-impl From<ParseError> for CanonicalizeError {
-    ghost use Rattle.icu_locale.specs.declared.canonicalizer.CanonicalizeError.TheVariants.{Memory};
-
-    ghost from_gives = { λ _ e. e ≡ Memory };
-
-    fn from(_refused: ParseError) -> Self {
-        CanonicalizeError::Memory
-    }
-}
-
 impl<'d, E: AsExpander<'d>> LocaleCanonicalizer<'d, E> {
     /// Brings a locale to its canonical form: its identifier to the end of its run, its transform language to the end
     /// of its run by language aliases alone, and the values at `rg` and `sd`, where a row replaces them, to that row's.
@@ -70,7 +60,8 @@ impl<'d, E: AsExpander<'d>> LocaleCanonicalizer<'d, E> {
     ///
     /// - `NoFixedPoint` exactly where a run has no end: it names the first identifier that comes again in the run of
     ///   the identifier, or, where that ends, in the run of the transform language.
-    /// - `Memory` where memory was asked for and refused, and never where nothing matches.
+    /// - `Memory` where memory was asked for and refused: never where nothing matches, nor where no identifier of the
+    ///   runs but the first has variants and no row replaces a value.
     ///
     /// The locale is unchanged then.
     pub fn canonicalize(&self, locale: &mut Locale) -> Result<TransformResult, CanonicalizeError>

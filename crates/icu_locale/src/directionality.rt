@@ -89,7 +89,8 @@ impl<'d> LocaleDirectionality<'d> {
 impl<'d, E: AsExpander<'d>> LocaleDirectionality<'d, E> {
     ghost use Rattle.std.specs.Prelude.{IfOk};
     ghost use Rattle.icu_locale.specs.Expander.{likely};
-    ghost use Rattle.icu_locale.specs.Direction.{likely_script, is_script_in, direction_of, directions_of};
+    ghost use Rattle.icu_locale.specs.LikelySubtags.{likely_script};
+    ghost use Rattle.icu_locale.specs.Direction.{is_script_in, direction_of, directions_of};
 
     /// Over an expander, or a reference to one.
     pub fn new_with_expander(script_direction: &'d ScriptDirection, expander: E) -> Self

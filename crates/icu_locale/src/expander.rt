@@ -1,7 +1,7 @@
 //! Likely subtags: maximal and minimal forms of identifiers.
 
 ghost use Rattle.std.specs.Prelude.{◌≡◌, ◌≢◌, ◌↔◌, false, Some, None};
-ghost use Rattle.icu_locale.specs.LikelySubtags.{bare_locale, locale_of, with_locale, maximal_of_bare, maximal_locale, maximal, IsModified};
+ghost use Rattle.icu_locale.specs.LikelySubtags.{bare_locale, locale_of, with_locale, maximal_of_bare, maximal_locale, maximal, likely_script, IsModified};
 ghost use Rattle.icu_locale.specs.Trials.{favor_of, alone, with_favored, with_other};
 
 pub(crate) mod looks;
@@ -139,7 +139,7 @@ impl<'d> LocaleExpander<'d> {
 
     /// The script of the maximal form, if it has one.
     pub fn get_likely_script(&self, id: &LanguageIdentifier) -> Option<Script>
-        ensures { result ≡ (maximal (likely self.now) id.now).script }
+        ensures { result ≡ likely_script (likely self.now) id.now }
     {
         self.maximal_locale(locale_of(id)).script
     }

@@ -1,6 +1,7 @@
-//! Laws of likely subtags: what follows from the definitions alone, over every table, for what the expander's calls
-//! leave. The functions do nothing.
-ghost use Rattle.std.specs.Prelude.{◌≡◌, ◌≢◌, ◌⊎◌, ◌↔◌, ℕ, List, Some, None};
+//! Laws of likely subtags, canonicalization and direction: what follows from the definitions alone, over every table.
+//! Their functions do nothing. The steps of canonicalization that laws speak of stand here too: `rule_matches`,
+//! `replacement` and `search`.
+ghost use Rattle.std.specs.Prelude.{◌≡◌, ◌≢◌, ◌↔◌, ℕ, List, Option, Some, None, true};
 ghost use Rattle.std.specs.List.{Contains};
 ghost use Rattle.icu_locale_core.specs.Identifier.{IsIdentifier};
 ghost use Rattle.icu_locale_core.specs.Subtag.{und};
@@ -13,7 +14,14 @@ ghost use Rattle.icu_locale.specs.Settled.{IsSettled, AreSettled};
 ghost use Rattle.icu_provider.specs.declared.direction.ScriptDirection.{ScriptDirection};
 ghost use Rattle.icu_locale.specs.Direction.{is_script_in, direction_of, AreDisjoint};
 ghost use Rattle.icu_locale.specs.declared.directionality.Direction.{Direction};
-ghost use Rattle.std.specs.Prelude.{Option, true};
+
+mod canonicalization;
+
+pub use crate::rewriting::identifiers::search;
+pub use crate::rewriting::replacing::{replacement, rule_matches};
+pub use canonicalization::{
+    applied_where_changed, canonical_keywords_by_key, canonical_stays_canonical, runs_end_or_repeat,
+};
 
 /// The likely table of an expander is one map from finitely many keys: a key has at most one triple, which has the
 /// key's own subtags. A row of the common tables covers the row of the extended table with the same key, and both cover
@@ -23,19 +31,12 @@ pub fn the_likely_table_is_one_map()
     ensures one { (e : LocaleExpander) (k : Key) (t u : Triple) → likely e k ≡ Some t → likely e k ≡ Some u → t ≡ u }
     ensures own_subtags { (e : LocaleExpander) (k : Key) (t : Triple) → likely e k ≡ Some t → HasKey t k }
     ensures finite { (e : LocaleExpander) (k : Key) (t : Triple) → likely e k ≡ Some t → Contains (table_keys e) k }
-
     ensures common { (e : LocaleExpander) (k : Key) (t : Triple) → common_row e k ≡ Some t → likely e k ≡ Some t }
     ensures extended { (e : LocaleExpander) (k : Key) (t : Triple) →
         common_row e k ≡ None → extension_row e.extended k ≡ Some t → likely e k ≡ Some t }
     ensures und { (e : LocaleExpander) (k : Key) →
         common_row e k ≡ None → extension_row e.extended k ≡ None → likely e k ≡ und_row e.language.now.und k }
 {}
-
-mod canonicalization;
-
-pub use crate::rewriting::identifiers::search;
-pub use crate::rewriting::replacing::{replacement, rule_matches};
-pub use canonicalization::{applied_where_changed, canonical_stays_canonical, runs_end_or_repeat};
 
 /// Every identifier has a minimal form, and only one, over every table.
 #[tactic(auto, using(crate::proofs::Classes::minimal_form_is_one))]

@@ -1,8 +1,8 @@
 // Runs of replacements, of which UTS #35 Part 1, Annex C "LocaleId Canonicalization", has one for each identifier.
 // Two walkers go along a run, one twice as fast as the other, so no list of states is kept.
-ghost use Rattle.std.specs.Prelude.{◌≡◌, ◌<◌, ◌≤◌, ◌+◌, ◌*◌, ℕ, List, Option, Some, None, true, IfOk, IfErr, IsOk, OnOk, IsSome};
-ghost use Rattle.icu_locale.specs.Run.{at, StandsIn, HasDistinct, IsUniverse, IsOutcome, IsRepeat, EndsAt, EndsOrRepeats, EndsWithNoRepeat, HasOneEnd, HasOneRepeat, KeepsEnd};
-ghost use Rattle.icu_locale.specs.Walk.{IsCount, IsMeeting, IsWalk};
+ghost use Rattle.std.specs.Prelude.{◌≡◌, ◌<◌, ◌≤◌, ◌+◌, ◌*◌, ℕ, List, Option, Some, true, IfOk, IfErr, IsOk, OnOk, IsSome};
+ghost use Rattle.icu_locale.specs.Run.{StandsIn, HasDistinct, IsRepeat};
+ghost use Rattle.icu_locale.specs.Walk.{IsCount, IsMeeting, IsWalk, IsOutcome, IsUniverse};
 
 pub mod identifiers;
 mod kinds;
@@ -86,20 +86,6 @@ pub fn end_of_run<R: Rewriting>(
         }
     }
 }
-
-/// Of a run among finitely many states exactly one holds: it ends, or a state comes again.
-pub fn ends_or_repeats<R: Rewriting>(rewriting: &R, start: &R::State)
-    requires { IsUniverse (R.next rewriting.now) start.now (R.universe rewriting.now start.now) }
-    ensures one { EndsOrRepeats (R.next rewriting.now) start.now }
-    ensures not_both { EndsWithNoRepeat (R.next rewriting.now) start.now }
-{}
-
-/// The end of a run is one, and is kept from each state on the way; so is the first repeat one.
-pub fn one_end<R: Rewriting>(rewriting: &R, start: &R::State)
-    ensures end { HasOneEnd (R.next rewriting.now) start.now }
-    ensures kept { KeepsEnd (R.next rewriting.now) start.now }
-    ensures repeat { HasOneRepeat (R.next rewriting.now) start.now }
-{}
 
 // Sends one walker a step at a time and another two, until the second comes to an end or they meet.
 fn meet<R: Rewriting>(

@@ -1,5 +1,5 @@
 //! Whether the maximal form of every identifier is settled: each row's key is looked at once.
-ghost use Rattle.std.specs.Prelude.{◌≡◌, ◌↔◌, ℕ, List, true, IsTrue, MatchBool};
+ghost use Rattle.std.specs.Prelude.{◌≡◌, ◌↔◌, true, IsTrue, MatchBool};
 ghost use Rattle.icu_locale_core.specs.Subtag.{und};
 ghost use Rattle.icu_locale.specs.LikelySubtags.{LanguageRegion, LanguageScript, LanguageAlone, ScriptRegion, ScriptAlone, RegionAlone, Key, bare_locale};
 ghost use Rattle.icu_locale.specs.Expander.{likely};

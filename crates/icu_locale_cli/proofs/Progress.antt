@@ -1,19 +1,17 @@
 -- How far a run has come.
 use Rattle.std.proofs.Common.{◌≡◌, ◌↔◌, ℕ, Bool, true, false, ◌&&◌, List, [], ◌∷◌, ◌++◌, Option, refl, ap, sym, subst, ◌∙◌, append_assoc, append-nil}
-use Rattle.std.specs.List.{AllZip, flat_map, list_all}
 use Rattle.std.specs.Io.KnownBytes.{Appends}
 use Rattle.std.proofs.KnownBytes.{Appends-nil, Appends-trans}
 use Rattle.std.proofs.lemmas.Bool.{false≢true}
-use Rattle.std.proofs.lemmas.List.Elements.{AllZip-push}
 use Rattle.std.proofs.lemmas.List.Folds.{list_all-append}
 use Rattle.std.proofs.lemmas.Grind.{flat_map-append}
 use Rattle.icu_locale_cli.specs.declared.status.Status.{Status}
-use Rattle.icu_locale_cli.specs.declared.status.Status.TheVariants.{Accepted, Refused}
+use Rattle.icu_locale_cli.specs.declared.status.Status.TheVariants.{Accepted}
 use Rattle.icu_locale_cli.specs.declared.work.Work.{Work}
 use Rattle.icu_locale_cli.specs.Answers.{IsAnswer}
 use Rattle.icu_locale_cli.specs.Lines.{lines}
 use Rattle.icu_locale_cli.specs.Output.{AppendsPart}
-use Rattle.icu_locale_cli.specs.Runs.{AreAnswers, text_of, all_accepted, WritesAll, WritesUpTo, WritesWholeLines, WritesPart}
+use Rattle.icu_locale_cli.specs.Runs.{AreAnswers, text_of, all_accepted, WritesAll, WritesWholeLines, WritesPart}
 
 abbrev was_accepted : List ℕ × Bool → Bool
 was_accepted a = a.1

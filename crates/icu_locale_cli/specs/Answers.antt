@@ -10,10 +10,11 @@ use Rattle.icu_locale.specs.LikelySubtags.{LikelySubtags, maximal, IsModified}
 use Rattle.icu_locale.specs.Minimal.{IsMinimalForm, RegionFirst, ScriptFirst}
 use Rattle.icu_locale.specs.Expander.{likely}
 use Rattle.icu_locale.specs.Canonical.{IsCanonical, ComesAgainFirst, is_applied, answer_of}
-use Rattle.icu_locale.specs.Direction.{likely_script, direction_of}
+use Rattle.icu_locale.specs.LikelySubtags.{likely_script}
+use Rattle.icu_locale.specs.Direction.{direction_of}
 use Rattle.icu_locale.specs.declared.canonicalizer.rules.Rules.{Rules}
 use Rattle.icu_locale.specs.declared.expander.TransformResult.{TransformResult}
-use Rattle.icu_locale.specs.declared.expander.TransformResult.TheVariants.{Modified, Unmodified}
+use Rattle.icu_locale.specs.declared.expander.TransformResult.TheVariants.{Modified}
 use Rattle.icu_locale_cli.specs.declared.work.Work.{Work}
 use Rattle.icu_locale_cli.specs.declared.work.Work.TheVariants.{Maximize, Minimize, MinimizeScript, Canonicalize, Direction}
 use Rattle.icu_locale_cli.specs.Texts.{transformed_line, refused_line, direction_line}

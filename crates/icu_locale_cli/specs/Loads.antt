@@ -1,5 +1,5 @@
 -- The tables that a command needs.
-use Rattle.std.specs.Prelude.{◌≡◌, Bool, ◌&&◌, Option, Some, is_some}
+use Rattle.std.specs.Prelude.{◌≡◌, Bool, ◌&&◌, Some, is_some}
 use Rattle.std.specs.Option.{option_copied}
 use Rattle.icu_locale.specs.declared.expander.LocaleExpander.{LocaleExpander}
 use Rattle.icu_provider.specs.declared.error.DataError.{DataError}

@@ -53,12 +53,23 @@ pub record StopsAmongLines (Leaves : Work → List ℕ → Option (List ℕ) →
   pub all_read : ReadsAll read read' input
   pub left : Leaves work input wrote wrote'
 
--- what a refused run leaves: a table that is not held and a failed read leave the writer as it was; where memory was
--- refused whole lines alone are written; a failed write leaves the earlier lines and a beginning of the one in hand
+-- what a refused run of `settled` leaves: nothing is read and no memory taken; a table that is not held leaves the
+-- writer as it was, and a failed write a beginning of the one line
+abbrev pub IsRefusedSettledRun : Tables → Option (List ℕ) → Option (List ℕ) → Option (List ℕ) → Option (List ℕ) → CliError → Type 0
+IsRefusedSettledRun t read read' wrote wrote' (Data e) = (e ≡ not_found) × (read' ≡ read) × (wrote' ≡ wrote)
+IsRefusedSettledRun t read read' wrote wrote' Write = (read' ≡ read) × ((answer : Bool) × TellsSettled t answer × AppendsPart wrote wrote' (settled_line answer))
+IsRefusedSettledRun t read read' wrote wrote' e = ⊥
+
+-- what a refused run over lines leaves: a table that is not held and a failed read leave the writer as it was; where
+-- memory was refused whole lines alone are written; a failed write leaves the earlier lines and a beginning of the one in hand
+abbrev pub IsRefusedLineRun : Command → Tables → Option (List ℕ) → Option (List ℕ) → Option (List ℕ) → Option (List ℕ) → CliError → Type 0
+IsRefusedLineRun c t read read' wrote wrote' Usage = ⊥
+IsRefusedLineRun c t read read' wrote wrote' (Data e) = (e ≡ not_found) × (read' ≡ read) × (wrote' ≡ wrote)
+IsRefusedLineRun c t read read' wrote wrote' Read = wrote' ≡ wrote
+IsRefusedLineRun c t read read' wrote wrote' Memory = (wrote' ≡ wrote) ⊎ StopsAmongLines WritesWholeLines c t read read' wrote wrote'
+IsRefusedLineRun c t read read' wrote wrote' Write = StopsAmongLines WritesPart c t read read' wrote wrote'
+
+-- what a refused run leaves
 abbrev pub IsRefusedRun : Command → Tables → Option (List ℕ) → Option (List ℕ) → Option (List ℕ) → Option (List ℕ) → CliError → Type 0
-IsRefusedRun c t read read' wrote wrote' Usage = ⊥
-IsRefusedRun c t read read' wrote wrote' (Data e) = (e ≡ not_found) × (read' ≡ read) × (wrote' ≡ wrote)
-IsRefusedRun c t read read' wrote wrote' Read = wrote' ≡ wrote
-IsRefusedRun c t read read' wrote wrote' Memory = (wrote' ≡ wrote) ⊎ StopsAmongLines WritesWholeLines c t read read' wrote wrote'
-IsRefusedRun command.Settled t read read' wrote wrote' Write = (answer : Bool) × TellsSettled t answer × AppendsPart wrote wrote' (settled_line answer)
-IsRefusedRun c t read read' wrote wrote' Write = StopsAmongLines WritesPart c t read read' wrote wrote'
+IsRefusedRun command.Settled t read read' wrote wrote' e = IsRefusedSettledRun t read read' wrote wrote' e
+IsRefusedRun c t read read' wrote wrote' e = IsRefusedLineRun c t read read' wrote wrote' e

@@ -48,8 +48,12 @@ fn start(rt: &HostRuntime) -> Result<Status, CliError> {
 
 // The words behind the program's name.
 fn words(rt: &HostRuntime) -> Result<Vec<String>, CliError> {
-    let Ok(args) = env::args(rt) else {
-        return Err(CliError::Usage);
+    let args = match env::args(rt) {
+        Ok(args) => args,
+        Err(refusal) if refusal.kind() == io::ErrorKind::OutOfMemory => {
+            return Err(CliError::Memory);
+        }
+        Err(_) => return Err(CliError::Usage),
     };
     let mut words = Vec::new(rt.alloc());
     for word in args.skip(1) {

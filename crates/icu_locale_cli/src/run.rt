@@ -5,7 +5,7 @@ ghost use Rattle.icu_locale_cli.specs.Texts.{settled_line};
 ghost use Rattle.icu_locale_cli.specs.Output.{AppendsPart};
 ghost use Rattle.std.specs.Io.KnownBytes.{Appends};
 ghost use Rattle.icu_locale_cli.specs.Works.{has_tables};
-ghost use Rattle.icu_locale_cli.specs.WholeRuns.{IsRun, IsRefusedRun, IsSettledRun, TellsSettled};
+ghost use Rattle.icu_locale_cli.specs.WholeRuns.{IsRun, IsRefusedRun, TellsSettled};
 
 use crate::answers::write_answers;
 use crate::command::Command;

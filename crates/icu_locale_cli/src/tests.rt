@@ -2,6 +2,7 @@
 mod canonical;
 mod likely;
 mod memory;
+mod plain;
 mod program;
 mod providers;
 mod settled;

@@ -14,7 +14,7 @@ use icu_locale::{
     TransformResult,
 };
 use icu_locale_core::{LanguageIdentifier, Locale, ParseError};
-use icu_provider::{DataError, DataErrorKind};
+use icu_provider::DataProvider;
 use icu_tables::Tables;
 use std::alloc::Global;
 use std::fmt;
@@ -141,10 +141,9 @@ fn load_canonicalizer<'d>(
     ensures data { (result ≡ Err (CliError.Data not_found)) ↔ (is_some tables.now.aliases ≡ false) }
     ensures refused { IfErr result (λ e. (e ≡ CliError.Data not_found) ⊎ (e ≡ CliError.Memory)) }
 {
-    let Some(aliases) = &tables.aliases else {
-        return Err(CliError::Data(DataError {
-            kind: DataErrorKind::IdentifierNotFound,
-        }));
+    let aliases = match tables.load_aliases() {
+        Ok(aliases) => aliases,
+        Err(refusal) => return Err(CliError::Data(refusal)),
     };
     match LocaleCanonicalizer::new_with_expander(alloc, aliases, expander) {
         Ok(canonicalizer) => Ok(canonicalizer),

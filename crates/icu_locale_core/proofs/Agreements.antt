@@ -1,33 +1,25 @@
 -- Equality, order and hash of texts and of identifiers agree.
-use Rattle.std.proofs.Common.{◌≡◌, ℕ, Bool, true, false, ◌&&◌, List, nat_eq, Option, Some, None, refl, ap, sym, ◌∙◌, ◌↔◌}
-use Rattle.std.specs.Cmp.{IsTotalOrder}
+use Rattle.std.proofs.Common.{◌≡◌, ℕ, Bool, true, ◌&&◌, List, nat_eq, Option, Some, None, refl, ap, sym, ◌∙◌}
 use Rattle.std.specs.Cmp.Lexicographic.{pointwise, slice_cmp, texts_ties}
-use Rattle.std.specs.Ordering.{eq_by_cmp, is_eq, nat_cmp}
+use Rattle.std.specs.Ordering.{is_eq, nat_cmp}
 use Rattle.std.specs.declared.cmp.Ordering.{Ordering}
-use Rattle.std.specs.declared.cmp.Ordering.TheVariants.{Less, Equal, Greater}
 use Rattle.std.specs.Hash.{HashWrites}
-use Rattle.std.proofs.lemmas.Bool.{false≢true}
+use Rattle.std.proofs.lemmas.Bool.{false≢true, and_parts}
 use Rattle.std.proofs.lemmas.Slice.Eq.{bytes_eq-Decides}
 use Rattle.std.specs.Option.{option_eq, option_cmp}
-use Rattle.std.specs.Cmp.{both_tied}
-use Rattle.std.specs.Ordering.{ordering_then}
+use Rattle.std.specs.Cmp.{both_tied, Equal-is}
 use Rattle.std.proofs.lemmas.Slice.Eq.{slice_eq-Decides}
 use Rattle.icu_locale_core.specs.Agreement.{Agree}
-use Rattle.icu_locale_core.specs.Order.{text_lists_ties}
+use Rattle.icu_locale_core.specs.Order.{text_lists_ties, identifier_cmp}
 use Rattle.icu_locale_core.specs.TextSet.{TextSet, text_cmp, rising, from_list}
 use Rattle.icu_locale_core.specs.declared.langid.LanguageIdentifier.{LanguageIdentifier}
 use Rattle.icu_locale_core.proofs.TextSets.{from_list-rising}
-
-tied_from_test : (o : Ordering) → is_eq o ≡ true → o ≡ Equal
-tied_from_test Less e = absurd (false≢true e)
-tied_from_test Equal e = refl
-tied_from_test Greater e = absurd (false≢true e)
 
 -- a test that decides equality agrees with an order that ties where it passes
 pub Agree-from_test : {X : Type 0} (eq : X → X → Bool) (cmp : X → X → Ordering) (hash : X → HashWrites) → ((x y : X) → (eq x y ≡ true → x ≡ y) × (x ≡ y → eq x y ≡ true)) → ((x y : X) → eq x y ≡ is_eq (cmp x y)) → Agree eq cmp hash
 Agree-from_test eq cmp hash decides ties = record {
   equal = λ x y. ((decides x y).0, (decides x y).1);
-  tied = λ x y. (λ e. (decides x y).0 (ties x y ∙ ap is_eq e), λ e. tied_from_test (cmp x y) (sym (ties x y) ∙ (decides x y).1 e));
+  tied = λ x y. (λ e. (decides x y).0 (ties x y ∙ ap is_eq e), λ e. (Equal-is (cmp x y)).0 (sym (ties x y) ∙ (decides x y).1 e));
   hashed = λ x y e. ap hash e;
 }
 
@@ -56,18 +48,14 @@ variants_decide s u =
     let decides = slice_eq-Decides bytes_eq-Decides (rising s) (rising u) (pointwise same_text (rising s) (rising u)) refl in
     (λ e. sym (from_list-rising s) ∙ ap from_list (decides.0 e) ∙ from_list-rising u, λ e. decides.1 (ap rising e))
 
-true_and : (a b : Bool) → (a && b) ≡ true → (a ≡ true) × (b ≡ true)
-true_and true b e = (refl, e)
-true_and false b e = absurd (false≢true e)
-
 pub identifiers_decide : (x y : LanguageIdentifier)
     → ((same_text x.language y.language && (option_eq same_text x.script y.script && (option_eq same_text x.region y.region && pointwise same_text (rising x.variants) (rising y.variants)))) ≡ true → x ≡ y)
     × (x ≡ y → (same_text x.language y.language && (option_eq same_text x.script y.script && (option_eq same_text x.region y.region && pointwise same_text (rising x.variants) (rising y.variants)))) ≡ true)
 identifiers_decide x y = (
   λ e.
-      let l = true_and (same_text x.language y.language) _ e in
-      let s = true_and (option_eq same_text x.script y.script) _ l.1 in
-      let r = true_and (option_eq same_text x.region y.region) _ s.1 in
+      let l = and_parts (same_text x.language y.language) _ e in
+      let s = and_parts (option_eq same_text x.script y.script) _ l.1 in
+      let r = and_parts (option_eq same_text x.region y.region) _ s.1 in
       λ i. record {
         language = (bytes_eq-Decides x.language y.language).0 l.0 i;
         script = (option_decides x.script y.script).0 s.0 i;
@@ -82,7 +70,7 @@ identifiers_decide x y = (
 
 pub identifiers_tie : (x y : LanguageIdentifier)
     → (same_text x.language y.language && (option_eq same_text x.script y.script && (option_eq same_text x.region y.region && pointwise same_text (rising x.variants) (rising y.variants))))
-    ≡ is_eq (ordering_then (text_cmp x.language y.language) (ordering_then (option_cmp text_cmp x.script y.script) (ordering_then (option_cmp text_cmp x.region y.region) (slice_cmp text_cmp (rising x.variants) (rising y.variants)))))
+    ≡ is_eq (identifier_cmp x y)
 identifiers_tie x y =
     both_tied _ _ (text_cmp x.language y.language) _ (texts_ties x.language y.language)
     (both_tied _ _ (option_cmp text_cmp x.script y.script) _ (option_ties x.script y.script)

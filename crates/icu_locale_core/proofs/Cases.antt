@@ -2,6 +2,7 @@
 use Rattle.std.proofs.Common.{◌≡◌, ℕ, ◌<◌, ◌≤◌, Bool, true, false, ◌&&◌, ◌||◌, List, [], ◌∷◌, length, map, get_or, suc, zero, refl, ap, sym, ◌∙◌, arith, ◌==◌}
 use Rattle.std.specs.List.{list_all}
 use Rattle.std.specs.Char.{is_ascii_alphabetic, is_ascii_digit, is_ascii_alphanumeric, to_ascii_lowercase, to_ascii_uppercase}
+use Rattle.std.proofs.lemmas.Bool.{and_parts, false_from_ne_true}
 use Rattle.std.proofs.lemmas.Bool.Decides.{nat_tests}
 use Rattle.std.proofs.lemmas.Str.Ascii.{lowercase-lowercase, uppercase-uppercase}
 use Rattle.std.proofs.lemmas.List.{length-map}
@@ -123,14 +124,10 @@ alphanumeric_from_alphabetic t h = list_all-weaker is_ascii_alphabetic is_ascii_
 alphanumeric_from_numeric : (t : List ℕ) → is_numeric t ≡ true → is_alphanumeric t ≡ true
 alphanumeric_from_numeric t h = list_all-weaker is_ascii_digit is_ascii_alphanumeric (λ c h. grind (arith, nat_tests)) t h
 
-second_true : (a b : Bool) → (a && b) ≡ true → b ≡ true
-second_true true b h = h
-second_true false b h = absurd (cc)
-
 region_plain : (a b c d : Bool) (t : List ℕ) → (b ≡ true → is_alphanumeric t ≡ true) → (d ≡ true → is_alphanumeric t ≡ true) → ((a && b) || (c && d)) ≡ true → is_alphanumeric t ≡ true
 region_plain true true c d t f g h = f refl
-region_plain true false c d t f g h = g (second_true c d h)
-region_plain false b c d t f g h = g (second_true c d h)
+region_plain true false c d t f g h = g ((and_parts c d h).1)
+region_plain false b c d t f g h = g ((and_parts c d h).1)
 
 key_plain : (t : List ℕ) → is_key t ≡ true → is_alphanumeric t ≡ true
 key_plain [] h = refl
@@ -140,12 +137,12 @@ key_plain (c ∷ d ∷ e ∷ t) h = absurd (cc)
 
 -- a member of a class is letters and digits
 pub plain_from_member : (class : Class) (t : List ℕ) → is_member class t ≡ true → is_alphanumeric t ≡ true
-plain_from_member Language t h = alphanumeric_from_alphabetic t (second_true (has_length 2 3 t) (is_alphabetic t) h)
-plain_from_member Script t h = alphanumeric_from_alphabetic t (second_true (has_length 4 4 t) (is_alphabetic t) h)
+plain_from_member Language t h = alphanumeric_from_alphabetic t ((and_parts (has_length 2 3 t) (is_alphabetic t) h).1)
+plain_from_member Script t h = alphanumeric_from_alphabetic t ((and_parts (has_length 4 4 t) (is_alphabetic t) h).1)
 plain_from_member Region t h = region_plain (has_length 2 2 t) (is_alphabetic t) (has_length 3 3 t) (is_numeric t) t (alphanumeric_from_alphabetic t) (alphanumeric_from_numeric t) h
-plain_from_member Variant t h = second_true (has_length 5 8 t || (has_length 4 4 t && starts_with_digit t)) (is_alphanumeric t) h
+plain_from_member Variant t h = (and_parts (has_length 5 8 t || (has_length 4 4 t && starts_with_digit t)) (is_alphanumeric t) h).1
 plain_from_member Key t h = key_plain t h
-plain_from_member Subtag t h = second_true (has_length 3 8 t) (is_alphanumeric t) h
+plain_from_member Subtag t h = (and_parts (has_length 3 8 t) (is_alphanumeric t) h).1
 
 -- so is its written form
 pub written_plain : (class : Class) (t : List ℕ) → is_member class t ≡ true → is_alphanumeric (written_case class t) ≡ true
@@ -214,12 +211,8 @@ is_member-lowercase class t = sym (is_member-written_case class (lowercase t)) �
 
 -- ---- the classes after the language share no text
 
-first_true : (a b : Bool) → (a && b) ≡ true → a ≡ true
-first_true true b h = refl
-first_true false b h = absurd (cc)
-
 script_length : (t : List ℕ) → is_script t ≡ true → length t ≡ 4
-script_length t h = let has : has_length 4 4 t ≡ true = first_true (has_length 4 4 t) (is_alphabetic t) h in grind (arith, nat_tests)
+script_length t h = let has : has_length 4 4 t ≡ true = (and_parts (has_length 4 4 t) (is_alphabetic t) h).0 in grind (arith, nat_tests)
 
 region_length : (t : List ℕ) → is_region t ≡ true → length t ≤ 3
 region_length t h = by (has_length 2 2 t) (has_length 3 3 t) (λ e. grind (arith, nat_tests)) (λ e. grind (arith, nat_tests)) (is_alphabetic t) (is_numeric t) h
@@ -230,35 +223,32 @@ region_length t h = by (has_length 2 2 t) (has_length 3 3 t) (λ e. grind (arith
     by false false f g c d h = absurd (cc)
 
 variant_length : (t : List ℕ) → is_variant t ≡ true → 4 ≤ length t
-variant_length t h = by (has_length 5 8 t) (has_length 4 4 t) (λ e. grind (arith, nat_tests)) (λ e. grind (arith, nat_tests)) (starts_with_digit t) (first_true (has_length 5 8 t || (has_length 4 4 t && starts_with_digit t)) (is_alphanumeric t) h)
+variant_length t h = by (has_length 5 8 t) (has_length 4 4 t) (λ e. grind (arith, nat_tests)) (λ e. grind (arith, nat_tests)) (starts_with_digit t) ((and_parts (has_length 5 8 t || (has_length 4 4 t && starts_with_digit t)) (is_alphanumeric t) h).0)
   where
     by : (a b : Bool) → (a ≡ true → 4 ≤ length t) → (b ≡ true → 4 ≤ length t) → (c : Bool) → (a || (b && c)) ≡ true → 4 ≤ length t
     by true b f g c h = f refl
     by false true f g c h = g refl
     by false false f g c h = absurd (cc)
 
-false_from_not : (b : Bool) → (b ≡ true → ⊥) → b ≡ false
-false_from_not b never = elim b as (λ v. b ≡ v → v ≡ false) [ true ↦ λ e. absurd (never e) | false ↦ λ e. refl ] refl
-
 pub script_no_region : (t : List ℕ) → is_script t ≡ true → is_region t ≡ false
-script_no_region t h = false_from_not (is_region t) (λ g. omega (arith, script_length t h, region_length t g))
+script_no_region t h = false_from_ne_true (is_region t) (λ g. omega (arith, script_length t h, region_length t g))
 
 pub region_no_script : (t : List ℕ) → is_region t ≡ true → is_script t ≡ false
-region_no_script t h = false_from_not (is_script t) (λ g. omega (arith, script_length t g, region_length t h))
+region_no_script t h = false_from_ne_true (is_script t) (λ g. omega (arith, script_length t g, region_length t h))
 
 pub variant_no_region : (t : List ℕ) → is_variant t ≡ true → is_region t ≡ false
-variant_no_region t h = false_from_not (is_region t) (λ g. omega (arith, variant_length t h, region_length t g))
+variant_no_region t h = false_from_ne_true (is_region t) (λ g. omega (arith, variant_length t h, region_length t g))
 
 digit_first : (t : List ℕ) → is_variant t ≡ true → length t ≡ 4 → starts_with_digit t ≡ true
-digit_first t h four = by (has_length 5 8 t) (grind (arith, nat_tests)) (has_length 4 4 t) (starts_with_digit t) (first_true (has_length 5 8 t || (has_length 4 4 t && starts_with_digit t)) (is_alphanumeric t) h)
+digit_first t h four = by (has_length 5 8 t) (grind (arith, nat_tests)) (has_length 4 4 t) (starts_with_digit t) ((and_parts (has_length 5 8 t || (has_length 4 4 t && starts_with_digit t)) (is_alphanumeric t) h).0)
   where
     by : (a : Bool) → a ≡ false → (b c : Bool) → (a || (b && c)) ≡ true → c ≡ true
     by true e b c h = absurd (cc)
-    by false e b c h = second_true b c h
+    by false e b c h = (and_parts b c h).1
 
 digit_no_letter : (t : List ℕ) → starts_with_digit t ≡ true → is_alphabetic t ≡ true → ⊥
 digit_no_letter [] h g = absurd (cc)
-digit_no_letter (c ∷ t) h g = let letter : is_ascii_alphabetic c ≡ true = first_true (is_ascii_alphabetic c) (is_alphabetic t) g in absurd (grind (arith, nat_tests))
+digit_no_letter (c ∷ t) h g = let letter : is_ascii_alphabetic c ≡ true = (and_parts (is_ascii_alphabetic c) (is_alphabetic t) g).0 in absurd (grind (arith, nat_tests))
 
 pub variant_no_script : (t : List ℕ) → is_variant t ≡ true → is_script t ≡ false
-variant_no_script t h = false_from_not (is_script t) (λ g. digit_no_letter t (digit_first t h (script_length t g)) (second_true (has_length 4 4 t) (is_alphabetic t) g))
+variant_no_script t h = false_from_ne_true (is_script t) (λ g. digit_no_letter t (digit_first t h (script_length t g)) ((and_parts (has_length 4 4 t) (is_alphabetic t) g).1))

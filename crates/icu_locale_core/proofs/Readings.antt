@@ -3,7 +3,7 @@ use Rattle.std.proofs.Common.{◌≡◌, ℕ, ◌==◌, Bool, true, false, ◌&&
 use denote.Ref.{Bor}
 use Rattle.std.specs.Option.{option_to_list}
 use Rattle.std.specs.List.{list_all, list_any, Contains, All}
-use Rattle.std.proofs.lemmas.Bool.{false≢true, eqb-true, eq-eqb}
+use Rattle.std.proofs.lemmas.Bool.{false≢true, eqb-true, eq-eqb, and_parts, or_right}
 use Rattle.std.proofs.lemmas.List.{length-map}
 use Rattle.std.proofs.lemmas.List.Elements.{All-nil, All-cons, All-tail, All-head, All-contains, All-contains_itself, All-weaker}
 use Rattle.icu_locale_core.specs.Subtag.{is_language, is_script, is_region, is_variant, lowercase, titlecase, uppercase, IsWritten, IsScript, IsRegion, IsVariant}
@@ -97,17 +97,9 @@ all_variants-written : (ts : List (List ℕ)) → All IsVariant ts → list_all 
 all_variants-written [] each = refl
 all_variants-written (t ∷ ts) each = λ i. (All-head IsVariant t ts each).member i && all_variants-written ts (All-tail IsVariant t ts each) i
 
-first_of_and : (a b : Bool) → (a && b) ≡ true → a ≡ true
-first_of_and true b h = refl
-first_of_and false b h = absurd (false≢true h)
-
-second_of_and : (a b : Bool) → (a && b) ≡ true → b ≡ true
-second_of_and true b h = h
-second_of_and false b h = absurd (false≢true h)
-
 written_variants : (ps : List (List ℕ)) → list_all is_variant ps ≡ true → All IsVariant (map lowercase ps)
 written_variants [] h = All-nil IsVariant
-written_variants (p ∷ ps) h = All-cons IsVariant (lowercase p) (map lowercase ps) (written_written Variant p (first_of_and (is_variant p) (list_all is_variant ps) h)) (written_variants ps (second_of_and (is_variant p) (list_all is_variant ps) h))
+written_variants (p ∷ ps) h = All-cons IsVariant (lowercase p) (map lowercase ps) (written_written Variant p ((and_parts (is_variant p) (list_all is_variant ps) h).0)) (written_variants ps ((and_parts (is_variant p) (list_all is_variant ps) h).1))
 
 -- a list of each variant once has variants alone
 each_of_lists : (order : List (List ℕ)) (s : TextSet) → Lists order s → ((v : List ℕ) → contains s v ≡ true → IsVariant v) → All IsVariant order
@@ -246,8 +238,8 @@ module _ (l : List ℕ) (ps : List (List ℕ)) (known : is_language l ≡ true) 
   found_reads : are_variants behind ≡ true → IsIdentifier found_of × Reads (l ∷ ps) found_of
   unfolding found_of variants_of
   found_reads are =
-      let all = first_of_and (list_all is_variant behind) (len (from_list (map lowercase behind)) == length behind) are in
-      let once = second_of_and (list_all is_variant behind) (len (from_list (map lowercase behind)) == length behind) are in
+      let all = (and_parts (list_all is_variant behind) (len (from_list (map lowercase behind)) == length behind) are).0 in
+      let once = (and_parts (list_all is_variant behind) (len (from_list (map lowercase behind)) == length behind) are).1 in
       let each = written_variants behind all in (
         record {
           language = written_written Language l known;
@@ -285,20 +277,16 @@ pub read_pieces-language : (ps : List (List ℕ)) → is_language (slice_index_o
 read_pieces-language [] e = refl
 read_pieces-language (p ∷ ps) e = rw e refl
 
-or_second : (a b : Bool) → b ≡ true → (a || b) ≡ true
-or_second true b e = refl
-or_second false b e = e
-
 -- a variant behind an optional piece is a variant of all pieces
 pub some_variant-after : (is_member : List ℕ → Bool) (ps : List (List ℕ)) → list_any is_variant (after_optional is_member ps) ≡ true → list_any is_variant ps ≡ true
 some_variant-after is_member [] h = h
 some_variant-after is_member (p ∷ ps) h =
-    elim (is_member p) as (λ b. list_any is_variant (if b then ps else p ∷ ps) ≡ true → (is_variant p || list_any is_variant ps) ≡ true) [ true ↦ or_second (is_variant p) (list_any is_variant ps) | false ↦ λ g. g ] h
+    elim (is_member p) as (λ b. list_any is_variant (if b then ps else p ∷ ps) ≡ true → (is_variant p || list_any is_variant ps) ≡ true) [ true ↦ or_right (is_variant p) (list_any is_variant ps) | false ↦ λ g. g ] h
 
 -- and so is one behind the first piece
 pub some_variant-next : (r : Option (Bor (List ℕ))) (ps rest : List (List ℕ)) → MatchOption r ((ps ≡ []) × (rest ≡ [])) (λ p. ps ≡ p.now ∷ rest) → list_any is_variant rest ≡ true → list_any is_variant ps ≡ true
 some_variant-next None ps rest gave h = absurd (false≢true (ap (list_any is_variant) (sym gave.1) ∙ h))
-some_variant-next (Some p) ps rest gave h = ap (list_any is_variant) gave ∙ or_second (is_variant p.now) (list_any is_variant rest) h
+some_variant-next (Some p) ps rest gave h = ap (list_any is_variant) gave ∙ or_right (is_variant p.now) (list_any is_variant rest) h
 
 -- what reading answers where memory is not refused, in the words of texts
 module _ (t : List ℕ) (r : Result LanguageIdentifier ParseError) (read : (r ≡ Err Memory) ⊎ (r ≡ read_pieces (pieces t))) where

@@ -2,17 +2,17 @@
 use Rattle.std.proofs.Common.{◌≡◌, ℕ, Bool, true, false, not, ◌&&◌, ◌||◌, List, [], ◌∷◌, ◌++◌, refl, ap, sym, ◌∙◌}
 use Rattle.std.specs.List.{list_all, filter}
 use Rattle.std.specs.Ordering.{eq_by_cmp, is_eq}
-use Rattle.std.proofs.lemmas.Bool.{false≢true}
+use Rattle.std.specs.Cmp.{Equal-is}
+use Rattle.std.proofs.lemmas.Bool.{false≢true, and_from, and_parts, or_left, or_right, or_parts}
 use Rattle.std.proofs.lemmas.Cmp.{tied_itself}
 use Rattle.std.proofs.lemmas.List.Folds.{list_any-append}
 use Rattle.std.proofs.lemmas.Map.Views.{any-filter_same}
 use Rattle.icu_locale_core.specs.TextSet.{text_cmp, TextSet, empty, contains, from_list, rising, is_subset, union, difference}
-use Rattle.icu_locale_core.proofs.TextSets.{text_same, text_total, is_among, equal_from_tied, both_true, contains-from_list, contains-rising, same_set}
-use Rattle.icu_locale_core.proofs.VariantLists.{same_tests}
+use Rattle.icu_locale_core.proofs.TextSets.{text_same, text_total, is_among, contains-from_list, contains-rising, same_set}
 
 -- a text that ties with another is that other
 pub same_from_tied : (q t : List ℕ) → eq_by_cmp text_cmp q t ≡ true → q ≡ t
-same_from_tied q t e = text_same q t (equal_from_tied (text_cmp q t) e)
+same_from_tied q t e = text_same q t ((Equal-is (text_cmp q t)).0 e)
 
 pub is_among-append : (q : List ℕ) (ts us : List (List ℕ)) → is_among q (ts ++ us) ≡ (is_among q ts || is_among q us)
 is_among-append q ts us = list_any-append (λ u. eq_by_cmp text_cmp q u) ts us
@@ -37,20 +37,10 @@ contains-empty q = contains-from_list [] q
 
 -- ---- a test of every text of a list
 
-step_true : (a b : Bool) → a ≡ true → b ≡ true → (a && b) ≡ true
-step_true a b p q = λ i. p i && q i
-
-or_right : (a b : Bool) → b ≡ true → (a || b) ≡ true
-or_right true b e = refl
-or_right false b e = e
-
-or_left : (a b : Bool) → a ≡ true → (a || b) ≡ true
-or_left a b e = ap (λ c. c || b) e
-
 pub list_all-from : (p : List ℕ → Bool) (ts : List (List ℕ)) → ((t : List ℕ) → is_among t ts ≡ true → p t ≡ true) → list_all p ts ≡ true
 list_all-from p [] each = refl
 list_all-from p (t ∷ ts) each =
-    step_true (p t) (list_all p ts) (each t (or_left (eq_by_cmp text_cmp t t) (is_among t ts) (ap is_eq (tied_itself text_total t)))) (list_all-from p ts (λ u here. each u (or_right (eq_by_cmp text_cmp u t) (is_among u ts) here)))
+    and_from (p t) (list_all p ts) (each t (or_left (eq_by_cmp text_cmp t t) (is_among t ts) (ap is_eq (tied_itself text_total t)))) (list_all-from p ts (λ u here. each u (or_right (eq_by_cmp text_cmp u t) (is_among u ts) here)))
 
 among_cases : (p : List ℕ → Bool) (q t : List ℕ) (ts : List (List ℕ)) (tied : Bool) → eq_by_cmp text_cmp q t ≡ tied → p t ≡ true → (is_among q ts ≡ true → p q ≡ true) → (tied || is_among q ts) ≡ true → p q ≡ true
 among_cases p q t ts true e first rest here = ap p (same_from_tied q t e) ∙ first
@@ -59,7 +49,7 @@ among_cases p q t ts false e first rest here = rest here
 pub list_all-at : (p : List ℕ → Bool) (ts : List (List ℕ)) (q : List ℕ) → list_all p ts ≡ true → is_among q ts ≡ true → p q ≡ true
 list_all-at p [] q all here = absurd (false≢true here)
 list_all-at p (t ∷ ts) q all here =
-    let both = both_true (p t) (list_all p ts) all in
+    let both = and_parts (p t) (list_all p ts) all in
     among_cases p q t ts (eq_by_cmp text_cmp q t) refl both.0 (list_all-at p ts q both.1) here
 
 -- ---- sets inside others
@@ -110,10 +100,6 @@ module _ (s r a : TextSet) where
       or_false true = refl
       or_false false = refl
 
-  left_false : (x y : Bool) → (x || y) ≡ false → (x ≡ false) × (y ≡ false)
-  left_false true y e = absurd (false≢true (sym e))
-  left_false false y e = (refl, e)
-
   both_false : (in_r in_s : Bool) → (not in_r && in_s) ≡ false → in_s ≡ true → in_r ≡ true
   both_false true in_s e h = refl
   both_false false in_s e h = absurd (false≢true (sym e ∙ h))
@@ -122,4 +108,4 @@ module _ (s r a : TextSet) where
   pub empty_from_replaced : union (difference s r) a ≡ empty → (is_subset s r ≡ true) × (a ≡ empty)
   empty_from_replaced none =
       let off : (q : List ℕ) → ((not (contains r q) && contains s q) || contains a q) ≡ false = λ q. sym (contains-replaced q) ∙ ap (λ set. contains set q) none ∙ contains-empty q in
-      (is_subset-from s r (λ q. both_false (contains r q) (contains s q) (left_false (not (contains r q) && contains s q) (contains a q) (off q)).0), same_set a empty (λ q. (left_false (not (contains r q) && contains s q) (contains a q) (off q)).1 ∙ sym (contains-empty q)))
+      (is_subset-from s r (λ q. both_false (contains r q) (contains s q) (or_parts (not (contains r q) && contains s q) (contains a q) (off q)).0), same_set a empty (λ q. (or_parts (not (contains r q) && contains s q) (contains a q) (off q)).1 ∙ sym (contains-empty q)))

@@ -2,7 +2,7 @@
 use Rattle.std.proofs.Common.{◌≡◌, ℕ, Bool, true, false, ◌&&◌, ◌||◌, cond, List, [], ◌∷◌, map, get_or, Option, Some, None, is_some, T, refl, ap, sym, ◌∙◌}
 use Rattle.std.specs.List.{list_any, Contains, AllByRecursion}
 use Rattle.std.specs.List.Sorted.{IsStrictlySortedBy}
-use Rattle.std.specs.Cmp.{IsTotalOrder}
+use Rattle.std.specs.Cmp.{IsTotalOrder, Equal-is}
 use Rattle.std.specs.Cmp.Lexicographic.{nat_list_cmp_total}
 use Rattle.std.specs.Ordering.{eq_by_cmp, is_eq, is_lt}
 use Rattle.std.specs.declared.cmp.Ordering.{Ordering}
@@ -11,7 +11,7 @@ use Rattle.std.specs.declared.cmp.Ordering.TheVariants.{Less, Equal, Greater}
 use Rattle.std.specs.FinMap as fin
 use Rattle.std.specs.FinMap.{IsAntisymmetric, slice_cmp-IsAntisymmetric, nat_cmp-IsAntisymmetric, is_sorted}
 use Rattle.std.proofs.lemmas.Cmp.{tied_itself}
-use Rattle.std.proofs.lemmas.Bool.{false≢true}
+use Rattle.std.proofs.lemmas.Bool.{false≢true, and_parts}
 use Rattle.std.proofs.lemmas.List.Folds.{Any-from_list_any, list_any-from_Any}
 use Rattle.icu_locale_core.specs.TextSet.{text_cmp, TextSet, contains, from_list, rising}
 
@@ -25,7 +25,7 @@ text_same = slice_cmp-IsAntisymmetric nat_cmp-IsAntisymmetric
 abbrev pub is_among : List ℕ → List (List ℕ) → Bool
 is_among t ts = list_any (λ u. eq_by_cmp text_cmp t u) ts
 
-is_some-insert : (b : Bool) (x : Option (Unit {0})) → is_some (cond b (Some tt) x) ≡ (b || is_some x)
+pub is_some-insert : (b : Bool) (x : Option (Unit {0})) → is_some (cond b (Some tt) x) ≡ (b || is_some x)
 is_some-insert true x = refl
 is_some-insert false x = refl
 
@@ -51,16 +51,11 @@ contains-rising s q = fin.contains_key-keys s q
 pub from_list-rising : (s : TextSet) → from_list (rising s) ≡ s
 from_list-rising s = same_set (from_list (rising s)) s (λ q. contains-from_list (rising s) q ∙ sym (contains-rising s q))
 
-pub equal_from_tied : (o : Ordering) → is_eq o ≡ true → o ≡ Equal
-equal_from_tied Less e = absurd (false≢true e)
-equal_from_tied Equal e = refl
-equal_from_tied Greater e = absurd (false≢true e)
-
 -- `is_among` tells what a list contains
 pub Contains-is_among : (t : List ℕ) (ts : List (List ℕ)) → is_among t ts ≡ true → Contains ts t
 Contains-is_among t ts among =
     let found = Any-from_list_any (λ u. eq_by_cmp text_cmp t u) ts among in
-    let same : t ≡ found.1 = text_same t found.1 (equal_from_tied (text_cmp t found.1) found.4) in
+    let same : t ≡ found.1 = text_same t found.1 ((Equal-is (text_cmp t found.1)).0 found.4) in
     let here : get_or ts found.0 t ≡ t = (λ i. get_or ts found.0 (same i)) ∙ found.3 ∙ sym same in
     (found.0, found.2, here)
 
@@ -110,21 +105,17 @@ less_from_test Less e = refl
 less_from_test Equal e = absurd (false≢true e)
 less_from_test Greater e = absurd (false≢true e)
 
-pub both_true : (a b : Bool) → (a && b) ≡ true → (a ≡ true) × (b ≡ true)
-both_true true b e = (refl, e)
-both_true false b e = absurd (false≢true e)
-
 below_from_below_all : (t : List ℕ) (es : List (List ℕ × Unit {0})) → below_all text_cmp t es ≡ true → AllByRecursion (λ y. text_cmp t y ≡ Less) (map (λ e. e.0) es)
 below_from_below_all t [] h = tt
 below_from_below_all t (e ∷ es) h =
-    let both = both_true (is_lt (text_cmp t e.0)) (below_all text_cmp t es) h in
+    let both = and_parts (is_lt (text_cmp t e.0)) (below_all text_cmp t es) h in
     (less_from_test (text_cmp t e.0) both.0, below_from_below_all t es both.1)
 
 rises_from_is_sorted : (es : List (List ℕ × Unit {0})) → is_sorted text_cmp es ≡ true → IsStrictlySortedBy text_cmp (map (λ e. e.0) es)
 unfolding IsStrictlySortedBy
 rises_from_is_sorted [] h = tt
 rises_from_is_sorted (e ∷ es) h =
-    let both = both_true (below_all text_cmp e.0 es) (is_sorted text_cmp es) h in
+    let both = and_parts (below_all text_cmp e.0 es) (is_sorted text_cmp es) h in
     (below_from_below_all e.0 es both.0, rises_from_is_sorted es both.1)
 
 -- it rises

@@ -1,19 +1,17 @@
 -- What is written spells the identifier, and no other.
-use Rattle.std.proofs.Common.{◌≡◌, ℕ, ◌==◌, Bool, true, false, ◌&&◌, ◌||◌, List, [], ◌∷◌, ◌++◌, length, map, codes, Option, Some, None, Result, Ok, Err, IfSome, IsTrue, refl, ap, sym, subst, ◌∙◌, arith, append_assoc, append-nil}
+use Rattle.std.proofs.Common.{◌≡◌, ℕ, true, false, List, [], ◌∷◌, ◌++◌, map, codes, Option, Some, None, Ok, IfSome, refl, ap, sym, subst, ◌∙◌, arith, append-nil}
 use Rattle.std.specs.Option.{option_to_list}
-use Rattle.std.specs.List.{slice_split, flat_map, join_by, All, list_all, Contains}
-use Rattle.std.proofs.lemmas.Bool.{false≢true}
+use Rattle.std.specs.List.{flat_map, join_by, All, Contains}
 use Rattle.std.proofs.lemmas.Bool.Decides.{nat_tests}
 use Rattle.std.proofs.lemmas.List.Splits.{slice_split_none, slice_split_at}
 use Rattle.std.proofs.lemmas.List.Elements.{All-nil, All-cons, All-head, All-tail, All-append, All-weaker, All-contains_itself}
-use Rattle.icu_locale_core.specs.Subtag.{is_alphanumeric, IsWritten, IsVariant}
+use Rattle.icu_locale_core.specs.Subtag.{is_alphanumeric, IsWritten}
 use Rattle.icu_locale_core.specs.Class.{is_member, written_case}
 use Rattle.icu_locale_core.specs.declared.classes.Class.{Class}
 use Rattle.icu_locale_core.specs.declared.classes.Class.TheVariants.{Language, Script, Region, Variant}
 use Rattle.icu_locale_core.specs.declared.langid.LanguageIdentifier.{LanguageIdentifier}
-use Rattle.icu_locale_core.specs.TextSet.{TextSet, contains, rising, len}
-use Rattle.icu_locale_core.specs.Identifier.{is_separator, pieces, IsIdentifier, Lists, Spells, subtags, written}
-use Rattle.icu_locale_core.specs.Reading.{read_pieces}
+use Rattle.icu_locale_core.specs.TextSet.{rising}
+use Rattle.icu_locale_core.specs.Identifier.{is_separator, pieces, IsIdentifier, Spells, subtags, written}
 use Rattle.icu_locale_core.proofs.Cases.{plain_from_member}
 use Rattle.icu_locale_core.proofs.Readings.{read_pieces-complete}
 use Rattle.icu_locale_core.proofs.TextSets.{from_list-rising, contains-rising, is_among-Contains}

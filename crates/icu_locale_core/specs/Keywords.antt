@@ -1,19 +1,14 @@
 -- Keywords as a finite map from keys to values (UTS #35 Part 1, section 3.6.1, keyword).
-use Rattle.std.specs.Prelude.{◌≡◌, ℕ, Bool, ◌&&◌, nat_eq, List, Option, if◌then◌else◌}
-use Rattle.std.specs.Map.{lookup, remove_entry}
+use Rattle.std.specs.Prelude.{ℕ, Bool, ◌&&◌, nat_eq, List}
+use Rattle.std.specs.Map.{remove_entry}
 use Rattle.std.specs.BTreeMap.{insert_entry, is_at}
 use Rattle.std.specs.Cmp.{IsEquivalence, and_equiv, on_equiv, nat_eq_equiv}
 use Rattle.std.specs.Cmp.Lexicographic.{pointwise, lists_equiv}
-use Rattle.std.specs.Ordering.{eq_by_cmp}
 use Rattle.icu_locale_core.specs.TextSet.{text_cmp}
 
 -- the rows of the map, a key and its value each, the keys rising
 abbrev pub KeywordRows : Type 0
 KeywordRows = List (List ℕ × List (List ℕ))
-
--- the value at a key
-abbrev pub value_at : KeywordRows → List ℕ → Option (List (List ℕ))
-value_at rows key = lookup (is_at (text_cmp key)) rows
 
 -- the map with a value put at a key
 abbrev pub with_value : KeywordRows → List ℕ → List (List ℕ) → KeywordRows
@@ -23,14 +18,10 @@ with_value rows key value = insert_entry text_cmp rows key value
 abbrev pub without_key : KeywordRows → List ℕ → KeywordRows
 without_key rows key = remove_entry (is_at (text_cmp key)) rows
 
--- new has the answer at the key, and at each other key what old has
-abbrev pub SetsOnly : KeywordRows → KeywordRows → List ℕ → Option (List (List ℕ)) → Type 0
-SetsOnly old new key answer =
-    (other : List ℕ) → value_at new other ≡ (if eq_by_cmp text_cmp key other then answer else value_at old other)
-
 -- two rows have the same key and the same value
 abbrev pub row_eq : (p q : List ℕ × List (List ℕ)) → Bool
 row_eq p q = pointwise nat_eq p.0 q.0 && pointwise (pointwise nat_eq) p.1 q.1
 
+-- so it is an equivalence
 pub rows_equiv : IsEquivalence row_eq
 rows_equiv = and_equiv (on_equiv (λ p. p.0) (lists_equiv nat_eq_equiv)) (on_equiv (λ p. p.1) (lists_equiv (lists_equiv nat_eq_equiv)))

@@ -2,6 +2,7 @@ pub mod Agreement
 pub mod Class
 pub mod Identifier
 pub mod Keywords
+pub mod Maps
 pub mod Order
 pub mod Padded
 pub mod ParseError

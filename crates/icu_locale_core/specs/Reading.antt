@@ -25,6 +25,7 @@ are_variants ps = list_all is_variant ps && (len (from_list (map lowercase ps)) 
 abbrev pub read_variants : List (List ℕ) → Result TextSet ParseError
 read_variants ps = if are_variants ps then Ok (from_list (map lowercase ps)) else Err InvalidSubtag
 
+-- an identifier with these variants, or why they are refused
 abbrev pub with_variants : List ℕ → Option (List ℕ) → Option (List ℕ) → Result TextSet ParseError → Result LanguageIdentifier ParseError
 with_variants l s r (Ok vs) = Ok (record { language = l; script = s; region = r; variants = vs })
 with_variants l s r (Err e) = Err e

@@ -1,5 +1,5 @@
 // The classes of subtags: which texts belong to each, and how each is written.
-ghost use Rattle.std.specs.Prelude.{◌≡◌, slice_index};
+ghost use Rattle.std.specs.Prelude.{◌≡◌};
 ghost use Rattle.icu_locale_core.specs.Subtag.{is_alphabetic, is_numeric, is_alphanumeric};
 ghost use Rattle.icu_locale_core.specs.Class.{is_member, written_byte};
 

@@ -1,9 +1,11 @@
 //! The keywords of a locale: a map from keys to values.
-ghost use Rattle.std.specs.Prelude.{◌≡◌, ◌↔◌, [], List, ℕ, IsTrue, IsSome, IsOk, IfOk, IfErr, OnOk, OnErr, Some, None, option_copied};
+ghost use Rattle.std.specs.Prelude.{◌≡◌, ◌↔◌, [], IsTrue, IsSome, IsOk, IfOk, IfErr, OnOk, OnErr, Some, None, option_copied};
 ghost use Rattle.std.specs.Cmp.Lexicographic.{pointwise};
 ghost use Rattle.std.specs.Cmp.{partial_equiv_from_equiv};
 ghost use Rattle.std.specs.Cmp.Lexicographic.{lists_equiv};
-ghost use Rattle.icu_locale_core.specs.Keywords.{value_at, with_value, without_key, SetsOnly, row_eq, rows_equiv};
+ghost use Rattle.icu_locale_core.specs.Keywords.{with_value, without_key, row_eq, rows_equiv};
+ghost use Rattle.icu_locale_core.specs.Maps.{value_at, SetsOnly};
+ghost use Rattle.icu_locale_core.specs.TextSet.{text_cmp};
 
 use crate::{Key, ParseError, Value};
 use std::alloc::Global;
@@ -48,7 +50,7 @@ impl Keywords {
 
     /// The value at a key. It takes no memory.
     pub fn get(&self, key: Key) -> Option<&Value>
-        ensures { option_copied result ≡ value_at self.now key }
+        ensures { option_copied result ≡ value_at text_cmp self.now key }
     {
         self.map.get(&key)
     }
@@ -60,11 +62,11 @@ impl Keywords {
     /// `Memory` where the map could not grow. It is unchanged then, and the value is dropped.
     pub fn set(&mut self, key: Key, value: Value) -> Result<Option<Value>, ParseError>
         ensures rows { OnOk result (self.new ≡ with_value self.old key value) }
-        ensures sets { OnOk result (SetsOnly self.old self.new key (Some value)) }
-        ensures before { IfOk result (λ before. before ≡ value_at self.old key) }
+        ensures sets { OnOk result (SetsOnly text_cmp self.old self.new key (Some value)) }
+        ensures before { IfOk result (λ before. before ≡ value_at text_cmp self.old key) }
         ensures refused { IfErr result (λ e. e ≡ ParseError.Memory) }
         ensures unchanged { OnErr result (self.new ≡ self.old) }
-        ensures present { IsSome (value_at self.old key) → IsOk result }
+        ensures present { IsSome (value_at text_cmp self.old key) → IsOk result }
     {
         match self.map.insert(key, value) {
             Ok(before) => Ok(before),
@@ -74,9 +76,9 @@ impl Keywords {
 
     /// Takes a key and its value out. It takes no memory.
     pub fn remove(&mut self, key: Key) -> Option<Value>
-        ensures value { result ≡ value_at self.old key }
+        ensures value { result ≡ value_at text_cmp self.old key }
         ensures rows { self.new ≡ without_key self.old key }
-        ensures sets { SetsOnly self.old self.new key None }
+        ensures sets { SetsOnly text_cmp self.old self.new key None }
     {
         self.map.remove(&key)
     }

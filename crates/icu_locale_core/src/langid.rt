@@ -27,7 +27,7 @@ pub struct LanguageIdentifier {
 }
 
 impl LanguageIdentifier {
-    ghost use Rattle.icu_locale_core.specs.Identifier.{pieces, IsIdentifier, Spells, IsOkUnlessMemory, starts_with_language, has_variant};
+    ghost use Rattle.icu_locale_core.specs.Identifier.{IsIdentifier, Spells, IsOkUnlessMemory, starts_with_language, has_variant};
     ghost use Rattle.icu_locale_core.specs.TextSet.{empty};
 
     /// Reads an identifier in any case, with its variants in any order. It takes memory for variants alone.

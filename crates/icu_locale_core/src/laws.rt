@@ -2,8 +2,9 @@
 ghost use Rattle.std.specs.Prelude.{◌≡◌, ◌↔◌, List, ℕ};
 ghost use Rattle.icu_locale_core.specs.Agreement.{Agree};
 ghost use Rattle.icu_locale_core.specs.Identifier.{IsIdentifier, Spells, written};
+ghost use Rattle.icu_locale_core.specs.Order.{identifier_cmp};
 
-use crate::{Language, LanguageIdentifier, Region, Script, Variant};
+use crate::{Key, Language, LanguageIdentifier, Region, Script, Subtag, Variant};
 use std::cmp::{Ord, PartialEq};
 use std::hash::Hash;
 
@@ -27,10 +28,18 @@ pub fn identifiers_agree()
     ensures { Agree ⟦<LanguageIdentifier as PartialEq>⟧.eq ⟦<LanguageIdentifier as Ord>⟧.cmp ⟦<LanguageIdentifier as Hash>⟧.hash_input }
 {}
 
+/// Identifiers are in order by their language, then by script, region and the rising list of variants, an absent part
+/// first.
+pub fn identifiers_in_order()
+    ensures { (x y : LanguageIdentifier) → ⟦<LanguageIdentifier as Ord>⟧.cmp x y ≡ identifier_cmp x y }
+{}
+
 /// Equality, order and hash of subtags agree.
 pub fn subtags_agree()
     ensures languages { Agree ⟦<Language as PartialEq>⟧.eq ⟦<Language as Ord>⟧.cmp ⟦<Language as Hash>⟧.hash_input }
     ensures scripts { Agree ⟦<Script as PartialEq>⟧.eq ⟦<Script as Ord>⟧.cmp ⟦<Script as Hash>⟧.hash_input }
     ensures regions { Agree ⟦<Region as PartialEq>⟧.eq ⟦<Region as Ord>⟧.cmp ⟦<Region as Hash>⟧.hash_input }
     ensures variants { Agree ⟦<Variant as PartialEq>⟧.eq ⟦<Variant as Ord>⟧.cmp ⟦<Variant as Hash>⟧.hash_input }
+    ensures keys { Agree ⟦<Key as PartialEq>⟧.eq ⟦<Key as Ord>⟧.cmp ⟦<Key as Hash>⟧.hash_input }
+    ensures subtags { Agree ⟦<Subtag as PartialEq>⟧.eq ⟦<Subtag as Ord>⟧.cmp ⟦<Subtag as Hash>⟧.hash_input }
 {}

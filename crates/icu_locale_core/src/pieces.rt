@@ -1,5 +1,5 @@
 // The pieces of a text, cut at every `-` and `_`.
-ghost use Rattle.std.specs.Prelude.{◌≡◌, ◌∷◌, [], List, ℕ, IfSome, MatchOption};
+ghost use Rattle.std.specs.Prelude.{◌≡◌, ◌∷◌, [], List, ℕ, MatchOption};
 ghost use Rattle.std.specs.List.{position};
 ghost use Rattle.std.specs.Iterator.{YieldsFirstRef, item_count};
 ghost use Rattle.icu_locale_core.specs.Identifier.{is_separator, pieces};
@@ -15,7 +15,7 @@ pub struct Pieces<'a> {
 }
 
 impl<'a> Model for Pieces<'a> {
-    ghost use Rattle.std.specs.Prelude.{List, ℕ, ◌++◌};
+    ghost use Rattle.std.specs.Prelude.{List, ℕ};
     ghost use Rattle.icu_locale_core.specs.Pieces.{first_of, pieces_of};
 
     ghost Value = { List (List ℕ) };

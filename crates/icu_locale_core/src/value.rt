@@ -1,5 +1,5 @@
 //! Values of keywords.
-ghost use Rattle.std.specs.Prelude.{◌≡◌, ◌↔◌, ◌++◌, [], false, codes, map, length, ◌==◌, filter, Some, Err, IsOk, IfOk, IfErr, IsTrue, ⊤};
+ghost use Rattle.std.specs.Prelude.{◌≡◌, ◌≢◌, ◌↔◌, ◌++◌, [], false, codes, ◌==◌, Some, Err, IsOk, IfOk, IfErr};
 ghost use Rattle.std.specs.List.{list_all, flat_map};
 ghost use Rattle.std.specs.Fmt.{WritesOnOk};
 ghost use Rattle.std.specs.Cmp.Lexicographic.{pointwise};
@@ -38,11 +38,12 @@ impl Value {
     /// # Errors
     ///
     /// - `InvalidSubtag` exactly where the text is not empty and some piece is not of 3 to 8 letters or digits.
-    /// - `Memory` where the list of pieces could not grow.
+    /// - `Memory` where the list of pieces could not grow, and never for a value without pieces.
     pub fn try_from_str(alloc: Global, text: &str) -> Result<Self, ParseError>
         ensures read { IfOk result (λ v. v ≡ read_value text.now) }
         ensures refused { (result ≡ Err ParseError.InvalidSubtag) ↔ (is_value text.now ≡ false) }
         ensures language { result ≡ Err ParseError.InvalidLanguage → ⊥ }
+        ensures free { read_value text.now ≡ [] → result ≢ Err ParseError.Memory }
     {
         if text.is_empty() {
             return Ok(Value {
@@ -160,6 +161,7 @@ fn read_subtags(alloc: Global, pieces: Pieces<'_>) -> Result<Vec<Subtag>, ParseE
     ensures read { IfOk result (λ v. v.items ≡ read_subtags pieces.entry) }
     ensures refused { result ≡ Err ParseError.InvalidSubtag → list_all is_subtag pieces.entry ≡ false }
     ensures language { result ≡ Err ParseError.InvalidLanguage → ⊥ }
+    ensures free { read_subtags pieces.entry ≡ [] → result ≢ Err ParseError.Memory }
 {
     let mut list = Vec::new(alloc);
     for piece in pieces {

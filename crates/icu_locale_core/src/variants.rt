@@ -1,11 +1,11 @@
 //! The variants of an identifier: a set.
-ghost use Rattle.std.specs.Prelude.{◌≡◌, ◌↔◌, IsTrue, IsOk, IfOk, IfErr, true, length, ℕ, List};
+ghost use Rattle.std.specs.Prelude.{◌≡◌, ◌↔◌, IsTrue, IsOk, IfOk, IfErr, true, ℕ, List};
 ghost use Rattle.std.specs.List.{All};
 ghost use Rattle.std.specs.Iterator.{YieldsFirst, item_count};
 ghost use Rattle.std.specs.Ordering.{as_partial_cmp, on};
 ghost use Rattle.std.specs.Cmp.{partial_order_from_own_ties};
 ghost use Rattle.std.specs.Cmp.Lexicographic.{pointwise, slice_cmp};
-ghost use Rattle.std.specs.Cmp.Rules.{comparing, hashing};
+ghost use Rattle.std.specs.Cmp.Rules.{comparing};
 ghost use Rattle.std.specs.Hash as fed;
 ghost use Rattle.std.proofs.Common.{rules};
 ghost use Rattle.std.specs.Prelude.{nat_eq};
@@ -147,9 +147,7 @@ impl Variants {
     {
         &self.items
     }
-}
 
-impl Variants {
     /// An equal set. Without variants it takes no memory.
     ///
     /// # Errors
@@ -234,7 +232,7 @@ fn know_each(list: &[Variant])
 }
 
 /// A walk through variants in rising order.
-#[derive(Drop)]
+#[derive(Debug, Drop)]
 pub struct VariantsIter<'a> {
     rest: &'a [Variant],
 }

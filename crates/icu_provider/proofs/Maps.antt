@@ -1,5 +1,5 @@
 -- What look-ups find in rows whose keys rise, and what an insert changes.
-use Rattle.std.proofs.Common.{◌≡◌, List, [], ◌∷◌, slice_get, Some, refl, sym, ap, ◌∙◌, subst, arith}
+use Rattle.std.proofs.Common.{◌≡◌, List, [], ◌∷◌, slice_get, Some, refl, sym, ap, ◌∙◌, subst, if◌then◌else◌, arith}
 use Rattle.std.specs.declared.cmp.Ordering.{Ordering}
 use Rattle.std.specs.declared.cmp.Ordering.TheVariants.{Less, Equal, Greater}
 use Rattle.std.specs.Ordering.{match_ordering, ordering_reverse}
@@ -14,7 +14,8 @@ use Rattle.std.proofs.lemmas.Option.{slice_get-get_or, slice_get_within, get_or_
 use Rattle.std.proofs.lemmas.Map.Keys.{IsDistinct-from_sorted}
 use Rattle.std.proofs.lemmas.Map.Entries.{lookup_from_place, place_from_lookup}
 use Rattle.std.proofs.lemmas.Map.Views.{All-keys-insert_entry}
-use Rattle.icu_provider.specs.Maps.{IsSortedMap, SetsOnly}
+use Rattle.icu_locale_core.specs.Maps.{value_at, SetsOnly}
+use Rattle.icu_provider.specs.Maps.{IsSortedMap}
 
 -- a fact holds where it holds at each answer of a comparison
 by_answer : {P : Type 0} (answer : Ordering) → (answer ≡ Less → P) → (answer ≡ Equal → P) → (answer ≡ Greater → P) → P
@@ -39,14 +40,19 @@ module _ {K V : Type 0} (compare : K → K → Ordering) where
       ((place.1, value), (place.0, slice_get_within rows place.0 _ place.2, get_or_from_slice_get rows place.0 _ _ place.2), (Equal-is _).0 place.3, refl)
 
 module _ {K V : Type 0} {compare : K → K → Ordering} (total : IsTotalOrder compare) where
-  -- an insert changes what is found at its key, and nothing else
-  pub SetsOnly-insert_entry : (rows : List (K × V)) (key : K) (value : V) → SetsOnly compare rows (insert_entry compare rows key value) key value
-  SetsOnly-insert_entry [] key value q = refl
-  SetsOnly-insert_entry (row ∷ rows) key value q =
-      let below = SetsOnly-insert_entry rows key value q in
+  -- what an insert finds at a key: its own value at its own key, and what was there at another
+  found_after : (rows : List (K × V)) (key : K) (value : V) (q : K) → value_at compare (insert_entry compare rows key value) q ≡ (if is_at (compare q) key then Some value else value_at compare rows q)
+  found_after [] key value q = refl
+  found_after (row ∷ rows) key value q =
+      let below = found_after rows key value q in
       let tie = alike_right total key row.0 q in
       let both = total.congr q key row.0 in
       by_answer (compare key row.0) (λ is. grind (arith, insert_entry-step compare key value row rows Less is)) (λ is. grind (arith, insert_entry-step compare key value row rows Equal is, tie is)) (λ is. grind (arith, insert_entry-step compare key value row rows Greater is, below, both))
+
+  -- an insert changes what is found at its key, and nothing else
+  pub SetsOnly-insert_entry : (rows : List (K × V)) (key : K) (value : V) → SetsOnly compare rows (insert_entry compare rows key value) key (Some value)
+  SetsOnly-insert_entry rows key value q =
+      subst (λ alike. value_at compare (insert_entry compare rows key value) q ≡ (if alike then Some value else value_at compare rows q)) ((eq_by_cmp_equiv total).symm q key) (found_after rows key value q)
 
   -- a key below the first of rising rows is below each
   below_all : (key : K) (row : K × V) (rows : List (K × V)) → compare key row.0 ≡ Less → AllByRecursion (λ later. compare row.0 later ≡ Less) (keys_of rows) → AllByRecursion (λ later. compare key later ≡ Less) (keys_of rows)

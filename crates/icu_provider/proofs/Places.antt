@@ -13,13 +13,15 @@ use Rattle.std.proofs.lemmas.List.{get_or-map}
 use Rattle.std.proofs.lemmas.List.Sorted.{searchable_from_sorted}
 use Rattle.std.proofs.lemmas.Map.Keys.{sorted_tail, Less-from_sorted}
 use Rattle.std.proofs.lemmas.Map.Entries.{length-keys_of}
-use Rattle.icu_provider.specs.Maps.{IsSortedMap, SetsOnly, IsAt, IsGapFor}
+use Rattle.icu_locale_core.specs.Maps.{SetsOnly}
+use Rattle.icu_provider.specs.Maps.{IsSortedMap}
+use Rattle.icu_provider.specs.Places.{IsAt, IsGapFor}
 use Rattle.icu_provider.proofs.Maps.{insert_entry-step, IsSortedMap-insert_entry, SetsOnly-insert_entry}
 
 -- new has the rows of old with the value inserted at the key
 pub record Inserts {K V : Type 0} (compare : K → K → Ordering) (old new : List (K × V)) (key : K) (value : V) : Type 0 where
   pub rows : new ≡ insert_entry compare old key value
-  pub sets : SetsOnly compare old new key value
+  pub sets : SetsOnly compare old new key (Some value)
   pub sorted : IsSortedMap compare new
 
 module _ {K V : Type 0} {compare : K → K → Ordering} (total : IsTotalOrder compare) where

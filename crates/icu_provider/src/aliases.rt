@@ -1,11 +1,12 @@
 //! Aliases of subtags (UTS #35 Part 1, Annex C, "LocaleId Canonicalization"): the rules of canonicalization, as the
 //! caller hands them in.
-ghost use Rattle.std.specs.Prelude.{◌≡◌, ◌++◌, ◌∷◌, [], IsSome, IsOk, IfErr, OnOk, OnErr, option_copied};
+ghost use Rattle.std.specs.Prelude.{◌≡◌, ◌++◌, ◌∷◌, [], Some, IsSome, IsOk, IfErr, OnOk, OnErr, option_copied};
 ghost use Rattle.std.specs.Option.{option_map};
 ghost use Rattle.std.specs.String.{string_bytes};
 ghost use Rattle.std.specs.BTreeMap.{insert_entry};
 ghost use Rattle.icu_locale_core.specs.TextSet.{text_cmp};
-ghost use Rattle.icu_provider.specs.Maps.{IsSortedMap, SetsOnly, value_at};
+ghost use Rattle.icu_locale_core.specs.Maps.{SetsOnly, value_at};
+ghost use Rattle.icu_provider.specs.Maps.{IsSortedMap};
 
 use crate::{DataError, DataErrorKind, RowList, Rows, SortedMap};
 use icu_locale_core::{Language, Region, Script, Subtag, Variant};
@@ -113,7 +114,7 @@ impl Aliases {
     /// `Memory`, only where the list of rows had to grow and could not: the table is unchanged then.
     pub fn insert_sgn_region(&mut self, region: Region, value: Language) -> Result<(), DataError>
         ensures ok { OnOk result (self.new ≡ record self.old { sgn_region = insert_entry text_cmp self.old.sgn_region region value }) }
-        ensures sets { OnOk result (SetsOnly text_cmp self.old.sgn_region self.new.sgn_region region value) }
+        ensures sets { OnOk result (SetsOnly text_cmp self.old.sgn_region self.new.sgn_region region (Some value)) }
         ensures err { OnErr result (self.new ≡ self.old) }
         ensures refused { IfErr result (λ e. e.kind ≡ DataErrorKind.Memory) }
         ensures present { IsSome (value_at text_cmp self.old.sgn_region region) → IsOk result }
@@ -147,7 +148,7 @@ impl Aliases {
         value: String,
     ) -> Result<(), DataError>
         ensures ok { OnOk result (self.new ≡ record self.old { language_len2 = insert_entry text_cmp self.old.language_len2 language value }) }
-        ensures sets { OnOk result (SetsOnly text_cmp self.old.language_len2 self.new.language_len2 language value) }
+        ensures sets { OnOk result (SetsOnly text_cmp self.old.language_len2 self.new.language_len2 language (Some value)) }
         ensures err { OnErr result (self.new ≡ self.old) }
         ensures refused { IfErr result (λ e. e.kind ≡ DataErrorKind.Memory) }
         ensures present { IsSome (value_at text_cmp self.old.language_len2 language) → IsOk result }
@@ -181,7 +182,7 @@ impl Aliases {
         value: String,
     ) -> Result<(), DataError>
         ensures ok { OnOk result (self.new ≡ record self.old { language_len3 = insert_entry text_cmp self.old.language_len3 language value }) }
-        ensures sets { OnOk result (SetsOnly text_cmp self.old.language_len3 self.new.language_len3 language value) }
+        ensures sets { OnOk result (SetsOnly text_cmp self.old.language_len3 self.new.language_len3 language (Some value)) }
         ensures err { OnErr result (self.new ≡ self.old) }
         ensures refused { IfErr result (λ e. e.kind ≡ DataErrorKind.Memory) }
         ensures present { IsSome (value_at text_cmp self.old.language_len3 language) → IsOk result }
@@ -211,7 +212,7 @@ impl Aliases {
     /// `Memory`, only where the list of rows had to grow and could not: the table is unchanged then.
     pub fn insert_script(&mut self, script: Script, value: Script) -> Result<(), DataError>
         ensures ok { OnOk result (self.new ≡ record self.old { script = insert_entry text_cmp self.old.script script value }) }
-        ensures sets { OnOk result (SetsOnly text_cmp self.old.script self.new.script script value) }
+        ensures sets { OnOk result (SetsOnly text_cmp self.old.script self.new.script script (Some value)) }
         ensures err { OnErr result (self.new ≡ self.old) }
         ensures refused { IfErr result (λ e. e.kind ≡ DataErrorKind.Memory) }
         ensures present { IsSome (value_at text_cmp self.old.script script) → IsOk result }
@@ -241,7 +242,7 @@ impl Aliases {
     /// `Memory`, only where the list of rows had to grow and could not: the table is unchanged then.
     pub fn insert_region_alpha(&mut self, region: Region, value: Region) -> Result<(), DataError>
         ensures ok { OnOk result (self.new ≡ record self.old { region_alpha = insert_entry text_cmp self.old.region_alpha region value }) }
-        ensures sets { OnOk result (SetsOnly text_cmp self.old.region_alpha self.new.region_alpha region value) }
+        ensures sets { OnOk result (SetsOnly text_cmp self.old.region_alpha self.new.region_alpha region (Some value)) }
         ensures err { OnErr result (self.new ≡ self.old) }
         ensures refused { IfErr result (λ e. e.kind ≡ DataErrorKind.Memory) }
         ensures present { IsSome (value_at text_cmp self.old.region_alpha region) → IsOk result }
@@ -271,7 +272,7 @@ impl Aliases {
     /// `Memory`, only where the list of rows had to grow and could not: the table is unchanged then.
     pub fn insert_region_num(&mut self, region: Region, value: Region) -> Result<(), DataError>
         ensures ok { OnOk result (self.new ≡ record self.old { region_num = insert_entry text_cmp self.old.region_num region value }) }
-        ensures sets { OnOk result (SetsOnly text_cmp self.old.region_num self.new.region_num region value) }
+        ensures sets { OnOk result (SetsOnly text_cmp self.old.region_num self.new.region_num region (Some value)) }
         ensures err { OnErr result (self.new ≡ self.old) }
         ensures refused { IfErr result (λ e. e.kind ≡ DataErrorKind.Memory) }
         ensures present { IsSome (value_at text_cmp self.old.region_num region) → IsOk result }
@@ -305,7 +306,7 @@ impl Aliases {
         value: Vec<Region>,
     ) -> Result<(), DataError>
         ensures ok { OnOk result (self.new ≡ record self.old { complex_region = insert_entry text_cmp self.old.complex_region region value }) }
-        ensures sets { OnOk result (SetsOnly text_cmp self.old.complex_region self.new.complex_region region value) }
+        ensures sets { OnOk result (SetsOnly text_cmp self.old.complex_region self.new.complex_region region (Some value)) }
         ensures err { OnErr result (self.new ≡ self.old) }
         ensures refused { IfErr result (λ e. e.kind ≡ DataErrorKind.Memory) }
         ensures present { IsSome (value_at text_cmp self.old.complex_region region) → IsOk result }
@@ -335,7 +336,7 @@ impl Aliases {
     /// `Memory`, only where the list of rows had to grow and could not: the table is unchanged then.
     pub fn insert_variant(&mut self, variant: Variant, value: Variant) -> Result<(), DataError>
         ensures ok { OnOk result (self.new ≡ record self.old { variant = insert_entry text_cmp self.old.variant variant value }) }
-        ensures sets { OnOk result (SetsOnly text_cmp self.old.variant self.new.variant variant value) }
+        ensures sets { OnOk result (SetsOnly text_cmp self.old.variant self.new.variant variant (Some value)) }
         ensures err { OnErr result (self.new ≡ self.old) }
         ensures refused { IfErr result (λ e. e.kind ≡ DataErrorKind.Memory) }
         ensures present { IsSome (value_at text_cmp self.old.variant variant) → IsOk result }
@@ -365,7 +366,7 @@ impl Aliases {
     /// `Memory`, only where the list of rows had to grow and could not: the table is unchanged then.
     pub fn insert_subdivision(&mut self, subtag: Subtag, value: String) -> Result<(), DataError>
         ensures ok { OnOk result (self.new ≡ record self.old { subdivision = insert_entry text_cmp self.old.subdivision subtag value }) }
-        ensures sets { OnOk result (SetsOnly text_cmp self.old.subdivision self.new.subdivision subtag value) }
+        ensures sets { OnOk result (SetsOnly text_cmp self.old.subdivision self.new.subdivision subtag (Some value)) }
         ensures err { OnErr result (self.new ≡ self.old) }
         ensures refused { IfErr result (λ e. e.kind ≡ DataErrorKind.Memory) }
         ensures present { IsSome (value_at text_cmp self.old.subdivision subtag) → IsOk result }

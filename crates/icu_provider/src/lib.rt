@@ -1,4 +1,5 @@
-//! The data that the crates above are asked over: tables of likely subtags, and the trait of its sources.
+//! The data that the crates above are asked over: tables of likely subtags, of aliases and of directions, and the trait
+//! of their sources.
 #![tactic(auto)]
 
 mod aliases;

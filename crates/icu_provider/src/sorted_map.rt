@@ -1,10 +1,12 @@
 //! A map in a sorted list: look-ups by binary search, and walks in the keys' order.
-ghost use Rattle.std.specs.Prelude.{◌≡◌, ◌==◌, [], length, IsSome, IsOk, IfErr, MatchResult, OnOk, OnErr, is_some, option_copied};
+ghost use Rattle.std.specs.Prelude.{◌≡◌, ◌==◌, [], length, Some, IsSome, IsOk, IfErr, MatchResult, OnOk, OnErr, is_some, option_copied};
 ghost use Rattle.std.specs.List.{All};
 ghost use Rattle.std.specs.Map.Iter.{deref_pair};
 ghost use Rattle.std.specs.Iterator.{YieldsFirstBy, item_count};
 ghost use Rattle.std.specs.BTreeMap.{insert_entry};
-ghost use Rattle.icu_provider.specs.Maps.{IsSortedMap, SetsOnly, IsAt, IsGapFor, value_at};
+ghost use Rattle.icu_locale_core.specs.Maps.{SetsOnly, value_at};
+ghost use Rattle.icu_provider.specs.Maps.{IsSortedMap};
+ghost use Rattle.icu_provider.specs.Places.{IsAt, IsGapFor};
 
 use crate::{DataError, DataErrorKind};
 use std::alloc::{AllocError, Global};
@@ -88,7 +90,7 @@ impl<K: Ord, V> SortedMap<K, V> {
         K: Drop,
         V: Drop,
         ensures ok { OnOk result (self.new ≡ insert_entry K.cmp self.old key value) }
-        ensures updates { OnOk result (SetsOnly K.cmp self.old self.new key value) }
+        ensures sets { OnOk result (SetsOnly K.cmp self.old self.new key (Some value)) }
         ensures err { OnErr result (self.new ≡ self.old) }
         ensures refused { IfErr result (λ e. e.kind ≡ DataErrorKind.Memory) }
         ensures present { IsSome (value_at K.cmp self.old key) → IsOk result }

@@ -1,8 +1,8 @@
 // What is to be changed of a locale.
 ghost use Rattle.std.specs.Prelude.{◌≡◌, is_some, IsSome, IsTrue, unwrap_or};
-ghost use Rattle.std.specs.Option.{option_or};
 ghost use Rattle.icu_locale_core.specs.Subtag.{is_key, lowercase};
-ghost use Rattle.icu_locale_core.specs.Keywords.{value_at};
+ghost use Rattle.icu_locale_core.specs.Maps.{value_at};
+ghost use Rattle.icu_locale_core.specs.TextSet.{text_cmp};
 ghost use Rattle.icu_locale.specs.Canonical.{rg, sd, put, answer_of};
 
 use crate::TransformResult;
@@ -22,8 +22,8 @@ impl Changes {
 
     // Writes the changes, all of them.
     pub fn write(self, locale: &mut Locale) -> TransformResult
-        requires region_override { IsSome self.region_override → IsSome (value_at locale.old.extensions.unicode.keywords rg) }
-        requires subdivision { IsSome self.subdivision → IsSome (value_at locale.old.extensions.unicode.keywords sd) }
+        requires region_override { IsSome self.region_override → IsSome (value_at text_cmp locale.old.extensions.unicode.keywords rg) }
+        requires subdivision { IsSome self.subdivision → IsSome (value_at text_cmp locale.old.extensions.unicode.keywords sd) }
         ensures changed { locale.new ≡ changed self locale.old }
         ensures answer { result ≡ answer_of (is_change self) }
     {
@@ -37,7 +37,10 @@ impl Changes {
         let is_region_changed = put(keywords, region_override_key(), region_override);
         let is_subdivision_changed = put(keywords, subdivision_key(), subdivision);
         let is_id_changed = replace(&mut locale.id, id);
-        let is_transform_changed = replace_option(&mut locale.extensions.transform.lang, transform);
+        let is_transform_changed = replace(
+            &mut locale.extensions.transform.lang,
+            transform.map(Some),
+        );
         answer_of(
             is_id_changed || is_transform_changed || is_region_changed || is_subdivision_changed,
         )
@@ -54,26 +57,13 @@ fn answer_of(is_changed: bool) -> TransformResult
     }
 }
 
-fn replace(id: &mut LanguageIdentifier, by: Option<LanguageIdentifier>) -> bool
-    ensures written { id.new ≡ unwrap_or by id.old }
+fn replace<T: Drop>(place: &mut T, by: Option<T>) -> bool
+    ensures written { place.new ≡ unwrap_or by place.old }
     ensures answer { result ≡ is_some by }
 {
     match by {
         Some(new) => {
-            *id = new;
-            true
-        }
-        None => false,
-    }
-}
-
-fn replace_option(id: &mut Option<LanguageIdentifier>, by: Option<LanguageIdentifier>) -> bool
-    ensures written { id.new ≡ option_or by id.old }
-    ensures answer { result ≡ is_some by }
-{
-    match by {
-        Some(new) => {
-            *id = Some(new);
+            *place = new;
             true
         }
         None => false,
@@ -82,7 +72,7 @@ fn replace_option(id: &mut Option<LanguageIdentifier>, by: Option<LanguageIdenti
 
 // Puts a value at a key that is there.
 fn put(keywords: &mut Keywords, key: Key, value: Option<Value>) -> bool
-    requires { IsSome value → IsSome (value_at keywords.old key) }
+    requires { IsSome value → IsSome (value_at text_cmp keywords.old key) }
     ensures rows { keywords.new ≡ put keywords.old key value }
     ensures answer { result ≡ is_some value }
 {

@@ -1,8 +1,8 @@
 //! Canonicalizers over tables or a provider.
 ghost use Rattle.std.specs.Prelude.{◌≡◌, Some, None, Err, IfOk, IfErr, MatchResult};
-ghost use Rattle.icu_locale.specs.Expander.{common_tables, all_tables, seen};
+ghost use Rattle.icu_locale.specs.Expander.{common_tables, all_tables, both};
 ghost use Rattle.icu_locale.specs.Rules.{AreRules};
-ghost use Rattle.icu_locale.specs.Making.{then_aliases, IsOver};
+ghost use Rattle.icu_locale.specs.Making.{IsOver};
 
 use super::LocaleCanonicalizer;
 use super::reading::read_all;
@@ -106,7 +106,7 @@ impl<'d> LocaleCanonicalizer<'d, LocaleExpander<'d>> {
         alloc: Global,
         provider: &'d P,
     ) -> Result<Self, DataError>
-        ensures { MatchResult (then_aliases (common_tables (P.likely_language provider.now) (P.likely_script_region provider.now)) (P.aliases provider.now))
+        ensures { MatchResult (both (common_tables (P.likely_language provider.now) (P.likely_script_region provider.now)) (P.aliases provider.now))
             (λ tables. MatchResult result (λ c. IsOver tables c.expander c.rules) (λ e. e.kind ≡ DataErrorKind.Memory))
             (λ refusal. result ≡ Err refusal) }
     {
@@ -127,7 +127,7 @@ impl<'d> LocaleCanonicalizer<'d, LocaleExpander<'d>> {
         alloc: Global,
         provider: &'d P,
     ) -> Result<Self, DataError>
-        ensures { MatchResult (then_aliases (all_tables (P.likely_language provider.now) (P.likely_script_region provider.now) (P.likely_extended provider.now)) (P.aliases provider.now))
+        ensures { MatchResult (both (all_tables (P.likely_language provider.now) (P.likely_script_region provider.now) (P.likely_extended provider.now)) (P.aliases provider.now))
             (λ tables. MatchResult result (λ c. IsOver tables c.expander c.rules) (λ e. e.kind ≡ DataErrorKind.Memory))
             (λ refusal. result ≡ Err refusal) }
     {

@@ -3,7 +3,7 @@ ghost use Rattle.std.specs.Prelude.{◌≡◌, ◌++◌, IfOk, IfErr, OnOk, Matc
 ghost use Rattle.std.specs.Option.{option_to_list};
 ghost use Rattle.std.specs.List.{list_all};
 ghost use Rattle.icu_locale_core.specs.TextSet.{from_list};
-ghost use Rattle.icu_locale.specs.Rules.{Reads, ReadsRule, ReadsVariantRule, ReadsLanguage, ReadsSubdivision, is_lower_variant, variant_pieces, are_variants, AreRead};
+ghost use Rattle.icu_locale.specs.Rules.{Reads, ReadsRule, ReadsVariantRule, ReadsLanguage, ReadsSubdivision, is_lower_variant, variant_pieces, are_lower_variants, AreRead};
 
 use super::rules::Rule;
 use icu_locale_core::{Language, LanguageIdentifier, ParseError, Subtag, Value, Variant, Variants};
@@ -140,7 +140,7 @@ fn read_identifier(alloc: Global, text: &str) -> Result<Option<LanguageIdentifie
 
 // The set of the pieces of a text, cut at `-`, where each is a variant in lower case.
 fn read_variants(alloc: Global, text: &str) -> Result<Option<Variants>, DataError>
-    ensures read { IfOk result (λ s. MatchOption s (are_variants text.now ≡ false) (λ s. (are_variants text.now ≡ true) × (s ≡ from_list (variant_pieces text.now)))) }
+    ensures read { IfOk result (λ s. MatchOption s (are_lower_variants text.now ≡ false) (λ s. (are_lower_variants text.now ≡ true) × (s ≡ from_list (variant_pieces text.now)))) }
     ensures refused { IfErr result (λ e. e.kind ≡ DataErrorKind.Memory) }
 {
     match variant_pieces(alloc, text) {

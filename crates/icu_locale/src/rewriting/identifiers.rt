@@ -1,11 +1,9 @@
 // Runs of identifiers.
-ghost use Rattle.std.specs.Prelude.{◌≡◌, ◌+◌, ℕ, None, Some, IfOk, IfErr, IfSome, IsOk, unwrap_or};
-ghost use Rattle.std.specs.Option.{option_map};
+ghost use Rattle.std.specs.Prelude.{◌≡◌, ◌+◌, None, Some, IfOk, IfErr, IfSome, IsOk, unwrap_or};
 ghost use Rattle.icu_locale_core.specs.TextSet.{empty, image};
 ghost use Rattle.icu_locale.specs.Expander.{likely};
 ghost use Rattle.icu_locale.specs.Kinds.{variant_alias, next_of};
 ghost use Rattle.icu_locale.specs.Change.{applied};
-ghost use Rattle.icu_locale.specs.Run.{HasDistinct};
 ghost use Rattle.icu_locale.specs.Canonical.{IsOutOfMemory};
 ghost use Rattle.icu_locale.specs.Ends.{IsLaterEnd, IsRunRefusal, IsFree, IsRunCounted};
 
@@ -58,12 +56,15 @@ fn changed(
 {
     match change {
         Change::Rule(rule) => replacement(id, &rule.source, &rule.replacement),
-        Change::Subtags(language, script, region) => Ok(LanguageIdentifier {
-            language: *language,
-            script: *script,
-            region: *region,
-            variants: id.variants.try_clone()?,
-        }),
+        Change::Subtags(language, script, region) => match id.variants.try_clone() {
+            Ok(variants) => Ok(LanguageIdentifier {
+                language: *language,
+                script: *script,
+                region: *region,
+                variants,
+            }),
+            Err(_) => Err(CanonicalizeError::Memory),
+        },
         Change::Variants => Ok(LanguageIdentifier {
             language: id.language,
             script: id.script,

@@ -1,5 +1,4 @@
 // The seven kinds of rules. Each finds what is to be changed and takes no memory.
-ghost use Rattle.std.specs.Str.{bytes_eq};
 ghost use Rattle.std.specs.Prelude.{◌≡◌, option_copied, is_some};
 ghost use Rattle.std.specs.Option.{option_map};
 ghost use Rattle.std.specs.List.{find, list_any};

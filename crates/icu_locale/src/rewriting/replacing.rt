@@ -1,5 +1,4 @@
 // Matching and replacing.
-ghost use Rattle.std.specs.Str.{bytes_eq};
 ghost use Rattle.std.specs.Prelude.{◌≡◌, ◌&&◌, ◌||◌, not, if◌then◌else◌, IfOk, IfErr, IsOk};
 ghost use Rattle.icu_locale_core.specs.TextSet.{empty};
 ghost use Rattle.icu_locale.specs.Replacement.{is_known, fits, matches, part, replaced};
@@ -12,7 +11,7 @@ use std::cmp::PartialEq;
 pub fn is_known(language: &Language) -> bool
     ensures { result ≡ is_known language.now }
 {
-    language.as_str() != "und"
+    !language.is_unknown()
 }
 
 fn fits<T: PartialEq + Copy>(rule: Option<T>, source: Option<T>) -> bool
@@ -62,7 +61,7 @@ fn replaced_language(source: Language, rule: Language, replacement: Language) ->
 ///
 /// # Errors
 ///
-/// `Memory` where the replacement has variants and no room was found for them.
+/// `Memory` where the result has variants and no room was found for them.
 pub fn replacement(
     source: &LanguageIdentifier,
     rule: &LanguageIdentifier,

@@ -15,21 +15,6 @@ use std::alloc::{AllocError, Global};
 use std::process::Abort;
 use std::test::Fail;
 
-// A row of a table of aliases.
-#[derive(Clone, Copy)]
-pub enum Row<'t> {
-    Variants(&'t str, &'t str, &'t str),
-    Language(&'t str, &'t str),
-    Sign(&'t str, &'t str),
-    Two(&'t str, &'t str),
-    Script(&'t str, &'t str),
-    Letters(&'t str, &'t str),
-    Digits(&'t str, &'t str),
-    Former(&'t str, &'t str),
-    Variant(&'t str, &'t str),
-    Subdivision(&'t str, &'t str),
-}
-
 fn text(alloc: Global, text: &str) -> Result<String, Fail> {
     Ok(String::from_str(alloc, text)?)
 }
@@ -47,11 +32,11 @@ fn put_language(alloc: Global, table: &mut Aliases, from: &str, to: &str) -> Res
     Ok(table.push_language(StrStrPair(source, replacement))?)
 }
 
-// The regions of a former one, parted by spaces.
+// The regions of a former one, parted by `+`.
 fn put_former(alloc: Global, table: &mut Aliases, from: &str, to: &str) -> Result<(), Fail> {
     let former = Region::try_from_str(from)?;
     let mut regions = Vec::new(alloc);
-    for region in to.split(' ') {
+    for region in to.split('+') {
         if !region.is_empty() {
             regions.push(Region::try_from_str(region)?)?;
         }
@@ -59,44 +44,55 @@ fn put_former(alloc: Global, table: &mut Aliases, from: &str, to: &str) -> Resul
     Ok(table.insert_complex_region(former, regions)?)
 }
 
-fn put(alloc: Global, table: &mut Aliases, row: Row<'_>) -> Result<(), Fail> {
-    match row {
-        Row::Variants(language, variants, to) => put_variants(
-            alloc,
-            table,
-            (language, variants, to),
-        )?,
-        Row::Language(from, to) => put_language(alloc, table, from, to)?,
-        Row::Sign(from, to) => {
-            table.insert_sgn_region(Region::try_from_str(from)?, Language::try_from_str(to)?)?;
-        }
-        Row::Two(from, to) => {
-            table.insert_language_len2(Language::try_from_str(from)?, text(alloc, to)?)?;
-        }
-        Row::Script(from, to) => {
-            table.insert_script(Script::try_from_str(from)?, Script::try_from_str(to)?)?;
-        }
-        Row::Letters(from, to) => {
-            table.insert_region_alpha(Region::try_from_str(from)?, Region::try_from_str(to)?)?;
-        }
-        Row::Digits(from, to) => {
-            table.insert_region_num(Region::try_from_str(from)?, Region::try_from_str(to)?)?;
-        }
-        Row::Former(from, to) => put_former(alloc, table, from, to)?,
-        Row::Variant(from, to) => {
-            table.insert_variant(Variant::try_from_str(from)?, Variant::try_from_str(to)?)?;
-        }
-        Row::Subdivision(from, to) => {
-            table.insert_subdivision(Subtag::try_from_str(from)?, text(alloc, to)?)?;
-        }
+// A row whose value is a text.
+fn put_text(table: &mut Aliases, kind: &str, from: &str, to: String) -> Result<(), Fail> {
+    match kind {
+        "two" => Ok(table.insert_language_len2(Language::try_from_str(from)?, to)?),
+        "three" => Ok(table.insert_language_len3(Language::try_from_str(from)?, to)?),
+        _ => Ok(table.insert_subdivision(Subtag::try_from_str(from)?, to)?),
     }
-    Ok(())
 }
 
-pub fn aliases(alloc: Global, rows: &[Row<'_>]) -> Result<Aliases, Fail> {
+// A row whose value is a region.
+fn put_region(table: &mut Aliases, kind: &str, from: &str, to: &str) -> Result<(), Fail> {
+    let (from, to) = (Region::try_from_str(from)?, Region::try_from_str(to)?);
+    match kind {
+        "letters" => Ok(table.insert_region_alpha(from, to)?),
+        _ => Ok(table.insert_region_num(from, to)?),
+    }
+}
+
+// A row in words: its kind, its key and its value.
+fn put(alloc: Global, table: &mut Aliases, row: &str) -> Result<(), Fail> {
+    let mut words = row.split(' ');
+    let kind = words.next().unwrap_or("");
+    let from = words.next().unwrap_or("");
+    let to = words.next().unwrap_or("");
+    match kind {
+        "variants" => put_variants(alloc, table, (from, to, words.next().unwrap_or(""))),
+        "language" => put_language(alloc, table, from, to),
+        "sign" => {
+            Ok(table.insert_sgn_region(Region::try_from_str(from)?, Language::try_from_str(to)?)?)
+        }
+        "script" => Ok(table.insert_script(
+            Script::try_from_str(from)?,
+            Script::try_from_str(to)?,
+        )?),
+        "former" => put_former(alloc, table, from, to),
+        "variant" => {
+            Ok(table.insert_variant(Variant::try_from_str(from)?, Variant::try_from_str(to)?)?)
+        }
+        "letters" | "digits" => put_region(table, kind, from, to),
+        "two" | "three" | "subdivision" => put_text(table, kind, from, text(alloc, to)?),
+        _ => Err(Fail::new("no such kind of row")),
+    }
+}
+
+// The rows of a table, parted by `;`.
+fn aliases(alloc: Global, rows: &str) -> Result<Aliases, Fail> {
     let mut table = Aliases::new(alloc);
-    for row in rows {
-        put(alloc, &mut table, *row)?;
+    for row in rows.split(';') {
+        put(alloc, &mut table, row)?;
     }
     Ok(table)
 }
@@ -137,275 +133,150 @@ fn one_call(
     Ok(())
 }
 
-fn calls_over(
-    rt: &impl Abort,
-    alloc: Global,
-    canonicalizer: &LocaleCanonicalizer<'_>,
-    calls: &[(&str, &str)],
-) -> Result<(), Fail> {
-    for call in calls {
-        one_call(rt, alloc, canonicalizer, *call)?;
-    }
-    Ok(())
-}
-
-// The calls over the rows alone.
-fn calls(
+// A call over the rows alone.
+fn call_over(
     rt: &impl Abort,
     alloc: Global,
     expander: &LocaleExpander<'_>,
-    rows: &[Row<'_>],
-    calls: &[(&str, &str)],
+    rows: &str,
+    call: (&str, &str),
 ) -> Result<(), Fail> {
     let table = aliases(alloc, rows)?;
     let canonicalizer = LocaleCanonicalizer::new_with_expander(alloc, &table, *expander)?;
-    calls_over(rt, alloc, &canonicalizer, calls)
+    one_call(rt, alloc, &canonicalizer, call)
 }
 
 fn of_sample<'t>(tables: &'t Tables) -> Result<LocaleExpander<'t>, DataError> {
     LocaleExpander::try_new_common_unstable(tables)
 }
 
-fn languages(rt: &impl Abort, alloc: Global, e: &LocaleExpander<'_>) -> Result<(), Fail> {
-    calls(
-        rt,
-        alloc,
-        e,
-        &[Row::Language("und-DD", "und-DE")],
-        &[("sgn-DD", "sgn-DE M")],
-    )?;
-    calls(
-        rt,
-        alloc,
-        e,
-        &[Row::Language("sgn-DE", "gsg")],
-        &[("sgn-DE", "gsg M")],
-    )?;
-    calls(
-        rt,
-        alloc,
-        e,
-        &[Row::Language("en_us", "fr")],
-        &[("en-US", "fr M")],
-    )?;
-    calls(
-        rt,
-        alloc,
-        e,
-        &[Row::Two("sh", "sr-Latn")],
-        &[("sh", "sr-Latn M"), ("sh-Cyrl", "sr-Cyrl M")],
-    )?;
-    calls(
-        rt,
-        alloc,
-        e,
-        &[Row::Two("aa", "bb"), Row::Two("bb", "cc")],
-        &[("aa", "cc M")],
-    )?;
-    calls(rt, alloc, e, &[Row::Two("aa", "und")], &[("aa", "und M")])?;
-    calls(
-        rt,
-        alloc,
-        e,
-        &[Row::Sign("DE", "sgn")],
-        &[("sgn-DE", "sgn M")],
-    )
-}
+// Rows, an identifier, and what becomes of it.
+const CANONICAL_FORMS: [(&str, &str, &str); 26] = [
+    ("language und-DD und-DE", "sgn-DD", "sgn-DE M"),
+    ("language sgn-DE gsg", "sgn-DE", "gsg M"),
+    ("language en_us fr", "en-US", "fr M"),
+    ("two sh sr-Latn", "sh", "sr-Latn M"),
+    ("two sh sr-Latn", "sh-Cyrl", "sr-Cyrl M"),
+    ("two aa bb;two bb cc", "aa", "cc M"),
+    ("two aa und", "aa", "und M"),
+    ("two gsg de", "gsg", "gsg U"),
+    ("three gsg de;two de fr", "gsg", "fr M"),
+    ("three de fr", "de", "de U"),
+    ("sign DE sgn", "sgn-DE", "sgn M"),
+    (
+        "script Qaai Zinh;digits 276 DE",
+        "en-Qaai-276",
+        "en-Zinh-DE M",
+    ),
+    ("letters DD DE", "en-DD", "en-DE M"),
+    ("letters 150 DE", "en-150", "en-150 U"),
+    ("former SU RU+AM", "hy-SU", "hy-AM M"),
+    ("former SU RU+AM", "en-SU", "en-RU M"),
+    ("former SU ", "en-SU", "en-SU U"),
+    (
+        "variant polytoni polyton",
+        "el-polyton-polytoni",
+        "el-polyton M",
+    ),
+    (
+        "variants und heploc-hepburn und-alalc97",
+        "ja-Latn-fonipa-hepburn-heploc",
+        "ja-Latn-alalc97-fonipa M",
+    ),
+    (
+        "variants und heploc-hepburn und-alalc97",
+        "ja-hepburn",
+        "ja-hepburn U",
+    ),
+    (
+        "variants und fonipa-hepburn und-alalc97-posix",
+        "ja-1996-fonipa-hepburn-posix",
+        "ja-1996-alalc97-posix M",
+    ),
+    (
+        "variants ja heploc-hepburn-hepburn ja-alalc97",
+        "ja-hepburn-heploc",
+        "ja-alalc97 M",
+    ),
+    ("variants und  und-alalc97", "ja-hepburn", "ja-hepburn U"),
+    (
+        "variants und Hepburn und-alalc97",
+        "ja-hepburn",
+        "ja-hepburn U",
+    ),
+    ("variants und abc und-alalc97", "ja-hepburn", "ja-hepburn U"),
+    ("language ja ja", "ja-fonipa", "ja-fonipa U"),
+];
 
-fn others(rt: &impl Abort, alloc: Global, e: &LocaleExpander<'_>) -> Result<(), Fail> {
-    let scripts = [Row::Script("Qaai", "Zinh"), Row::Digits("276", "DE")];
-    calls(rt, alloc, e, &scripts, &[("en-Qaai-276", "en-Zinh-DE M")])?;
-    calls(
-        rt,
-        alloc,
-        e,
-        &[Row::Former("SU", "RU AM")],
-        &[("hy-SU", "hy-AM M"), ("en-SU", "en-RU M")],
-    )?;
-    calls(
-        rt,
-        alloc,
-        e,
-        &[Row::Former("SU", "")],
-        &[("en-SU", "en-SU U")],
-    )?;
-    calls(
-        rt,
-        alloc,
-        e,
-        &[Row::Variant("polytoni", "polyton")],
-        &[("el-polyton-polytoni", "el-polyton M")],
-    )?;
-    calls(
-        rt,
-        alloc,
-        e,
-        &[Row::Letters("150", "DE")],
-        &[("en-150", "en-150 U")],
-    )?;
-    calls(rt, alloc, e, &[Row::Two("gsg", "de")], &[("gsg", "gsg U")])
-}
+// Rows that come to no end.
+const CYCLES: [(&str, &str, &str); 13] = [
+    ("two aa bb;two bb aa;two sh sr-Latn", "aa", "aa again aa"),
+    ("two aa bb;two bb cc;two cc bb", "aa", "aa again bb"),
+    ("two aa aa", "aa", "aa again aa"),
+    ("two aa aa-Latn-fonipa", "aa", "aa again aa-Latn"),
+    (
+        "two aa bb;two bb cc;two cc dd;two dd bb",
+        "aa",
+        "aa again bb",
+    ),
+    (
+        "two aa bb;two bb cc;two cc dd;two dd bb",
+        "cc",
+        "cc again cc",
+    ),
+    (
+        "variants ja hepburn ja-heploc;variants ja heploc ja-hepburn",
+        "ja-fonipa-hepburn",
+        "ja-fonipa-hepburn again ja-fonipa-hepburn",
+    ),
+    ("language ja ja", "ja", "ja again ja"),
+    ("language und xx-Latn", "en", "en again en-Latn"),
+    ("language und xx-Latn", "und", "und again xx-Latn"),
+    ("former SU SU", "en-SU", "en-SU again en-SU"),
+    (
+        "variant polytoni polyton;variant polyton polytoni",
+        "el-polyton",
+        "el-polyton again el-polyton",
+    ),
+    (
+        "variant polytoni polyton;variant polyton polytoni",
+        "el-polyton-polytoni",
+        "el-polyton-polytoni again el-polyton-polytoni",
+    ),
+];
 
-fn variants(rt: &impl Abort, alloc: Global, e: &LocaleExpander<'_>) -> Result<(), Fail> {
-    calls(
-        rt,
-        alloc,
-        e,
-        &[Row::Variants("und", "heploc-hepburn", "und-alalc97")],
-        &[
-            ("ja-Latn-fonipa-hepburn-heploc", "ja-Latn-alalc97-fonipa M"),
-            ("ja-hepburn", "ja-hepburn U"),
-        ],
-    )?;
-    calls(
-        rt,
-        alloc,
-        e,
-        &[Row::Variants("und", "fonipa-hepburn", "und-alalc97-posix")],
-        &[("ja-1996-fonipa-hepburn-posix", "ja-1996-alalc97-posix M")],
-    )?;
-    calls(
-        rt,
-        alloc,
-        e,
-        &[Row::Variants("ja", "heploc-hepburn-hepburn", "ja-alalc97")],
-        &[("ja-hepburn-heploc", "ja-alalc97 M")],
-    )?;
-    calls(
-        rt,
-        alloc,
-        e,
-        &[Row::Variants("und", "", "und-alalc97")],
-        &[("ja-hepburn", "ja-hepburn U")],
-    )?;
-    calls(
-        rt,
-        alloc,
-        e,
-        &[Row::Variants("und", "Hepburn", "und-alalc97")],
-        &[("ja-hepburn", "ja-hepburn U")],
-    )?;
-    calls(
-        rt,
-        alloc,
-        e,
-        &[Row::Variants("und", "abc", "und-alalc97")],
-        &[("ja-hepburn", "ja-hepburn U")],
-    )
+fn calls(
+    rt: &impl Abort,
+    alloc: Global,
+    expander: &LocaleExpander<'_>,
+    cases: &[(&str, &str, &str)],
+) -> Result<(), Fail> {
+    for (rows, from, want) in cases {
+        call_over(rt, alloc, expander, rows, (from, want))?;
+    }
+    Ok(())
 }
 
 #[test]
 fn canonical_forms(rt: HostRuntime) -> Result<(), Fail> {
     let tables = sample(rt.alloc())?;
     let expander = of_sample(&tables)?;
-    languages(&rt, rt.alloc(), &expander)?;
-    others(&rt, rt.alloc(), &expander)?;
-    variants(&rt, rt.alloc(), &expander)
-}
-
-fn cycles_of_languages(rt: &impl Abort, alloc: Global, e: &LocaleExpander<'_>) -> Result<(), Fail> {
-    let of_two = [
-        Row::Two("aa", "bb"),
-        Row::Two("bb", "aa"),
-        Row::Two("sh", "sr-Latn"),
-    ];
-    calls(rt, alloc, e, &of_two, &[("aa", "aa again aa")])?;
-    let after_one = [
-        Row::Two("aa", "bb"),
-        Row::Two("bb", "cc"),
-        Row::Two("cc", "bb"),
-    ];
-    calls(rt, alloc, e, &after_one, &[("aa", "aa again bb")])?;
-    calls(
-        rt,
-        alloc,
-        e,
-        &[Row::Two("aa", "aa")],
-        &[("aa", "aa again aa")],
-    )?;
-    calls(
-        rt,
-        alloc,
-        e,
-        &[Row::Two("aa", "aa-Latn-fonipa")],
-        &[("aa", "aa again aa-Latn")],
-    )?;
-    let of_three = [
-        Row::Two("aa", "bb"),
-        Row::Two("bb", "cc"),
-        Row::Two("cc", "dd"),
-        Row::Two("dd", "bb"),
-    ];
-    calls(
-        rt,
-        alloc,
-        e,
-        &of_three,
-        &[("aa", "aa again bb"), ("cc", "cc again cc")],
-    )
-}
-
-fn cycles_of_others(rt: &impl Abort, alloc: Global, e: &LocaleExpander<'_>) -> Result<(), Fail> {
-    let of_variants = [
-        Row::Variants("ja", "hepburn", "ja-heploc"),
-        Row::Variants("ja", "heploc", "ja-hepburn"),
-    ];
-    calls(
-        rt,
-        alloc,
-        e,
-        &of_variants,
-        &[(
-            "ja-fonipa-hepburn",
-            "ja-fonipa-hepburn again ja-fonipa-hepburn",
-        )],
-    )?;
-    calls(
-        rt,
-        alloc,
-        e,
-        &[Row::Language("ja", "ja")],
-        &[("ja", "ja again ja"), ("ja-fonipa", "ja-fonipa U")],
-    )?;
-    calls(
-        rt,
-        alloc,
-        e,
-        &[Row::Language("und", "xx-Latn")],
-        &[("en", "en again en-Latn"), ("und", "und again xx-Latn")],
-    )?;
-    calls(
-        rt,
-        alloc,
-        e,
-        &[Row::Former("SU", "SU")],
-        &[("en-SU", "en-SU again en-SU")],
-    )?;
-    let exchanged = [
-        Row::Variant("polytoni", "polyton"),
-        Row::Variant("polyton", "polytoni"),
-    ];
-    calls(
-        rt,
-        alloc,
-        e,
-        &exchanged,
-        &[
-            ("el-polyton", "el-polyton again el-polyton"),
-            (
-                "el-polyton-polytoni",
-                "el-polyton-polytoni again el-polyton-polytoni",
-            ),
-        ],
-    )
+    calls(&rt, rt.alloc(), &expander, &CANONICAL_FORMS)
 }
 
 #[test]
 fn rules_without_end(rt: HostRuntime) -> Result<(), Fail> {
     let tables = sample(rt.alloc())?;
     let expander = of_sample(&tables)?;
-    cycles_of_languages(&rt, rt.alloc(), &expander)?;
-    cycles_of_others(&rt, rt.alloc(), &expander)
+    calls(&rt, rt.alloc(), &expander, &CYCLES)
+}
+
+// A transform language, or none for the empty text.
+fn transform(alloc: Global, text: &str) -> Result<Option<LanguageIdentifier>, Fail> {
+    if text.is_empty() {
+        return Ok(None);
+    }
+    Ok(Some(LanguageIdentifier::try_from_str(alloc, text)?))
 }
 
 // What is left of an identifier and a transform language.
@@ -417,17 +288,21 @@ fn transformed(
     want: (&str, &str),
 ) -> Result<(), Fail> {
     let mut locale = Locale::new(alloc, LanguageIdentifier::try_from_str(alloc, from.0)?);
-    locale.extensions.transform.lang = Some(LanguageIdentifier::try_from_str(alloc, from.1)?);
+    locale.extensions.transform.lang = transform(alloc, from.1)?;
     let answer = canonicalizer.canonicalize_counted(&mut locale, &mut Turns::new());
     let left = told(alloc, &answer, &locale.id)?;
     assert_eq!(rt; left.as_str(), want.0);
-    let Some(lang) = &locale.extensions.transform.lang else {
-        return Ok(());
-    };
-    let lang = format!(in alloc; "{lang}")?;
-    assert_eq!(rt; lang.as_str(), want.1);
+    let wanted = transform(alloc, want.1)?;
+    assert!(rt; locale.extensions.transform.lang == wanted);
     Ok(())
 }
+
+// An identifier and a transform language, and what becomes of them.
+const TRANSFORMS: [(&str, &str, &str, &str); 3] = [
+    ("en", "aa", "en again bb", "aa"),
+    ("sh", "aa", "sh again bb", "aa"),
+    ("en", "sh", "en M", "sr-Latn"),
+];
 
 fn languages_of_transforms(
     rt: &impl Abort,
@@ -436,30 +311,13 @@ fn languages_of_transforms(
 ) -> Result<(), Fail> {
     let table = aliases(
         alloc,
-        &[
-            Row::Two("aa", "bb"),
-            Row::Two("bb", "cc"),
-            Row::Two("cc", "dd"),
-            Row::Two("dd", "bb"),
-            Row::Two("sh", "sr-Latn"),
-        ],
+        "two aa bb;two bb cc;two cc dd;two dd bb;two sh sr-Latn",
     )?;
     let canonicalizer = LocaleCanonicalizer::new_with_expander(alloc, &table, *e)?;
-    transformed(
-        rt,
-        alloc,
-        &canonicalizer,
-        ("en", "aa"),
-        ("en again bb", "aa"),
-    )?;
-    transformed(
-        rt,
-        alloc,
-        &canonicalizer,
-        ("sh", "aa"),
-        ("sh again bb", "aa"),
-    )?;
-    transformed(rt, alloc, &canonicalizer, ("en", "sh"), ("en M", "sr-Latn"))
+    for (id, lang, want, want_lang) in TRANSFORMS {
+        transformed(rt, alloc, &canonicalizer, (id, lang), (want, want_lang))?;
+    }
+    Ok(())
 }
 
 // What a value at `rg` becomes.
@@ -490,7 +348,7 @@ fn subdivision(
 }
 
 fn subdivisions(rt: &impl Abort, alloc: Global, e: &LocaleExpander<'_>) -> Result<(), Fail> {
-    let table = aliases(alloc, &[Row::Subdivision("abcdefg", "xyz")])?;
+    let table = aliases(alloc, "subdivision abcdefg xyz")?;
     let canonicalizer = LocaleCanonicalizer::new_with_expander(alloc, &table, *e)?;
     subdivision(rt, alloc, &canonicalizer, "abcdefgz", ("en U", "abcdefgz"))?;
     subdivision(rt, alloc, &canonicalizer, "abcdefg", ("en M", "xyz"))
@@ -502,14 +360,6 @@ fn extensions(rt: HostRuntime) -> Result<(), Fail> {
     let expander = of_sample(&tables)?;
     languages_of_transforms(&rt, rt.alloc(), &expander)?;
     subdivisions(&rt, rt.alloc(), &expander)
-}
-
-// A transform language, or none for the empty text.
-fn transform(alloc: Global, text: &str) -> Result<Option<LanguageIdentifier>, Fail> {
-    if text.is_empty() {
-        return Ok(None);
-    }
-    Ok(Some(LanguageIdentifier::try_from_str(alloc, text)?))
 }
 
 // What a call answers while no memory is left.
@@ -539,54 +389,52 @@ fn starved_call(
     Ok(())
 }
 
-fn starved_ends(rt: &impl Abort, alloc: Global, e: &LocaleExpander<'_>) -> Result<(), Fail> {
-    let table = aliases(
-        alloc,
-        &[
-            Row::Two("sh", "sr-Latn"),
-            Row::Two("aa", "bb"),
-            Row::Two("bb", "cc"),
-            Row::Script("Qaai", "Zinh"),
-            Row::Digits("276", "DE"),
-        ],
-    )?;
-    let canonicalizer = LocaleCanonicalizer::new_with_expander(alloc, &table, *e)?;
-    starved_call(rt, alloc, &canonicalizer, ("sh", ""), "sr-Latn M")?;
-    starved_call(rt, alloc, &canonicalizer, ("sh-Cyrl", ""), "sr-Cyrl M")?;
-    starved_call(rt, alloc, &canonicalizer, ("aa", ""), "cc M")?;
-    starved_call(
-        rt,
-        alloc,
-        &canonicalizer,
-        ("en-Qaai-276", ""),
-        "en-Zinh-DE M",
-    )
-}
+const STARVED_ENDS: [(&str, &str, &str); 4] = [
+    ("sh", "", "sr-Latn M"),
+    ("sh-Cyrl", "", "sr-Cyrl M"),
+    ("aa", "", "cc M"),
+    ("en-Qaai-276", "", "en-Zinh-DE M"),
+];
 
-fn starved_cycles(rt: &impl Abort, alloc: Global, e: &LocaleExpander<'_>) -> Result<(), Fail> {
-    let table = aliases(
-        alloc,
-        &[
-            Row::Two("aa", "bb"),
-            Row::Two("bb", "aa"),
-            Row::Two("sh", "sr-Latn"),
-            Row::Two("xx", "yy"),
-            Row::Two("yy", "zz"),
-            Row::Two("zz", "yy"),
-        ],
-    )?;
+const STARVED_CYCLES: [(&str, &str, &str); 3] = [
+    ("aa", "", "aa again aa"),
+    ("sh", "aa", "sh again aa"),
+    ("xx", "", "xx again yy"),
+];
+
+fn starved_calls(
+    rt: &impl Abort,
+    alloc: Global,
+    e: &LocaleExpander<'_>,
+    rows: &str,
+    cases: &[(&str, &str, &str)],
+) -> Result<(), Fail> {
+    let table = aliases(alloc, rows)?;
     let canonicalizer = LocaleCanonicalizer::new_with_expander(alloc, &table, *e)?;
-    starved_call(rt, alloc, &canonicalizer, ("aa", ""), "aa again aa")?;
-    starved_call(rt, alloc, &canonicalizer, ("sh", "aa"), "sh again aa")?;
-    starved_call(rt, alloc, &canonicalizer, ("xx", ""), "xx again yy")
+    for (id, lang, want) in cases {
+        starved_call(rt, alloc, &canonicalizer, (id, lang), want)?;
+    }
+    Ok(())
 }
 
 #[test]
 fn no_memory_is_left(rt: HostRuntime) -> Result<(), Fail> {
     let tables = sample(rt.alloc())?;
     let expander = of_sample(&tables)?;
-    starved_ends(&rt, rt.alloc(), &expander)?;
-    starved_cycles(&rt, rt.alloc(), &expander)
+    starved_calls(
+        &rt,
+        rt.alloc(),
+        &expander,
+        "two sh sr-Latn;two aa bb;two bb cc;script Qaai Zinh;digits 276 DE",
+        &STARVED_ENDS,
+    )?;
+    starved_calls(
+        &rt,
+        rt.alloc(),
+        &expander,
+        "two aa bb;two bb aa;two sh sr-Latn;two xx yy;two yy zz;two zz yy",
+        &STARVED_CYCLES,
+    )
 }
 
 fn made_of_a_provider(rt: &impl Abort, alloc: Global, tables: &Tables) -> Result<(), Fail> {
@@ -602,10 +450,24 @@ fn made_of_tables(rt: &impl Abort, alloc: Global, tables: &Tables) -> Result<(),
     one_call(rt, alloc, &canonicalizer, ("hy-SU", "hy-AM M"))
 }
 
-fn made_of_all_tables(rt: &impl Abort, alloc: Global, tables: &mut Tables) -> Result<(), Fail> {
-    tables.set_likely_extended(LikelySubtagsExtended::new(alloc));
-    let canonicalizer = LocaleCanonicalizer::try_new_extended_unstable(alloc, &*tables)?;
+fn made_of_all_of_a_provider(rt: &impl Abort, alloc: Global, tables: &Tables) -> Result<(), Fail> {
+    let canonicalizer = LocaleCanonicalizer::try_new_extended_unstable(alloc, tables)?;
     one_call(rt, alloc, &canonicalizer, ("en-SU", "en-RU M"))
+}
+
+fn made_of_all_tables(rt: &impl Abort, alloc: Global, tables: &Tables) -> Result<(), Fail> {
+    let language = tables.load_likely_language()?;
+    let script_region = tables.load_likely_script_region()?;
+    let extended = tables.load_likely_extended()?;
+    let aliases = tables.load_aliases()?;
+    let canonicalizer = LocaleCanonicalizer::new_extended(
+        alloc,
+        language,
+        script_region,
+        extended,
+        aliases,
+    )?;
+    one_call(rt, alloc, &canonicalizer, ("hy-SU", "hy-AM M"))
 }
 
 fn over_a_lent_expander(rt: &impl Abort, alloc: Global, tables: &Tables) -> Result<(), Fail> {
@@ -626,7 +488,9 @@ fn each_constructor(rt: HostRuntime) -> Result<(), Fail> {
     made_of_a_provider(&rt, rt.alloc(), &tables)?;
     made_of_tables(&rt, rt.alloc(), &tables)?;
     over_a_lent_expander(&rt, rt.alloc(), &tables)?;
-    made_of_all_tables(&rt, rt.alloc(), &mut tables)
+    tables.set_likely_extended(LikelySubtagsExtended::new(rt.alloc()));
+    made_of_all_of_a_provider(&rt, rt.alloc(), &tables)?;
+    made_of_all_tables(&rt, rt.alloc(), &tables)
 }
 
 // What one turn makes of an identifier.

@@ -1,7 +1,7 @@
 //! Maximal and minimal forms, and likely scripts.
 use crate::sample::sample;
 use icu_locale::{LocaleExpander, TransformResult};
-use icu_locale_core::{Language, LanguageIdentifier, Region, Script};
+use icu_locale_core::{Language, LanguageIdentifier, ParseError, Region, Script};
 use icu_provider::{LikelySubtagsExtended, LikelySubtagsForLanguage, LikelySubtagsForScriptRegion};
 use std::alloc::Global;
 use std::process::Abort;
@@ -118,6 +118,28 @@ fn minimal_forms_over_the_sample(rt: HostRuntime) -> Result<(), Fail> {
     let tables = sample(rt.alloc())?;
     let expander = LocaleExpander::try_new_common_unstable(&tables)?;
     are_minimal_forms(&rt, rt.alloc(), &expander)
+}
+
+// The worked example of the README.
+fn shortest(
+    alloc: Global,
+    expander: &LocaleExpander<'_>,
+    text: &str,
+) -> Result<String, ParseError> {
+    let mut id = LanguageIdentifier::try_from_str(alloc, text)?;
+    let _ = expander.minimize(&mut id);
+    format!(in alloc; "{id}").map_err(|_| ParseError::Memory)
+}
+
+#[test]
+fn the_worked_example(rt: HostRuntime) -> Result<(), Fail> {
+    let tables = sample(rt.alloc())?;
+    let expander = LocaleExpander::try_new_common_unstable(&tables)?;
+    for (text, want) in [("zh-Hans-CN", "zh"), ("yue-Hans", "yue-CN")] {
+        let found = shortest(rt.alloc(), &expander, text)?;
+        assert_eq!(rt; found.as_str(), want);
+    }
+    Ok(())
 }
 
 const LIKELY_SCRIPTS: [(&str, &str); 11] = [

@@ -1,13 +1,14 @@
 //! A small world, searched through: three languages, scripts and regions, the unknown ones among them.
 ghost use Rattle.std.specs.Prelude.{◌<◌};
 
+use crate::tests::plain::{Key, Row, Triple, plain_maximal, push_all, push_und};
 use icu_locale::LocaleExpander;
 use icu_locale_core::{Language, LanguageIdentifier, Region, Script, Variants};
 use icu_provider::{
     DataError, DataErrorKind, LikelySubtagsExtended, LikelySubtagsForLanguage,
     LikelySubtagsForScriptRegion,
 };
-use std::alloc::Global;
+use std::alloc::{AllocError, Global};
 use std::test::Fail;
 
 #[derive(Drop)]
@@ -129,136 +130,123 @@ impl Numbers {
         world.regions[self.below_three()]
     }
 
-    // Whether a row is there: one of three.
-    fn is_there(&mut self) -> bool {
-        self.below_three() == 0
+    fn triple(&mut self, world: &World) -> Triple {
+        (self.language(world), self.script(world), self.region(world))
     }
 
-    fn by_language(
-        &mut self,
-        alloc: Global,
-        world: &World,
-    ) -> Result<LikelySubtagsForLanguage, DataError> {
-        let und = (self.language(world), self.script(world), self.region(world));
-        let mut table = LikelySubtagsForLanguage::new(alloc, und);
-        for _ in 0..3 {
-            if self.is_there() {
-                table.insert_language(
-                    self.language(world),
-                    self.script(world),
-                    self.region(world),
-                )?;
-            }
-            if self.is_there() {
-                table.insert_language_script(
-                    self.language(world),
-                    self.script(world),
-                    self.region(world),
-                )?;
-            }
-            if self.is_there() {
-                table.insert_language_region(
-                    self.language(world),
-                    self.region(world),
-                    self.script(world),
-                )?;
-            }
+    fn key(&mut self) -> Key {
+        match (self.below_three(), self.below_three()) {
+            (0, 0) => Key::LanguageRegion,
+            (0, _) => Key::ScriptRegion,
+            (1, 0) => Key::LanguageScript,
+            (1, _) => Key::Script,
+            (_, 0) => Key::Region,
+            _ => Key::Language,
         }
-        Ok(table)
     }
 
-    fn by_script_region(
-        &mut self,
-        alloc: Global,
-        world: &World,
-    ) -> Result<LikelySubtagsForScriptRegion, DataError> {
-        let mut table = LikelySubtagsForScriptRegion::new(alloc);
-        for _ in 0..3 {
-            if self.is_there() {
-                table.insert_script_region(
-                    self.script(world),
-                    self.region(world),
-                    self.language(world),
-                )?;
-            }
-            if self.is_there() {
-                table.insert_script(self.script(world), self.language(world), self.region(world))?;
-            }
-            if self.is_there() {
-                table.insert_region(self.region(world), self.language(world), self.script(world))?;
-            }
+    // So many rows of any kind.
+    fn rows(&mut self, alloc: Global, world: &World, count: usize) -> Result<Vec<Row>, AllocError> {
+        let mut rows = Vec::new(alloc);
+        for _ in 0..count {
+            let key = self.key();
+            rows.push(Row {
+                key,
+                triple: self.triple(world),
+            })?;
         }
-        Ok(table)
-    }
-
-    fn extended(
-        &mut self,
-        alloc: Global,
-        world: &World,
-    ) -> Result<LikelySubtagsExtended, DataError> {
-        let mut table = LikelySubtagsExtended::new(alloc);
-        for _ in 0..2 {
-            if self.is_there() {
-                table.insert_language(
-                    self.language(world),
-                    self.script(world),
-                    self.region(world),
-                )?;
-            }
-            if self.is_there() {
-                table.insert_language_region(
-                    self.language(world),
-                    self.region(world),
-                    self.script(world),
-                )?;
-            }
-            if self.is_there() {
-                table.insert_script(self.script(world), self.language(world), self.region(world))?;
-            }
-            if self.is_there() {
-                table.insert_region(self.region(world), self.language(world), self.script(world))?;
-            }
-        }
-        Ok(table)
+        Ok(rows)
     }
 }
 
-fn maximal(
-    expander: &LocaleExpander<'_>,
-    identifier: &LanguageIdentifier,
-) -> Result<LanguageIdentifier, Fail> {
-    let mut copy = identifier.try_clone()?;
-    let _ = expander.maximize(&mut copy);
-    Ok(copy)
+// The rows of the next tables.
+#[derive(Drop)]
+struct Next {
+    und: Triple,
+    extended: Vec<Row>,
+    common: Vec<Row>,
+}
+
+impl Next {
+    fn new(alloc: Global, numbers: &mut Numbers, world: &World) -> Result<Next, AllocError> {
+        Ok(Next {
+            und: numbers.triple(world),
+            extended: numbers.rows(alloc, world, 5)?,
+            common: numbers.rows(alloc, world, 8)?,
+        })
+    }
+
+    // The tables with the common rows.
+    fn common(
+        &self,
+        alloc: Global,
+    ) -> Result<(LikelySubtagsForLanguage, LikelySubtagsForScriptRegion), DataError> {
+        let mut language = LikelySubtagsForLanguage::new(alloc, self.und);
+        let mut script_region = LikelySubtagsForScriptRegion::new(alloc);
+        for row in &self.common {
+            row.put_common(&mut language, &mut script_region)?;
+        }
+        Ok((language, script_region))
+    }
+
+    // The table with the extended rows.
+    fn extended(&self, alloc: Global) -> Result<LikelySubtagsExtended, DataError> {
+        let mut extended = LikelySubtagsExtended::new(alloc);
+        for row in &self.extended {
+            row.put_extended(&mut extended)?;
+        }
+        Ok(extended)
+    }
+
+    // The rows of `und`, then those that cover them.
+    fn und_and(&self, alloc: Global, rows: &[Row]) -> Result<Vec<Row>, AllocError> {
+        let mut all = Vec::new(alloc);
+        push_und(&mut all, &self.und)?;
+        push_all(&mut all, rows)?;
+        push_all(&mut all, &self.common)?;
+        Ok(all)
+    }
+}
+
+// The maximal forms of all identifiers of the world, by a plain walk over the rows.
+fn plain_forms(
+    alloc: Global,
+    rows: &[Row],
+    all: &[LanguageIdentifier],
+) -> Result<Vec<LanguageIdentifier>, AllocError> {
+    let mut forms = Vec::new(alloc);
+    for identifier in all {
+        forms.push(plain_maximal(alloc, rows, identifier))?;
+    }
+    Ok(forms)
 }
 
 // Whether the maximal form of every identifier is bare and its own maximal form, by looking at each.
 fn is_settled_by_search(
-    expander: &LocaleExpander<'_>,
+    alloc: Global,
+    rows: &[Row],
     world: &World,
-    all: &[LanguageIdentifier],
-) -> Result<bool, Fail> {
-    for identifier in all {
-        let form = maximal(expander, identifier)?;
+    forms: &[LanguageIdentifier],
+) -> bool {
+    for form in forms {
         let bare = form.script != Some(world.scripts[0]) && form.region != Some(world.regions[0]);
-        if !bare || maximal(expander, &form)? != form {
-            return Ok(false);
+        if !bare || plain_maximal(alloc, rows, form) != *form {
+            return false;
         }
     }
-    Ok(true)
+    true
 }
 
 // The shortest identifier with the language of the maximal form and the same maximal form, or the maximal form.
-fn minimal_by_search(
-    expander: &LocaleExpander<'_>,
-    identifier: &LanguageIdentifier,
-    all: &[LanguageIdentifier],
+fn minimal_by_search<'a>(
+    form: &'a LanguageIdentifier,
+    all: &'a [LanguageIdentifier],
+    forms: &[LanguageIdentifier],
     favors_region: bool,
-) -> Result<LanguageIdentifier, Fail> {
-    let form = maximal(expander, identifier)?;
-    let mut least: Option<&LanguageIdentifier> = None;
-    for candidate in all {
-        if candidate.language == form.language && maximal(expander, candidate)? == form {
+) -> &'a LanguageIdentifier {
+    let mut least = None;
+    for (candidate, other_form) in all.iter().zip(forms) {
+        if candidate.language == form.language && other_form == form {
             let comes_first = match least {
                 None => true,
                 Some(other) => precedes(candidate, other, favors_region),
@@ -269,8 +257,8 @@ fn minimal_by_search(
         }
     }
     match least {
-        Some(found) => Ok(found.try_clone()?),
-        None => Ok(form),
+        Some(found) => found,
+        None => form,
     }
 }
 
@@ -285,32 +273,40 @@ fn precedes(a: &LanguageIdentifier, b: &LanguageIdentifier, favors_region: bool)
     count(a) < count(b) || (count(a) == count(b) && favored(a) && !favored(b))
 }
 
-// Whether the minimal forms of an identifier are those that a search finds.
-fn is_minimized(
+// Whether an expander takes an identifier to its maximal form and to the minimal forms that a search finds.
+fn is_as_found(
     expander: &LocaleExpander<'_>,
     identifier: &LanguageIdentifier,
+    form: &LanguageIdentifier,
     all: &[LanguageIdentifier],
+    forms: &[LanguageIdentifier],
 ) -> Result<bool, Fail> {
+    let mut maximal = identifier.try_clone()?;
+    let _ = expander.maximize(&mut maximal);
     let mut by_region = identifier.try_clone()?;
     let _ = expander.minimize(&mut by_region);
     let mut by_script = identifier.try_clone()?;
     let _ = expander.minimize_favor_script(&mut by_script);
     Ok(
-        by_region == minimal_by_search(expander, identifier, all, true)?
-            && by_script == minimal_by_search(expander, identifier, all, false)?,
+        maximal == *form
+            && by_region == *minimal_by_search(form, all, forms, true)
+            && by_script == *minimal_by_search(form, all, forms, false),
     )
 }
 
-// Whether an expander answers as a search does, and whether its table is settled.
+// Whether an expander answers as a search over its rows does, and whether its table is settled.
 fn agrees(
+    alloc: Global,
     expander: &LocaleExpander<'_>,
+    rows: &[Row],
     world: &World,
     all: &[LanguageIdentifier],
 ) -> Result<(bool, bool), Fail> {
+    let forms = plain_forms(alloc, rows, all)?;
     let settled = expander.is_settled();
-    let mut agreed = settled == is_settled_by_search(expander, world, all)?;
-    for identifier in all {
-        agreed &= is_minimized(expander, identifier, all)?;
+    let mut agreed = settled == is_settled_by_search(alloc, rows, world, &forms);
+    for (identifier, form) in all.iter().zip(&forms) {
+        agreed &= is_as_found(expander, identifier, form, all, &forms)?;
     }
     Ok((agreed, settled))
 }
@@ -322,16 +318,20 @@ fn next_tables_agree(
     world: &World,
     all: &[LanguageIdentifier],
 ) -> Result<((bool, bool), (bool, bool)), Fail> {
-    let language = numbers.by_language(alloc, world)?;
-    let script_region = numbers.by_script_region(alloc, world)?;
-    let extended = numbers.extended(alloc, world)?;
+    let next = Next::new(alloc, numbers, world)?;
+    let (language, script_region) = next.common(alloc)?;
+    let extended = next.extended(alloc)?;
     let common = agrees(
+        alloc,
         &LocaleExpander::new_common(&language, &script_region),
+        &next.und_and(alloc, &[])?,
         world,
         all,
     )?;
     let whole = agrees(
+        alloc,
         &LocaleExpander::new_extended(&language, &script_region, &extended),
+        &next.und_and(alloc, &next.extended)?,
         world,
         all,
     )?;

@@ -1,8 +1,9 @@
 //! Further likely subtags.
-ghost use Rattle.std.specs.Prelude.{◌≡◌, [], IsSome, IsOk, IfErr, OnOk, OnErr};
+ghost use Rattle.std.specs.Prelude.{◌≡◌, [], Some, IsSome, IsOk, IfErr, OnOk, OnErr};
 ghost use Rattle.std.specs.BTreeMap.{insert_entry};
 ghost use Rattle.icu_locale_core.specs.TextSet.{text_cmp};
-ghost use Rattle.icu_provider.specs.Maps.{IsSortedMap, SetsOnly, value_at, pair_cmp};
+ghost use Rattle.icu_locale_core.specs.Maps.{SetsOnly, value_at};
+ghost use Rattle.icu_provider.specs.Maps.{IsSortedMap, pair_cmp};
 
 use crate::{DataError, DataErrorKind, Rows, SortedMap};
 use icu_locale_core::{Language, Region, Script};
@@ -52,7 +53,7 @@ impl LikelySubtagsExtended {
         region: Region,
     ) -> Result<(), DataError>
         ensures ok { OnOk result (self.new ≡ record self.old { language = insert_entry text_cmp self.old.language language (script, region) }) }
-        ensures sets { OnOk result (SetsOnly text_cmp self.old.language self.new.language language (script, region)) }
+        ensures sets { OnOk result (SetsOnly text_cmp self.old.language self.new.language language (Some (script, region))) }
         ensures err { OnErr result (self.new ≡ self.old) }
         ensures refused { IfErr result (λ e. e.kind ≡ DataErrorKind.Memory) }
         ensures present { IsSome (value_at text_cmp self.old.language language) → IsOk result }
@@ -87,7 +88,7 @@ impl LikelySubtagsExtended {
         region: Region,
     ) -> Result<(), DataError>
         ensures ok { OnOk result (self.new ≡ record self.old { language_script = insert_entry pair_cmp self.old.language_script (language, script) region }) }
-        ensures sets { OnOk result (SetsOnly pair_cmp self.old.language_script self.new.language_script (language, script) region) }
+        ensures sets { OnOk result (SetsOnly pair_cmp self.old.language_script self.new.language_script (language, script) (Some region)) }
         ensures err { OnErr result (self.new ≡ self.old) }
         ensures refused { IfErr result (λ e. e.kind ≡ DataErrorKind.Memory) }
         ensures present { IsSome (value_at pair_cmp self.old.language_script (language, script)) → IsOk result }
@@ -122,7 +123,7 @@ impl LikelySubtagsExtended {
         script: Script,
     ) -> Result<(), DataError>
         ensures ok { OnOk result (self.new ≡ record self.old { language_region = insert_entry pair_cmp self.old.language_region (language, region) script }) }
-        ensures sets { OnOk result (SetsOnly pair_cmp self.old.language_region self.new.language_region (language, region) script) }
+        ensures sets { OnOk result (SetsOnly pair_cmp self.old.language_region self.new.language_region (language, region) (Some script)) }
         ensures err { OnErr result (self.new ≡ self.old) }
         ensures refused { IfErr result (λ e. e.kind ≡ DataErrorKind.Memory) }
         ensures present { IsSome (value_at pair_cmp self.old.language_region (language, region)) → IsOk result }
@@ -157,7 +158,7 @@ impl LikelySubtagsExtended {
         language: Language,
     ) -> Result<(), DataError>
         ensures ok { OnOk result (self.new ≡ record self.old { script_region = insert_entry pair_cmp self.old.script_region (script, region) language }) }
-        ensures sets { OnOk result (SetsOnly pair_cmp self.old.script_region self.new.script_region (script, region) language) }
+        ensures sets { OnOk result (SetsOnly pair_cmp self.old.script_region self.new.script_region (script, region) (Some language)) }
         ensures err { OnErr result (self.new ≡ self.old) }
         ensures refused { IfErr result (λ e. e.kind ≡ DataErrorKind.Memory) }
         ensures present { IsSome (value_at pair_cmp self.old.script_region (script, region)) → IsOk result }
@@ -192,7 +193,7 @@ impl LikelySubtagsExtended {
         region: Region,
     ) -> Result<(), DataError>
         ensures ok { OnOk result (self.new ≡ record self.old { script = insert_entry text_cmp self.old.script script (language, region) }) }
-        ensures sets { OnOk result (SetsOnly text_cmp self.old.script self.new.script script (language, region)) }
+        ensures sets { OnOk result (SetsOnly text_cmp self.old.script self.new.script script (Some (language, region))) }
         ensures err { OnErr result (self.new ≡ self.old) }
         ensures refused { IfErr result (λ e. e.kind ≡ DataErrorKind.Memory) }
         ensures present { IsSome (value_at text_cmp self.old.script script) → IsOk result }
@@ -227,7 +228,7 @@ impl LikelySubtagsExtended {
         script: Script,
     ) -> Result<(), DataError>
         ensures ok { OnOk result (self.new ≡ record self.old { region = insert_entry text_cmp self.old.region region (language, script) }) }
-        ensures sets { OnOk result (SetsOnly text_cmp self.old.region self.new.region region (language, script)) }
+        ensures sets { OnOk result (SetsOnly text_cmp self.old.region self.new.region region (Some (language, script))) }
         ensures err { OnErr result (self.new ≡ self.old) }
         ensures refused { IfErr result (λ e. e.kind ≡ DataErrorKind.Memory) }
         ensures present { IsSome (value_at text_cmp self.old.region region) → IsOk result }

@@ -1,8 +1,9 @@
 //! Likely subtags by language.
-ghost use Rattle.std.specs.Prelude.{◌≡◌, [], IsSome, IsOk, IfErr, OnOk, OnErr};
+ghost use Rattle.std.specs.Prelude.{◌≡◌, [], Some, IsSome, IsOk, IfErr, OnOk, OnErr};
 ghost use Rattle.std.specs.BTreeMap.{insert_entry};
 ghost use Rattle.icu_locale_core.specs.TextSet.{text_cmp};
-ghost use Rattle.icu_provider.specs.Maps.{IsSortedMap, SetsOnly, value_at, pair_cmp};
+ghost use Rattle.icu_locale_core.specs.Maps.{SetsOnly, value_at};
+ghost use Rattle.icu_provider.specs.Maps.{IsSortedMap, pair_cmp};
 
 use crate::{DataError, DataErrorKind, Rows, SortedMap};
 use icu_locale_core::{Language, Region, Script};
@@ -53,7 +54,7 @@ impl LikelySubtagsForLanguage {
         region: Region,
     ) -> Result<(), DataError>
         ensures ok { OnOk result (self.new ≡ record self.old { language = insert_entry text_cmp self.old.language language (script, region) }) }
-        ensures sets { OnOk result (SetsOnly text_cmp self.old.language self.new.language language (script, region)) }
+        ensures sets { OnOk result (SetsOnly text_cmp self.old.language self.new.language language (Some (script, region))) }
         ensures err { OnErr result (self.new ≡ self.old) }
         ensures refused { IfErr result (λ e. e.kind ≡ DataErrorKind.Memory) }
         ensures present { IsSome (value_at text_cmp self.old.language language) → IsOk result }
@@ -88,7 +89,7 @@ impl LikelySubtagsForLanguage {
         region: Region,
     ) -> Result<(), DataError>
         ensures ok { OnOk result (self.new ≡ record self.old { language_script = insert_entry pair_cmp self.old.language_script (language, script) region }) }
-        ensures sets { OnOk result (SetsOnly pair_cmp self.old.language_script self.new.language_script (language, script) region) }
+        ensures sets { OnOk result (SetsOnly pair_cmp self.old.language_script self.new.language_script (language, script) (Some region)) }
         ensures err { OnErr result (self.new ≡ self.old) }
         ensures refused { IfErr result (λ e. e.kind ≡ DataErrorKind.Memory) }
         ensures present { IsSome (value_at pair_cmp self.old.language_script (language, script)) → IsOk result }
@@ -123,7 +124,7 @@ impl LikelySubtagsForLanguage {
         script: Script,
     ) -> Result<(), DataError>
         ensures ok { OnOk result (self.new ≡ record self.old { language_region = insert_entry pair_cmp self.old.language_region (language, region) script }) }
-        ensures sets { OnOk result (SetsOnly pair_cmp self.old.language_region self.new.language_region (language, region) script) }
+        ensures sets { OnOk result (SetsOnly pair_cmp self.old.language_region self.new.language_region (language, region) (Some script)) }
         ensures err { OnErr result (self.new ≡ self.old) }
         ensures refused { IfErr result (λ e. e.kind ≡ DataErrorKind.Memory) }
         ensures present { IsSome (value_at pair_cmp self.old.language_region (language, region)) → IsOk result }

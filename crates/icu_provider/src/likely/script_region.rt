@@ -1,8 +1,9 @@
 //! Likely subtags by script and region.
-ghost use Rattle.std.specs.Prelude.{◌≡◌, [], IsSome, IsOk, IfErr, OnOk, OnErr};
+ghost use Rattle.std.specs.Prelude.{◌≡◌, [], Some, IsSome, IsOk, IfErr, OnOk, OnErr};
 ghost use Rattle.std.specs.BTreeMap.{insert_entry};
 ghost use Rattle.icu_locale_core.specs.TextSet.{text_cmp};
-ghost use Rattle.icu_provider.specs.Maps.{IsSortedMap, SetsOnly, value_at, pair_cmp};
+ghost use Rattle.icu_locale_core.specs.Maps.{SetsOnly, value_at};
+ghost use Rattle.icu_provider.specs.Maps.{IsSortedMap, pair_cmp};
 
 use crate::{DataError, DataErrorKind, Rows, SortedMap};
 use icu_locale_core::{Language, Region, Script};
@@ -43,7 +44,7 @@ impl LikelySubtagsForScriptRegion {
         language: Language,
     ) -> Result<(), DataError>
         ensures ok { OnOk result (self.new ≡ record self.old { script_region = insert_entry pair_cmp self.old.script_region (script, region) language }) }
-        ensures sets { OnOk result (SetsOnly pair_cmp self.old.script_region self.new.script_region (script, region) language) }
+        ensures sets { OnOk result (SetsOnly pair_cmp self.old.script_region self.new.script_region (script, region) (Some language)) }
         ensures err { OnErr result (self.new ≡ self.old) }
         ensures refused { IfErr result (λ e. e.kind ≡ DataErrorKind.Memory) }
         ensures present { IsSome (value_at pair_cmp self.old.script_region (script, region)) → IsOk result }
@@ -78,7 +79,7 @@ impl LikelySubtagsForScriptRegion {
         region: Region,
     ) -> Result<(), DataError>
         ensures ok { OnOk result (self.new ≡ record self.old { script = insert_entry text_cmp self.old.script script (language, region) }) }
-        ensures sets { OnOk result (SetsOnly text_cmp self.old.script self.new.script script (language, region)) }
+        ensures sets { OnOk result (SetsOnly text_cmp self.old.script self.new.script script (Some (language, region))) }
         ensures err { OnErr result (self.new ≡ self.old) }
         ensures refused { IfErr result (λ e. e.kind ≡ DataErrorKind.Memory) }
         ensures present { IsSome (value_at text_cmp self.old.script script) → IsOk result }
@@ -113,7 +114,7 @@ impl LikelySubtagsForScriptRegion {
         script: Script,
     ) -> Result<(), DataError>
         ensures ok { OnOk result (self.new ≡ record self.old { region = insert_entry text_cmp self.old.region region (language, script) }) }
-        ensures sets { OnOk result (SetsOnly text_cmp self.old.region self.new.region region (language, script)) }
+        ensures sets { OnOk result (SetsOnly text_cmp self.old.region self.new.region region (Some (language, script))) }
         ensures err { OnErr result (self.new ≡ self.old) }
         ensures refused { IfErr result (λ e. e.kind ≡ DataErrorKind.Memory) }
         ensures present { IsSome (value_at text_cmp self.old.region region) → IsOk result }

@@ -1,4 +1,4 @@
-use Rattle.std.proofs.Common.{◌≡◌, ◌∷◌, List, ℕ, subst, sym, ap}
+use Rattle.std.proofs.Common.{subst}
 use Rattle.std.specs.Io.KnownBytes.{Appends}
 use Rattle.icu_locale_cli.specs.Output.{AppendsPart}
 use Rattle.icu_locale_cli.proofs.Progress.{Progress, Progress-more, WritesPart-from_part}

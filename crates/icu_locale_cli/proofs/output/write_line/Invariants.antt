@@ -1,6 +1,5 @@
 use Rattle.std.proofs.Common.{◌≡◌, ◌++◌, List, ℕ, length}
 use Rattle.std.specs.Io.KnownBytes.{Appends}
-use Rattle.icu_locale_cli.specs.Output.{AppendsPart}
 use Rattle.icu_locale_cli.proofs.output.write_line.Given as goal
 
 -- a beginning of the line is written, and the rest is left

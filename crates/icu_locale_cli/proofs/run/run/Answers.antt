@@ -1,8 +1,7 @@
-use Rattle.std.proofs.Common.{◌≡◌, refl, sym, subst, ap, Err, IfOk, rules}
+use Rattle.std.proofs.Common.{◌≡◌, refl, sym, subst, IfOk, rules}
 use Rattle.icu_locale_cli.specs.declared.command.Command.TheVariants.{Settled}
-use Rattle.icu_locale_cli.specs.declared.error.CliError.TheVariants.{Write, Memory}
 use Rattle.icu_locale_cli.specs.Runs.{WritesWholeLines, WritesPart}
-use Rattle.icu_locale_cli.specs.WholeRuns.{StopsAmongLines, IsRun}
+use Rattle.icu_locale_cli.specs.WholeRuns.{IsRun}
 use Rattle.icu_locale_cli.proofs.RunEnds.{settled_run, refused_among_lines}
 use Rattle.icu_locale_cli.proofs.run.run.Goals as goal
 

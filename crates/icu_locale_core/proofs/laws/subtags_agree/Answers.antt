@@ -12,3 +12,9 @@ returns-clause-regions c = texts_agree _
 
 pub returns-clause-variants : goal.returns-clause-variants
 returns-clause-variants c = texts_agree _
+
+pub returns-clause-keys : goal.returns-clause-keys
+returns-clause-keys c = texts_agree _
+
+pub returns-clause-subtags : goal.returns-clause-subtags
+returns-clause-subtags c = texts_agree _

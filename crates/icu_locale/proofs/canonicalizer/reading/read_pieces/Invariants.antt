@@ -1,4 +1,4 @@
-use Rattle.std.proofs.Common.{◌≡◌, true, map, take, List, ℕ}
+use Rattle.std.proofs.Common.{◌≡◌, true, map, take}
 use Rattle.std.specs.List.{list_all}
 use Rattle.icu_locale.specs.Rules.{is_lower_variant}
 use Rattle.icu_locale.proofs.canonicalizer.reading.read_pieces.Given as goal

@@ -1,5 +1,5 @@
-use Rattle.std.proofs.Common.{◌≡◌, ◌∙◌, sym, ap, Some, None}
-use Rattle.std.specs.Option.{option_map, option_or}
+use Rattle.std.proofs.Common.{◌≡◌, ◌∙◌, sym, ap, Some}
+use Rattle.std.specs.Option.{option_map}
 use Rattle.icu_locale_core.specs.TextSet.{empty}
 use Rattle.icu_locale.specs.Kinds.{language_alias}
 use Rattle.icu_locale.specs.Replacement.{replaced, of_language}

@@ -1,4 +1,4 @@
-use Rattle.std.proofs.Common.{◌≡◌, ◌∙◌, sym, ap, not, take, List, ℕ, IfOk, ◌++◌}
+use Rattle.std.proofs.Common.{◌≡◌, ◌∙◌, ap, not, take, ◌++◌}
 use Rattle.std.specs.List.{filter}
 use Rattle.std.proofs.lemmas.List.{take_all}
 use Rattle.std.proofs.lemmas.Result.{IfOk-weaker}

@@ -9,8 +9,8 @@ invariant_of-self g c = (inserts_at g.met.K.Ord.total _ c.args.key _ _ _ c.self.
 pub returns-in-Ok-clause-ok : goal.returns-in-Ok-clause-ok
 returns-in-Ok-clause-ok g c = rw (← c.self.view_is) (inserts_at g.met.K.Ord.total _ c.args.key _ _ _ c.self.invariant (rw c.self.view_is c.in-Ok.ensures) c.index_mut.ensures.value).rows
 
-pub returns-in-Ok-clause-updates : goal.returns-in-Ok-clause-updates
-returns-in-Ok-clause-updates g c = rw (← c.self.view_is) (inserts_at g.met.K.Ord.total _ c.args.key _ _ _ c.self.invariant (rw c.self.view_is c.in-Ok.ensures) c.index_mut.ensures.value).sets
+pub returns-in-Ok-clause-sets : goal.returns-in-Ok-clause-sets
+returns-in-Ok-clause-sets g c = rw (← c.self.view_is) (inserts_at g.met.K.Ord.total _ c.args.key _ _ _ c.self.invariant (rw c.self.view_is c.in-Ok.ensures) c.index_mut.ensures.value).sets
 
 -- the row is new
 pub invariant_of-self-in-Err : goal.invariant_of-self-in-Err
@@ -19,8 +19,8 @@ invariant_of-self-in-Err g c = rw c.in_ok-insert-in-Err.ensures.items (inserts_i
 pub returns-in_ok-insert-in-Err-clause-ok : goal.returns-in_ok-insert-in-Err-clause-ok
 returns-in_ok-insert-in-Err-clause-ok g c = rw (c.in_ok-insert-in-Err.ensures.items, ← c.self.view_is) (inserts_in_gap g.met.K.Ord.total _ c.args.key c.args.value c.in-Err.at c.self.invariant (rw c.self.view_is c.in-Err.ensures)).rows
 
-pub returns-in_ok-insert-in-Err-clause-updates : goal.returns-in_ok-insert-in-Err-clause-updates
-returns-in_ok-insert-in-Err-clause-updates g c = rw (c.in_ok-insert-in-Err.ensures.items, ← c.self.view_is) (inserts_in_gap g.met.K.Ord.total _ c.args.key c.args.value c.in-Err.at c.self.invariant (rw c.self.view_is c.in-Err.ensures)).sets
+pub returns-in_ok-insert-in-Err-clause-sets : goal.returns-in_ok-insert-in-Err-clause-sets
+returns-in_ok-insert-in-Err-clause-sets g c = rw (c.in_ok-insert-in-Err.ensures.items, ← c.self.view_is) (inserts_in_gap g.met.K.Ord.total _ c.args.key c.args.value c.in-Err.at c.self.invariant (rw c.self.view_is c.in-Err.ensures)).sets
 
 -- memory is refused only to a new row
 pub returns-in_err-insert-in-Err-clause-present : goal.returns-in_err-insert-in-Err-clause-present
