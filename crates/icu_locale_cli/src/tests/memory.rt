@@ -15,21 +15,26 @@ use std::test::Fail;
 // How many blocks are taken at the most.
 const MOST_BLOCKS: usize = 262_144;
 
-// Blocks that together leave no memory: ever smaller ones, each size until it is refused.
+// Blocks of one size, until one is refused.
+fn take_blocks(alloc: Global, held: &mut Vec<Vec<u8>>, size: usize) {
+    for _ in 0..MOST_BLOCKS {
+        match Vec::<u8>::with_capacity(alloc, size) {
+            Ok(block) => {
+                if held.len() == MOST_BLOCKS || held.push(block).is_err() {
+                    break;
+                }
+            }
+            Err(_) => break,
+        }
+    }
+}
+
+// Blocks that together leave no memory: ever smaller ones.
 pub fn take_all(alloc: Global) -> Result<Vec<Vec<u8>>, AllocError> {
     let mut held = Vec::with_capacity(alloc, MOST_BLOCKS)?;
     let mut size: usize = 1 << 44;
     for _ in 0..41 {
-        for _ in 0..MOST_BLOCKS {
-            match Vec::<u8>::with_capacity(alloc, size) {
-                Ok(block) => {
-                    if held.len() == MOST_BLOCKS || held.push(block).is_err() {
-                        break;
-                    }
-                }
-                Err(_) => break,
-            }
-        }
+        take_blocks(alloc, &mut held, size);
         if size > 16 {
             size /= 2;
         }

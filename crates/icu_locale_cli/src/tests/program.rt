@@ -217,45 +217,51 @@ fn refusals(rt: HostRuntime) -> Result<(), Fail> {
     Ok(())
 }
 
+const WORDS: [(&str, Option<Command>); 9] = [
+    ("maximize", Some(Command::Maximize)),
+    ("minimize", Some(Command::Minimize)),
+    ("minimize-script", Some(Command::MinimizeScript)),
+    ("canonicalize", Some(Command::Canonicalize)),
+    ("direction", Some(Command::Direction)),
+    ("settled", Some(Command::Settled)),
+    ("Maximize", None),
+    ("", None),
+    ("name", None),
+];
+
 #[test]
-fn words(rt: HostRuntime) -> Result<(), Fail> {
-    for (word, want) in [
-        ("maximize", Some(Command::Maximize)),
-        ("minimize", Some(Command::Minimize)),
-        ("minimize-script", Some(Command::MinimizeScript)),
-        ("canonicalize", Some(Command::Canonicalize)),
-        ("direction", Some(Command::Direction)),
-        ("settled", Some(Command::Settled)),
-        ("Maximize", None),
-        ("", None),
-        ("name", None),
-    ] {
+fn one_word(rt: HostRuntime) -> Result<(), Fail> {
+    for (word, want) in WORDS {
         let words = vec![in rt.alloc(); String::from_str(rt.alloc(), word)?]?;
         match Command::from_words(&words) {
-            Ok((command, json)) => {
-                assert!(rt; Some(command) == want, "at {word}");
-                assert!(rt; !json);
-            }
+            Ok((command, json)) => assert!(rt; Some(command) == want && !json, "at {word}"),
             Err(refusal) => {
-                assert!(rt; want.is_none(), "at {word}");
-                assert!(rt; refusal == CliError::Usage);
+                assert!(rt; want.is_none() && refusal == CliError::Usage, "at {word}");
             }
         }
     }
+    Ok(())
+}
+
+#[test]
+fn no_word_and_two(rt: HostRuntime) -> Result<(), Fail> {
     let two = vec![in rt.alloc();
         String::from_str(rt.alloc(), "maximize")?,
         String::from_str(rt.alloc(), "json")?,
     ]?;
     assert!(rt; Command::from_words(&two).is_err());
     assert!(rt; Command::from_words(&[]).is_err());
+    Ok(())
+}
+
+#[test]
+fn words_of_refusals(rt: HostRuntime) -> Result<(), Fail> {
+    let custom = DataError {
+        kind: DataErrorKind::Custom,
+    };
     for (refusal, want) in [
         (CliError::Usage, "usage: icu_locale_cli COMMAND [json]"),
-        (
-            CliError::Data(DataError {
-                kind: DataErrorKind::Custom,
-            }),
-            "data: Custom",
-        ),
+        (CliError::Data(custom), "data: Custom"),
         (CliError::Read, "read failed"),
         (CliError::Write, "write failed"),
         (CliError::Memory, "no memory"),
