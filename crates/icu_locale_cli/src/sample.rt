@@ -27,11 +27,21 @@ pub fn sample(alloc: Global) -> Result<Tables, CliError>
 
 fn sample_tables(alloc: Global) -> Result<Tables, DataError> {
     let mut tables = Tables::new(alloc);
+    put_likely(alloc, &mut tables)?;
+    put_rules(alloc, &mut tables)?;
+    Ok(tables)
+}
+
+fn put_likely(alloc: Global, tables: &mut Tables) -> Result<(), DataError> {
     tables.set_likely_language(likely_language(alloc)?);
     tables.set_likely_script_region(likely_script_region(alloc)?);
+    Ok(())
+}
+
+fn put_rules(alloc: Global, tables: &mut Tables) -> Result<(), DataError> {
     tables.set_aliases(aliases(alloc)?);
     tables.set_script_direction(script_direction(alloc)?);
-    Ok(tables)
+    Ok(())
 }
 
 fn likely_language(alloc: Global) -> Result<LikelySubtagsForLanguage, DataError> {
@@ -59,21 +69,33 @@ fn likely_script_region(alloc: Global) -> Result<LikelySubtagsForScriptRegion, D
 
 fn aliases(alloc: Global) -> Result<Aliases, DataError> {
     let mut table = Aliases::new(alloc);
+    put_rule_texts(alloc, &mut table)?;
+    put_aliases(alloc, &mut table)?;
+    Ok(table)
+}
+
+fn put_rule_texts(alloc: Global, table: &mut Aliases) -> Result<(), DataError> {
     table.push_language_variants(LanguageStrStrPair(
         language("und"),
         text(alloc, "heploc-hepburn")?,
         text(alloc, "und-alalc97")?,
     ))?;
-    table.push_language(StrStrPair(text(alloc, "und-DD")?, text(alloc, "und-DE")?))?;
+    table.push_language(StrStrPair(text(alloc, "und-DD")?, text(alloc, "und-DE")?))
+}
+
+fn put_aliases(alloc: Global, table: &mut Aliases) -> Result<(), DataError> {
     table.insert_sgn_region(region("DE"), language("gsg"))?;
     table.insert_language_len2(language("sh"), text(alloc, "sr-Latn")?)?;
-    let mut former_union = Vec::new(alloc);
-    former_union.push(region("RU"))?;
-    former_union.push(region("AM"))?;
-    table.insert_complex_region(region("SU"), former_union)?;
+    table.insert_complex_region(region("SU"), former_union(alloc)?)?;
     table.insert_variant(variant("polytoni"), variant("polyton"))?;
-    table.insert_subdivision(subtag("abcdefg"), text(alloc, "xyz")?)?;
-    Ok(table)
+    table.insert_subdivision(subtag("abcdefg"), text(alloc, "xyz")?)
+}
+
+fn former_union(alloc: Global) -> Result<Vec<Region>, AllocError> {
+    let mut regions = Vec::new(alloc);
+    regions.push(region("RU"))?;
+    regions.push(region("AM"))?;
+    Ok(regions)
 }
 
 fn script_direction(alloc: Global) -> Result<ScriptDirection, DataError> {
