@@ -60,8 +60,8 @@ impl<'d, E: AsExpander<'d>> LocaleCanonicalizer<'d, E> {
     ///
     /// - `NoFixedPoint` exactly where a run has no end: it names the first identifier that comes again in the run of
     ///   the identifier, or, where that ends, in the run of the transform language.
-    /// - `Memory` where memory was asked for and refused: never where nothing matches, nor where no identifier of the
-    ///   runs but the first has variants and no row replaces a value.
+    /// - `Memory` where memory was asked for and refused: never where nothing matches, nor where neither the identifier,
+    ///   the transform language nor a replacement has variants, and no row replaces a value.
     ///
     /// The locale is unchanged then.
     pub fn canonicalize(&self, locale: &mut Locale) -> Result<TransformResult, CanonicalizeError>

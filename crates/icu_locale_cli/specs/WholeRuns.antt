@@ -53,7 +53,7 @@ pub record StopsAmongLines (Leaves : Work → List ℕ → Option (List ℕ) →
   pub all_read : ReadsAll read read' input
   pub left : Leaves work input wrote wrote'
 
--- what a refused run of `settled` leaves: nothing is read and no memory taken; a table that is not held leaves the
+-- what a refused run of `settled` leaves: nothing is read and `Memory` is not answered; a table that is not held leaves the
 -- writer as it was, and a failed write a beginning of the one line
 abbrev pub IsRefusedSettledRun : Tables → Option (List ℕ) → Option (List ℕ) → Option (List ℕ) → Option (List ℕ) → CliError → Type 0
 IsRefusedSettledRun t read read' wrote wrote' (Data e) = (e ≡ not_found) × (read' ≡ read) × (wrote' ≡ wrote)
