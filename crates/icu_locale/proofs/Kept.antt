@@ -1,6 +1,6 @@
 -- A canonical locale is kept, and a locale that changes is one to which something is applied.
 use Rattle.std.proofs.Common.{◌≡◌, ◌≢◌, ℕ, zero, suc, Bool, true, false, ◌||◌, List, Option, Some, None, is_some, option_and_then, IfSome, ◌⊎◌, inl, inr, refl, ap, sym, ◌∙◌, subst}
-use Rattle.std.proofs.lemmas.Bool.{false≢true, cases_Bool}
+use Rattle.std.proofs.lemmas.Bool.{false≢true, cases_Bool, or_parts}
 use Rattle.std.proofs.lemmas.List.Elements.{All-contains}
 use Rattle.std.proofs.lemmas.Option.{none-some, same_Some, option_and_then_some}
 use Rattle.icu_locale_core.specs.TextSet.{text_cmp, empty}
@@ -87,10 +87,6 @@ transform_same rules (Some l) (Some y) off h = ap Some (end_alone (by_language_a
     none_from None e = refl
     none_from (Some z) e = absurd (false≢true (sym e))
 
-off_parts : (a b : Bool) → (a || b) ≡ false → (a ≡ false) × (b ≡ false)
-off_parts true b e = absurd (false≢true (sym e))
-off_parts false b e = (refl, e)
-
 all_off : (a b c d : Bool) → a ≡ false → b ≡ false → c ≡ false → d ≡ false → (a || (b || (c || d))) ≡ false
 all_off a b c d p q r s = λ i. p i || (q i || (r i || s i))
 
@@ -137,9 +133,9 @@ module _ (likely : LikelySubtags) (rules : Rules) (old new : Locale) (ends : Has
 -- nothing is applied to a locale that is its canonical form, and only to that
 unapplied_same : (likely : LikelySubtags) (rules : Rules) (old new : Locale) → is_applied likely rules old ≡ false → IsCanonical likely rules old new → old ≡ new
 unapplied_same likely rules old new off canonical =
-    let first = off_parts (is_some (next likely rules old.id)) _ off in
-    let second = off_parts (is_some (option_and_then (by_language_alias rules) old.extensions.transform.lang)) _ first.1 in
-    let third = off_parts (is_some (subdivision_alias rules old.extensions.unicode.keywords rg)) _ second.1 in
+    let first = or_parts (is_some (next likely rules old.id)) _ off in
+    let second = or_parts (is_some (option_and_then (by_language_alias rules) old.extensions.transform.lang)) _ first.1 in
+    let third = or_parts (is_some (subdivision_alias rules old.extensions.unicode.keywords rg)) _ second.1 in
     let id : old.id ≡ new.id = sym (end_alone (next likely rules) old.id new.id (no_option (next likely rules old.id) first.0) canonical.id) in
     let lang : old.extensions.transform.lang ≡ new.extensions.transform.lang = sym (transform_same rules old.extensions.transform.lang new.extensions.transform.lang second.0 canonical.transform) in
     let no_rg = no_option (subdivision_alias rules old.extensions.unicode.keywords rg) third.0 in

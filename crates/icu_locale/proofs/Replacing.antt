@@ -1,5 +1,6 @@
 -- Replacements that touch the subtags but the variants alone.
 use Rattle.std.proofs.Common.{◌≡◌, ℕ, Bool, true, false, not, ◌&&◌, ◌||◌, cond, List, Option, Some, None, codes, refl, ◌∙◌}
+use Rattle.std.proofs.Math.Bool.{or-false}
 use Rattle.std.specs.Option.{option_or}
 use Rattle.std.proofs.lemmas.Option.{none-some}
 use Rattle.icu_locale_core.specs.TextSet.{TextSet, empty, contains, union, difference}
@@ -8,14 +9,10 @@ use Rattle.icu_locale_core.proofs.TextSets.{same_set}
 use Rattle.icu_locale_core.proofs.SetOperations.{contains-replaced, contains-empty}
 use Rattle.icu_locale.specs.Replacement.{is_known, part, replaced, of_language}
 
-or_false : (b : Bool) → (b || false) ≡ b
-or_false true = refl
-or_false false = refl
-
 -- a set without none and with none is that set
 pub kept : (s : TextSet) → union (difference s empty) empty ≡ s
 kept s = same_set (union (difference s empty) empty) s (λ q.
-    contains-replaced s empty empty q ∙ (λ i. (not (contains-empty q i) && contains s q) || contains-empty q i) ∙ or_false (contains s q))
+    contains-replaced s empty empty q ∙ (λ i. (not (contains-empty q i) && contains s q) || contains-empty q i) ∙ or-false (contains s q))
 
 pub part-or : {T : Type 0} (source replacement : Option T) → part source None replacement ≡ option_or source replacement
 part-or (Some u) replacement = refl

@@ -1,5 +1,6 @@
 -- The sets of texts of a list are exactly those whose members the list has.
 use Rattle.std.proofs.Common.{◌≡◌, ℕ, Bool, true, false, not, ◌&&◌, ◌||◌, List, [], ◌∷◌, map, is_some, inl, inr, refl, ap, sym, ◌∙◌, subst}
+use Rattle.std.proofs.Math.Bool.{or-false}
 use Rattle.std.specs.List.{Contains}
 use Rattle.std.specs.Ordering.{eq_by_cmp, is_eq}
 use Rattle.std.specs.FinMap as fin
@@ -16,11 +17,7 @@ pub contains-insert : (s : TextSet) (t q : List ℕ) → contains (fin.insert s 
 contains-insert s t q = ap is_some (fin.get-insert text_total s t tt q) ∙ is_some-insert (eq_by_cmp text_cmp q t) (fin.get s q)
 
 pub contains-one : (t q : List ℕ) → contains (from_list (t ∷ [])) q ≡ eq_by_cmp text_cmp q t
-contains-one t q = contains-insert empty t q ∙ ap (λ b. eq_by_cmp text_cmp q t || b) (contains-empty q) ∙ or_false (eq_by_cmp text_cmp q t)
-  where
-    or_false : (b : Bool) → (b || false) ≡ b
-    or_false true = refl
-    or_false false = refl
+contains-one t q = contains-insert empty t q ∙ ap (λ b. eq_by_cmp text_cmp q t || b) (contains-empty q) ∙ or-false (eq_by_cmp text_cmp q t)
 
 -- a set with t is the set without t, and t
 put_back : (s : TextSet) (t : List ℕ) → contains s t ≡ true → fin.insert (difference s (from_list (t ∷ []))) t tt ≡ s

@@ -5,14 +5,12 @@ use Rattle.icu_tables.specs.declared.tables.Tables.{Tables}
 use Rattle.icu_locale_cli.specs.declared.command.Command.{Command}
 use Rattle.icu_locale_cli.specs.declared.command.Command.TheVariants as command
 use Rattle.icu_locale_cli.specs.declared.error.CliError.{CliError}
-use Rattle.icu_locale_cli.specs.declared.error.CliError.TheVariants.{Data, Write, Memory}
+use Rattle.icu_locale_cli.specs.declared.error.CliError.TheVariants.{Write, Memory}
 use Rattle.icu_locale_cli.specs.declared.status.Status.{Status}
 use Rattle.icu_locale_cli.specs.declared.status.Status.TheVariants.{Accepted}
 use Rattle.icu_locale_cli.specs.Runs.{WritesWholeLines, WritesPart}
 use Rattle.icu_locale_cli.specs.Texts.{settled_line}
-use Rattle.icu_locale_cli.specs.WholeRuns.{TellsSettled, StopsAmongLines, IsRun, IsRefusedSettledRun, IsRefusedLineRun, IsRefusedRun}
-use Rattle.icu_locale_cli.specs.Loads.{not_found}
-use Rattle.icu_locale_cli.specs.Output.{AppendsPart}
+use Rattle.icu_locale_cli.specs.WholeRuns.{TellsSettled, StopsAmongLines, IsRun, IsRefusedLineRun, IsRefusedRun}
 
 module _ (t : Tables) (read read' wrote wrote' : Option (List ℕ)) where
   pub settled_run : (r : Result Status CliError) → read' ≡ read
@@ -20,13 +18,6 @@ module _ (t : Tables) (read read' wrote wrote' : Option (List ℕ)) where
       → IfOk r (IsRun command.Settled t read read' wrote wrote')
   settled_run (Ok s) unread h = record { answer = h.0; tells = h.1; unread = unread; written = h.2; accepted = h.3 }
   settled_run (Err e) unread h = tt
-
-  pub refused_settled_run : (r : Result Status CliError) → read' ≡ read → IfErr r (λ e. (e ≡ Data not_found) ⊎ (e ≡ Write))
-      → (r ≡ Err (Data not_found) → wrote' ≡ wrote) → (r ≡ Err Write → (answer : Bool) × TellsSettled t answer × AppendsPart wrote wrote' (settled_line answer))
-      → IfErr r (IsRefusedRun command.Settled t read read' wrote wrote')
-  refused_settled_run (Ok s) unread which unfound write = tt
-  refused_settled_run (Err e) unread (inl is) unfound write = subst (IsRefusedSettledRun t read read' wrote wrote') (sym is) (refl, unread, unfound (ap Err is))
-  refused_settled_run (Err e) unread (inr is) unfound write = subst (IsRefusedSettledRun t read read' wrote wrote') (sym is) (unread, write (ap Err is))
 
   -- every command but one works on lines
   pub refused_line_run : (c : Command) → (c ≡ command.Settled → ⊥) → (e : CliError) → IsRefusedLineRun c t read read' wrote wrote' e → IsRefusedRun c t read read' wrote wrote' e

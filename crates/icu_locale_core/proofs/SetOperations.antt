@@ -1,5 +1,6 @@
 -- The members of unions and differences, and when a set is inside another.
 use Rattle.std.proofs.Common.{◌≡◌, ℕ, Bool, true, false, not, ◌&&◌, ◌||◌, List, [], ◌∷◌, ◌++◌, refl, ap, sym, ◌∙◌}
+use Rattle.std.proofs.Math.Bool.{or-false}
 use Rattle.std.specs.List.{list_all, filter}
 use Rattle.std.specs.Ordering.{eq_by_cmp, is_eq}
 use Rattle.std.specs.Cmp.{Equal-is}
@@ -92,13 +93,9 @@ module _ (s r a : TextSet) where
   replaced-empty inside none = same_set empty (union (difference s r) a) (λ q.
       contains-empty q
       ∙ sym (nothing (contains r q) (contains s q) (is_subset-at s r q inside))
-      ∙ or_false (not (contains r q) && contains s q)
+      ∙ sym (or-false (not (contains r q) && contains s q))
       ∙ ap (λ b. (not (contains r q) && contains s q) || b) (sym (ap (λ set. contains set q) none ∙ contains-empty q))
       ∙ sym (contains-replaced q))
-    where
-      or_false : (b : Bool) → b ≡ (b || false)
-      or_false true = refl
-      or_false false = refl
 
   both_false : (in_r in_s : Bool) → (not in_r && in_s) ≡ false → in_s ≡ true → in_r ≡ true
   both_false true in_s e h = refl
