@@ -21,12 +21,21 @@ use changes::{Changes, region_override_key, subdivision_key};
 use rules::Rules;
 
 /// Canonicalizes locales by the rules of a table of aliases.
-#[derive(Debug, Drop)]
+#[derive(Debug)]
 pub struct LocaleCanonicalizer<'d, E = LocaleExpander<'d>> {
     /// The rules.
     pub rules: Rules<'d>,
     /// What gives likely regions.
     pub expander: E,
+}
+
+impl<'d, E: Drop> Drop for LocaleCanonicalizer<'d, E> {
+    fn drop(self) {
+        let LocaleCanonicalizer {
+            rules: _,
+            expander: _,
+        } = self;
+    }
 }
 
 /// Why a locale is not canonicalized. It is unchanged then.

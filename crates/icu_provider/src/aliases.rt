@@ -21,7 +21,7 @@ pub struct StrStrPair(pub String, pub String);
 pub struct LanguageStrStrPair(pub Language, pub String, pub String);
 
 /// The rules of canonicalization. Texts are of any content: who reads them skips those that cannot be read.
-#[derive(Debug, Drop)]
+#[derive(Debug)]
 pub struct Aliases {
     /// Rules with variants, asked in order: a language, a text of variants and a replacement text.
     pub language_variants: RowList<LanguageStrStrPair>,
@@ -45,6 +45,24 @@ pub struct Aliases {
     pub variant: SortedMap<Variant, Variant>,
     /// The value text that replaces a subdivision.
     pub subdivision: SortedMap<Subtag, String>,
+}
+
+impl Drop for Aliases {
+    fn drop(self) {
+        let Aliases {
+            language_variants: _,
+            language: _,
+            sgn_region: _,
+            language_len2: _,
+            language_len3: _,
+            script: _,
+            region_alpha: _,
+            region_num: _,
+            complex_region: _,
+            variant: _,
+            subdivision: _,
+        } = self;
+    }
 }
 
 impl Aliases {

@@ -11,12 +11,18 @@ use std::alloc::Global;
 
 /// Two sets of scripts: those that run from right to left, and those that run from left to right. They may share
 /// scripts.
-#[derive(Debug, Drop)]
+#[derive(Debug)]
 pub struct ScriptDirection {
     /// The scripts from right to left.
     pub rtl: SortedMap<Script, ()>,
     /// The scripts from left to right.
     pub ltr: SortedMap<Script, ()>,
+}
+
+impl Drop for ScriptDirection {
+    fn drop(self) {
+        let ScriptDirection { rtl: _, ltr: _ } = self;
+    }
 }
 
 impl ScriptDirection {

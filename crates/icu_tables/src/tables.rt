@@ -10,7 +10,7 @@ use icu_provider::{
 use std::alloc::Global;
 
 /// Data in memory. A load of what is not held is refused by `IdentifierNotFound`.
-#[derive(Debug, Drop)]
+#[derive(Debug)]
 pub struct Tables {
     /// The likely subtags by language, if any are held.
     pub likely_language: Option<LikelySubtagsForLanguage>,
@@ -22,6 +22,18 @@ pub struct Tables {
     pub aliases: Option<Aliases>,
     /// Which way scripts run, if it is held.
     pub script_direction: Option<ScriptDirection>,
+}
+
+impl Drop for Tables {
+    fn drop(self) {
+        let Tables {
+            likely_language: _,
+            likely_script_region: _,
+            likely_extended: _,
+            aliases: _,
+            script_direction: _,
+        } = self;
+    }
 }
 
 impl Tables {

@@ -14,7 +14,7 @@ pub struct Rule {
 }
 
 /// The rules of a table of aliases. Texts are read once: a row that cannot be read is left out.
-#[derive(Debug, Drop)]
+#[derive(Debug)]
 pub struct Rules<'d> {
     /// The rules for identifiers without variants, in order.
     pub language: RowList<Rule>,
@@ -30,4 +30,18 @@ pub struct Rules<'d> {
     pub aliases: &'d Aliases,
     /// What makes empty sets.
     pub alloc: Global,
+}
+
+impl<'d> Drop for Rules<'d> {
+    fn drop(self) {
+        let Rules {
+            language: _,
+            language_variants: _,
+            language_len2: _,
+            language_len3: _,
+            subdivision: _,
+            aliases: _,
+            alloc: _,
+        } = self;
+    }
 }

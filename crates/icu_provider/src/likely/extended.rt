@@ -10,7 +10,7 @@ use icu_locale_core::{Language, Region, Script};
 use std::alloc::Global;
 
 /// Further likely subtags (UTS #35, section 4.3), each used where the other two tables have no row with the same key.
-#[derive(Debug, Drop)]
+#[derive(Debug)]
 pub struct LikelySubtagsExtended {
     /// The script and the region of a language.
     pub language: SortedMap<Language, (Script, Region)>,
@@ -24,6 +24,19 @@ pub struct LikelySubtagsExtended {
     pub script: SortedMap<Script, (Language, Region)>,
     /// The language and the script of a region.
     pub region: SortedMap<Region, (Language, Script)>,
+}
+
+impl Drop for LikelySubtagsExtended {
+    fn drop(self) {
+        let LikelySubtagsExtended {
+            language: _,
+            language_script: _,
+            language_region: _,
+            script_region: _,
+            script: _,
+            region: _,
+        } = self;
+    }
 }
 
 impl LikelySubtagsExtended {

@@ -10,7 +10,7 @@ use icu_locale_core::{Language, Region, Script};
 use std::alloc::Global;
 
 /// Likely subtags by language (UTS #35, section 4.3), and those of `und`.
-#[derive(Debug, Drop)]
+#[derive(Debug)]
 pub struct LikelySubtagsForLanguage {
     /// The language, script and region of `und`, which also serves as a row for its script and its region.
     pub und: (Language, Script, Region),
@@ -20,6 +20,17 @@ pub struct LikelySubtagsForLanguage {
     pub language_script: SortedMap<(Language, Script), Region>,
     /// The script of a language and a region.
     pub language_region: SortedMap<(Language, Region), Script>,
+}
+
+impl Drop for LikelySubtagsForLanguage {
+    fn drop(self) {
+        let LikelySubtagsForLanguage {
+            und: _,
+            language: _,
+            language_script: _,
+            language_region: _,
+        } = self;
+    }
 }
 
 impl LikelySubtagsForLanguage {

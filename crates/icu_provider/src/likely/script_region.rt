@@ -10,7 +10,7 @@ use icu_locale_core::{Language, Region, Script};
 use std::alloc::Global;
 
 /// Likely subtags of identifiers whose language is not known, by script and region (UTS #35, section 4.3).
-#[derive(Debug, Drop)]
+#[derive(Debug)]
 pub struct LikelySubtagsForScriptRegion {
     /// The language of a script and a region.
     pub script_region: SortedMap<(Script, Region), Language>,
@@ -18,6 +18,16 @@ pub struct LikelySubtagsForScriptRegion {
     pub script: SortedMap<Script, (Language, Region)>,
     /// The language and the script of a region.
     pub region: SortedMap<Region, (Language, Script)>,
+}
+
+impl Drop for LikelySubtagsForScriptRegion {
+    fn drop(self) {
+        let LikelySubtagsForScriptRegion {
+            script_region: _,
+            script: _,
+            region: _,
+        } = self;
+    }
 }
 
 impl LikelySubtagsForScriptRegion {
