@@ -1,9 +1,11 @@
 -- The classes of subtags behind one name each.
 use Rattle.std.specs.Prelude.{ℕ, Bool, List, zero}
 use Rattle.std.specs.Char.{to_ascii_lowercase, to_ascii_uppercase}
-use Rattle.icu_locale_core.specs.Subtag.{is_language, is_script, is_region, is_variant, is_key, is_subtag, lowercase, titlecase, uppercase}
+use Rattle.icu_locale_core.specs.Subtag.{is_language, is_script, is_region, is_variant, is_key}
+use Rattle.icu_locale_core.specs.Subtag.{is_subtag, lowercase, titlecase, uppercase}
 use Rattle.icu_locale_core.specs.declared.classes.Class.{Class}
-use Rattle.icu_locale_core.specs.declared.classes.Class.TheVariants.{Language, Script, Region, Variant, Key, Subtag}
+use Rattle.icu_locale_core.specs.declared.classes.Class.TheVariants.{Language, Script, Region}
+use Rattle.icu_locale_core.specs.declared.classes.Class.TheVariants.{Variant, Key, Subtag}
 
 -- whether a text belongs to a class
 abbrev pub is_member : Class → List ℕ → Bool

@@ -1,12 +1,16 @@
 -- Identifiers and their texts (UTS #35 Part 1, section 3.1, unicode_language_id).
-use Rattle.std.specs.Prelude.{◌≡◌, ℕ, Bool, ◌||◌, ◌==◌, true, List, [], ◌∷◌, ◌++◌, length, slice_index_or, map, codes, IfSome, Result, Ok, Err, ◌⊎◌}
+use Rattle.std.specs.Prelude.{◌≡◌, ◌⊎◌, ◌↔◌, ℕ, Bool, ◌||◌, ◌==◌, true, false, IsTrue, codes}
+use Rattle.std.specs.Prelude.{List, [], ◌∷◌, ◌++◌, length, slice_index_or, map}
+use Rattle.std.specs.Prelude.{IfSome, Result, Ok, Err, IfOk}
 use Rattle.std.specs.Option.{option_to_list}
 use Rattle.std.specs.List.{slice_split, list_any, join_by}
-use Rattle.icu_locale_core.specs.Subtag.{is_language, is_variant, lowercase, IsLanguage, IsScript, IsRegion, IsVariant}
+use Rattle.icu_locale_core.specs.Subtag.{is_language, is_variant, lowercase}
+use Rattle.icu_locale_core.specs.Subtag.{IsLanguage, IsScript, IsRegion, IsVariant}
 use Rattle.icu_locale_core.specs.TextSet.{TextSet, from_list, contains, rising, len}
 use Rattle.icu_locale_core.specs.declared.langid.LanguageIdentifier.{LanguageIdentifier}
 use Rattle.icu_locale_core.specs.declared.parse_error.ParseError.{ParseError}
-use Rattle.icu_locale_core.specs.declared.parse_error.ParseError.TheVariants.{Memory}
+use Rattle.icu_locale_core.specs.declared.parse_error.ParseError.TheVariants.{InvalidLanguage}
+use Rattle.icu_locale_core.specs.declared.parse_error.ParseError.TheVariants.{InvalidSubtag, Memory}
 
 -- `-`, which is 45, and `_`, which is 95
 abbrev pub is_separator : ℕ → Bool
@@ -32,7 +36,8 @@ pub record Lists (ts : List (List ℕ)) (s : TextSet) : Type 0 where
   pub members : from_list ts ≡ s
   pub once : length ts ≡ len s
 
--- t, cut at every separator, is the language of x, then its script if any, its region if any, and each variant once in any order, case aside
+-- t, cut at every separator, is the language of x, then its script if any, its region if any, and
+-- each variant once in any order, case aside
 pub record Spells (t : List ℕ) (x : LanguageIdentifier) : Type 0 where
   pub order : List (List ℕ)
   pub lists : Lists order x.variants
@@ -53,3 +58,14 @@ has_variant t = list_any is_variant (pieces t)
 -- x was read, or memory was refused
 abbrev pub IsOkUnlessMemory : Result LanguageIdentifier ParseError → LanguageIdentifier → Type 0
 IsOkUnlessMemory r x = (r ≡ Ok x) ⊎ (r ≡ Err Memory)
+
+-- reading t gives the identifier that it spells; a text that spells none is refused for its first
+-- piece where that is no language, else for another; memory is asked for variants alone
+pub record ReadsIdentifier (t : List ℕ) (result : Result LanguageIdentifier ParseError)
+    : Type 0 where
+  pub found : IfOk result (λ x. IsIdentifier x × Spells t x)
+  pub only : (x : LanguageIdentifier) → IsIdentifier x → Spells t x → IsOkUnlessMemory result x
+  pub language : (result ≡ Err InvalidLanguage) ↔ (starts_with_language t ≡ false)
+  pub subtag : result ≡ Err InvalidSubtag
+      → (x : LanguageIdentifier) → IsIdentifier x → ¬ (Spells t x)
+  pub memory : result ≡ Err Memory → IsTrue (has_variant t)

@@ -24,4 +24,6 @@ row_eq p q = pointwise nat_eq p.0 q.0 && pointwise (pointwise nat_eq) p.1 q.1
 
 -- so it is an equivalence
 pub rows_equiv : IsEquivalence row_eq
-rows_equiv = and_equiv (on_equiv (λ p. p.0) (lists_equiv nat_eq_equiv)) (on_equiv (λ p. p.1) (lists_equiv (lists_equiv nat_eq_equiv)))
+rows_equiv =
+    and_equiv (on_equiv (λ p. p.0) (lists_equiv nat_eq_equiv))
+    (on_equiv (λ p. p.1) (lists_equiv (lists_equiv nat_eq_equiv)))

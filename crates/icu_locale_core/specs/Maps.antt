@@ -9,6 +9,8 @@ abbrev pub value_at : {K V : Type 0} → (K → K → Ordering) → List (K × V
 value_at compare rows key = lookup (is_at (compare key)) rows
 
 -- new has the answer at the key, and at each other key what old has
-abbrev pub SetsOnly : {K V : Type 0} → (K → K → Ordering) → List (K × V) → List (K × V) → K → Option V → Type 0
+abbrev pub SetsOnly : {K V : Type 0} → (K → K → Ordering) → (old new : List (K × V)) → K
+    → Option V → Type 0
 SetsOnly {K} compare old new key answer =
-    (other : K) → value_at compare new other ≡ (if is_at (compare key) other then answer else value_at compare old other)
+    (other : K) → value_at compare new other
+    ≡ (if is_at (compare key) other then answer else value_at compare old other)

@@ -1,7 +1,9 @@
 -- The refusals of reading by name.
 use Rattle.std.specs.Prelude.{ℕ, List, codes}
 use Rattle.icu_locale_core.specs.declared.parse_error.ParseError.{ParseError}
-use Rattle.icu_locale_core.specs.declared.parse_error.ParseError.TheVariants.{InvalidLanguage, InvalidSubtag, Memory}
+use Rattle.icu_locale_core.specs.declared.parse_error.ParseError.TheVariants.{InvalidLanguage}
+use Rattle.icu_locale_core.specs.declared.parse_error.ParseError.TheVariants.{InvalidSubtag}
+use Rattle.icu_locale_core.specs.declared.parse_error.ParseError.TheVariants.{Memory}
 
 -- what Display writes
 abbrev pub error_name : ParseError → List ℕ

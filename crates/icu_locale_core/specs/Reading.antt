@@ -1,11 +1,14 @@
 -- Identifiers read piece by piece from the left: what only the reader's own functions cite.
-use Rattle.std.specs.Prelude.{ℕ, Bool, ◌&&◌, ◌==◌, List, [], ◌∷◌, length, map, Option, Some, None, Result, Ok, Err, if◌then◌else◌}
+use Rattle.std.specs.Prelude.{ℕ, Bool, ◌&&◌, ◌==◌, List, [], ◌∷◌, length}
+use Rattle.std.specs.Prelude.{map, Option, Some, None, Result, Ok, Err, if◌then◌else◌}
 use Rattle.std.specs.List.{list_all}
-use Rattle.icu_locale_core.specs.Subtag.{is_language, is_script, is_region, is_variant, lowercase, titlecase, uppercase}
+use Rattle.icu_locale_core.specs.Subtag.{is_language, is_script, is_region, is_variant}
+use Rattle.icu_locale_core.specs.Subtag.{lowercase, titlecase, uppercase}
 use Rattle.icu_locale_core.specs.TextSet.{TextSet, from_list, len}
 use Rattle.icu_locale_core.specs.declared.langid.LanguageIdentifier.{LanguageIdentifier}
 use Rattle.icu_locale_core.specs.declared.parse_error.ParseError.{ParseError}
-use Rattle.icu_locale_core.specs.declared.parse_error.ParseError.TheVariants.{InvalidLanguage, InvalidSubtag}
+use Rattle.icu_locale_core.specs.declared.parse_error.ParseError.TheVariants.{InvalidLanguage}
+use Rattle.icu_locale_core.specs.declared.parse_error.ParseError.TheVariants.{InvalidSubtag}
 
 -- the first piece in written case, where it is of the class
 abbrev pub optional : (List ℕ → Bool) → (List ℕ → List ℕ) → List (List ℕ) → Option (List ℕ)
@@ -26,7 +29,8 @@ abbrev pub read_variants : List (List ℕ) → Result TextSet ParseError
 read_variants ps = if are_variants ps then Ok (from_list (map lowercase ps)) else Err InvalidSubtag
 
 -- an identifier with these variants, or why they are refused
-abbrev pub with_variants : List ℕ → Option (List ℕ) → Option (List ℕ) → Result TextSet ParseError → Result LanguageIdentifier ParseError
+abbrev pub with_variants : List ℕ → Option (List ℕ) → Option (List ℕ) → Result TextSet ParseError
+    → Result LanguageIdentifier ParseError
 with_variants l s r (Ok vs) = Ok (record { language = l; script = s; region = r; variants = vs })
 with_variants l s r (Err e) = Err e
 
@@ -34,7 +38,8 @@ with_variants l s r (Err e) = Err e
 abbrev pub read_rest : List ℕ → List (List ℕ) → Result LanguageIdentifier ParseError
 read_rest l ps =
     let after_script = after_optional is_script ps in
-    with_variants l (optional is_script titlecase ps) (optional is_region uppercase after_script) (read_variants (after_optional is_region after_script))
+    with_variants l (optional is_script titlecase ps) (optional is_region uppercase after_script)
+    (read_variants (after_optional is_region after_script))
 
 -- an identifier from its pieces
 abbrev pub read_pieces : List (List ℕ) → Result LanguageIdentifier ParseError

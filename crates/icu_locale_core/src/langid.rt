@@ -2,7 +2,7 @@
 ghost use Rattle.std.specs.Fmt.{WritesOnOk};
 ghost use Rattle.std.specs.List.{flat_map};
 ghost use Rattle.icu_locale_core.specs.TextSet.{rising};
-ghost use Rattle.std.specs.Prelude.{◌≡◌, ◌↔◌, ◌++◌, codes, Some, Err, IsTrue, IsOk, IfOk, IfErr, false};
+ghost use Rattle.std.specs.Prelude.{◌≡◌, ◌++◌, codes, Some, IsOk, IfOk, IfErr};
 
 use crate::pieces::Pieces;
 use crate::reader::read_identifier;
@@ -27,7 +27,7 @@ pub struct LanguageIdentifier {
 }
 
 impl LanguageIdentifier {
-    ghost use Rattle.icu_locale_core.specs.Identifier.{IsIdentifier, Spells, IsOkUnlessMemory, starts_with_language, has_variant};
+    ghost use Rattle.icu_locale_core.specs.Identifier.{IsIdentifier, ReadsIdentifier};
     ghost use Rattle.icu_locale_core.specs.TextSet.{empty};
 
     /// Reads an identifier in any case, with its variants in any order. It takes memory for variants alone.
@@ -38,12 +38,7 @@ impl LanguageIdentifier {
     /// - `InvalidSubtag` where a later piece is none of an identifier, or a variant comes twice.
     /// - `Memory` only for a text that has a variant, and never in place of `InvalidLanguage`.
     pub fn try_from_str(alloc: Global, text: &str) -> Result<Self, ParseError>
-        ensures found { IfOk result (λ x. IsIdentifier x × Spells text.now x) }
-        ensures only { (x : LanguageIdentifier) → IsIdentifier x → Spells text.now x → IsOkUnlessMemory result x }
-        ensures language { (result ≡ Err ParseError.InvalidLanguage) ↔ (starts_with_language text.now ≡ false) }
-        ensures subtag { result ≡ Err ParseError.InvalidSubtag
-            → (x : LanguageIdentifier) → IsIdentifier x → ¬ (Spells text.now x) }
-        ensures memory { result ≡ Err ParseError.Memory → IsTrue (has_variant text.now) }
+        ensures { ReadsIdentifier text.now result }
     {
         LanguageIdentifier::try_from_utf8(alloc, text.as_bytes())
     }
@@ -54,12 +49,7 @@ impl LanguageIdentifier {
     ///
     /// Those of `try_from_str`.
     pub fn try_from_utf8(alloc: Global, text: &[u8]) -> Result<Self, ParseError>
-        ensures found { IfOk result (λ x. IsIdentifier x × Spells text.now x) }
-        ensures only { (x : LanguageIdentifier) → IsIdentifier x → Spells text.now x → IsOkUnlessMemory result x }
-        ensures language { (result ≡ Err ParseError.InvalidLanguage) ↔ (starts_with_language text.now ≡ false) }
-        ensures subtag { result ≡ Err ParseError.InvalidSubtag
-            → (x : LanguageIdentifier) → IsIdentifier x → ¬ (Spells text.now x) }
-        ensures memory { result ≡ Err ParseError.Memory → IsTrue (has_variant text.now) }
+        ensures { ReadsIdentifier text.now result }
     {
         read_identifier(alloc, Pieces::new(text))
     }
@@ -116,7 +106,8 @@ impl fmt::Display for LanguageIdentifier {
 
 // Each variant in rising order, with `-` before it.
 fn write_variants<W: fmt::Write>(variants: &Variants, f: &mut fmt::Formatter<W>) -> fmt::Result
-    ensures { WritesOnOk W.write_str_gives f.old result (flat_map (λ v. codes "-" ++ v) (rising variants.now)) f.new }
+    ensures { WritesOnOk W.write_str_gives f.old result
+        (flat_map (λ v. codes "-" ++ v) (rising variants.now)) f.new }
 {
     for variant in variants.iter() {
         write_after_dash(variant.as_str(), f)?;

@@ -36,7 +36,8 @@ impl<'a> Pieces<'a> {
 
     // The next piece.
     pub fn peek(&self) -> Option<&'a [u8]>
-        ensures { MatchOption result (self.now ≡ []) (λ p. (ps : List (List ℕ)) × (self.now ≡ p.now ∷ ps)) }
+        ensures { MatchOption result (self.now ≡ [])
+            (λ p. (ps : List (List ℕ)) × (self.now ≡ p.now ∷ ps)) }
     {
         self.first
     }

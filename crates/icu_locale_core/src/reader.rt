@@ -1,8 +1,10 @@
 // The reader of identifiers, piece by piece from the left.
 ghost use Rattle.std.specs.Prelude.{◌≡◌, ◌⊎◌, true, [], slice_index_or, Err};
 ghost use Rattle.std.specs.List.{list_any};
-ghost use Rattle.icu_locale_core.specs.Subtag.{is_language, is_script, is_region, is_variant, titlecase, uppercase};
-ghost use Rattle.icu_locale_core.specs.Reading.{optional, after_optional, read_variants, read_pieces};
+ghost use Rattle.icu_locale_core.specs.Subtag.{is_language, is_script, is_region};
+ghost use Rattle.icu_locale_core.specs.Subtag.{is_variant, titlecase, uppercase};
+ghost use Rattle.icu_locale_core.specs.Reading.{optional, after_optional};
+ghost use Rattle.icu_locale_core.specs.Reading.{read_variants, read_pieces};
 
 use crate::pieces::Pieces;
 use crate::{Language, LanguageIdentifier, ParseError, Region, Script, Variant, Variants};
@@ -13,7 +15,8 @@ pub fn read_identifier(
     mut pieces: Pieces<'_>,
 ) -> Result<LanguageIdentifier, ParseError>
     ensures read { (result ≡ Err ParseError.Memory) ⊎ (result ≡ read_pieces pieces.entry) }
-    ensures language { result ≡ Err ParseError.Memory → is_language (slice_index_or pieces.entry 0 []) ≡ true }
+    ensures language { result ≡ Err ParseError.Memory
+        → is_language (slice_index_or pieces.entry 0 []) ≡ true }
     ensures memory { result ≡ Err ParseError.Memory → list_any is_variant pieces.entry ≡ true }
 {
     let Some(language) = pieces.next().and_then(Language::try_from_bytes) else {

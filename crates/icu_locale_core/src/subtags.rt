@@ -1,6 +1,9 @@
 //! The subtags of an identifier: language, script, region and variant.
 ghost use Rattle.std.specs.Prelude.{◌≡◌, ◌↔◌, IsTrue, IsOk, IfOk, IfErr, IfSome, is_some, Some};
-ghost use Rattle.icu_locale_core.specs.Subtag.{is_language, is_script, is_region, is_variant, is_alphabetic, lowercase, titlecase, uppercase, und, IsLanguage, IsScript, IsRegion, IsVariant};
+ghost use Rattle.icu_locale_core.specs.Subtag.{is_language, is_script, is_region, is_variant};
+ghost use Rattle.icu_locale_core.specs.Subtag.{is_alphabetic, lowercase, titlecase, uppercase};
+ghost use Rattle.icu_locale_core.specs.Subtag.{und, IsLanguage, IsScript, IsRegion};
+ghost use Rattle.icu_locale_core.specs.Subtag.{IsVariant};
 
 use crate::ParseError;
 use crate::classes::Class;

@@ -1,5 +1,6 @@
 //! Values of keywords.
-ghost use Rattle.std.specs.Prelude.{◌≡◌, ◌≢◌, ◌↔◌, ◌++◌, [], false, codes, ◌==◌, Some, Err, IsOk, IfOk, IfErr};
+ghost use Rattle.std.specs.Prelude.{◌≡◌, ◌≢◌, ◌↔◌, ◌++◌, [], false, codes};
+ghost use Rattle.std.specs.Prelude.{◌==◌, Some, Err, IsOk, IfOk, IfErr};
 ghost use Rattle.std.specs.List.{list_all, flat_map};
 ghost use Rattle.std.specs.Fmt.{WritesOnOk};
 ghost use Rattle.std.specs.Cmp.Lexicographic.{pointwise};
@@ -7,7 +8,8 @@ ghost use Rattle.std.specs.Cmp.Rules.{comparing};
 ghost use Rattle.std.specs.Prelude.{nat_eq};
 ghost use Rattle.std.proofs.Common.{rules};
 ghost use Rattle.icu_locale_core.specs.Subtag.{is_subtag};
-ghost use Rattle.icu_locale_core.specs.Value.{is_value, read_value, read_subtags, only_piece, written_value};
+ghost use Rattle.icu_locale_core.specs.Value.{is_value, read_value, read_subtags};
+ghost use Rattle.icu_locale_core.specs.Value.{only_piece, written_value};
 
 use crate::classes::Class;
 use crate::langid::write_after_dash;
@@ -136,7 +138,8 @@ impl fmt::Debug for Value {
 
 // Each piece, with `-` before it.
 fn write_pieces<W: fmt::Write>(pieces: &[Subtag], f: &mut fmt::Formatter<W>) -> fmt::Result
-    ensures { WritesOnOk W.write_str_gives f.old result (flat_map (λ p. codes "-" ++ p) pieces.now) f.new }
+    ensures { WritesOnOk W.write_str_gives f.old result
+        (flat_map (λ p. codes "-" ++ p) pieces.now) f.new }
 {
     for piece in pieces {
         write_after_dash(piece.as_str(), f)?;
@@ -159,7 +162,8 @@ fn are_subtags(pieces: Pieces<'_>) -> bool
 // The pieces in lower case without `true`.
 fn read_subtags(alloc: Global, pieces: Pieces<'_>) -> Result<Vec<Subtag>, ParseError>
     ensures read { IfOk result (λ v. v.items ≡ read_subtags pieces.entry) }
-    ensures refused { result ≡ Err ParseError.InvalidSubtag → list_all is_subtag pieces.entry ≡ false }
+    ensures refused { result ≡ Err ParseError.InvalidSubtag
+        → list_all is_subtag pieces.entry ≡ false }
     ensures language { result ≡ Err ParseError.InvalidLanguage → ⊥ }
     ensures free { read_subtags pieces.entry ≡ [] → result ≢ Err ParseError.Memory }
 {

@@ -12,7 +12,8 @@ ghost use Rattle.std.specs.Prelude.{nat_eq};
 ghost use Rattle.std.proofs.lemmas.Slice.Eq.{bytes_eq-Decides};
 ghost use Rattle.icu_locale_core.specs.Order.{text_lists_ties};
 ghost use Rattle.icu_locale_core.specs.Subtag.{IsVariant};
-ghost use Rattle.icu_locale_core.specs.TextSet.{text_cmp, empty, contains, from_list, rising, len, is_subset, union, difference};
+ghost use Rattle.icu_locale_core.specs.TextSet.{text_cmp, empty, contains, from_list, rising};
+ghost use Rattle.icu_locale_core.specs.TextSet.{len, is_subset, union, difference};
 
 use crate::{ParseError, Variant};
 use std::alloc::Global;
@@ -209,7 +210,9 @@ impl Ord for Variants {
 impl Hash for Variants {
     ghost hash_input = { λ s. fed.slice fed.str (rising s) };
 
-    ghost respects_eq = { λ s u h. (fed.items_Alike (fed.same_Alike fed.str (λ x y. bytes_eq-Decides x y))).fed (rising s) (rising u) h };
+    ghost respects_eq = { λ s u h.
+        (fed.items_Alike (fed.same_Alike fed.str (λ x y. bytes_eq-Decides x y))).fed
+        (rising s) (rising u) h };
 
     fn hash<H: Hasher>(&self, state: &mut H) {
         self.as_slice().hash(state);

@@ -18,8 +18,8 @@ use Rattle.icu_provider.specs.Maps.{IsSortedMap}
 use Rattle.icu_provider.specs.Places.{IsAt, IsGapFor}
 use Rattle.icu_provider.proofs.Maps.{insert_entry-step, IsSortedMap-insert_entry, SetsOnly-insert_entry}
 
--- new has the rows of old with the value inserted at the key
-pub record Inserts {K V : Type 0} (compare : K → K → Ordering) (old new : List (K × V)) (key : K) (value : V) : Type 0 where
+-- new has the rows of old with the value inserted at the key, and stays in order
+pub record InsertedRows {K V : Type 0} (compare : K → K → Ordering) (old new : List (K × V)) (key : K) (value : V) : Type 0 where
   pub rows : new ≡ insert_entry compare old key value
   pub sets : SetsOnly compare old new key (Some value)
   pub sorted : IsSortedMap compare new
@@ -98,7 +98,7 @@ module _ {K V : Type 0} {compare : K → K → Ordering} (total : IsTotalOrder c
       ap (λ rest. row ∷ rest) (insert_entry-in_gap rows key value at (gap_tail row rows key at gap)) ∙ sym step
 
   -- rows with the value inserted stay in order, and find it
-  inserts_from_rows : (old new : List (K × V)) (key : K) (value : V) → IsSortedMap compare old → new ≡ insert_entry compare old key value → Inserts compare old new key value
+  inserts_from_rows : (old new : List (K × V)) (key : K) (value : V) → IsSortedMap compare old → new ≡ insert_entry compare old key value → InsertedRows compare old new key value
   inserts_from_rows old new key value sorted rows = record {
     rows = rows;
     sets = λ q. rw rows (SetsOnly-insert_entry total old key value q);
@@ -106,9 +106,9 @@ module _ {K V : Type 0} {compare : K → K → Ordering} (total : IsTotalOrder c
   }
 
   -- a value that is written over the key's row
-  pub inserts_at : (rows : List (K × V)) (key : K) (value : V) (at : ℕ) (row : K × V) → IsSortedMap compare rows → IsAt compare rows key at → row ≡ get_or rows at row → Inserts compare rows (set rows at (row.0, value)) key value
+  pub inserts_at : (rows : List (K × V)) (key : K) (value : V) (at : ℕ) (row : K × V) → IsSortedMap compare rows → IsAt compare rows key at → row ≡ get_or rows at row → InsertedRows compare rows (set rows at (row.0, value)) key value
   inserts_at rows key value at row sorted is here = inserts_from_rows rows _ key value sorted (insert_entry-at rows key value at row sorted is here)
 
   -- a new row in the gap
-  pub inserts_in_gap : (rows : List (K × V)) (key : K) (value : V) (at : ℕ) → IsSortedMap compare rows → IsGapFor compare rows key at → Inserts compare rows (insert rows at (key, value)) key value
+  pub inserts_in_gap : (rows : List (K × V)) (key : K) (value : V) (at : ℕ) → IsSortedMap compare rows → IsGapFor compare rows key at → InsertedRows compare rows (insert rows at (key, value)) key value
   inserts_in_gap rows key value at sorted gap = inserts_from_rows rows _ key value sorted (insert_entry-in_gap rows key value at gap)

@@ -1,14 +1,13 @@
 //! Aliases of subtags (UTS #35 Part 1, Annex C, "LocaleId Canonicalization"): the rules of canonicalization, as the
 //! caller hands them in.
-ghost use Rattle.std.specs.Prelude.{◌≡◌, ◌++◌, ◌∷◌, [], Some, IsSome, IsOk, IfErr, OnOk, OnErr, option_copied};
-ghost use Rattle.std.specs.Option.{option_map};
-ghost use Rattle.std.specs.String.{string_bytes};
-ghost use Rattle.std.specs.BTreeMap.{insert_entry};
+ghost use Rattle.std.specs.Prelude.{◌≡◌, [], option_copied};
 ghost use Rattle.icu_locale_core.specs.TextSet.{text_cmp};
-ghost use Rattle.icu_locale_core.specs.Maps.{SetsOnly, value_at};
+ghost use Rattle.icu_locale_core.specs.Maps.{value_at};
+ghost use Rattle.icu_provider.specs.Aliases.{text_at, regions_at};
+ghost use Rattle.icu_provider.specs.Inserts.{Inserts, Pushes};
 ghost use Rattle.icu_provider.specs.Maps.{IsSortedMap};
 
-use crate::{DataError, DataErrorKind, RowList, Rows, SortedMap};
+use crate::{DataError, RowList, Rows, SortedMap};
 use icu_locale_core::{Language, Region, Script, Subtag, Variant};
 use std::alloc::Global;
 
@@ -68,7 +67,19 @@ impl Drop for Aliases {
 impl Aliases {
     /// A table without rows. It takes no memory.
     pub fn new(alloc: Global) -> Self
-        ensures { result ≡ record { language_variants = []; language = []; sgn_region = []; language_len2 = []; language_len3 = []; script = []; region_alpha = []; region_num = []; complex_region = []; variant = []; subdivision = [] } }
+        ensures { result ≡ record {
+          language_variants = [];
+          language = [];
+          sgn_region = [];
+          language_len2 = [];
+          language_len3 = [];
+          script = [];
+          region_alpha = [];
+          region_num = [];
+          complex_region = [];
+          variant = [];
+          subdivision = [];
+        } }
     {
         Aliases {
             language_variants: RowList::new(alloc),
@@ -91,9 +102,10 @@ impl Aliases {
     ///
     /// `Memory`, only where the list had to grow and could not: the table is unchanged then.
     pub fn push_language_variants(&mut self, row: LanguageStrStrPair) -> Result<(), DataError>
-        ensures ok { OnOk result (self.new ≡ record self.old { language_variants = self.old.language_variants ++ row ∷ [] }) }
-        ensures err { OnErr result (self.new ≡ self.old) }
-        ensures refused { IfErr result (λ e. e.kind ≡ DataErrorKind.Memory) }
+        ensures table { self.new ≡ record self.old {
+          language_variants = self.new.language_variants;
+        } }
+        ensures push { Pushes self.old.language_variants self.new.language_variants row result }
     {
         self.language_variants.push(row)
     }
@@ -111,9 +123,8 @@ impl Aliases {
     ///
     /// `Memory`, only where the list had to grow and could not: the table is unchanged then.
     pub fn push_language(&mut self, row: StrStrPair) -> Result<(), DataError>
-        ensures ok { OnOk result (self.new ≡ record self.old { language = self.old.language ++ row ∷ [] }) }
-        ensures err { OnErr result (self.new ≡ self.old) }
-        ensures refused { IfErr result (λ e. e.kind ≡ DataErrorKind.Memory) }
+        ensures table { self.new ≡ record self.old { language = self.new.language } }
+        ensures push { Pushes self.old.language self.new.language row result }
     {
         self.language.push(row)
     }
@@ -131,11 +142,9 @@ impl Aliases {
     ///
     /// `Memory`, only where the list of rows had to grow and could not: the table is unchanged then.
     pub fn insert_sgn_region(&mut self, region: Region, value: Language) -> Result<(), DataError>
-        ensures ok { OnOk result (self.new ≡ record self.old { sgn_region = insert_entry text_cmp self.old.sgn_region region value }) }
-        ensures sets { OnOk result (SetsOnly text_cmp self.old.sgn_region self.new.sgn_region region (Some value)) }
-        ensures err { OnErr result (self.new ≡ self.old) }
-        ensures refused { IfErr result (λ e. e.kind ≡ DataErrorKind.Memory) }
-        ensures present { IsSome (value_at text_cmp self.old.sgn_region region) → IsOk result }
+        ensures table { self.new ≡ record self.old { sgn_region = self.new.sgn_region } }
+        ensures insert { Inserts text_cmp self.old.sgn_region self.new.sgn_region
+            region value result }
     {
         self.sgn_region.insert(region, value)
     }
@@ -165,18 +174,16 @@ impl Aliases {
         language: Language,
         value: String,
     ) -> Result<(), DataError>
-        ensures ok { OnOk result (self.new ≡ record self.old { language_len2 = insert_entry text_cmp self.old.language_len2 language value }) }
-        ensures sets { OnOk result (SetsOnly text_cmp self.old.language_len2 self.new.language_len2 language (Some value)) }
-        ensures err { OnErr result (self.new ≡ self.old) }
-        ensures refused { IfErr result (λ e. e.kind ≡ DataErrorKind.Memory) }
-        ensures present { IsSome (value_at text_cmp self.old.language_len2 language) → IsOk result }
+        ensures table { self.new ≡ record self.old { language_len2 = self.new.language_len2 } }
+        ensures insert { Inserts text_cmp self.old.language_len2 self.new.language_len2
+            language value result }
     {
         self.language_len2.insert(language, value)
     }
 
     /// The replacement text of a language of two letters, if there is a row. It takes no memory.
     pub fn get_language_len2(&self, language: Language) -> Option<&str>
-        ensures { option_copied result ≡ option_map string_bytes (value_at text_cmp self.now.language_len2 language) }
+        ensures { option_copied result ≡ text_at self.now.language_len2 language }
     {
         Some(self.language_len2.get(&language)?.as_str())
     }
@@ -199,18 +206,16 @@ impl Aliases {
         language: Language,
         value: String,
     ) -> Result<(), DataError>
-        ensures ok { OnOk result (self.new ≡ record self.old { language_len3 = insert_entry text_cmp self.old.language_len3 language value }) }
-        ensures sets { OnOk result (SetsOnly text_cmp self.old.language_len3 self.new.language_len3 language (Some value)) }
-        ensures err { OnErr result (self.new ≡ self.old) }
-        ensures refused { IfErr result (λ e. e.kind ≡ DataErrorKind.Memory) }
-        ensures present { IsSome (value_at text_cmp self.old.language_len3 language) → IsOk result }
+        ensures table { self.new ≡ record self.old { language_len3 = self.new.language_len3 } }
+        ensures insert { Inserts text_cmp self.old.language_len3 self.new.language_len3
+            language value result }
     {
         self.language_len3.insert(language, value)
     }
 
     /// The replacement text of a language of three letters, if there is a row. It takes no memory.
     pub fn get_language_len3(&self, language: Language) -> Option<&str>
-        ensures { option_copied result ≡ option_map string_bytes (value_at text_cmp self.now.language_len3 language) }
+        ensures { option_copied result ≡ text_at self.now.language_len3 language }
     {
         Some(self.language_len3.get(&language)?.as_str())
     }
@@ -229,11 +234,8 @@ impl Aliases {
     ///
     /// `Memory`, only where the list of rows had to grow and could not: the table is unchanged then.
     pub fn insert_script(&mut self, script: Script, value: Script) -> Result<(), DataError>
-        ensures ok { OnOk result (self.new ≡ record self.old { script = insert_entry text_cmp self.old.script script value }) }
-        ensures sets { OnOk result (SetsOnly text_cmp self.old.script self.new.script script (Some value)) }
-        ensures err { OnErr result (self.new ≡ self.old) }
-        ensures refused { IfErr result (λ e. e.kind ≡ DataErrorKind.Memory) }
-        ensures present { IsSome (value_at text_cmp self.old.script script) → IsOk result }
+        ensures table { self.new ≡ record self.old { script = self.new.script } }
+        ensures insert { Inserts text_cmp self.old.script self.new.script script value result }
     {
         self.script.insert(script, value)
     }
@@ -259,11 +261,9 @@ impl Aliases {
     ///
     /// `Memory`, only where the list of rows had to grow and could not: the table is unchanged then.
     pub fn insert_region_alpha(&mut self, region: Region, value: Region) -> Result<(), DataError>
-        ensures ok { OnOk result (self.new ≡ record self.old { region_alpha = insert_entry text_cmp self.old.region_alpha region value }) }
-        ensures sets { OnOk result (SetsOnly text_cmp self.old.region_alpha self.new.region_alpha region (Some value)) }
-        ensures err { OnErr result (self.new ≡ self.old) }
-        ensures refused { IfErr result (λ e. e.kind ≡ DataErrorKind.Memory) }
-        ensures present { IsSome (value_at text_cmp self.old.region_alpha region) → IsOk result }
+        ensures table { self.new ≡ record self.old { region_alpha = self.new.region_alpha } }
+        ensures insert { Inserts text_cmp self.old.region_alpha self.new.region_alpha
+            region value result }
     {
         self.region_alpha.insert(region, value)
     }
@@ -289,11 +289,9 @@ impl Aliases {
     ///
     /// `Memory`, only where the list of rows had to grow and could not: the table is unchanged then.
     pub fn insert_region_num(&mut self, region: Region, value: Region) -> Result<(), DataError>
-        ensures ok { OnOk result (self.new ≡ record self.old { region_num = insert_entry text_cmp self.old.region_num region value }) }
-        ensures sets { OnOk result (SetsOnly text_cmp self.old.region_num self.new.region_num region (Some value)) }
-        ensures err { OnErr result (self.new ≡ self.old) }
-        ensures refused { IfErr result (λ e. e.kind ≡ DataErrorKind.Memory) }
-        ensures present { IsSome (value_at text_cmp self.old.region_num region) → IsOk result }
+        ensures table { self.new ≡ record self.old { region_num = self.new.region_num } }
+        ensures insert { Inserts text_cmp self.old.region_num self.new.region_num
+            region value result }
     {
         self.region_num.insert(region, value)
     }
@@ -323,18 +321,16 @@ impl Aliases {
         region: Region,
         value: Vec<Region>,
     ) -> Result<(), DataError>
-        ensures ok { OnOk result (self.new ≡ record self.old { complex_region = insert_entry text_cmp self.old.complex_region region value }) }
-        ensures sets { OnOk result (SetsOnly text_cmp self.old.complex_region self.new.complex_region region (Some value)) }
-        ensures err { OnErr result (self.new ≡ self.old) }
-        ensures refused { IfErr result (λ e. e.kind ≡ DataErrorKind.Memory) }
-        ensures present { IsSome (value_at text_cmp self.old.complex_region region) → IsOk result }
+        ensures table { self.new ≡ record self.old { complex_region = self.new.complex_region } }
+        ensures insert { Inserts text_cmp self.old.complex_region self.new.complex_region
+            region value result }
     {
         self.complex_region.insert(region, value)
     }
 
     /// The regions of which one replaces a region, if there is a row. It takes no memory.
     pub fn get_complex_region(&self, region: Region) -> Option<&[Region]>
-        ensures { option_copied result ≡ option_map (λ regions. regions.items) (value_at text_cmp self.now.complex_region region) }
+        ensures { option_copied result ≡ regions_at self.now.complex_region region }
     {
         Some(self.complex_region.get(&region)?.as_slice())
     }
@@ -353,11 +349,8 @@ impl Aliases {
     ///
     /// `Memory`, only where the list of rows had to grow and could not: the table is unchanged then.
     pub fn insert_variant(&mut self, variant: Variant, value: Variant) -> Result<(), DataError>
-        ensures ok { OnOk result (self.new ≡ record self.old { variant = insert_entry text_cmp self.old.variant variant value }) }
-        ensures sets { OnOk result (SetsOnly text_cmp self.old.variant self.new.variant variant (Some value)) }
-        ensures err { OnErr result (self.new ≡ self.old) }
-        ensures refused { IfErr result (λ e. e.kind ≡ DataErrorKind.Memory) }
-        ensures present { IsSome (value_at text_cmp self.old.variant variant) → IsOk result }
+        ensures table { self.new ≡ record self.old { variant = self.new.variant } }
+        ensures insert { Inserts text_cmp self.old.variant self.new.variant variant value result }
     {
         self.variant.insert(variant, value)
     }
@@ -383,18 +376,16 @@ impl Aliases {
     ///
     /// `Memory`, only where the list of rows had to grow and could not: the table is unchanged then.
     pub fn insert_subdivision(&mut self, subtag: Subtag, value: String) -> Result<(), DataError>
-        ensures ok { OnOk result (self.new ≡ record self.old { subdivision = insert_entry text_cmp self.old.subdivision subtag value }) }
-        ensures sets { OnOk result (SetsOnly text_cmp self.old.subdivision self.new.subdivision subtag (Some value)) }
-        ensures err { OnErr result (self.new ≡ self.old) }
-        ensures refused { IfErr result (λ e. e.kind ≡ DataErrorKind.Memory) }
-        ensures present { IsSome (value_at text_cmp self.old.subdivision subtag) → IsOk result }
+        ensures table { self.new ≡ record self.old { subdivision = self.new.subdivision } }
+        ensures insert { Inserts text_cmp self.old.subdivision self.new.subdivision
+            subtag value result }
     {
         self.subdivision.insert(subtag, value)
     }
 
     /// The value text that replaces a subdivision, if there is a row. It takes no memory.
     pub fn get_subdivision(&self, subtag: Subtag) -> Option<&str>
-        ensures { option_copied result ≡ option_map string_bytes (value_at text_cmp self.now.subdivision subtag) }
+        ensures { option_copied result ≡ text_at self.now.subdivision subtag }
     {
         Some(self.subdivision.get(&subtag)?.as_str())
     }

@@ -1,11 +1,10 @@
 //! Which way scripts run.
-ghost use Rattle.std.specs.Prelude.{◌≡◌, [], Some, IsOk, IsTrue, IfErr, OnOk, OnErr};
-ghost use Rattle.std.specs.BTreeMap.{insert_entry};
+ghost use Rattle.std.specs.Prelude.{◌≡◌, []};
 ghost use Rattle.icu_locale_core.specs.TextSet.{text_cmp};
-ghost use Rattle.icu_locale_core.specs.Maps.{SetsOnly};
+ghost use Rattle.icu_provider.specs.Inserts.{Inserts};
 ghost use Rattle.icu_provider.specs.ScriptDirection.{is_listed};
 
-use crate::{DataError, DataErrorKind, SortedMap};
+use crate::{DataError, SortedMap};
 use icu_locale_core::Script;
 use std::alloc::Global;
 
@@ -42,11 +41,8 @@ impl ScriptDirection {
     ///
     /// `Memory`, only where the list of scripts had to grow and could not: both sets are unchanged then.
     pub fn insert_rtl(&mut self, script: Script) -> Result<(), DataError>
-        ensures ok { OnOk result (self.new ≡ record self.old { rtl = insert_entry text_cmp self.old.rtl script tt }) }
-        ensures sets { OnOk result (SetsOnly text_cmp self.old.rtl self.new.rtl script (Some tt)) }
-        ensures err { OnErr result (self.new ≡ self.old) }
-        ensures refused { IfErr result (λ e. e.kind ≡ DataErrorKind.Memory) }
-        ensures present { IsTrue (is_listed self.old.rtl script) → IsOk result }
+        ensures table { self.new ≡ record self.old { rtl = self.new.rtl } }
+        ensures insert { Inserts text_cmp self.old.rtl self.new.rtl script tt result }
     {
         self.rtl.insert(script, ())
     }
@@ -57,11 +53,8 @@ impl ScriptDirection {
     ///
     /// `Memory`, only where the list of scripts had to grow and could not: both sets are unchanged then.
     pub fn insert_ltr(&mut self, script: Script) -> Result<(), DataError>
-        ensures ok { OnOk result (self.new ≡ record self.old { ltr = insert_entry text_cmp self.old.ltr script tt }) }
-        ensures sets { OnOk result (SetsOnly text_cmp self.old.ltr self.new.ltr script (Some tt)) }
-        ensures err { OnErr result (self.new ≡ self.old) }
-        ensures refused { IfErr result (λ e. e.kind ≡ DataErrorKind.Memory) }
-        ensures present { IsTrue (is_listed self.old.ltr script) → IsOk result }
+        ensures table { self.new ≡ record self.old { ltr = self.new.ltr } }
+        ensures insert { Inserts text_cmp self.old.ltr self.new.ltr script tt result }
     {
         self.ltr.insert(script, ())
     }

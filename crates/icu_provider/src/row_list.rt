@@ -1,7 +1,8 @@
 //! A list of rows in the order in which they were pushed.
-ghost use Rattle.std.specs.Prelude.{◌≡◌, ◌++◌, ◌∷◌, [], IfErr, OnOk, OnErr};
+ghost use Rattle.std.specs.Prelude.{◌≡◌, []};
+ghost use Rattle.icu_provider.specs.Inserts.{Pushes};
 
-use crate::{DataError, DataErrorKind};
+use crate::DataError;
 use std::alloc::Global;
 use std::marker::Model;
 
@@ -44,16 +45,9 @@ impl<T> RowList<T> {
     pub fn push(&mut self, row: T) -> Result<(), DataError>
     where
         T: Drop,
-        ensures ok { OnOk result (self.new ≡ self.old ++ row ∷ []) }
-        ensures err { OnErr result (self.new ≡ self.old) }
-        ensures refused { IfErr result (λ e. e.kind ≡ DataErrorKind.Memory) }
+        ensures { Pushes self.old self.new row result }
     {
-        match self.rows.push(row) {
-            Ok(()) => Ok(()),
-            Err(_) => Err(DataError {
-                kind: DataErrorKind::Memory,
-            }),
-        }
+        Ok(self.rows.push(row)?)
     }
 
     /// The rows in order. It takes no memory.

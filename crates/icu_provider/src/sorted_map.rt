@@ -1,14 +1,15 @@
 //! A map in a sorted list: look-ups by binary search, and walks in the keys' order.
-ghost use Rattle.std.specs.Prelude.{◌≡◌, ◌==◌, [], length, Some, IsSome, IsOk, IfErr, MatchResult, OnOk, OnErr, is_some, option_copied};
+ghost use Rattle.std.specs.Prelude.{◌≡◌, ◌==◌, [], length};
+ghost use Rattle.std.specs.Prelude.{Some, MatchResult, is_some, option_copied};
 ghost use Rattle.std.specs.List.{All};
 ghost use Rattle.std.specs.Map.Iter.{deref_pair};
 ghost use Rattle.std.specs.Iterator.{YieldsFirstBy, item_count};
-ghost use Rattle.std.specs.BTreeMap.{insert_entry};
-ghost use Rattle.icu_locale_core.specs.Maps.{SetsOnly, value_at};
+ghost use Rattle.icu_locale_core.specs.Maps.{value_at};
+ghost use Rattle.icu_provider.specs.Inserts.{Inserts};
 ghost use Rattle.icu_provider.specs.Maps.{IsSortedMap};
 ghost use Rattle.icu_provider.specs.Places.{IsAt, IsGapFor};
 
-use crate::{DataError, DataErrorKind};
+use crate::DataError;
 use std::alloc::{AllocError, Global};
 use std::cmp::{Ord, Ordering};
 use std::marker::Model;
@@ -89,11 +90,7 @@ impl<K: Ord, V> SortedMap<K, V> {
     where
         K: Drop,
         V: Drop,
-        ensures ok { OnOk result (self.new ≡ insert_entry K.cmp self.old key value) }
-        ensures sets { OnOk result (SetsOnly K.cmp self.old self.new key (Some value)) }
-        ensures err { OnErr result (self.new ≡ self.old) }
-        ensures refused { IfErr result (λ e. e.kind ≡ DataErrorKind.Memory) }
-        ensures present { IsSome (value_at K.cmp self.old key) → IsOk result }
+        ensures { Inserts K.cmp self.old self.new key value result }
     {
         match self.search(&key) {
             Ok(at) => {
@@ -125,7 +122,8 @@ impl<K: Ord, V> SortedMap<K, V> {
 
     // Where the key stands, or where it would go.
     fn search(&self, key: &K) -> Result<usize, usize>
-        ensures { MatchResult result (IsAt K.cmp self.now key.now) (IsGapFor K.cmp self.now key.now) }
+        ensures { MatchResult result
+            (IsAt K.cmp self.now key.now) (IsGapFor K.cmp self.now key.now) }
     {
         self.entries.binary_search_by(
             |row: &(K, V)| -> Ordering
@@ -179,7 +177,7 @@ impl<'a, K, V> Iterator for Rows<'a, K, V> {
 
     fn next(&mut self) -> Option<(&'a K, &'a V)> {
         let (first, others) = self.rows.split_first()?;
-        self.rows = others;
+        *self = Rows { rows: others };
         Some((&first.0, &first.1))
     }
 }

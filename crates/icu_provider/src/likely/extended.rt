@@ -1,11 +1,11 @@
 //! Further likely subtags.
-ghost use Rattle.std.specs.Prelude.{◌≡◌, [], Some, IsSome, IsOk, IfErr, OnOk, OnErr};
-ghost use Rattle.std.specs.BTreeMap.{insert_entry};
+ghost use Rattle.std.specs.Prelude.{◌≡◌, []};
 ghost use Rattle.icu_locale_core.specs.TextSet.{text_cmp};
-ghost use Rattle.icu_locale_core.specs.Maps.{SetsOnly, value_at};
+ghost use Rattle.icu_locale_core.specs.Maps.{value_at};
+ghost use Rattle.icu_provider.specs.Inserts.{Inserts};
 ghost use Rattle.icu_provider.specs.Maps.{IsSortedMap, pair_cmp};
 
-use crate::{DataError, DataErrorKind, Rows, SortedMap};
+use crate::{DataError, Rows, SortedMap};
 use icu_locale_core::{Language, Region, Script};
 use std::alloc::Global;
 
@@ -42,7 +42,14 @@ impl Drop for LikelySubtagsExtended {
 impl LikelySubtagsExtended {
     /// A table without rows. It takes no memory.
     pub fn new(alloc: Global) -> Self
-        ensures { result ≡ record { language = []; language_script = []; language_region = []; script_region = []; script = []; region = [] } }
+        ensures { result ≡ record {
+          language = [];
+          language_script = [];
+          language_region = [];
+          script_region = [];
+          script = [];
+          region = [];
+        } }
     {
         LikelySubtagsExtended {
             language: SortedMap::new(alloc),
@@ -65,11 +72,9 @@ impl LikelySubtagsExtended {
         script: Script,
         region: Region,
     ) -> Result<(), DataError>
-        ensures ok { OnOk result (self.new ≡ record self.old { language = insert_entry text_cmp self.old.language language (script, region) }) }
-        ensures sets { OnOk result (SetsOnly text_cmp self.old.language self.new.language language (Some (script, region))) }
-        ensures err { OnErr result (self.new ≡ self.old) }
-        ensures refused { IfErr result (λ e. e.kind ≡ DataErrorKind.Memory) }
-        ensures present { IsSome (value_at text_cmp self.old.language language) → IsOk result }
+        ensures table { self.new ≡ record self.old { language = self.new.language } }
+        ensures insert { Inserts text_cmp self.old.language self.new.language
+            language (script, region) result }
     {
         self.language.insert(language, (script, region))
     }
@@ -100,11 +105,9 @@ impl LikelySubtagsExtended {
         script: Script,
         region: Region,
     ) -> Result<(), DataError>
-        ensures ok { OnOk result (self.new ≡ record self.old { language_script = insert_entry pair_cmp self.old.language_script (language, script) region }) }
-        ensures sets { OnOk result (SetsOnly pair_cmp self.old.language_script self.new.language_script (language, script) (Some region)) }
-        ensures err { OnErr result (self.new ≡ self.old) }
-        ensures refused { IfErr result (λ e. e.kind ≡ DataErrorKind.Memory) }
-        ensures present { IsSome (value_at pair_cmp self.old.language_script (language, script)) → IsOk result }
+        ensures table { self.new ≡ record self.old { language_script = self.new.language_script } }
+        ensures insert { Inserts pair_cmp self.old.language_script self.new.language_script
+            (language, script) region result }
     {
         self.language_script.insert((language, script), region)
     }
@@ -135,11 +138,9 @@ impl LikelySubtagsExtended {
         region: Region,
         script: Script,
     ) -> Result<(), DataError>
-        ensures ok { OnOk result (self.new ≡ record self.old { language_region = insert_entry pair_cmp self.old.language_region (language, region) script }) }
-        ensures sets { OnOk result (SetsOnly pair_cmp self.old.language_region self.new.language_region (language, region) (Some script)) }
-        ensures err { OnErr result (self.new ≡ self.old) }
-        ensures refused { IfErr result (λ e. e.kind ≡ DataErrorKind.Memory) }
-        ensures present { IsSome (value_at pair_cmp self.old.language_region (language, region)) → IsOk result }
+        ensures table { self.new ≡ record self.old { language_region = self.new.language_region } }
+        ensures insert { Inserts pair_cmp self.old.language_region self.new.language_region
+            (language, region) script result }
     {
         self.language_region.insert((language, region), script)
     }
@@ -170,11 +171,9 @@ impl LikelySubtagsExtended {
         region: Region,
         language: Language,
     ) -> Result<(), DataError>
-        ensures ok { OnOk result (self.new ≡ record self.old { script_region = insert_entry pair_cmp self.old.script_region (script, region) language }) }
-        ensures sets { OnOk result (SetsOnly pair_cmp self.old.script_region self.new.script_region (script, region) (Some language)) }
-        ensures err { OnErr result (self.new ≡ self.old) }
-        ensures refused { IfErr result (λ e. e.kind ≡ DataErrorKind.Memory) }
-        ensures present { IsSome (value_at pair_cmp self.old.script_region (script, region)) → IsOk result }
+        ensures table { self.new ≡ record self.old { script_region = self.new.script_region } }
+        ensures insert { Inserts pair_cmp self.old.script_region self.new.script_region
+            (script, region) language result }
     {
         self.script_region.insert((script, region), language)
     }
@@ -205,11 +204,9 @@ impl LikelySubtagsExtended {
         language: Language,
         region: Region,
     ) -> Result<(), DataError>
-        ensures ok { OnOk result (self.new ≡ record self.old { script = insert_entry text_cmp self.old.script script (language, region) }) }
-        ensures sets { OnOk result (SetsOnly text_cmp self.old.script self.new.script script (Some (language, region))) }
-        ensures err { OnErr result (self.new ≡ self.old) }
-        ensures refused { IfErr result (λ e. e.kind ≡ DataErrorKind.Memory) }
-        ensures present { IsSome (value_at text_cmp self.old.script script) → IsOk result }
+        ensures table { self.new ≡ record self.old { script = self.new.script } }
+        ensures insert { Inserts text_cmp self.old.script self.new.script
+            script (language, region) result }
     {
         self.script.insert(script, (language, region))
     }
@@ -240,11 +237,9 @@ impl LikelySubtagsExtended {
         language: Language,
         script: Script,
     ) -> Result<(), DataError>
-        ensures ok { OnOk result (self.new ≡ record self.old { region = insert_entry text_cmp self.old.region region (language, script) }) }
-        ensures sets { OnOk result (SetsOnly text_cmp self.old.region self.new.region region (Some (language, script))) }
-        ensures err { OnErr result (self.new ≡ self.old) }
-        ensures refused { IfErr result (λ e. e.kind ≡ DataErrorKind.Memory) }
-        ensures present { IsSome (value_at text_cmp self.old.region region) → IsOk result }
+        ensures table { self.new ≡ record self.old { region = self.new.region } }
+        ensures insert { Inserts text_cmp self.old.region self.new.region
+            region (language, script) result }
     {
         self.region.insert(region, (language, script))
     }

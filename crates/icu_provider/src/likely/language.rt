@@ -1,11 +1,11 @@
 //! Likely subtags by language.
-ghost use Rattle.std.specs.Prelude.{◌≡◌, [], Some, IsSome, IsOk, IfErr, OnOk, OnErr};
-ghost use Rattle.std.specs.BTreeMap.{insert_entry};
+ghost use Rattle.std.specs.Prelude.{◌≡◌, []};
 ghost use Rattle.icu_locale_core.specs.TextSet.{text_cmp};
-ghost use Rattle.icu_locale_core.specs.Maps.{SetsOnly, value_at};
+ghost use Rattle.icu_locale_core.specs.Maps.{value_at};
+ghost use Rattle.icu_provider.specs.Inserts.{Inserts};
 ghost use Rattle.icu_provider.specs.Maps.{IsSortedMap, pair_cmp};
 
-use crate::{DataError, DataErrorKind, Rows, SortedMap};
+use crate::{DataError, Rows, SortedMap};
 use icu_locale_core::{Language, Region, Script};
 use std::alloc::Global;
 
@@ -36,7 +36,12 @@ impl Drop for LikelySubtagsForLanguage {
 impl LikelySubtagsForLanguage {
     /// A table without rows and with the triple of `und`. It takes no memory.
     pub fn new(alloc: Global, und: (Language, Script, Region)) -> Self
-        ensures { result ≡ record { und = und; language = []; language_script = []; language_region = [] } }
+        ensures { result ≡ record {
+          und = und;
+          language = [];
+          language_script = [];
+          language_region = [];
+        } }
     {
         LikelySubtagsForLanguage {
             und,
@@ -64,11 +69,9 @@ impl LikelySubtagsForLanguage {
         script: Script,
         region: Region,
     ) -> Result<(), DataError>
-        ensures ok { OnOk result (self.new ≡ record self.old { language = insert_entry text_cmp self.old.language language (script, region) }) }
-        ensures sets { OnOk result (SetsOnly text_cmp self.old.language self.new.language language (Some (script, region))) }
-        ensures err { OnErr result (self.new ≡ self.old) }
-        ensures refused { IfErr result (λ e. e.kind ≡ DataErrorKind.Memory) }
-        ensures present { IsSome (value_at text_cmp self.old.language language) → IsOk result }
+        ensures table { self.new ≡ record self.old { language = self.new.language } }
+        ensures insert { Inserts text_cmp self.old.language self.new.language
+            language (script, region) result }
     {
         self.language.insert(language, (script, region))
     }
@@ -99,11 +102,9 @@ impl LikelySubtagsForLanguage {
         script: Script,
         region: Region,
     ) -> Result<(), DataError>
-        ensures ok { OnOk result (self.new ≡ record self.old { language_script = insert_entry pair_cmp self.old.language_script (language, script) region }) }
-        ensures sets { OnOk result (SetsOnly pair_cmp self.old.language_script self.new.language_script (language, script) (Some region)) }
-        ensures err { OnErr result (self.new ≡ self.old) }
-        ensures refused { IfErr result (λ e. e.kind ≡ DataErrorKind.Memory) }
-        ensures present { IsSome (value_at pair_cmp self.old.language_script (language, script)) → IsOk result }
+        ensures table { self.new ≡ record self.old { language_script = self.new.language_script } }
+        ensures insert { Inserts pair_cmp self.old.language_script self.new.language_script
+            (language, script) region result }
     {
         self.language_script.insert((language, script), region)
     }
@@ -134,11 +135,9 @@ impl LikelySubtagsForLanguage {
         region: Region,
         script: Script,
     ) -> Result<(), DataError>
-        ensures ok { OnOk result (self.new ≡ record self.old { language_region = insert_entry pair_cmp self.old.language_region (language, region) script }) }
-        ensures sets { OnOk result (SetsOnly pair_cmp self.old.language_region self.new.language_region (language, region) (Some script)) }
-        ensures err { OnErr result (self.new ≡ self.old) }
-        ensures refused { IfErr result (λ e. e.kind ≡ DataErrorKind.Memory) }
-        ensures present { IsSome (value_at pair_cmp self.old.language_region (language, region)) → IsOk result }
+        ensures table { self.new ≡ record self.old { language_region = self.new.language_region } }
+        ensures insert { Inserts pair_cmp self.old.language_region self.new.language_region
+            (language, region) script result }
     {
         self.language_region.insert((language, region), script)
     }

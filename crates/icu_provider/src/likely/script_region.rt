@@ -1,11 +1,11 @@
 //! Likely subtags by script and region.
-ghost use Rattle.std.specs.Prelude.{◌≡◌, [], Some, IsSome, IsOk, IfErr, OnOk, OnErr};
-ghost use Rattle.std.specs.BTreeMap.{insert_entry};
+ghost use Rattle.std.specs.Prelude.{◌≡◌, []};
 ghost use Rattle.icu_locale_core.specs.TextSet.{text_cmp};
-ghost use Rattle.icu_locale_core.specs.Maps.{SetsOnly, value_at};
+ghost use Rattle.icu_locale_core.specs.Maps.{value_at};
+ghost use Rattle.icu_provider.specs.Inserts.{Inserts};
 ghost use Rattle.icu_provider.specs.Maps.{IsSortedMap, pair_cmp};
 
-use crate::{DataError, DataErrorKind, Rows, SortedMap};
+use crate::{DataError, Rows, SortedMap};
 use icu_locale_core::{Language, Region, Script};
 use std::alloc::Global;
 
@@ -53,11 +53,9 @@ impl LikelySubtagsForScriptRegion {
         region: Region,
         language: Language,
     ) -> Result<(), DataError>
-        ensures ok { OnOk result (self.new ≡ record self.old { script_region = insert_entry pair_cmp self.old.script_region (script, region) language }) }
-        ensures sets { OnOk result (SetsOnly pair_cmp self.old.script_region self.new.script_region (script, region) (Some language)) }
-        ensures err { OnErr result (self.new ≡ self.old) }
-        ensures refused { IfErr result (λ e. e.kind ≡ DataErrorKind.Memory) }
-        ensures present { IsSome (value_at pair_cmp self.old.script_region (script, region)) → IsOk result }
+        ensures table { self.new ≡ record self.old { script_region = self.new.script_region } }
+        ensures insert { Inserts pair_cmp self.old.script_region self.new.script_region
+            (script, region) language result }
     {
         self.script_region.insert((script, region), language)
     }
@@ -88,11 +86,9 @@ impl LikelySubtagsForScriptRegion {
         language: Language,
         region: Region,
     ) -> Result<(), DataError>
-        ensures ok { OnOk result (self.new ≡ record self.old { script = insert_entry text_cmp self.old.script script (language, region) }) }
-        ensures sets { OnOk result (SetsOnly text_cmp self.old.script self.new.script script (Some (language, region))) }
-        ensures err { OnErr result (self.new ≡ self.old) }
-        ensures refused { IfErr result (λ e. e.kind ≡ DataErrorKind.Memory) }
-        ensures present { IsSome (value_at text_cmp self.old.script script) → IsOk result }
+        ensures table { self.new ≡ record self.old { script = self.new.script } }
+        ensures insert { Inserts text_cmp self.old.script self.new.script
+            script (language, region) result }
     {
         self.script.insert(script, (language, region))
     }
@@ -123,11 +119,9 @@ impl LikelySubtagsForScriptRegion {
         language: Language,
         script: Script,
     ) -> Result<(), DataError>
-        ensures ok { OnOk result (self.new ≡ record self.old { region = insert_entry text_cmp self.old.region region (language, script) }) }
-        ensures sets { OnOk result (SetsOnly text_cmp self.old.region self.new.region region (Some (language, script))) }
-        ensures err { OnErr result (self.new ≡ self.old) }
-        ensures refused { IfErr result (λ e. e.kind ≡ DataErrorKind.Memory) }
-        ensures present { IsSome (value_at text_cmp self.old.region region) → IsOk result }
+        ensures table { self.new ≡ record self.old { region = self.new.region } }
+        ensures insert { Inserts text_cmp self.old.region self.new.region
+            region (language, script) result }
     {
         self.region.insert(region, (language, script))
     }
