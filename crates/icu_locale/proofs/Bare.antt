@@ -1,5 +1,5 @@
 -- Identifiers without variants stay so, where no replacement adds variants.
-use Rattle.std.proofs.Common.{◌≡◌, ◌==◌, ℕ, zero, suc, Bool, true, false, cond, List, length, Option, Some, None, IfSome, is_some, option_and_then, unwrap_or, inl, inr, codes, refl, ap, sym, ◌∙◌, subst}
+use Rattle.std.proofs.Common.{◌≡◌, ◌==◌, ◌&&◌, ◌||◌, not, ℕ, zero, suc, Bool, true, false, cond, List, length, Option, Some, None, IfSome, is_some, option_and_then, unwrap_or, inl, inr, codes, refl, ap, sym, ◌∙◌, subst}
 use Rattle.std.specs.List.{find, list_any}
 use Rattle.std.specs.Option.{option_map, option_or}
 use Rattle.std.proofs.lemmas.Bool.{false≢true}
@@ -7,8 +7,7 @@ use Rattle.std.proofs.lemmas.List.Elements.{All-contains}
 use Rattle.std.proofs.lemmas.Option.{none-some, same_Some, option_and_then_some}
 use Rattle.icu_locale_core.specs.TextSet.{TextSet, text_cmp, empty, contains, rising, len, union, difference, image}
 use Rattle.icu_locale_core.specs.declared.langid.LanguageIdentifier.{LanguageIdentifier}
-use Rattle.icu_locale_core.proofs.SetOperations.{contains-empty, is_subset-from, replaced-empty}
-use Rattle.icu_locale_core.proofs.VariantLists.{length-rising_empty}
+use Rattle.icu_locale_core.specs.laws.TextSets.{same_set, contains-empty, contains-replaced, length-rising_empty}
 use Rattle.icu_locale_core.specs.Maps.{value_at}
 use Rattle.icu_locale.specs.LikelySubtags.{LikelySubtags}
 use Rattle.icu_locale.specs.Replacement.{matches, replaced, of_language}
@@ -28,7 +27,16 @@ IfSome-from (Some z) P h = h z refl
 
 none_replaced : (s a b : TextSet) → s ≡ empty → b ≡ empty → union (difference s a) b ≡ empty
 none_replaced s a b no_s no_b =
-    sym (replaced-empty s a b (is_subset-from s a (λ q here. absurd (false≢true (sym (contains-empty q) ∙ ap (λ u. contains u q) (sym no_s) ∙ here)))) no_b)
+    same_set (union (difference s a) b) empty (λ q.
+        contains-replaced s a b q
+        ∙ (λ i. (not (contains a q) && contains (no_s i) q) || contains (no_b i) q)
+        ∙ (λ i. (not (contains a q) && contains-empty q i) || contains-empty q i)
+        ∙ none_of (contains a q)
+        ∙ sym (contains-empty q))
+  where
+    none_of : (in_a : Bool) → ((not in_a && false) || false) ≡ false
+    none_of true = refl
+    none_of false = refl
 
 module _ (likely : LikelySubtags) (rules : Rules) where
   plain_rule : (test : Bool) (y z : LanguageIdentifier) → test ≡ true → AddsNoVariants rules → y.variants ≡ empty → option_map (λ r. replaced y r.source r.replacement) (find (λ r. matches y r.source) (cond test rules.language rules.language_variants)) ≡ Some z → z.variants ≡ empty

@@ -4,9 +4,7 @@ use Rattle.std.specs.Ordering.{is_eq}
 use Rattle.std.proofs.lemmas.Bool.{false≢true}
 use Rattle.std.proofs.lemmas.Cmp.{tied_itself}
 use Rattle.icu_locale_core.specs.TextSet.{TextSet, empty, contains, from_list, rising, image}
-use Rattle.icu_locale_core.proofs.TextSets.{text_total, is_among, contains-from_list, from_list-rising}
-use Rattle.icu_locale_core.proofs.SetOperations.{contains-empty}
-use Rattle.icu_locale_core.proofs.VariantLists.{length-rising_empty}
+use Rattle.icu_locale_core.specs.laws.TextSets.{text_total, is_among, contains-from_list, from_list-rising, contains-empty, length-rising_empty}
 
 among_first : (t : List ℕ) (ts : List (List ℕ)) → is_among t (t ∷ ts) ≡ true
 among_first t ts = ap (λ b. b || is_among t ts) (ap is_eq (tied_itself text_total t))

@@ -8,9 +8,8 @@ use Rattle.std.proofs.lemmas.Cmp.{tied_itself}
 use Rattle.icu_locale_core.specs.Keywords.{KeywordRows}
 use Rattle.icu_locale_core.specs.Maps.{value_at}
 use Rattle.icu_locale_core.specs.TextSet.{text_cmp}
-use Rattle.icu_locale_core.proofs.TextSets.{text_total}
-use Rattle.icu_locale_core.proofs.SetOperations.{same_from_tied}
-use Rattle.icu_provider.proofs.Maps.{SetsOnly-insert_entry}
+use Rattle.icu_locale_core.specs.laws.TextSets.{text_total, same_from_tied}
+use Rattle.icu_locale_core.specs.laws.Maps.{SetsOnly-insert_entry}
 use Rattle.icu_locale.specs.Canonical.{rg, sd, put, subdivision_alias, canonical_keywords}
 use Rattle.icu_locale.specs.declared.canonicalizer.rules.Rules.{Rules}
 

@@ -5,8 +5,7 @@ use Rattle.std.specs.Option.{option_or}
 use Rattle.std.proofs.lemmas.Option.{none-some}
 use Rattle.icu_locale_core.specs.TextSet.{TextSet, empty, contains, union, difference}
 use Rattle.icu_locale_core.specs.declared.langid.LanguageIdentifier.{LanguageIdentifier}
-use Rattle.icu_locale_core.proofs.TextSets.{same_set}
-use Rattle.icu_locale_core.proofs.SetOperations.{contains-replaced, contains-empty}
+use Rattle.icu_locale_core.specs.laws.TextSets.{same_set, contains-replaced, contains-empty}
 use Rattle.icu_locale.specs.Replacement.{is_known, part, replaced, of_language}
 
 -- a set without none and with none is that set

@@ -1,5 +1,5 @@
 -- The sets of texts of a list are exactly those whose members the list has.
-use Rattle.std.proofs.Common.{◌≡◌, ℕ, Bool, true, false, not, ◌&&◌, ◌||◌, List, [], ◌∷◌, map, is_some, inl, inr, refl, ap, sym, ◌∙◌, subst}
+use Rattle.std.proofs.Common.{◌≡◌, ℕ, Bool, true, false, not, ◌&&◌, ◌||◌, List, [], ◌∷◌, map, inl, inr, refl, ap, sym, ◌∙◌, subst}
 use Rattle.std.proofs.Math.Bool.{or-false}
 use Rattle.std.specs.List.{Contains}
 use Rattle.std.specs.Ordering.{eq_by_cmp, is_eq}
@@ -8,13 +8,9 @@ use Rattle.std.proofs.lemmas.Bool.{false≢true, cases_Bool, or_cases, false_fro
 use Rattle.std.proofs.lemmas.Cmp.{tied_itself}
 use Rattle.std.proofs.lemmas.List.Elements.{Contains-append_left, Contains-append_right, Contains-append_cases}
 use Rattle.icu_locale_core.specs.TextSet.{TextSet, text_cmp, empty, contains, from_list, difference}
-use Rattle.icu_locale_core.proofs.TextSets.{text_total, same_set, is_some-insert}
-use Rattle.icu_locale_core.proofs.SetOperations.{same_from_tied, contains-difference, contains-empty}
+use Rattle.icu_locale_core.specs.laws.TextSets.{text_total, same_set, same_from_tied, contains-insert, contains-difference, contains-empty}
 use Rattle.icu_locale.specs.Universe.{subsets}
 use Rattle.icu_locale.proofs.Lists.{Contains-here, Contains-there, Contains-cons_cases, Contains-nil, Contains-map, Contains-from_map}
-
-pub contains-insert : (s : TextSet) (t q : List ℕ) → contains (fin.insert s t tt) q ≡ (eq_by_cmp text_cmp q t || contains s q)
-contains-insert s t q = ap is_some (fin.get-insert text_total s t tt q) ∙ is_some-insert (eq_by_cmp text_cmp q t) (fin.get s q)
 
 pub contains-one : (t q : List ℕ) → contains (from_list (t ∷ [])) q ≡ eq_by_cmp text_cmp q t
 contains-one t q = contains-insert empty t q ∙ ap (λ b. eq_by_cmp text_cmp q t || b) (contains-empty q) ∙ or-false (eq_by_cmp text_cmp q t)

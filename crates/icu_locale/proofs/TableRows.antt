@@ -8,18 +8,19 @@ use Rattle.std.specs.declared.cmp.Ordering.{Ordering}
 use Rattle.std.specs.declared.cmp.Ordering.TheVariants.{Less, Equal, Greater}
 use Rattle.std.specs.Ordering.{ordering_then}
 use Rattle.std.specs.FinMap.{IsAntisymmetric}
+use Rattle.std.specs.Cmp.{Equal-is}
 use Rattle.std.proofs.lemmas.Bool.{and_parts, false≢true}
+use Rattle.std.proofs.lemmas.Map.Views.{Contains-from_lookup}
 use Rattle.icu_locale_core.specs.TextSet.{text_cmp}
 use Rattle.icu_locale_core.specs.Maps.{value_at}
 use Rattle.icu_provider.specs.Maps.{pair_cmp}
-use Rattle.icu_provider.proofs.Maps.{Contains-from_lookup}
 use Rattle.icu_provider.specs.declared.likely.extended.LikelySubtagsExtended.{LikelySubtagsExtended}
 use Rattle.icu_locale.specs.LikelySubtags.{Key, LanguageRegion, LanguageScript, LanguageAlone, ScriptRegion, ScriptAlone, RegionAlone, LikelySubtags, Triple}
 use Rattle.icu_locale.specs.Expander.{LikelyRows, common_rows, extended_rows, row_at, common_row, extension_row, und_row, likely, keys_by}
 use Rattle.icu_locale.specs.Settled.{AreSettled}
 use Rattle.icu_locale.specs.SettledRows.{settles, AllSettle, RowsSettle, UndRowsSettle, AllRowsSettle, IsUnsettled}
 use Rattle.icu_locale.specs.declared.expander.LocaleExpander.{LocaleExpander}
-use Rattle.icu_locale_core.proofs.TextSets.{text_same}
+use Rattle.icu_locale_core.specs.laws.TextSets.{text_same}
 use Rattle.icu_locale.proofs.Lists.{Contains-map}
 use Rattle.icu_locale.proofs.Options.{some_map, some_or}
 use Rattle.icu_locale.proofs.Locales.{same_text}
@@ -41,8 +42,7 @@ pair_same x y e =
 -- a key with a value is that of a row
 pub row_found : {K V : Type 0} (compare : K → K → Ordering) → IsAntisymmetric compare → (rows : List (K × V)) (q : K) (v : V) → value_at compare rows q ≡ Some v → (row : K × V) × Contains rows row × (row.0 ≡ q)
 row_found compare same rows q v found =
-    let row = Contains-from_lookup compare rows q v found in
-    (row.0, row.1, sym (same q row.0.0 row.2))
+    ((q, v), Contains-from_lookup (λ x y tied. same x y ((Equal-is (compare x y)).0 tied)) q v rows found, refl)
 
 -- so it is looked at
 settled_at : {K V : Type 0} (table : LikelySubtags) (key : K → Key) (rows : List (K × V)) (q : K) → AllSettle table key rows → (row : K × V) × Contains rows row × (row.0 ≡ q) → settles table (key q) ≡ true

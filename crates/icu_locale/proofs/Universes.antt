@@ -10,7 +10,7 @@ use Rattle.std.proofs.lemmas.Option.{none-some, same_Some, option_and_then_some}
 use Rattle.icu_locale_core.specs.Subtag.{is_alphabetic}
 use Rattle.icu_locale_core.specs.TextSet.{text_cmp, empty, len, rising, image}
 use Rattle.icu_locale_core.specs.declared.langid.LanguageIdentifier.{LanguageIdentifier}
-use Rattle.icu_locale_core.proofs.SetOperations.{same_from_tied}
+use Rattle.icu_locale_core.specs.laws.TextSets.{same_from_tied}
 use Rattle.icu_locale_core.specs.Maps.{value_at}
 use Rattle.icu_locale.specs.LikelySubtags.{LikelySubtags}
 use Rattle.icu_locale.specs.Replacement.{is_known, matches, replaced, of_language}

@@ -1,7 +1,7 @@
 -- The first line of a text ends at its first line feed.
 use Rattle.std.proofs.Common.{◌≡◌, ◌≢◌, ℕ, ◌+◌, true, false, cond, List, [], ◌∷◌, take, drop, Some, None, refl, ap, sym, ◌∙◌}
 use Rattle.std.specs.List.{slice_split, onto_first, position}
-use Rattle.icu_locale_core.proofs.Cutting.{slice_split-position, slice_split-no_position}
+use Rattle.icu_locale_core.specs.laws.Cuts.{slice_split-position, slice_split-no_position}
 use Rattle.icu_locale_cli.specs.Lines.{is_line_feed, without_empty_last, lines}
 
 -- a piece that others follow is a line

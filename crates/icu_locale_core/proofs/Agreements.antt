@@ -1,41 +1,35 @@
--- Equality, order and hash of texts and of identifiers agree.
+-- Equality, order and hash of texts, sets and identifiers agree.
 use Rattle.std.proofs.Common.{◌≡◌, ℕ, Bool, true, ◌&&◌, List, nat_eq, Option, Some, None, refl, ap, sym, ◌∙◌}
 use Rattle.std.specs.Cmp.Lexicographic.{pointwise, slice_cmp, texts_ties}
 use Rattle.std.specs.Ordering.{is_eq, nat_cmp}
 use Rattle.std.specs.declared.cmp.Ordering.{Ordering}
 use Rattle.std.specs.Hash.{HashWrites}
-use Rattle.std.proofs.lemmas.Bool.{false≢true, and_parts}
-use Rattle.std.proofs.lemmas.Slice.Eq.{bytes_eq-Decides}
+use Rattle.std.proofs.lemmas.Slice.Eq.{bytes_eq-Decides, slice_eq-Decides}
+use Rattle.std.proofs.lemmas.Bool.{and_parts}
 use Rattle.std.specs.Option.{option_eq, option_cmp}
 use Rattle.std.specs.Cmp.{both_tied, Equal-is}
-use Rattle.std.proofs.lemmas.Slice.Eq.{slice_eq-Decides}
 use Rattle.icu_locale_core.specs.Agreement.{Agree}
+use Rattle.icu_locale_core.specs.Hash.{fed_subtag}
+use Rattle.icu_locale_core.specs.Keywords.{KeywordRows, row_eq}
 use Rattle.icu_locale_core.specs.Order.{text_lists_ties, identifier_cmp}
-use Rattle.icu_locale_core.specs.TextSet.{TextSet, text_cmp, rising, from_list}
+use Rattle.icu_locale_core.specs.TextSet.{text_cmp}
 use Rattle.icu_locale_core.specs.declared.langid.LanguageIdentifier.{LanguageIdentifier}
-use Rattle.icu_locale_core.proofs.TextSets.{from_list-rising}
+use Rattle.icu_locale_core.specs.declared.locale.Locale.{Locale}
+use Rattle.icu_locale_core.specs.laws.Identifiers.{Tells, same_text, same_parts, options_tell, identifiers_decide}
+use Rattle.icu_locale_core.proofs.Hashes.{same_subtag}
 
--- a test that decides equality agrees with an order that ties where it passes
-pub Agree-from_test : {X : Type 0} (eq : X → X → Bool) (cmp : X → X → Ordering) (hash : X → HashWrites) → ((x y : X) → (eq x y ≡ true → x ≡ y) × (x ≡ y → eq x y ≡ true)) → ((x y : X) → eq x y ≡ is_eq (cmp x y)) → Agree eq cmp hash
-Agree-from_test eq cmp hash decides ties = record {
-  equal = λ x y. ((decides x y).0, (decides x y).1);
-  tied = λ x y. (λ e. (decides x y).0 (ties x y ∙ ap is_eq e), λ e. (Equal-is (cmp x y)).0 (sym (ties x y) ∙ (decides x y).1 e));
-  hashed = λ x y e. ap hash e;
+-- a test that tells equality agrees with an order that ties where it passes, and a hash that tells values apart
+pub Agree-from_test : {X : Type 0} (eq : X → X → Bool) (cmp : X → X → Ordering) (hash : X → HashWrites) → ((x y : X) → Tells (eq x y) (x ≡ y)) → ((x y : X) → eq x y ≡ is_eq (cmp x y)) → ((x y : X) → hash x ≡ hash y → x ≡ y) → Agree eq cmp hash
+Agree-from_test eq cmp hash tells ties apart = record {
+  equal = λ x y. ((tells x y).0, (tells x y).1);
+  tied = λ x y. (λ e. (tells x y).0 (ties x y ∙ ap is_eq e), λ e. (Equal-is (cmp x y)).0 (sym (ties x y) ∙ (tells x y).1 e));
+  hashed = λ x y. (apart x y, ap hash);
 }
 
-pub texts_agree : (hash : List ℕ → HashWrites) → Agree (pointwise nat_eq) (slice_cmp nat_cmp) hash
-texts_agree hash = Agree-from_test (pointwise nat_eq) (slice_cmp nat_cmp) hash (λ x y. bytes_eq-Decides x y) texts_ties
+pub texts_agree : Agree same_text (slice_cmp nat_cmp) fed_subtag
+texts_agree = Agree-from_test same_text (slice_cmp nat_cmp) fed_subtag (λ x y. bytes_eq-Decides x y) texts_ties same_subtag
 
--- ---- optional texts, and identifiers
-
-abbrev same_text : List ℕ → List ℕ → Bool
-same_text = pointwise nat_eq
-
-option_decides : (x y : Option (List ℕ)) → (option_eq same_text x y ≡ true → x ≡ y) × (x ≡ y → option_eq same_text x y ≡ true)
-option_decides None None = (λ e. refl, λ e. refl)
-option_decides None (Some y) = (λ e. absurd (false≢true e), λ e. absurd (cc))
-option_decides (Some x) None = (λ e. absurd (false≢true e), λ e. absurd (cc))
-option_decides (Some x) (Some y) = (λ e. ap Some ((bytes_eq-Decides x y).0 e), λ e. let same : x ≡ y = cc in (bytes_eq-Decides x y).1 same)
+-- ---- identifiers
 
 option_ties : (x y : Option (List ℕ)) → option_eq same_text x y ≡ is_eq (option_cmp text_cmp x y)
 option_ties None None = refl
@@ -43,35 +37,47 @@ option_ties None (Some y) = refl
 option_ties (Some x) None = refl
 option_ties (Some x) (Some y) = texts_ties x y
 
-variants_decide : (s u : TextSet) → (pointwise same_text (rising s) (rising u) ≡ true → s ≡ u) × (s ≡ u → pointwise same_text (rising s) (rising u) ≡ true)
-variants_decide s u =
-    let decides = slice_eq-Decides bytes_eq-Decides (rising s) (rising u) (pointwise same_text (rising s) (rising u)) refl in
-    (λ e. sym (from_list-rising s) ∙ ap from_list (decides.0 e) ∙ from_list-rising u, λ e. decides.1 (ap rising e))
-
-pub identifiers_decide : (x y : LanguageIdentifier)
-    → ((same_text x.language y.language && (option_eq same_text x.script y.script && (option_eq same_text x.region y.region && pointwise same_text (rising x.variants) (rising y.variants)))) ≡ true → x ≡ y)
-    × (x ≡ y → (same_text x.language y.language && (option_eq same_text x.script y.script && (option_eq same_text x.region y.region && pointwise same_text (rising x.variants) (rising y.variants)))) ≡ true)
-identifiers_decide x y = (
-  λ e.
-      let l = and_parts (same_text x.language y.language) _ e in
-      let s = and_parts (option_eq same_text x.script y.script) _ l.1 in
-      let r = and_parts (option_eq same_text x.region y.region) _ s.1 in
-      λ i. record {
-        language = (bytes_eq-Decides x.language y.language).0 l.0 i;
-        script = (option_decides x.script y.script).0 s.0 i;
-        region = (option_decides x.region y.region).0 r.0 i;
-        variants = (variants_decide x.variants y.variants).0 r.1 i;
-      },
-  λ e. λ i. (bytes_eq-Decides x.language y.language).1 (ap (λ (z : LanguageIdentifier). z.language) e) i
-      && ((option_decides x.script y.script).1 (ap (λ (z : LanguageIdentifier). z.script) e) i
-      && ((option_decides x.region y.region).1 (ap (λ (z : LanguageIdentifier). z.region) e) i
-      && (variants_decide x.variants y.variants).1 (ap (λ (z : LanguageIdentifier). z.variants) e) i)),
-)
-
-pub identifiers_tie : (x y : LanguageIdentifier)
-    → (same_text x.language y.language && (option_eq same_text x.script y.script && (option_eq same_text x.region y.region && pointwise same_text (rising x.variants) (rising y.variants))))
-    ≡ is_eq (identifier_cmp x y)
+pub identifiers_tie : (x y : LanguageIdentifier) → same_parts x y ≡ is_eq (identifier_cmp x y)
 identifiers_tie x y =
     both_tied _ _ (text_cmp x.language y.language) _ (texts_ties x.language y.language)
     (both_tied _ _ (option_cmp text_cmp x.script y.script) _ (option_ties x.script y.script)
     (both_tied _ _ (option_cmp text_cmp x.region y.region) _ (option_ties x.region y.region) (text_lists_ties x.variants y.variants)))
+
+-- ---- values and keywords
+
+pub values_tell : (v w : List (List ℕ)) → Tells (pointwise same_text v w) (v ≡ w)
+values_tell v w = slice_eq-Decides bytes_eq-Decides v w (pointwise same_text v w) refl
+
+rows_tell : (p q : List ℕ × List (List ℕ)) → Tells (row_eq p q) (p ≡ q)
+rows_tell p q = (
+  λ e.
+      let parts = and_parts (same_text p.0 q.0) _ e in
+      λ i. ((bytes_eq-Decides p.0 q.0).0 parts.0 i, (values_tell p.1 q.1).0 parts.1 i),
+  λ e. λ i. (bytes_eq-Decides p.0 q.0).1 (ap (λ (r : List ℕ × List (List ℕ)). r.0) e) i && (values_tell p.1 q.1).1 (ap (λ (r : List ℕ × List (List ℕ)). r.1) e) i,
+)
+
+pub keywords_tell : (k l : KeywordRows) → Tells (pointwise row_eq k l) (k ≡ l)
+keywords_tell k l = slice_eq-Decides rows_tell k l (pointwise row_eq k l) refl
+
+-- ---- locales
+
+abbrev same_locale : Locale → Locale → Bool
+same_locale x y =
+    same_parts x.id y.id
+    && (pointwise row_eq x.extensions.unicode.keywords y.extensions.unicode.keywords && option_eq same_parts x.extensions.transform.lang y.extensions.transform.lang)
+
+pub locales_tell : (x y : Locale) → Tells (same_locale x y) (x ≡ y)
+locales_tell x y =
+    let languages = options_tell same_parts identifiers_decide x.extensions.transform.lang y.extensions.transform.lang in
+    let keywords = keywords_tell x.extensions.unicode.keywords y.extensions.unicode.keywords in (
+      λ e.
+          let id = and_parts (same_parts x.id y.id) _ e in
+          let rest = and_parts (pointwise row_eq x.extensions.unicode.keywords y.extensions.unicode.keywords) _ id.1 in
+          λ i. record {
+            id = (identifiers_decide x.id y.id).0 id.0 i;
+            extensions = record { unicode = record { keywords = keywords.0 rest.0 i }; transform = record { lang = languages.0 rest.1 i } };
+          },
+      λ e. λ i.
+          (identifiers_decide x.id y.id).1 (ap (λ (z : Locale). z.id) e) i
+          && (keywords.1 (ap (λ (z : Locale). z.extensions.unicode.keywords) e) i && languages.1 (ap (λ (z : Locale). z.extensions.transform.lang) e) i),
+    )

@@ -1,10 +1,11 @@
-pub mod Agreements
+mod Agreements
 mod Cases
-pub mod Cutting
+mod Hashes
 mod Padding
 mod Readings
 mod Searches
-pub mod SetOperations
-pub mod TextSets
-pub mod VariantLists
+mod SetOperations
+mod TextSets
+mod Values
+mod VariantLists
 mod Written

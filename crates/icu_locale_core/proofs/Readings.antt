@@ -17,7 +17,7 @@ use Rattle.icu_locale_core.specs.TextSet.{TextSet, from_list, contains, len}
 use Rattle.icu_locale_core.specs.Identifier.{IsIdentifier, Lists, subtags, pieces, Spells, IsOkUnlessMemory}
 use Rattle.icu_locale_core.specs.Reading.{optional, after_optional, are_variants, read_variants, with_variants, read_rest, read_pieces}
 use Rattle.icu_locale_core.proofs.Cases.{is_member-lowercase, written_case-lowercase, lowercase-written_case, written_written, region_no_script, variant_no_script, variant_no_region}
-use Rattle.icu_locale_core.proofs.TextSets.{contains-from_list, Contains-is_among, is_among-Contains}
+use Rattle.icu_locale_core.specs.laws.TextSets.{contains-from_list, Contains-is_among, is_among-Contains}
 
 -- the pieces ps are the subtags of x, case aside, with the variants in some order
 pub record Reads (ps : List (List ℕ)) (x : LanguageIdentifier) : Type 0 where

@@ -1,42 +1,12 @@
--- The members of unions and differences, and when a set is inside another.
+-- When a set is inside another, and when nothing is left of one.
 use Rattle.std.proofs.Common.{◌≡◌, ℕ, Bool, true, false, not, ◌&&◌, ◌||◌, List, [], ◌∷◌, ◌++◌, refl, ap, sym, ◌∙◌}
 use Rattle.std.proofs.Math.Bool.{or-false}
 use Rattle.std.specs.List.{list_all, filter}
 use Rattle.std.specs.Ordering.{eq_by_cmp, is_eq}
-use Rattle.std.specs.Cmp.{Equal-is}
 use Rattle.std.proofs.lemmas.Bool.{false≢true, and_from, and_parts, or_left, or_right, or_parts}
 use Rattle.std.proofs.lemmas.Cmp.{tied_itself}
-use Rattle.std.proofs.lemmas.List.Folds.{list_any-append}
-use Rattle.std.proofs.lemmas.Map.Views.{any-filter_same}
 use Rattle.icu_locale_core.specs.TextSet.{text_cmp, TextSet, empty, contains, from_list, rising, is_subset, union, difference}
-use Rattle.icu_locale_core.proofs.TextSets.{text_same, text_total, is_among, contains-from_list, contains-rising, same_set}
-
--- a text that ties with another is that other
-pub same_from_tied : (q t : List ℕ) → eq_by_cmp text_cmp q t ≡ true → q ≡ t
-same_from_tied q t e = text_same q t ((Equal-is (text_cmp q t)).0 e)
-
-pub is_among-append : (q : List ℕ) (ts us : List (List ℕ)) → is_among q (ts ++ us) ≡ (is_among q ts || is_among q us)
-is_among-append q ts us = list_any-append (λ u. eq_by_cmp text_cmp q u) ts us
-
-pub is_among-filter : (p : List ℕ → Bool) (q : List ℕ) (ts : List (List ℕ)) → is_among q (filter p ts) ≡ (p q && is_among q ts)
-is_among-filter p q ts = any-filter_same (λ u. eq_by_cmp text_cmp q u) p (p q) (λ k tied. ap p (sym (same_from_tied q k tied))) ts
-
-pub contains-union : (s u : TextSet) (q : List ℕ) → contains (union s u) q ≡ (contains s q || contains u q)
-contains-union s u q =
-    contains-from_list (rising s ++ rising u) q
-    ∙ is_among-append q (rising s) (rising u)
-    ∙ (λ i. sym (contains-rising s q) i || sym (contains-rising u q) i)
-
-pub contains-difference : (s u : TextSet) (q : List ℕ) → contains (difference s u) q ≡ (not (contains u q) && contains s q)
-contains-difference s u q =
-    contains-from_list (filter (λ t. not (contains u t)) (rising s)) q
-    ∙ is_among-filter (λ t. not (contains u t)) q (rising s)
-    ∙ ap (λ b. not (contains u q) && b) (sym (contains-rising s q))
-
-pub contains-empty : (q : List ℕ) → contains empty q ≡ false
-contains-empty q = contains-from_list [] q
-
--- ---- a test of every text of a list
+use Rattle.icu_locale_core.specs.laws.TextSets.{text_total, same_from_tied, same_set, is_among, is_among-append, is_among-filter, contains-from_list, contains-rising, contains-empty, contains-replaced}
 
 pub list_all-from : (p : List ℕ → Bool) (ts : List (List ℕ)) → ((t : List ℕ) → is_among t ts ≡ true → p t ≡ true) → list_all p ts ≡ true
 list_all-from p [] each = refl
@@ -64,9 +34,6 @@ is_subset-at s u q all here = list_all-at (contains u) (rising s) q all (sym (co
 -- ---- the members of s without r, together with a
 
 module _ (s r a : TextSet) where
-  pub contains-replaced : (q : List ℕ) → contains (union (difference s r) a) q ≡ ((not (contains r q) && contains s q) || contains a q)
-  contains-replaced q = contains-union (difference s r) a q ∙ ap (λ b. b || contains a q) (contains-difference s r q)
-
   or_swap : (x y : Bool) → (x || y) ≡ (y || x)
   or_swap true true = refl
   or_swap true false = refl
@@ -81,7 +48,7 @@ module _ (s r a : TextSet) where
       ∙ (λ i. sym (contains-rising a q) i || is_among-filter (λ t. not (contains r t)) q (rising s) i)
       ∙ ap (λ b. contains a q || (not (contains r q) && b)) (sym (contains-rising s q))
       ∙ or_swap (contains a q) (not (contains r q) && contains s q)
-      ∙ sym (contains-replaced q))
+      ∙ sym (contains-replaced s r a q))
 
   nothing : (in_r in_s : Bool) → (in_s ≡ true → in_r ≡ true) → (not in_r && in_s) ≡ false
   nothing true in_s inside = refl
@@ -95,7 +62,7 @@ module _ (s r a : TextSet) where
       ∙ sym (nothing (contains r q) (contains s q) (is_subset-at s r q inside))
       ∙ sym (or-false (not (contains r q) && contains s q))
       ∙ ap (λ b. (not (contains r q) && contains s q) || b) (sym (ap (λ set. contains set q) none ∙ contains-empty q))
-      ∙ sym (contains-replaced q))
+      ∙ sym (contains-replaced s r a q))
 
   both_false : (in_r in_s : Bool) → (not in_r && in_s) ≡ false → in_s ≡ true → in_r ≡ true
   both_false true in_s e h = refl
@@ -104,5 +71,5 @@ module _ (s r a : TextSet) where
   -- and only there
   pub empty_from_replaced : union (difference s r) a ≡ empty → (is_subset s r ≡ true) × (a ≡ empty)
   empty_from_replaced none =
-      let off : (q : List ℕ) → ((not (contains r q) && contains s q) || contains a q) ≡ false = λ q. sym (contains-replaced q) ∙ ap (λ set. contains set q) none ∙ contains-empty q in
+      let off : (q : List ℕ) → ((not (contains r q) && contains s q) || contains a q) ≡ false = λ q. sym (contains-replaced s r a q) ∙ ap (λ set. contains set q) none ∙ contains-empty q in
       (is_subset-from s r (λ q. both_false (contains r q) (contains s q) (or_parts (not (contains r q) && contains s q) (contains a q) (off q)).0), same_set a empty (λ q. (or_parts (not (contains r q) && contains s q) (contains a q) (off q)).1 ∙ sym (contains-empty q)))

@@ -9,13 +9,11 @@ use Rattle.std.proofs.lemmas.List.Sorted.{Contains-permutation, IsPermutation-sy
 use Rattle.std.proofs.lemmas.Slice.Eq.{bytes_eq-Decides}
 use Rattle.std.specs.Cmp.{nat_eq_equiv}
 use Rattle.std.specs.Cmp.Lexicographic.{lists_equiv, texts_ties}
-use Rattle.std.specs.FinMap as fin
 use Rattle.std.proofs.lemmas.Bool.{eqb-true}
-use Rattle.std.proofs.lemmas.List.{length-map}
 use Rattle.icu_locale_core.specs.Subtag.{IsVariant}
 use Rattle.icu_locale_core.specs.Variants.{IsVariantList}
 use Rattle.icu_locale_core.specs.TextSet.{text_cmp, TextSet, empty, from_list, rising}
-use Rattle.icu_locale_core.proofs.TextSets.{text_total, is_among, contains-from_list, same_set, Contains-is_among, is_among-Contains, from_list-rising}
+use Rattle.icu_locale_core.specs.laws.TextSets.{text_total, is_among, contains-from_list, same_set, Contains-is_among, is_among-Contains, from_list-rising}
 
 pub IsVariantList-nil : IsVariantList []
 unfolding IsStrictlySortedBy
@@ -66,6 +64,3 @@ empty_from_length s h = sym (from_list-rising s) ∙ by (rising s) h
     by : (ts : List (List ℕ)) → (length ts == 0) ≡ true → from_list ts ≡ empty
     by [] h = refl
     by (t ∷ ts) h = absurd (omega (arith, eqb-true (length (t ∷ ts)) 0 h))
-
-pub length-rising_empty : length (rising empty) ≡ 0
-length-rising_empty = length-map (fin.entries empty) (λ e. e.0) ∙ sym (fin.len-entries empty) ∙ fin.len-empty text_cmp (Unit {0})

@@ -14,10 +14,10 @@ use Rattle.icu_locale_core.specs.TextSet.{rising}
 use Rattle.icu_locale_core.specs.Identifier.{is_separator, pieces, IsIdentifier, Spells, subtags, written}
 use Rattle.icu_locale_core.proofs.Cases.{plain_from_member}
 use Rattle.icu_locale_core.proofs.Readings.{read_pieces-complete}
-use Rattle.icu_locale_core.proofs.TextSets.{from_list-rising, contains-rising, is_among-Contains}
+use Rattle.icu_locale_core.specs.laws.TextSets.{from_list-rising, contains-rising, is_among-Contains}
 
 -- a text without separators
-abbrev Whole : List ℕ → Type 0
+abbrev pub Whole : List ℕ → Type 0
 Whole t = All (λ c. is_separator c ≡ false) t
 
 whole_plain : (t : List ℕ) → is_alphanumeric t ≡ true → Whole t
@@ -27,11 +27,11 @@ whole_plain (c ∷ t) h =
     let rest : is_alphanumeric t ≡ true = grind (arith, nat_tests) in
     All-cons (λ c. is_separator c ≡ false) c t here (whole_plain t rest)
 
-whole_member : (class : Class) (t : List ℕ) → is_member class t ≡ true → Whole t
+pub whole_member : (class : Class) (t : List ℕ) → is_member class t ≡ true → Whole t
 whole_member class t h = whole_plain t (plain_from_member class t h)
 
 -- texts without separators, joined and cut again
-pieces-join : (x : List ℕ) (xs : List (List ℕ)) → All Whole (x ∷ xs) → pieces (join_by (λ t. t) (codes "-") (x ∷ xs)) ≡ x ∷ xs
+pub pieces-join : (x : List ℕ) (xs : List (List ℕ)) → All Whole (x ∷ xs) → pieces (join_by (λ t. t) (codes "-") (x ∷ xs)) ≡ x ∷ xs
 pieces-join x [] all = ap pieces (append-nil x) ∙ slice_split_none is_separator x (All-head Whole x [] all)
 pieces-join x (y ∷ ys) all =
     slice_split_at is_separator x 45 (y ++ flat_map (λ t. codes "-" ++ t) ys) (All-head Whole x (y ∷ ys) all) refl

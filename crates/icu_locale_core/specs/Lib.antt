@@ -1,5 +1,6 @@
 pub mod Agreement
 pub mod Class
+pub mod Hash
 pub mod Identifier
 pub mod Keywords
 pub mod Maps
@@ -12,3 +13,4 @@ pub mod Subtag
 pub mod TextSet
 pub mod Value
 pub mod Variants
+pub mod laws

@@ -1,10 +1,14 @@
 -- Values of keywords and their texts (UTS #35 Part 1, section 3.6.1, type).
-use Rattle.std.specs.Prelude.{ℕ, Bool, ◌||◌, ◌==◌, not, List, [], ◌∷◌, length}
+use Rattle.std.specs.Prelude.{◌≡◌, ℕ, Bool, true, ◌||◌, ◌==◌, not, List, [], ◌∷◌, length}
 use Rattle.std.specs.Prelude.{map, filter, codes, nat_eq, Option, Some, None, if◌then◌else◌}
-use Rattle.std.specs.List.{list_all, join_by}
+use Rattle.std.specs.List.{All, list_all, join_by}
 use Rattle.std.specs.Cmp.Lexicographic.{pointwise}
 use Rattle.icu_locale_core.specs.Identifier.{pieces}
-use Rattle.icu_locale_core.specs.Subtag.{is_subtag, lowercase}
+use Rattle.icu_locale_core.specs.Subtag.{is_subtag, lowercase, IsSubtag}
+
+-- the piece that is not kept
+abbrev pub is_true : List ℕ → Bool
+is_true p = pointwise nat_eq p (codes "true")
 
 -- a text reads as a value where it is empty, or each piece has 3 to 8 letters or digits
 abbrev pub is_value : List ℕ → Bool
@@ -12,11 +16,16 @@ is_value t = (length t == 0) || list_all is_subtag (pieces t)
 
 -- pieces in lower case without the pieces `true`
 abbrev pub read_subtags : List (List ℕ) → List (List ℕ)
-read_subtags ps = filter (λ p. not (pointwise nat_eq p (codes "true"))) (map lowercase ps)
+read_subtags ps = filter (λ p. not (is_true p)) (map lowercase ps)
 
 -- the value of a text: its pieces so read, and none where it is empty
 abbrev pub read_value : List ℕ → List (List ℕ)
 read_value t = if length t == 0 then [] else read_subtags (pieces t)
+
+-- the pieces of a value: each a subtag in lower case, and none of them `true`
+pub record IsValue (v : List (List ℕ)) : Type 0 where
+  pub each : All IsSubtag v
+  pub plain : list_all (λ p. not (is_true p)) v ≡ true
 
 -- the piece of a value of exactly one
 abbrev pub only_piece : List (List ℕ) → Option (List ℕ)

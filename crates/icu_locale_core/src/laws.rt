@@ -1,10 +1,16 @@
 //! Laws of texts and identifiers. Each function here takes nothing, answers nothing and carries a proved fact.
-ghost use Rattle.std.specs.Prelude.{◌≡◌, ◌↔◌, List, ℕ};
-ghost use Rattle.icu_locale_core.specs.Agreement.{Agree};
+ghost use Rattle.std.specs.Prelude.{◌≡◌, ◌↔◌, List, ℕ, true};
+ghost use Rattle.icu_locale_core.specs.Agreement.{Agree, TellsEquality};
+ghost use Rattle.icu_locale_core.specs.Hash.{fed_subtag, fed_variants, fed_identifier};
 ghost use Rattle.icu_locale_core.specs.Identifier.{IsIdentifier, Spells, written};
 ghost use Rattle.icu_locale_core.specs.Order.{identifier_cmp};
+ghost use Rattle.icu_locale_core.specs.TextSet.{TextSet};
+ghost use Rattle.icu_locale_core.specs.Value.{IsValue, is_value, read_value, written_value};
 
-use crate::{Key, Language, LanguageIdentifier, Region, Script, Subtag, Variant};
+use crate::{
+    Key, Keywords, Language, LanguageIdentifier, Locale, Region, Script, Subtag, Value, Variant,
+    Variants,
+};
 use std::cmp::{Ord, PartialEq};
 use std::hash::Hash;
 
@@ -15,31 +21,77 @@ pub fn written_spells()
 
 /// A text spells at most one identifier.
 pub fn spelled_once()
-    ensures { (t : List ℕ) (x y : LanguageIdentifier) → IsIdentifier x → IsIdentifier y → Spells t x → Spells t y → x ≡ y }
+    ensures { (t : List ℕ) (x y : LanguageIdentifier) → IsIdentifier x → IsIdentifier y
+        → Spells t x → Spells t y → x ≡ y }
 {}
 
 /// Two identifiers are equal exactly where their written forms are.
 pub fn written_once()
-    ensures { (x y : LanguageIdentifier) → IsIdentifier x → IsIdentifier y → (written x ≡ written y) ↔ (x ≡ y) }
+    ensures { (x y : LanguageIdentifier) → IsIdentifier x → IsIdentifier y
+        → (written x ≡ written y) ↔ (x ≡ y) }
 {}
 
-/// Equality, order and hash of identifiers agree.
+/// Equality, order and hash of identifiers agree, and what is fed to a hasher tells them apart.
 pub fn identifiers_agree()
-    ensures { Agree ⟦<LanguageIdentifier as PartialEq>⟧.eq ⟦<LanguageIdentifier as Ord>⟧.cmp ⟦<LanguageIdentifier as Hash>⟧.hash_input }
+    ensures { Agree ⟦<LanguageIdentifier as PartialEq>⟧.eq
+        ⟦<LanguageIdentifier as Ord>⟧.cmp ⟦<LanguageIdentifier as Hash>⟧.hash_input }
 {}
 
 /// Identifiers are in order by their language, then by script, region and the rising list of variants, an absent part
 /// first.
 pub fn identifiers_in_order()
-    ensures { (x y : LanguageIdentifier) → ⟦<LanguageIdentifier as Ord>⟧.cmp x y ≡ identifier_cmp x y }
+    ensures { (x y : LanguageIdentifier)
+        → ⟦<LanguageIdentifier as Ord>⟧.cmp x y ≡ identifier_cmp x y }
 {}
 
-/// Equality, order and hash of subtags agree.
+/// A hasher is fed the language of an identifier, its script, its region and its variants, rising.
+pub fn identifiers_are_fed()
+    ensures { (x : LanguageIdentifier)
+        → ⟦<LanguageIdentifier as Hash>⟧.hash_input x ≡ fed_identifier x }
+{}
+
+/// Equality, order and hash of sets of variants agree, and a hasher is fed each variant, rising.
+pub fn variants_agree()
+    ensures agree { Agree ⟦<Variants as PartialEq>⟧.eq
+        ⟦<Variants as Ord>⟧.cmp ⟦<Variants as Hash>⟧.hash_input }
+    ensures fed { (s : TextSet) → ⟦<Variants as Hash>⟧.hash_input s ≡ fed_variants s }
+{}
+
+/// Equality, order and hash of subtags agree, and what is fed to a hasher tells them apart.
 pub fn subtags_agree()
-    ensures languages { Agree ⟦<Language as PartialEq>⟧.eq ⟦<Language as Ord>⟧.cmp ⟦<Language as Hash>⟧.hash_input }
-    ensures scripts { Agree ⟦<Script as PartialEq>⟧.eq ⟦<Script as Ord>⟧.cmp ⟦<Script as Hash>⟧.hash_input }
-    ensures regions { Agree ⟦<Region as PartialEq>⟧.eq ⟦<Region as Ord>⟧.cmp ⟦<Region as Hash>⟧.hash_input }
-    ensures variants { Agree ⟦<Variant as PartialEq>⟧.eq ⟦<Variant as Ord>⟧.cmp ⟦<Variant as Hash>⟧.hash_input }
-    ensures keys { Agree ⟦<Key as PartialEq>⟧.eq ⟦<Key as Ord>⟧.cmp ⟦<Key as Hash>⟧.hash_input }
-    ensures subtags { Agree ⟦<Subtag as PartialEq>⟧.eq ⟦<Subtag as Ord>⟧.cmp ⟦<Subtag as Hash>⟧.hash_input }
+    ensures languages { Agree ⟦<Language as PartialEq>⟧.eq
+        ⟦<Language as Ord>⟧.cmp ⟦<Language as Hash>⟧.hash_input }
+    ensures scripts { Agree ⟦<Script as PartialEq>⟧.eq
+        ⟦<Script as Ord>⟧.cmp ⟦<Script as Hash>⟧.hash_input }
+    ensures regions { Agree ⟦<Region as PartialEq>⟧.eq
+        ⟦<Region as Ord>⟧.cmp ⟦<Region as Hash>⟧.hash_input }
+    ensures variants { Agree ⟦<Variant as PartialEq>⟧.eq
+        ⟦<Variant as Ord>⟧.cmp ⟦<Variant as Hash>⟧.hash_input }
+    ensures keys { Agree ⟦<Key as PartialEq>⟧.eq
+        ⟦<Key as Ord>⟧.cmp ⟦<Key as Hash>⟧.hash_input }
+    ensures subtags { Agree ⟦<Subtag as PartialEq>⟧.eq
+        ⟦<Subtag as Ord>⟧.cmp ⟦<Subtag as Hash>⟧.hash_input }
+{}
+
+/// A hasher is fed the text of a subtag.
+pub fn subtags_are_fed()
+    ensures languages { (t : List ℕ) → ⟦<Language as Hash>⟧.hash_input t ≡ fed_subtag t }
+    ensures scripts { (t : List ℕ) → ⟦<Script as Hash>⟧.hash_input t ≡ fed_subtag t }
+    ensures regions { (t : List ℕ) → ⟦<Region as Hash>⟧.hash_input t ≡ fed_subtag t }
+    ensures variants { (t : List ℕ) → ⟦<Variant as Hash>⟧.hash_input t ≡ fed_subtag t }
+    ensures keys { (t : List ℕ) → ⟦<Key as Hash>⟧.hash_input t ≡ fed_subtag t }
+    ensures subtags { (t : List ℕ) → ⟦<Subtag as Hash>⟧.hash_input t ≡ fed_subtag t }
+{}
+
+/// `==` of values, of keywords and of locales passes exactly where they are equal.
+pub fn equality_is_told()
+    ensures values { TellsEquality ⟦<Value as PartialEq>⟧.eq }
+    ensures keywords { TellsEquality ⟦<Keywords as PartialEq>⟧.eq }
+    ensures locales { TellsEquality ⟦<Locale as PartialEq>⟧.eq }
+{}
+
+/// What Display writes of a value reads as that value.
+pub fn written_values_read_back()
+    ensures accepted { (v : List (List ℕ)) → IsValue v → is_value (written_value v) ≡ true }
+    ensures same { (v : List (List ℕ)) → IsValue v → read_value (written_value v) ≡ v }
 {}

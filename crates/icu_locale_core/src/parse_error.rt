@@ -2,7 +2,7 @@
 ghost use Rattle.std.specs.Prelude.{◌≡◌, Some};
 ghost use Rattle.icu_locale_core.specs.ParseError.{error_name};
 
-use std::alloc::AllocFailed;
+use std::alloc::{AllocError, AllocFailed};
 use std::error::Error;
 use std::fmt;
 
@@ -30,6 +30,16 @@ impl fmt::Display for ParseError {
 }
 
 impl Error for ParseError {}
+
+impl From<AllocError> for ParseError {
+    ghost use Rattle.icu_locale_core.specs.declared.parse_error.ParseError.TheVariants.{Memory};
+
+    ghost from_gives = { λ _ e. e ≡ Memory };
+
+    fn from(_refused: AllocError) -> Self {
+        ParseError::Memory
+    }
+}
 
 impl<T: Drop> From<AllocFailed<T>> for ParseError {
     ghost use Rattle.icu_locale_core.specs.declared.parse_error.ParseError.TheVariants.{Memory};

@@ -73,7 +73,8 @@ fn cut(text: &[u8]) -> (&[u8], Option<&[u8]>)
     match separator(text) {
         Some(place) => {
             let (first, rest) = text.split_at(place);
-            (first, Some(&rest[1..]))
+            let (_, rest) = rest.split_at(1);
+            (first, Some(rest))
         }
         None => (text, None),
     }

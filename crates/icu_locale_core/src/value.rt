@@ -8,7 +8,7 @@ ghost use Rattle.std.specs.Cmp.Rules.{comparing};
 ghost use Rattle.std.specs.Prelude.{nat_eq};
 ghost use Rattle.std.proofs.Common.{rules};
 ghost use Rattle.icu_locale_core.specs.Subtag.{is_subtag};
-ghost use Rattle.icu_locale_core.specs.Value.{is_value, read_value, read_subtags};
+ghost use Rattle.icu_locale_core.specs.Value.{IsValue, is_value, read_value, read_subtags};
 ghost use Rattle.icu_locale_core.specs.Value.{only_piece, written_value};
 
 use crate::classes::Class;
@@ -27,10 +27,13 @@ pub struct Value {
 
 impl Model for Value {
     ghost use Rattle.std.specs.Prelude.{List, ℕ};
+    ghost use Rattle.icu_locale_core.specs.Value.{IsValue};
 
     ghost Value = { List (List ℕ) };
 
     ghost view = { λ a. a.pieces.items };
+
+    ghost invariant = { λ a. IsValue a.pieces.items };
 }
 
 impl Value {
@@ -55,15 +58,15 @@ impl Value {
         if !are_subtags(Pieces::new(text.as_bytes())) {
             return Err(ParseError::InvalidSubtag);
         }
-        match read_subtags(alloc, Pieces::new(text.as_bytes())) {
-            Ok(pieces) => Ok(Value { pieces }),
-            Err(refusal) => Err(refusal),
-        }
+        Ok(Value {
+            pieces: read_subtags(alloc, Pieces::new(text.as_bytes()))?,
+        })
     }
 
     /// The piece of a value that has exactly one, else none. It takes no memory.
     pub fn as_single_subtag(&self) -> Option<Subtag>
-        ensures { result ≡ only_piece self.now }
+        ensures only { result ≡ only_piece self.now }
+        ensures known { IsValue self.now }
     {
         match self.pieces.as_slice() {
             [only] => Some(*only),
@@ -86,10 +89,9 @@ impl Value {
                 pieces: Vec::new(*self.pieces.allocator()),
             });
         }
-        match Vec::from_slice(*self.pieces.allocator(), &self.pieces) {
-            Ok(pieces) => Ok(Value { pieces }),
-            Err(_) => Err(ParseError::Memory),
-        }
+        Ok(Value {
+            pieces: Vec::from_slice(*self.pieces.allocator(), &self.pieces)?,
+        })
     }
 }
 
@@ -97,10 +99,7 @@ impl Clone for Value {
     ghost is_clone = { λ v w. w ≡ v };
 
     fn clone(&self) -> Result<Self, AllocError> {
-        match self.try_clone() {
-            Ok(copy) => Ok(copy),
-            Err(_) => Err(AllocError),
-        }
+        self.try_clone().map_err(|_| AllocError)
     }
 }
 
@@ -162,6 +161,7 @@ fn are_subtags(pieces: Pieces<'_>) -> bool
 // The pieces in lower case without `true`.
 fn read_subtags(alloc: Global, pieces: Pieces<'_>) -> Result<Vec<Subtag>, ParseError>
     ensures read { IfOk result (λ v. v.items ≡ read_subtags pieces.entry) }
+    ensures known { IfOk result (λ v. IsValue v.items) }
     ensures refused { result ≡ Err ParseError.InvalidSubtag
         → list_all is_subtag pieces.entry ≡ false }
     ensures language { result ≡ Err ParseError.InvalidLanguage → ⊥ }

@@ -1,2 +1,2 @@
-pub mod Maps
+mod Maps
 mod Places

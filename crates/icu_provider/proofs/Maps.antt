@@ -33,27 +33,7 @@ module _ {K V : Type 0} (compare : K → K → Ordering) where
   pub insert_entry-step : (key : K) (value : V) (row : K × V) (rows : List (K × V)) (answer : Ordering) → compare key row.0 ≡ answer → insert_entry compare (row ∷ rows) key value ≡ match_ordering answer ((key, value) ∷ row ∷ rows) ((row.0, value) ∷ rows) (row ∷ insert_entry compare rows key value)
   insert_entry-step key value row rows answer is = ap (λ o. match_ordering o ((key, value) ∷ row ∷ rows) ((row.0, value) ∷ rows) (row ∷ insert_entry compare rows key value)) is
 
-  -- a key that is found is that of a row of the map, up to the comparison
-  pub Contains-from_lookup : (rows : List (K × V)) (key : K) (value : V) → lookup (is_at (compare key)) rows ≡ Some value → (row : K × V) × Contains rows row × (compare key row.0 ≡ Equal) × (row.1 ≡ value)
-  Contains-from_lookup rows key value found =
-      let place = place_from_lookup (is_at (compare key)) rows value found in
-      ((place.1, value), (place.0, slice_get_within rows place.0 _ place.2, get_or_from_slice_get rows place.0 _ _ place.2), (Equal-is _).0 place.3, refl)
-
 module _ {K V : Type 0} {compare : K → K → Ordering} (total : IsTotalOrder compare) where
-  -- what an insert finds at a key: its own value at its own key, and what was there at another
-  found_after : (rows : List (K × V)) (key : K) (value : V) (q : K) → value_at compare (insert_entry compare rows key value) q ≡ (if is_at (compare q) key then Some value else value_at compare rows q)
-  found_after [] key value q = refl
-  found_after (row ∷ rows) key value q =
-      let below = found_after rows key value q in
-      let tie = alike_right total key row.0 q in
-      let both = total.congr q key row.0 in
-      by_answer (compare key row.0) (λ is. grind (arith, insert_entry-step compare key value row rows Less is)) (λ is. grind (arith, insert_entry-step compare key value row rows Equal is, tie is)) (λ is. grind (arith, insert_entry-step compare key value row rows Greater is, below, both))
-
-  -- an insert changes what is found at its key, and nothing else
-  pub SetsOnly-insert_entry : (rows : List (K × V)) (key : K) (value : V) → SetsOnly compare rows (insert_entry compare rows key value) key (Some value)
-  SetsOnly-insert_entry rows key value q =
-      subst (λ alike. value_at compare (insert_entry compare rows key value) q ≡ (if alike then Some value else value_at compare rows q)) ((eq_by_cmp_equiv total).symm q key) (found_after rows key value q)
-
   -- a key below the first of rising rows is below each
   below_all : (key : K) (row : K × V) (rows : List (K × V)) → compare key row.0 ≡ Less → AllByRecursion (λ later. compare row.0 later ≡ Less) (keys_of rows) → AllByRecursion (λ later. compare key later ≡ Less) (keys_of rows)
   below_all key row rows below rise = recursion_from_All _ _ (All-weaker (λ later. compare row.0 later ≡ Less) (λ later. compare key later ≡ Less) (λ later. total.trans key row.0 later below) _ (All-from_recursion _ _ rise))

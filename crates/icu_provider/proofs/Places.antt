@@ -16,7 +16,8 @@ use Rattle.std.proofs.lemmas.Map.Entries.{length-keys_of}
 use Rattle.icu_locale_core.specs.Maps.{SetsOnly}
 use Rattle.icu_provider.specs.Maps.{IsSortedMap}
 use Rattle.icu_provider.specs.Places.{IsAt, IsGapFor}
-use Rattle.icu_provider.proofs.Maps.{insert_entry-step, IsSortedMap-insert_entry, SetsOnly-insert_entry}
+use Rattle.icu_locale_core.specs.laws.Maps.{SetsOnly-insert_entry}
+use Rattle.icu_provider.proofs.Maps.{insert_entry-step, IsSortedMap-insert_entry}
 
 -- new has the rows of old with the value inserted at the key, and stays in order
 pub record InsertedRows {K V : Type 0} (compare : K → K → Ordering) (old new : List (K × V)) (key : K) (value : V) : Type 0 where

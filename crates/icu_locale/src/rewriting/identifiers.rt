@@ -114,7 +114,7 @@ impl<'c, 'd, E> Drop for Run<'c, 'd, E> {
 impl<'c, 'd, E: AsExpander<'d>> Rewriting for Run<'c, 'd, E> {
     ghost use Rattle.std.specs.Prelude.{◌≡◌, IfSome};
     ghost use Rattle.icu_locale_core.specs.TextSet.{empty};
-    ghost use Rattle.icu_locale_core.proofs.Agreements.{identifiers_decide};
+    ghost use Rattle.icu_locale_core.specs.laws.Identifiers.{identifiers_decide};
     ghost use Rattle.icu_locale.specs.Expander.{likely};
     ghost use Rattle.icu_locale.specs.Kinds.{next_of};
     ghost use Rattle.icu_locale.specs.Universe.{universe};

@@ -1,5 +1,7 @@
-use Rattle.icu_locale_core.proofs.Agreements.{Agree-from_test, identifiers_decide, identifiers_tie}
+use Rattle.icu_locale_core.specs.laws.Identifiers.{identifiers_decide}
+use Rattle.icu_locale_core.proofs.Agreements.{Agree-from_test, identifiers_tie}
+use Rattle.icu_locale_core.proofs.Hashes.{same_identifier}
 use Rattle.icu_locale_core.proofs.laws.identifiers_agree.Goals as goal
 
 pub returns : goal.returns
-returns c = Agree-from_test _ _ _ identifiers_decide identifiers_tie
+returns c = Agree-from_test _ _ _ identifiers_decide identifiers_tie same_identifier

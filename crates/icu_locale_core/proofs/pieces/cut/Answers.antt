@@ -1,12 +1,15 @@
 use Rattle.std.proofs.Common.{◌∙◌, sym, ◌∷◌, ap, take}
+use Rattle.std.proofs.lemmas.List.{drop-drop}
 use Rattle.icu_locale_core.specs.Identifier.{is_separator, pieces}
-use Rattle.icu_locale_core.proofs.Cutting.{slice_split-position, slice_split-no_position, tail-drop}
+use Rattle.icu_locale_core.specs.laws.Cuts.{slice_split-position, slice_split-no_position}
 use Rattle.icu_locale_core.proofs.pieces.cut.Goals as goal
 
 pub returns-in-Some : goal.returns-in-Some
 returns-in-Some c =
-    let split = slice_split-position is_separator c.args.text.now c.in-Some.place (sym c.in-Some.ensures) in
-    split ∙ rw (c.split_at.ensures.front, c.split_at.ensures.back) (ap (λ r. take c.in-Some.place c.args.text.now ∷ pieces r) (sym (tail-drop c.in-Some.place c.args.text.now)))
+    let text = c.args.text.now in
+    let place = c.in-Some.place in
+    slice_split-position is_separator text place (sym c.in-Some.ensures)
+    ∙ rw (c.split_at.ensures.front, c.split_at-in-Some.ensures.back, c.split_at.ensures.back) (ap (λ r. take place text ∷ pieces r) (sym (drop-drop 1 place text)))
 
 pub returns-in-None : goal.returns-in-None
 returns-in-None c = slice_split-no_position is_separator c.args.text.now (sym c.in-None.ensures)

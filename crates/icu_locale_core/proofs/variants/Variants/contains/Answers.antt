@@ -1,7 +1,8 @@
 use Rattle.std.proofs.Common.{◌∙◌, sym, subst}
 use Rattle.std.specs.List.Sorted.{IsStrictlySortedBy}
 use Rattle.icu_locale_core.specs.TextSet.{text_cmp}
-use Rattle.icu_locale_core.proofs.TextSets.{contains-rising, rising_rises, text_total}
+use Rattle.icu_locale_core.specs.laws.TextSets.{contains-rising, text_total}
+use Rattle.icu_locale_core.proofs.TextSets.{rising_rises}
 use Rattle.icu_locale_core.proofs.Searches.{is_ok-search}
 use Rattle.icu_locale_core.proofs.variants.Variants.contains.Goals as goal
 

@@ -1,6 +1,7 @@
 use Rattle.std.proofs.Common.{◌≡◌, ◌==◌, ◌∙◌, sym, ap, length}
 use Rattle.icu_locale_core.specs.TextSet.{rising, TextSet}
-use Rattle.icu_locale_core.proofs.VariantLists.{empty_from_length, length-rising_empty}
+use Rattle.icu_locale_core.specs.laws.TextSets.{length-rising_empty}
+use Rattle.icu_locale_core.proofs.VariantLists.{empty_from_length}
 use Rattle.icu_locale_core.proofs.variants.Variants.is_empty.Goals as goal
 
 pub returns : goal.returns

@@ -2,7 +2,7 @@ use Rattle.std.proofs.Common.{◌∙◌, sym, ap}
 use Rattle.std.proofs.lemmas.List.Elements.{All-contains}
 use Rattle.icu_locale_core.specs.Subtag.{IsVariant}
 use Rattle.icu_locale_core.specs.TextSet.{contains}
-use Rattle.icu_locale_core.proofs.TextSets.{contains-from_list, Contains-is_among}
+use Rattle.icu_locale_core.specs.laws.TextSets.{contains-from_list, Contains-is_among}
 use Rattle.icu_locale_core.proofs.variants.Variants.known.Goals as goal
 
 pub returns : goal.returns

@@ -1,0 +1,5 @@
+-- Facts about the definitions, with their proofs: what crates above may cite.
+pub mod Cuts
+pub mod Identifiers
+pub mod Maps
+pub mod TextSets
