@@ -9,10 +9,10 @@ use Rattle.icu_locale_core.specs.laws.Identifiers.{identifiers_decide}
 use Rattle.icu_locale.specs.LikelySubtags.{LikelySubtags}
 use Rattle.icu_locale.specs.Kinds.{next, by_language_alias, next_of}
 use Rattle.icu_locale.specs.Run.{EndsAt, IsRepeat, HasDistinct, EndsOrRepeats}
-use Rattle.icu_locale.specs.Walk.{IsCount}
-use Rattle.icu_locale.specs.Universe.{universe}
+use Rattle.icu_locale.specs.inner.Walk.{IsCount}
+use Rattle.icu_locale.specs.inner.Universe.{universe}
 use Rattle.icu_locale.specs.Canonical.{rg, sd, put, IsCanonicalTransform, IsCanonical, RulesEnd, ComesAgainFirst, IsRefusal, HasIdentifiers, IsMemory, IsOutOfMemory, IsCounted, NeedsNoMemory}
-use Rattle.icu_locale.specs.Ends.{IsLaterEnd, IsLaterEndOf, IsRunRefusal, IsRunRefusalOf, IsFree, IsRunCounted, IsChanges, changed}
+use Rattle.icu_locale.specs.inner.CanonicalParts.{IsLaterEnd, IsLaterEndOf, IsRunRefusal, IsRunRefusalOf, IsFree, IsRunCounted, IsChanges, changed}
 use Rattle.icu_locale.specs.declared.canonicalizer.rules.Rules.{Rules}
 use Rattle.icu_locale.specs.declared.canonicalizer.changes.Changes.{Changes}
 use Rattle.icu_locale.specs.declared.canonicalizer.CanonicalizeError.{CanonicalizeError}

@@ -3,7 +3,7 @@ use Rattle.std.proofs.Common.{◌≡◌, ◌≢◌, true, false, ap, sym, ◌∙
 use Rattle.icu_locale_core.specs.declared.langid.LanguageIdentifier.{LanguageIdentifier}
 use Rattle.icu_provider.specs.declared.data_locale.DataLocale.{DataLocale}
 use Rattle.icu_locale.specs.LikelySubtags.{LikelySubtags, bare_locale, locale_of, with_locale, IsModified}
-use Rattle.icu_locale.specs.Trials.{same_locale}
+use Rattle.icu_locale.specs.inner.Trials.{same_locale}
 use Rattle.icu_locale.proofs.Locales.{same_from_test, other_from_test}
 
 -- an identifier with its own locale is itself

@@ -2,9 +2,10 @@
 use Rattle.std.proofs.Common.{◌≡◌, ◌≢◌, ◌⊎◌, ◌↔◌, refl, ap, subst, sym, ◌∙◌, inl, inr, ⊎_elim, arith}
 use Rattle.icu_locale_core.specs.declared.langid.LanguageIdentifier.{LanguageIdentifier}
 use Rattle.icu_locale.specs.LikelySubtags.{LikelySubtags, IsBare, IsModified, locale_of, with_locale, maximal_locale, maximal}
-use Rattle.icu_locale.specs.Minimal.{Favor, Precedes, IsInClass, IsLeast, IsMinimalForm}
+use Rattle.icu_locale.specs.declared.expander.Favor.{Favor}
+use Rattle.icu_locale.specs.Minimal.{Precedes, IsInClass, IsLeast, IsMinimalForm}
 use Rattle.icu_locale.specs.Settled.{IsSettled}
-use Rattle.icu_locale.specs.Trials.{first_trial, trials}
+use Rattle.icu_locale.specs.inner.Trials.{first_trial, trials}
 use Rattle.icu_locale.proofs.Least.{IsMinimalForm-first_trial}
 
 -- there is a minimal form

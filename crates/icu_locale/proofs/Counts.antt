@@ -8,7 +8,7 @@ use Rattle.std.proofs.lemmas.List.Edits.{length-remove, get_or-remove_below, get
 use Rattle.std.proofs.lemmas.List.FromFn.{length-map-range_with_len, get_or-map-range_with_len}
 use Rattle.std.proofs.lemmas.Option.{none-some, same_Some, option_and_then_some}
 use Rattle.icu_locale.specs.Run.{at, HasDistinct}
-use Rattle.icu_locale.specs.Walk.{IsFront, IsCount, IsUniverse}
+use Rattle.icu_locale.specs.inner.Walk.{IsFront, IsCount, IsUniverse}
 
 -- a state that stands in a list at one place, and differs from what stands at another, is there without that other
 Contains-remove : {X : Type 0} (xs : List X) (k : ℕ) (x y : X) → k < length xs → get_or xs k x ≡ x → Contains xs y → y ≢ x → Contains (remove xs k) y

@@ -5,8 +5,10 @@ use Rattle.icu_locale_core.specs.TextSet.{len}
 use Rattle.icu_locale_core.specs.declared.langid.LanguageIdentifier.{LanguageIdentifier}
 use Rattle.icu_provider.specs.declared.data_locale.DataLocale.{DataLocale}
 use Rattle.icu_locale.specs.LikelySubtags.{LikelySubtags, known_subtag, unknown_script, unknown_region, bare_locale, first_found, keys, maximal_locale, locale_of, with_locale}
-use Rattle.icu_locale.specs.Minimal.{Favor, RegionFirst, ScriptFirst, count, Precedes, IsInClass, IsMinimalForm}
-use Rattle.icu_locale.specs.Trials.{same_locale, alone, with_favored, with_other, first_trial, trials}
+use Rattle.icu_locale.specs.declared.expander.Favor.{Favor}
+use Rattle.icu_locale.specs.declared.expander.Favor.TheVariants.{RegionFirst, ScriptFirst}
+use Rattle.icu_locale.specs.Minimal.{count, Precedes, IsInClass, IsMinimalForm}
+use Rattle.icu_locale.specs.inner.Trials.{same_locale, alone, with_favored, with_other, first_trial, trials}
 use Rattle.icu_locale.proofs.Locales.{same_locale-Decides}
 use Rattle.icu_locale.proofs.Maximal.{known_subtag-cases, maximal_locale-bare, filled-script, filled-region}
 

@@ -7,7 +7,7 @@ use Rattle.std.proofs.lemmas.Bool.{and_parts, and_from, false≢true}
 use Rattle.std.proofs.lemmas.Slice.Eq.{bytes_eq-Decides}
 use Rattle.icu_provider.specs.declared.data_locale.DataLocale.{DataLocale}
 use Rattle.icu_locale.specs.LikelySubtags.{LikelySubtags, maximal_locale}
-use Rattle.icu_locale.specs.Trials.{same_locale}
+use Rattle.icu_locale.specs.inner.Trials.{same_locale}
 
 -- texts whose test is true are equal
 pub same_text : (t u : List ℕ) → bytes_eq t u ≡ true → t ≡ u

@@ -8,7 +8,7 @@ use Rattle.icu_locale_core.specs.TextSet.{TextSet, empty, contains, from_list, r
 use Rattle.icu_locale_core.specs.declared.langid.LanguageIdentifier.{LanguageIdentifier}
 use Rattle.icu_locale_core.specs.laws.TextSets.{text_total, contains-rising, contains-from_list, contains-replaced, contains-empty, Contains-is_among, is_among-Contains}
 use Rattle.icu_locale.specs.Replacement.{is_known, part, replaced}
-use Rattle.icu_locale.specs.Universe.{subsets, made_of, of_script, of_region, of_variant}
+use Rattle.icu_locale.specs.inner.Universe.{subsets, made_of, of_script, of_region, of_variant}
 use Rattle.icu_locale.proofs.Lists.{Contains-here, Contains-there, Contains-cons_cases, Contains-map, Contains-from_map, Contains-flat_map, Contains-from_flat_map}
 use Rattle.icu_locale.proofs.Subsets.{subset_among, among_subset, contains-one}
 

@@ -4,7 +4,7 @@ use Rattle.std.proofs.Math.Nat.{mul-le-mul_right}
 use Rattle.std.proofs.lemmas.Bool.{cases_lt, cases_order}
 use Rattle.std.proofs.lemmas.Option.{none-some, same_Some}
 use Rattle.icu_locale.specs.Run.{at, EndsAt, ComesAgain, IsRepeat, HasOneEnd, HasOneRepeat, KeepsEnd, EndsOrRepeats, EndsWithNoRepeat}
-use Rattle.icu_locale.specs.Walk.{IsCount}
+use Rattle.icu_locale.specs.inner.Walk.{IsCount}
 use Rattle.icu_locale.proofs.Places.{none_after, around_from, in_cycle}
 use Rattle.icu_locale.proofs.Counts.{some_value, count_positive}
 

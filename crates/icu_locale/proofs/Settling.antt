@@ -9,10 +9,12 @@ use Rattle.icu_locale_core.specs.TextSet.{text_cmp, empty}
 use Rattle.icu_locale_core.specs.Identifier.{IsIdentifier}
 use Rattle.icu_locale_core.specs.declared.langid.LanguageIdentifier.{LanguageIdentifier}
 use Rattle.icu_provider.specs.declared.data_locale.DataLocale.{DataLocale}
-use Rattle.icu_locale.specs.LikelySubtags.{Key, LanguageRegion, LanguageScript, LanguageAlone, ScriptAlone, RegionAlone, LikelySubtags, Triple, known_subtag, unknown_script, unknown_region, bare_locale, known_keys, und_keys, first_found, maximal_of_bare, maximal_locale, locale_of, with_locale}
+use Rattle.icu_locale.specs.declared.expander.looks.Key.{Key}
+use Rattle.icu_locale.specs.declared.expander.looks.Key.TheVariants.{LanguageRegion, LanguageScript, LanguageAlone, ScriptAlone, RegionAlone}
+use Rattle.icu_locale.specs.LikelySubtags.{LikelySubtags, Triple, known_subtag, unknown_script, unknown_region, bare_locale, known_keys, und_keys, first_found, maximal_of_bare, maximal_locale, locale_of, with_locale}
 use Rattle.icu_locale.specs.Settled.{AreSettled}
-use Rattle.icu_locale.specs.SettledRows.{key_locale, IsLocale, is_settled_locale, settles, IsUnsettled}
-use Rattle.icu_locale.specs.Trials.{same_locale}
+use Rattle.icu_locale.specs.inner.SettledRows.{key_locale, IsLocale, is_settled_locale, settles, IsUnsettled}
+use Rattle.icu_locale.specs.inner.Trials.{same_locale}
 use Rattle.icu_locale.proofs.Locales.{same_locale-Decides, same_text}
 use Rattle.icu_locale.proofs.Maximal.{known_subtag-again}
 
@@ -50,10 +52,10 @@ unsettled likely x known fails = record {
 }
 
 -- what the test of a key's maximal form tells
-pub told : (likely : LikelySubtags) (k : Key) (x m : DataLocale) → x ≡ key_locale k → IsLocale x → m ≡ maximal_locale likely x → (b : Bool) → b ≡ is_settled_locale likely m → MatchBool b (settles likely k ≡ true) (IsUnsettled likely)
+pub told : (likely : LikelySubtags) (k : Key) (m : DataLocale) → IsLocale (key_locale k) → m ≡ maximal_locale likely (key_locale k) → (b : Bool) → b ≡ is_settled_locale likely m → MatchBool b (settles likely k ≡ true) (IsUnsettled likely)
 unfolding settles
-told likely k x m own known is true e = ap (λ w. is_settled_locale likely (maximal_locale likely w)) (sym own) ∙ ap (is_settled_locale likely) (sym is) ∙ sym e
-told likely k x m own known is false e = unsettled likely x known (ap (is_settled_locale likely) (sym is) ∙ sym e)
+told likely k m known is true e = ap (is_settled_locale likely) (sym is) ∙ sym e
+told likely k m known is false e = unsettled likely (key_locale k) known (ap (is_settled_locale likely) (sym is) ∙ sym e)
 
 -- ---- from the rows to every identifier
 

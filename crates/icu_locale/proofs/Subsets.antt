@@ -9,7 +9,7 @@ use Rattle.std.proofs.lemmas.Cmp.{tied_itself}
 use Rattle.std.proofs.lemmas.List.Elements.{Contains-append_left, Contains-append_right, Contains-append_cases}
 use Rattle.icu_locale_core.specs.TextSet.{TextSet, text_cmp, empty, contains, from_list, difference}
 use Rattle.icu_locale_core.specs.laws.TextSets.{text_total, same_set, same_from_tied, contains-insert, contains-difference, contains-empty}
-use Rattle.icu_locale.specs.Universe.{subsets}
+use Rattle.icu_locale.specs.inner.Universe.{subsets}
 use Rattle.icu_locale.proofs.Lists.{Contains-here, Contains-there, Contains-cons_cases, Contains-nil, Contains-map, Contains-from_map}
 
 pub contains-one : (t q : List ℕ) → contains (from_list (t ∷ [])) q ≡ eq_by_cmp text_cmp q t

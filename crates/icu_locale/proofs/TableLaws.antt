@@ -10,8 +10,11 @@ use Rattle.icu_locale_core.specs.TextSet.{text_cmp}
 use Rattle.icu_locale_core.specs.Maps.{value_at}
 use Rattle.icu_provider.specs.Maps.{pair_cmp}
 use Rattle.icu_provider.specs.declared.likely.extended.LikelySubtagsExtended.{LikelySubtagsExtended}
-use Rattle.icu_locale.specs.LikelySubtags.{Key, LanguageRegion, LanguageScript, LanguageAlone, ScriptRegion, ScriptAlone, RegionAlone, Triple}
-use Rattle.icu_locale.specs.Expander.{LikelyRows, common_rows, extended_rows, row_at, common_row, extension_row, und_row, likely, HasKey, keys_by, row_keys, extension_keys, und_row_keys, table_keys}
+use Rattle.icu_locale.specs.declared.expander.looks.Key.{Key}
+use Rattle.icu_locale.specs.declared.expander.looks.Key.TheVariants.{LanguageRegion, LanguageScript, LanguageAlone, ScriptRegion, ScriptAlone, RegionAlone}
+use Rattle.icu_locale.specs.LikelySubtags.{Triple}
+use Rattle.icu_locale.specs.LikelyTable.{LikelyRows, common_rows, extended_rows, row_at, common_row, extension_row, und_row, likely}
+use Rattle.icu_locale.specs.TableKeys.{HasKey, keys_by, row_keys, extension_keys, und_row_keys, table_keys}
 use Rattle.icu_locale.specs.declared.expander.LocaleExpander.{LocaleExpander}
 use Rattle.icu_locale.proofs.Locales.{same_text}
 use Rattle.icu_locale_core.specs.laws.TextSets.{text_same}

@@ -15,10 +15,13 @@ use Rattle.icu_locale_core.specs.TextSet.{text_cmp}
 use Rattle.icu_locale_core.specs.Maps.{value_at}
 use Rattle.icu_provider.specs.Maps.{pair_cmp}
 use Rattle.icu_provider.specs.declared.likely.extended.LikelySubtagsExtended.{LikelySubtagsExtended}
-use Rattle.icu_locale.specs.LikelySubtags.{Key, LanguageRegion, LanguageScript, LanguageAlone, ScriptRegion, ScriptAlone, RegionAlone, LikelySubtags, Triple}
-use Rattle.icu_locale.specs.Expander.{LikelyRows, common_rows, extended_rows, row_at, common_row, extension_row, und_row, likely, keys_by}
+use Rattle.icu_locale.specs.declared.expander.looks.Key.{Key}
+use Rattle.icu_locale.specs.declared.expander.looks.Key.TheVariants.{LanguageRegion, LanguageScript, LanguageAlone, ScriptRegion, ScriptAlone, RegionAlone}
+use Rattle.icu_locale.specs.LikelySubtags.{LikelySubtags, Triple}
+use Rattle.icu_locale.specs.LikelyTable.{LikelyRows, common_rows, extended_rows, row_at, common_row, extension_row, und_row, likely}
+use Rattle.icu_locale.specs.TableKeys.{keys_by}
 use Rattle.icu_locale.specs.Settled.{AreSettled}
-use Rattle.icu_locale.specs.SettledRows.{settles, AllSettle, RowsSettle, UndRowsSettle, AllRowsSettle, IsUnsettled}
+use Rattle.icu_locale.specs.inner.SettledRows.{settles, AllSettle, RowsSettle, UndRowsSettle, AllRowsSettle, IsUnsettled}
 use Rattle.icu_locale.specs.declared.expander.LocaleExpander.{LocaleExpander}
 use Rattle.icu_locale_core.specs.laws.TextSets.{text_same}
 use Rattle.icu_locale.proofs.Lists.{Contains-map}

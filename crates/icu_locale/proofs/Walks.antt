@@ -4,7 +4,7 @@ use Rattle.std.specs.Cmp.{IsEquivalence}
 use Rattle.std.proofs.lemmas.Bool.{cases_eq, cases_lt, false≢true, not-true, not-false}
 use Rattle.std.proofs.lemmas.Option.{none-some, same_Some}
 use Rattle.icu_locale.specs.Run.{at, StandsIn, IsRepeat}
-use Rattle.icu_locale.specs.Walk.{IsCount, IsMeeting}
+use Rattle.icu_locale.specs.inner.Walk.{IsCount, IsMeeting}
 use Rattle.icu_locale.proofs.Places.{none_after, meets_before, meets_again, never_none}
 use Rattle.icu_locale.proofs.Runs.{IsRepeat-from_pairs}
 

@@ -3,7 +3,7 @@ use Rattle.std.specs.Prelude.{ℕ, Bool, false, true, List, Option, Some, None, 
 use Rattle.icu_provider.specs.ScriptDirection.{is_listed}
 use Rattle.icu_provider.specs.declared.direction.ScriptDirection.{ScriptDirection}
 use Rattle.icu_provider.specs.declared.error.DataError.{DataError}
-use Rattle.icu_locale.specs.Expander.{LikelyTables, tables_of}
+use Rattle.icu_locale.specs.Construction.{LikelyTables, tables_of}
 use Rattle.icu_locale.specs.declared.expander.LocaleExpander.{LocaleExpander}
 use Rattle.icu_locale.specs.declared.directionality.LocaleDirectionality.{LocaleDirectionality}
 use Rattle.icu_locale.specs.declared.directionality.Direction.{Direction}

@@ -5,19 +5,12 @@ use Rattle.std.specs.Str.{bytes_eq}
 use Rattle.icu_locale_core.specs.Subtag.{und}
 use Rattle.icu_locale_core.specs.declared.langid.LanguageIdentifier.{LanguageIdentifier}
 use Rattle.icu_provider.specs.declared.data_locale.DataLocale.{DataLocale}
+use Rattle.icu_locale.specs.declared.expander.looks.Key.{Key}
+use Rattle.icu_locale.specs.declared.expander.looks.Key.TheVariants.{LanguageRegion, LanguageScript, LanguageAlone, ScriptRegion, ScriptAlone, RegionAlone}
 
 -- a language, a script and a region
 abbrev pub Triple : Type 0
 Triple = List ℕ × List ℕ × List ℕ
-
--- the subtags by which a row of the likely table is looked up
-pub data Key : Type 0 where
-  LanguageRegion : List ℕ → List ℕ → Key
-  LanguageScript : List ℕ → List ℕ → Key
-  LanguageAlone : List ℕ → Key
-  ScriptRegion : List ℕ → List ℕ → Key
-  ScriptAlone : List ℕ → Key
-  RegionAlone : List ℕ → Key
 
 -- a likely table: each key has at most one triple
 abbrev pub LikelySubtags : Type 0

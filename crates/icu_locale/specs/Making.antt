@@ -1,7 +1,7 @@
 -- What a canonicalizer is made over.
 use Rattle.std.specs.Prelude.{◌≡◌}
 use Rattle.icu_provider.specs.declared.aliases.Aliases.{Aliases}
-use Rattle.icu_locale.specs.Expander.{LikelyTables, tables_of}
+use Rattle.icu_locale.specs.Construction.{LikelyTables, tables_of}
 use Rattle.icu_locale.specs.Rules.{AreRules}
 use Rattle.icu_locale.specs.declared.expander.LocaleExpander.{LocaleExpander}
 use Rattle.icu_locale.specs.declared.canonicalizer.rules.Rules.{Rules}

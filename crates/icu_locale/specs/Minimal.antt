@@ -3,11 +3,8 @@ use Rattle.std.specs.Prelude.{◌≡◌, ℕ, List, ◌+◌, ◌<◌, Option, So
 use Rattle.icu_locale_core.specs.TextSet.{len}
 use Rattle.icu_locale_core.specs.declared.langid.LanguageIdentifier.{LanguageIdentifier}
 use Rattle.icu_locale.specs.LikelySubtags.{LikelySubtags, maximal}
-
--- which of two identifiers with equally many subtags is taken: the one with the region, or the one with the script
-pub data Favor : Type 0 where
-  RegionFirst : Favor
-  ScriptFirst : Favor
+use Rattle.icu_locale.specs.declared.expander.Favor.{Favor}
+use Rattle.icu_locale.specs.declared.expander.Favor.TheVariants.{RegionFirst, ScriptFirst}
 
 -- 1 for a subtag that is there
 abbrev pub count : Option (List ℕ) → ℕ

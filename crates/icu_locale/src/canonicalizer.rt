@@ -1,9 +1,9 @@
 //! Canonicalization of locales (UTS #35 Part 1, Annex C, "LocaleId Canonicalization").
 ghost use Rattle.std.specs.Prelude.{◌≡◌, ◌⊎◌, ℕ, Some, None, Err, IfOk, IfErr, IfSome, IsOk, OnOk, OnErr, option_copied};
-ghost use Rattle.icu_locale.specs.Expander.{likely};
+ghost use Rattle.icu_locale.specs.LikelyTable.{likely};
 ghost use Rattle.icu_locale.specs.Kinds.{by_language_alias};
 ghost use Rattle.icu_locale.specs.Canonical.{subdivision_alias, IsCanonical, is_applied, answer_of, RulesEnd, ComesAgainFirst, IsRefusal, HasIdentifiers, IsCounted, IsOutOfMemory, NeedsNoMemory, error_name};
-ghost use Rattle.icu_locale.specs.Ends.{IsLaterEndOf, IsRunRefusalOf, IsRunCounted, IsFree, IsChanges};
+ghost use Rattle.icu_locale.specs.inner.CanonicalParts.{IsLaterEndOf, IsRunRefusalOf, IsRunCounted, IsFree, IsChanges};
 
 use crate::rewriting::identifiers::later_end;
 use crate::rewriting::turns::Turns;

@@ -27,7 +27,7 @@ pub struct LocaleDirectionality<'d, E = LocaleExpander<'d>> {
 }
 
 impl<'d> LocaleDirectionality<'d> {
-    ghost use Rattle.icu_locale.specs.Expander.{common_tables, all_tables, both};
+    ghost use Rattle.icu_locale.specs.Construction.{common_tables, all_tables, both};
     ghost use Rattle.icu_locale.specs.Direction.{with_directions};
 
     /// Over the common tables of likely subtags.
@@ -88,7 +88,7 @@ impl<'d> LocaleDirectionality<'d> {
 
 impl<'d, E: AsExpander<'d>> LocaleDirectionality<'d, E> {
     ghost use Rattle.std.specs.Prelude.{IfOk};
-    ghost use Rattle.icu_locale.specs.Expander.{likely};
+    ghost use Rattle.icu_locale.specs.LikelyTable.{likely};
     ghost use Rattle.icu_locale.specs.LikelySubtags.{likely_script};
     ghost use Rattle.icu_locale.specs.Direction.{is_script_in, direction_of, directions_of};
 

@@ -2,7 +2,7 @@
 
 ghost use Rattle.std.specs.Prelude.{◌≡◌, ◌≢◌, ◌↔◌, false, Some, None};
 ghost use Rattle.icu_locale.specs.LikelySubtags.{bare_locale, locale_of, with_locale, maximal_of_bare, maximal_locale, maximal, likely_script, IsModified};
-ghost use Rattle.icu_locale.specs.Trials.{favor_of, alone, with_favored, with_other};
+ghost use Rattle.icu_locale.specs.inner.Trials.{alone, with_favored, with_other};
 
 pub(crate) mod looks;
 
@@ -22,11 +22,13 @@ pub enum TransformResult {
     Unmodified,
 }
 
-// Which of two equally short trials comes first: the one with the region, or the one with the script.
+/// Which of two identifiers with equally many subtags is taken.
 #[derive(Clone, Copy, Debug, PartialEq, Eq)]
-enum First {
-    Region,
-    Script,
+pub enum Favor {
+    /// The one with the region.
+    RegionFirst,
+    /// The one with the script.
+    ScriptFirst,
 }
 
 /// Likely subtags (UTS #35, section 4.3) over tables that it borrows. No call takes memory.
@@ -41,9 +43,11 @@ pub struct LocaleExpander<'d> {
 }
 
 impl<'d> LocaleExpander<'d> {
-    ghost use Rattle.icu_locale.specs.Expander.{likely, seen, common_tables, all_tables};
-    ghost use Rattle.icu_locale.specs.Minimal.{RegionFirst, ScriptFirst, IsMinimalForm};
-    ghost use Rattle.icu_locale.specs.Trials.{favor_of, trials, first_trial, same_locale};
+    ghost use Rattle.icu_locale.specs.LikelyTable.{likely};
+    ghost use Rattle.icu_locale.specs.Construction.{seen, common_tables, all_tables};
+    ghost use Rattle.icu_locale.specs.declared.expander.Favor.TheVariants.{RegionFirst, ScriptFirst};
+    ghost use Rattle.icu_locale.specs.Minimal.{IsMinimalForm};
+    ghost use Rattle.icu_locale.specs.inner.Trials.{trials, first_trial, same_locale};
 
     /// Over the common tables alone.
     pub fn new_common(
@@ -126,7 +130,7 @@ impl<'d> LocaleExpander<'d> {
         ensures minimal { IsMinimalForm RegionFirst (likely self.now) id.old id.new }
         ensures modified { (result ≡ TransformResult.Modified) ↔ (id.new ≢ id.old) }
     {
-        self.minimize_favoring(First::Region, id)
+        self.minimize_favoring(Favor::RegionFirst, id)
     }
 
     /// As `minimize`, but of two that are equally short it takes the one with the script.
@@ -134,7 +138,7 @@ impl<'d> LocaleExpander<'d> {
         ensures minimal { IsMinimalForm ScriptFirst (likely self.now) id.old id.new }
         ensures modified { (result ≡ TransformResult.Modified) ↔ (id.new ≢ id.old) }
     {
-        self.minimize_favoring(First::Script, id)
+        self.minimize_favoring(Favor::ScriptFirst, id)
     }
 
     /// The script of the maximal form, if it has one.
@@ -144,25 +148,25 @@ impl<'d> LocaleExpander<'d> {
         self.maximal_locale(locale_of(id)).script
     }
 
-    fn minimize_favoring(&self, first: First, id: &mut LanguageIdentifier) -> TransformResult
-        ensures minimal { IsMinimalForm (favor_of first) (likely self.now) id.old id.new }
+    fn minimize_favoring(&self, favor: Favor, id: &mut LanguageIdentifier) -> TransformResult
+        ensures minimal { IsMinimalForm favor (likely self.now) id.old id.new }
         ensures modified { (result ≡ TransformResult.Modified) ↔ (id.new ≢ id.old) }
     {
         let given = locale_of(id);
-        let minimal = self.minimal_locale(first, given);
+        let minimal = self.minimal_locale(favor, given);
         set_locale(id, minimal)
     }
 
     // The first of the three trials that has the maximal form of the given subtags, or that form.
-    fn minimal_locale(&self, first: First, given: DataLocale) -> DataLocale
-        ensures { let m = maximal_locale (likely self.now) given in result ≡ first_trial (likely self.now) m (trials (favor_of first) m) }
+    fn minimal_locale(&self, favor: Favor, given: DataLocale) -> DataLocale
+        ensures { let m = maximal_locale (likely self.now) given in result ≡ first_trial (likely self.now) m (trials favor m) }
     {
         let maximal = self.maximal_locale(given);
         let alone = language_alone(&maximal);
         if self.leads_to(&alone, &maximal) {
             return alone;
         }
-        let (second, third) = with_one(first, &maximal);
+        let (second, third) = with_one(favor, &maximal);
         if self.leads_further(&second, &alone, &maximal) {
             return second;
         }
@@ -229,9 +233,9 @@ fn language_alone(maximal: &DataLocale) -> DataLocale
 }
 
 // The language with the favored subtag, and with the other one.
-fn with_one(first: First, maximal: &DataLocale) -> (DataLocale, DataLocale)
-    ensures favored { result.0 ≡ with_favored (favor_of first) maximal.now }
-    ensures other { result.1 ≡ with_other (favor_of first) maximal.now }
+fn with_one(favor: Favor, maximal: &DataLocale) -> (DataLocale, DataLocale)
+    ensures favored { result.0 ≡ with_favored favor maximal.now }
+    ensures other { result.1 ≡ with_other favor maximal.now }
 {
     let with_region = DataLocale {
         language: maximal.language,
@@ -243,9 +247,9 @@ fn with_one(first: First, maximal: &DataLocale) -> (DataLocale, DataLocale)
         script: maximal.script,
         region: None,
     };
-    match first {
-        First::Region => (with_region, with_script),
-        First::Script => (with_script, with_region),
+    match favor {
+        Favor::RegionFirst => (with_region, with_script),
+        Favor::ScriptFirst => (with_script, with_region),
     }
 }
 

@@ -2,7 +2,7 @@
 // Two walkers go along a run, one twice as fast as the other, so no list of states is kept.
 ghost use Rattle.std.specs.Prelude.{◌≡◌, ◌<◌, ◌≤◌, ◌+◌, ◌*◌, ℕ, List, Option, Some, true, IfOk, IfErr, IsOk, OnOk, IsSome};
 ghost use Rattle.icu_locale.specs.Run.{StandsIn, HasDistinct, IsRepeat};
-ghost use Rattle.icu_locale.specs.Walk.{IsCount, IsMeeting, IsWalk, IsOutcome, IsUniverse};
+ghost use Rattle.icu_locale.specs.inner.Walk.{IsCount, IsMeeting, IsWalk, IsOutcome, IsUniverse};
 
 pub mod identifiers;
 mod kinds;

@@ -1,14 +1,17 @@
 //! Whether the maximal form of every identifier is settled: each row's key is looked at once.
 ghost use Rattle.std.specs.Prelude.{◌≡◌, ◌↔◌, true, IsTrue, MatchBool};
 ghost use Rattle.icu_locale_core.specs.Subtag.{und};
-ghost use Rattle.icu_locale.specs.LikelySubtags.{LanguageRegion, LanguageScript, LanguageAlone, ScriptRegion, ScriptAlone, RegionAlone, Key, bare_locale};
-ghost use Rattle.icu_locale.specs.Expander.{likely};
+ghost use Rattle.icu_locale.specs.declared.expander.looks.Key.{Key};
+ghost use Rattle.icu_locale.specs.declared.expander.looks.Key.TheVariants.{LanguageRegion, LanguageScript, LanguageAlone, ScriptRegion, ScriptAlone, RegionAlone};
+ghost use Rattle.icu_locale.specs.LikelySubtags.{bare_locale};
+ghost use Rattle.icu_locale.specs.LikelyTable.{likely};
 ghost use Rattle.icu_locale.specs.Settled.{AreSettled};
-ghost use Rattle.icu_locale.specs.Trials.{same_locale};
-ghost use Rattle.icu_locale.specs.SettledRows.{key_locale, IsLocale, is_settled_locale, settles, AllSettle, IsUnsettled, CommonRowsSettle, ExtendedRowsSettle, UndRowsSettle, AllRowsSettle};
+ghost use Rattle.icu_locale.specs.inner.LikelyMaps.{rows_of};
+ghost use Rattle.icu_locale.specs.inner.Trials.{same_locale};
+ghost use Rattle.icu_locale.specs.inner.SettledRows.{key_locale, IsLocale, is_settled_locale, settles, AllSettle, IsUnsettled, RowsSettle, ExtendedRowsSettle, UndRowsSettle, AllRowsSettle};
 
 use crate::LocaleExpander;
-use crate::expander::looks::bare_locale;
+use crate::expander::looks::{Key, LikelyMaps, bare_locale, extended_maps};
 use icu_locale_core::{Language, Region, Script};
 use icu_provider::{DataLocale, SortedMap};
 
@@ -16,90 +19,85 @@ use icu_provider::{DataLocale, SortedMap};
 trait RowKey: Ord {
     ghost key: { Self → Key };
 
-    // The key's own subtags, with the language `und` where the key has none.
-    fn locale(&self) -> DataLocale
-        ensures own { result ≡ key_locale (key self.now) }
-        ensures known { IsLocale result };
+    // The key in the one table.
+    fn key(&self) -> Key
+        ensures value { result ≡ key self.now }
+        ensures known { IsLocale (key_locale (key self.now)) };
 }
 
 impl RowKey for Language {
     ghost key = { LanguageAlone };
 
-    fn locale(&self) -> DataLocale {
+    fn key(&self) -> Key {
         self.known();
-        DataLocale {
-            language: *self,
-            script: None,
-            region: None,
-        }
+        Key::LanguageAlone(*self)
     }
 }
 
 impl RowKey for (Language, Script) {
     ghost key = { λ k. LanguageScript k.0 k.1 };
 
-    fn locale(&self) -> DataLocale {
+    fn key(&self) -> Key {
         self.0.known();
         self.1.known();
-        DataLocale {
-            language: self.0,
-            script: Some(self.1),
-            region: None,
-        }
+        Key::LanguageScript(self.0, self.1)
     }
 }
 
 impl RowKey for (Language, Region) {
     ghost key = { λ k. LanguageRegion k.0 k.1 };
 
-    fn locale(&self) -> DataLocale {
+    fn key(&self) -> Key {
         self.0.known();
         self.1.known();
-        DataLocale {
-            language: self.0,
-            script: None,
-            region: Some(self.1),
-        }
+        Key::LanguageRegion(self.0, self.1)
     }
 }
 
 impl RowKey for (Script, Region) {
     ghost key = { λ k. ScriptRegion k.0 k.1 };
 
-    fn locale(&self) -> DataLocale {
+    fn key(&self) -> Key {
         self.0.known();
         self.1.known();
-        DataLocale {
-            language: unknown_language(),
-            script: Some(self.0),
-            region: Some(self.1),
-        }
+        Key::ScriptRegion(self.0, self.1)
     }
 }
 
 impl RowKey for Script {
     ghost key = { ScriptAlone };
 
-    fn locale(&self) -> DataLocale {
+    fn key(&self) -> Key {
         self.known();
-        DataLocale {
-            language: unknown_language(),
-            script: Some(*self),
-            region: None,
-        }
+        Key::ScriptAlone(*self)
     }
 }
 
 impl RowKey for Region {
     ghost key = { RegionAlone };
 
-    fn locale(&self) -> DataLocale {
+    fn key(&self) -> Key {
         self.known();
-        DataLocale {
-            language: unknown_language(),
-            script: None,
-            region: Some(*self),
-        }
+        Key::RegionAlone(*self)
+    }
+}
+
+// The key's own subtags, with the language `und` where the key has none.
+fn key_locale(key: &Key) -> DataLocale
+    ensures { result ≡ key_locale key.now }
+{
+    let (language, script, region) = match *key {
+        Key::LanguageRegion(language, region) => (language, None, Some(region)),
+        Key::LanguageScript(language, script) => (language, Some(script), None),
+        Key::LanguageAlone(language) => (language, None, None),
+        Key::ScriptRegion(script, region) => (unknown_language(), Some(script), Some(region)),
+        Key::ScriptAlone(script) => (unknown_language(), Some(script), None),
+        Key::RegionAlone(region) => (unknown_language(), None, Some(region)),
+    };
+    DataLocale {
+        language,
+        script,
+        region,
     }
 }
 
@@ -125,11 +123,12 @@ impl<'d> LocaleExpander<'d> {
         is_bare(locale) && self.leads_to(locale, locale)
     }
 
-    // Whether the maximal form of a row's own key is settled.
+    // Whether the maximal form of a key's own subtags is settled.
     fn settles<K: RowKey>(&self, key: &K) -> bool
         ensures { MatchBool result (settles (likely self.now) (K.key key.now) ≡ true) (IsUnsettled (likely self.now)) }
     {
-        let maximal = self.maximal_locale(key.locale());
+        let key = key.key();
+        let maximal = self.maximal_locale(key_locale(&key));
         self.is_settled_locale(&maximal)
     }
 
@@ -145,31 +144,26 @@ impl<'d> LocaleExpander<'d> {
         true
     }
 
-    // Whether the keys of the common tables settle.
-    fn common_rows_settle(&self) -> bool
-        ensures { MatchBool result (CommonRowsSettle self.now) (IsUnsettled (likely self.now)) }
+    // Whether the keys of a table settle.
+    fn table_settles(&self, maps: &LikelyMaps<'_>) -> bool
+        ensures { MatchBool result (RowsSettle (likely self.now) (rows_of maps.now)) (IsUnsettled (likely self.now)) }
     {
-        self.all_settle(&self.language.language)
-            && self.all_settle(&self.language.language_script)
-            && self.all_settle(&self.language.language_region)
-            && self.all_settle(&self.script_region.script_region)
-            && self.all_settle(&self.script_region.script)
-            && self.all_settle(&self.script_region.region)
+        self.all_settle(maps.language)
+            && self.all_settle(maps.language_script)
+            && self.all_settle(maps.language_region)
+            && self.all_settle(maps.script_region)
+            && self.all_settle(maps.script)
+            && self.all_settle(maps.region)
     }
 
     // Whether the keys of the extended table settle.
     fn extended_rows_settle(&self) -> bool
         ensures { MatchBool result (ExtendedRowsSettle self.now) (IsUnsettled (likely self.now)) }
     {
-        let Some(extended) = self.extended else {
-            return true;
-        };
-        self.all_settle(&extended.language)
-            && self.all_settle(&extended.language_script)
-            && self.all_settle(&extended.language_region)
-            && self.all_settle(&extended.script_region)
-            && self.all_settle(&extended.script)
-            && self.all_settle(&extended.region)
+        match self.extended {
+            Some(extended) => self.table_settles(&extended_maps(extended)),
+            None => true,
+        }
     }
 
     // Whether the keys that the triple of `und` serves settle.
@@ -184,7 +178,9 @@ impl<'d> LocaleExpander<'d> {
     fn rows_settle(&self) -> bool
         ensures { MatchBool result (AllRowsSettle self.now) (IsUnsettled (likely self.now)) }
     {
-        self.common_rows_settle() && self.extended_rows_settle() && self.und_rows_settle()
+        self.table_settles(&self.common_maps())
+            && self.extended_rows_settle()
+            && self.und_rows_settle()
     }
 
     /// Whether the maximal form of every identifier is settled: bare, and its own maximal form. It takes no memory, and

@@ -6,11 +6,11 @@ use Rattle.icu_locale_core.specs.declared.langid.LanguageIdentifier.{LanguageIde
 use Rattle.icu_locale_core.specs.declared.locale.Locale.{Locale}
 use Rattle.icu_locale_core.specs.declared.parse_error.ParseError.{ParseError}
 use Rattle.icu_locale_core.specs.declared.parse_error.ParseError.TheVariants.{InvalidLanguage, InvalidSubtag, Memory}
-use Rattle.icu_locale.specs.LikelySubtags.{LikelySubtags, maximal, IsModified}
-use Rattle.icu_locale.specs.Minimal.{IsMinimalForm, RegionFirst, ScriptFirst}
-use Rattle.icu_locale.specs.Expander.{likely}
+use Rattle.icu_locale.specs.LikelySubtags.{LikelySubtags, maximal, IsModified, likely_script}
+use Rattle.icu_locale.specs.Minimal.{IsMinimalForm}
+use Rattle.icu_locale.specs.declared.expander.Favor.TheVariants.{RegionFirst, ScriptFirst}
+use Rattle.icu_locale.specs.LikelyTable.{likely}
 use Rattle.icu_locale.specs.Canonical.{IsCanonical, ComesAgainFirst, is_applied, answer_of}
-use Rattle.icu_locale.specs.LikelySubtags.{likely_script}
 use Rattle.icu_locale.specs.Direction.{direction_of}
 use Rattle.icu_locale.specs.declared.canonicalizer.rules.Rules.{Rules}
 use Rattle.icu_locale.specs.declared.expander.TransformResult.{TransformResult}

@@ -1,7 +1,7 @@
 -- A whole run: tables, input and output.
 use Rattle.std.specs.Prelude.{◌≡◌, ◌↔◌, ◌⊎◌, ℕ, Bool, true, List, Option}
 use Rattle.std.specs.Io.KnownBytes.{Appends}
-use Rattle.icu_locale.specs.Expander.{likely}
+use Rattle.icu_locale.specs.LikelyTable.{likely}
 use Rattle.icu_locale.specs.Settled.{AreSettled}
 use Rattle.icu_locale.specs.declared.expander.LocaleExpander.{LocaleExpander}
 use Rattle.icu_tables.specs.declared.tables.Tables.{Tables}

@@ -2,7 +2,7 @@
 ghost use Rattle.std.specs.Prelude.{◌≡◌, ◌≢◌, ◌↔◌, ◌⊎◌, Err, IfOk, IfErr, IfSome, IsSomeAnd, is_ok, is_some, true, false};
 ghost use Rattle.std.specs.String.{string_bytes};
 ghost use Rattle.icu_locale_cli.specs.Texts.{transformed_line, refused_line, direction_line};
-ghost use Rattle.icu_locale.specs.Expander.{likely};
+ghost use Rattle.icu_locale.specs.LikelyTable.{likely};
 ghost use Rattle.icu_locale.specs.Rules.{AreRules};
 ghost use Rattle.icu_locale_cli.specs.Answers.{IsCanonicalized};
 ghost use Rattle.icu_locale_cli.specs.Loads.{IsExpanderOf, has_likely, not_found};

@@ -18,7 +18,7 @@ pub struct Changes {
 }
 
 impl Changes {
-    ghost use Rattle.icu_locale.specs.Ends.{changed, is_change};
+    ghost use Rattle.icu_locale.specs.inner.CanonicalParts.{changed, is_change};
 
     // Writes the changes, all of them.
     pub fn write(self, locale: &mut Locale) -> TransformResult

@@ -1,6 +1,6 @@
 //! Canonicalizers over tables or a provider.
 ghost use Rattle.std.specs.Prelude.{◌≡◌, Some, None, Err, IfOk, IfErr, MatchResult};
-ghost use Rattle.icu_locale.specs.Expander.{common_tables, all_tables, both};
+ghost use Rattle.icu_locale.specs.Construction.{common_tables, all_tables, both};
 ghost use Rattle.icu_locale.specs.Rules.{AreRules};
 ghost use Rattle.icu_locale.specs.Making.{IsOver};
 

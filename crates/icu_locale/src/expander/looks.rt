@@ -1,16 +1,122 @@
 //! Look-ups in the one likely table of an expander.
 ghost use Rattle.std.specs.Prelude.{◌≡◌};
-ghost use Rattle.icu_locale.specs.LikelySubtags.{LanguageRegion, LanguageScript, LanguageAlone, ScriptRegion, ScriptAlone, RegionAlone, known_subtag, unknown_script, unknown_region, bare_locale, filled, first_found, keys, known_keys, und_keys};
-ghost use Rattle.icu_locale.specs.Expander.{likely};
+ghost use Rattle.icu_locale_core.specs.Maps.{value_at};
+ghost use Rattle.icu_locale.specs.LikelySubtags.{known_subtag, unknown_script, unknown_region, bare_locale, filled, first_found, keys, known_keys, und_keys};
+ghost use Rattle.icu_locale.specs.LikelyTable.{row_at, common_rows, extended_rows, extension_row, und_row, likely};
+ghost use Rattle.icu_locale.specs.inner.LikelyMaps.{rows_of};
 
 use crate::expander::LocaleExpander;
 use icu_locale_core::{Language, Region, Script};
-use icu_provider::DataLocale;
+use icu_provider::{DataLocale, LikelySubtagsExtended, SortedMap};
 
 // A language, a script and a region, as a row of the table gives them.
 pub(crate) type Triple = (Language, Script, Region);
 
+/// The subtags by which a row of the likely table is looked up.
+#[derive(Clone, Copy)]
+pub enum Key {
+    LanguageRegion(Language, Region),
+    LanguageScript(Language, Script),
+    LanguageAlone(Language),
+    ScriptRegion(Script, Region),
+    ScriptAlone(Script),
+    RegionAlone(Region),
+}
+
+// The six maps of a likely table, by the subtags of their keys.
+#[derive(Clone, Copy)]
+pub(crate) struct LikelyMaps<'d> {
+    pub(crate) language: &'d SortedMap<Language, (Script, Region)>,
+    pub(crate) language_script: &'d SortedMap<(Language, Script), Region>,
+    pub(crate) language_region: &'d SortedMap<(Language, Region), Script>,
+    pub(crate) script_region: &'d SortedMap<(Script, Region), Language>,
+    pub(crate) script: &'d SortedMap<Script, (Language, Region)>,
+    pub(crate) region: &'d SortedMap<Region, (Language, Script)>,
+}
+
+impl<'d> LikelyMaps<'d> {
+    // The triple at a key: the key's own subtags, and the values of the row.
+    fn row_at(&self, key: &Key) -> Option<Triple>
+        ensures { result ≡ row_at (rows_of self.now) key.now }
+    {
+        match *key {
+            Key::LanguageRegion(language, region) => {
+                let script = value_at(self.language_region, (language, region))?;
+                Some((language, script, region))
+            }
+            Key::LanguageScript(language, script) => {
+                let region = value_at(self.language_script, (language, script))?;
+                Some((language, script, region))
+            }
+            Key::LanguageAlone(language) => {
+                let (script, region) = value_at(self.language, language)?;
+                Some((language, script, region))
+            }
+            Key::ScriptRegion(script, region) => {
+                let language = value_at(self.script_region, (script, region))?;
+                Some((language, script, region))
+            }
+            Key::ScriptAlone(script) => {
+                let (language, region) = value_at(self.script, script)?;
+                Some((language, script, region))
+            }
+            Key::RegionAlone(region) => {
+                let (language, script) = value_at(self.region, region)?;
+                Some((language, script, region))
+            }
+        }
+    }
+}
+
+// The value at a key of a map, if any.
+fn value_at<K: Ord + Copy, V: Copy>(map: &SortedMap<K, V>, key: K) -> Option<V>
+    ensures { result ≡ value_at K.cmp map.now key }
+{
+    map.get(&key).copied()
+}
+
+// The maps of the extended table.
+pub(crate) fn extended_maps(extended: &LikelySubtagsExtended) -> LikelyMaps<'_>
+    ensures { rows_of result ≡ extended_rows extended.now }
+{
+    LikelyMaps {
+        language: &extended.language,
+        language_script: &extended.language_script,
+        language_region: &extended.language_region,
+        script_region: &extended.script_region,
+        script: &extended.script,
+        region: &extended.region,
+    }
+}
+
+// The triple of `und` as a row for its script and region, for its script and for its region.
+fn und_row(und: Triple, key: &Key) -> Option<Triple>
+    ensures { result ≡ und_row und key.now }
+{
+    let serves = match *key {
+        Key::ScriptRegion(script, region) => script == und.1 && region == und.2,
+        Key::ScriptAlone(script) => script == und.1,
+        Key::RegionAlone(region) => region == und.2,
+        _ => false,
+    };
+    if serves { Some(und) } else { None }
+}
+
 impl<'d> LocaleExpander<'d> {
+    // The maps of the two common tables.
+    pub(crate) fn common_maps(&self) -> LikelyMaps<'d>
+        ensures { rows_of result ≡ common_rows self.now.language.now self.now.script_region.now }
+    {
+        LikelyMaps {
+            language: &self.language.language,
+            language_script: &self.language.language_script,
+            language_region: &self.language.language_region,
+            script_region: &self.script_region.script_region,
+            script: &self.script_region.script,
+            region: &self.script_region.region,
+        }
+    }
+
     // The triple of the first key that the table has.
     pub(crate) fn first_found(&self, bare: DataLocale) -> Option<Triple>
         ensures { result ≡ first_found (likely self.now) (keys bare) }
@@ -32,18 +138,18 @@ impl<'d> LocaleExpander<'d> {
         ensures { result ≡ first_found (likely self.now) (known_keys language script region) }
     {
         if let Some(region) = region {
-            let found = self.language_region(language, region);
+            let found = self.row_at(&Key::LanguageRegion(language, region));
             if found.is_some() {
                 return found;
             }
         }
         if let Some(script) = script {
-            let found = self.language_script(language, script);
+            let found = self.row_at(&Key::LanguageScript(language, script));
             if found.is_some() {
                 return found;
             }
         }
-        self.language_alone(language)
+        self.row_at(&Key::LanguageAlone(language))
     }
 
     // With no known language: script and region, the script alone, the region alone.
@@ -53,109 +159,41 @@ impl<'d> LocaleExpander<'d> {
         if let Some(script) = script
             && let Some(region) = region
         {
-            let found = self.script_region(script, region);
+            let found = self.row_at(&Key::ScriptRegion(script, region));
             if found.is_some() {
                 return found;
             }
         }
         if let Some(script) = script {
-            let found = self.script_alone(script);
+            let found = self.row_at(&Key::ScriptAlone(script));
             if found.is_some() {
                 return found;
             }
         }
         match region {
-            Some(region) => self.region_alone(region),
+            Some(region) => self.row_at(&Key::RegionAlone(region)),
             None => None,
         }
     }
 
-    fn language_region(&self, language: Language, region: Region) -> Option<Triple>
-        ensures { result ≡ likely self.now (LanguageRegion language region) }
+    // The triple at a key: the common tables cover the extended one, and the triple of `und` serves last.
+    fn row_at(&self, key: &Key) -> Option<Triple>
+        ensures { result ≡ likely self.now key.now }
     {
-        let mut script = self.language.get_language_region(language, region);
-        if script.is_none()
-            && let Some(extended) = self.extended
-        {
-            script = extended.get_language_region(language, region);
+        if let Some(row) = self.common_maps().row_at(key) {
+            return Some(row);
         }
-        Some((language, script?, region))
+        if let Some(row) = self.extended_row(key) {
+            return Some(row);
+        }
+        und_row(self.language.und(), key)
     }
 
-    fn language_script(&self, language: Language, script: Script) -> Option<Triple>
-        ensures { result ≡ likely self.now (LanguageScript language script) }
+    // The triple of the extended table at a key, if there is such a table.
+    fn extended_row(&self, key: &Key) -> Option<Triple>
+        ensures { result ≡ extension_row self.now.extended key.now }
     {
-        let mut region = self.language.get_language_script(language, script);
-        if region.is_none()
-            && let Some(extended) = self.extended
-        {
-            region = extended.get_language_script(language, script);
-        }
-        Some((language, script, region?))
-    }
-
-    fn language_alone(&self, language: Language) -> Option<Triple>
-        ensures { result ≡ likely self.now (LanguageAlone language) }
-    {
-        let mut rest = self.language.get_language(language);
-        if rest.is_none()
-            && let Some(extended) = self.extended
-        {
-            rest = extended.get_language(language);
-        }
-        let (script, region) = rest?;
-        Some((language, script, region))
-    }
-
-    fn script_region(&self, script: Script, region: Region) -> Option<Triple>
-        ensures { result ≡ likely self.now (ScriptRegion script region) }
-    {
-        let mut language = self.script_region.get_script_region(script, region);
-        if language.is_none()
-            && let Some(extended) = self.extended
-        {
-            language = extended.get_script_region(script, region);
-        }
-        let und = self.language.und();
-        match language {
-            Some(language) => Some((language, script, region)),
-            None if script == und.1 && region == und.2 => Some(und),
-            None => None,
-        }
-    }
-
-    fn script_alone(&self, script: Script) -> Option<Triple>
-        ensures { result ≡ likely self.now (ScriptAlone script) }
-    {
-        let mut rest = self.script_region.get_script(script);
-        if rest.is_none()
-            && let Some(extended) = self.extended
-        {
-            rest = extended.get_script(script);
-        }
-        let und = self.language.und();
-        match rest {
-            Some((language, region)) => Some((language, script, region)),
-            None if script == und.1 => Some(und),
-            None => None,
-        }
-    }
-
-    fn region_alone(&self, region: Region) -> Option<Triple>
-        ensures { result ≡ likely self.now (RegionAlone region) }
-    {
-        let mut rest = self.script_region.get_region(region);
-        if rest.is_none()
-            && let Some(extended) = self.extended
-        {
-            rest = extended.get_region(region);
-        }
-        let und = self.language.und();
-        match rest {
-            Some((language, script)) => Some((language, script, region)),
-            None if region == und.2 => Some(und),
-            None => None,
-        }
+        extended_maps(self.extended?).row_at(key)
     }
 }
 

@@ -1,11 +1,11 @@
 // Runs of identifiers.
 ghost use Rattle.std.specs.Prelude.{◌≡◌, ◌+◌, None, Some, IfOk, IfErr, IfSome, IsOk, unwrap_or};
 ghost use Rattle.icu_locale_core.specs.TextSet.{empty, image};
-ghost use Rattle.icu_locale.specs.Expander.{likely};
+ghost use Rattle.icu_locale.specs.LikelyTable.{likely};
 ghost use Rattle.icu_locale.specs.Kinds.{variant_alias, next_of};
-ghost use Rattle.icu_locale.specs.Change.{applied};
+ghost use Rattle.icu_locale.specs.inner.Rewrite.{applied};
 ghost use Rattle.icu_locale.specs.Canonical.{IsOutOfMemory};
-ghost use Rattle.icu_locale.specs.Ends.{IsLaterEnd, IsRunRefusal, IsFree, IsRunCounted};
+ghost use Rattle.icu_locale.specs.inner.CanonicalParts.{IsLaterEnd, IsRunRefusal, IsFree, IsRunCounted};
 
 use super::kinds::{Change, by_language_alias, find_change, variant_alias};
 use super::replacing::replacement;
@@ -115,9 +115,9 @@ impl<'c, 'd, E: AsExpander<'d>> Rewriting for Run<'c, 'd, E> {
     ghost use Rattle.std.specs.Prelude.{◌≡◌, IfSome};
     ghost use Rattle.icu_locale_core.specs.TextSet.{empty};
     ghost use Rattle.icu_locale_core.specs.laws.Identifiers.{identifiers_decide};
-    ghost use Rattle.icu_locale.specs.Expander.{likely};
+    ghost use Rattle.icu_locale.specs.LikelyTable.{likely};
     ghost use Rattle.icu_locale.specs.Kinds.{next_of};
-    ghost use Rattle.icu_locale.specs.Universe.{universe};
+    ghost use Rattle.icu_locale.specs.inner.Universe.{universe};
     ghost use Rattle.icu_locale.specs.declared.canonicalizer.CanonicalizeError.TheVariants.{Memory};
 
     type State = LanguageIdentifier;

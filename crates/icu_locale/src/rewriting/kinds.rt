@@ -3,10 +3,10 @@ ghost use Rattle.std.specs.Prelude.{◌≡◌, option_copied, is_some};
 ghost use Rattle.std.specs.Option.{option_map};
 ghost use Rattle.std.specs.List.{find, list_any};
 ghost use Rattle.icu_locale_core.specs.TextSet.{rising};
-ghost use Rattle.icu_locale.specs.Expander.{likely};
+ghost use Rattle.icu_locale.specs.LikelyTable.{likely};
 ghost use Rattle.icu_locale.specs.Replacement.{matches};
 ghost use Rattle.icu_locale.specs.Kinds.{rules_for, by_rule, sign_language, by_sign_region, language_alias, by_language_alias, by_script, region_alias, by_region, chosen, likely_region, complex_region, by_complex_region, variant_alias, by_variant, next};
-ghost use Rattle.icu_locale.specs.Change.{applied};
+ghost use Rattle.icu_locale.specs.inner.Rewrite.{applied};
 
 use super::replacing::{is_known, rule_matches};
 use crate::{LocaleExpander, Rule, Rules};

@@ -22,7 +22,7 @@ impl Model for Turns {
 
     ghost Value = { ℕ };
 
-    ghost use Rattle.icu_locale.specs.Tally.{strokes};
+    ghost use Rattle.icu_locale.specs.inner.Tally.{strokes};
 
     ghost view = { λ turns. strokes turns.tally.value };
 }

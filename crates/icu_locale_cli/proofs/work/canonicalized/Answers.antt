@@ -1,6 +1,6 @@
 use Rattle.std.proofs.Common.{subst}
 use Rattle.icu_locale.specs.Canonical.{IsRefusal}
-use Rattle.icu_locale.specs.Expander.{likely}
+use Rattle.icu_locale.specs.LikelyTable.{likely}
 use Rattle.icu_locale_cli.proofs.LineAnswers.{canonicalized_from_line, repeated_from_line}
 use Rattle.icu_locale_cli.proofs.work.canonicalized.Goals as goal
 

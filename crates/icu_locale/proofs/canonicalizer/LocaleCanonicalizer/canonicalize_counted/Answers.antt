@@ -1,8 +1,7 @@
-use Rattle.std.proofs.Common.{subst, sym}
+use Rattle.std.proofs.Common.{subst, sym, inr}
 use Rattle.icu_locale.specs.Canonical.{IsCanonical}
-use Rattle.icu_locale.specs.Expander.{likely}
+use Rattle.icu_locale.specs.LikelyTable.{likely}
 use Rattle.icu_locale.proofs.Canonicals.{IsCanonical-changed, memory_from_end, no_repeat, named}
-use Rattle.std.proofs.Common.{inr}
 use Rattle.icu_locale.proofs.canonicalizer.LocaleCanonicalizer.canonicalize_counted.Goals as goal
 
 pub returns-in-Ok-clause-canonical : goal.returns-in-Ok-clause-canonical

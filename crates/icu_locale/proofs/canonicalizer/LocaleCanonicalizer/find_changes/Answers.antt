@@ -1,5 +1,5 @@
 use Rattle.std.proofs.Common.{Ok, Err}
-use Rattle.icu_locale.specs.Expander.{likely}
+use Rattle.icu_locale.specs.LikelyTable.{likely}
 use Rattle.icu_locale.specs.declared.canonicalizer.CanonicalizeError.TheVariants.{Memory}
 use Rattle.icu_locale.proofs.Canonicals.{IsRefusal-of_transform, free_id, free_transform, counted_refusal, counted_both}
 use Rattle.icu_locale.proofs.canonicalizer.LocaleCanonicalizer.find_changes.Goals as goal

@@ -1,7 +1,7 @@
 use Rattle.std.proofs.Common.{◌≡◌, true}
 use Rattle.std.specs.List.{AllWithin}
-use Rattle.icu_locale.specs.Expander.{likely}
-use Rattle.icu_locale.specs.SettledRows.{settles}
+use Rattle.icu_locale.specs.LikelyTable.{likely}
+use Rattle.icu_locale.specs.inner.SettledRows.{settles}
 use Rattle.icu_locale.proofs.expander.LocaleExpander.all_settle.Given as goal
 
 -- each row so far settles

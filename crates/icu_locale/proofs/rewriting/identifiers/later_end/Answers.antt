@@ -1,4 +1,4 @@
-use Rattle.icu_locale.specs.Expander.{likely}
+use Rattle.icu_locale.specs.LikelyTable.{likely}
 use Rattle.icu_locale.proofs.Universes.{IsUniverse-universe}
 use Rattle.icu_locale.proofs.rewriting.identifiers.later_end.Goals as goal
 

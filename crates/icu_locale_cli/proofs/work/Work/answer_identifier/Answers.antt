@@ -1,7 +1,8 @@
 use Rattle.std.proofs.Common.{◌≡◌, ◌≢◌, ◌↔◌}
 use Rattle.icu_locale.specs.LikelySubtags.{maximal, IsModified}
-use Rattle.icu_locale.specs.Minimal.{IsMinimalForm, RegionFirst, ScriptFirst}
-use Rattle.icu_locale.specs.Expander.{likely}
+use Rattle.icu_locale.specs.Minimal.{IsMinimalForm}
+use Rattle.icu_locale.specs.declared.expander.Favor.TheVariants.{RegionFirst, ScriptFirst}
+use Rattle.icu_locale.specs.LikelyTable.{likely}
 use Rattle.icu_locale.specs.declared.expander.TransformResult.TheVariants.{Modified}
 use Rattle.icu_locale_cli.proofs.LineAnswers.{transformed_from_line, plain_from_line}
 use Rattle.icu_locale_cli.proofs.work.Work.answer_identifier.Goals as goal

@@ -5,11 +5,13 @@ use Rattle.icu_locale_core.specs.Subtag.{und, IsLanguage, IsScript, IsRegion}
 use Rattle.icu_locale_core.specs.Identifier.{IsIdentifier}
 use Rattle.icu_locale_core.specs.declared.langid.LanguageIdentifier.{LanguageIdentifier}
 use Rattle.icu_provider.specs.declared.data_locale.DataLocale.{DataLocale}
-use Rattle.icu_locale.specs.LikelySubtags.{Key, LanguageRegion, LanguageScript, LanguageAlone, ScriptRegion, ScriptAlone, RegionAlone, LikelySubtags, Triple, bare_locale, maximal_locale, maximal}
+use Rattle.icu_locale.specs.declared.expander.looks.Key.{Key}
+use Rattle.icu_locale.specs.declared.expander.looks.Key.TheVariants.{LanguageRegion, LanguageScript, LanguageAlone, ScriptRegion, ScriptAlone, RegionAlone}
+use Rattle.icu_locale.specs.LikelySubtags.{LikelySubtags, Triple, bare_locale, maximal_locale, maximal}
 use Rattle.icu_locale.specs.declared.expander.LocaleExpander.{LocaleExpander}
-use Rattle.icu_locale.specs.Expander.{LikelyRows, common_rows, extended_rows, likely}
+use Rattle.icu_locale.specs.LikelyTable.{LikelyRows, common_rows, extended_rows, likely}
 use Rattle.icu_locale.specs.Settled.{IsSettled}
-use Rattle.icu_locale.specs.Trials.{same_locale}
+use Rattle.icu_locale.specs.inner.Trials.{same_locale}
 
 -- the key's own subtags
 abbrev pub key_locale : Key → DataLocale

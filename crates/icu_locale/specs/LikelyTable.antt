@@ -10,7 +10,9 @@ use Rattle.icu_provider.specs.declared.error.DataError.{DataError}
 use Rattle.icu_provider.specs.declared.likely.language.LikelySubtagsForLanguage.{LikelySubtagsForLanguage}
 use Rattle.icu_provider.specs.declared.likely.script_region.LikelySubtagsForScriptRegion.{LikelySubtagsForScriptRegion}
 use Rattle.icu_provider.specs.declared.likely.extended.LikelySubtagsExtended.{LikelySubtagsExtended}
-use Rattle.icu_locale.specs.LikelySubtags.{Key, LanguageRegion, LanguageScript, LanguageAlone, ScriptRegion, ScriptAlone, RegionAlone, Triple, LikelySubtags}
+use Rattle.icu_locale.specs.declared.expander.looks.Key.{Key}
+use Rattle.icu_locale.specs.declared.expander.looks.Key.TheVariants.{LanguageRegion, LanguageScript, LanguageAlone, ScriptRegion, ScriptAlone, RegionAlone}
+use Rattle.icu_locale.specs.LikelySubtags.{Triple, LikelySubtags}
 use Rattle.icu_locale.specs.declared.expander.LocaleExpander.{LocaleExpander}
 
 -- the rows of a table, by the subtags of their keys
@@ -60,67 +62,3 @@ und_row t (LanguageAlone l) = None
 -- the rows of the common tables cover those of the extended one, and the triple of `und` serves last
 abbrev pub likely : LocaleExpander → LikelySubtags
 likely e k = option_or (common_row e k) (option_or (extension_row e.extended k) (und_row e.language.now.und k))
-
--- the triple has the subtags of the key
-abbrev pub HasKey : Triple → Key → Type 0
-HasKey t (LanguageRegion l r) = (t.0 ≡ l) × (t.2 ≡ r)
-HasKey t (LanguageScript l s) = (t.0 ≡ l) × (t.1 ≡ s)
-HasKey t (LanguageAlone l) = t.0 ≡ l
-HasKey t (ScriptRegion s r) = (t.1 ≡ s) × (t.2 ≡ r)
-HasKey t (ScriptAlone s) = t.1 ≡ s
-HasKey t (RegionAlone r) = t.2 ≡ r
-
--- the keys of the rows of one map
-abbrev pub keys_by : {K V : Type 0} → (K → Key) → List (K × V) → List Key
-keys_by key rows = map (λ row. key row.0) rows
-
--- the keys of all rows of a table
-abbrev pub row_keys : LikelyRows → List Key
-row_keys rows = keys_by LanguageAlone rows.language ++ (keys_by (λ k. LanguageScript k.0 k.1) rows.language_script ++ (keys_by (λ k. LanguageRegion k.0 k.1) rows.language_region ++ (keys_by (λ k. ScriptRegion k.0 k.1) rows.script_region ++ (keys_by ScriptAlone rows.script ++ keys_by RegionAlone rows.region))))
-
--- the keys of the extended table, if there is one
-abbrev pub extension_keys : Option (Bor LikelySubtagsExtended) → List Key
-extension_keys None = []
-extension_keys (Some e) = row_keys (extended_rows e.now)
-
--- the keys that the triple of `und` serves
-abbrev pub und_row_keys : Triple → List Key
-und_row_keys t = ScriptRegion t.1 t.2 ∷ ScriptAlone t.1 ∷ RegionAlone t.2 ∷ []
-
--- the keys of the one likely table of an expander
-abbrev pub table_keys : LocaleExpander → List Key
-table_keys e = row_keys (common_rows e.language.now e.script_region.now) ++ (extension_keys e.extended ++ und_row_keys e.language.now.und)
-
--- the tables that an expander stands on
-pub record LikelyTables : Type 0 where
-  pub language : LikelySubtagsForLanguage
-  pub script_region : LikelySubtagsForScriptRegion
-  pub extended : Option LikelySubtagsExtended
-
--- those of an expander
-abbrev pub tables_of : LocaleExpander → LikelyTables
-tables_of e = record { language = e.language.now; script_region = e.script_region.now; extended = option_copied e.extended }
-
--- the tables of an expander that was made, or why it was not
-abbrev pub seen : Result LocaleExpander DataError → Result LikelyTables DataError
-seen (Ok e) = Ok (tables_of e)
-seen (Err refusal) = Err refusal
-
--- two tables that were loaded in this order, or the first refusal
-abbrev pub common_tables : Result LikelySubtagsForLanguage DataError → Result LikelySubtagsForScriptRegion DataError → Result LikelyTables DataError
-common_tables (Err refusal) b = Err refusal
-common_tables (Ok a) (Err refusal) = Err refusal
-common_tables (Ok a) (Ok b) = Ok (record { language = a; script_region = b; extended = None })
-
--- three tables that were loaded in this order, or the first refusal
-abbrev pub all_tables : Result LikelySubtagsForLanguage DataError → Result LikelySubtagsForScriptRegion DataError → Result LikelySubtagsExtended DataError → Result LikelyTables DataError
-all_tables (Err refusal) b c = Err refusal
-all_tables (Ok a) (Err refusal) c = Err refusal
-all_tables (Ok a) (Ok b) (Err refusal) = Err refusal
-all_tables (Ok a) (Ok b) (Ok c) = Ok (record { language = a; script_region = b; extended = Some c })
-
--- two answers in this order, or the first refusal
-abbrev pub both : {A B : Type 0} → Result A DataError → Result B DataError → Result (A × B) DataError
-both (Err refusal) b = Err refusal
-both (Ok a) (Err refusal) = Err refusal
-both (Ok a) (Ok b) = Ok (a, b)

@@ -4,18 +4,12 @@ use Rattle.std.specs.Option.{option_eq}
 use Rattle.std.specs.Str.{bytes_eq}
 use Rattle.icu_provider.specs.declared.data_locale.DataLocale.{DataLocale}
 use Rattle.icu_locale.specs.LikelySubtags.{LikelySubtags, maximal_locale}
-use Rattle.icu_locale.specs.Minimal.{Favor, RegionFirst, ScriptFirst}
-use Rattle.icu_locale.specs.declared.expander.First.{First}
-use Rattle.icu_locale.specs.declared.expander.First.TheVariants.{Region, Script}
+use Rattle.icu_locale.specs.declared.expander.Favor.{Favor}
+use Rattle.icu_locale.specs.declared.expander.Favor.TheVariants.{RegionFirst, ScriptFirst}
 
 -- whether two locales have the same subtags
 abbrev pub same_locale : DataLocale → DataLocale → Bool
 same_locale x y = bytes_eq x.language y.language && (option_eq bytes_eq x.script y.script && option_eq bytes_eq x.region y.region)
-
--- what a mode of the code takes first
-abbrev pub favor_of : First → Favor
-favor_of Region = RegionFirst
-favor_of Script = ScriptFirst
 
 -- the language alone
 abbrev pub alone : DataLocale → DataLocale

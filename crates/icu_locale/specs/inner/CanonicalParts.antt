@@ -7,7 +7,7 @@ use Rattle.icu_locale_core.specs.declared.locale.Locale.{Locale}
 use Rattle.icu_locale.specs.LikelySubtags.{LikelySubtags}
 use Rattle.icu_locale.specs.Kinds.{next, by_language_alias}
 use Rattle.icu_locale.specs.Run.{StandsIn, IsRepeat, HasDistinct}
-use Rattle.icu_locale.specs.Walk.{EndsLater}
+use Rattle.icu_locale.specs.inner.Walk.{EndsLater}
 use Rattle.icu_locale.specs.Canonical.{IsCounted, rg, sd, put, subdivision_alias}
 use Rattle.icu_locale.specs.declared.canonicalizer.rules.Rules.{Rules}
 use Rattle.icu_locale.specs.declared.canonicalizer.changes.Changes.{Changes}

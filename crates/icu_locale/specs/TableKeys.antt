@@ -1,0 +1,47 @@
+-- The keys of the one likely table of an expander: finitely many.
+use Rattle.std.specs.Prelude.{◌≡◌, ℕ, List, [], ◌∷◌, ◌++◌, map, Option, Some, None, Result, Ok, Err, ◌&&◌, if◌then◌else◌}
+use Rattle.std.specs.Borrow.{Bor}
+use Rattle.std.specs.Option.{option_or, option_map, option_copied}
+use Rattle.std.specs.Str.{bytes_eq}
+use Rattle.icu_locale_core.specs.TextSet.{text_cmp}
+use Rattle.icu_locale_core.specs.Maps.{value_at}
+use Rattle.icu_provider.specs.Maps.{pair_cmp}
+use Rattle.icu_provider.specs.declared.error.DataError.{DataError}
+use Rattle.icu_provider.specs.declared.likely.language.LikelySubtagsForLanguage.{LikelySubtagsForLanguage}
+use Rattle.icu_provider.specs.declared.likely.script_region.LikelySubtagsForScriptRegion.{LikelySubtagsForScriptRegion}
+use Rattle.icu_provider.specs.declared.likely.extended.LikelySubtagsExtended.{LikelySubtagsExtended}
+use Rattle.icu_locale.specs.declared.expander.looks.Key.{Key}
+use Rattle.icu_locale.specs.declared.expander.looks.Key.TheVariants.{LanguageRegion, LanguageScript, LanguageAlone, ScriptRegion, ScriptAlone, RegionAlone}
+use Rattle.icu_locale.specs.LikelySubtags.{Triple, LikelySubtags}
+use Rattle.icu_locale.specs.declared.expander.LocaleExpander.{LocaleExpander}
+use Rattle.icu_locale.specs.LikelyTable.{LikelyRows, common_rows, extended_rows}
+
+-- the triple has the subtags of the key
+abbrev pub HasKey : Triple → Key → Type 0
+HasKey t (LanguageRegion l r) = (t.0 ≡ l) × (t.2 ≡ r)
+HasKey t (LanguageScript l s) = (t.0 ≡ l) × (t.1 ≡ s)
+HasKey t (LanguageAlone l) = t.0 ≡ l
+HasKey t (ScriptRegion s r) = (t.1 ≡ s) × (t.2 ≡ r)
+HasKey t (ScriptAlone s) = t.1 ≡ s
+HasKey t (RegionAlone r) = t.2 ≡ r
+
+-- the keys of the rows of one map
+abbrev pub keys_by : {K V : Type 0} → (K → Key) → List (K × V) → List Key
+keys_by key rows = map (λ row. key row.0) rows
+
+-- the keys of all rows of a table
+abbrev pub row_keys : LikelyRows → List Key
+row_keys rows = keys_by LanguageAlone rows.language ++ (keys_by (λ k. LanguageScript k.0 k.1) rows.language_script ++ (keys_by (λ k. LanguageRegion k.0 k.1) rows.language_region ++ (keys_by (λ k. ScriptRegion k.0 k.1) rows.script_region ++ (keys_by ScriptAlone rows.script ++ keys_by RegionAlone rows.region))))
+
+-- the keys of the extended table, if there is one
+abbrev pub extension_keys : Option (Bor LikelySubtagsExtended) → List Key
+extension_keys None = []
+extension_keys (Some e) = row_keys (extended_rows e.now)
+
+-- the keys that the triple of `und` serves
+abbrev pub und_row_keys : Triple → List Key
+und_row_keys t = ScriptRegion t.1 t.2 ∷ ScriptAlone t.1 ∷ RegionAlone t.2 ∷ []
+
+-- the keys of the one likely table of an expander
+abbrev pub table_keys : LocaleExpander → List Key
+table_keys e = row_keys (common_rows e.language.now e.script_region.now) ++ (extension_keys e.extended ++ und_row_keys e.language.now.und)
