@@ -9,15 +9,17 @@ use Rattle.icu_locale_core.specs.laws.Identifiers.{identifiers_decide}
 use Rattle.icu_locale.specs.LikelySubtags.{LikelySubtags}
 use Rattle.icu_locale.specs.Kinds.{next, by_language_alias, next_of}
 use Rattle.icu_locale.specs.Run.{EndsAt, IsRepeat, HasDistinct, EndsOrRepeats}
-use Rattle.icu_locale.specs.inner.Walk.{IsCount}
+use Rattle.icu_locale.specs.inner.Walk.{IsFullFront}
 use Rattle.icu_locale.specs.inner.Universe.{universe}
-use Rattle.icu_locale.specs.Canonical.{rg, sd, put, IsCanonicalTransform, IsCanonical, RulesEnd, ComesAgainFirst, IsRefusal, HasIdentifiers, IsMemory, IsOutOfMemory, IsCounted, NeedsNoMemory}
-use Rattle.icu_locale.specs.inner.CanonicalParts.{IsLaterEnd, IsLaterEndOf, IsRunRefusal, IsRunRefusalOf, IsFree, IsRunCounted, IsChanges, changed}
+use Rattle.icu_locale.specs.Canonical.{rg, sd, put, IsCanonicalTransform, IsCanonical}
+use Rattle.icu_locale.specs.Refusals.{RulesEnd, ComesAgainFirst, IsRefusal, IsMemory, IsOutOfMemory}
+use Rattle.icu_locale.specs.Cost.{HasIdentifiers, CountsSearches, NeedsNoMemory}
+use Rattle.icu_locale.specs.inner.CanonicalParts.{IsLaterEnd, IsLaterEndOf, IsRunRefusal, IsRunRefusalOf, IsFree, CountsSearchesOf, AreChanges, with_changes}
 use Rattle.icu_locale.specs.declared.canonicalizer.rules.Rules.{Rules}
 use Rattle.icu_locale.specs.declared.canonicalizer.changes.Changes.{Changes}
 use Rattle.icu_locale.specs.declared.canonicalizer.CanonicalizeError.{CanonicalizeError}
 use Rattle.icu_locale.specs.declared.canonicalizer.CanonicalizeError.TheVariants.{Memory, NoFixedPoint}
-use Rattle.icu_locale.proofs.Bare.{free_alone, free_bare, bare_next, bare_alias}
+use Rattle.icu_locale.proofs.WithoutVariants.{free_alone, free_bare, bare_next, bare_alias}
 use Rattle.icu_locale.proofs.Counts.{has_count, HasDistinct-from_count}
 use Rattle.icu_locale.proofs.Runs.{ends_with_no_repeat, repeat_is_unique, EndsOrRepeats-from_count}
 use Rattle.icu_locale.proofs.Universes.{IsUniverse-universe}
@@ -52,7 +54,7 @@ same_identifier y z =
     elim (cases_Bool _) [ inl equal ↦ inl (decides.0 equal) | inr other ↦ inr (λ e. false≢true (sym other ∙ decides.1 e)) ]
 
 -- each run of identifiers has a count
-count_of : (likely : LikelySubtags) (rules : Rules) (transform : Bool) (x : LanguageIdentifier) → (n : ℕ) × IsCount (next_of likely rules transform) x n
+count_of : (likely : LikelySubtags) (rules : Rules) (transform : Bool) (x : LanguageIdentifier) → (n : ℕ) × IsFullFront (next_of likely rules transform) x n
 count_of likely rules transform x =
     let counted = has_count (next_of likely rules transform) x same_identifier (universe rules x) (IsUniverse-universe likely rules transform x) in
     (counted.0, counted.2)
@@ -73,8 +75,8 @@ module _ (likely : LikelySubtags) (rules : Rules) (old : Locale) where
   transform_from None end h = ap (λ o. option_or o None) h
   transform_from (Some l) end h = end_or_itself (by_language_alias rules) l end h
 
-  pub IsCanonical-changed : (changes : Changes) → IsChanges likely rules old changes → IsCanonical likely rules old (changed changes old)
-  IsCanonical-changed changes h = record {
+  pub IsCanonical-with_changes : (changes : Changes) → AreChanges likely rules old changes → IsCanonical likely rules old (with_changes changes old)
+  IsCanonical-with_changes changes h = record {
     id = EndsAt-later_end (next likely rules) old.id changes.id h.id;
     transform = transform_from lang changes.transform h.transform;
     keywords = λ i. put (put old.extensions.unicode.keywords rg (h.region_override i)) sd (h.subdivision i);
@@ -86,7 +88,7 @@ module _ (likely : LikelySubtags) (rules : Rules) (old : Locale) where
       absurd (ends_with_no_repeat (next likely rules) old.id ends.id.0 z ends.id.1 repeats.again)
   memory_from_end (NoFixedPoint z) (inr (ended, repeats)) ends = absurd (not_both (by_language_alias rules) lang z ends.transform repeats)
 
-  pub no_repeat : (changes : Changes) (z : LanguageIdentifier) → IsChanges likely rules old changes → ComesAgainFirst likely rules old z → ⊥
+  pub no_repeat : (changes : Changes) (z : LanguageIdentifier) → AreChanges likely rules old changes → ComesAgainFirst likely rules old z → ⊥
   no_repeat changes z h (inl repeats) =
       ends_with_no_repeat (next likely rules) old.id (unwrap_or changes.id old.id) z (EndsAt-later_end (next likely rules) old.id changes.id h.id) repeats.again
   no_repeat changes z h (inr (ended, repeats)) = later_not_both (by_language_alias rules) lang changes.transform z h.transform repeats
@@ -168,21 +170,24 @@ module _ (likely : LikelySubtags) (rules : Rules) (old : Locale) where
       omega (arith, nothing, enough)
 
   -- where the identifier's run is refused
-  pub counted_refusal : {T U : Type 0} (e : CanonicalizeError) (before after : ℕ) → IsRunRefusal (next likely rules) old.id e → IsRunCounted {T = T} (next likely rules) (Some old.id) (Err e) before after → (n : ℕ) × HasIdentifiers likely rules old n × IsCounted {T = U} (Err e) before after n
+  pub counted_refusal : {T U : Type 0} (e : CanonicalizeError) (before after : ℕ) → IsRunRefusal (next likely rules) old.id e → CountsSearchesOf {T = T} (next likely rules) (Some old.id) (Err e) before after → (n : ℕ) × HasIdentifiers likely rules old n × CountsSearches {T = U} (Err e) before after n
   counted_refusal e before after h (a, of_run, counted) =
       let all = identifiers a of_run in
       let most : after ≤ before + 6 * a = counted.most in
-      (a + all.0, all.1, record { most = omega (arith, most); least = least_of_refusal e before after a all.0 h all.2 counted.least })
+      (a + all.0, all.1, record { forward = counted.forward; most = omega (arith, most); least = least_of_refusal e before after a all.0 h all.2 counted.least })
 
   -- where it ends
-  pub counted_both : {T U V : Type 0} (id : Result T CanonicalizeError) (transform : Result U CanonicalizeError) (whole : Result V CanonicalizeError) (end : Option LanguageIdentifier) (before middle after : ℕ) → ¬ (IsOutOfMemory id) → (IsOutOfMemory transform → IsOutOfMemory whole) → IsLaterEnd (next likely rules) old.id end → IsRunCounted (next likely rules) (Some old.id) id before middle → IsRunCounted (by_language_alias rules) lang transform middle after → (n : ℕ) × HasIdentifiers likely rules old n × IsCounted whole before after n
+  pub counted_both : {T U V : Type 0} (id : Result T CanonicalizeError) (transform : Result U CanonicalizeError) (whole : Result V CanonicalizeError) (end : Option LanguageIdentifier) (before middle after : ℕ) → ¬ (IsOutOfMemory id) → (IsOutOfMemory transform → IsOutOfMemory whole) → IsLaterEnd (next likely rules) old.id end → CountsSearchesOf (next likely rules) (Some old.id) id before middle → CountsSearchesOf (by_language_alias rules) lang transform middle after → (n : ℕ) × HasIdentifiers likely rules old n × CountsSearches whole before after n
   counted_both id transform whole end before middle after fine passes ends (a, of_run, first) (b, of_transform, second) =
+      let forward_first : before ≤ middle = first.forward in
+      let forward_second : middle ≤ after = second.forward in
       let most_first : middle ≤ before + 6 * a = first.most in
       let most_second : after ≤ middle + 6 * b = second.most in
       let least_first : before + a ≤ middle = first.least fine in (
         a + b,
         identifiers_where_ends a b (unwrap_or end old.id) (EndsAt-later_end (next likely rules) old.id end ends) of_run of_transform,
         record {
+          forward = omega (arith, forward_first, forward_second);
           most = omega (arith, most_first, most_second);
           least = λ no_memory.
               let least_second : middle + b ≤ after = second.least (λ out. no_memory (passes out)) in

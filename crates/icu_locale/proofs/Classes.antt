@@ -1,7 +1,7 @@
 -- Minimal forms as the least of their classes: they exist, are one, and tell maximal forms apart.
 use Rattle.std.proofs.Common.{◌≡◌, ◌≢◌, ◌⊎◌, ◌↔◌, refl, ap, subst, sym, ◌∙◌, inl, inr, ⊎_elim, arith}
 use Rattle.icu_locale_core.specs.declared.langid.LanguageIdentifier.{LanguageIdentifier}
-use Rattle.icu_locale.specs.LikelySubtags.{LikelySubtags, IsBare, IsModified, locale_of, with_locale, maximal_locale, maximal}
+use Rattle.icu_locale.specs.LikelySubtags.{LikelySubtags, IsBare, IsModified, locale_of, with_locale, maximal_locale, maximal, HaveSameMaximalParts}
 use Rattle.icu_locale.specs.declared.expander.Favor.{Favor}
 use Rattle.icu_locale.specs.Minimal.{Precedes, IsInClass, IsLeast, IsMinimalForm}
 use Rattle.icu_locale.specs.Settled.{IsSettled}
@@ -80,3 +80,15 @@ IsModified-settled likely x settled = (⊎_elim (λ removed same. removed (bare_
   where
     bare_along : maximal likely x ≡ x → IsSettled likely (maximal likely x) → IsBare x
     bare_along same is = subst IsBare same is.bare
+
+-- a minimal form has the variants of the maximal form
+pub minimal_keeps_variants : (favor : Favor) (likely : LikelySubtags) (x y : LanguageIdentifier) → IsMinimalForm favor likely x y → y.variants ≡ x.variants
+minimal_keeps_variants favor likely x y (inl least) = ap (λ z. z.variants) least.0.same
+minimal_keeps_variants favor likely x y (inr (none, is)) = ap (λ z. z.variants) is
+
+-- a maximal form is made of that of the three subtags and of the variants
+pub maximal_by_parts : (likely : LikelySubtags) (x y : LanguageIdentifier) → (maximal likely x ≡ maximal likely y) ↔ HaveSameMaximalParts likely x y
+maximal_by_parts likely x y = (
+  λ same. record { locale = ap locale_of same; variants = ap (λ z. z.variants) same },
+  λ parts i. record { language = (parts.locale i).language; script = (parts.locale i).script; region = (parts.locale i).region; variants = parts.variants i },
+)

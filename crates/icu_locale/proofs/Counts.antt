@@ -8,7 +8,7 @@ use Rattle.std.proofs.lemmas.List.Edits.{length-remove, get_or-remove_below, get
 use Rattle.std.proofs.lemmas.List.FromFn.{length-map-range_with_len, get_or-map-range_with_len}
 use Rattle.std.proofs.lemmas.Option.{none-some, same_Some, option_and_then_some}
 use Rattle.icu_locale.specs.Run.{at, HasDistinct}
-use Rattle.icu_locale.specs.inner.Walk.{IsFront, IsCount, IsUniverse}
+use Rattle.icu_locale.specs.inner.Walk.{IsFront, IsFullFront, IsUniverse}
 
 -- a state that stands in a list at one place, and differs from what stands at another, is there without that other
 Contains-remove : {X : Type 0} (xs : List X) (k : ℕ) (x y : X) → k < length xs → get_or xs k x ≡ x → Contains xs y → y ≢ x → Contains (remove xs k) y
@@ -83,7 +83,7 @@ module _ {X : Type 0} (next : X → Option X) (start : X) where
       ]
 
   -- a front goes on, or it has all states
-  front_more : (same : (y z : X) → (y ≡ z) ⊎ (y ≢ z)) (n : ℕ) → IsFront next start n → IsCount next start n ⊎ IsFront next start (suc n)
+  front_more : (same : (y z : X) → (y ≡ z) ⊎ (y ≢ z)) (n : ℕ) → IsFront next start n → IsFullFront next start n ⊎ IsFront next start (suc n)
   front_more same n front =
       elim (decide_option same (at next start n) None) [
         | inl ended ↦ inl (record { front = front; closes = inl ended })
@@ -102,7 +102,7 @@ module _ {X : Type 0} (next : X → Option X) (start : X) where
         ]
       ]
 
-  count_or_front : (same : (y z : X) → (y ≡ z) ⊎ (y ≢ z)) (n : ℕ) → ((m : ℕ) × (m < n) × IsCount next start m) ⊎ IsFront next start n
+  count_or_front : (same : (y z : X) → (y ≡ z) ⊎ (y ≢ z)) (n : ℕ) → ((m : ℕ) × (m < n) × IsFullFront next start m) ⊎ IsFront next start n
   count_or_front same zero = inr (record { goes = λ i below e. omega arith; apart = λ i j before below e. omega arith })
   count_or_front same (suc n) =
       elim (count_or_front same n) [
@@ -113,7 +113,7 @@ module _ {X : Type 0} (next : X → Option X) (start : X) where
         ]
       ]
 
-  pub has_count : (same : (y z : X) → (y ≡ z) ⊎ (y ≢ z)) (states : List X) → IsUniverse next start states → (n : ℕ) × (n ≤ length states) × IsCount next start n
+  pub has_count : (same : (y z : X) → (y ≡ z) ⊎ (y ≢ z)) (states : List X) → IsUniverse next start states → (n : ℕ) × (n ≤ length states) × IsFullFront next start n
   has_count same states universe =
       elim (count_or_front same (suc (length states))) [
         | inl (m, below, is) ↦ (m, omega arith, is)
@@ -121,15 +121,15 @@ module _ {X : Type 0} (next : X → Option X) (start : X) where
       ]
 
   -- a run that stays in a universe has a count, no larger than the universe
-  pub count_of_run : (eq : X → X → Bool) → IsEquivalence eq → ((y z : X) → eq y z ≡ true → y ≡ z) → (states : List X) → IsUniverse next start states → (n : ℕ) × (n ≤ length states) × IsCount next start n
+  pub count_of_run : (eq : X → X → Bool) → IsEquivalence eq → ((y z : X) → eq y z ≡ true → y ≡ z) → (states : List X) → IsUniverse next start states → (n : ℕ) × (n ≤ length states) × IsFullFront next start n
   count_of_run eq laws exact = has_count (decided eq laws exact)
 
-  pub count_positive : (n : ℕ) → IsCount next start n → 0 < n
+  pub count_positive : (n : ℕ) → IsFullFront next start n → 0 < n
   count_positive zero is = elim is.closes [ inl e ↦ absurd (none-some start (sym e)) | inr (i, below, e) ↦ absurd (omega arith) ]
   count_positive (suc n) is = omega arith
 
   -- each place holds what a place below the count holds, or nothing
-  early : (n : ℕ) → IsCount next start n → (p : ℕ) → (at next start p ≡ None) ⊎ ((i : ℕ) × (i < n) × (at next start i ≡ at next start p))
+  early : (n : ℕ) → IsFullFront next start n → (p : ℕ) → (at next start p ≡ None) ⊎ ((i : ℕ) × (i < n) × (at next start i ≡ at next start p))
   early n is zero = inr (0, count_positive n is, refl)
   early n is (suc p) =
       elim (early n is p) [
@@ -146,7 +146,7 @@ module _ {X : Type 0} (next : X → Option X) (start : X) where
       ]
 
   -- the count is the number of different states
-  pub HasDistinct-from_count : (n : ℕ) → IsCount next start n → HasDistinct next start n
+  pub HasDistinct-from_count : (n : ℕ) → IsFullFront next start n → HasDistinct next start n
   HasDistinct-from_count n is =
       let value : ℕ → X = λ i. unwrap_or (at next start i) start in
       let states : List X = map value (range_with_len 0 n) in

@@ -1,25 +1,25 @@
-mod Changes
 mod Classes
 mod Directions
 mod Least
 mod Locales
 mod Maximal
+mod Modified
 mod Settling
 mod TableLaws
 mod TableRows
-pub mod Bare
+pub mod CanonicalAgain
 pub mod Canonicals
 pub mod Counts
-pub mod Images
-pub mod Kept
 pub mod Keywords
 pub mod Lists
-pub mod Made
 pub mod Options
-pub mod Places
+pub mod Parts
 pub mod Readings
 pub mod Replacing
+pub mod RunPlaces
 pub mod Runs
 pub mod Subsets
 pub mod Universes
+pub mod VariantImages
 pub mod Walks
+pub mod WithoutVariants

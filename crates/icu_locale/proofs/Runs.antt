@@ -4,8 +4,8 @@ use Rattle.std.proofs.Math.Nat.{mul-le-mul_right}
 use Rattle.std.proofs.lemmas.Bool.{cases_lt, cases_order}
 use Rattle.std.proofs.lemmas.Option.{none-some, same_Some}
 use Rattle.icu_locale.specs.Run.{at, EndsAt, ComesAgain, IsRepeat, HasOneEnd, HasOneRepeat, KeepsEnd, EndsOrRepeats, EndsWithNoRepeat}
-use Rattle.icu_locale.specs.inner.Walk.{IsCount}
-use Rattle.icu_locale.proofs.Places.{none_after, around_from, in_cycle}
+use Rattle.icu_locale.specs.inner.Walk.{IsFullFront}
+use Rattle.icu_locale.proofs.RunPlaces.{none_after, around_from, in_cycle}
 use Rattle.icu_locale.proofs.Counts.{some_value, count_positive}
 
 module _ {X : Type 0} (next : X → Option X) (start : X) where
@@ -80,7 +80,7 @@ module _ {X : Type 0} (next : X → Option X) (start : X) where
       }
 
   -- the place to which a count closes is the first whose state comes again
-  least_pair : (n i : ℕ) → IsCount next start n → i < n → at next start i ≡ at next start n → (a b : ℕ) → a < b → at next start a ≡ at next start b → i ≤ a
+  least_pair : (n i : ℕ) → IsFullFront next start n → i < n → at next start i ≡ at next start n → (a b : ℕ) → a < b → at next start a ≡ at next start b → i ≤ a
   least_pair n i is below closes a b before same =
       elim (cases_lt a i) [
         | inl early ↦ elim (cases_lt b n) [
@@ -93,7 +93,7 @@ module _ {X : Type 0} (next : X → Option X) (start : X) where
       ]
 
   -- a run with a count ends, or it has a first repeat
-  pub EndsOrRepeats-from_count : (n : ℕ) → IsCount next start n → EndsOrRepeats next start
+  pub EndsOrRepeats-from_count : (n : ℕ) → IsFullFront next start n → EndsOrRepeats next start
   EndsOrRepeats-from_count n is =
       elim is.closes [
         | inl ended ↦

@@ -22,7 +22,7 @@ use Rattle.icu_locale.specs.declared.canonicalizer.rules.Rules.{Rules}
 use Rattle.std.proofs.lemmas.Slice.Eq.{bytes_eq-Decides}
 use Rattle.icu_locale.proofs.Options.{some_map, some_or}
 use Rattle.icu_locale.proofs.Lists.{Contains-here, Contains-there, Contains-map, Contains-flat_map, Contains-find}
-use Rattle.icu_locale.proofs.Made.{IsMadeOf, IsMadeOf-itself, made_of-has, IsMadeOf-from, IsMadeOf-replaced, IsMadeOf-bare, IsMadeOf-script, IsMadeOf-region, IsMadeOf-image}
+use Rattle.icu_locale.proofs.Parts.{IsMadeOf, IsMadeOf-itself, made_of-has, IsMadeOf-from, IsMadeOf-replaced, IsMadeOf-bare, IsMadeOf-script, IsMadeOf-region, IsMadeOf-image}
 
 pub has_row : {V : Type 0} (rows : List (List ℕ × V)) (k : List ℕ) (v : V) → value_at text_cmp rows k ≡ Some v → Contains rows (k, v)
 has_row rows k v found = Contains-from_lookup {eq = eq_by_cmp text_cmp} same_from_tied k v rows found

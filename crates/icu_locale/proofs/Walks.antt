@@ -4,8 +4,8 @@ use Rattle.std.specs.Cmp.{IsEquivalence}
 use Rattle.std.proofs.lemmas.Bool.{cases_eq, cases_lt, false≢true, not-true, not-false}
 use Rattle.std.proofs.lemmas.Option.{none-some, same_Some}
 use Rattle.icu_locale.specs.Run.{at, StandsIn, IsRepeat}
-use Rattle.icu_locale.specs.inner.Walk.{IsCount, IsMeeting}
-use Rattle.icu_locale.proofs.Places.{none_after, meets_before, meets_again, never_none}
+use Rattle.icu_locale.specs.inner.Walk.{IsFullFront, IsMeeting}
+use Rattle.icu_locale.proofs.RunPlaces.{none_after, meets_before, meets_again, never_none}
 use Rattle.icu_locale.proofs.Runs.{IsRepeat-from_pairs}
 
 -- one walker is at some place and the other twice as far, and they have met at no place before
@@ -51,17 +51,17 @@ module _ {X : Type 0} (next : X → Option X) (start : X) where
   follows_at place y o here follows = ap (option_and_then next) here ∙ follows
 
   -- nothing stands at a place only from the count on
-  pub count_by_end : (n p : ℕ) → IsCount next start n → at next start p ≡ None → n ≤ p
+  pub count_by_end : (n p : ℕ) → IsFullFront next start n → at next start p ≡ None → n ≤ p
   count_by_end n p is ended =
       elim (cases_lt p n) [ inl below ↦ absurd (is.front.goes p below ended) | inr above ↦ above ]
 
   -- a state comes again only from the count on
-  count_by_repeat : (n i j : ℕ) → IsCount next start n → i < j → at next start i ≡ at next start j → n ≤ j
+  count_by_repeat : (n i j : ℕ) → IsFullFront next start n → i < j → at next start i ≡ at next start j → n ≤ j
   count_by_repeat n i j is before same =
       elim (cases_lt j n) [ inl below ↦ absurd (is.front.apart i j before below same) | inr above ↦ above ]
 
   -- walkers who have not met are not past the count
-  unmet_within : (n m : ℕ) → IsCount next start n → (at next start n ≡ None → m ≤ n) → ((k : ℕ) → 0 < k → k < m → at next start k ≢ at next start (k + k)) → m ≤ n
+  unmet_within : (n m : ℕ) → IsFullFront next start n → (at next start n ≡ None → m ≤ n) → ((k : ℕ) → 0 < k → k < m → at next start k ≢ at next start (k + k)) → m ≤ n
   unmet_within n m is unended unmet =
       elim is.closes [
         | inl ended ↦ unended ended
@@ -79,7 +79,7 @@ module _ {X : Type 0} (next : X → Option X) (start : X) where
       ]
 
   module _ (slow fast : X) (before after : ℕ) (walk : HasWalked next start slow fast before after) where
-    pub walked_most : (n : ℕ) → IsCount next start n → after + 1 ≤ before + 3 * n
+    pub walked_most : (n : ℕ) → IsFullFront next start n → after + 1 ≤ before + 3 * n
     walked_most n is =
         let within : walk.place ≤ n = unmet_within n walk.place is (λ ended. let h = goes_within n (walk.place + walk.place) fast walk.ahead ended in omega arith) walk.unmet in
         omega (arith, walk.counted)
@@ -93,13 +93,13 @@ module _ {X : Type 0} (next : X → Option X) (start : X) where
           | inr other ↦ walk.unmet k started (omega arith) met
         ]
 
-    pub walked_more : slow ≢ fast → (n : ℕ) → IsCount next start n → after + 3 ≤ before + 3 * n
+    pub walked_more : slow ≢ fast → (n : ℕ) → IsFullFront next start n → after + 3 ≤ before + 3 * n
     walked_more differ n is =
         let within : suc walk.place ≤ n = unmet_within n (suc walk.place) is (λ ended. let h = goes_within n (walk.place + walk.place) fast walk.ahead ended in omega arith) (unmet_here differ) in
         omega (arith, walk.counted)
 
     -- where the walkers meet, the fast one has passed each state
-    pub met_least : slow ≡ fast → (n : ℕ) → IsCount next start n → before + n ≤ after
+    pub met_least : slow ≡ fast → (n : ℕ) → IsFullFront next start n → before + n ≤ after
     met_least same n is =
         let again : at next start walk.place ≡ at next start (walk.place + walk.place) = walk.behind ∙ (ap Some same ∙ sym walk.ahead) in
         omega (arith, walk.counted, walk.started, count_by_repeat n walk.place (walk.place + walk.place) is (omega (arith, walk.started)) again)
@@ -128,7 +128,7 @@ module _ {X : Type 0} (next : X → Option X) (start : X) where
         }
 
     -- the fast walker has passed each state before it stops
-    pub stops_least : next fast ≡ None → (n : ℕ) → IsCount next start n → before + n ≤ after + 2
+    pub stops_least : next fast ≡ None → (n : ℕ) → IsFullFront next start n → before + n ≤ after + 2
     stops_least ended n is =
         omega (arith, walk.counted, walk.started, count_by_end n (suc (walk.place + walk.place)) is (follows_at (walk.place + walk.place) fast None walk.ahead ended))
 
@@ -138,7 +138,7 @@ module _ {X : Type 0} (next : X → Option X) (start : X) where
     pub middle_stands : (middle : X) → next fast ≡ Some middle → StandsIn next start middle
     middle_stands middle goes = (suc (walk.place + walk.place), middle_at middle goes)
 
-    pub middle_least : (middle : X) → next fast ≡ Some middle → next middle ≡ None → (n : ℕ) → IsCount next start n → before + n ≤ after + 3
+    pub middle_least : (middle : X) → next fast ≡ Some middle → next middle ≡ None → (n : ℕ) → IsFullFront next start n → before + n ≤ after + 3
     middle_least middle goes ended n is =
         omega (arith, walk.counted, walk.started, count_by_end n (suc (suc (walk.place + walk.place))) is (follows_at (suc (walk.place + walk.place)) middle None (middle_at middle goes) ended))
 
@@ -154,7 +154,7 @@ module _ {X : Type 0} (next : X → Option X) (start : X) where
           | inr late ↦ late
         ]
 
-    pub followed_most : (n : ℕ) → IsCount next start n → after + 2 ≤ before + 2 * n
+    pub followed_most : (n : ℕ) → IsFullFront next start n → after + 2 ≤ before + 2 * n
     followed_most n is =
         elim is.closes [
           | inl ended ↦ absurd (never_none next start walk.met.place n meeting walk.met.started walk.met.here met_again ended)

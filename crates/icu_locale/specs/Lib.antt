@@ -1,11 +1,13 @@
 pub mod Canonical
+pub mod Canonicalization
 pub mod Construction
+pub mod Cost
 pub mod Direction
 pub mod Kinds
 pub mod LikelySubtags
 pub mod LikelyTable
-pub mod Making
 pub mod Minimal
+pub mod Refusals
 pub mod Replacement
 pub mod Rules
 pub mod Run

@@ -92,3 +92,8 @@ IsBare x = with_locale x (bare_locale (locale_of x)) ≡ x
 -- something was removed from x or filled in
 abbrev pub IsModified : LikelySubtags → LanguageIdentifier → Type 0
 IsModified likely x = (IsBare x → ⊥) ⊎ (maximal likely x ≢ x)
+
+-- the maximal forms of the three subtags are equal, and the variants are
+pub record HaveSameMaximalParts (likely : LikelySubtags) (x y : LanguageIdentifier) : Type 0 where
+  pub locale : maximal_locale likely (locale_of x) ≡ maximal_locale likely (locale_of y)
+  pub variants : x.variants ≡ y.variants

@@ -1,23 +1,27 @@
 //! Canonicalization of locales (UTS #35 Part 1, Annex C, "LocaleId Canonicalization").
-ghost use Rattle.std.specs.Prelude.{◌≡◌, ◌⊎◌, ℕ, Some, None, Err, IfOk, IfErr, IfSome, IsOk, OnOk, OnErr, option_copied};
-ghost use Rattle.icu_locale.specs.LikelyTable.{likely};
+ghost use Rattle.std.specs.Prelude.{◌≡◌, ℕ, Some, None, IfOk, IfErr, IfSome, IsOk, option_copied};
 ghost use Rattle.icu_locale.specs.Kinds.{by_language_alias};
-ghost use Rattle.icu_locale.specs.Canonical.{subdivision_alias, IsCanonical, is_applied, answer_of, RulesEnd, ComesAgainFirst, IsRefusal, HasIdentifiers, IsCounted, IsOutOfMemory, NeedsNoMemory, error_name};
-ghost use Rattle.icu_locale.specs.inner.CanonicalParts.{IsLaterEndOf, IsRunRefusalOf, IsRunCounted, IsFree, IsChanges};
+ghost use Rattle.icu_locale.specs.Canonical.{subdivision_alias};
+ghost use Rattle.icu_locale.specs.Canonicalization.{Canonicalizes};
+ghost use Rattle.icu_locale.specs.Refusals.{IsRefusal, IsOutOfMemory, error_name};
+ghost use Rattle.icu_locale.specs.Cost.{HasIdentifiers, CountsSearches, NeedsNoMemory};
+ghost use Rattle.icu_locale.specs.inner.CanonicalParts.{IsLaterEndOf, IsRunRefusalOf, CountsSearchesOf, IsFree, AreChanges};
 
-use crate::rewriting::identifiers::later_end;
-use crate::rewriting::turns::Turns;
-use crate::{AsExpander, LocaleExpander, TransformResult};
+use crate::{AsExpander, LocaleExpander, TransformResult, Turns};
 use icu_locale_core::{Key, Keywords, LanguageIdentifier, Locale, ParseError, Value};
 use std::error::Error;
 use std::fmt;
 
 mod changes;
+pub mod identifiers;
+mod kinds;
 mod making;
 mod reading;
+pub mod replacing;
 pub mod rules;
 
 use changes::{Changes, region_override_key, subdivision_key};
+use identifiers::later_end;
 use rules::Rules;
 
 /// Canonicalizes locales by the rules of a table of aliases.
@@ -74,14 +78,8 @@ impl<'d, E: AsExpander<'d>> LocaleCanonicalizer<'d, E> {
     ///
     /// The locale is unchanged then.
     pub fn canonicalize(&self, locale: &mut Locale) -> Result<TransformResult, CanonicalizeError>
-        ensures canonical { OnOk result (IsCanonical (likely (E.expander self.now.expander)) self.now.rules locale.old locale.new) }
-        ensures answer { IfOk result (λ answer. answer ≡ answer_of (is_applied (likely (E.expander self.now.expander)) self.now.rules locale.old)) }
-        ensures refusal { IfErr result (IsRefusal (likely (E.expander self.now.expander)) self.now.rules locale.old) }
-        ensures unchanged { OnErr result (locale.new ≡ locale.old) }
-        ensures ends { RulesEnd (likely (E.expander self.now.expander)) self.now.rules locale.old → IsOk result ⊎ IsOutOfMemory result }
-        ensures repeats { (z : LanguageIdentifier) → ComesAgainFirst (likely (E.expander self.now.expander)) self.now.rules locale.old z
-            → (result ≡ Err (CanonicalizeError.NoFixedPoint z)) ⊎ IsOutOfMemory result }
-        ensures free { NeedsNoMemory (likely (E.expander self.now.expander)) self.now.rules locale.old → ¬ (IsOutOfMemory result) }
+        ensures outcome { Canonicalizes (E.table self.now.expander) self.now.rules
+            locale.old locale.new result }
     {
         self.canonicalize_counted(locale, &mut Turns::new())
     }
@@ -97,37 +95,25 @@ impl<'d, E: AsExpander<'d>> LocaleCanonicalizer<'d, E> {
         locale: &mut Locale,
         turns: &mut Turns,
     ) -> Result<TransformResult, CanonicalizeError>
-        ensures canonical { OnOk result (IsCanonical (likely (E.expander self.now.expander)) self.now.rules locale.old locale.new) }
-        ensures answer { IfOk result (λ answer. answer ≡ answer_of (is_applied (likely (E.expander self.now.expander)) self.now.rules locale.old)) }
-        ensures refusal { IfErr result (IsRefusal (likely (E.expander self.now.expander)) self.now.rules locale.old) }
-        ensures unchanged { OnErr result (locale.new ≡ locale.old) }
-        ensures ends { RulesEnd (likely (E.expander self.now.expander)) self.now.rules locale.old → IsOk result ⊎ IsOutOfMemory result }
-        ensures repeats { (z : LanguageIdentifier) → ComesAgainFirst (likely (E.expander self.now.expander)) self.now.rules locale.old z
-            → (result ≡ Err (CanonicalizeError.NoFixedPoint z)) ⊎ IsOutOfMemory result }
-        ensures free { NeedsNoMemory (likely (E.expander self.now.expander)) self.now.rules locale.old → ¬ (IsOutOfMemory result) }
-        ensures count { (n : ℕ) × HasIdentifiers (likely (E.expander self.now.expander)) self.now.rules locale.old n × IsCounted result turns.old turns.new n }
+        ensures outcome { Canonicalizes (E.table self.now.expander) self.now.rules
+            locale.old locale.new result }
+        ensures count { (n : ℕ) × HasIdentifiers (E.table self.now.expander) self.now.rules locale.old n
+            × CountsSearches result turns.old turns.new n }
     {
-        match self.find_changes(locale, turns) {
-            Ok(changes) => Ok(changes.write(locale)),
-            Err(refusal) => Err(refusal),
-        }
+        let changes = self.find_changes(locale, turns)?;
+        Ok(changes.write(locale))
     }
 
     // What is to be changed of a locale, found before anything is written.
     fn find_changes(&self, locale: &Locale, turns: &mut Turns) -> Result<Changes, CanonicalizeError>
-        ensures found { IfOk result (IsChanges (likely (E.expander self.now.expander)) self.now.rules locale.now) }
-        ensures refusal { IfErr result (IsRefusal (likely (E.expander self.now.expander)) self.now.rules locale.now) }
-        ensures free { NeedsNoMemory (likely (E.expander self.now.expander)) self.now.rules locale.now → ¬ (IsOutOfMemory result) }
-        ensures count { (n : ℕ) × HasIdentifiers (likely (E.expander self.now.expander)) self.now.rules locale.now n × IsCounted result turns.old turns.new n }
+        ensures found { IfOk result (AreChanges (E.table self.now.expander) self.now.rules locale.now) }
+        ensures refusal { IfErr result (IsRefusal (E.table self.now.expander) self.now.rules locale.now) }
+        ensures free { NeedsNoMemory (E.table self.now.expander) self.now.rules locale.now → ¬ (IsOutOfMemory result) }
+        ensures count { (n : ℕ) × HasIdentifiers (E.table self.now.expander) self.now.rules locale.now n
+            × CountsSearches result turns.old turns.new n }
     {
-        let id = match later_end(self, &locale.id, false, turns) {
-            Ok(id) => id,
-            Err(refusal) => return Err(refusal),
-        };
-        let transform = match self.transform_end(&locale.extensions.transform.lang, turns) {
-            Ok(transform) => transform,
-            Err(refusal) => return Err(refusal),
-        };
+        let id = later_end(self, &locale.id, false, turns)?;
+        let transform = self.transform_end(&locale.extensions.transform.lang, turns)?;
         let keywords = &locale.extensions.unicode.keywords;
         let Ok(region_override) = subdivision_alias(&self.rules, keywords, region_override_key())
         else {
@@ -153,7 +139,7 @@ impl<'d, E: AsExpander<'d>> LocaleCanonicalizer<'d, E> {
         ensures end { IfOk result (IsLaterEndOf (by_language_alias self.now.rules) lang.now) }
         ensures refused { IfErr result (IsRunRefusalOf (by_language_alias self.now.rules) lang.now) }
         ensures free { IfSome lang.now (IsFree (by_language_alias self.now.rules)) → ¬ (IsOutOfMemory result) }
-        ensures count { IsRunCounted (by_language_alias self.now.rules) lang.now result turns.old turns.new }
+        ensures count { CountsSearchesOf (by_language_alias self.now.rules) lang.now result turns.old turns.new }
     {
         match lang {
             Some(lang) => later_end(self, lang, true, turns),

@@ -1,5 +1,8 @@
 //! Which way the script of an identifier runs.
-ghost use Rattle.std.specs.Prelude.{◌≡◌};
+ghost use Rattle.std.specs.Prelude.{◌≡◌, None, Some};
+ghost use Rattle.icu_locale.specs.Construction.{both, loaded_common, loaded_extended, DirectsOver, IsMade};
+ghost use Rattle.icu_locale.specs.LikelySubtags.{likely_script};
+ghost use Rattle.icu_locale.specs.Direction.{is_script_in, direction_of};
 
 use crate::{AsExpander, LocaleExpander};
 use icu_locale_core::{LanguageIdentifier, Script};
@@ -27,9 +30,6 @@ pub struct LocaleDirectionality<'d, E = LocaleExpander<'d>> {
 }
 
 impl<'d> LocaleDirectionality<'d> {
-    ghost use Rattle.icu_locale.specs.Construction.{common_tables, all_tables, both};
-    ghost use Rattle.icu_locale.specs.Direction.{with_directions};
-
     /// Over the common tables of likely subtags.
     pub fn new_common(
         language: &'d LikelySubtagsForLanguage,
@@ -67,7 +67,9 @@ impl<'d> LocaleDirectionality<'d> {
     ///
     /// The first refusal of the provider, unchanged.
     pub fn try_new_common_unstable<P: DataProvider>(provider: &'d P) -> Result<Self, DataError>
-        ensures { with_directions result ≡ both (common_tables (P.likely_language provider.now) (P.likely_script_region provider.now)) (P.script_direction provider.now) }
+        ensures { IsMade DirectsOver
+            (both (loaded_common (P.likely_language provider.now) (P.likely_script_region provider.now))
+            (P.script_direction provider.now)) result }
     {
         let expander = LocaleExpander::try_new_common_unstable(provider)?;
         LocaleDirectionality::try_new_with_expander_unstable(provider, expander)
@@ -79,7 +81,9 @@ impl<'d> LocaleDirectionality<'d> {
     ///
     /// The first refusal of the provider, unchanged.
     pub fn try_new_extended_unstable<P: DataProvider>(provider: &'d P) -> Result<Self, DataError>
-        ensures { with_directions result ≡ both (all_tables (P.likely_language provider.now) (P.likely_script_region provider.now) (P.likely_extended provider.now)) (P.script_direction provider.now) }
+        ensures { IsMade DirectsOver
+            (both (loaded_extended (P.likely_language provider.now) (P.likely_script_region provider.now)
+            (P.likely_extended provider.now)) (P.script_direction provider.now)) result }
     {
         let expander = LocaleExpander::try_new_extended_unstable(provider)?;
         LocaleDirectionality::try_new_with_expander_unstable(provider, expander)
@@ -87,11 +91,6 @@ impl<'d> LocaleDirectionality<'d> {
 }
 
 impl<'d, E: AsExpander<'d>> LocaleDirectionality<'d, E> {
-    ghost use Rattle.std.specs.Prelude.{IfOk};
-    ghost use Rattle.icu_locale.specs.LikelyTable.{likely};
-    ghost use Rattle.icu_locale.specs.LikelySubtags.{likely_script};
-    ghost use Rattle.icu_locale.specs.Direction.{is_script_in, direction_of, directions_of};
-
     /// Over an expander, or a reference to one.
     pub fn new_with_expander(script_direction: &'d ScriptDirection, expander: E) -> Self
         ensures expander { result.expander ≡ expander }
@@ -114,8 +113,8 @@ impl<'d, E: AsExpander<'d>> LocaleDirectionality<'d, E> {
     ) -> Result<Self, DataError>
     where
         E: Drop,
-        ensures expander { IfOk result (λ d. d.expander ≡ expander) }
-        ensures directions { directions_of result ≡ P.script_direction provider.now }
+        ensures { IsMade (λ table d. (d.expander ≡ expander) × (d.script_direction.now ≡ table))
+            (P.script_direction provider.now) result }
     {
         let script_direction = provider.load_script_direction()?;
         Ok(LocaleDirectionality::new_with_expander(script_direction, expander))
@@ -124,7 +123,8 @@ impl<'d, E: AsExpander<'d>> LocaleDirectionality<'d, E> {
     /// Which way the likely script of the identifier runs: left to right where that list has it, else right to left
     /// where the other has it, else none.
     pub fn get(&self, id: &LanguageIdentifier) -> Option<Direction>
-        ensures { result ≡ direction_of self.now.script_direction.now (likely_script (likely (E.expander self.now.expander)) id.now) }
+        ensures { result ≡ direction_of self.now.script_direction.now
+            (likely_script (E.table self.now.expander) id.now) }
     {
         let script = self.likely_script(id)?;
         if self.script_direction.is_ltr(script) {
@@ -138,7 +138,8 @@ impl<'d, E: AsExpander<'d>> LocaleDirectionality<'d, E> {
 
     /// Whether the likely script of the identifier is one of those from right to left.
     pub fn is_right_to_left(&self, id: &LanguageIdentifier) -> bool
-        ensures { result ≡ is_script_in self.now.script_direction.now.rtl (likely_script (likely (E.expander self.now.expander)) id.now) }
+        ensures { result ≡ is_script_in self.now.script_direction.now.rtl
+            (likely_script (E.table self.now.expander) id.now) }
     {
         match self.likely_script(id) {
             Some(script) => self.script_direction.is_rtl(script),
@@ -148,7 +149,8 @@ impl<'d, E: AsExpander<'d>> LocaleDirectionality<'d, E> {
 
     /// Whether the likely script of the identifier is one of those from left to right.
     pub fn is_left_to_right(&self, id: &LanguageIdentifier) -> bool
-        ensures { result ≡ is_script_in self.now.script_direction.now.ltr (likely_script (likely (E.expander self.now.expander)) id.now) }
+        ensures { result ≡ is_script_in self.now.script_direction.now.ltr
+            (likely_script (E.table self.now.expander) id.now) }
     {
         match self.likely_script(id) {
             Some(script) => self.script_direction.is_ltr(script),
@@ -157,7 +159,7 @@ impl<'d, E: AsExpander<'d>> LocaleDirectionality<'d, E> {
     }
 
     fn likely_script(&self, id: &LanguageIdentifier) -> Option<Script>
-        ensures { result ≡ likely_script (likely (E.expander self.now.expander)) id.now }
+        ensures { result ≡ likely_script (E.table self.now.expander) id.now }
     {
         self.expander.as_expander().get_likely_script(id)
     }

@@ -44,7 +44,7 @@ pub struct LocaleExpander<'d> {
 
 impl<'d> LocaleExpander<'d> {
     ghost use Rattle.icu_locale.specs.LikelyTable.{likely};
-    ghost use Rattle.icu_locale.specs.Construction.{seen, common_tables, all_tables};
+    ghost use Rattle.icu_locale.specs.Construction.{loaded_common, loaded_extended, StandsOn, IsMade};
     ghost use Rattle.icu_locale.specs.declared.expander.Favor.TheVariants.{RegionFirst, ScriptFirst};
     ghost use Rattle.icu_locale.specs.Minimal.{IsMinimalForm};
     ghost use Rattle.icu_locale.specs.inner.Trials.{trials, first_trial, same_locale};
@@ -85,7 +85,8 @@ impl<'d> LocaleExpander<'d> {
     ///
     /// The first refusal of the provider, unchanged.
     pub fn try_new_common_unstable<P: DataProvider>(provider: &'d P) -> Result<Self, DataError>
-        ensures { seen result ≡ common_tables (P.likely_language provider.now) (P.likely_script_region provider.now) }
+        ensures { IsMade StandsOn
+            (loaded_common (P.likely_language provider.now) (P.likely_script_region provider.now)) result }
     {
         let language = provider.load_likely_language()?;
         let script_region = provider.load_likely_script_region()?;
@@ -98,7 +99,9 @@ impl<'d> LocaleExpander<'d> {
     ///
     /// The first refusal of the provider, unchanged.
     pub fn try_new_extended_unstable<P: DataProvider>(provider: &'d P) -> Result<Self, DataError>
-        ensures { seen result ≡ all_tables (P.likely_language provider.now) (P.likely_script_region provider.now) (P.likely_extended provider.now) }
+        ensures { IsMade StandsOn
+            (loaded_extended (P.likely_language provider.now) (P.likely_script_region provider.now)
+            (P.likely_extended provider.now)) result }
     {
         let language = provider.load_likely_language()?;
         let script_region = provider.load_likely_script_region()?;

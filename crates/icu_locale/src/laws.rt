@@ -7,7 +7,7 @@ ghost use Rattle.icu_locale_core.specs.Identifier.{IsIdentifier};
 ghost use Rattle.icu_locale_core.specs.Subtag.{und};
 ghost use Rattle.icu_locale_core.specs.declared.langid.LanguageIdentifier.{LanguageIdentifier};
 ghost use Rattle.icu_locale.specs.declared.expander.LocaleExpander.{LocaleExpander};
-ghost use Rattle.icu_locale.specs.LikelySubtags.{LikelySubtags, Triple, unknown_script, unknown_region, maximal, IsModified};
+ghost use Rattle.icu_locale.specs.LikelySubtags.{LikelySubtags, Triple, unknown_script, unknown_region, maximal, IsModified, HaveSameMaximalParts};
 ghost use Rattle.icu_locale.specs.declared.expander.looks.Key.{Key};
 ghost use Rattle.icu_locale.specs.LikelyTable.{likely, common_row, extension_row, und_row};
 ghost use Rattle.icu_locale.specs.TableKeys.{HasKey, table_keys};
@@ -20,8 +20,8 @@ ghost use Rattle.icu_locale.specs.declared.directionality.Direction.{Direction};
 
 mod canonicalization;
 
-pub use crate::rewriting::identifiers::search;
-pub use crate::rewriting::replacing::{replacement, rule_matches};
+pub use crate::canonicalizer::identifiers::search;
+pub use crate::canonicalizer::replacing::{replacement, rule_matches};
 pub use canonicalization::{
     applied_where_changed, canonical_keywords_by_key, canonical_stays_canonical, runs_end_or_repeat,
 };
@@ -96,6 +96,21 @@ pub fn maximizing_keeps_subtags()
     ensures region { (table : LikelySubtags) (x : LanguageIdentifier) (region : List ℕ) →
         x.region ≡ Some region → region ≢ unknown_region → (maximal table x).region ≡ Some region }
     ensures variants { (table : LikelySubtags) (x : LanguageIdentifier) → (maximal table x).variants ≡ x.variants }
+{}
+
+/// Over every table, a minimal form has the variants of its identifier.
+#[tactic(auto, using(crate::proofs::Classes::minimal_keeps_variants))]
+pub fn minimizing_keeps_variants()
+    ensures { (favor : Favor) (table : LikelySubtags) (x y : LanguageIdentifier) →
+        IsMinimalForm favor table x y → y.variants ≡ x.variants }
+{}
+
+/// Over every table, maximal forms are equal exactly where those of the language, the script and the region are, and
+/// the variants.
+#[tactic(auto, using(crate::proofs::Classes::maximal_by_parts))]
+pub fn maximal_forms_by_parts()
+    ensures { (table : LikelySubtags) (x y : LanguageIdentifier) →
+        (maximal table x ≡ maximal table y) ↔ HaveSameMaximalParts table x y }
 {}
 
 /// Over every list, `is_left_to_right` answers true exactly where `get` answers left to right.

@@ -8,10 +8,11 @@ mod expander;
 pub mod laws;
 mod rewriting;
 mod settled;
+mod turns;
 
 pub use as_expander::AsExpander;
 pub use canonicalizer::rules::{Rule, Rules};
 pub use canonicalizer::{CanonicalizeError, LocaleCanonicalizer};
 pub use directionality::{Direction, LocaleDirectionality};
 pub use expander::{LocaleExpander, TransformResult};
-pub use rewriting::turns::Turns;
+pub use turns::Turns;

@@ -2,14 +2,9 @@
 // Two walkers go along a run, one twice as fast as the other, so no list of states is kept.
 ghost use Rattle.std.specs.Prelude.{◌≡◌, ◌<◌, ◌≤◌, ◌+◌, ◌*◌, ℕ, List, Option, Some, true, IfOk, IfErr, IsOk, OnOk, IsSome};
 ghost use Rattle.icu_locale.specs.Run.{StandsIn, HasDistinct, IsRepeat};
-ghost use Rattle.icu_locale.specs.inner.Walk.{IsCount, IsMeeting, IsWalk, IsOutcome, IsUniverse};
+ghost use Rattle.icu_locale.specs.inner.Walk.{IsFullFront, IsMeeting, IsWalk, IsOutcome, IsUniverse};
 
-pub mod identifiers;
-mod kinds;
-pub mod replacing;
-pub mod turns;
-
-use turns::Turns;
+use crate::Turns;
 
 /// A rule that leads from a state to the next, or to none.
 pub trait Rewriting {
@@ -74,6 +69,7 @@ pub fn end_of_run<R: Rewriting>(
     ensures refused { IfErr result R.refuses }
     ensures free { ((y : R.State) → StandsIn (R.next rewriting.now) start.now y → R.needs_none rewriting.now y)
         → IsOk result }
+    ensures forward { turns.old ≤ turns.new }
     ensures count { (n : ℕ) × HasDistinct (R.next rewriting.now) start.now n
         × (turns.new ≤ turns.old + 6 * n) × OnOk result (turns.old + n ≤ turns.new) }
 {
@@ -98,9 +94,11 @@ fn meet<R: Rewriting>(
     ensures refused { IfErr result R.refuses }
     ensures free { ((y : R.State) → StandsIn (R.next rewriting.now) start.now y → R.needs_none rewriting.now y)
         → IsOk result }
-    ensures most { (n : ℕ) → IsCount (R.next rewriting.now) start.now n → turns.new ≤ turns.old + 3 * n }
+    ensures forward { turns.old ≤ turns.new }
+    ensures most { (n : ℕ) → IsFullFront (R.next rewriting.now) start.now n
+        → turns.new ≤ turns.old + 3 * n }
     ensures least { OnOk result
-        ((n : ℕ) → IsCount (R.next rewriting.now) start.now n → turns.old + n ≤ turns.new) }
+        ((n : ℕ) → IsFullFront (R.next rewriting.now) start.now n → turns.old + n ≤ turns.new) }
 {
     let Some(mut slow) = rewriting.search(start, turns)? else {
         return Ok(Walk::Alone);
@@ -134,8 +132,9 @@ fn first_repeat<R: Rewriting>(
     ensures refused { IfErr result R.refuses }
     ensures free { ((y : R.State) → StandsIn (R.next rewriting.now) start.now y → R.needs_none rewriting.now y)
         → IsOk result }
-    ensures most { (n : ℕ) → IsCount (R.next rewriting.now) start.now n → turns.new ≤ turns.old + 2 * n }
-    ensures least { turns.old ≤ turns.new }
+    ensures most { (n : ℕ) → IsFullFront (R.next rewriting.now) start.now n
+        → turns.new ≤ turns.old + 2 * n }
+    ensures forward { turns.old ≤ turns.new }
 {
     if *start == meeting {
         return Ok(meeting);

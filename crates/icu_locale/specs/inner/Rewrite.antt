@@ -5,11 +5,11 @@ use Rattle.icu_locale_core.specs.declared.langid.LanguageIdentifier.{LanguageIde
 use Rattle.icu_locale.specs.Replacement.{replaced}
 use Rattle.icu_locale.specs.Kinds.{variant_alias}
 use Rattle.icu_locale.specs.declared.canonicalizer.rules.Rules.{Rules}
-use Rattle.icu_locale.specs.declared.rewriting.kinds.Change.{Change}
-use Rattle.icu_locale.specs.declared.rewriting.kinds.Change.TheVariants.{Rule, Subtags, Variants}
+use Rattle.icu_locale.specs.declared.canonicalizer.kinds.Rewrite.{Rewrite}
+use Rattle.icu_locale.specs.declared.canonicalizer.kinds.Rewrite.TheVariants.{Rule, Subtags, Variants}
 
--- the identifier that a change makes of x
-abbrev pub applied : Rules → LanguageIdentifier → Change → LanguageIdentifier
-applied rules x (Rule r) = replaced x r.now.source r.now.replacement
-applied rules x (Subtags l s r) = record { language = l; script = s; region = r; variants = x.variants }
-applied rules x Variants = record x { variants = image (λ v. unwrap_or (variant_alias rules v) v) x.variants }
+-- the identifier that a rewrite makes of x
+abbrev pub rewritten : Rules → LanguageIdentifier → Rewrite → LanguageIdentifier
+rewritten rules x (Rule r) = replaced x r.now.source r.now.replacement
+rewritten rules x (Subtags l s r) = record { language = l; script = s; region = r; variants = x.variants }
+rewritten rules x Variants = record x { variants = image (λ v. unwrap_or (variant_alias rules v) v) x.variants }

@@ -1,7 +1,7 @@
 -- A count of turns, which only contracts see.
 use Rattle.std.specs.Prelude.{ℕ, suc}
-use Rattle.icu_locale.specs.declared.rewriting.turns.Tally.{Tally}
-use Rattle.icu_locale.specs.declared.rewriting.turns.Tally.TheVariants.{None, OneMore'}
+use Rattle.icu_locale.specs.declared.turns.Tally.{Tally}
+use Rattle.icu_locale.specs.declared.turns.Tally.TheVariants.{None, OneMore'}
 
 -- how many strokes a tally has
 abbrev pub strokes : Tally → ℕ

@@ -13,7 +13,7 @@ pub record IsFront {X : Type 0} (next : X → Option X) (start : X) (n : ℕ) : 
   pub apart : (i j : ℕ) → i < j → j < n → at next start i ≢ at next start j
 
 -- the first n places hold all states of the run, each once
-pub record IsCount {X : Type 0} (next : X → Option X) (start : X) (n : ℕ) : Type 0 where
+pub record IsFullFront {X : Type 0} (next : X → Option X) (start : X) (n : ℕ) : Type 0 where
   pub front : IsFront next start n
   pub closes : (at next start n ≡ None) ⊎ ((i : ℕ) × (i < n) × (at next start i ≡ at next start n))
 

@@ -18,14 +18,14 @@ pub struct Changes {
 }
 
 impl Changes {
-    ghost use Rattle.icu_locale.specs.inner.CanonicalParts.{changed, is_change};
+    ghost use Rattle.icu_locale.specs.inner.CanonicalParts.{with_changes, has_change};
 
     // Writes the changes, all of them.
     pub fn write(self, locale: &mut Locale) -> TransformResult
         requires region_override { IsSome self.region_override → IsSome (value_at text_cmp locale.old.extensions.unicode.keywords rg) }
         requires subdivision { IsSome self.subdivision → IsSome (value_at text_cmp locale.old.extensions.unicode.keywords sd) }
-        ensures changed { locale.new ≡ changed self locale.old }
-        ensures answer { result ≡ answer_of (is_change self) }
+        ensures changed { locale.new ≡ with_changes self locale.old }
+        ensures answer { result ≡ answer_of (has_change self) }
     {
         let Changes {
             id,

@@ -1,8 +1,7 @@
 //! Canonicalizers over tables or a provider.
-ghost use Rattle.std.specs.Prelude.{◌≡◌, Some, None, Err, IfOk, IfErr, MatchResult};
-ghost use Rattle.icu_locale.specs.Construction.{common_tables, all_tables, both};
+ghost use Rattle.std.specs.Prelude.{◌≡◌, Ok, IfOk, IfErr};
+ghost use Rattle.icu_locale.specs.Construction.{common, with_extended, both, loaded_common, loaded_extended, RewritesOver, IsMadeInMemory};
 ghost use Rattle.icu_locale.specs.Rules.{AreRules};
-ghost use Rattle.icu_locale.specs.Making.{IsOver};
 
 use super::LocaleCanonicalizer;
 use super::reading::read_all;
@@ -31,10 +30,8 @@ impl<'d, E> LocaleCanonicalizer<'d, E> {
         ensures expander { IfOk result (λ c. c.expander ≡ expander) }
         ensures refused { IfErr result (λ e. e.kind ≡ DataErrorKind.Memory) }
     {
-        match read_rules(alloc, aliases) {
-            Ok(rules) => Ok(LocaleCanonicalizer { rules, expander }),
-            Err(refusal) => Err(refusal),
-        }
+        let rules = read_rules(alloc, aliases)?;
+        Ok(LocaleCanonicalizer { rules, expander })
     }
 
     /// Over the aliases of a provider and an expander.
@@ -49,13 +46,11 @@ impl<'d, E> LocaleCanonicalizer<'d, E> {
     ) -> Result<Self, DataError>
     where
         E: Drop,
-        ensures made { MatchResult (P.aliases provider.now) (λ table. MatchResult result (λ c. AreRules table c.rules) (λ e. e.kind ≡ DataErrorKind.Memory)) (λ refusal. result ≡ Err refusal) }
+        ensures made { IsMadeInMemory (λ table c. AreRules table c.rules) (P.aliases provider.now) result }
         ensures expander { IfOk result (λ c. c.expander ≡ expander) }
     {
-        match provider.load_aliases() {
-            Ok(aliases) => LocaleCanonicalizer::new_with_expander(alloc, aliases, expander),
-            Err(refusal) => Err(refusal),
-        }
+        let aliases = provider.load_aliases()?;
+        LocaleCanonicalizer::new_with_expander(alloc, aliases, expander)
     }
 }
 
@@ -71,8 +66,8 @@ impl<'d> LocaleCanonicalizer<'d, LocaleExpander<'d>> {
         script_region: &'d LikelySubtagsForScriptRegion,
         aliases: &'d Aliases,
     ) -> Result<Self, DataError>
-        ensures made { IfOk result (λ c. IsOver (record { language = language.now; script_region = script_region.now; extended = None }, aliases.now) c.expander c.rules) }
-        ensures refused { IfErr result (λ e. e.kind ≡ DataErrorKind.Memory) }
+        ensures made { IsMadeInMemory RewritesOver
+            (Ok (common language.now script_region.now, aliases.now)) result }
     {
         let expander = LocaleExpander::new_common(language, script_region);
         LocaleCanonicalizer::new_with_expander(alloc, aliases, expander)
@@ -90,8 +85,8 @@ impl<'d> LocaleCanonicalizer<'d, LocaleExpander<'d>> {
         extended: &'d LikelySubtagsExtended,
         aliases: &'d Aliases,
     ) -> Result<Self, DataError>
-        ensures made { IfOk result (λ c. IsOver (record { language = language.now; script_region = script_region.now; extended = Some extended.now }, aliases.now) c.expander c.rules) }
-        ensures refused { IfErr result (λ e. e.kind ≡ DataErrorKind.Memory) }
+        ensures made { IsMadeInMemory RewritesOver
+            (Ok (with_extended language.now script_region.now extended.now, aliases.now)) result }
     {
         let expander = LocaleExpander::new_extended(language, script_region, extended);
         LocaleCanonicalizer::new_with_expander(alloc, aliases, expander)
@@ -106,16 +101,12 @@ impl<'d> LocaleCanonicalizer<'d, LocaleExpander<'d>> {
         alloc: Global,
         provider: &'d P,
     ) -> Result<Self, DataError>
-        ensures { MatchResult (both (common_tables (P.likely_language provider.now) (P.likely_script_region provider.now)) (P.aliases provider.now))
-            (λ tables. MatchResult result (λ c. IsOver tables c.expander c.rules) (λ e. e.kind ≡ DataErrorKind.Memory))
-            (λ refusal. result ≡ Err refusal) }
+        ensures { IsMadeInMemory RewritesOver
+            (both (loaded_common (P.likely_language provider.now) (P.likely_script_region provider.now))
+            (P.aliases provider.now)) result }
     {
-        match LocaleExpander::try_new_common_unstable(provider) {
-            Ok(expander) => LocaleCanonicalizer::try_new_with_expander_unstable(
-                alloc, provider, expander,
-            ),
-            Err(refusal) => Err(refusal),
-        }
+        let expander = LocaleExpander::try_new_common_unstable(provider)?;
+        LocaleCanonicalizer::try_new_with_expander_unstable(alloc, provider, expander)
     }
 
     /// Over all tables of likely subtags of a provider, which are loaded first, and its aliases.
@@ -127,16 +118,12 @@ impl<'d> LocaleCanonicalizer<'d, LocaleExpander<'d>> {
         alloc: Global,
         provider: &'d P,
     ) -> Result<Self, DataError>
-        ensures { MatchResult (both (all_tables (P.likely_language provider.now) (P.likely_script_region provider.now) (P.likely_extended provider.now)) (P.aliases provider.now))
-            (λ tables. MatchResult result (λ c. IsOver tables c.expander c.rules) (λ e. e.kind ≡ DataErrorKind.Memory))
-            (λ refusal. result ≡ Err refusal) }
+        ensures { IsMadeInMemory RewritesOver
+            (both (loaded_extended (P.likely_language provider.now) (P.likely_script_region provider.now)
+            (P.likely_extended provider.now)) (P.aliases provider.now)) result }
     {
-        match LocaleExpander::try_new_extended_unstable(provider) {
-            Ok(expander) => LocaleCanonicalizer::try_new_with_expander_unstable(
-                alloc, provider, expander,
-            ),
-            Err(refusal) => Err(refusal),
-        }
+        let expander = LocaleExpander::try_new_extended_unstable(provider)?;
+        LocaleCanonicalizer::try_new_with_expander_unstable(alloc, provider, expander)
     }
 }
 

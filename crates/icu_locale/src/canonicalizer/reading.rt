@@ -34,11 +34,7 @@ pub fn read_all<R: Readable>(alloc: Global, rows: &[R]) -> Result<Vec<R::Kept>, 
 {
     let mut list = Vec::new(alloc);
     for row in rows {
-        let kept = match row.read(alloc) {
-            Ok(kept) => kept,
-            Err(refusal) => return Err(refusal),
-        };
-        keep(&mut list, kept)?;
+        keep(&mut list, row.read(alloc)?)?;
     }
     Ok(list)
 }
@@ -49,10 +45,7 @@ fn keep<K: Drop>(list: &mut Vec<K>, read: Option<K>) -> Result<(), DataError>
     ensures refused { IfErr result (λ e. e.kind ≡ DataErrorKind.Memory) }
 {
     match read {
-        Some(kept) => match list.push(kept) {
-            Ok(()) => Ok(()),
-            Err(_) => Err(OUT_OF_MEMORY),
-        },
+        Some(kept) => Ok(list.push(kept)?),
         None => Ok(()),
     }
 }
@@ -143,10 +136,7 @@ fn read_variants(alloc: Global, text: &str) -> Result<Option<Variants>, DataErro
     ensures read { IfOk result (λ s. MatchOption s (are_lower_variants text.now ≡ false) (λ s. (are_lower_variants text.now ≡ true) × (s ≡ from_list (variant_pieces text.now)))) }
     ensures refused { IfErr result (λ e. e.kind ≡ DataErrorKind.Memory) }
 {
-    match variant_pieces(alloc, text) {
-        Ok(pieces) => read_pieces(alloc, &pieces),
-        Err(_) => Err(OUT_OF_MEMORY),
-    }
+    read_pieces(alloc, &variant_pieces(alloc, text)?)
 }
 
 fn variant_pieces(alloc: Global, text: &str) -> Result<Vec<&str>, AllocError>
@@ -164,10 +154,7 @@ fn read_pieces(alloc: Global, pieces: &[&str]) -> Result<Option<Variants>, DataE
         let Some(variant) = read_variant(piece) else {
             return Ok(None);
         };
-        match list.push(variant) {
-            Ok(()) => {}
-            Err(_) => return Err(OUT_OF_MEMORY),
-        }
+        list.push(variant)?;
     }
     match Variants::try_from_list(list) {
         Ok(variants) => Ok(Some(variants)),

@@ -9,7 +9,9 @@ ghost use Rattle.icu_locale_core.specs.declared.locale.Locale.{Locale};
 ghost use Rattle.icu_locale.specs.LikelySubtags.{LikelySubtags};
 ghost use Rattle.icu_locale.specs.Kinds.{next_of};
 ghost use Rattle.icu_locale.specs.Run.{EndsOrRepeats, EndsWithNoRepeat, HasOneEnd, KeepsEnd, HasOneRepeat};
-ghost use Rattle.icu_locale.specs.Canonical.{rg, sd, subdivision_alias, canonical_keywords, IsCanonical, is_applied, NeedsNoMemory, HasFinalSubdivisions};
+ghost use Rattle.icu_locale.specs.Canonical.{rg, sd, subdivision_alias, canonical_keywords, IsCanonical, is_applied, HasFinalSubdivisions};
+ghost use Rattle.icu_locale.specs.Cost.{NeedsNoMemory};
+ghost use Rattle.icu_locale.specs.Refusals.{RulesEnd};
 ghost use Rattle.icu_locale.specs.declared.canonicalizer.rules.Rules.{Rules};
 
 /// Of each run of an identifier, by all rules or by language aliases alone, exactly one holds: it ends, or it has a
@@ -30,11 +32,13 @@ pub fn canonical_keywords_by_key()
     ensures others { (rules : Rules) (keywords : KeywordRows) (key : List ℕ) → key ≢ rg → key ≢ sd → value_at text_cmp (canonical_keywords rules keywords) key ≡ value_at text_cmp keywords key }
 {}
 
-/// A canonical locale is canonical itself: where no value of a subdivision is a key again, nothing more is applied to
-/// it, and no memory is needed to find that.
+/// A canonical locale is canonical itself: where no value of a subdivision is a key again, the rules end on it, nothing
+/// more is applied to it, and no memory is needed to find that. So `canonicalize` succeeds on it and changes nothing.
 pub fn canonical_stays_canonical()
     ensures canonical { (likely : LikelySubtags) (rules : Rules) (old new : Locale) → HasFinalSubdivisions rules → IsCanonical likely rules old new → IsCanonical likely rules new new }
     ensures unapplied { (likely : LikelySubtags) (rules : Rules) (old new : Locale) → HasFinalSubdivisions rules → IsCanonical likely rules old new → is_applied likely rules new ≡ false }
+    ensures ends { (likely : LikelySubtags) (rules : Rules) (old new : Locale) → HasFinalSubdivisions rules
+        → IsCanonical likely rules old new → RulesEnd likely rules new }
     ensures free { (likely : LikelySubtags) (rules : Rules) (old new : Locale) → HasFinalSubdivisions rules → IsCanonical likely rules old new → NeedsNoMemory likely rules new }
 {}
 

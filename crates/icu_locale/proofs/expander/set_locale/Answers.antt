@@ -1,4 +1,4 @@
-use Rattle.icu_locale.proofs.Changes.{unchanged}
+use Rattle.icu_locale.proofs.Modified.{unchanged}
 use Rattle.icu_locale.proofs.expander.set_locale.Goals as goal
 
 -- the same locale leaves the identifier

@@ -26,4 +26,19 @@ returns-in-Stops-clause-count g c =
 pub returns-in_ok-first-in-Meets-clause-count : goal.returns-in_ok-first-in-Meets-clause-count
 returns-in_ok-first-in-Meets-clause-count g c =
     let (n, within, is) = count_of_run _ _ _ g.met.R.State.Eq.laws g.met.R.Rewriting.exact _ c.requires in
-    (n, HasDistinct-from_count _ _ n is, omega (arith, c.meet.ensures.most n is, c.first_repeat.ensures.most n is), omega (arith, c.in_ok-meet.ensures.least n is, c.first_repeat.ensures.least))
+    (n, HasDistinct-from_count _ _ n is, omega (arith, c.meet.ensures.most n is, c.first_repeat.ensures.most n is), omega (arith, c.in_ok-meet.ensures.least n is, c.first_repeat.ensures.forward))
+
+pub returns-in_err-meet-clause-forward : goal.returns-in_err-meet-clause-forward
+returns-in_err-meet-clause-forward g c = c.meet.ensures.forward
+
+pub returns-in_err-first-in-Meets-clause-forward : goal.returns-in_err-first-in-Meets-clause-forward
+returns-in_err-first-in-Meets-clause-forward g c = omega (arith, c.meet.ensures.forward, c.first_repeat.ensures.forward)
+
+pub returns-in-Alone-clause-forward : goal.returns-in-Alone-clause-forward
+returns-in-Alone-clause-forward g c = c.meet.ensures.forward
+
+pub returns-in-Stops-clause-forward : goal.returns-in-Stops-clause-forward
+returns-in-Stops-clause-forward g c = c.meet.ensures.forward
+
+pub returns-in_ok-first-in-Meets-clause-forward : goal.returns-in_ok-first-in-Meets-clause-forward
+returns-in_ok-first-in-Meets-clause-forward g c = omega (arith, c.meet.ensures.forward, c.first_repeat.ensures.forward)

@@ -1,22 +1,34 @@
-use Rattle.std.proofs.Common.{subst, sym, inr}
+use Rattle.std.proofs.Common.{subst, sym, inl, inr, refl, rules}
+use Rattle.std.proofs.lemmas.Result.{err_from_is_err_and}
 use Rattle.icu_locale.specs.Canonical.{IsCanonical}
-use Rattle.icu_locale.specs.LikelyTable.{likely}
-use Rattle.icu_locale.proofs.Canonicals.{IsCanonical-changed, memory_from_end, no_repeat, named}
+use Rattle.icu_locale.proofs.Canonicals.{IsCanonical-with_changes, memory_from_end, no_repeat, named}
 use Rattle.icu_locale.proofs.canonicalizer.LocaleCanonicalizer.canonicalize_counted.Goals as goal
 
-pub returns-in-Ok-clause-canonical : goal.returns-in-Ok-clause-canonical
-returns-in-Ok-clause-canonical g c =
-    let known = likely (g.E.AsExpander.expander c.args.self.now.expander) in
-    subst (IsCanonical known c.args.self.now.rules c.args.locale.now) (sym c.write.ensures.changed) (IsCanonical-changed known c.args.self.now.rules c.args.locale.now c.in-Ok.changes c.in-Ok.ensures.found)
+pub returns-in_err-changes-clause-outcome : goal.returns-in_err-changes-clause-outcome
+returns-in_err-changes-clause-outcome g c =
+    let p = err_from_is_err_and c.from_residual.result c.from_residual.ensures.1 in
+    let refusal = c.in_err-changes.field-0.0 in
+    rw (p.1, p.2) record {
+      canonical = tt;
+      answer = tt;
+      refusal = c.in_err-changes.ensures.refusal;
+      unchanged = refl;
+      ends = λ ends. inr (memory_from_end (g.E.AsExpander.table c.args.self.now.expander) c.args.self.now.rules c.args.locale.now refusal c.in_err-changes.ensures.refusal ends);
+      repeats = λ z first. named (g.E.AsExpander.table c.args.self.now.expander) c.args.self.now.rules c.args.locale.now refusal z c.in_err-changes.ensures.refusal first;
+      free = c.in_err-changes.ensures.free;
+    }
 
-pub returns-in-Ok-clause-repeats : goal.returns-in-Ok-clause-repeats
-returns-in-Ok-clause-repeats g c z first =
-    absurd (no_repeat (likely (g.E.AsExpander.expander c.args.self.now.expander)) c.args.self.now.rules c.args.locale.now c.in-Ok.changes z c.in-Ok.ensures.found first)
-
-pub returns-in-Err-clause-ends : goal.returns-in-Err-clause-ends
-returns-in-Err-clause-ends g c ends =
-    inr (memory_from_end (likely (g.E.AsExpander.expander c.args.self.now.expander)) c.args.self.now.rules c.args.locale.now c.in-Err.refusal c.in-Err.ensures.refusal ends)
-
-pub returns-in-Err-clause-repeats : goal.returns-in-Err-clause-repeats
-returns-in-Err-clause-repeats g c z first =
-    named (likely (g.E.AsExpander.expander c.args.self.now.expander)) c.args.self.now.rules c.args.locale.now c.in-Err.refusal z c.in-Err.ensures.refusal first
+pub returns-clause-outcome : goal.returns-clause-outcome
+returns-clause-outcome g c =
+    let kept = c.args.self.now.rules in
+    let known = g.E.AsExpander.table c.args.self.now.expander in
+    let changes = c.in_ok-changes.changes in
+    record {
+      canonical = subst (IsCanonical known kept c.args.locale.now) (sym c.write.ensures.changed) (IsCanonical-with_changes known kept c.args.locale.now changes c.in_ok-changes.ensures.found);
+      answer = search rules;
+      refusal = tt;
+      unchanged = tt;
+      ends = λ ends. inl refl;
+      repeats = λ z first. absurd (no_repeat known kept c.args.locale.now changes z c.in_ok-changes.ensures.found first);
+      free = λ needs out. out;
+    }

@@ -1,5 +1,5 @@
 use Rattle.std.proofs.Common.{refl}
-use Rattle.icu_locale.proofs.Changes.{IsModified-removed}
+use Rattle.icu_locale.proofs.Modified.{IsModified-removed}
 use Rattle.icu_locale.proofs.expander.LocaleExpander.maximize.Goals as goal
 
 -- something was removed

@@ -1,4 +1,4 @@
-use Rattle.icu_locale.proofs.Kept.{applied_exactly}
+use Rattle.icu_locale.proofs.CanonicalAgain.{applied_exactly}
 use Rattle.icu_locale.proofs.laws.canonicalization.applied_where_changed.Goals as goal
 
 pub returns : goal.returns

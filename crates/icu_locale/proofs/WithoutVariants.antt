@@ -13,12 +13,12 @@ use Rattle.icu_locale.specs.LikelySubtags.{LikelySubtags}
 use Rattle.icu_locale.specs.Replacement.{matches, replaced, of_language}
 use Rattle.icu_locale.specs.Kinds.{by_rule, sign_language, by_sign_region, language_alias, by_language_alias, by_script, region_alias, by_region, complex_region, by_complex_region, variant_alias, by_variant, next}
 use Rattle.icu_locale.specs.Run.{at}
-use Rattle.icu_locale.specs.Canonical.{AddsNoVariants}
+use Rattle.icu_locale.specs.Cost.{AddsNoVariants}
 use Rattle.icu_locale.specs.inner.CanonicalParts.{IsFree}
 use Rattle.icu_locale.specs.declared.canonicalizer.rules.Rule.{Rule}
 use Rattle.icu_locale.specs.declared.canonicalizer.rules.Rules.{Rules}
 use Rattle.icu_locale.proofs.Lists.{Contains-find}
-use Rattle.icu_locale.proofs.Images.{image-empty}
+use Rattle.icu_locale.proofs.VariantImages.{image-empty}
 use Rattle.icu_locale.proofs.Options.{some_map, some_or}
 
 pub IfSome-from : {X : Type 0} (o : Option X) (P : X → Type 0) → ((z : X) → o ≡ Some z → P z) → IfSome o P

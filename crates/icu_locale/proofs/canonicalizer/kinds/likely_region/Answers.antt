@@ -1,6 +1,6 @@
 use Rattle.std.proofs.Common.{rules}
 use Rattle.icu_locale.specs.Kinds.{likely_region}
-use Rattle.icu_locale.proofs.rewriting.kinds.likely_region.Goals as goal
+use Rattle.icu_locale.proofs.canonicalizer.kinds.likely_region.Goals as goal
 
 pub returns : goal.returns
 unfolding likely_region

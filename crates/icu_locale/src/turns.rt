@@ -43,8 +43,8 @@ impl Turns {
         }
     }
 
-    /// One turn more, for the modules below `rewriting` alone.
-    pub(super) fn take(&mut self)
+    /// One turn more: `search` alone takes it.
+    pub(crate) fn take(&mut self)
         ensures { self.new ≡ self.old + 1 }
     {
         let below = mem::replace(&mut self.tally, Snapshot::of(&Tally::None));

@@ -1,4 +1,4 @@
-// The seven kinds of rules. Each finds what is to be changed and takes no memory.
+// The seven kinds of rules. Each finds what is to be rewritten and takes no memory.
 ghost use Rattle.std.specs.Prelude.{◌≡◌, option_copied, is_some};
 ghost use Rattle.std.specs.Option.{option_map};
 ghost use Rattle.std.specs.List.{find, list_any};
@@ -6,15 +6,15 @@ ghost use Rattle.icu_locale_core.specs.TextSet.{rising};
 ghost use Rattle.icu_locale.specs.LikelyTable.{likely};
 ghost use Rattle.icu_locale.specs.Replacement.{matches};
 ghost use Rattle.icu_locale.specs.Kinds.{rules_for, by_rule, sign_language, by_sign_region, language_alias, by_language_alias, by_script, region_alias, by_region, chosen, likely_region, complex_region, by_complex_region, variant_alias, by_variant, next};
-ghost use Rattle.icu_locale.specs.inner.Rewrite.{applied};
+ghost use Rattle.icu_locale.specs.inner.Rewrite.{rewritten};
 
 use super::replacing::{is_known, rule_matches};
 use crate::{LocaleExpander, Rule, Rules};
 use icu_locale_core::{Language, LanguageIdentifier, Region, Script, Variant, Variants};
 
-// What a turn changes.
+// What a turn rewrites.
 #[derive(Clone, Copy)]
-pub enum Change<'r> {
+pub enum Rewrite<'r> {
     // The rule is applied.
     Rule(&'r Rule),
     // These stand in the place of the subtags but the variants.
@@ -23,39 +23,39 @@ pub enum Change<'r> {
     Variants,
 }
 
-// The change of the first kind that matches.
-pub fn find_change<'r>(
+// The rewrite of the first kind that matches.
+pub fn find_rewrite<'r>(
     rules: &'r Rules<'_>,
     expander: &LocaleExpander<'_>,
     x: &LanguageIdentifier,
-) -> Option<Change<'r>>
-    ensures { option_map (applied rules.now x.now) result ≡ next (likely expander.now) rules.now x.now }
+) -> Option<Rewrite<'r>>
+    ensures { option_map (rewritten rules.now x.now) result ≡ next (likely expander.now) rules.now x.now }
 {
-    if let Some(change) = by_rule(rules, x) {
-        return Some(change);
+    if let Some(rewrite) = by_rule(rules, x) {
+        return Some(rewrite);
     }
-    if let Some(change) = by_sign_region(rules, x) {
-        return Some(change);
+    if let Some(rewrite) = by_sign_region(rules, x) {
+        return Some(rewrite);
     }
-    if let Some(change) = by_language_alias(rules, x) {
-        return Some(change);
+    if let Some(rewrite) = by_language_alias(rules, x) {
+        return Some(rewrite);
     }
-    if let Some(change) = by_script(rules, x) {
-        return Some(change);
+    if let Some(rewrite) = by_script(rules, x) {
+        return Some(rewrite);
     }
-    if let Some(change) = by_region(rules, x) {
-        return Some(change);
+    if let Some(rewrite) = by_region(rules, x) {
+        return Some(rewrite);
     }
-    if let Some(change) = by_complex_region(rules, expander, x) {
-        return Some(change);
+    if let Some(rewrite) = by_complex_region(rules, expander, x) {
+        return Some(rewrite);
     }
     by_variant(rules, x)
 }
 
-fn by_rule<'r>(rules: &'r Rules<'_>, x: &LanguageIdentifier) -> Option<Change<'r>>
-    ensures { option_map (applied rules.now x.now) result ≡ by_rule rules.now x.now }
+fn by_rule<'r>(rules: &'r Rules<'_>, x: &LanguageIdentifier) -> Option<Rewrite<'r>>
+    ensures { option_map (rewritten rules.now x.now) result ≡ by_rule rules.now x.now }
 {
-    Some(Change::Rule(first_match(rules_for(rules, x), x)?))
+    Some(Rewrite::Rule(first_match(rules_for(rules, x), x)?))
 }
 
 fn rules_for<'r>(rules: &'r Rules<'_>, x: &LanguageIdentifier) -> &'r [Rule]
@@ -74,11 +74,11 @@ fn first_match<'r>(rules: &'r [Rule], x: &LanguageIdentifier) -> Option<&'r Rule
     rules.iter().find(|rule| rule_matches(x, &rule.source))
 }
 
-fn by_sign_region<'r>(rules: &'r Rules<'_>, x: &LanguageIdentifier) -> Option<Change<'r>>
-    ensures { option_map (applied rules.now x.now) result ≡ by_sign_region rules.now x.now }
+fn by_sign_region<'r>(rules: &'r Rules<'_>, x: &LanguageIdentifier) -> Option<Rewrite<'r>>
+    ensures { option_map (rewritten rules.now x.now) result ≡ by_sign_region rules.now x.now }
 {
     let language = sign_language(rules, x)?;
-    Some(Change::Subtags(language, x.script, None))
+    Some(Rewrite::Subtags(language, x.script, None))
 }
 
 fn sign_language(rules: &Rules<'_>, x: &LanguageIdentifier) -> Option<Language>
@@ -91,12 +91,12 @@ fn sign_language(rules: &Rules<'_>, x: &LanguageIdentifier) -> Option<Language>
     }
 }
 
-// The change by a language alias.
-pub fn by_language_alias<'r>(rules: &'r Rules<'_>, x: &LanguageIdentifier) -> Option<Change<'r>>
-    ensures { option_map (applied rules.now x.now) result ≡ by_language_alias rules.now x.now }
+// The rewrite by a language alias.
+pub fn by_language_alias<'r>(rules: &'r Rules<'_>, x: &LanguageIdentifier) -> Option<Rewrite<'r>>
+    ensures { option_map (rewritten rules.now x.now) result ≡ by_language_alias rules.now x.now }
 {
     let alias = language_alias(rules, &x.language)?;
-    Some(Change::Subtags(
+    Some(Rewrite::Subtags(
         alias.language,
         x.script.or(alias.script),
         x.region.or(alias.region),
@@ -115,18 +115,18 @@ fn language_alias<'r>(rules: &'r Rules<'_>, language: &Language) -> Option<&'r L
     }
 }
 
-fn by_script<'r>(rules: &'r Rules<'_>, x: &LanguageIdentifier) -> Option<Change<'r>>
-    ensures { option_map (applied rules.now x.now) result ≡ by_script rules.now x.now }
+fn by_script<'r>(rules: &'r Rules<'_>, x: &LanguageIdentifier) -> Option<Rewrite<'r>>
+    ensures { option_map (rewritten rules.now x.now) result ≡ by_script rules.now x.now }
 {
     let script = rules.aliases.get_script(x.script?)?;
-    Some(Change::Subtags(x.language, Some(script), x.region))
+    Some(Rewrite::Subtags(x.language, Some(script), x.region))
 }
 
-fn by_region<'r>(rules: &'r Rules<'_>, x: &LanguageIdentifier) -> Option<Change<'r>>
-    ensures { option_map (applied rules.now x.now) result ≡ by_region rules.now x.now }
+fn by_region<'r>(rules: &'r Rules<'_>, x: &LanguageIdentifier) -> Option<Rewrite<'r>>
+    ensures { option_map (rewritten rules.now x.now) result ≡ by_region rules.now x.now }
 {
     let region = region_alias(rules, x.region?)?;
-    Some(Change::Subtags(x.language, x.script, Some(region)))
+    Some(Rewrite::Subtags(x.language, x.script, Some(region)))
 }
 
 fn region_alias(rules: &Rules<'_>, region: Region) -> Option<Region>
@@ -143,11 +143,11 @@ fn by_complex_region<'r>(
     rules: &'r Rules<'_>,
     expander: &LocaleExpander<'_>,
     x: &LanguageIdentifier,
-) -> Option<Change<'r>>
-    ensures { option_map (applied rules.now x.now) result ≡ by_complex_region (likely expander.now) rules.now x.now }
+) -> Option<Rewrite<'r>>
+    ensures { option_map (rewritten rules.now x.now) result ≡ by_complex_region (likely expander.now) rules.now x.now }
 {
     let region = complex_region(rules, expander, x)?;
-    Some(Change::Subtags(x.language, x.script, Some(region)))
+    Some(Rewrite::Subtags(x.language, x.script, Some(region)))
 }
 
 fn complex_region(
@@ -195,11 +195,11 @@ fn chosen(likely: Option<Region>, regions: &[Region]) -> Option<Region>
     }
 }
 
-fn by_variant<'r>(rules: &'r Rules<'_>, x: &LanguageIdentifier) -> Option<Change<'r>>
-    ensures { option_map (applied rules.now x.now) result ≡ by_variant rules.now x.now }
+fn by_variant<'r>(rules: &'r Rules<'_>, x: &LanguageIdentifier) -> Option<Rewrite<'r>>
+    ensures { option_map (rewritten rules.now x.now) result ≡ by_variant rules.now x.now }
 {
     if has_variant_alias(rules, &x.variants) {
-        Some(Change::Variants)
+        Some(Rewrite::Variants)
     } else {
         None
     }

@@ -1,17 +1,15 @@
 // Runs of identifiers.
 ghost use Rattle.std.specs.Prelude.{◌≡◌, ◌+◌, None, Some, IfOk, IfErr, IfSome, IsOk, unwrap_or};
 ghost use Rattle.icu_locale_core.specs.TextSet.{empty, image};
-ghost use Rattle.icu_locale.specs.LikelyTable.{likely};
 ghost use Rattle.icu_locale.specs.Kinds.{variant_alias, next_of};
-ghost use Rattle.icu_locale.specs.inner.Rewrite.{applied};
-ghost use Rattle.icu_locale.specs.Canonical.{IsOutOfMemory};
-ghost use Rattle.icu_locale.specs.inner.CanonicalParts.{IsLaterEnd, IsRunRefusal, IsFree, IsRunCounted};
+ghost use Rattle.icu_locale.specs.inner.Rewrite.{rewritten};
+ghost use Rattle.icu_locale.specs.Refusals.{IsOutOfMemory};
+ghost use Rattle.icu_locale.specs.inner.CanonicalParts.{IsLaterEnd, IsRunRefusal, IsFree, CountsSearchesOf};
 
-use super::kinds::{Change, by_language_alias, find_change, variant_alias};
+use super::kinds::{Rewrite, by_language_alias, find_rewrite, variant_alias};
 use super::replacing::replacement;
-use super::turns::Turns;
-use super::{Outcome, Rewriting, end_of_run};
-use crate::{AsExpander, CanonicalizeError, LocaleCanonicalizer, Rules};
+use crate::rewriting::{Outcome, Rewriting, end_of_run};
+use crate::{AsExpander, CanonicalizeError, LocaleCanonicalizer, Rules, Turns};
 use icu_locale_core::{LanguageIdentifier, Variants};
 
 /// What follows an identifier in one turn: by all rules, or by language aliases alone where it is a transform language.
@@ -26,37 +24,37 @@ pub fn search<'d, E: AsExpander<'d>>(
     transform: bool,
     turns: &mut Turns,
 ) -> Result<Option<LanguageIdentifier>, CanonicalizeError>
-    ensures found { IfOk result (λ found. found ≡ next_of (likely (E.expander canonicalizer.now.expander)) canonicalizer.now.rules transform id.now) }
+    ensures found { IfOk result (λ found. found ≡ next_of (E.table canonicalizer.now.expander) canonicalizer.now.rules transform id.now) }
     ensures refused { IfErr result (λ e. e ≡ CanonicalizeError.Memory) }
     ensures counted { turns.new ≡ turns.old + 1 }
-    ensures free { IfSome (next_of (likely (E.expander canonicalizer.now.expander)) canonicalizer.now.rules transform id.now) (λ z. z.variants ≡ empty) → IsOk result }
+    ensures free { IfSome (next_of (E.table canonicalizer.now.expander) canonicalizer.now.rules transform id.now) (λ z. z.variants ≡ empty) → IsOk result }
 {
     turns.take();
     let rules = &canonicalizer.rules;
-    let change = if transform {
+    let rewrite = if transform {
         by_language_alias(rules, id)
     } else {
-        find_change(rules, &canonicalizer.expander.as_expander(), id)
+        find_rewrite(rules, &canonicalizer.expander.as_expander(), id)
     };
-    match change {
-        Some(change) => Ok(Some(changed(rules, id, &change)?)),
+    match rewrite {
+        Some(rewrite) => Ok(Some(rewritten(rules, id, &rewrite)?)),
         None => Ok(None),
     }
 }
 
-// What a change makes of an identifier.
-fn changed(
+// What a rewrite makes of an identifier.
+fn rewritten(
     rules: &Rules<'_>,
     id: &LanguageIdentifier,
-    change: &Change<'_>,
+    rewrite: &Rewrite<'_>,
 ) -> Result<LanguageIdentifier, CanonicalizeError>
-    ensures found { IfOk result (λ z. z ≡ applied rules.now id.now change.now) }
+    ensures found { IfOk result (λ z. z ≡ rewritten rules.now id.now rewrite.now) }
     ensures refused { IfErr result (λ e. e ≡ CanonicalizeError.Memory) }
-    ensures free { (applied rules.now id.now change.now).variants ≡ empty → IsOk result }
+    ensures free { (rewritten rules.now id.now rewrite.now).variants ≡ empty → IsOk result }
 {
-    match change {
-        Change::Rule(rule) => replacement(id, &rule.source, &rule.replacement),
-        Change::Subtags(language, script, region) => match id.variants.try_clone() {
+    match rewrite {
+        Rewrite::Rule(rule) => replacement(id, &rule.source, &rule.replacement),
+        Rewrite::Subtags(language, script, region) => match id.variants.try_clone() {
             Ok(variants) => Ok(LanguageIdentifier {
                 language: *language,
                 script: *script,
@@ -65,7 +63,7 @@ fn changed(
             }),
             Err(_) => Err(CanonicalizeError::Memory),
         },
-        Change::Variants => Ok(LanguageIdentifier {
+        Rewrite::Variants => Ok(LanguageIdentifier {
             language: id.language,
             script: id.script,
             region: id.region,
@@ -115,7 +113,6 @@ impl<'c, 'd, E: AsExpander<'d>> Rewriting for Run<'c, 'd, E> {
     ghost use Rattle.std.specs.Prelude.{◌≡◌, IfSome};
     ghost use Rattle.icu_locale_core.specs.TextSet.{empty};
     ghost use Rattle.icu_locale_core.specs.laws.Identifiers.{identifiers_decide};
-    ghost use Rattle.icu_locale.specs.LikelyTable.{likely};
     ghost use Rattle.icu_locale.specs.Kinds.{next_of};
     ghost use Rattle.icu_locale.specs.inner.Universe.{universe};
     ghost use Rattle.icu_locale.specs.declared.canonicalizer.CanonicalizeError.TheVariants.{Memory};
@@ -124,13 +121,13 @@ impl<'c, 'd, E: AsExpander<'d>> Rewriting for Run<'c, 'd, E> {
 
     type Error = CanonicalizeError;
 
-    ghost next = { λ r. next_of (likely (E.expander r.canonicalizer.now.expander)) r.canonicalizer.now.rules r.transform };
+    ghost next = { λ r. next_of (E.table r.canonicalizer.now.expander) r.canonicalizer.now.rules r.transform };
 
     ghost universe = { λ r x. universe r.canonicalizer.now.rules x };
 
     ghost refuses = { λ e. e ≡ Memory };
 
-    ghost needs_none = { λ r y. IfSome (next_of (likely (E.expander r.canonicalizer.now.expander)) r.canonicalizer.now.rules r.transform y) (λ z. z.variants ≡ empty) };
+    ghost needs_none = { λ r y. IfSome (next_of (E.table r.canonicalizer.now.expander) r.canonicalizer.now.rules r.transform y) (λ z. z.variants ≡ empty) };
 
     fn search(
         &self,
@@ -150,10 +147,10 @@ pub fn later_end<'d, E: AsExpander<'d>>(
     transform: bool,
     turns: &mut Turns,
 ) -> Result<Option<LanguageIdentifier>, CanonicalizeError>
-    ensures end { IfOk result (IsLaterEnd (next_of (likely (E.expander canonicalizer.now.expander)) canonicalizer.now.rules transform) id.now) }
-    ensures refused { IfErr result (IsRunRefusal (next_of (likely (E.expander canonicalizer.now.expander)) canonicalizer.now.rules transform) id.now) }
-    ensures free { IsFree (next_of (likely (E.expander canonicalizer.now.expander)) canonicalizer.now.rules transform) id.now → ¬ (IsOutOfMemory result) }
-    ensures count { IsRunCounted (next_of (likely (E.expander canonicalizer.now.expander)) canonicalizer.now.rules transform) (Some id.now) result turns.old turns.new }
+    ensures end { IfOk result (IsLaterEnd (next_of (E.table canonicalizer.now.expander) canonicalizer.now.rules transform) id.now) }
+    ensures refused { IfErr result (IsRunRefusal (next_of (E.table canonicalizer.now.expander) canonicalizer.now.rules transform) id.now) }
+    ensures free { IsFree (next_of (E.table canonicalizer.now.expander) canonicalizer.now.rules transform) id.now → ¬ (IsOutOfMemory result) }
+    ensures count { CountsSearchesOf (next_of (E.table canonicalizer.now.expander) canonicalizer.now.rules transform) (Some id.now) result turns.old turns.new }
 {
     let run = Run {
         canonicalizer,

@@ -4,7 +4,7 @@ use Rattle.icu_locale_core.specs.TextSet.{empty}
 use Rattle.icu_locale.specs.Kinds.{language_alias}
 use Rattle.icu_locale.specs.Replacement.{replaced, of_language}
 use Rattle.icu_locale.proofs.Replacing.{replaced-alias, guarded}
-use Rattle.icu_locale.proofs.rewriting.kinds.by_language_alias.Goals as goal
+use Rattle.icu_locale.proofs.canonicalizer.kinds.by_language_alias.Goals as goal
 
 pub returns : goal.returns
 returns c =

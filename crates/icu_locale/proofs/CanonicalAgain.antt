@@ -12,10 +12,12 @@ use Rattle.icu_locale_core.specs.Maps.{value_at}
 use Rattle.icu_locale.specs.LikelySubtags.{LikelySubtags}
 use Rattle.icu_locale.specs.Kinds.{next, by_language_alias}
 use Rattle.icu_locale.specs.Run.{at, EndsAt}
-use Rattle.icu_locale.specs.Canonical.{rg, sd, subdivision_alias, put, canonical_keywords, IsCanonicalTransform, IsCanonical, is_applied, NeedsNoMemory, HasFinalSubdivisions}
+use Rattle.icu_locale.specs.Canonical.{rg, sd, subdivision_alias, put, canonical_keywords, IsCanonicalTransform, IsCanonical, is_applied, HasFinalSubdivisions}
+use Rattle.icu_locale.specs.Cost.{NeedsNoMemory}
+use Rattle.icu_locale.specs.Refusals.{RulesEnd}
 use Rattle.icu_locale.specs.declared.canonicalizer.rules.Rules.{Rules}
 use Rattle.icu_locale.proofs.Universes.{has_row}
-use Rattle.icu_locale.proofs.Bare.{none_later}
+use Rattle.icu_locale.proofs.WithoutVariants.{none_later}
 use Rattle.icu_locale.proofs.Keywords.{put-own, put-other}
 
 -- ---- keywords
@@ -129,6 +131,18 @@ module _ (likely : LikelySubtags) (rules : Rules) (old new : Locale) (ends : Has
       by : (o : Option LanguageIdentifier) → IfSome o (λ l. by_language_alias rules l ≡ None) → IfSome o (λ l. (by_language_alias rules l ≡ None) ⊎ (l.variants ≡ empty))
       by None h = tt
       by (Some l) h = inl h
+
+-- the rules end on a locale that has a canonical form
+pub rules_end : (likely : LikelySubtags) (rules : Rules) (old new : Locale) → IsCanonical likely rules old new → RulesEnd likely rules old
+rules_end likely rules old new canonical = record {
+  id = (new.id, canonical.id);
+  transform = by old.extensions.transform.lang new.extensions.transform.lang canonical.transform;
+}
+  where
+    by : (from to : Option LanguageIdentifier) → IsCanonicalTransform rules from to → IfSome from (λ l. (y : LanguageIdentifier) × EndsAt (by_language_alias rules) l y)
+    by None to h = tt
+    by (Some l) None h = absurd h
+    by (Some l) (Some y) h = (y, h)
 
 -- nothing is applied to a locale that is its canonical form, and only to that
 unapplied_same : (likely : LikelySubtags) (rules : Rules) (old new : Locale) → is_applied likely rules old ≡ false → IsCanonical likely rules old new → old ≡ new

@@ -4,7 +4,7 @@ use Rattle.icu_locale_core.specs.TextSet.{empty}
 use Rattle.icu_locale.specs.Kinds.{sign_language}
 use Rattle.icu_locale.specs.Replacement.{replaced, of_language}
 use Rattle.icu_locale.proofs.Replacing.{replaced-sign}
-use Rattle.icu_locale.proofs.rewriting.kinds.by_sign_region.Goals as goal
+use Rattle.icu_locale.proofs.canonicalizer.kinds.by_sign_region.Goals as goal
 
 pub returns : goal.returns
 returns c =

@@ -1,0 +1,6 @@
+use Rattle.icu_locale.proofs.Universes.{IsUniverse-universe}
+use Rattle.icu_locale.proofs.canonicalizer.identifiers.later_end.Goals as goal
+
+pub end_of_run-requires : goal.end_of_run-requires
+end_of_run-requires g c =
+    IsUniverse-universe (g.E.AsExpander.table c.args.canonicalizer.now.expander) c.args.canonicalizer.now.rules c.args.transform c.args.id.now
