@@ -4,7 +4,8 @@ use Rattle.std.specs.String.{string_bytes}
 use Rattle.icu_locale_core.specs.Identifier.{IsIdentifier, Spells}
 use Rattle.icu_locale_core.specs.declared.langid.LanguageIdentifier.{LanguageIdentifier}
 use Rattle.icu_locale_core.specs.declared.locale.Locale.{Locale}
-use Rattle.icu_locale.specs.Canonical.{IsCanonical, ComesAgainFirst, is_applied, answer_of}
+use Rattle.icu_locale.specs.Canonical.{IsCanonical, is_applied, answer_of}
+use Rattle.icu_locale.specs.Refusals.{ComesAgainFirst}
 use Rattle.icu_locale.specs.LikelySubtags.{LikelySubtags}
 use Rattle.icu_locale.specs.declared.canonicalizer.rules.Rules.{Rules}
 use Rattle.icu_locale.specs.declared.expander.TransformResult.{TransformResult}

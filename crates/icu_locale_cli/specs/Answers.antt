@@ -10,7 +10,8 @@ use Rattle.icu_locale.specs.LikelySubtags.{LikelySubtags, maximal, IsModified, l
 use Rattle.icu_locale.specs.Minimal.{IsMinimalForm}
 use Rattle.icu_locale.specs.declared.expander.Favor.TheVariants.{RegionFirst, ScriptFirst}
 use Rattle.icu_locale.specs.LikelyTable.{likely}
-use Rattle.icu_locale.specs.Canonical.{IsCanonical, ComesAgainFirst, is_applied, answer_of}
+use Rattle.icu_locale.specs.Canonical.{IsCanonical, is_applied, answer_of}
+use Rattle.icu_locale.specs.Refusals.{ComesAgainFirst}
 use Rattle.icu_locale.specs.Direction.{direction_of}
 use Rattle.icu_locale.specs.declared.canonicalizer.rules.Rules.{Rules}
 use Rattle.icu_locale.specs.declared.expander.TransformResult.{TransformResult}
