@@ -1,6 +1,9 @@
 //! A provider that holds its data in memory.
 #![tactic(auto)]
 
+mod error;
+mod json;
 mod tables;
 
+pub use error::TableError;
 pub use tables::Tables;

@@ -1,0 +1,5 @@
+mod Files
+mod Items
+mod Members
+mod Refusals
+mod Sets
