@@ -12,8 +12,8 @@ use Rattle.std.specs.String.{string_cmp}
 use Rattle.serde_json.specs.View.{view, members_view}
 use Rattle.serde_json.specs.declared.value.Value.{Value}
 use Rattle.icu_locale_core.specs.TextSet.{text_cmp}
-use Rattle.serde_json.specs.Data.{Data}
-use Rattle.icu_tables.specs.Fields.{said_or, is_listed, are_listed}
+use Rattle.icu_tables.specs.Fields.{is_listed, are_listed}
+use Rattle.icu_tables.specs.Keys.{Rises}
 use Rattle.icu_tables.specs.Rows.{seen_rows}
 use Rattle.icu_tables.specs.Shape.{Shape, applied, with_row, each_row}
 use Rattle.icu_tables.proofs.Items.{prefixed, prefixed-more}
@@ -56,7 +56,7 @@ module _ {K V W : Type 0} (key : List ℕ → Option K) (seen : V → W) (shape 
   pub rows-end : (all : List (String Global × Value)) (rows : List (K × V)) → IsReadBefore all [] rows → each_row key shape (members_view all) ≡ Some (seen_rows seen rows)
   rows-end all rows so_far = so_far ∙ ap (λ done. Some done) (append-nil (seen_rows seen rows))
 
-module _ {K W : Type 0} (key : List ℕ → Option K) (shape : Shape W) (compare : K → K → Ordering) (rises : (s t : List ℕ) (x y : K) → text_cmp s t ≡ Less → key s ≡ Some x → key t ≡ Some y → compare x y ≡ Less) where
+module _ {K W : Type 0} (key : List ℕ → Option K) (shape : Shape W) (compare : K → K → Ordering) (rises : Rises key compare) where
   -- what the rows of members are made of
   data Parts (e : String Global × Value) (es : List (String Global × Value)) (rows : List (K × W)) : Type 0 where
     skipped : each_row key shape (members_view es) ≡ Some rows → Parts e es rows
@@ -101,7 +101,3 @@ are_listed-keys names (e ∷ es) = ap (λ later. is_listed names (string_bytes e
 pub seen_rows-same : {K V : Type 0} (rows : List (K × V)) → seen_rows (λ v. v) rows ≡ rows
 seen_rows-same [] = refl
 seen_rows-same (row ∷ rows) = ap (λ later. row ∷ later) (seen_rows-same rows)
-
--- so what was read into no rows are the rows of the member, if it is there
-pub rows_read : {K V : Type 0} (shape : Shape (List (K × V))) (found : Option Data) (old new : List (K × V)) → old ≡ [] → said_or (Some (seen_rows (λ v. v) old)) shape found ≡ Some (seen_rows (λ v. v) new) → said_or (Some []) shape found ≡ Some new
-rows_read shape found old new none is = rw (← none, ← seen_rows-same old) (is ∙ ap (λ all. Some all) (seen_rows-same new))

@@ -1,60 +1,116 @@
--- A JSON file of tables, and what tables hold.
-use Rattle.std.specs.Prelude.{ℕ, List, Option, Some, None, option_map, Result, Ok, Err, codes, if◌then◌else◌}
-use Rattle.std.specs.Str.{is_utf8}
+-- A JSON file of tables: which members it may have, and what stands in each.
+use Rattle.std.specs.Prelude.{codes}
 use Rattle.icu_provider.specs.declared.likely.extended.LikelySubtagsExtended.{LikelySubtagsExtended}
 use Rattle.icu_provider.specs.declared.likely.language.LikelySubtagsForLanguage.{LikelySubtagsForLanguage}
 use Rattle.icu_provider.specs.declared.likely.script_region.LikelySubtagsForScriptRegion.{LikelySubtagsForScriptRegion}
-use Rattle.serde_json.specs.Data.{Data}
-use Rattle.serde_json.specs.Read.{read}
-use Rattle.icu_tables.specs.Fields.{fields, ◌and◌, optional, object_of}
-use Rattle.icu_tables.specs.Rows.{AliasRows, DirectionRows, likely_language, likely_script_region, likely_extended, aliases, alias_rows, direction, direction_rows}
-use Rattle.icu_tables.specs.Shape.{Shape as ShapeOf}
-use Rattle.icu_tables.specs.declared.error.TableError.{TableError}
-use Rattle.icu_tables.specs.declared.error.TableError.TheVariants.{Json, Shape}
-use Rattle.icu_tables.specs.declared.tables.Tables.{Tables}
+use Rattle.icu_tables.specs.Fields.{fields, ◌and◌, required, rows, optional, object_of}
+use Rattle.icu_tables.specs.Rows.{AliasRows, DirectionRows, FileRows}
+use Rattle.icu_tables.specs.Shape.{Shape, text, pair_of, triple_of, array_of, set_of, map_of}
+use Rattle.icu_tables.specs.Subtags.{language, script, region, variant}
+use Rattle.icu_tables.specs.Subtags.{language_key, script_key, region_key, variant_key, subtag_key}
+use Rattle.icu_tables.specs.Subtags.{key_pair}
 
--- the rows of a file; a table that the file leaves out is none
-pub record FileRows : Type 0 where
-  pub likely_language : Option LikelySubtagsForLanguage
-  pub likely_script_region : Option LikelySubtagsForScriptRegion
-  pub likely_extended : Option LikelySubtagsExtended
-  pub aliases : Option AliasRows
-  pub direction : Option DirectionRows
+-- likely subtags by language
+abbrev pub likely_language : Shape LikelySubtagsForLanguage
+likely_language =
+    object_of (
+    fields (λ und language language_script language_region. record {
+      und = und;
+      language = language;
+      language_script = language_script;
+      language_region = language_region;
+    })
+    and required (codes "und") (triple_of language script region)
+    and rows (codes "language") (map_of language_key (pair_of script region))
+    and rows (codes "language_script") (map_of (key_pair language_key script_key) region)
+    and rows (codes "language_region") (map_of (key_pair language_key region_key) script))
 
--- a file
-abbrev pub file : ShapeOf FileRows
+-- likely subtags by script and region
+abbrev pub likely_script_region : Shape LikelySubtagsForScriptRegion
+likely_script_region =
+    object_of (
+    fields (λ script_region script region. record {
+      script_region = script_region;
+      script = script;
+      region = region;
+    })
+    and rows (codes "script_region") (map_of (key_pair script_key region_key) language)
+    and rows (codes "script") (map_of script_key (pair_of language region))
+    and rows (codes "region") (map_of region_key (pair_of language script)))
+
+-- further likely subtags
+abbrev pub likely_extended : Shape LikelySubtagsExtended
+likely_extended =
+    object_of (
+    fields (λ language language_script language_region script_region script region. record {
+      language = language;
+      language_script = language_script;
+      language_region = language_region;
+      script_region = script_region;
+      script = script;
+      region = region;
+    })
+    and rows (codes "language") (map_of language_key (pair_of script region))
+    and rows (codes "language_script") (map_of (key_pair language_key script_key) region)
+    and rows (codes "language_region") (map_of (key_pair language_key region_key) script)
+    and rows (codes "script_region") (map_of (key_pair script_key region_key) language)
+    and rows (codes "script") (map_of script_key (pair_of language region))
+    and rows (codes "region") (map_of region_key (pair_of language script)))
+
+-- rules of canonicalization
+abbrev pub aliases : Shape AliasRows
+aliases =
+    object_of (
+    fields (λ language_variants language sgn_region language_len2 language_len3 script
+    region_alpha region_num complex_region variant subdivision. record {
+      language_variants = language_variants;
+      language = language;
+      sgn_region = sgn_region;
+      language_len2 = language_len2;
+      language_len3 = language_len3;
+      script = script;
+      region_alpha = region_alpha;
+      region_num = region_num;
+      complex_region = complex_region;
+      variant = variant;
+      subdivision = subdivision;
+    })
+    and rows (codes "language_variants") (array_of (triple_of language text text))
+    and rows (codes "language") (array_of (pair_of text text))
+    and rows (codes "sgn_region") (map_of region_key language)
+    and rows (codes "language_len2") (map_of language_key text)
+    and rows (codes "language_len3") (map_of language_key text)
+    and rows (codes "script") (map_of script_key script)
+    and rows (codes "region_alpha") (map_of region_key region)
+    and rows (codes "region_num") (map_of region_key region)
+    and rows (codes "complex_region") (map_of region_key (array_of region))
+    and rows (codes "variant") (map_of variant_key variant)
+    and rows (codes "subdivision") (map_of subtag_key text))
+
+-- which way scripts run
+abbrev pub direction : Shape DirectionRows
+direction =
+    object_of (
+    fields (λ rtl ltr. record {
+      rtl = rtl;
+      ltr = ltr;
+    })
+    and rows (codes "rtl") (set_of script)
+    and rows (codes "ltr") (set_of script))
+
+-- a file: a member for each table, any of which may be left out
+abbrev pub file : Shape FileRows
 file =
-    object_of (fields (λ likely_language likely_script_region likely_extended aliases direction. record { likely_language = likely_language; likely_script_region = likely_script_region; likely_extended = likely_extended; aliases = aliases; direction = direction })
+    object_of (
+    fields (λ likely_language likely_script_region likely_extended aliases direction. record {
+      likely_language = likely_language;
+      likely_script_region = likely_script_region;
+      likely_extended = likely_extended;
+      aliases = aliases;
+      direction = direction;
+    })
     and optional (codes "likely_language") likely_language
     and optional (codes "likely_script_region") likely_script_region
     and optional (codes "likely_extended") likely_extended
     and optional (codes "aliases") aliases
     and optional (codes "direction") direction)
-
--- the JSON value that a text is, if it is one
-abbrev pub json_of : List ℕ → Option Data
-json_of text = if is_utf8 text then read text else None
-
--- the rows of a value of the shape, and the refusal of any other
-abbrev pub shaped : Option FileRows → Result FileRows TableError
-shaped None = Err Shape
-shaped (Some rows) = Ok rows
-
--- the rows of a JSON value, and the refusal where there is none
-abbrev pub rows_of_json : Option Data → Result FileRows TableError
-rows_of_json None = Err Json
-rows_of_json (Some value) = shaped (file value)
-
--- the rows that a text says, or why it says none
-abbrev pub rows_of_text : List ℕ → Result FileRows TableError
-rows_of_text text = rows_of_json (json_of text)
-
--- the rows that tables hold
-abbrev pub rows_of : Tables → FileRows
-rows_of tables = record {
-  likely_language = tables.likely_language;
-  likely_script_region = tables.likely_script_region;
-  likely_extended = tables.likely_extended;
-  aliases = option_map alias_rows tables.aliases;
-  direction = option_map direction_rows tables.script_direction;
-}

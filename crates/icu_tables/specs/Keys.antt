@@ -1,5 +1,5 @@
 -- Why the keys of a map rise: its names rise, and keys are in the order of their names.
-use Rattle.std.specs.Prelude.{◌≡◌, ℕ, ◌<◌, length, get_or, Bool, true, List, [], ◌∷◌, ◌++◌, Option, Some, None, option_map, nat_eq, nat_lt, refl}
+use Rattle.std.specs.Prelude.{◌≡◌, ℕ, ◌<◌, length, get_or, Bool, true, List, [], ◌∷◌, ◌++◌, Option, Some, None, nat_eq, nat_lt, refl}
 use Rattle.std.specs.declared.cmp.Ordering.{Ordering}
 use Rattle.std.specs.declared.cmp.Ordering.TheVariants.{Less, Equal, Greater}
 use Rattle.std.specs.Cmp.Lexicographic.{pointwise}
@@ -16,8 +16,13 @@ use Rattle.std.proofs.lemmas.Option.{cond_some, option_and_then_some, none-some,
 use Rattle.std.proofs.lemmas.Slice.Eq.{bytes_eq-Decides}
 use Rattle.icu_locale_core.specs.Subtag.{is_language, is_script, is_region, is_variant, is_subtag, lowercase, titlecase, uppercase, is_alphabetic, is_numeric, is_alphanumeric}
 use Rattle.icu_locale_core.specs.TextSet.{text_cmp}
-use Rattle.icu_tables.specs.Shape.{applied}
-use Rattle.icu_tables.specs.Subtags.{in_class, key_of, if_written, is_dash, cut_at_dash, key_pair, read_language, read_script, read_region, read_variant, read_subtag}
+use Rattle.icu_tables.specs.Shape.{both}
+use Rattle.icu_tables.specs.Subtags.{in_class, key_of, if_written, is_dash, has_dash, cut_at_dash, key_pair, read_language, read_script, read_region, read_variant, read_subtag}
+
+-- where names rise, the keys that they are do
+abbrev pub Rises : {K : Type 0} → (List ℕ → Option K) → (K → K → Ordering) → Type 0
+Rises {K} key compare = (s t : List ℕ) (x y : K) → text_cmp s t ≡ Less
+    → key s ≡ Some x → key t ≡ Some y → compare x y ≡ Less
 
 -- each character comes after `-`
 abbrev pub is_above_dash : List ℕ → Bool
@@ -63,7 +68,7 @@ module _ {A : Type 0} (written : A → List ℕ) (reads : List ℕ → Option A)
       (read ∙ ap (λ z. Some z) same.1, ap written (sym same.1) ∙ (bytes_eq-Decides (written y) t).0 same.0))
 
 -- keys of one subtag rise with their names
-pub key_rises : {A : Type 0} (written : A → List ℕ) (reads : List ℕ → Option A) (compare : A → A → Ordering) → ((x y : A) → compare x y ≡ text_cmp (written x) (written y)) → (s t : List ℕ) (x y : A) → text_cmp s t ≡ Less → key_of written reads s ≡ Some x → key_of written reads t ≡ Some y → compare x y ≡ Less
+pub key_rises : {A : Type 0} (written : A → List ℕ) (reads : List ℕ → Option A) (compare : A → A → Ordering) → ((x y : A) → compare x y ≡ text_cmp (written x) (written y)) → Rises (key_of written reads) compare
 key_rises written reads compare in_order s t x y below is_x is_y =
     let at_x : written x ≡ s = (name_of_key written reads s x is_x).1 in
     let at_y : written y ≡ t = (name_of_key written reads t y is_y).1 in
@@ -72,7 +77,7 @@ key_rises written reads compare in_order s t x y below is_x is_y =
 -- a text is its two parts with the `-` between them
 cut_joins : (t : List ℕ) (cut : List ℕ × List ℕ) → cut_at_dash t ≡ Some cut → t ≡ cut.0 ++ 45 ∷ cut.1
 cut_joins t cut is =
-    let parts = cond_some (nat_lt (position_or_len is_dash t) (length t)) (before_first is_dash t, after_first is_dash t) cut is in
+    let parts = cond_some (has_dash t) (before_first is_dash t, after_first is_dash t) cut is in
     let within : position_or_len is_dash t < length t = grind (arith, nat_tests) in
     let dash : get_or t (position_or_len is_dash t) 0 ≡ 45 = grind (arith, nat_tests, passes_at_first is_dash t 0 within) in
     split_at_first is_dash t 0 within ∙ ap (λ c. before_first is_dash t ++ c ∷ after_first is_dash t) dash ∙ ap (λ pair. pair.0 ++ 45 ∷ pair.1) parts.1
@@ -99,7 +104,7 @@ joined_cmp (x ∷ a) b [] d p q =
 joined_cmp (x ∷ a) b (y ∷ c) d p q = ap (ordering_then (nat_cmp x y)) (joined_cmp a b c d (above_tail x a p) (above_tail y c q)) ∙ then_then (nat_cmp x y) (text_cmp a c) (text_cmp b d)
 
 -- two readings of which both are there
-both_there : {A B : Type 0} (first : Option A) (second : Option B) (x : A × B) → applied (option_map (λ a b. (a, b)) first) second ≡ Some x → (first ≡ Some x.0) × (second ≡ Some x.1)
+both_there : {A B : Type 0} (first : Option A) (second : Option B) (x : A × B) → both first second ≡ Some x → (first ≡ Some x.0) × (second ≡ Some x.1)
 both_there None second x is = absurd (none-some x is)
 both_there (Some a) None x is = absurd (none-some x is)
 both_there (Some a) (Some b) x is = let same = same_Some (a, b) x is in (ap (λ p. Some p.0) same, ap (λ p. Some p.1) same)
@@ -107,12 +112,12 @@ both_there (Some a) (Some b) x is = let same = same_Some (a, b) x is in (ap (λ 
 module _ {A B : Type 0} (written_a : A → List ℕ) (reads_a : List ℕ → Option A) (compare_a : A → A → Ordering) (written_b : B → List ℕ) (reads_b : List ℕ → Option B) (compare_b : B → B → Ordering) where
   -- what a key of two subtags tells of its name
   pub parts_of_key : (t : List ℕ) (x : A × B) → key_pair (key_of written_a reads_a) (key_of written_b reads_b) t ≡ Some x → (cut : List ℕ × List ℕ) × (cut_at_dash t ≡ Some cut) × (key_of written_a reads_a cut.0 ≡ Some x.0) × (key_of written_b reads_b cut.1 ≡ Some x.1)
-  parts_of_key t x is = option_and_then_some _ (cut_at_dash t) x is (λ cut cuts both.
-      let parts = both_there (key_of written_a reads_a cut.0) (key_of written_b reads_b cut.1) x both in
+  parts_of_key t x is = option_and_then_some _ (cut_at_dash t) x is (λ cut cuts there.
+      let parts = both_there (key_of written_a reads_a cut.0) (key_of written_b reads_b cut.1) x there in
       (cut, cuts, parts.0, parts.1))
 
   -- keys of two subtags rise with their names
-  pub pair_rises : ((x y : A) → compare_a x y ≡ text_cmp (written_a x) (written_a y)) → ((x y : B) → compare_b x y ≡ text_cmp (written_b x) (written_b y)) → ((t : List ℕ) (x : A) → reads_a t ≡ Some x → is_above_dash t ≡ true) → (s t : List ℕ) (x y : A × B) → text_cmp s t ≡ Less → key_pair (key_of written_a reads_a) (key_of written_b reads_b) s ≡ Some x → key_pair (key_of written_a reads_a) (key_of written_b reads_b) t ≡ Some y → ordering_then (compare_a x.0 y.0) (compare_b x.1 y.1) ≡ Less
+  pub pair_rises : ((x y : A) → compare_a x y ≡ text_cmp (written_a x) (written_a y)) → ((x y : B) → compare_b x y ≡ text_cmp (written_b x) (written_b y)) → ((t : List ℕ) (x : A) → reads_a t ≡ Some x → is_above_dash t ≡ true) → Rises (key_pair (key_of written_a reads_a) (key_of written_b reads_b)) (λ x y. ordering_then (compare_a x.0 y.0) (compare_b x.1 y.1))
   pair_rises in_order_a in_order_b plain s t x y below is_x is_y =
       let parts_x = parts_of_key s x is_x in
       let parts_y = parts_of_key t y is_y in

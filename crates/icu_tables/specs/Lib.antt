@@ -6,3 +6,4 @@ pub mod Rows
 pub mod Shape
 pub mod Subtags
 pub mod Tables
+pub mod Text

@@ -1,15 +1,17 @@
--- What a reader answers, beside what the shape says: what only the readers' own functions cite.
-use Rattle.std.specs.Prelude.{◌≡◌, Option, Some, None, option_map, Result, Ok, Err}
+-- What a reader answers beside what a value says: what only the readers' own functions cite.
+use Rattle.std.specs.Prelude.{◌≡◌, ℕ, Bool, true, false, List, map, string_bytes}
+use Rattle.std.specs.Prelude.{Option, Some, None, option_map, Result, Ok, Err}
+use Rattle.std.specs.Borrow.{Bor}
+use Rattle.icu_provider.specs.declared.aliases.Aliases.{Aliases}
 use Rattle.icu_provider.specs.declared.likely.extended.LikelySubtagsExtended.{LikelySubtagsExtended}
 use Rattle.icu_provider.specs.declared.likely.language.LikelySubtagsForLanguage.{LikelySubtagsForLanguage}
 use Rattle.icu_provider.specs.declared.likely.script_region.LikelySubtagsForScriptRegion.{LikelySubtagsForScriptRegion}
-use Rattle.icu_tables.specs.File.{FileRows}
-use Rattle.icu_tables.specs.Rows.{seen_rows, alias_rows, direction_rows}
+use Rattle.icu_tables.specs.Rows.{AliasRows, FileRows, seen_rows, rule, variants_rule, direction_rows}
 use Rattle.icu_tables.specs.declared.error.TableError.{TableError}
 use Rattle.icu_tables.specs.declared.error.TableError.TheVariants.{Json, Shape, Memory}
 use Rattle.icu_tables.specs.declared.tables.Tables.{Tables}
 
--- a refusal is `Shape` exactly where nothing is said, or memory was refused
+-- a refusal is `Shape` where nothing is said, or memory was refused
 abbrev pub Refuses : {A : Type 0} → TableError → Option A → Type 0
 Refuses Json said = ⊥
 Refuses Shape said = said ≡ None
@@ -20,21 +22,66 @@ abbrev pub Reads : {T A : Type 0} → (T → A) → Result T TableError → Opti
 Reads seen (Ok x) said = said ≡ Some (seen x)
 Reads seen (Err e) said = Refuses e said
 
--- the likely tables as their rows were read: each value is seen as it is
+-- a place was filled with what is said, or that was refused
+abbrev pub Fills : {A : Type 0} → Result (Unit {0}) TableError → A → Option A → Type 0
+Fills (Ok done) new said = said ≡ Some new
+Fills (Err e) new said = Refuses e said
+
+-- a test holds, or it fails and the refusal is `Shape`
+abbrev pub Accepts : Result (Unit {0}) TableError → Bool → Type 0
+Accepts (Ok done) test = test ≡ true
+Accepts (Err e) test = (e ≡ Shape) × (test ≡ false)
+
+-- the texts behind references
+abbrev pub texts_of : List (Bor (List ℕ)) → List (List ℕ)
+texts_of texts = map (λ text. text.now) texts
+
+-- tables as their rows were read, one by one
 abbrev pub language_seen : LikelySubtagsForLanguage → LikelySubtagsForLanguage
-language_seen table = record { und = table.und; language = seen_rows (λ v. v) table.language; language_script = seen_rows (λ v. v) table.language_script; language_region = seen_rows (λ v. v) table.language_region }
+language_seen table = record {
+  und = table.und;
+  language = seen_rows (λ v. v) table.language;
+  language_script = seen_rows (λ v. v) table.language_script;
+  language_region = seen_rows (λ v. v) table.language_region;
+}
 
 abbrev pub script_region_seen : LikelySubtagsForScriptRegion → LikelySubtagsForScriptRegion
-script_region_seen table = record { script_region = seen_rows (λ v. v) table.script_region; script = seen_rows (λ v. v) table.script; region = seen_rows (λ v. v) table.region }
+script_region_seen table = record {
+  script_region = seen_rows (λ v. v) table.script_region;
+  script = seen_rows (λ v. v) table.script;
+  region = seen_rows (λ v. v) table.region;
+}
 
 abbrev pub extended_seen : LikelySubtagsExtended → LikelySubtagsExtended
-extended_seen table = record { language = seen_rows (λ v. v) table.language; language_script = seen_rows (λ v. v) table.language_script; language_region = seen_rows (λ v. v) table.language_region; script_region = seen_rows (λ v. v) table.script_region; script = seen_rows (λ v. v) table.script; region = seen_rows (λ v. v) table.region }
+extended_seen table = record {
+  language = seen_rows (λ v. v) table.language;
+  language_script = seen_rows (λ v. v) table.language_script;
+  language_region = seen_rows (λ v. v) table.language_region;
+  script_region = seen_rows (λ v. v) table.script_region;
+  script = seen_rows (λ v. v) table.script;
+  region = seen_rows (λ v. v) table.region;
+}
+
+abbrev pub alias_seen : Aliases → AliasRows
+alias_seen table = record {
+  language_variants = map variants_rule table.language_variants;
+  language = map rule table.language;
+  sgn_region = seen_rows (λ v. v) table.sgn_region;
+  language_len2 = seen_rows string_bytes table.language_len2;
+  language_len3 = seen_rows string_bytes table.language_len3;
+  script = seen_rows (λ v. v) table.script;
+  region_alpha = seen_rows (λ v. v) table.region_alpha;
+  region_num = seen_rows (λ v. v) table.region_num;
+  complex_region = seen_rows (λ regions. map (λ v. v) regions.items) table.complex_region;
+  variant = seen_rows (λ v. v) table.variant;
+  subdivision = seen_rows string_bytes table.subdivision;
+}
 
 abbrev pub file_seen : Tables → FileRows
 file_seen tables = record {
   likely_language = option_map language_seen tables.likely_language;
   likely_script_region = option_map script_region_seen tables.likely_script_region;
   likely_extended = option_map extended_seen tables.likely_extended;
-  aliases = option_map alias_rows tables.aliases;
+  aliases = option_map alias_seen tables.aliases;
   direction = option_map direction_rows tables.script_direction;
 }

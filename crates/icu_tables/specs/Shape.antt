@@ -1,10 +1,10 @@
--- Shapes of JSON values. A shape is a reader: what a value of the shape says, and None for any other value.
+-- Shapes of JSON values. A shape is a reader: what a value of the shape says, and none elsewhere.
 use Rattle.std.specs.Prelude.{ℕ, List, [], ◌∷◌, Option, Some, None, option_map, option_and_then}
 use Rattle.icu_locale_core.specs.TextSet.{from_list, rising}
 use Rattle.serde_json.specs.Data.{Data, Items, no_items, item, Members, no_members, member}
 use Rattle.serde_json.specs.Find.{as_str, as_array, as_object}
 
--- what a value of the shape says, if it is one
+-- what a value says, if it has the shape
 abbrev pub Shape : Type 0 → Type 0
 Shape A = Data → Option A
 
@@ -12,6 +12,10 @@ Shape A = Data → Option A
 abbrev pub applied : {A B : Type 0} → Option (A → B) → Option A → Option B
 applied None x = None
 applied (Some f) x = option_map f x
+
+-- two values, where both are there
+abbrev pub both : {A B : Type 0} → Option A → Option B → Option (A × B)
+both x y = applied (option_map (λ a b. (a, b)) x) y
 
 -- a text of any content
 abbrev pub text : Shape (List ℕ)
@@ -23,7 +27,7 @@ text_of says value = option_and_then says (as_str value)
 
 -- exactly two items
 abbrev pub two_items : {A B : Type 0} → Shape A → Shape B → Items → Option (A × B)
-two_items first second (item a (item b no_items)) = applied (option_map (λ x y. (x, y)) (first a)) (second b)
+two_items first second (item a (item b no_items)) = both (first a) (second b)
 two_items first second _ = None
 
 -- an array of exactly these two
@@ -31,19 +35,22 @@ abbrev pub pair_of : {A B : Type 0} → Shape A → Shape B → Shape (A × B)
 pair_of first second value = option_and_then (two_items first second) (as_array value)
 
 -- exactly three items
-abbrev pub three_items : {A B C : Type 0} → Shape A → Shape B → Shape C → Items → Option (A × B × C)
+abbrev pub three_items : {A B C : Type 0} → Shape A → Shape B → Shape C
+    → Items → Option (A × B × C)
 three_items first second third (item a (item b (item c no_items))) =
     applied (applied (option_map (λ x y z. (x, y, z)) (first a)) (second b)) (third c)
 three_items first second third _ = None
 
 -- an array of exactly these three
 abbrev pub triple_of : {A B C : Type 0} → Shape A → Shape B → Shape C → Shape (A × B × C)
-triple_of first second third value = option_and_then (three_items first second third) (as_array value)
+triple_of first second third value =
+    option_and_then (three_items first second third) (as_array value)
 
 -- what each item says, in order
 abbrev pub each_item : {A : Type 0} → Shape A → Items → Option (List A)
 each_item shape no_items = Some []
-each_item shape (item value items) = applied (option_map (λ x xs. x ∷ xs) (shape value)) (each_item shape items)
+each_item shape (item value items) =
+    applied (option_map (λ x xs. x ∷ xs) (shape value)) (each_item shape items)
 
 -- an array of any number of these
 abbrev pub array_of : {A : Type 0} → Shape A → Shape (List A)
@@ -53,17 +60,18 @@ array_of shape value = option_and_then (each_item shape) (as_array value)
 abbrev pub set_of : Shape (List ℕ) → Shape (List (List ℕ))
 set_of shape value = option_map (λ texts. rising (from_list texts)) (array_of shape value)
 
--- the row of a key before other rows; where a member's name is no key, there is no row
+-- a row before other rows; a member whose name is no key has none
 abbrev pub with_row : {K V : Type 0} → Option K → V → List (K × V) → List (K × V)
 with_row None value rows = rows
 with_row (Some key) value rows = (key, value) ∷ rows
 
--- the rows of members, whose values all have the shape, also where the name is no key
-abbrev pub each_row : {K V : Type 0} → (List ℕ → Option K) → Shape V → Members → Option (List (K × V))
+-- the rows of members; each value has the shape, also where the name is no key
+abbrev pub each_row : {K V : Type 0} → (List ℕ → Option K) → Shape V
+    → Members → Option (List (K × V))
 each_row key shape no_members = Some []
 each_row key shape (member name value members) =
     applied (option_map (with_row (key name)) (shape value)) (each_row key shape members)
 
--- an object whose members are rows: a map from such keys to such values, the keys rising
+-- an object whose members are rows: a map, whose keys rise as the names do
 abbrev pub map_of : {K V : Type 0} → (List ℕ → Option K) → Shape V → Shape (List (K × V))
 map_of key shape value = option_and_then (each_row key shape) (as_object value)

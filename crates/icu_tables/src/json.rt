@@ -1,7 +1,8 @@
 //! Tables from a JSON text.
 ghost use Rattle.std.specs.Prelude.{◌≡◌, ◌≢◌, Some, None, Ok, Err, IfOk, IfErr};
-ghost use Rattle.icu_tables.specs.File.{json_of, rows_of, rows_of_text};
 ghost use Rattle.icu_tables.specs.Reads.{file_seen};
+ghost use Rattle.icu_tables.specs.Rows.{rows_of};
+ghost use Rattle.icu_tables.specs.Text.{json_of, rows_in};
 ghost use Rattle.serde_json.specs.View.{view};
 
 mod aliases;
@@ -22,15 +23,16 @@ use serde_json::Value;
 use std::alloc::Global;
 
 impl Tables {
-    /// The tables of a JSON text: an object with a member for each table. A table that the text leaves out is not held.
+    /// The tables of a JSON text: an object with a member for each table. A table that the text
+    /// leaves out is not held.
     ///
     /// # Errors
     ///
-    /// `Json` where the text is no JSON value, `Shape` where the value has another shape, and `Memory`, which may stand
-    /// in the place of any answer.
+    /// `Json` where the text is no JSON value, and `Shape` where the value has not the shape of a
+    /// file of tables. `Memory` may stand in the place of any answer.
     pub fn from_json(alloc: Global, text: &[u8]) -> Result<Tables, TableError>
-        ensures rows { IfOk result (λ tables. rows_of_text text.now ≡ Ok (rows_of tables)) }
-        ensures refused { IfErr result (λ e. e ≢ TableError.Memory → rows_of_text text.now ≡ Err e) }
+        ensures rows { IfOk result (λ tables. rows_in text.now ≡ Ok (rows_of tables)) }
+        ensures refused { IfErr result (λ e. e ≢ TableError.Memory → rows_in text.now ≡ Err e) }
     {
         let value = parse(alloc, text)?;
         Tables::from_value(alloc, &value)
@@ -40,7 +42,8 @@ impl Tables {
 // The JSON value that a text is.
 fn parse(alloc: Global, text: &[u8]) -> Result<Value, TableError>
     ensures value { IfOk result (λ value. json_of text.now ≡ Some (view value)) }
-    ensures refused { IfErr result (λ e. e ≢ TableError.Memory → (e ≡ TableError.Json) × (json_of text.now ≡ None)) }
+    ensures none { IfErr result (λ e. e ≢ TableError.Memory → json_of text.now ≡ None) }
+    ensures refused { IfErr result (λ e. e ≢ TableError.Memory → e ≡ TableError.Json) }
 {
     match Value::from_slice(alloc, text) {
         Ok(value) => Ok(value),
@@ -55,7 +58,8 @@ fn parse(alloc: Global, text: &[u8]) -> Result<Value, TableError>
 }
 
 impl FromValue for Tables {
-    ghost use Rattle.icu_tables.specs.File.{FileRows, file};
+    ghost use Rattle.icu_tables.specs.File.{file};
+    ghost use Rattle.icu_tables.specs.Rows.{FileRows};
 
     ghost Seen = { FileRows };
 
@@ -86,5 +90,44 @@ impl FromValue for Tables {
         fill(alloc, value, "aliases", &mut tables.aliases)?;
         fill(alloc, value, "direction", &mut tables.script_direction)?;
         Ok(tables)
+    }
+}
+
+#[cfg(test)]
+mod tests {
+    use super::*;
+    use icu_locale_core::{Language, Region, Script};
+    use icu_provider::DataProvider;
+    use std::test::Fail;
+
+    #[test]
+    fn an_object_without_members_is_no_table(rt: HostRuntime) -> Result<(), Fail> {
+        let tables = Tables::from_json(rt.alloc(), b"{}".as_slice())?;
+        assert!(rt; tables.load_likely_language().is_err());
+        assert!(rt; tables.load_likely_script_region().is_err());
+        assert!(rt; tables.load_likely_extended().is_err());
+        assert!(rt; tables.load_aliases().is_err());
+        assert!(rt; tables.load_script_direction().is_err());
+        Ok(())
+    }
+
+    #[test]
+    fn values_are_read_in_any_case_and_keys_in_their_own(rt: HostRuntime) -> Result<(), Fail> {
+        let text = r#"{"likely_language": {
+            "und": ["EN", "latn", "us"],
+            "language": {"AR": ["Arab", "EG"], "zh": ["HANS", "cn"]}
+        }}"#;
+        let tables = Tables::from_json(rt.alloc(), text.as_bytes())?;
+        let table = tables.load_likely_language()?;
+        let (language, script, region) = table.und();
+        assert_eq!(rt; language.as_str(), "en");
+        assert_eq!(rt; script.as_str(), "Latn");
+        assert_eq!(rt; region.as_str(), "US");
+        assert!(rt; table.get_language(Language::try_from_str("ar")?).is_none());
+        assert_eq!(rt;
+            table.get_language(Language::try_from_str("zh")?),
+            Some((Script::try_from_str("Hans")?, Region::try_from_str("CN")?))
+        );
+        Ok(())
     }
 }

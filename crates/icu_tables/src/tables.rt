@@ -1,6 +1,5 @@
 //! Tables in memory, and the provider that they are.
 ghost use Rattle.std.specs.Prelude.{◌≡◌, Some, None};
-ghost use Rattle.icu_provider.specs.Provider.{lent};
 ghost use Rattle.icu_tables.specs.Tables.{held};
 
 use icu_provider::{
@@ -39,7 +38,13 @@ impl Drop for Tables {
 impl Tables {
     /// Tables that hold nothing. It takes no memory.
     pub fn new(alloc: Global) -> Self
-        ensures { result ≡ record { likely_language = None; likely_script_region = None; likely_extended = None; aliases = None; script_direction = None } }
+        ensures { result ≡ record {
+          likely_language = None;
+          likely_script_region = None;
+          likely_extended = None;
+          aliases = None;
+          script_direction = None;
+        } }
     {
         let _ = alloc;
         Tables {
@@ -58,7 +63,8 @@ impl Tables {
         self.likely_language = Some(table);
     }
 
-    /// Takes the likely subtags by script and region, in place of what was held. It takes no memory.
+    /// Takes the likely subtags by script and region, in place of what was held. It takes no
+    /// memory.
     pub fn set_likely_script_region(&mut self, table: LikelySubtagsForScriptRegion)
         ensures { self.new ≡ record self.old { likely_script_region = Some table } }
     {
@@ -102,33 +108,23 @@ impl DataProvider for Tables {
 
     ghost script_direction = { λ t. held t.script_direction };
 
-    fn load_likely_language(&self) -> Result<&LikelySubtagsForLanguage, DataError>
-        ensures { lent result ≡ held self.now.likely_language }
-    {
+    fn load_likely_language(&self) -> Result<&LikelySubtagsForLanguage, DataError> {
         self.likely_language.as_ref().ok_or(NOT_FOUND)
     }
 
-    fn load_likely_script_region(&self) -> Result<&LikelySubtagsForScriptRegion, DataError>
-        ensures { lent result ≡ held self.now.likely_script_region }
-    {
+    fn load_likely_script_region(&self) -> Result<&LikelySubtagsForScriptRegion, DataError> {
         self.likely_script_region.as_ref().ok_or(NOT_FOUND)
     }
 
-    fn load_likely_extended(&self) -> Result<&LikelySubtagsExtended, DataError>
-        ensures { lent result ≡ held self.now.likely_extended }
-    {
+    fn load_likely_extended(&self) -> Result<&LikelySubtagsExtended, DataError> {
         self.likely_extended.as_ref().ok_or(NOT_FOUND)
     }
 
-    fn load_aliases(&self) -> Result<&Aliases, DataError>
-        ensures { lent result ≡ held self.now.aliases }
-    {
+    fn load_aliases(&self) -> Result<&Aliases, DataError> {
         self.aliases.as_ref().ok_or(NOT_FOUND)
     }
 
-    fn load_script_direction(&self) -> Result<&ScriptDirection, DataError>
-        ensures { lent result ≡ held self.now.script_direction }
-    {
+    fn load_script_direction(&self) -> Result<&ScriptDirection, DataError> {
         self.script_direction.as_ref().ok_or(NOT_FOUND)
     }
 }

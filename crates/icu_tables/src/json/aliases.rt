@@ -1,6 +1,7 @@
 //! Aliases.
-ghost use Rattle.std.specs.Prelude.{map, string_bytes};
-ghost use Rattle.icu_tables.specs.Rows.{alias_rows, rule, variants_rule};
+ghost use Rattle.std.specs.Prelude.{map};
+ghost use Rattle.icu_tables.specs.Reads.{alias_seen};
+ghost use Rattle.icu_tables.specs.Rows.{rule, variants_rule};
 
 use crate::TableError;
 use crate::json::objects::{fill, only_members};
@@ -75,11 +76,12 @@ const MEMBERS: [&str; 11] = [
 ];
 
 impl FromValue for Aliases {
-    ghost use Rattle.icu_tables.specs.Rows.{AliasRows, aliases};
+    ghost use Rattle.icu_tables.specs.File.{aliases};
+    ghost use Rattle.icu_tables.specs.Rows.{AliasRows};
 
     ghost Seen = { AliasRows };
 
-    ghost seen = { alias_rows };
+    ghost seen = { alias_seen };
 
     ghost shape = { aliases };
 

@@ -44,7 +44,8 @@ fn set_from(alloc: Global, mut scripts: Vec<Script>) -> Result<SortedMap<Script,
 }
 
 impl FromValue for ScriptDirection {
-    ghost use Rattle.icu_tables.specs.Rows.{DirectionRows, direction};
+    ghost use Rattle.icu_tables.specs.File.{direction};
+    ghost use Rattle.icu_tables.specs.Rows.{DirectionRows};
 
     ghost Seen = { DirectionRows };
 

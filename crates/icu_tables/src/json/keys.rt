@@ -8,9 +8,8 @@ use std::cmp::Ord;
 
 // What the name of a row's member is read as, if it is a key.
 pub(crate) trait RowKey: Ord + Drop {
-    ghost use Rattle.std.specs.Prelude.{◌≡◌, List, ℕ, Option, Some};
-    ghost use Rattle.std.specs.declared.cmp.Ordering.TheVariants.{Less};
-    ghost use Rattle.icu_locale_core.specs.TextSet.{text_cmp};
+    ghost use Rattle.std.specs.Prelude.{◌≡◌, List, ℕ, Option};
+    ghost use Rattle.icu_tables.specs.Keys.{Rises};
 
     ghost key: { List ℕ → Option Self };
 
@@ -18,7 +17,7 @@ pub(crate) trait RowKey: Ord + Drop {
         ensures { result ≡ key name.now };
 
     // Where names rise, their keys do.
-    ghost rises: { (s t : List ℕ) (x y : Self) → text_cmp s t ≡ Less → key s ≡ Some x → key t ≡ Some y → Self.cmp x y ≡ Less };
+    ghost rises: { Rises key Self.cmp };
 }
 
 impl<T: FromText> RowKey for T {

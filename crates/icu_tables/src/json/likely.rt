@@ -10,7 +10,7 @@ use std::alloc::Global;
 
 impl FromValue for LikelySubtagsForLanguage {
     ghost use Rattle.icu_provider.specs.declared.likely.language.LikelySubtagsForLanguage.{LikelySubtagsForLanguage};
-    ghost use Rattle.icu_tables.specs.Rows.{likely_language};
+    ghost use Rattle.icu_tables.specs.File.{likely_language};
 
     ghost Seen = { LikelySubtagsForLanguage };
 
@@ -34,7 +34,7 @@ impl FromValue for LikelySubtagsForLanguage {
 
 impl FromValue for LikelySubtagsForScriptRegion {
     ghost use Rattle.icu_provider.specs.declared.likely.script_region.LikelySubtagsForScriptRegion.{LikelySubtagsForScriptRegion};
-    ghost use Rattle.icu_tables.specs.Rows.{likely_script_region};
+    ghost use Rattle.icu_tables.specs.File.{likely_script_region};
 
     ghost Seen = { LikelySubtagsForScriptRegion };
 
@@ -54,7 +54,7 @@ impl FromValue for LikelySubtagsForScriptRegion {
 
 impl FromValue for LikelySubtagsExtended {
     ghost use Rattle.icu_provider.specs.declared.likely.extended.LikelySubtagsExtended.{LikelySubtagsExtended};
-    ghost use Rattle.icu_tables.specs.Rows.{likely_extended};
+    ghost use Rattle.icu_tables.specs.File.{likely_extended};
 
     ghost Seen = { LikelySubtagsExtended };
 

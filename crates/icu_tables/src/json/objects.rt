@@ -1,9 +1,9 @@
 //! Objects of fixed members.
-ghost use Rattle.std.specs.Prelude.{◌≡◌, true, false, map, Some, None, MatchResult};
+ghost use Rattle.std.specs.Prelude.{◌≡◌, Some, None};
 ghost use Rattle.serde_json.specs.Find.{get};
 ghost use Rattle.serde_json.specs.View.{view};
 ghost use Rattle.icu_tables.specs.Fields.{said_or, is_listed, has_only, present};
-ghost use Rattle.icu_tables.specs.Reads.{Reads, Refuses};
+ghost use Rattle.icu_tables.specs.Reads.{Accepts, Fills, Reads, texts_of};
 
 use crate::TableError;
 use crate::json::values::FromValue;
@@ -12,8 +12,7 @@ use std::alloc::Global;
 
 // Nothing, where the value is an object with no member but those of these names.
 pub(crate) fn only_members(value: &Value, names: &[&str]) -> Result<(), TableError>
-    ensures { MatchResult result (λ _. has_only (map (λ name. name.now) names.now) (view value.now) ≡ true)
-        (λ e. (e ≡ TableError.Shape) × (has_only (map (λ name. name.now) names.now) (view value.now) ≡ false)) }
+    ensures { Accepts result (has_only (texts_of names.now) (view value.now)) }
 {
     let Some(members) = value.as_object() else {
         return Err(TableError::Shape);
@@ -28,7 +27,7 @@ pub(crate) fn only_members(value: &Value, names: &[&str]) -> Result<(), TableErr
 
 // Whether the name is one of these.
 fn is_known(names: &[&str], name: &str) -> bool
-    ensures { result ≡ is_listed (map (λ known. known.now) names.now) name.now }
+    ensures { result ≡ is_listed (texts_of names.now) name.now }
 {
     names.contains(&name)
 }
@@ -54,8 +53,8 @@ pub(crate) fn fill<T: FromValue>(
     name: &str,
     target: &mut T,
 ) -> Result<(), TableError>
-    ensures { let said = said_or (Some (T.seen target.old)) T.shape (get name.now (view object.now)) in
-        MatchResult result (λ _. said ≡ Some (T.seen target.new)) (λ e. Refuses e said) }
+    ensures { let found = get name.now (view object.now) in
+        Fills result (T.seen target.new) (said_or (Some (T.seen target.old)) T.shape found) }
 {
     if let Some(value) = object.get(name) {
         *target = T::from_value(alloc, value)?;
