@@ -1,36 +1,75 @@
 -- How the ends of a run's parts make the ends of the run.
 use Rattle.std.proofs.Common.{◌≡◌, ◌⊎◌, Bool, List, ℕ, Option, Result, Ok, Err, IfOk, IfErr, inl, inr, refl, ap, subst, sym}
-use Rattle.std.specs.Io.KnownBytes.{Appends}
 use Rattle.icu_tables.specs.declared.tables.Tables.{Tables}
 use Rattle.icu_locale_cli.specs.declared.command.Command.{Command}
 use Rattle.icu_locale_cli.specs.declared.command.Command.TheVariants as command
 use Rattle.icu_locale_cli.specs.declared.error.CliError.{CliError}
 use Rattle.icu_locale_cli.specs.declared.error.CliError.TheVariants.{Write, Memory}
 use Rattle.icu_locale_cli.specs.declared.status.Status.{Status}
-use Rattle.icu_locale_cli.specs.declared.status.Status.TheVariants.{Accepted}
-use Rattle.icu_locale_cli.specs.Runs.{WritesWholeLines, WritesPart}
-use Rattle.icu_locale_cli.specs.Texts.{settled_line}
-use Rattle.icu_locale_cli.specs.WholeRuns.{TellsSettled, StopsAmongLines, IsRun, IsRefusedLineRun, IsRefusedRun}
+use Rattle.icu_locale_cli.specs.Runs.{ReadsAll, WritesWholeLines, WritesPart}
+use Rattle.icu_locale_cli.specs.WholeRuns.{WritesLines, WritesSettled, WritesOutput, StopsAmongLines, IsRefusedLines, IsRefusedSettled, IsRefusedOutput, IsRun, IsRefusedLineRun, IsRefusedRun}
 
-module _ (t : Tables) (read read' wrote wrote' : Option (List ℕ)) where
-  pub settled_run : (r : Result Status CliError) → read' ≡ read
-      → IfOk r (λ s. (answer : Bool) × TellsSettled t answer × Appends wrote wrote' (settled_line answer) × (s ≡ Accepted))
-      → IfOk r (IsRun command.Settled t read read' wrote wrote')
-  settled_run (Ok s) unread h = record { answer = h.0; tells = h.1; unread = unread; written = h.2; accepted = h.3 }
-  settled_run (Err e) unread h = tt
+-- every command but one works on lines
+lines_only : (P : Command → Type 0) → P command.Maximize → P command.Minimize → P command.MinimizeScript → P command.Canonicalize → P command.Direction → (c : Command) → (c ≡ command.Settled → ⊥) → P c
+lines_only P m n s k d command.Settled other = absurd (other refl)
+lines_only P m n s k d command.Maximize other = m
+lines_only P m n s k d command.Minimize other = n
+lines_only P m n s k d command.MinimizeScript other = s
+lines_only P m n s k d command.Canonicalize other = k
+lines_only P m n s k d command.Direction other = d
 
-  -- every command but one works on lines
-  pub refused_line_run : (c : Command) → (c ≡ command.Settled → ⊥) → (e : CliError) → IsRefusedLineRun c t read read' wrote wrote' e → IsRefusedRun c t read read' wrote wrote' e
-  refused_line_run command.Settled other e h = absurd (other refl)
-  refused_line_run command.Maximize other e h = h
-  refused_line_run command.Minimize other e h = h
-  refused_line_run command.MinimizeScript other e h = h
-  refused_line_run command.Canonicalize other e h = h
-  refused_line_run command.Direction other e h = h
+module _ (t : Tables) (wrote wrote' : Option (List ℕ)) (c : Command) (r : Result Status CliError) where
+  -- `settled` alone
+  pub settled_run : (read : Option (List ℕ)) → c ≡ command.Settled → IfOk r (WritesSettled t wrote wrote') → IfOk r (IsRun c t read read wrote wrote')
+  settled_run read is h = subst (λ k. IfOk r (IsRun k t read read wrote wrote')) (sym is) (by r h)
+    where
+      by : (s : Result Status CliError) → IfOk s (WritesSettled t wrote wrote') → IfOk s (IsRun command.Settled t read read wrote wrote')
+      by (Ok s) h = (refl, h)
+      by (Err e) h = tt
 
-  pub refused_among_lines : (c : Command) → (c ≡ command.Settled → ⊥) → (r : Result Status CliError) → IfErr r (λ e. (e ≡ Memory) ⊎ (e ≡ Write))
-      → (r ≡ Err Memory → StopsAmongLines WritesWholeLines c t read read' wrote wrote') → (r ≡ Err Write → StopsAmongLines WritesPart c t read read' wrote wrote')
-      → IfErr r (IsRefusedRun c t read read' wrote wrote')
-  refused_among_lines c other (Ok s) which memory write = tt
-  refused_among_lines c other (Err e) (inl is) memory write = refused_line_run c other e (subst (IsRefusedLineRun c t read read' wrote wrote') (sym is) (inr (memory (ap Err is))))
-  refused_among_lines c other (Err e) (inr is) memory write = refused_line_run c other e (subst (IsRefusedLineRun c t read read' wrote wrote') (sym is) (write (ap Err is)))
+  pub settled_refused : (read : Option (List ℕ)) → c ≡ command.Settled → IfErr r (IsRefusedSettled t wrote wrote') → IfErr r (IsRefusedRun c t read read wrote wrote')
+  settled_refused read is h = subst (λ k. IfErr r (IsRefusedRun k t read read wrote wrote')) (sym is) (by r h)
+    where
+      by : (s : Result Status CliError) → IfErr s (IsRefusedSettled t wrote wrote') → IfErr s (IsRefusedRun command.Settled t read read wrote wrote')
+      by (Ok s) h = tt
+      by (Err e) h = (refl, h)
+
+  pub settled_output : (input : List ℕ) → c ≡ command.Settled → IfOk r (WritesSettled t wrote wrote') → IfOk r (WritesOutput c t input wrote wrote')
+  settled_output input is h = subst (λ k. IfOk r (WritesOutput k t input wrote wrote')) (sym is) h
+
+  pub settled_output_refused : (input : List ℕ) → c ≡ command.Settled → IfErr r (IsRefusedSettled t wrote wrote') → IfErr r (IsRefusedOutput c t input wrote wrote')
+  settled_output_refused input is h = subst (λ k. IfErr r (IsRefusedOutput k t input wrote wrote')) (sym is) h
+
+  -- lines
+  pub lines_run : (read read' : Option (List ℕ)) (input : List ℕ) → (c ≡ command.Settled → ⊥) → ReadsAll read read' input → IfOk r (WritesLines c t input wrote wrote') → IfOk r (IsRun c t read read' wrote wrote')
+  lines_run read read' input other all h = by r h
+    where
+      by : (s : Result Status CliError) → IfOk s (WritesLines c t input wrote wrote') → IfOk s (IsRun c t read read' wrote wrote')
+      by (Ok s) h = lines_only (λ k. WritesLines k t input wrote wrote' s → IsRun k t read read' wrote wrote' s) (λ w. (input, all, w)) (λ w. (input, all, w)) (λ w. (input, all, w)) (λ w. (input, all, w)) (λ w. (input, all, w)) c other h
+      by (Err e) h = tt
+
+  pub lines_output : (input : List ℕ) → (c ≡ command.Settled → ⊥) → IfOk r (WritesLines c t input wrote wrote') → IfOk r (WritesOutput c t input wrote wrote')
+  lines_output input other h = lines_only (λ k. IfOk r (WritesLines k t input wrote wrote') → IfOk r (WritesOutput k t input wrote wrote')) (λ w. w) (λ w. w) (λ w. w) (λ w. w) (λ w. w) c other h
+
+  pub lines_output_refused : (input : List ℕ) → (c ≡ command.Settled → ⊥) → IfErr r (IsRefusedLines c t input wrote wrote') → IfErr r (IsRefusedOutput c t input wrote wrote')
+  lines_output_refused input other h = lines_only (λ k. IfErr r (IsRefusedLines k t input wrote wrote') → IfErr r (IsRefusedOutput k t input wrote wrote')) (λ w. w) (λ w. w) (λ w. w) (λ w. w) (λ w. w) c other h
+
+  pub lines_refused : (read read' : Option (List ℕ)) → (c ≡ command.Settled → ⊥) → IfErr r (IsRefusedLineRun c t read read' wrote wrote') → IfErr r (IsRefusedRun c t read read' wrote wrote')
+  lines_refused read read' other h = lines_only (λ k. IfErr r (IsRefusedLineRun k t read read' wrote wrote') → IfErr r (IsRefusedRun k t read read' wrote wrote')) (λ w. w) (λ w. w) (λ w. w) (λ w. w) (λ w. w) c other h
+
+  -- what writing lines leaves where it is refused
+  pub stopped_lines : (input : List ℕ) → IfErr r (λ e. (e ≡ Memory) ⊎ (e ≡ Write)) → (r ≡ Err Memory → StopsAmongLines WritesWholeLines c t input wrote wrote') → (r ≡ Err Write → StopsAmongLines WritesPart c t input wrote wrote') → IfErr r (IsRefusedLines c t input wrote wrote')
+  stopped_lines input which memory write = by r which memory write
+    where
+      by : (s : Result Status CliError) → IfErr s (λ e. (e ≡ Memory) ⊎ (e ≡ Write)) → (s ≡ Err Memory → StopsAmongLines WritesWholeLines c t input wrote wrote') → (s ≡ Err Write → StopsAmongLines WritesPart c t input wrote wrote') → IfErr s (IsRefusedLines c t input wrote wrote')
+      by (Ok s) which memory write = tt
+      by (Err e) (inl is) memory write = subst (IsRefusedLines c t input wrote wrote') (sym is) (inr (memory (ap Err is)))
+      by (Err e) (inr is) memory write = subst (IsRefusedLines c t input wrote wrote') (sym is) (write (ap Err is))
+
+  pub stopped_run : (read read' : Option (List ℕ)) (input : List ℕ) → ReadsAll read read' input → IfErr r (λ e. (e ≡ Memory) ⊎ (e ≡ Write)) → (r ≡ Err Memory → StopsAmongLines WritesWholeLines c t input wrote wrote') → (r ≡ Err Write → StopsAmongLines WritesPart c t input wrote wrote') → IfErr r (IsRefusedLineRun c t read read' wrote wrote')
+  stopped_run read read' input all which memory write = by r which memory write
+    where
+      by : (s : Result Status CliError) → IfErr s (λ e. (e ≡ Memory) ⊎ (e ≡ Write)) → (s ≡ Err Memory → StopsAmongLines WritesWholeLines c t input wrote wrote') → (s ≡ Err Write → StopsAmongLines WritesPart c t input wrote wrote') → IfErr s (IsRefusedLineRun c t read read' wrote wrote')
+      by (Ok s) which memory write = tt
+      by (Err e) (inl is) memory write = subst (IsRefusedLineRun c t read read' wrote wrote') (sym is) (inr (input, all, memory (ap Err is)))
+      by (Err e) (inr is) memory write = subst (IsRefusedLineRun c t read read' wrote wrote') (sym is) (input, all, write (ap Err is))

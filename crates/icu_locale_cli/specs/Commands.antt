@@ -1,5 +1,5 @@
 -- The commands by their words.
-use Rattle.std.specs.Prelude.{ℕ, List, codes}
+use Rattle.std.specs.Prelude.{ℕ, Bool, true, false, List, [], ◌∷◌, codes}
 use Rattle.icu_locale_cli.specs.declared.command.Command.{Command}
 use Rattle.icu_locale_cli.specs.declared.command.Command.TheVariants.{Maximize, Minimize, MinimizeScript, Canonicalize, Direction, Settled}
 
@@ -11,3 +11,8 @@ command_word MinimizeScript = codes "minimize-script"
 command_word Canonicalize = codes "canonicalize"
 command_word Direction = codes "direction"
 command_word Settled = codes "settled"
+
+-- the words of a command, with tables as JSON or without
+abbrev pub command_words : Command → Bool → List (List ℕ)
+command_words c false = command_word c ∷ []
+command_words c true = command_word c ∷ codes "json" ∷ []

@@ -1,6 +1,6 @@
 -- The lines of a text.
 use Rattle.std.specs.Prelude.{ℕ, Bool, ◌==◌, List, [], ◌∷◌}
-use Rattle.std.specs.List.{slice_split}
+use Rattle.std.specs.List.{slice_split, before_first, after_first}
 
 -- a line feed
 abbrev pub is_line_feed : ℕ → Bool
@@ -15,3 +15,11 @@ without_empty_last (x ∷ xs) = x ∷ without_empty_last xs
 -- a text cut at each line feed; what follows the last one is a line where it is not empty
 abbrev pub lines : List ℕ → List (List ℕ)
 lines t = without_empty_last (slice_split is_line_feed t)
+
+-- what stands before the first line feed, or all of it
+abbrev pub first_line : List ℕ → List ℕ
+first_line t = before_first is_line_feed t
+
+-- what stands behind the first line feed, if there is one
+abbrev pub after_first_line : List ℕ → List ℕ
+after_first_line t = after_first is_line_feed t

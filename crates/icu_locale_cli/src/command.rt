@@ -19,34 +19,44 @@ pub enum Command {
 }
 
 impl Command {
-    ghost use Rattle.std.specs.Prelude.{◌≡◌, ◌∷◌, [], Ok, false, IfOk, IfErr, map};
+    ghost use Rattle.std.specs.Prelude.{◌≡◌, Bool, Ok, IfOk, IfErr, map};
     ghost use Rattle.std.specs.String.{string_bytes};
-    ghost use Rattle.icu_locale_cli.specs.Commands.{command_word};
+    ghost use Rattle.icu_locale_cli.specs.Commands.{command_word, command_words};
 
-    /// The command that the words name, and whether the tables come as JSON, which no word asks for yet.
-    /// It takes no memory.
+    /// The command that the words name, and whether the tables come as JSON. It takes no memory.
     ///
     /// # Errors
     ///
-    /// `Usage` exactly where the words are not one word that names a command.
+    /// `Usage` exactly where the words are not one word that names a command, and then `json` or nothing.
     pub fn from_words(words: &[String]) -> Result<(Command, bool), CliError>
-        ensures named { IfOk result (λ c. map string_bytes words.now ≡ command_word c.0 ∷ []) }
-        ensures plain { IfOk result (λ c. c.1 ≡ false) }
-        ensures only { (c : Command) → map string_bytes words.now ≡ command_word c ∷ [] → result ≡ Ok (c, false) }
+        ensures named { IfOk result (λ c. map string_bytes words.now ≡ command_words c.0 c.1) }
+        ensures only { (c : Command × Bool) → map string_bytes words.now ≡ command_words c.0 c.1
+            → result ≡ Ok c }
         ensures refused { IfErr result (λ e. e ≡ CliError.Usage) }
     {
-        let [word] = words else {
-            return Err(CliError::Usage);
-        };
-        let command = match word.as_str() {
-            "maximize" => Command::Maximize,
-            "minimize" => Command::Minimize,
-            "minimize-script" => Command::MinimizeScript,
-            "canonicalize" => Command::Canonicalize,
-            "direction" => Command::Direction,
-            "settled" => Command::Settled,
-            _ => return Err(CliError::Usage),
-        };
-        Ok((command, false))
+        match words {
+            [word] => Ok((Command::from_word(word.as_str())?, false)),
+            [word, json] if json.as_str() == "json" => {
+                Ok((Command::from_word(word.as_str())?, true))
+            }
+            _ => Err(CliError::Usage),
+        }
+    }
+
+    // The command of a word.
+    fn from_word(word: &str) -> Result<Command, CliError>
+        ensures named { IfOk result (λ c. word.now ≡ command_word c) }
+        ensures only { (c : Command) → word.now ≡ command_word c → result ≡ Ok c }
+        ensures refused { IfErr result (λ e. e ≡ CliError.Usage) }
+    {
+        match word {
+            "maximize" => Ok(Command::Maximize),
+            "minimize" => Ok(Command::Minimize),
+            "minimize-script" => Ok(Command::MinimizeScript),
+            "canonicalize" => Ok(Command::Canonicalize),
+            "direction" => Ok(Command::Direction),
+            "settled" => Ok(Command::Settled),
+            _ => Err(CliError::Usage),
+        }
     }
 }

@@ -1,8 +1,9 @@
 //! Why a run ends before its last line.
-ghost use Rattle.std.specs.Prelude.{Some};
-ghost use Rattle.icu_locale_cli.specs.CliError.{error_words};
+ghost use Rattle.std.specs.Prelude.{◌≡◌, Some};
+ghost use Rattle.icu_locale_cli.specs.CliError.{error_words, table_error_name};
 
 use icu_provider::DataError;
+use icu_tables::TableError;
 use std::error::Error;
 use std::fmt;
 
@@ -11,7 +12,9 @@ use std::fmt;
 pub enum CliError {
     /// The words are no command.
     Usage,
-    /// A table that the command needs cannot be loaded.
+    /// The first line gives no tables. Nothing was written.
+    Tables(TableError),
+    /// A table that the command needs cannot be loaded. Nothing was written.
     Data(DataError),
     /// A read failed, or the input did not end. Nothing was written.
     Read,
@@ -27,6 +30,10 @@ impl fmt::Display for CliError {
     fn fmt<W: fmt::Write>(&self, f: &mut fmt::Formatter<W>) -> fmt::Result {
         match self {
             CliError::Usage => f.write_str("usage: icu_locale_cli COMMAND [json]"),
+            CliError::Tables(refusal) => {
+                f.write_str("tables: ")?;
+                f.write_str(table_error_name(*refusal))
+            }
             CliError::Data(refusal) => {
                 f.write_str("data: ")?;
                 fmt::Display::fmt(refusal, f)
@@ -39,3 +46,13 @@ impl fmt::Display for CliError {
 }
 
 impl Error for CliError {}
+
+fn table_error_name(refusal: TableError) -> &'static str
+    ensures { result.now ≡ table_error_name refusal }
+{
+    match refusal {
+        TableError::Json => "Json",
+        TableError::Shape => "Shape",
+        TableError::Memory => "Memory",
+    }
+}

@@ -2,7 +2,7 @@
 ghost use Rattle.std.specs.Prelude.{◌≡◌, ◌≢◌, ◌∷◌, []};
 ghost use Rattle.std.specs.List.{position};
 ghost use Rattle.std.specs.Iterator.{YieldsFirstRef, item_count};
-ghost use Rattle.icu_locale_cli.specs.Lines.{is_line_feed, lines};
+ghost use Rattle.icu_locale_cli.specs.Lines.{is_line_feed, lines, first_line, after_first_line};
 
 use std::marker::Model;
 
@@ -47,15 +47,15 @@ impl<'a> Iterator for Lines<'a> {
 }
 
 // The first line, and what follows its line feed.
-fn cut(text: &[u8]) -> (&[u8], &[u8])
-    requires { text.now ≢ [] }
-    ensures { lines text.now ≡ result.0.now ∷ lines result.1.now }
+pub fn cut(text: &[u8]) -> (&[u8], &[u8])
+    ensures lines { text.now ≢ [] → lines text.now ≡ result.0.now ∷ lines result.1.now }
+    ensures first { result.0.now ≡ first_line text.now }
+    ensures rest { result.1.now ≡ after_first_line text.now }
 {
     match line_feed(text) {
         Some(place) => {
             let (line, rest) = text.split_at(place);
-            let (_, rest) = rest.split_at(1);
-            (line, rest)
+            (line, &rest[1..])
         }
         None => (text, &[]),
     }

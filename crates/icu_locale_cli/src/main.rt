@@ -16,8 +16,11 @@ mod work;
 
 use crate::command::Command;
 use crate::error::CliError;
+use crate::run::{run, run_json};
+use crate::sample::sample;
 use crate::status::Status;
-use std::io::{BufWriter, Write};
+use std::alloc::Global;
+use std::io::{BufWriter, Read, Write};
 use std::process::ExitCode;
 use std::{env, io};
 
@@ -32,18 +35,31 @@ fn main(rt: HostRuntime) -> ExitCode {
     }
 }
 
-// The words are asked first, then the sample is made, and then the run begins.
+// The words are asked first, and then the run begins, over the tables of its first line or over the sample.
 fn start(rt: &HostRuntime) -> Result<Status, CliError> {
-    let (command, _) = Command::from_words(&words(rt)?)?;
-    let tables = sample::sample(rt.alloc())?;
+    let (command, json) = Command::from_words(&words(rt)?)?;
     let Ok(mut writer) = BufWriter::new(rt.alloc(), io::writer(rt)) else {
         return Err(CliError::Memory);
     };
-    let status = run::run(rt.alloc(), &command, &tables, &mut rt.reader(), &mut writer);
+    let status = if json {
+        run_json(rt.alloc(), &command, &mut rt.reader(), &mut writer)
+    } else {
+        run_over_sample(rt.alloc(), &command, &mut rt.reader(), &mut writer)
+    };
     if writer.flush().is_err() {
         return Err(CliError::Write);
     }
     status
+}
+
+fn run_over_sample<R: Read, W: Write>(
+    alloc: Global,
+    command: &Command,
+    reader: &mut R,
+    writer: &mut W,
+) -> Result<Status, CliError> {
+    let tables = sample(alloc)?;
+    run(alloc, command, &tables, reader, writer)
 }
 
 // The words behind the program's name.

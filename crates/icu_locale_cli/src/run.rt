@@ -1,20 +1,20 @@
 //! A run: tables, input and output.
-ghost use Rattle.std.specs.Prelude.{◌≡◌, ◌↔◌, ◌⊎◌, Err, Bool, IfOk, IfErr, false};
-ghost use Rattle.icu_locale_cli.specs.Loads.{not_found, has_likely};
+ghost use Rattle.std.specs.Prelude.{◌≡◌, ◌≢◌, ◌↔◌, Ok, Err, IfOk, IfErr, false};
+ghost use Rattle.icu_tables.specs.File.{rows_of, rows_of_text};
+ghost use Rattle.icu_locale_cli.specs.Loads.{not_found};
 ghost use Rattle.icu_locale_cli.specs.Texts.{settled_line};
-ghost use Rattle.icu_locale_cli.specs.Output.{AppendsPart};
-ghost use Rattle.std.specs.Io.KnownBytes.{Appends};
 ghost use Rattle.icu_locale_cli.specs.Works.{has_tables};
-ghost use Rattle.icu_locale_cli.specs.WholeRuns.{IsRun, IsRefusedRun, TellsSettled};
+ghost use Rattle.icu_locale_cli.specs.WholeRuns.{IsRun, IsRefusedRun, WritesSettled, IsRefusedSettled, WritesOutput, IsRefusedOutput, IsJsonRun, IsRefusedJsonRun, IsRefusedReading};
 
 use crate::answers::write_answers;
 use crate::command::Command;
 use crate::error::CliError;
 use crate::input::{MOST_READS, read_all};
+use crate::lines::cut;
 use crate::output::write_line;
 use crate::status::Status;
 use crate::work::{Work, load_expander};
-use icu_tables::Tables;
+use icu_tables::{TableError, Tables};
 use std::alloc::Global;
 use std::io::{Read, Write};
 
@@ -34,9 +34,12 @@ pub fn run<R: Read, W: Write>(
     reader: &mut R,
     writer: &mut W,
 ) -> Result<Status, CliError>
-    ensures output { IfOk result (IsRun command.now tables.now (R.remaining reader.old) (R.remaining reader.new) (W.contents writer.old) (W.contents writer.new)) }
-    ensures data { (result ≡ Err (CliError.Data not_found)) ↔ (has_tables command.now tables.now ≡ false) }
-    ensures refused { IfErr result (IsRefusedRun command.now tables.now (R.remaining reader.old) (R.remaining reader.new) (W.contents writer.old) (W.contents writer.new)) }
+    ensures output { IfOk result (IsRun command.now tables.now (R.remaining reader.old)
+        (R.remaining reader.new) (W.contents writer.old) (W.contents writer.new)) }
+    ensures data { (result ≡ Err (CliError.Data not_found))
+        ↔ (has_tables command.now tables.now ≡ false) }
+    ensures refused { IfErr result (IsRefusedRun command.now tables.now (R.remaining reader.old)
+        (R.remaining reader.new) (W.contents writer.old) (W.contents writer.new)) }
 {
     if *command == Command::Settled {
         return write_settled(tables, writer);
@@ -52,13 +55,79 @@ pub fn run<R: Read, W: Write>(
     write_answers(alloc, &work, &input, writer)
 }
 
+/// Reads the reader to its end, takes the tables of its first line as JSON, and does as `run` with the lines that are
+/// left. `Settled` uses none of them.
+///
+/// # Errors
+///
+/// - `Read` where a read failed or the input did not end: nothing was written.
+/// - `Tables` where the first line gives no tables: nothing was written.
+/// - `Data` where these leave out a table that the command needs: nothing was written.
+/// - `Write` and `Memory` as `run` answers them.
+pub fn run_json<R: Read, W: Write>(
+    alloc: Global,
+    command: &Command,
+    reader: &mut R,
+    writer: &mut W,
+) -> Result<Status, CliError>
+    ensures output { IfOk result (IsJsonRun command.now (R.remaining reader.old) (R.remaining reader.new)
+        (W.contents writer.old) (W.contents writer.new)) }
+    ensures refused { IfErr result (IsRefusedJsonRun command.now (R.remaining reader.old)
+        (R.remaining reader.new) (W.contents writer.old) (W.contents writer.new)) }
+{
+    let input = match read_all(alloc, reader, MOST_READS) {
+        Ok(input) => input,
+        Err(refusal) => return Err(refusal),
+    };
+    let (json, rest) = cut(&input);
+    match read_tables(alloc, json) {
+        Ok(tables) => write_output(alloc, command, &tables, rest, writer),
+        Err(refusal) => Err(refusal),
+    }
+}
+
+// The tables of a JSON text.
+fn read_tables(alloc: Global, json: &[u8]) -> Result<Tables, CliError>
+    ensures rows { IfOk result (λ tables. rows_of_text json.now ≡ Ok (rows_of tables)) }
+    ensures refused { IfErr result (IsRefusedReading json.now) }
+{
+    match Tables::from_json(alloc, json) {
+        Ok(tables) => Ok(tables),
+        Err(TableError::Memory) => Err(CliError::Memory),
+        Err(refusal) => Err(CliError::Tables(refusal)),
+    }
+}
+
+// What a command writes over tables for an input.
+fn write_output<W: Write>(
+    alloc: Global,
+    command: &Command,
+    tables: &Tables,
+    input: &[u8],
+    writer: &mut W,
+) -> Result<Status, CliError>
+    ensures output { IfOk result (WritesOutput command.now tables.now input.now
+        (W.contents writer.old) (W.contents writer.new)) }
+    ensures refused { IfErr result (IsRefusedOutput command.now tables.now input.now
+        (W.contents writer.old) (W.contents writer.new)) }
+{
+    if *command == Command::Settled {
+        return write_settled(tables, writer);
+    }
+    let work = match Work::load(alloc, command, tables) {
+        Ok(work) => work,
+        Err(refusal) => return Err(refusal),
+    };
+    write_answers(alloc, &work, input, writer)
+}
+
 // One line, `yes` or `no`.
 fn write_settled<W: Write>(tables: &Tables, writer: &mut W) -> Result<Status, CliError>
-    ensures output { IfOk result (λ s. (answer : Bool) × TellsSettled tables.now answer × Appends (W.contents writer.old) (W.contents writer.new) (settled_line answer) × (s ≡ Status.Accepted)) }
-    ensures part { result ≡ Err CliError.Write → (answer : Bool) × TellsSettled tables.now answer × AppendsPart (W.contents writer.old) (W.contents writer.new) (settled_line answer) }
-    ensures data { (result ≡ Err (CliError.Data not_found)) ↔ (has_likely tables.now ≡ false) }
-    ensures unwritten { result ≡ Err (CliError.Data not_found) → writer.new ≡ writer.old }
-    ensures refused { IfErr result (λ e. (e ≡ CliError.Data not_found) ⊎ (e ≡ CliError.Write)) }
+    ensures output { IfOk result (WritesSettled tables.now (W.contents writer.old) (W.contents writer.new)) }
+    ensures data { (result ≡ Err (CliError.Data not_found))
+        ↔ (has_tables Command.Settled tables.now ≡ false) }
+    ensures refused { IfErr result
+        (IsRefusedSettled tables.now (W.contents writer.old) (W.contents writer.new)) }
 {
     let expander = match load_expander(tables) {
         Ok(expander) => expander,

@@ -4,12 +4,14 @@ use crate::error::CliError;
 use crate::run::run;
 use crate::sample::sample;
 use crate::status::Status;
-use icu_locale_core::{LanguageIdentifier, ParseError};
-use icu_provider::SortedMap;
+use icu_locale::{CanonicalizeError, LocaleCanonicalizer, LocaleExpander, TransformResult};
+use icu_locale_core::{LanguageIdentifier, Locale, ParseError};
+use icu_provider::{DataProvider, SortedMap};
 use icu_tables::Tables;
 use std::alloc::{AllocError, Global};
 use std::io;
 use std::io::Write;
+use std::process::Abort;
 use std::test::Fail;
 
 // How many blocks are taken at the most.
@@ -218,5 +220,92 @@ fn a_refused_insert_leaves_the_table(rt: HostRuntime) -> Result<(), Fail> {
     assert!(rt; present);
     assert!(rt; map.insert(7, 7).is_ok());
     assert_eq!(rt; map.len(), 65);
+    Ok(())
+}
+
+// Rules, an identifier, and what becomes of it where no memory is left: nothing of it has variants.
+const WITHOUT_MEMORY: [(&str, &str, Option<&str>); 7] = [
+    (ENDING, "sh", Some("sr-Latn")),
+    (ENDING, "sh-Cyrl", Some("sr-Cyrl")),
+    (ENDING, "aa", Some("cc")),
+    (ENDING, "en-Qaai-276", Some("en-Zinh-DE")),
+    (CIRCLING, "aa", None),
+    (CIRCLING, "xx", None),
+    (CIRCLING, "sh", Some("sr-Latn")),
+];
+
+const ENDING: &str =
+    "{\"aliases\":{\"language_len2\":{\"sh\":\"sr-Latn\",\"aa\":\"bb\",\"bb\":\"cc\"},\
+    \"script\":{\"Qaai\":\"Zinh\"},\"region_num\":{\"276\":\"DE\"}}}";
+
+const CIRCLING: &str =
+    "{\"aliases\":{\"language_len2\":{\"sh\":\"sr-Latn\",\"aa\":\"bb\",\"bb\":\"aa\",\
+    \"xx\":\"yy\",\"yy\":\"zz\",\"zz\":\"yy\"}}}";
+
+// What a call answers while no memory is left.
+fn starved(
+    alloc: Global,
+    canonicalizer: &LocaleCanonicalizer<'_>,
+    locale: &mut Locale,
+) -> Result<Result<TransformResult, CanonicalizeError>, AllocError> {
+    let held = take_all(alloc)?;
+    let answer = canonicalizer.canonicalize(locale);
+    drop(held);
+    Ok(answer)
+}
+
+fn starved_call(
+    rt: &impl Abort,
+    alloc: Global,
+    canonicalizer: &LocaleCanonicalizer<'_>,
+    from: &str,
+    want: Option<&str>,
+) -> Result<(), Fail> {
+    let mut locale = Locale::new(alloc, LanguageIdentifier::try_from_str(alloc, from)?);
+    let wanted = LanguageIdentifier::try_from_str(alloc, want.unwrap_or(from))?;
+    let answer = starved(alloc, canonicalizer, &mut locale)?;
+    assert!(rt; locale.id == wanted, "at {from}");
+    assert!(rt; matches!(answer, Ok(_)) == want.is_some(), "at {from}");
+    assert!(rt;
+        !matches!(answer, Err(CanonicalizeError::Memory)),
+        "at {from}"
+    );
+    Ok(())
+}
+
+fn starved_row(
+    rt: &impl Abort,
+    alloc: Global,
+    sample: &Tables,
+    row: (&str, &str, Option<&str>),
+) -> Result<(), Fail> {
+    let Ok(own) = Tables::from_json(alloc, row.0.as_bytes()) else {
+        return Err(Fail::new("the rules cannot be read"));
+    };
+    over_own_aliases(rt, alloc, sample, &own, (row.1, row.2))
+}
+
+fn over_own_aliases(
+    rt: &impl Abort,
+    alloc: Global,
+    sample: &Tables,
+    own: &Tables,
+    call: (&str, Option<&str>),
+) -> Result<(), Fail> {
+    let expander = LocaleExpander::try_new_common_unstable(sample)?;
+    let canonicalizer = LocaleCanonicalizer::new_with_expander(
+        alloc,
+        own.load_aliases()?,
+        expander,
+    )?;
+    starved_call(rt, alloc, &canonicalizer, call.0, call.1)
+}
+
+#[test]
+fn canonicalizing_without_variants_takes_no_memory(rt: HostRuntime) -> Result<(), Fail> {
+    let tables = sample(rt.alloc())?;
+    for row in WITHOUT_MEMORY {
+        starved_row(&rt, rt.alloc(), &tables, row)?;
+    }
     Ok(())
 }

@@ -1,6 +1,5 @@
 //! Plain rows, and a second body of `maximize` that walks them from the first to the last.
 use crate::sample::sample;
-use crate::tests::likely::american;
 use icu_locale::LocaleExpander;
 use icu_locale_core::{Language, LanguageIdentifier, Region, Script, Variants};
 use icu_provider::{
@@ -197,66 +196,17 @@ const SAMPLE: [(Key, &str, &str, &str); 12] = [
     (Key::Region, "ar", "Arab", "SA"),
 ];
 
+/// The sample's triple of `und`.
+pub fn american() -> Result<Triple, Fail> {
+    triple("en", "Latn", "US")
+}
+
 fn triple(language: &str, script: &str, region: &str) -> Result<Triple, Fail> {
     Ok((
         Language::try_from_str(language)?,
         Script::try_from_str(script)?,
         Region::try_from_str(region)?,
     ))
-}
-
-fn are_held(
-    rt: &impl Abort,
-    by_language: &LikelySubtagsForLanguage,
-    by_script_region: &LikelySubtagsForScriptRegion,
-) -> Result<(), Fail> {
-    for (key, language, script, region) in SAMPLE {
-        let triple = triple(language, script, region)?;
-        assert!(rt;
-            Row { key, triple }.is_held(by_language, by_script_region),
-            "at {language}-{script}-{region}"
-        );
-    }
-    Ok(())
-}
-
-// How many rows each map has.
-fn counts(
-    by_language: &LikelySubtagsForLanguage,
-    by_script_region: &LikelySubtagsForScriptRegion,
-) -> [usize; 6] {
-    [
-        by_language.iter_language().count(),
-        by_language.iter_language_script().count(),
-        by_language.iter_language_region().count(),
-        by_script_region.iter_script_region().count(),
-        by_script_region.iter_script().count(),
-        by_script_region.iter_region().count(),
-    ]
-}
-
-// Whether the tables hold the sample's rows and no others.
-fn are_of_the_sample(
-    rt: &impl Abort,
-    by_language: &LikelySubtagsForLanguage,
-    by_script_region: &LikelySubtagsForScriptRegion,
-) -> Result<(), Fail> {
-    let american = american()?;
-    assert!(rt; by_language.und() == american);
-    assert!(rt; counts(by_language, by_script_region) == [6, 2, 2, 0, 1, 1]);
-    are_held(rt, by_language, by_script_region)
-}
-
-fn holds_the_sample(rt: &impl Abort, tables: &Tables) -> Result<(), Fail> {
-    let by_language = tables.load_likely_language()?;
-    let by_script_region = tables.load_likely_script_region()?;
-    are_of_the_sample(rt, by_language, by_script_region)
-}
-
-#[test]
-fn likely_subtags_of_the_sample(rt: HostRuntime) -> Result<(), Fail> {
-    let tables = sample(rt.alloc())?;
-    holds_the_sample(&rt, &tables)
 }
 
 fn rows_of_the_sample(alloc: Global) -> Result<Vec<Row>, Fail> {

@@ -1,256 +1,201 @@
-//! Runs of the program over readers and writers in memory.
+//! Runs of the program: words, input, and what is written, with its status.
 use crate::command::Command;
 use crate::error::CliError;
-use crate::run::run;
+use crate::run::{run, run_json};
 use crate::sample::sample;
 use crate::status::Status;
 use icu_provider::{DataError, DataErrorKind};
-use icu_tables::Tables;
+use icu_tables::{TableError, Tables};
 use std::alloc::Global;
-use std::io;
-use std::io::{Read, Write};
 use std::process::Abort;
 use std::test::Fail;
 
-// A reader that gives some bytes and then fails.
-#[derive(Drop)]
-struct FailingReader<'a> {
-    bytes: &'a [u8],
-}
+const SETTLED: &str =
+    "{\"likely_language\":{\"und\":[\"en\",\"Latn\",\"US\"]},\"likely_script_region\":{}}\n";
 
-impl Read for FailingReader<'_> {
-    fn read(&mut self, buf: &mut [u8]) -> io::Result<usize> {
-        if self.bytes.is_empty() {
-            return Err(io::Error::from(io::ErrorKind::Other));
-        }
-        self.bytes.read(buf)
-    }
-}
+const UNSETTLED: &str =
+    "{\"likely_language\":{\"und\":[\"en\",\"Latn\",\"US\"],\"language\":{\"xx\":[\"Zzzz\",\"DE\"]}},\"likely_script_region\":{}}\n";
 
-// A writer that takes so many bytes, and then no more.
-#[derive(Drop)]
-struct FullWriter {
-    bytes: Vec<u8>,
-    room: usize,
-}
+const EXTENDED: &str =
+    "{\"likely_language\":{\"und\":[\"en\",\"Latn\",\"US\"]},\"likely_script_region\":{},\
+    \"likely_extended\":{\"language\":{\"az\":[\"Latn\",\"AZ\"]}},\
+    \"aliases\":{\"language_len2\":{\"aa\":\"bb\",\"bb\":\"aa\"}},\"direction\":{\"ltr\":[\"Latn\"]}}\naz\naa\n";
 
-impl Write for FullWriter {
-    fn write(&mut self, buf: &[u8]) -> io::Result<usize> {
-        let count = buf.len().min(self.room);
-        self.bytes.extend_from_slice(&buf[..count])?;
-        self.room -= count;
-        Ok(count)
-    }
-
-    fn flush(&mut self) -> io::Result<()> {
-        Ok(())
-    }
-}
-
-fn output(
-    alloc: Global,
-    command: Command,
-    tables: &Tables,
-    input: &str,
-) -> Result<(Vec<u8>, Status), CliError> {
-    let mut written = Vec::new(alloc);
-    let mut reader = input.as_bytes();
-    let status = run(alloc, &command, tables, &mut reader, &mut written)?;
-    Ok((written, status))
-}
-
-const RUNS: [(Command, &str, &str, Status); 10] = [
+// Words, input, output, and 0, 1 or the words of the refusal.
+const RUNS: [(&str, &str, &str, &str); 30] = [
     (
-        Command::Maximize,
+        "maximize",
         "zh-CN\nund-SA\n",
         "zh-Hans-CN\tM\nar-Arab-SA\tM\n",
-        Status::Accepted,
+        "0",
     ),
     (
-        Command::Maximize,
+        "maximize",
         "zh-CN\nEN_us\n\n",
         "zh-Hans-CN\tM\nen-Latn-US\tM\n?\tInvalidLanguage\n",
-        Status::Refused,
+        "1",
     ),
+    ("maximize", "zh-CN\r\n", "?\tInvalidSubtag\n", "1"),
+    ("maximize", "", "", "0"),
     (
-        Command::Maximize,
-        "zh-CN\r\n",
-        "?\tInvalidSubtag\n",
-        Status::Refused,
-    ),
-    (Command::Maximize, "", "", Status::Accepted),
-    (
-        Command::Maximize,
+        "maximize",
         "en-\nde",
         "?\tInvalidSubtag\nde-Latn-DE\tM\n",
-        Status::Refused,
+        "1",
     ),
     (
-        Command::Minimize,
+        "maximize",
+        "e\nengl\n-\nLatn-US\n",
+        "?\tInvalidLanguage\n?\tInvalidLanguage\n?\tInvalidLanguage\n?\tInvalidLanguage\n",
+        "1",
+    ),
+    (
+        "maximize",
+        "en--US\nen-US \nen-ab1\n",
+        "?\tInvalidSubtag\n?\tInvalidSubtag\n?\tInvalidSubtag\n",
+        "1",
+    ),
+    (
+        "maximize",
+        "en-abcdefghi\nen-abcde-abcd\nen-ABCDE-abcde\n",
+        "?\tInvalidSubtag\n?\tInvalidSubtag\n?\tInvalidSubtag\n",
+        "1",
+    ),
+    (
+        "maximize",
+        "en-1abc\nen-abcd\nDE_1996-1901\n",
+        "en-Latn-US-1abc\tM\nen-Abcd-US\tM\nde-Latn-DE-1901-1996\tM\n",
+        "0",
+    ),
+    (
+        "minimize",
         "zh-Hans-CN\nyue-Hans",
         "zh\tM\nyue-CN\tM\n",
-        Status::Accepted,
+        "0",
     ),
     (
-        Command::MinimizeScript,
+        "minimize-script",
         "yue-Hans\nzh-TW\n",
         "yue-Hans\tU\nzh-Hant\tM\n",
-        Status::Accepted,
+        "0",
     ),
     (
-        Command::Canonicalize,
+        "canonicalize",
         "sgn-DD\nsh\nja\n",
         "gsg\tM\nsr-Latn\tM\nja\tU\n",
-        Status::Accepted,
+        "0",
+    ),
+    ("direction", "en-Arab\nar\nund\n", "rtl\nrtl\nnone\n", "0"),
+    ("settled", "never read", "yes\n", "0"),
+    ("maximize json", "{}", "", "data: IdentifierNotFound"),
+    ("canonicalize json", SETTLED, "", "data: IdentifierNotFound"),
+    ("direction json", SETTLED, "", "data: IdentifierNotFound"),
+    ("settled json", "{}\n", "", "data: IdentifierNotFound"),
+    ("maximize json", "", "", "tables: Json"),
+    ("maximize json", "{\"colour\":1}\nen\n", "", "tables: Shape"),
+    ("settled json", UNSETTLED, "no\n", "0"),
+    ("settled json", SETTLED, "yes\n", "0"),
+    ("maximize json", EXTENDED, "az-Latn-AZ\tM\naa\tU\n", "0"),
+    ("minimize json", EXTENDED, "az\tU\naa\tU\n", "0"),
+    (
+        "canonicalize json",
+        EXTENDED,
+        "az\tU\n?\tNoFixedPoint\n",
+        "1",
+    ),
+    ("direction json", EXTENDED, "ltr\nnone\n", "0"),
+    ("", "", "", "usage: icu_locale_cli COMMAND [json]"),
+    ("Maximize", "", "", "usage: icu_locale_cli COMMAND [json]"),
+    (
+        "maximize JSON",
+        "",
+        "",
+        "usage: icu_locale_cli COMMAND [json]",
     ),
     (
-        Command::Direction,
-        "en-Arab\nar\nund\n",
-        "rtl\nrtl\nnone\n",
-        Status::Accepted,
+        "maximize json json",
+        "",
+        "",
+        "usage: icu_locale_cli COMMAND [json]",
     ),
-    (Command::Settled, "never read", "yes\n", Status::Accepted),
 ];
+
+fn command(alloc: Global, words: &str) -> Result<Result<(Command, bool), CliError>, Fail> {
+    let mut list = Vec::new(alloc);
+    for word in words.split_whitespace() {
+        list.push(String::from_str(alloc, word)?)?;
+    }
+    Ok(Command::from_words(&list))
+}
+
+// The status of a run, or the words of its refusal.
+fn told(alloc: Global, ended: Result<Status, CliError>) -> Result<String, Fail> {
+    Ok(match ended {
+        Ok(Status::Accepted) => String::from_str(alloc, "0")?,
+        Ok(Status::Refused) => String::from_str(alloc, "1")?,
+        Err(refusal) => format!(in alloc; "{refusal}")?,
+    })
+}
+
+fn ended(
+    alloc: Global,
+    tables: &Tables,
+    words: &str,
+    input: &str,
+    written: &mut Vec<u8>,
+) -> Result<Result<Status, CliError>, Fail> {
+    let mut reader = input.as_bytes();
+    Ok(match command(alloc, words)? {
+        Ok((command, true)) => run_json(alloc, &command, &mut reader, written),
+        Ok((command, false)) => run(alloc, &command, tables, &mut reader, written),
+        Err(refusal) => Err(refusal),
+    })
+}
 
 fn one_run(
     rt: &impl Abort,
     alloc: Global,
     tables: &Tables,
-    row: (Command, &str, &str, Status),
+    row: (&str, &str, &str, &str),
 ) -> Result<(), Fail> {
-    let (command, input, want, status) = row;
-    let (written, ended) = output(alloc, command, tables, input)?;
-    assert_eq!(rt; written.as_slice(), want.as_bytes(), "at {input}");
-    assert_eq!(rt; ended, status, "at {input}");
+    let (words, input, output, status) = row;
+    let mut written = Vec::new(alloc);
+    let ended = ended(alloc, tables, words, input, &mut written)?;
+    assert_eq!(rt;
+        written.as_slice(),
+        output.as_bytes(),
+        "at {words}: {input}"
+    );
+    assert_eq!(rt; told(alloc, ended)?.as_str(), status, "at {words}: {input}");
     Ok(())
 }
 
-fn all_runs(rt: &impl Abort, alloc: Global, tables: &Tables) -> Result<(), Fail> {
+#[test]
+fn runs(rt: HostRuntime) -> Result<(), Fail> {
+    let tables = sample(rt.alloc())?;
     for row in RUNS {
-        one_run(rt, alloc, tables, row)?;
+        one_run(&rt, rt.alloc(), &tables, row)?;
     }
     Ok(())
 }
 
 #[test]
-fn lines(rt: HostRuntime) -> Result<(), Fail> {
+fn bytes_past_ascii(rt: HostRuntime) -> Result<(), Fail> {
     let tables = sample(rt.alloc())?;
-    all_runs(&rt, rt.alloc(), &tables)
-}
-
-const HOSTILE: &str =
-    "e\nengl\n-\nLatn-US\nen--US\nen-US \nen-ab1\nen-abcdefghi\nen-abcde-abcd\nen-ABCDE-abcde\nen-1abc\nen-abcd\nDE_1996-1901\n";
-
-const REFUSED: &str =
-    "?\tInvalidLanguage\n?\tInvalidLanguage\n?\tInvalidLanguage\n?\tInvalidLanguage\n?\tInvalidSubtag\n?\tInvalidSubtag\n?\tInvalidSubtag\n?\tInvalidSubtag\n?\tInvalidSubtag\n?\tInvalidSubtag\nen-Latn-US-1abc\tM\nen-Abcd-US\tM\nde-Latn-DE-1901-1996\tM\n";
-
-fn refused_bytes(rt: &impl Abort, alloc: Global, tables: &Tables) -> Result<(), Fail> {
-    let mut bytes = Vec::new(alloc);
-    let status = run(
-        alloc,
+    let mut written = Vec::new(rt.alloc());
+    let mut reader = b"en-\xff\n\xff".as_slice();
+    let ended = run(
+        rt.alloc(),
         &Command::Maximize,
-        tables,
-        &mut b"en-\xff\n\xff".as_slice(),
-        &mut bytes,
-    )?;
+        &tables,
+        &mut reader,
+        &mut written,
+    );
+    assert!(rt; ended == Ok(Status::Refused));
     assert_eq!(rt;
-        bytes.as_slice(),
+        written.as_slice(),
         b"?\tInvalidSubtag\n?\tInvalidLanguage\n".as_slice()
     );
-    assert_eq!(rt; status, Status::Refused);
-    Ok(())
-}
-
-#[test]
-fn hostile_lines(rt: HostRuntime) -> Result<(), Fail> {
-    let tables = sample(rt.alloc())?;
-    one_run(
-        &rt,
-        rt.alloc(),
-        &tables,
-        (Command::Maximize, HOSTILE, REFUSED, Status::Refused),
-    )?;
-    refused_bytes(&rt, rt.alloc(), &tables)
-}
-
-fn needs_tables(rt: &impl Abort, alloc: Global, command: Command) {
-    let nothing = Tables::new(alloc);
-    let not_found = CliError::Data(DataError {
-        kind: DataErrorKind::IdentifierNotFound,
-    });
-    assert!(rt; output(alloc, command, &nothing, "en\n").err() == Some(not_found));
-}
-
-fn a_failed_read(rt: &impl Abort, alloc: Global, tables: &Tables) {
-    let mut written = Vec::new(alloc);
-    let mut reader = FailingReader { bytes: b"zh-" };
-    let failed = run(alloc, &Command::Maximize, tables, &mut reader, &mut written);
-    assert!(rt; failed.err() == Some(CliError::Read));
-    assert!(rt; written.is_empty());
-}
-
-fn a_failed_write(rt: &impl Abort, alloc: Global, tables: &Tables) {
-    let mut writer = FullWriter {
-        bytes: Vec::new(alloc),
-        room: 17,
-    };
-    let failed = run(
-        alloc,
-        &Command::Maximize,
-        tables,
-        &mut b"zh-CN\nde\n".as_slice(),
-        &mut writer,
-    );
-    assert!(rt; failed.err() == Some(CliError::Write));
-    assert_eq!(rt; writer.bytes.as_slice(), b"zh-Hans-CN\tM\nde-L".as_slice());
-}
-
-#[test]
-fn refusals(rt: HostRuntime) -> Result<(), Fail> {
-    needs_tables(&rt, rt.alloc(), Command::Maximize);
-    needs_tables(&rt, rt.alloc(), Command::Direction);
-    needs_tables(&rt, rt.alloc(), Command::Canonicalize);
-    needs_tables(&rt, rt.alloc(), Command::Settled);
-    let tables = sample(rt.alloc())?;
-    a_failed_read(&rt, rt.alloc(), &tables);
-    a_failed_write(&rt, rt.alloc(), &tables);
-    Ok(())
-}
-
-const WORDS: [(&str, Option<Command>); 9] = [
-    ("maximize", Some(Command::Maximize)),
-    ("minimize", Some(Command::Minimize)),
-    ("minimize-script", Some(Command::MinimizeScript)),
-    ("canonicalize", Some(Command::Canonicalize)),
-    ("direction", Some(Command::Direction)),
-    ("settled", Some(Command::Settled)),
-    ("Maximize", None),
-    ("", None),
-    ("name", None),
-];
-
-#[test]
-fn one_word(rt: HostRuntime) -> Result<(), Fail> {
-    for (word, want) in WORDS {
-        let words = vec![in rt.alloc(); String::from_str(rt.alloc(), word)?]?;
-        match Command::from_words(&words) {
-            Ok((command, json)) => assert!(rt; Some(command) == want && !json, "at {word}"),
-            Err(refusal) => {
-                assert!(rt; want.is_none() && refusal == CliError::Usage, "at {word}");
-            }
-        }
-    }
-    Ok(())
-}
-
-#[test]
-fn no_word_and_two(rt: HostRuntime) -> Result<(), Fail> {
-    let two = vec![in rt.alloc();
-        String::from_str(rt.alloc(), "maximize")?,
-        String::from_str(rt.alloc(), "json")?,
-    ]?;
-    assert!(rt; Command::from_words(&two).is_err());
-    assert!(rt; Command::from_words(&[]).is_err());
     Ok(())
 }
 
@@ -261,6 +206,8 @@ fn words_of_refusals(rt: HostRuntime) -> Result<(), Fail> {
     };
     for (refusal, want) in [
         (CliError::Usage, "usage: icu_locale_cli COMMAND [json]"),
+        (CliError::Tables(TableError::Json), "tables: Json"),
+        (CliError::Tables(TableError::Shape), "tables: Shape"),
         (CliError::Data(custom), "data: Custom"),
         (CliError::Read, "read failed"),
         (CliError::Write, "write failed"),

@@ -1,0 +1,156 @@
+//! The calls that rows name.
+use crate::canonical;
+use crate::fault::Fault;
+use crate::likely::{self, Likely};
+use crate::texts::{self, Kind};
+use crate::world::World;
+use icu_tables::{TableError, Tables};
+use std::alloc::Global;
+
+/// What a row calls.
+#[derive(Clone, Copy)]
+pub enum Call {
+    /// Reads a text, and writes what was read.
+    Read(Kind),
+    /// Asks an expander or a directionality about an identifier.
+    Likely(Likely),
+    /// Asks whether the tables are settled.
+    Settled,
+    /// Canonicalizes a locale.
+    Canonicalize,
+    /// Makes one turn.
+    Search,
+    /// Makes one turn of a transform language.
+    SearchTransform,
+    /// Asks whether a rule matches.
+    RuleMatches,
+    /// Replaces by a rule.
+    Replacement,
+    /// Makes a set of variants.
+    Variants,
+    /// Compares identifiers.
+    Order,
+    /// Puts, takes out and asks for keywords.
+    Keywords,
+    /// Reads tables, and names what they hold.
+    Json,
+    /// Reads each beginning of a JSON text that is not the whole.
+    JsonCuts,
+}
+
+const CALLS: [(&str, Call); 26] = [
+    ("read", Call::Read(Kind::Identifier)),
+    ("language", Call::Read(Kind::Language)),
+    ("script", Call::Read(Kind::Script)),
+    ("region", Call::Read(Kind::Region)),
+    ("variant", Call::Read(Kind::Variant)),
+    ("key", Call::Read(Kind::Key)),
+    ("subtag", Call::Read(Kind::Subtag)),
+    ("value", Call::Read(Kind::Value)),
+    ("maximize", Call::Likely(Likely::Maximize)),
+    ("minimize", Call::Likely(Likely::Minimize)),
+    ("minimize-script", Call::Likely(Likely::MinimizeScript)),
+    ("likely-script", Call::Likely(Likely::Script)),
+    ("direction", Call::Likely(Likely::Direction)),
+    ("right-to-left", Call::Likely(Likely::RightToLeft)),
+    ("left-to-right", Call::Likely(Likely::LeftToRight)),
+    ("settled", Call::Settled),
+    ("canonicalize", Call::Canonicalize),
+    ("search", Call::Search),
+    ("search-transform", Call::SearchTransform),
+    ("rule-matches", Call::RuleMatches),
+    ("replacement", Call::Replacement),
+    ("variants", Call::Variants),
+    ("order", Call::Order),
+    ("keywords", Call::Keywords),
+    ("json", Call::Json),
+    ("json-cuts", Call::JsonCuts),
+];
+
+/// The call of a name.
+pub fn named(name: &str) -> Option<Call> {
+    for (known, call) in &CALLS {
+        if *known == name {
+            return Some(*call);
+        }
+    }
+    None
+}
+
+/// The answer of a call to the bytes of a row.
+pub fn answer(alloc: Global, world: &World, call: Call, input: &[u8]) -> Result<String, Fault> {
+    match call {
+        Call::Read(kind) => texts::read(alloc, kind, input),
+        Call::Likely(call) => likely::answer(alloc, world, call, input),
+        Call::Json => held(alloc, input),
+        Call::JsonCuts => cuts(alloc, input),
+        _ => match str::from_utf8(input) {
+            Ok(text) => answer_text(alloc, world, call, text),
+            Err(_) => Err(Fault::Row),
+        },
+    }
+}
+
+fn answer_text(alloc: Global, world: &World, call: Call, text: &str) -> Result<String, Fault> {
+    match call {
+        Call::Settled => likely::settled(alloc, world),
+        Call::Canonicalize => canonical::canonicalize(alloc, world, text),
+        Call::Search => canonical::search(alloc, world, false, text),
+        Call::SearchTransform => canonical::search(alloc, world, true, text),
+        Call::Variants => texts::variants(alloc, text),
+        Call::Keywords => texts::keywords(alloc, text),
+        _ => answer_words(alloc, call, text),
+    }
+}
+
+fn answer_words(alloc: Global, call: Call, text: &str) -> Result<String, Fault> {
+    let mut words = text.split(' ');
+    let first = words.next().unwrap_or("");
+    let second = words.next().unwrap_or("");
+    match call {
+        Call::RuleMatches => canonical::rule_matches(alloc, first, second),
+        Call::Order => texts::order(alloc, first, second),
+        _ => canonical::replacement(alloc, first, second, words.next().unwrap_or("")),
+    }
+}
+
+// What the tables of a JSON text hold, or the refusal's name.
+fn held(alloc: Global, text: &[u8]) -> Result<String, Fault> {
+    match Tables::from_json(alloc, text) {
+        Ok(tables) => held_names(alloc, &tables),
+        Err(refusal) => Ok(format!(in alloc; "{refusal}")?),
+    }
+}
+
+fn held_names(alloc: Global, tables: &Tables) -> Result<String, Fault> {
+    let mut answer = String::from_str(alloc, "holds")?;
+    for (name, is_held) in [
+        (" likely_language", tables.likely_language.is_some()),
+        (
+            " likely_script_region",
+            tables.likely_script_region.is_some(),
+        ),
+        (" likely_extended", tables.likely_extended.is_some()),
+        (" aliases", tables.aliases.is_some()),
+        (" direction", tables.script_direction.is_some()),
+    ] {
+        if is_held {
+            answer.push_str(name)?;
+        }
+    }
+    Ok(answer)
+}
+
+// `Json` where each beginning short of the whole is refused so, else how long one is that is not.
+fn cuts(alloc: Global, text: &[u8]) -> Result<String, Fault> {
+    for length in 0..text.len() {
+        if !is_json_refusal(alloc, &text[..length]) {
+            return Ok(format!(in alloc; "otherwise after {length} bytes")?);
+        }
+    }
+    Ok(String::from_str(alloc, "Json")?)
+}
+
+fn is_json_refusal(alloc: Global, text: &[u8]) -> bool {
+    matches!(Tables::from_json(alloc, text), Err(TableError::Json))
+}

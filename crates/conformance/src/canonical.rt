@@ -1,0 +1,137 @@
+//! Canonical forms, rule by rule and whole.
+use crate::fault::Fault;
+use crate::likely::{mark, yes_or_no};
+use crate::world::World;
+use icu_locale::{CanonicalizeError, LocaleCanonicalizer, TransformResult, Turns, laws};
+use icu_locale_core::{Key, LanguageIdentifier, Locale, Value};
+use std::alloc::Global;
+
+// The locale of an identifier, and of what stands behind it: `t=` a transform language, `rg=` and `sd=` values.
+fn locale(alloc: Global, text: &str) -> Result<Locale, Fault> {
+    let mut words = text.split_whitespace();
+    let id = LanguageIdentifier::try_from_str(alloc, words.next().unwrap_or(""))?;
+    let mut locale = Locale::new(alloc, id);
+    for word in words {
+        extend(alloc, &mut locale, word)?;
+    }
+    Ok(locale)
+}
+
+fn extend(alloc: Global, locale: &mut Locale, word: &str) -> Result<(), Fault> {
+    let Some((key, text)) = word.split_once('=') else {
+        return Err(Fault::Row);
+    };
+    if key == "t" {
+        let lang = LanguageIdentifier::try_from_str(alloc, text)?;
+        locale.extensions.transform.lang = Some(lang);
+    } else {
+        let value = Value::try_from_str(alloc, text)?;
+        let _ = locale
+            .extensions
+            .unicode
+            .keywords
+            .set(Key::try_from_str(key)?, value)?;
+    }
+    Ok(())
+}
+
+// A locale in the form in which it is read.
+fn written(alloc: Global, locale: &Locale) -> Result<String, Fault> {
+    let mut text = format!(in alloc; "{}", locale.id)?;
+    if let Some(lang) = &locale.extensions.transform.lang {
+        write!(text, " t={lang}")?;
+    }
+    for key in ["rg", "sd"] {
+        write_value(&mut text, locale, key)?;
+    }
+    Ok(text)
+}
+
+fn write_value(text: &mut String, locale: &Locale, key: &str) -> Result<(), Fault> {
+    let keywords = &locale.extensions.unicode.keywords;
+    if let Some(value) = keywords.get(Key::try_from_str(key)?) {
+        write!(text, " {key}={value}")?;
+    }
+    Ok(())
+}
+
+/// What becomes of a locale. A refused call must leave it as it was, and the counted call must do the same.
+pub fn canonicalize(alloc: Global, world: &World, text: &str) -> Result<String, Fault> {
+    let canonicalizer = world.canonicalizer(alloc)?;
+    let before = locale(alloc, text)?;
+    let mut counted = before.try_clone()?;
+    let mut after = before.try_clone()?;
+    let answer = canonicalizer.canonicalize(&mut after);
+    let again = canonicalizer.canonicalize_counted(&mut counted, &mut Turns::new());
+    if after != counted || answer.is_ok() != again.is_ok() {
+        return Ok(String::from_str(alloc, "the counted call differs")?);
+    }
+    told(alloc, answer, &before, &after)
+}
+
+fn told(
+    alloc: Global,
+    answer: Result<TransformResult, CanonicalizeError>,
+    before: &Locale,
+    after: &Locale,
+) -> Result<String, Fault> {
+    match answer {
+        Ok(changed) => {
+            let (text, mark) = (written(alloc, after)?, mark(changed));
+            Ok(format!(in alloc; "{text} {mark}")?)
+        }
+        Err(_) if before != after => Ok(String::from_str(alloc, "refused, and changed")?),
+        Err(refusal) => refused(alloc, refusal),
+    }
+}
+
+fn refused(alloc: Global, refusal: CanonicalizeError) -> Result<String, Fault> {
+    let mut text = format!(in alloc; "{refusal}")?;
+    if let CanonicalizeError::NoFixedPoint(id) = refusal {
+        write!(text, " {id}")?;
+    }
+    Ok(text)
+}
+
+/// What follows an identifier in one turn, by all rules or by those of a transform language.
+pub fn search(alloc: Global, world: &World, transform: bool, text: &str) -> Result<String, Fault> {
+    let canonicalizer = world.canonicalizer(alloc)?;
+    let id = LanguageIdentifier::try_from_str(alloc, text)?;
+    follow(alloc, &canonicalizer, transform, &id)
+}
+
+fn follow(
+    alloc: Global,
+    canonicalizer: &LocaleCanonicalizer<'_>,
+    transform: bool,
+    id: &LanguageIdentifier,
+) -> Result<String, Fault> {
+    match laws::search(canonicalizer, id, transform, &mut Turns::new()) {
+        Ok(Some(next)) => Ok(format!(in alloc; "{next}")?),
+        Ok(None) => Ok(String::from_str(alloc, "none")?),
+        Err(_) => Err(Fault::Memory),
+    }
+}
+
+/// Whether the second identifier, as a rule, matches the first.
+pub fn rule_matches(alloc: Global, source: &str, rule: &str) -> Result<String, Fault> {
+    let source = LanguageIdentifier::try_from_str(alloc, source)?;
+    let rule = LanguageIdentifier::try_from_str(alloc, rule)?;
+    Ok(String::from_str(alloc, yes_or_no(laws::rule_matches(&source, &rule)))?)
+}
+
+/// What a rule and its replacement make of a source.
+pub fn replacement(
+    alloc: Global,
+    source: &str,
+    rule: &str,
+    replacement: &str,
+) -> Result<String, Fault> {
+    let source = LanguageIdentifier::try_from_str(alloc, source)?;
+    let rule = LanguageIdentifier::try_from_str(alloc, rule)?;
+    let replacement = LanguageIdentifier::try_from_str(alloc, replacement)?;
+    match laws::replacement(&source, &rule, &replacement) {
+        Ok(made) => Ok(format!(in alloc; "{made}")?),
+        Err(_) => Err(Fault::Memory),
+    }
+}

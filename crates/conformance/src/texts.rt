@@ -1,0 +1,138 @@
+//! Texts of subtags, identifiers, values and keywords.
+use crate::fault::Fault;
+use icu_locale_core::{
+    Key, Keywords, Language, LanguageIdentifier, ParseError, Region, Script, Subtag, Value,
+    Variant, Variants,
+};
+use std::alloc::Global;
+use std::cmp::Ordering;
+use std::fmt;
+
+/// What a text is read as.
+#[derive(Clone, Copy)]
+pub enum Kind {
+    /// An identifier.
+    Identifier,
+    /// A language.
+    Language,
+    /// A script.
+    Script,
+    /// A region.
+    Region,
+    /// A variant.
+    Variant,
+    /// A key of a keyword.
+    Key,
+    /// A piece of a value.
+    Subtag,
+    /// A value.
+    Value,
+}
+
+// What was read, as it is written, or the refusal's name.
+fn shown<T: fmt::Display + Drop>(
+    alloc: Global,
+    read: Result<T, ParseError>,
+) -> Result<String, Fault> {
+    match read {
+        Ok(value) => Ok(format!(in alloc; "{value}")?),
+        Err(refusal) => Ok(format!(in alloc; "{refusal}")?),
+    }
+}
+
+/// What a text is read as, and written.
+pub fn read(alloc: Global, kind: Kind, text: &[u8]) -> Result<String, Fault> {
+    match kind {
+        Kind::Identifier => shown(
+            alloc,
+            copied(LanguageIdentifier::try_from_utf8(alloc, text)),
+        ),
+        _ => match str::from_utf8(text) {
+            Ok(text) => read_str(alloc, kind, text),
+            Err(_) => Err(Fault::Row),
+        },
+    }
+}
+
+fn read_str(alloc: Global, kind: Kind, text: &str) -> Result<String, Fault> {
+    match kind {
+        Kind::Identifier => shown(alloc, LanguageIdentifier::try_from_str(alloc, text)),
+        Kind::Language => shown(alloc, Language::try_from_str(text)),
+        Kind::Script => shown(alloc, Script::try_from_str(text)),
+        Kind::Region => shown(alloc, Region::try_from_str(text)),
+        Kind::Variant => shown(alloc, Variant::try_from_str(text)),
+        Kind::Key => shown(alloc, Key::try_from_str(text)),
+        Kind::Subtag => shown(alloc, Subtag::try_from_str(text)),
+        Kind::Value => shown(alloc, Value::try_from_str(alloc, text)),
+    }
+}
+
+// A copy in place of what was read, where the two are equal.
+fn copied(read: Result<LanguageIdentifier, ParseError>) -> Result<LanguageIdentifier, ParseError> {
+    let id = read?;
+    let copy = id.try_clone()?;
+    if copy == id { Ok(copy) } else { Ok(id) }
+}
+
+/// The set of the words, which are variants.
+pub fn variants(alloc: Global, text: &str) -> Result<String, Fault> {
+    let mut list = Vec::new(alloc);
+    for word in text.split_whitespace() {
+        list.push(Variant::try_from_str(word)?)?;
+    }
+    let set = Variants::try_from_list(list)?;
+    let copy = set.try_clone()?;
+    if copy != set {
+        return Err(Fault::Row);
+    }
+    let mut answer = format!(in alloc; "{}", set.len())?;
+    for variant in copy.iter() {
+        write!(answer, " {variant}")?;
+    }
+    Ok(answer)
+}
+
+/// How the first identifier stands to the second.
+pub fn order(alloc: Global, first: &str, second: &str) -> Result<String, Fault> {
+    let first = LanguageIdentifier::try_from_str(alloc, first)?;
+    let second = LanguageIdentifier::try_from_str(alloc, second)?;
+    let order = match first.cmp(&second) {
+        Ordering::Less => "less",
+        Ordering::Equal => "equal",
+        Ordering::Greater => "greater",
+    };
+    Ok(String::from_str(alloc, order)?)
+}
+
+/// Words that put a value at a key (`nu=thai`), take one out (`-nu`) or ask for one (`?nu`): what was asked for.
+pub fn keywords(alloc: Global, text: &str) -> Result<String, Fault> {
+    let mut map = Keywords::new(alloc);
+    let mut answer = String::new(alloc);
+    for word in text.split_whitespace() {
+        keyword(alloc, &mut map, word, &mut answer)?;
+    }
+    if map.try_clone()? == map {
+        Ok(answer)
+    } else {
+        Err(Fault::Row)
+    }
+}
+
+fn keyword(
+    alloc: Global,
+    map: &mut Keywords,
+    word: &str,
+    answer: &mut String,
+) -> Result<(), Fault> {
+    if let Some(key) = word.strip_prefix('-') {
+        let _ = map.remove(Key::try_from_str(key)?);
+    } else if let Some(key) = word.strip_prefix('?') {
+        match map.get(Key::try_from_str(key)?) {
+            Some(value) => write!(answer, "[{value}]")?,
+            None => answer.push_str("none")?,
+        }
+    } else if let Some((key, value)) = word.split_once('=') {
+        let _ = map.set(Key::try_from_str(key)?, Value::try_from_str(alloc, value)?)?;
+    }
+    Ok(())
+}

@@ -1,0 +1,185 @@
+//! Readers and writers that are slow, fail or never end.
+use crate::command::Command;
+use crate::error::CliError;
+use crate::input::read_all;
+use crate::run::{run, run_json};
+use crate::sample::sample;
+use crate::status::Status;
+use icu_tables::Tables;
+use std::alloc::Global;
+use std::io;
+use std::io::{Read, Write};
+use std::process::Abort;
+use std::test::Fail;
+
+// A reader that gives one byte at a time, and then fails or ends.
+#[derive(Drop)]
+struct SlowReader<'a> {
+    bytes: &'a [u8],
+    fails: bool,
+}
+
+impl Read for SlowReader<'_> {
+    fn read(&mut self, buf: &mut [u8]) -> io::Result<usize> {
+        if self.fails && self.bytes.is_empty() {
+            return Err(io::Error::from(io::ErrorKind::Other));
+        }
+        let count = buf.len().min(1);
+        let (first, _) = buf.split_at_mut(count);
+        self.bytes.read(first)
+    }
+}
+
+// A reader without an end.
+#[derive(Drop)]
+struct EndlessReader;
+
+impl Read for EndlessReader {
+    fn read(&mut self, buf: &mut [u8]) -> io::Result<usize> {
+        Ok(buf.len())
+    }
+}
+
+// A writer that takes a few bytes at a time, and so many in all.
+#[derive(Drop)]
+struct SlowWriter {
+    bytes: Vec<u8>,
+    at_once: usize,
+    room: usize,
+}
+
+impl Write for SlowWriter {
+    fn write(&mut self, buf: &[u8]) -> io::Result<usize> {
+        let count = buf.len().min(self.at_once).min(self.room);
+        self.bytes.extend_from_slice(&buf[..count])?;
+        self.room -= count;
+        Ok(count)
+    }
+
+    fn flush(&mut self) -> io::Result<()> {
+        Ok(())
+    }
+}
+
+const COMMANDS: [Command; 5] = [
+    Command::Maximize,
+    Command::Minimize,
+    Command::MinimizeScript,
+    Command::Canonicalize,
+    Command::Direction,
+];
+
+fn failed_reads(rt: &impl Abort, alloc: Global, tables: &Tables) {
+    for command in COMMANDS {
+        let mut written = Vec::new(alloc);
+        let mut reader = SlowReader {
+            bytes: b"zh-",
+            fails: true,
+        };
+        let ended = run(alloc, &command, tables, &mut reader, &mut written);
+        assert!(rt; ended == Err(CliError::Read));
+        assert!(rt; written.is_empty());
+    }
+}
+
+#[test]
+fn a_failed_read_under_each_command(rt: HostRuntime) -> Result<(), Fail> {
+    let tables = sample(rt.alloc())?;
+    failed_reads(&rt, rt.alloc(), &tables);
+    let mut written = Vec::new(rt.alloc());
+    let mut reader = SlowReader {
+        bytes: b"{}",
+        fails: true,
+    };
+    let ended = run_json(rt.alloc(), &Command::Settled, &mut reader, &mut written);
+    assert!(rt; ended == Err(CliError::Read));
+    assert!(rt; written.is_empty());
+    Ok(())
+}
+
+// What the writer has taken, and how the run ended.
+fn written(
+    alloc: Global,
+    tables: &Tables,
+    at_once: usize,
+    room: usize,
+) -> (Result<Status, CliError>, Vec<u8>) {
+    let mut reader = SlowReader {
+        bytes: b"zh-CN\nde\n",
+        fails: false,
+    };
+    let mut writer = SlowWriter {
+        bytes: Vec::new(alloc),
+        at_once,
+        room,
+    };
+    let ended = run(alloc, &Command::Maximize, tables, &mut reader, &mut writer);
+    let SlowWriter {
+        bytes,
+        at_once: _,
+        room: _,
+    } = writer;
+    (ended, bytes)
+}
+
+fn slow_and_full(rt: &impl Abort, alloc: Global, tables: &Tables) {
+    let whole = b"zh-Hans-CN\tM\nde-Latn-DE\tM\n".as_slice();
+    let (ended, bytes) = written(alloc, tables, 1, 64);
+    assert!(rt; ended == Ok(Status::Accepted) && bytes.as_slice() == whole);
+    for room in 0..whole.len() {
+        let (ended, bytes) = written(alloc, tables, 7, room);
+        assert!(rt; ended == Err(CliError::Write));
+        assert_eq!(rt; bytes.as_slice(), &whole[..room]);
+    }
+}
+
+#[test]
+fn a_byte_at_a_time_and_a_full_writer(rt: HostRuntime) -> Result<(), Fail> {
+    let tables = sample(rt.alloc())?;
+    slow_and_full(&rt, rt.alloc(), &tables);
+    Ok(())
+}
+
+#[test]
+fn an_input_without_an_end(rt: HostRuntime) -> Result<(), Fail> {
+    let refused = read_all(rt.alloc(), &mut EndlessReader, 3).err();
+    assert!(rt; refused == Some(CliError::Read));
+    let mut reader = b"ab".as_slice();
+    let refused = read_all(rt.alloc(), &mut reader, 1).err();
+    assert!(rt; refused == Some(CliError::Read));
+    let mut reader = b"ab".as_slice();
+    let text = read_all(rt.alloc(), &mut reader, 2)?;
+    assert_eq!(rt; text.as_slice(), b"ab".as_slice());
+    Ok(())
+}
+
+// So many lines of one identifier with many variants.
+fn long_input(alloc: Global, lines: usize) -> Result<String, Fail> {
+    let mut text = String::new(alloc);
+    for _ in 0..lines {
+        text.push_str("en-Latn-US")?;
+        for variant in 1000..1100u16 {
+            write!(text, "-{variant}")?;
+        }
+        text.push('\n')?;
+    }
+    Ok(text)
+}
+
+#[test]
+fn long_lines_and_a_long_input(rt: HostRuntime) -> Result<(), Fail> {
+    let tables = sample(rt.alloc())?;
+    let input = long_input(rt.alloc(), 20)?;
+    let mut written = Vec::new(rt.alloc());
+    let mut reader = input.as_bytes();
+    let ended = run(
+        rt.alloc(),
+        &Command::Minimize,
+        &tables,
+        &mut reader,
+        &mut written,
+    );
+    assert!(rt; ended == Ok(Status::Accepted));
+    assert_eq!(rt; written.len() + 20 * 6, input.len());
+    Ok(())
+}
