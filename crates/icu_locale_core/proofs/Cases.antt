@@ -230,9 +230,6 @@ variant_length t h = by (has_length 5 8 t) (has_length 4 4 t) (λ e. grind (arit
     by false true f g c h = g refl
     by false false f g c h = absurd (cc)
 
-pub script_no_region : (t : List ℕ) → is_script t ≡ true → is_region t ≡ false
-script_no_region t h = false_from_ne_true (is_region t) (λ g. omega (arith, script_length t h, region_length t g))
-
 pub region_no_script : (t : List ℕ) → is_region t ≡ true → is_script t ≡ false
 region_no_script t h = false_from_ne_true (is_script t) (λ g. omega (arith, script_length t g, region_length t h))
 

@@ -1,10 +1,10 @@
 mod Agreements
 mod Cases
 mod Hashes
+mod Merges
 mod Padding
 mod Readings
 mod Searches
-mod SetOperations
 mod TextSets
 mod Values
 mod VariantLists

@@ -1,5 +1,5 @@
 -- Reading from the left finds exactly what a text spells.
-use Rattle.std.proofs.Common.{◌≡◌, ℕ, ◌==◌, Bool, true, false, ◌&&◌, ◌||◌, List, [], ◌∷◌, ◌++◌, length, map, slice_index_or, Option, Some, None, Result, Ok, Err, IfOk, IfSome, MatchOption, ◌⊎◌, inl, inr, if◌then◌else◌, refl, ap, sym, subst, ◌∙◌}
+use Rattle.std.proofs.Common.{◌≡◌, ℕ, ◌==◌, Bool, true, false, ◌&&◌, ◌||◌, List, [], ◌∷◌, ◌++◌, length, map, Option, Some, None, Result, Ok, Err, IfOk, IfSome, MatchOption, ◌⊎◌, inl, inr, if◌then◌else◌, refl, ap, sym, subst, ◌∙◌}
 use denote.Ref.{Bor}
 use Rattle.std.specs.Option.{option_to_list}
 use Rattle.std.specs.List.{list_all, list_any, Contains, All}
@@ -271,11 +271,6 @@ read_pieces-sound (p ∷ ps) =
     ] refl
 
 -- ---- the refusals
-
--- InvalidLanguage comes exactly where the first piece is no language
-pub read_pieces-language : (ps : List (List ℕ)) → is_language (slice_index_or ps 0 []) ≡ false → read_pieces ps ≡ Err InvalidLanguage
-read_pieces-language [] e = refl
-read_pieces-language (p ∷ ps) e = rw e refl
 
 -- a variant behind an optional piece is a variant of all pieces
 pub some_variant-after : (is_member : List ℕ → Bool) (ps : List (List ℕ)) → list_any is_variant (after_optional is_member ps) ≡ true → list_any is_variant ps ≡ true

@@ -1,19 +1,15 @@
 -- The pieces of a value, and their text read back.
-use Rattle.std.proofs.Common.{◌≡◌, ℕ, Bool, true, false, not, cond, ◌&&◌, ◌||◌, ◌==◌, List, [], ◌∷◌, ◌++◌, length, map, codes, refl, ap, sym, ◌∙◌, arith}
-use Rattle.std.specs.List.{All, list_all, join_by, filter, flat_map}
+use Rattle.std.proofs.Common.{◌≡◌, ℕ, true, false, not, cond, ◌&&◌, ◌||◌, ◌==◌, List, [], ◌∷◌, ◌++◌, length, codes, refl, ap, ◌∙◌}
+use Rattle.std.specs.List.{All, list_all, flat_map}
 use Rattle.std.proofs.lemmas.Bool.{false≢true, and_parts, and_from}
-use Rattle.std.proofs.lemmas.Bool.Decides.{nat_tests}
 use Rattle.std.proofs.Math.Dec.{eqb-suc-zero}
-use Rattle.std.proofs.lemmas.List.Elements.{All-nil, All-cons, All-append, All-head, All-tail, All-weaker, All-contains_itself}
+use Rattle.std.proofs.lemmas.List.Elements.{All-nil, All-cons, All-append, All-head, All-tail}
 use Rattle.std.proofs.lemmas.List.Folds.{list_all-append}
 use Rattle.icu_locale_core.specs.Identifier.{pieces}
-use Rattle.icu_locale_core.specs.Subtag.{is_subtag, is_alphanumeric, has_length, lowercase, IsSubtag}
+use Rattle.icu_locale_core.specs.Subtag.{is_subtag, IsSubtag}
 use Rattle.icu_locale_core.specs.Value.{is_true, is_value, IsValue, read_value, read_subtags, written_value}
 use Rattle.icu_locale_core.specs.declared.classes.Class.TheVariants.{Subtag}
 use Rattle.icu_locale_core.proofs.Written.{Whole, whole_member, pieces-join}
-
-pub IsValue-nil : IsValue []
-IsValue-nil = record { each = All-nil IsSubtag; plain = refl }
 
 -- a value with one more piece
 pub IsValue-more : (v : List (List ℕ)) (p : List ℕ) → IsValue v → IsSubtag p → is_true p ≡ false → IsValue (v ++ p ∷ [])

@@ -13,4 +13,5 @@ pub mod Subtag
 pub mod TextSet
 pub mod Value
 pub mod Variants
+pub mod inner
 pub mod laws

@@ -1,6 +1,7 @@
 //! The variants of an identifier: a set.
-ghost use Rattle.std.specs.Prelude.{◌≡◌, ◌↔◌, IsTrue, IsOk, IfOk, IfErr, true, ℕ, List};
+ghost use Rattle.std.specs.Prelude.{◌≡◌, ◌↔◌, IsTrue, IsOk, IfOk, IfErr, true, ℕ, List, ◌++◌};
 ghost use Rattle.std.specs.List.{All};
+ghost use Rattle.std.specs.List.Sorted.{IsStrictlySortedBy};
 ghost use Rattle.std.specs.Iterator.{YieldsFirst, item_count};
 ghost use Rattle.std.specs.Ordering.{as_partial_cmp, on};
 ghost use Rattle.std.specs.Cmp.{partial_order_from_own_ties};
@@ -11,6 +12,8 @@ ghost use Rattle.std.proofs.Common.{rules};
 ghost use Rattle.std.specs.Prelude.{nat_eq};
 ghost use Rattle.std.proofs.lemmas.Slice.Eq.{bytes_eq-Decides};
 ghost use Rattle.icu_locale_core.specs.Order.{text_lists_ties};
+ghost use Rattle.icu_locale_core.specs.inner.Merging.{HasAllAbove, least, behind};
+ghost use Rattle.icu_locale_core.specs.laws.TextSets.{is_among};
 ghost use Rattle.icu_locale_core.specs.Subtag.{IsVariant};
 ghost use Rattle.icu_locale_core.specs.TextSet.{text_cmp, empty, contains, from_list, rising};
 ghost use Rattle.icu_locale_core.specs.TextSet.{len, is_subset, union, difference};
@@ -105,9 +108,15 @@ impl Variants {
     pub fn is_subset(&self, others: &Variants) -> bool
         ensures { result ≡ is_subset self.now others.now }
     {
-        self.as_slice()
-            .iter()
-            .all(|variant| others.contains(variant))
+        let mut rest = others.as_slice();
+        for variant in self.as_slice() {
+            let (later, is_there) = past(rest, variant);
+            if !is_there {
+                return false;
+            }
+            rest = later;
+        }
+        true
     }
 
     /// Those that are not `removed`, together with those that are `added`. Where that is none it takes no memory.
@@ -121,25 +130,29 @@ impl Variants {
         ensures free { union (difference self.now removed.now) added.now ≡ empty → IsOk result }
     {
         let alloc = *self.items.allocator();
-        if self.leaves_none(removed, added) {
-            return Ok(Variants::new(alloc));
-        }
-        let Ok(mut list) = Vec::from_slice(alloc, added.as_slice()) else {
-            return Err(ParseError::Memory);
-        };
-        for variant in self.as_slice() {
-            if !removed.contains(variant) {
-                list.push(*variant)?;
-            }
-        }
-        Variants::try_from_list(list)
+        let kept = self.without(alloc, removed)?;
+        let items = merged(alloc, &kept, added.as_slice())?;
+        know_each(&items);
+        Ok(Variants { items })
     }
 
-    // Whether none is left without `removed` and with `added`.
-    fn leaves_none(&self, removed: &Variants, added: &Variants) -> bool
-        ensures { IsTrue result ↔ (union (difference self.now removed.now) added.now ≡ empty) }
+    // The list of those that are not `removed`, rising.
+    fn without(&self, alloc: Global, removed: &Variants) -> Result<Vec<Variant>, ParseError>
+        ensures list { IfOk result (λ list. list.items ≡ rising (difference self.now removed.now)) }
+        ensures refused { IfErr result (λ e. e ≡ ParseError.Memory) }
+        ensures free { difference self.now removed.now ≡ empty → IsOk result }
     {
-        added.is_empty() && self.is_subset(removed)
+        let mut list = Vec::new(alloc);
+        let mut rest = removed.as_slice();
+        for variant in self.as_slice() {
+            let (later, is_removed) = past(rest, variant);
+            rest = later;
+            if is_removed {
+                continue;
+            }
+            list.push(*variant)?;
+        }
+        Ok(list)
     }
 
     // The list behind the set.
@@ -222,6 +235,66 @@ impl Hash for Variants {
 impl fmt::Debug for Variants {
     fn fmt<W: fmt::Write>(&self, f: &mut fmt::Formatter<W>) -> fmt::Result {
         fmt::Debug::fmt(self.as_slice(), f)
+    }
+}
+
+// What follows a variant in a rising list, and whether it is there.
+fn past<'a>(mut list: &'a [Variant], variant: &Variant) -> (&'a [Variant], bool)
+    requires { IsStrictlySortedBy text_cmp list.now }
+    ensures there { result.1 ≡ is_among variant.now list.now }
+    ensures later { HasAllAbove variant.now list.now result.0.now }
+    ensures rises { IsStrictlySortedBy text_cmp result.0.now }
+{
+    while let Some((first, rest)) = list.split_first() {
+        match first.cmp(variant) {
+            Ordering::Less => list = rest,
+            Ordering::Equal => return (rest, true),
+            Ordering::Greater => return (list, false),
+        }
+    }
+    (list, false)
+}
+
+// The variants of two rising lists in one rising list, each once.
+fn merged<'a>(
+    alloc: Global,
+    mut left: &'a [Variant],
+    mut right: &'a [Variant],
+) -> Result<Vec<Variant>, ParseError>
+    requires left { IsStrictlySortedBy text_cmp left.now }
+    requires right { IsStrictlySortedBy text_cmp right.now }
+    ensures list { IfOk result (λ list. list.items ≡ rising (from_list (left.now ++ right.now))) }
+    ensures refused { IfErr result (λ e. e ≡ ParseError.Memory) }
+    ensures free { from_list (left.now ++ right.now) ≡ empty → IsOk result }
+{
+    let mut list = Vec::new(alloc);
+    while let Some(next) = least(left, right) {
+        list.push(next)?;
+        left = behind(left, &next);
+        right = behind(right, &next);
+    }
+    Ok(list)
+}
+
+// The lesser of the first variants of two lists, if there is one.
+fn least(left: &[Variant], right: &[Variant]) -> Option<Variant>
+    ensures { result ≡ least left.now right.now }
+{
+    match (left.first(), right.first()) {
+        (Some(first), Some(other)) => Some(if other < first { *other } else { *first }),
+        (Some(first), None) => Some(*first),
+        (None, Some(other)) => Some(*other),
+        (None, None) => None,
+    }
+}
+
+// A list without its first variant, where that is this one.
+fn behind<'a>(list: &'a [Variant], variant: &Variant) -> &'a [Variant]
+    ensures { result.now ≡ behind variant.now list.now }
+{
+    match list.split_first() {
+        Some((first, rest)) if variant == first => rest,
+        _ => list,
     }
 }
 
