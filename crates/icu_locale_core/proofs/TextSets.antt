@@ -12,41 +12,9 @@ use Rattle.std.proofs.lemmas.Bool.{false≢true, and_parts}
 use Rattle.icu_locale_core.specs.TextSet.{text_cmp, TextSet, contains, from_list, rising, is_subset}
 use Rattle.icu_locale_core.specs.laws.TextSets.{is_among, contains-from_list, contains-rising, same_set, same_from_tied}
 
-abbrev with_units : List (List ℕ) → List (List ℕ × Unit {0})
-with_units ts = map (λ t. (t, tt)) ts
-
-keys-with_units : (ts : List (List ℕ)) → map (λ e. e.0) (with_units ts) ≡ ts
-keys-with_units [] = refl
-keys-with_units (t ∷ ts) = ap (λ r. t ∷ r) (keys-with_units ts)
-
-T_from_true : (b : Bool) → b ≡ true → T b
-T_from_true true e = tt
-T_from_true false e = absurd (false≢true e)
-
 true_from_T : (b : Bool) → T b → b ≡ true
 true_from_T true e = refl
 true_from_T false e = absurd e
-
-below_all-with_units : (t : List ℕ) (ts : List (List ℕ)) → AllByRecursion (λ y. text_cmp t y ≡ Less) ts → below_all text_cmp t (with_units ts) ≡ true
-below_all-with_units t [] h = refl
-below_all-with_units t (u ∷ ts) h = rw h.0 (below_all-with_units t ts h.1)
-
-is_sorted-with_units : (ts : List (List ℕ)) → IsStrictlySortedBy text_cmp ts → is_sorted text_cmp (with_units ts) ≡ true
-unfolding IsStrictlySortedBy
-is_sorted-with_units [] h = refl
-is_sorted-with_units (t ∷ ts) h = λ i. below_all-with_units t ts h.0 i && is_sorted-with_units ts h.1 i
-
--- the rising list of the set of a rising list is that list
-pub rising-from_list : (ts : List (List ℕ)) → IsStrictlySortedBy text_cmp ts → rising (from_list ts) ≡ ts
-rising-from_list ts h =
-    let sorted = T_from_true _ (is_sorted-with_units ts h) in
-    let direct = fin.from_sorted {R = text_cmp} (with_units ts) in
-    let same : from_list ts ≡ direct = same_set (from_list ts) direct (λ q.
-    contains-from_list ts q
-    ∙ ap (is_among q) (sym (keys-with_units ts))
-    ∙ sym (is_some-find text_cmp q (with_units ts))
-    ∙ ap is_some (sym (fin.get-from_sorted text_cmp (with_units ts) q sorted))) in
-    ap rising same ∙ ap (map (λ e. e.0)) (fin.entries-from_sorted text_cmp (with_units ts) sorted) ∙ keys-with_units ts
 
 less_from_test : (o : Ordering) → is_lt o ≡ true → o ≡ Less
 less_from_test Less e = refl

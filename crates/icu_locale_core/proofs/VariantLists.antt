@@ -19,19 +19,6 @@ pub IsVariantList-nil : IsVariantList []
 unfolding IsStrictlySortedBy
 IsVariantList-nil = record { rise = tt; each = All-nil IsVariant }
 
--- two tests that imply each other are equal
-pub same_tests : (a b : Bool) → (a ≡ true → b ≡ true) → (b ≡ true → a ≡ true) → a ≡ b
-same_tests true b f g = sym (f refl)
-same_tests false true f g = g refl
-same_tests false false f g = refl
-
--- lists with the same elements have the same set
-pub from_list-same : (ts us : List (List ℕ)) → ((t : List ℕ) → Contains ts t → Contains us t) → ((t : List ℕ) → Contains us t → Contains ts t) → from_list ts ≡ from_list us
-from_list-same ts us there back = same_set (from_list ts) (from_list us) (λ q.
-    contains-from_list ts q
-    ∙ same_tests (is_among q ts) (is_among q us) (λ h. is_among-Contains q us (there q (Contains-is_among q ts h))) (λ h. is_among-Contains q ts (back q (Contains-is_among q us h)))
-    ∙ sym (contains-from_list us q))
-
 module _ (list sorted : List (List ℕ)) (moved : IsPermutation list sorted) where
   unique : List (List ℕ)
   unique = dedup (pointwise nat_eq) sorted
@@ -39,15 +26,6 @@ module _ (list sorted : List (List ℕ)) (moved : IsPermutation list sorted) whe
   there : (t : List ℕ) → Contains unique t → Contains list t
   unfolding unique
   there t here = Contains-permutation sorted list t (IsPermutation-sym list sorted moved) (Contains-from_dedup (pointwise nat_eq) sorted t here)
-
-  back : (t : List ℕ) → Contains list t → Contains unique t
-  unfolding unique
-  back t here = Contains-dedup (lists_equiv nat_eq_equiv) (λ x y. (bytes_eq-Decides x y).0) sorted t (Contains-permutation list sorted t moved here)
-
-  -- a list sorted and without its repeats has the same set
-  pub from_list-dedup : from_list (dedup (pointwise nat_eq) sorted) ≡ from_list list
-  unfolding unique
-  from_list-dedup = from_list-same unique list there back
 
   -- and it is a list of variants that rise
   pub IsVariantList-dedup : IsSorted text_cmp sorted → All IsVariant list → IsVariantList (dedup (pointwise nat_eq) sorted)

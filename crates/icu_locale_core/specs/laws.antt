@@ -2,4 +2,5 @@
 pub mod Cuts
 pub mod Identifiers
 pub mod Maps
+pub mod RisingLists
 pub mod TextSets

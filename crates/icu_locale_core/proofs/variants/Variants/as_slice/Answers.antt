@@ -1,6 +1,6 @@
 use Rattle.std.proofs.Common.{◌∙◌, sym, ap}
 use Rattle.icu_locale_core.specs.TextSet.{rising}
-use Rattle.icu_locale_core.proofs.TextSets.{rising-from_list}
+use Rattle.icu_locale_core.specs.laws.RisingLists.{rising-from_list}
 use Rattle.icu_locale_core.proofs.variants.Variants.as_slice.Goals as goal
 
 pub returns : goal.returns
