@@ -10,4 +10,5 @@ all:
 
 test:
 	.ci/borrows/run
+	.ci/examples/run
 	rt ci
