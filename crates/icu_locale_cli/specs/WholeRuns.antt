@@ -4,7 +4,8 @@ use Rattle.std.specs.Io.KnownBytes.{Appends}
 use Rattle.icu_locale.specs.LikelyTable.{likely}
 use Rattle.icu_locale.specs.Settled.{AreSettled}
 use Rattle.icu_locale.specs.declared.expander.LocaleExpander.{LocaleExpander}
-use Rattle.icu_tables.specs.File.{rows_of, rows_of_text}
+use Rattle.icu_tables.specs.Rows.{rows_of}
+use Rattle.icu_tables.specs.Text.{rows_in}
 use Rattle.icu_tables.specs.declared.tables.Tables.{Tables}
 use Rattle.icu_locale_cli.specs.declared.command.Command.{Command}
 use Rattle.icu_locale_cli.specs.declared.command.Command.TheVariants as command
@@ -96,7 +97,7 @@ IsRefusedRun c t read read' wrote wrote' e = IsRefusedLineRun c t read read' wro
 pub record ReadsTables (read read' : Option (List ℕ)) (t : Tables) (rest : List ℕ) : Type 0 where
   pub input : List ℕ
   pub all_read : ReadsAll read read' input
-  pub rows : rows_of_text (first_line input) ≡ Ok (rows_of t)
+  pub rows : rows_in (first_line input) ≡ Ok (rows_of t)
   pub rest_is : rest ≡ after_first_line input
 
 -- a run over the tables of the first line
@@ -110,13 +111,13 @@ StopsJsonRun c read read' wrote wrote' e = (t : Tables) × (rest : List ℕ) × 
 -- what a refused run over the tables of the first line leaves: refused tables leave the writer as it was
 abbrev pub IsRefusedJsonRun : Command → Option (List ℕ) → Option (List ℕ) → Option (List ℕ) → Option (List ℕ) → CliError → Type 0
 IsRefusedJsonRun c read read' wrote wrote' error.Usage = ⊥
-IsRefusedJsonRun c read read' wrote wrote' (error.Tables e) = (input : List ℕ) × ReadsAll read read' input × (rows_of_text (first_line input) ≡ Err e) × (wrote' ≡ wrote)
+IsRefusedJsonRun c read read' wrote wrote' (error.Tables e) = (input : List ℕ) × ReadsAll read read' input × (rows_in (first_line input) ≡ Err e) × (wrote' ≡ wrote)
 IsRefusedJsonRun c read read' wrote wrote' error.Read = wrote' ≡ wrote
 IsRefusedJsonRun c read read' wrote wrote' error.Memory = (wrote' ≡ wrote) ⊎ StopsJsonRun c read read' wrote wrote' error.Memory
 IsRefusedJsonRun c read read' wrote wrote' e = StopsJsonRun c read read' wrote wrote' e
 
 -- why a text gives no tables
 abbrev pub IsRefusedReading : List ℕ → CliError → Type 0
-IsRefusedReading text (error.Tables e) = rows_of_text text ≡ Err e
+IsRefusedReading text (error.Tables e) = rows_in text ≡ Err e
 IsRefusedReading text error.Memory = Unit {0}
 IsRefusedReading text e = ⊥

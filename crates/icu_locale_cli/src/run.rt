@@ -1,6 +1,7 @@
 //! A run: tables, input and output.
 ghost use Rattle.std.specs.Prelude.{◌≡◌, ◌≢◌, ◌↔◌, Ok, Err, IfOk, IfErr, false};
-ghost use Rattle.icu_tables.specs.File.{rows_of, rows_of_text};
+ghost use Rattle.icu_tables.specs.Rows.{rows_of};
+ghost use Rattle.icu_tables.specs.Text.{rows_in};
 ghost use Rattle.icu_locale_cli.specs.Loads.{not_found};
 ghost use Rattle.icu_locale_cli.specs.Texts.{settled_line};
 ghost use Rattle.icu_locale_cli.specs.Works.{has_tables};
@@ -88,7 +89,7 @@ pub fn run_json<R: Read, W: Write>(
 
 // The tables of a JSON text.
 fn read_tables(alloc: Global, json: &[u8]) -> Result<Tables, CliError>
-    ensures rows { IfOk result (λ tables. rows_of_text json.now ≡ Ok (rows_of tables)) }
+    ensures rows { IfOk result (λ tables. rows_in json.now ≡ Ok (rows_of tables)) }
     ensures refused { IfErr result (IsRefusedReading json.now) }
 {
     match Tables::from_json(alloc, json) {
