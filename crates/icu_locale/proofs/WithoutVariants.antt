@@ -28,11 +28,11 @@ IfSome-from (Some z) P h = h z refl
 none_replaced : (s a b : TextSet) → s ≡ empty → b ≡ empty → union (difference s a) b ≡ empty
 none_replaced s a b no_s no_b =
     same_set (union (difference s a) b) empty (λ q.
-        contains-replaced s a b q
-        ∙ (λ i. (not (contains a q) && contains (no_s i) q) || contains (no_b i) q)
-        ∙ (λ i. (not (contains a q) && contains-empty q i) || contains-empty q i)
-        ∙ none_of (contains a q)
-        ∙ sym (contains-empty q))
+    contains-replaced s a b q
+    ∙ (λ i. (not (contains a q) && contains (no_s i) q) || contains (no_b i) q)
+    ∙ (λ i. (not (contains a q) && contains-empty q i) || contains-empty q i)
+    ∙ none_of (contains a q)
+    ∙ sym (contains-empty q))
   where
     none_of : (in_a : Bool) → ((not in_a && false) || false) ≡ false
     none_of true = refl

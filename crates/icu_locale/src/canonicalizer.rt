@@ -97,7 +97,8 @@ impl<'d, E: AsExpander<'d>> LocaleCanonicalizer<'d, E> {
     ) -> Result<TransformResult, CanonicalizeError>
         ensures outcome { Canonicalizes (E.table self.now.expander) self.now.rules
             locale.old locale.new result }
-        ensures count { (n : ℕ) × HasIdentifiers (E.table self.now.expander) self.now.rules locale.old n
+        ensures count { (n : ℕ)
+            × HasIdentifiers (E.table self.now.expander) self.now.rules locale.old n
             × CountsSearches result turns.old turns.new n }
     {
         let changes = self.find_changes(locale, turns)?;
@@ -106,10 +107,14 @@ impl<'d, E: AsExpander<'d>> LocaleCanonicalizer<'d, E> {
 
     // What is to be changed of a locale, found before anything is written.
     fn find_changes(&self, locale: &Locale, turns: &mut Turns) -> Result<Changes, CanonicalizeError>
-        ensures found { IfOk result (AreChanges (E.table self.now.expander) self.now.rules locale.now) }
-        ensures refusal { IfErr result (IsRefusal (E.table self.now.expander) self.now.rules locale.now) }
-        ensures free { NeedsNoMemory (E.table self.now.expander) self.now.rules locale.now → ¬ (IsOutOfMemory result) }
-        ensures count { (n : ℕ) × HasIdentifiers (E.table self.now.expander) self.now.rules locale.now n
+        ensures found { IfOk result
+            (AreChanges (E.table self.now.expander) self.now.rules locale.now) }
+        ensures refusal { IfErr result
+            (IsRefusal (E.table self.now.expander) self.now.rules locale.now) }
+        ensures free { NeedsNoMemory (E.table self.now.expander) self.now.rules locale.now
+            → ¬ (IsOutOfMemory result) }
+        ensures count { (n : ℕ)
+            × HasIdentifiers (E.table self.now.expander) self.now.rules locale.now n
             × CountsSearches result turns.old turns.new n }
     {
         let id = later_end(self, &locale.id, false, turns)?;
@@ -137,9 +142,12 @@ impl<'d, E: AsExpander<'d>> LocaleCanonicalizer<'d, E> {
         turns: &mut Turns,
     ) -> Result<Option<LanguageIdentifier>, CanonicalizeError>
         ensures end { IfOk result (IsLaterEndOf (by_language_alias self.now.rules) lang.now) }
-        ensures refused { IfErr result (IsRunRefusalOf (by_language_alias self.now.rules) lang.now) }
-        ensures free { IfSome lang.now (IsFree (by_language_alias self.now.rules)) → ¬ (IsOutOfMemory result) }
-        ensures count { CountsSearchesOf (by_language_alias self.now.rules) lang.now result turns.old turns.new }
+        ensures refused { IfErr result
+            (IsRunRefusalOf (by_language_alias self.now.rules) lang.now) }
+        ensures free { IfSome lang.now (IsFree (by_language_alias self.now.rules))
+            → ¬ (IsOutOfMemory result) }
+        ensures count { CountsSearchesOf (by_language_alias self.now.rules) lang.now result
+            turns.old turns.new }
     {
         match lang {
             Some(lang) => later_end(self, lang, true, turns),

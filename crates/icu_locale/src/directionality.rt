@@ -36,7 +36,11 @@ impl<'d> LocaleDirectionality<'d> {
         script_region: &'d LikelySubtagsForScriptRegion,
         script_direction: &'d ScriptDirection,
     ) -> Self
-        ensures expander { result.expander ≡ record { language = language.entry; script_region = script_region.entry; extended = None } }
+        ensures expander { result.expander ≡ record {
+          language = language.entry;
+          script_region = script_region.entry;
+          extended = None;
+        } }
         ensures directions { result.script_direction ≡ script_direction.entry }
     {
         LocaleDirectionality::new_with_expander(
@@ -52,7 +56,11 @@ impl<'d> LocaleDirectionality<'d> {
         extended: &'d LikelySubtagsExtended,
         script_direction: &'d ScriptDirection,
     ) -> Self
-        ensures expander { result.expander ≡ record { language = language.entry; script_region = script_region.entry; extended = Some extended.entry } }
+        ensures expander { result.expander ≡ record {
+          language = language.entry;
+          script_region = script_region.entry;
+          extended = Some extended.entry;
+        } }
         ensures directions { result.script_direction ≡ script_direction.entry }
     {
         LocaleDirectionality::new_with_expander(
@@ -68,8 +76,8 @@ impl<'d> LocaleDirectionality<'d> {
     /// The first refusal of the provider, unchanged.
     pub fn try_new_common_unstable<P: DataProvider>(provider: &'d P) -> Result<Self, DataError>
         ensures { IsMade DirectsOver
-            (both (loaded_common (P.likely_language provider.now) (P.likely_script_region provider.now))
-            (P.script_direction provider.now)) result }
+            (both (loaded_common (P.likely_language provider.now)
+            (P.likely_script_region provider.now)) (P.script_direction provider.now)) result }
     {
         let expander = LocaleExpander::try_new_common_unstable(provider)?;
         LocaleDirectionality::try_new_with_expander_unstable(provider, expander)
@@ -82,8 +90,9 @@ impl<'d> LocaleDirectionality<'d> {
     /// The first refusal of the provider, unchanged.
     pub fn try_new_extended_unstable<P: DataProvider>(provider: &'d P) -> Result<Self, DataError>
         ensures { IsMade DirectsOver
-            (both (loaded_extended (P.likely_language provider.now) (P.likely_script_region provider.now)
-            (P.likely_extended provider.now)) (P.script_direction provider.now)) result }
+            (both (loaded_extended (P.likely_language provider.now)
+            (P.likely_script_region provider.now) (P.likely_extended provider.now))
+            (P.script_direction provider.now)) result }
     {
         let expander = LocaleExpander::try_new_extended_unstable(provider)?;
         LocaleDirectionality::try_new_with_expander_unstable(provider, expander)

@@ -54,7 +54,11 @@ impl<'d> LocaleExpander<'d> {
         language: &'d LikelySubtagsForLanguage,
         script_region: &'d LikelySubtagsForScriptRegion,
     ) -> Self
-        ensures { result ≡ record { language = language.entry; script_region = script_region.entry; extended = None } }
+        ensures { result ≡ record {
+          language = language.entry;
+          script_region = script_region.entry;
+          extended = None;
+        } }
     {
         LocaleExpander {
             language,
@@ -69,7 +73,11 @@ impl<'d> LocaleExpander<'d> {
         script_region: &'d LikelySubtagsForScriptRegion,
         extended: &'d LikelySubtagsExtended,
     ) -> Self
-        ensures { result ≡ record { language = language.entry; script_region = script_region.entry; extended = Some extended.entry } }
+        ensures { result ≡ record {
+          language = language.entry;
+          script_region = script_region.entry;
+          extended = Some extended.entry;
+        } }
     {
         LocaleExpander {
             language,
@@ -86,7 +94,8 @@ impl<'d> LocaleExpander<'d> {
     /// The first refusal of the provider, unchanged.
     pub fn try_new_common_unstable<P: DataProvider>(provider: &'d P) -> Result<Self, DataError>
         ensures { IsMade StandsOn
-            (loaded_common (P.likely_language provider.now) (P.likely_script_region provider.now)) result }
+            (loaded_common (P.likely_language provider.now) (P.likely_script_region provider.now))
+            result }
     {
         let language = provider.load_likely_language()?;
         let script_region = provider.load_likely_script_region()?;
@@ -113,7 +122,8 @@ impl<'d> LocaleExpander<'d> {
     /// subtag was removed or filled in, also where both leave it as it was.
     pub fn maximize(&self, id: &mut LanguageIdentifier) -> TransformResult
         ensures maximal { id.new ≡ maximal (likely self.now) id.old }
-        ensures modified { (result ≡ TransformResult.Modified) ↔ IsModified (likely self.now) id.old }
+        ensures modified { (result ≡ TransformResult.Modified)
+            ↔ IsModified (likely self.now) id.old }
     {
         let given = locale_of(id);
         let bare = bare_locale(given);
@@ -162,7 +172,8 @@ impl<'d> LocaleExpander<'d> {
 
     // The first of the three trials that has the maximal form of the given subtags, or that form.
     fn minimal_locale(&self, favor: Favor, given: DataLocale) -> DataLocale
-        ensures { let m = maximal_locale (likely self.now) given in result ≡ first_trial (likely self.now) m (trials favor m) }
+        ensures { let m = maximal_locale (likely self.now) given in result ≡ first_trial
+            (likely self.now) m (trials favor m) }
     {
         let maximal = self.maximal_locale(given);
         let alone = language_alone(&maximal);

@@ -31,14 +31,19 @@ pub use canonicalization::{
 /// those that the triple of `und` serves as.
 #[tactic(auto, using(crate::proofs::TableLaws::one_triple, crate::proofs::TableLaws::table_has_key, crate::proofs::TableLaws::table_key_among, crate::proofs::TableLaws::common_row_covers, crate::proofs::TableLaws::extended_row_covers, crate::proofs::TableLaws::und_row_serves))]
 pub fn the_likely_table_is_one_map()
-    ensures one { (e : LocaleExpander) (k : Key) (t u : Triple) → likely e k ≡ Some t → likely e k ≡ Some u → t ≡ u }
-    ensures own_subtags { (e : LocaleExpander) (k : Key) (t : Triple) → likely e k ≡ Some t → HasKey t k }
-    ensures finite { (e : LocaleExpander) (k : Key) (t : Triple) → likely e k ≡ Some t → Contains (table_keys e) k }
-    ensures common { (e : LocaleExpander) (k : Key) (t : Triple) → common_row e k ≡ Some t → likely e k ≡ Some t }
+    ensures one { (e : LocaleExpander) (k : Key) (t u : Triple) → likely e k ≡ Some t
+        → likely e k ≡ Some u → t ≡ u }
+    ensures own_subtags { (e : LocaleExpander) (k : Key) (t : Triple) → likely e k ≡ Some t
+        → HasKey t k }
+    ensures finite { (e : LocaleExpander) (k : Key) (t : Triple) → likely e k ≡ Some t
+        → Contains (table_keys e) k }
+    ensures common { (e : LocaleExpander) (k : Key) (t : Triple) → common_row e k ≡ Some t
+        → likely e k ≡ Some t }
     ensures extended { (e : LocaleExpander) (k : Key) (t : Triple) →
         common_row e k ≡ None → extension_row e.extended k ≡ Some t → likely e k ≡ Some t }
     ensures und { (e : LocaleExpander) (k : Key) →
-        common_row e k ≡ None → extension_row e.extended k ≡ None → likely e k ≡ und_row e.language.now.und k }
+        common_row e k ≡ None → extension_row e.extended k ≡ None
+        → likely e k ≡ und_row e.language.now.und k }
 {}
 
 /// Every identifier has a minimal form, and only one, over every table.
@@ -65,24 +70,29 @@ pub fn minimal_forms_are_canonical()
 /// Over a settled table, maximizing a maximal or a minimal form gives the maximal form.
 #[tactic(auto, using(crate::proofs::Classes::maximal_of_maximal, crate::proofs::Classes::maximal_of_minimal))]
 pub fn maximal_forms_are_stable()
-    ensures maximal { (table : LikelySubtags) → AreSettled table → (x : LanguageIdentifier) → IsIdentifier x →
+    ensures maximal { (table : LikelySubtags)
+        → AreSettled table → (x : LanguageIdentifier) → IsIdentifier x →
         maximal table (maximal table x) ≡ maximal table x }
-    ensures minimal { (favor : Favor) (table : LikelySubtags) → AreSettled table → (x y : LanguageIdentifier) → IsIdentifier x →
+    ensures minimal { (favor : Favor) (table : LikelySubtags)
+        → AreSettled table → (x y : LanguageIdentifier) → IsIdentifier x →
         IsMinimalForm favor table x y → maximal table y ≡ maximal table x }
 {}
 
 /// Over a settled table, minimizing a maximal or a minimal form gives the minimal form.
 #[tactic(auto, using(crate::proofs::Classes::minimal_of_maximal, crate::proofs::Classes::minimal_of_minimal))]
 pub fn minimal_forms_are_stable()
-    ensures maximal { (favor : Favor) (table : LikelySubtags) → AreSettled table → (x y : LanguageIdentifier) → IsIdentifier x →
+    ensures maximal { (favor : Favor) (table : LikelySubtags)
+        → AreSettled table → (x y : LanguageIdentifier) → IsIdentifier x →
         IsMinimalForm favor table (maximal table x) y ↔ IsMinimalForm favor table x y }
-    ensures minimal { (favor : Favor) (table : LikelySubtags) → AreSettled table → (x y : LanguageIdentifier) → IsIdentifier x →
+    ensures minimal { (favor : Favor) (table : LikelySubtags)
+        → AreSettled table → (x y : LanguageIdentifier) → IsIdentifier x →
         IsMinimalForm favor table x y → IsMinimalForm favor table y y }
 {}
 
 /// Over a settled table, `maximize` answers `Modified` exactly where the identifier changed.
 pub fn maximizing_tells_a_change()
-    ensures { (table : LikelySubtags) → AreSettled table → (x : LanguageIdentifier) → IsIdentifier x →
+    ensures { (table : LikelySubtags)
+        → AreSettled table → (x : LanguageIdentifier) → IsIdentifier x →
         IsModified table x ↔ (maximal table x ≢ x) }
 {}
 
@@ -95,7 +105,8 @@ pub fn maximizing_keeps_subtags()
         x.script ≡ Some script → script ≢ unknown_script → (maximal table x).script ≡ Some script }
     ensures region { (table : LikelySubtags) (x : LanguageIdentifier) (region : List ℕ) →
         x.region ≡ Some region → region ≢ unknown_region → (maximal table x).region ≡ Some region }
-    ensures variants { (table : LikelySubtags) (x : LanguageIdentifier) → (maximal table x).variants ≡ x.variants }
+    ensures variants { (table : LikelySubtags) (x : LanguageIdentifier)
+        → (maximal table x).variants ≡ x.variants }
 {}
 
 /// Over every table, a minimal form has the variants of its identifier.

@@ -67,8 +67,8 @@ pub fn end_of_run<R: Rewriting>(
     requires { IsUniverse (R.next rewriting.now) start.now (R.universe rewriting.now start.now) }
     ensures outcome { IfOk result (IsOutcome (R.next rewriting.now) start.now) }
     ensures refused { IfErr result R.refuses }
-    ensures free { ((y : R.State) → StandsIn (R.next rewriting.now) start.now y → R.needs_none rewriting.now y)
-        → IsOk result }
+    ensures free { ((y : R.State) → StandsIn (R.next rewriting.now) start.now y
+        → R.needs_none rewriting.now y) → IsOk result }
     ensures forward { turns.old ≤ turns.new }
     ensures count { (n : ℕ) × HasDistinct (R.next rewriting.now) start.now n
         × (turns.new ≤ turns.old + 6 * n) × OnOk result (turns.old + n ≤ turns.new) }
@@ -92,8 +92,8 @@ fn meet<R: Rewriting>(
     requires { IsUniverse (R.next rewriting.now) start.now (R.universe rewriting.now start.now) }
     ensures walk { IfOk result (IsWalk (R.next rewriting.now) start.now) }
     ensures refused { IfErr result R.refuses }
-    ensures free { ((y : R.State) → StandsIn (R.next rewriting.now) start.now y → R.needs_none rewriting.now y)
-        → IsOk result }
+    ensures free { ((y : R.State) → StandsIn (R.next rewriting.now) start.now y
+        → R.needs_none rewriting.now y) → IsOk result }
     ensures forward { turns.old ≤ turns.new }
     ensures most { (n : ℕ) → IsFullFront (R.next rewriting.now) start.now n
         → turns.new ≤ turns.old + 3 * n }
@@ -127,11 +127,12 @@ fn first_repeat<R: Rewriting>(
     turns: &mut Turns,
 ) -> Result<R::State, R::Error>
     requires meets { IsMeeting (R.next rewriting.now) start.now meeting }
-    requires universe { IsUniverse (R.next rewriting.now) start.now (R.universe rewriting.now start.now) }
+    requires universe { IsUniverse (R.next rewriting.now) start.now
+        (R.universe rewriting.now start.now) }
     ensures first { IfOk result (IsRepeat (R.next rewriting.now) start.now) }
     ensures refused { IfErr result R.refuses }
-    ensures free { ((y : R.State) → StandsIn (R.next rewriting.now) start.now y → R.needs_none rewriting.now y)
-        → IsOk result }
+    ensures free { ((y : R.State) → StandsIn (R.next rewriting.now) start.now y
+        → R.needs_none rewriting.now y) → IsOk result }
     ensures most { (n : ℕ) → IsFullFront (R.next rewriting.now) start.now n
         → turns.new ≤ turns.old + 2 * n }
     ensures forward { turns.old ≤ turns.new }

@@ -125,7 +125,8 @@ impl<'d> LocaleExpander<'d> {
 
     // Whether the maximal form of a key's own subtags is settled.
     fn settles<K: RowKey>(&self, key: &K) -> bool
-        ensures { MatchBool result (settles (likely self.now) (K.key key.now) ≡ true) (IsUnsettled (likely self.now)) }
+        ensures { MatchBool result (settles (likely self.now) (K.key key.now) ≡ true)
+            (IsUnsettled (likely self.now)) }
     {
         let key = key.key();
         let maximal = self.maximal_locale(key_locale(&key));
@@ -134,7 +135,8 @@ impl<'d> LocaleExpander<'d> {
 
     // Whether each row's key settles.
     fn all_settle<K: RowKey, V>(&self, rows: &SortedMap<K, V>) -> bool
-        ensures { MatchBool result (AllSettle (likely self.now) K.key rows.now) (IsUnsettled (likely self.now)) }
+        ensures { MatchBool result (AllSettle (likely self.now) K.key rows.now)
+            (IsUnsettled (likely self.now)) }
     {
         for row in rows.as_slice() {
             if !self.settles(&row.0) {
@@ -146,7 +148,8 @@ impl<'d> LocaleExpander<'d> {
 
     // Whether the keys of a table settle.
     fn table_settles(&self, maps: &LikelyMaps<'_>) -> bool
-        ensures { MatchBool result (RowsSettle (likely self.now) (rows_of maps.now)) (IsUnsettled (likely self.now)) }
+        ensures { MatchBool result (RowsSettle (likely self.now) (rows_of maps.now))
+            (IsUnsettled (likely self.now)) }
     {
         self.all_settle(maps.language)
             && self.all_settle(maps.language_script)
@@ -168,7 +171,8 @@ impl<'d> LocaleExpander<'d> {
 
     // Whether the keys that the triple of `und` serves settle.
     fn und_rows_settle(&self) -> bool
-        ensures { MatchBool result (UndRowsSettle (likely self.now) self.now.language.now.und) (IsUnsettled (likely self.now)) }
+        ensures { MatchBool result (UndRowsSettle (likely self.now) self.now.language.now.und)
+            (IsUnsettled (likely self.now)) }
     {
         let (_, script, region) = self.language.und();
         self.settles(&(script, region)) && self.settles(&script) && self.settles(&region)

@@ -16,9 +16,12 @@ pub fn write_answers<W: Write>(
     input: &[u8],
     writer: &mut W,
 ) -> Result<Status, CliError>
-    ensures whole { IfOk result (WritesAll work.now input.now (W.contents writer.old) (W.contents writer.new)) }
-    ensures memory { result ≡ Err CliError.Memory → WritesWholeLines work.now input.now (W.contents writer.old) (W.contents writer.new) }
-    ensures write { result ≡ Err CliError.Write → WritesPart work.now input.now (W.contents writer.old) (W.contents writer.new) }
+    ensures whole { IfOk result (WritesAll work.now input.now (W.contents writer.old)
+        (W.contents writer.new)) }
+    ensures memory { result ≡ Err CliError.Memory
+        → WritesWholeLines work.now input.now (W.contents writer.old) (W.contents writer.new) }
+    ensures write { result ≡ Err CliError.Write
+        → WritesPart work.now input.now (W.contents writer.old) (W.contents writer.new) }
     ensures refused { IfErr result (λ e. (e ≡ CliError.Memory) ⊎ (e ≡ CliError.Write)) }
 {
     let mut status = Status::Accepted;

@@ -15,7 +15,8 @@ pub fn read_all<R: Read>(
     reader: &mut R,
     most_reads: u64,
 ) -> Result<Vec<u8>, CliError>
-    ensures whole { IfOk result (λ text. Consumes (R.remaining reader.old) (R.remaining reader.new) text.items) }
+    ensures whole { IfOk result (λ text. Consumes (R.remaining reader.old) (R.remaining reader.new)
+        text.items) }
     ensures end { IfOk result (λ text. IsAtEnd (R.remaining reader.new)) }
     ensures refused { IfErr result (λ e. (e ≡ CliError.Read) ⊎ (e ≡ CliError.Memory)) }
 {

@@ -10,7 +10,8 @@ use std::io::Write;
 pub fn write_line<W: Write>(writer: &mut W, line: &[u8]) -> Result<(), CliError>
     ensures whole { OnOk result (Appends (W.contents writer.old) (W.contents writer.new) line.now) }
     ensures refused { IfErr result (λ e. e ≡ CliError.Write) }
-    ensures part { OnErr result (AppendsPart (W.contents writer.old) (W.contents writer.new) line.now) }
+    ensures part { OnErr result
+        (AppendsPart (W.contents writer.old) (W.contents writer.new) line.now) }
 {
     let mut rest = line;
     while !rest.is_empty() {

@@ -71,8 +71,8 @@ pub fn run_json<R: Read, W: Write>(
     reader: &mut R,
     writer: &mut W,
 ) -> Result<Status, CliError>
-    ensures output { IfOk result (IsJsonRun command.now (R.remaining reader.old) (R.remaining reader.new)
-        (W.contents writer.old) (W.contents writer.new)) }
+    ensures output { IfOk result (IsJsonRun command.now (R.remaining reader.old)
+        (R.remaining reader.new) (W.contents writer.old) (W.contents writer.new)) }
     ensures refused { IfErr result (IsRefusedJsonRun command.now (R.remaining reader.old)
         (R.remaining reader.new) (W.contents writer.old) (W.contents writer.new)) }
 {
@@ -124,7 +124,8 @@ fn write_output<W: Write>(
 
 // One line, `yes` or `no`.
 fn write_settled<W: Write>(tables: &Tables, writer: &mut W) -> Result<Status, CliError>
-    ensures output { IfOk result (WritesSettled tables.now (W.contents writer.old) (W.contents writer.new)) }
+    ensures output { IfOk result (WritesSettled tables.now (W.contents writer.old)
+        (W.contents writer.new)) }
     ensures data { (result ≡ Err (CliError.Data not_found))
         ↔ (has_tables Command.Settled tables.now ≡ false) }
     ensures refused { IfErr result

@@ -49,7 +49,8 @@ impl<'d> Work<'d> {
     pub fn load(alloc: Global, command: &Command, tables: &'d Tables) -> Result<Self, CliError>
         requires { command.now ≢ Command.Settled }
         ensures made { IfOk result (IsWorkOf command.now tables.now) }
-        ensures data { (result ≡ Err (CliError.Data not_found)) ↔ (has_tables command.now tables.now ≡ false) }
+        ensures data { (result ≡ Err (CliError.Data not_found))
+            ↔ (has_tables command.now tables.now ≡ false) }
         ensures refused { IfErr result (λ e. (e ≡ CliError.Data not_found) ⊎ (e ≡ CliError.Memory)) }
     {
         let expander = load_expander(tables)?;
@@ -73,7 +74,8 @@ impl<'d> Work<'d> {
 
     // The answer to one line.
     pub fn answer(&self, alloc: Global, line: &[u8]) -> Result<Answer, CliError>
-        ensures answer { IfOk result (λ a. IsAnswer self.now line.now (string_bytes a.text) a.accepted) }
+        ensures answer { IfOk result (λ a. IsAnswer self.now line.now (string_bytes a.text)
+            a.accepted) }
         ensures refused { IfErr result (λ e. e ≡ CliError.Memory) }
     {
         match LanguageIdentifier::try_from_utf8(alloc, line) {
@@ -89,7 +91,8 @@ impl<'d> Work<'d> {
         alloc: Global,
         mut identifier: LanguageIdentifier,
     ) -> Result<Answer, CliError>
-        ensures answer { IfOk result (λ a. IsLineOf self.now identifier (string_bytes a.text) a.accepted) }
+        ensures answer { IfOk result (λ a. IsLineOf self.now identifier (string_bytes a.text)
+            a.accepted) }
         ensures refused { IfErr result (λ e. e ≡ CliError.Memory) }
     {
         match self {
@@ -137,7 +140,8 @@ fn load_canonicalizer<'d>(
     expander: LocaleExpander<'d>,
 ) -> Result<LocaleCanonicalizer<'d>, CliError>
     ensures expander { IfOk result (λ c. c.expander ≡ expander.entry) }
-    ensures rules { IfOk result (λ c. IsSomeAnd tables.now.aliases (λ table. AreRules table c.rules)) }
+    ensures rules { IfOk result (λ c. IsSomeAnd tables.now.aliases
+        (λ table. AreRules table c.rules)) }
     ensures data { (result ≡ Err (CliError.Data not_found)) ↔ (is_some tables.now.aliases ≡ false) }
     ensures refused { IfErr result (λ e. (e ≡ CliError.Data not_found) ⊎ (e ≡ CliError.Memory)) }
 {
@@ -157,7 +161,8 @@ fn canonicalized(
     canonicalizer: &LocaleCanonicalizer<'_>,
     mut locale: Locale,
 ) -> Result<Answer, CliError>
-    ensures answer { IfOk result (λ a. IsCanonicalized (likely canonicalizer.now.expander) canonicalizer.now.rules locale (string_bytes a.text) a.accepted) }
+    ensures answer { IfOk result (λ a. IsCanonicalized (likely canonicalizer.now.expander)
+        canonicalizer.now.rules locale (string_bytes a.text) a.accepted) }
     ensures refused { IfErr result (λ e. e ≡ CliError.Memory) }
 {
     match canonicalizer.canonicalize(&mut locale) {
@@ -171,7 +176,8 @@ fn canonicalized(
 
 // The line of a direction.
 fn directed(alloc: Global, direction: Option<Direction>) -> Result<Answer, CliError>
-    ensures answer { IfOk result (λ a. (string_bytes a.text ≡ direction_line direction) × (a.accepted ≡ true)) }
+    ensures answer { IfOk result (λ a. (string_bytes a.text ≡ direction_line direction)
+        × (a.accepted ≡ true)) }
     ensures refused { IfErr result (λ e. e ≡ CliError.Memory) }
 {
     let line = match direction {
@@ -194,7 +200,8 @@ fn transformed(
     identifier: &LanguageIdentifier,
     changed: TransformResult,
 ) -> Result<Answer, CliError>
-    ensures answer { IfOk result (λ a. (string_bytes a.text ≡ transformed_line identifier.now changed) × (a.accepted ≡ true)) }
+    ensures answer { IfOk result (λ a.
+        (string_bytes a.text ≡ transformed_line identifier.now changed) × (a.accepted ≡ true)) }
     ensures refused { IfErr result (λ e. e ≡ CliError.Memory) }
 {
     let mark = match changed {
@@ -212,7 +219,8 @@ fn transformed(
 
 // The line of a refusal.
 fn refused<E: fmt::Display + Drop>(alloc: Global, refusal: E) -> Result<Answer, CliError>
-    ensures answer { IfOk result (λ a. IfSome (E.output refusal) (λ name. string_bytes a.text ≡ refused_line name) × (a.accepted ≡ false)) }
+    ensures answer { IfOk result (λ a. IfSome (E.output refusal)
+        (λ name. string_bytes a.text ≡ refused_line name) × (a.accepted ≡ false)) }
     ensures refused { IfErr result (λ e. e ≡ CliError.Memory) }
 {
     match format!(in alloc; "?\t{refusal}\n") {

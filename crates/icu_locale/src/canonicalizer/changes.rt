@@ -22,8 +22,10 @@ impl Changes {
 
     // Writes the changes, all of them.
     pub fn write(self, locale: &mut Locale) -> TransformResult
-        requires region_override { IsSome self.region_override → IsSome (value_at text_cmp locale.old.extensions.unicode.keywords rg) }
-        requires subdivision { IsSome self.subdivision → IsSome (value_at text_cmp locale.old.extensions.unicode.keywords sd) }
+        requires region_override { IsSome self.region_override
+            → IsSome (value_at text_cmp locale.old.extensions.unicode.keywords rg) }
+        requires subdivision { IsSome self.subdivision
+            → IsSome (value_at text_cmp locale.old.extensions.unicode.keywords sd) }
         ensures changed { locale.new ≡ with_changes self locale.old }
         ensures answer { result ≡ answer_of (has_change self) }
     {

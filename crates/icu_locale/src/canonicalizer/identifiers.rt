@@ -24,10 +24,12 @@ pub fn search<'d, E: AsExpander<'d>>(
     transform: bool,
     turns: &mut Turns,
 ) -> Result<Option<LanguageIdentifier>, CanonicalizeError>
-    ensures found { IfOk result (λ found. found ≡ next_of (E.table canonicalizer.now.expander) canonicalizer.now.rules transform id.now) }
+    ensures found { IfOk result (λ found. found ≡ next_of (E.table canonicalizer.now.expander)
+        canonicalizer.now.rules transform id.now) }
     ensures refused { IfErr result (λ e. e ≡ CanonicalizeError.Memory) }
     ensures counted { turns.new ≡ turns.old + 1 }
-    ensures free { IfSome (next_of (E.table canonicalizer.now.expander) canonicalizer.now.rules transform id.now) (λ z. z.variants ≡ empty) → IsOk result }
+    ensures free { IfSome (next_of (E.table canonicalizer.now.expander) canonicalizer.now.rules
+        transform id.now) (λ z. z.variants ≡ empty) → IsOk result }
 {
     turns.take();
     let rules = &canonicalizer.rules;
@@ -74,9 +76,11 @@ fn rewritten(
 
 // The image of a set of variants under their aliases.
 fn replaced_variants(rules: &Rules<'_>, variants: &Variants) -> Result<Variants, CanonicalizeError>
-    ensures found { IfOk result (λ s. s ≡ image (λ v. unwrap_or (variant_alias rules.now v) v) variants.now) }
+    ensures found { IfOk result (λ s. s ≡ image (λ v. unwrap_or (variant_alias rules.now v) v)
+        variants.now) }
     ensures refused { IfErr result (λ e. e ≡ CanonicalizeError.Memory) }
-    ensures free { image (λ v. unwrap_or (variant_alias rules.now v) v) variants.now ≡ empty → IsOk result }
+    ensures free { image (λ v. unwrap_or (variant_alias rules.now v) v) variants.now ≡ empty
+        → IsOk result }
 {
     if variants.is_empty() {
         return Ok(Variants::new(rules.alloc));
@@ -121,13 +125,15 @@ impl<'c, 'd, E: AsExpander<'d>> Rewriting for Run<'c, 'd, E> {
 
     type Error = CanonicalizeError;
 
-    ghost next = { λ r. next_of (E.table r.canonicalizer.now.expander) r.canonicalizer.now.rules r.transform };
+    ghost next = { λ r. next_of (E.table r.canonicalizer.now.expander)
+        r.canonicalizer.now.rules r.transform };
 
     ghost universe = { λ r x. universe r.canonicalizer.now.rules x };
 
     ghost refuses = { λ e. e ≡ Memory };
 
-    ghost needs_none = { λ r y. IfSome (next_of (E.table r.canonicalizer.now.expander) r.canonicalizer.now.rules r.transform y) (λ z. z.variants ≡ empty) };
+    ghost needs_none = { λ r y. IfSome (next_of (E.table r.canonicalizer.now.expander)
+        r.canonicalizer.now.rules r.transform y) (λ z. z.variants ≡ empty) };
 
     fn search(
         &self,
@@ -147,10 +153,16 @@ pub fn later_end<'d, E: AsExpander<'d>>(
     transform: bool,
     turns: &mut Turns,
 ) -> Result<Option<LanguageIdentifier>, CanonicalizeError>
-    ensures end { IfOk result (IsLaterEnd (next_of (E.table canonicalizer.now.expander) canonicalizer.now.rules transform) id.now) }
-    ensures refused { IfErr result (IsRunRefusal (next_of (E.table canonicalizer.now.expander) canonicalizer.now.rules transform) id.now) }
-    ensures free { IsFree (next_of (E.table canonicalizer.now.expander) canonicalizer.now.rules transform) id.now → ¬ (IsOutOfMemory result) }
-    ensures count { CountsSearchesOf (next_of (E.table canonicalizer.now.expander) canonicalizer.now.rules transform) (Some id.now) result turns.old turns.new }
+    ensures end { IfOk result (IsLaterEnd
+        (next_of (E.table canonicalizer.now.expander) canonicalizer.now.rules transform) id.now) }
+    ensures refused { IfErr result
+        (IsRunRefusal (next_of (E.table canonicalizer.now.expander) canonicalizer.now.rules
+        transform) id.now) }
+    ensures free { IsFree (next_of (E.table canonicalizer.now.expander) canonicalizer.now.rules
+        transform) id.now → ¬ (IsOutOfMemory result) }
+    ensures count { CountsSearchesOf
+        (next_of (E.table canonicalizer.now.expander) canonicalizer.now.rules transform)
+        (Some id.now) result turns.old turns.new }
 {
     let run = Run {
         canonicalizer,

@@ -29,7 +29,8 @@ pub fn find_rewrite<'r>(
     expander: &LocaleExpander<'_>,
     x: &LanguageIdentifier,
 ) -> Option<Rewrite<'r>>
-    ensures { option_map (rewritten rules.now x.now) result ≡ next (likely expander.now) rules.now x.now }
+    ensures { option_map (rewritten rules.now x.now) result ≡ next (likely expander.now) rules.now
+        x.now }
 {
     if let Some(rewrite) = by_rule(rules, x) {
         return Some(rewrite);
@@ -144,7 +145,8 @@ fn by_complex_region<'r>(
     expander: &LocaleExpander<'_>,
     x: &LanguageIdentifier,
 ) -> Option<Rewrite<'r>>
-    ensures { option_map (rewritten rules.now x.now) result ≡ by_complex_region (likely expander.now) rules.now x.now }
+    ensures { option_map (rewritten rules.now x.now) result ≡ by_complex_region
+        (likely expander.now) rules.now x.now }
 {
     let region = complex_region(rules, expander, x)?;
     Some(Rewrite::Subtags(x.language, x.script, Some(region)))

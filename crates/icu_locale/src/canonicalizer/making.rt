@@ -46,7 +46,8 @@ impl<'d, E> LocaleCanonicalizer<'d, E> {
     ) -> Result<Self, DataError>
     where
         E: Drop,
-        ensures made { IsMadeInMemory (λ table c. AreRules table c.rules) (P.aliases provider.now) result }
+        ensures made { IsMadeInMemory (λ table c. AreRules table c.rules) (P.aliases provider.now)
+            result }
         ensures expander { IfOk result (λ c. c.expander ≡ expander) }
     {
         let aliases = provider.load_aliases()?;
@@ -102,8 +103,8 @@ impl<'d> LocaleCanonicalizer<'d, LocaleExpander<'d>> {
         provider: &'d P,
     ) -> Result<Self, DataError>
         ensures { IsMadeInMemory RewritesOver
-            (both (loaded_common (P.likely_language provider.now) (P.likely_script_region provider.now))
-            (P.aliases provider.now)) result }
+            (both (loaded_common (P.likely_language provider.now)
+            (P.likely_script_region provider.now)) (P.aliases provider.now)) result }
     {
         let expander = LocaleExpander::try_new_common_unstable(provider)?;
         LocaleCanonicalizer::try_new_with_expander_unstable(alloc, provider, expander)
@@ -119,8 +120,9 @@ impl<'d> LocaleCanonicalizer<'d, LocaleExpander<'d>> {
         provider: &'d P,
     ) -> Result<Self, DataError>
         ensures { IsMadeInMemory RewritesOver
-            (both (loaded_extended (P.likely_language provider.now) (P.likely_script_region provider.now)
-            (P.likely_extended provider.now)) (P.aliases provider.now)) result }
+            (both (loaded_extended (P.likely_language provider.now)
+            (P.likely_script_region provider.now) (P.likely_extended provider.now))
+            (P.aliases provider.now)) result }
     {
         let expander = LocaleExpander::try_new_extended_unstable(provider)?;
         LocaleCanonicalizer::try_new_with_expander_unstable(alloc, provider, expander)

@@ -23,7 +23,8 @@ pub trait Readable {
     ghost reads: { Self → Self.Kept → Type 0 };
 
     fn read(&self, alloc: Global) -> Result<Option<Self::Kept>, DataError>
-        ensures read { IfOk result (λ kept. MatchOption kept ((k : Self.Kept) → ¬ (reads self.now k)) (reads self.now)) }
+        ensures read { IfOk result (λ kept. MatchOption kept
+            ((k : Self.Kept) → ¬ (reads self.now k)) (reads self.now)) }
         ensures refused { IfErr result (λ e. e.kind ≡ DataErrorKind.Memory) };
 }
 
@@ -121,7 +122,8 @@ impl Readable for (Subtag, String) {
 }
 
 fn read_identifier(alloc: Global, text: &str) -> Result<Option<LanguageIdentifier>, DataError>
-    ensures read { IfOk result (λ x. MatchOption x ((y : LanguageIdentifier) → ¬ (Reads text.now y)) (Reads text.now)) }
+    ensures read { IfOk result (λ x. MatchOption x
+        ((y : LanguageIdentifier) → ¬ (Reads text.now y)) (Reads text.now)) }
     ensures refused { IfErr result (λ e. e.kind ≡ DataErrorKind.Memory) }
 {
     match LanguageIdentifier::try_from_str(alloc, text) {
@@ -133,7 +135,8 @@ fn read_identifier(alloc: Global, text: &str) -> Result<Option<LanguageIdentifie
 
 // The set of the pieces of a text, cut at `-`, where each is a variant in lower case.
 fn read_variants(alloc: Global, text: &str) -> Result<Option<Variants>, DataError>
-    ensures read { IfOk result (λ s. MatchOption s (are_lower_variants text.now ≡ false) (λ s. (are_lower_variants text.now ≡ true) × (s ≡ from_list (variant_pieces text.now)))) }
+    ensures read { IfOk result (λ s. MatchOption s (are_lower_variants text.now ≡ false)
+        (λ s. (are_lower_variants text.now ≡ true) × (s ≡ from_list (variant_pieces text.now)))) }
     ensures refused { IfErr result (λ e. e.kind ≡ DataErrorKind.Memory) }
 {
     read_pieces(alloc, &variant_pieces(alloc, text)?)
@@ -146,7 +149,10 @@ fn variant_pieces(alloc: Global, text: &str) -> Result<Vec<&str>, AllocError>
 }
 
 fn read_pieces(alloc: Global, pieces: &[&str]) -> Result<Option<Variants>, DataError>
-    ensures read { IfOk result (λ s. MatchOption s (list_all is_lower_variant (map (λ p. p.now) pieces.now) ≡ false) (λ s. (list_all is_lower_variant (map (λ p. p.now) pieces.now) ≡ true) × (s ≡ from_list (map (λ p. p.now) pieces.now)))) }
+    ensures read { IfOk result (λ s. MatchOption s
+        (list_all is_lower_variant (map (λ p. p.now) pieces.now) ≡ false)
+        (λ s. (list_all is_lower_variant (map (λ p. p.now) pieces.now) ≡ true)
+        × (s ≡ from_list (map (λ p. p.now) pieces.now)))) }
     ensures refused { IfErr result (λ e. e.kind ≡ DataErrorKind.Memory) }
 {
     let mut list = Vec::new(alloc);
@@ -164,7 +170,8 @@ fn read_pieces(alloc: Global, pieces: &[&str]) -> Result<Option<Variants>, DataE
 
 // The variant of a text in lower case.
 fn read_variant(text: &str) -> Option<Variant>
-    ensures { MatchOption result (is_lower_variant text.now ≡ false) (λ v. (is_lower_variant text.now ≡ true) × (v ≡ text.now)) }
+    ensures { MatchOption result (is_lower_variant text.now ≡ false)
+        (λ v. (is_lower_variant text.now ≡ true) × (v ≡ text.now)) }
 {
     let variant = Variant::try_from_str(text).ok()?;
     if variant.as_str() == text {

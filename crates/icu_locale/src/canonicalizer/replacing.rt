@@ -48,7 +48,8 @@ fn part<T: Copy>(source: Option<T>, rule: Option<T>, replacement: Option<T>) -> 
 }
 
 fn replaced_language(source: Language, rule: Language, replacement: Language) -> Language
-    ensures { result ≡ (if is_known rule || (not (is_known source) && is_known replacement) then replacement else source) }
+    ensures { result ≡ (if is_known rule || (not (is_known source) && is_known replacement) then
+        replacement else source) }
 {
     if is_known(&rule) || (!is_known(&source) && is_known(&replacement)) {
         replacement
