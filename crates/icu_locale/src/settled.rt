@@ -29,7 +29,7 @@ impl RowKey for Language {
     ghost key = { LanguageAlone };
 
     fn key(&self) -> Key {
-        self.known();
+        let _ = self.as_str();
         Key::LanguageAlone(*self)
     }
 }
@@ -38,8 +38,8 @@ impl RowKey for (Language, Script) {
     ghost key = { λ k. LanguageScript k.0 k.1 };
 
     fn key(&self) -> Key {
-        self.0.known();
-        self.1.known();
+        let _ = self.0.as_str();
+        let _ = self.1.as_str();
         Key::LanguageScript(self.0, self.1)
     }
 }
@@ -48,8 +48,8 @@ impl RowKey for (Language, Region) {
     ghost key = { λ k. LanguageRegion k.0 k.1 };
 
     fn key(&self) -> Key {
-        self.0.known();
-        self.1.known();
+        let _ = self.0.as_str();
+        let _ = self.1.as_str();
         Key::LanguageRegion(self.0, self.1)
     }
 }
@@ -58,8 +58,8 @@ impl RowKey for (Script, Region) {
     ghost key = { λ k. ScriptRegion k.0 k.1 };
 
     fn key(&self) -> Key {
-        self.0.known();
-        self.1.known();
+        let _ = self.0.as_str();
+        let _ = self.1.as_str();
         Key::ScriptRegion(self.0, self.1)
     }
 }
@@ -68,7 +68,7 @@ impl RowKey for Script {
     ghost key = { ScriptAlone };
 
     fn key(&self) -> Key {
-        self.known();
+        let _ = self.as_str();
         Key::ScriptAlone(*self)
     }
 }
@@ -77,7 +77,7 @@ impl RowKey for Region {
     ghost key = { RegionAlone };
 
     fn key(&self) -> Key {
-        self.known();
+        let _ = self.as_str();
         Key::RegionAlone(*self)
     }
 }

@@ -25,6 +25,15 @@ written_case Variant t = lowercase t
 written_case Key t = lowercase t
 written_case Subtag t = lowercase t
 
+-- how many characters a member has at most
+abbrev pub longest : Class → ℕ
+longest Language = 3
+longest Script = 4
+longest Region = 3
+longest Variant = 8
+longest Key = 2
+longest Subtag = 8
+
 -- one character of it, at its place
 abbrev pub written_byte : Class → ℕ → ℕ → ℕ
 written_byte Script zero c = to_ascii_uppercase c

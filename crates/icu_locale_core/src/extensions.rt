@@ -44,11 +44,7 @@ impl Key {
         ensures read { IfSome result (λ x. x ≡ lowercase text.now) }
         ensures accepted { is_some result ≡ is_key text.now }
     {
-        if Class::Key.has(text) {
-            Some(Key(TinyText::written(Class::Key, text)))
-        } else {
-            None
-        }
+        Some(Key(TinyText::read(Class::Key, text)?))
     }
 
     /// The text in its written case. It takes no memory.
@@ -57,13 +53,6 @@ impl Key {
         ensures known { IsKey self.now }
     {
         self.0.as_str()
-    }
-
-    /// Nothing, but that every key belongs to its class and stands in its written case.
-    pub fn known(&self)
-        ensures { IsKey self.now }
-    {
-        let _ = &self.0;
     }
 }
 
@@ -111,11 +100,7 @@ impl Subtag {
         ensures read { IfSome result (λ x. x ≡ lowercase text.now) }
         ensures accepted { is_some result ≡ is_subtag text.now }
     {
-        if Class::Subtag.has(text) {
-            Some(Subtag(TinyText::written(Class::Subtag, text)))
-        } else {
-            None
-        }
+        Some(Subtag(TinyText::read(Class::Subtag, text)?))
     }
 
     /// The text in its written case. It takes no memory.
@@ -124,13 +109,6 @@ impl Subtag {
         ensures known { IsSubtag self.now }
     {
         self.0.as_str()
-    }
-
-    /// Nothing, but that every subtag belongs to its class and stands in its written case.
-    pub fn known(&self)
-        ensures { IsSubtag self.now }
-    {
-        let _ = &self.0;
     }
 }
 

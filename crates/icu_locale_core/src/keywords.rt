@@ -69,10 +69,7 @@ impl Keywords {
         ensures unchanged { OnErr result (self.new ≡ self.old) }
         ensures present { IsSome (value_at text_cmp self.old key) → IsOk result }
     {
-        match self.map.insert(key, value) {
-            Ok(before) => Ok(before),
-            Err(_) => Err(ParseError::Memory),
-        }
+        Ok(self.map.insert(key, value)?)
     }
 
     /// Takes a key and its value out. It takes no memory.
@@ -97,13 +94,10 @@ impl Keywords {
         if self.map.is_empty() {
             return Ok(Keywords::new(self.alloc));
         }
-        match self.map.clone() {
-            Ok(map) => Ok(Keywords {
-                map,
-                alloc: self.alloc,
-            }),
-            Err(_) => Err(ParseError::Memory),
-        }
+        Ok(Keywords {
+            map: self.map.clone()?,
+            alloc: self.alloc,
+        })
     }
 }
 

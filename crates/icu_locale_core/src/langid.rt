@@ -58,12 +58,12 @@ impl LanguageIdentifier {
     pub fn known(&self)
         ensures { IsIdentifier self.now }
     {
-        self.language.known();
+        let _ = self.language.as_str();
         if let Some(script) = &self.script {
-            script.known();
+            let _ = script.as_str();
         }
         if let Some(region) = &self.region {
-            region.known();
+            let _ = region.as_str();
         }
         self.variants.known();
     }

@@ -24,10 +24,7 @@ pub fn read_identifier(
     };
     let script = read_script(&mut pieces);
     let region = read_region(&mut pieces);
-    let variants = match read_variants(alloc, pieces) {
-        Ok(variants) => variants,
-        Err(refusal) => return Err(refusal),
-    };
+    let variants = read_variants(alloc, pieces)?;
     Ok(LanguageIdentifier {
         language,
         script,

@@ -47,11 +47,7 @@ impl Language {
         ensures read { IfSome result (λ x. x ≡ lowercase text.now) }
         ensures accepted { is_some result ≡ is_language text.now }
     {
-        if Class::Language.has(text) {
-            Some(Language(TinyText::written(Class::Language, text)))
-        } else {
-            None
-        }
+        Some(Language(TinyText::read(Class::Language, text)?))
     }
 
     /// The text in its written case. It takes no memory.
@@ -60,13 +56,6 @@ impl Language {
         ensures known { IsLanguage self.now }
     {
         self.0.as_str()
-    }
-
-    /// Nothing, but that every language belongs to its class and stands in its written case.
-    pub fn known(&self)
-        ensures { IsLanguage self.now }
-    {
-        let _ = &self.0;
     }
 
     /// The language `und`, which stands for none that is known.
@@ -124,11 +113,7 @@ impl Script {
         ensures read { IfSome result (λ x. x ≡ titlecase text.now) }
         ensures accepted { is_some result ≡ is_script text.now }
     {
-        if Class::Script.has(text) {
-            Some(Script(TinyText::written(Class::Script, text)))
-        } else {
-            None
-        }
+        Some(Script(TinyText::read(Class::Script, text)?))
     }
 
     /// The text in its written case. It takes no memory.
@@ -137,13 +122,6 @@ impl Script {
         ensures known { IsScript self.now }
     {
         self.0.as_str()
-    }
-
-    /// Nothing, but that every script belongs to its class and stands in its written case.
-    pub fn known(&self)
-        ensures { IsScript self.now }
-    {
-        let _ = &self.0;
     }
 }
 
@@ -191,11 +169,7 @@ impl Region {
         ensures read { IfSome result (λ x. x ≡ uppercase text.now) }
         ensures accepted { is_some result ≡ is_region text.now }
     {
-        if Class::Region.has(text) {
-            Some(Region(TinyText::written(Class::Region, text)))
-        } else {
-            None
-        }
+        Some(Region(TinyText::read(Class::Region, text)?))
     }
 
     /// The text in its written case. It takes no memory.
@@ -204,13 +178,6 @@ impl Region {
         ensures known { IsRegion self.now }
     {
         self.0.as_str()
-    }
-
-    /// Nothing, but that every region belongs to its class and stands in its written case.
-    pub fn known(&self)
-        ensures { IsRegion self.now }
-    {
-        let _ = &self.0;
     }
 
     /// Whether the region is one of letters, and not of digits. It takes no memory.
@@ -265,11 +232,7 @@ impl Variant {
         ensures read { IfSome result (λ x. x ≡ lowercase text.now) }
         ensures accepted { is_some result ≡ is_variant text.now }
     {
-        if Class::Variant.has(text) {
-            Some(Variant(TinyText::written(Class::Variant, text)))
-        } else {
-            None
-        }
+        Some(Variant(TinyText::read(Class::Variant, text)?))
     }
 
     /// The text in its written case. It takes no memory.
@@ -278,13 +241,6 @@ impl Variant {
         ensures known { IsVariant self.now }
     {
         self.0.as_str()
-    }
-
-    /// Nothing, but that every variant belongs to its class and stands in its written case.
-    pub fn known(&self)
-        ensures { IsVariant self.now }
-    {
-        let _ = &self.0;
     }
 }
 

@@ -1,9 +1,9 @@
 // A short text of letters and digits, in an array and behind no pointer.
-ghost use Rattle.std.specs.Prelude.{◌≡◌, ◌≤◌, IsTrue, length, List, ℕ};
+ghost use Rattle.std.specs.Prelude.{◌≡◌, ◌≤◌, IsTrue, IfSome, is_some, length, List, ℕ};
 ghost use Rattle.std.specs.Cmp.Lexicographic.{pointwise, slice_cmp};
 ghost use Rattle.std.specs.Ordering.{nat_cmp, as_partial_cmp};
 ghost use Rattle.std.specs.Prelude.{nat_eq};
-ghost use Rattle.icu_locale_core.specs.Class.{is_member, written_case};
+ghost use Rattle.icu_locale_core.specs.Class.{is_member, written_case, longest};
 ghost use Rattle.icu_locale_core.specs.Padded.{text_of, padded, IsPadded};
 ghost use Rattle.icu_locale_core.specs.Subtag.{is_alphanumeric, IsWritten};
 ghost use Rattle.std.proofs.Common.{rules};
@@ -41,7 +41,7 @@ impl<const N: usize> Model for TinyText<N> {
 
 impl<const N: usize> TinyText<N> {
     // The text in the written case of its class.
-    pub fn written(class: Class, text: &[u8]) -> Self
+    fn written(class: Class, text: &[u8]) -> Self
         requires member { IsTrue (is_member class text.now) }
         requires short { length text.now ≤ N }
         ensures text { result ≡ written_case class text.now }
@@ -52,6 +52,20 @@ impl<const N: usize> TinyText<N> {
             bytes[place] = class.written_byte(place, *byte);
         }
         TinyText { bytes }
+    }
+
+    // The text in the written case of a class, where it belongs to the class.
+    pub fn read(class: Class, text: &[u8]) -> Option<Self>
+        requires { longest class ≤ N }
+        ensures text { IfSome result (λ x. x ≡ written_case class text.now) }
+        ensures accepted { is_some result ≡ is_member class text.now }
+        ensures known { IfSome result (IsWritten (is_member class) (written_case class)) }
+    {
+        if class.has(text) {
+            Some(TinyText::written(class, text))
+        } else {
+            None
+        }
     }
 
     // How many bytes the text has.

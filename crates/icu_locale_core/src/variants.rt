@@ -175,10 +175,9 @@ impl Variants {
         if self.is_empty() {
             return Ok(Variants::new(*self.items.allocator()));
         }
-        match Vec::from_slice(*self.items.allocator(), &self.items) {
-            Ok(items) => Ok(Variants { items }),
-            Err(_) => Err(ParseError::Memory),
-        }
+        Ok(Variants {
+            items: Vec::from_slice(*self.items.allocator(), &self.items)?,
+        })
     }
 }
 
@@ -303,7 +302,7 @@ fn know_each(list: &[Variant])
     ensures { All IsVariant list.now }
 {
     for variant in list {
-        variant.known();
+        let _ = variant.as_str();
     }
 }
 
