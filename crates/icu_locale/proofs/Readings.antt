@@ -5,7 +5,7 @@ use Rattle.std.specs.List.Sorted.{IsStrictlySortedBy}
 use Rattle.std.specs.Map.{keys_of}
 use Rattle.std.specs.declared.cmp.Ordering.TheVariants.{Less}
 use Rattle.icu_locale_core.specs.TextSet.{text_cmp}
-use Rattle.icu_provider.specs.Maps.{IsSortedMap}
+use Rattle.icu_provider.specs.SortedMaps.{IsSortedMap}
 use Rattle.std.specs.Option.{option_to_list, MatchOption}
 use Rattle.icu_locale.specs.Rules.{AreRead}
 

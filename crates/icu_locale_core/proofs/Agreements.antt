@@ -11,7 +11,8 @@ use Rattle.std.specs.Cmp.{both_tied, Equal-is}
 use Rattle.icu_locale_core.specs.Agreement.{Agree}
 use Rattle.icu_locale_core.specs.Hash.{fed_subtag}
 use Rattle.icu_locale_core.specs.Keywords.{KeywordRows, row_eq}
-use Rattle.icu_locale_core.specs.Order.{text_lists_ties, identifier_cmp}
+use Rattle.icu_locale_core.specs.Order.{identifier_cmp}
+use Rattle.icu_locale_core.specs.laws.TextSets.{text_lists_ties}
 use Rattle.icu_locale_core.specs.TextSet.{text_cmp}
 use Rattle.icu_locale_core.specs.declared.langid.LanguageIdentifier.{LanguageIdentifier}
 use Rattle.icu_locale_core.specs.declared.locale.Locale.{Locale}

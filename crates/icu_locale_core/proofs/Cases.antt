@@ -7,7 +7,7 @@ use Rattle.std.proofs.lemmas.Bool.Decides.{nat_tests}
 use Rattle.std.proofs.lemmas.Str.Ascii.{lowercase-lowercase, uppercase-uppercase}
 use Rattle.std.proofs.lemmas.List.{length-map}
 use Rattle.icu_locale_core.specs.Subtag.{has_length, is_alphabetic, is_numeric, is_alphanumeric, starts_with_digit, is_script, is_region, is_variant, is_key, lowercase, uppercase, titlecase, IsWritten}
-use Rattle.icu_locale_core.specs.Class.{is_member, written_case, written_byte}
+use Rattle.icu_locale_core.specs.inner.Class.{is_member, written_case, written_byte}
 use Rattle.icu_locale_core.specs.declared.classes.Class.{Class}
 use Rattle.icu_locale_core.specs.declared.classes.Class.TheVariants.{Language, Script, Region, Variant, Key, Subtag}
 

@@ -9,7 +9,7 @@ use Rattle.std.proofs.lemmas.Str.Ascii.{IsAscii-nil, IsAscii-cons}
 use Rattle.std.proofs.lemmas.Bool.Decides.{nat_tests}
 use Rattle.std.proofs.lemmas.List.{set_at, length-take, take_more}
 use Rattle.icu_locale_core.specs.Subtag.{is_alphanumeric}
-use Rattle.icu_locale_core.specs.Padded.{text_of, padded, IsPadded}
+use Rattle.icu_locale_core.specs.inner.Padded.{text_of, padded, IsPadded}
 
 -- behind a text of letters and digits the zeros are not seen
 pub text_of-zeros : (t : List ℕ) (n : ℕ) → is_alphanumeric t ≡ true → text_of (t ++ replicate n 0) ≡ t

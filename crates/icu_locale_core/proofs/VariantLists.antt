@@ -11,7 +11,7 @@ use Rattle.std.specs.Cmp.{nat_eq_equiv}
 use Rattle.std.specs.Cmp.Lexicographic.{lists_equiv, texts_ties}
 use Rattle.std.proofs.lemmas.Bool.{eqb-true}
 use Rattle.icu_locale_core.specs.Subtag.{IsVariant}
-use Rattle.icu_locale_core.specs.Variants.{IsVariantList}
+use Rattle.icu_locale_core.specs.inner.VariantList.{IsVariantList}
 use Rattle.icu_locale_core.specs.TextSet.{text_cmp, TextSet, empty, from_list, rising}
 use Rattle.icu_locale_core.specs.laws.TextSets.{text_total, is_among, contains-from_list, same_set, Contains-is_among, is_among-Contains, from_list-rising}
 

@@ -6,7 +6,7 @@ use Rattle.std.proofs.lemmas.Bool.Decides.{nat_tests}
 use Rattle.std.proofs.lemmas.List.Splits.{slice_split_none, slice_split_at}
 use Rattle.std.proofs.lemmas.List.Elements.{All-nil, All-cons, All-head, All-tail, All-append, All-weaker, All-contains_itself}
 use Rattle.icu_locale_core.specs.Subtag.{is_alphanumeric, IsWritten}
-use Rattle.icu_locale_core.specs.Class.{is_member, written_case}
+use Rattle.icu_locale_core.specs.inner.Class.{is_member, written_case}
 use Rattle.icu_locale_core.specs.declared.classes.Class.{Class}
 use Rattle.icu_locale_core.specs.declared.classes.Class.TheVariants.{Language, Script, Region, Variant}
 use Rattle.icu_locale_core.specs.declared.langid.LanguageIdentifier.{LanguageIdentifier}

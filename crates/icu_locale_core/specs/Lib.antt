@@ -1,17 +1,12 @@
 pub mod Agreement
-pub mod Class
 pub mod Hash
 pub mod Identifier
 pub mod Keywords
 pub mod Maps
 pub mod Order
-pub mod Padded
 pub mod ParseError
-pub mod Pieces
-pub mod Reading
 pub mod Subtag
 pub mod TextSet
 pub mod Value
-pub mod Variants
 pub mod inner
 pub mod laws

@@ -1,2 +1,7 @@
--- What only private functions cite.
+-- What only private functions and invariants cite.
+pub mod Class
 pub mod Merging
+pub mod Padded
+pub mod Pieces
+pub mod Reading
+pub mod VariantList

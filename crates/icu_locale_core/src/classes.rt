@@ -1,7 +1,7 @@
 // The classes of subtags: which texts belong to each, and how each is written.
 ghost use Rattle.std.specs.Prelude.{◌≡◌};
 ghost use Rattle.icu_locale_core.specs.Subtag.{is_alphabetic, is_numeric, is_alphanumeric};
-ghost use Rattle.icu_locale_core.specs.Class.{is_member, written_byte};
+ghost use Rattle.icu_locale_core.specs.inner.Class.{is_member, written_byte};
 
 #[derive(Clone, Copy)]
 pub enum Class {

@@ -1,10 +1,10 @@
 //! The keywords of a locale: a map from keys to values.
 ghost use Rattle.std.specs.Prelude.{◌≡◌, ◌↔◌, [], IsTrue, IsSome, IsOk, IfOk};
 ghost use Rattle.std.specs.Prelude.{IfErr, OnOk, OnErr, Some, None, option_copied};
-ghost use Rattle.std.specs.Cmp.Lexicographic.{pointwise};
 ghost use Rattle.std.specs.Cmp.{partial_equiv_from_equiv};
-ghost use Rattle.std.specs.Cmp.Lexicographic.{lists_equiv};
-ghost use Rattle.icu_locale_core.specs.Keywords.{with_value, without_key, row_eq, rows_equiv};
+ghost use Rattle.std.specs.Cmp.Lexicographic.{pointwise, lists_equiv};
+ghost use Rattle.icu_locale_core.specs.Keywords.{with_value, without_key, row_eq};
+ghost use Rattle.icu_locale_core.specs.Keywords.{rows_equiv, KeywordRows};
 ghost use Rattle.icu_locale_core.specs.Maps.{value_at, SetsOnly};
 ghost use Rattle.icu_locale_core.specs.TextSet.{text_cmp};
 
@@ -24,8 +24,6 @@ pub struct Keywords {
 }
 
 impl Model for Keywords {
-    ghost use Rattle.icu_locale_core.specs.Keywords.{KeywordRows};
-
     ghost Value = { KeywordRows };
 
     ghost view = { λ a. a.map.entries };

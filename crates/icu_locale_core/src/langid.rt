@@ -1,8 +1,9 @@
 //! Identifiers: a language, a script, a region and variants.
+ghost use Rattle.std.specs.Prelude.{◌≡◌, ◌++◌, codes, Some, IsOk, IfOk, IfErr};
 ghost use Rattle.std.specs.Fmt.{WritesOnOk};
 ghost use Rattle.std.specs.List.{flat_map};
-ghost use Rattle.icu_locale_core.specs.TextSet.{rising};
-ghost use Rattle.std.specs.Prelude.{◌≡◌, ◌++◌, codes, Some, IsOk, IfOk, IfErr};
+ghost use Rattle.icu_locale_core.specs.Identifier.{IsIdentifier, ReadsIdentifier, written};
+ghost use Rattle.icu_locale_core.specs.TextSet.{rising, empty};
 
 use crate::pieces::Pieces;
 use crate::reader::read_identifier;
@@ -27,9 +28,6 @@ pub struct LanguageIdentifier {
 }
 
 impl LanguageIdentifier {
-    ghost use Rattle.icu_locale_core.specs.Identifier.{IsIdentifier, ReadsIdentifier};
-    ghost use Rattle.icu_locale_core.specs.TextSet.{empty};
-
     /// Reads an identifier in any case, with its variants in any order. It takes memory for variants alone.
     ///
     /// # Errors
@@ -88,8 +86,6 @@ impl LanguageIdentifier {
 }
 
 impl fmt::Display for LanguageIdentifier {
-    ghost use Rattle.icu_locale_core.specs.Identifier.{written};
-
     ghost output = { λ x. Some (written x) };
 
     fn fmt<W: fmt::Write>(&self, f: &mut fmt::Formatter<W>) -> fmt::Result {

@@ -15,11 +15,11 @@ mod tiny;
 mod value;
 mod variants;
 
-pub use extensions::{Key, Subtag};
+pub use extensions::{Extensions, Transform, Unicode};
 pub use keywords::Keywords;
 pub use langid::LanguageIdentifier;
-pub use locale::{Extensions, Locale, Transform, Unicode};
+pub use locale::Locale;
 pub use parse_error::ParseError;
-pub use subtags::{Language, Region, Script, Variant};
+pub use subtags::{Key, Language, Region, Script, Subtag, Variant};
 pub use value::Value;
 pub use variants::{Variants, VariantsIter};

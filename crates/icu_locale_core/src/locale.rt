@@ -2,7 +2,7 @@
 ghost use Rattle.std.specs.Prelude.{◌≡◌, [], None, IsOk, IfOk, IfErr, IfSome};
 ghost use Rattle.icu_locale_core.specs.TextSet.{empty};
 
-use crate::{Keywords, LanguageIdentifier, ParseError};
+use crate::{Extensions, Keywords, LanguageIdentifier, ParseError, Transform, Unicode};
 use std::alloc::Global;
 
 /// A locale (unicode_locale_id of UTS #35, section 3.1): an identifier, the keywords of its Unicode extension, and the
@@ -13,29 +13,6 @@ pub struct Locale {
     pub id: LanguageIdentifier,
     /// The extensions.
     pub extensions: Extensions,
-}
-
-/// The extensions of a locale.
-#[derive(PartialEq, Eq, Debug, Drop)]
-pub struct Extensions {
-    /// The Unicode extension (unicode_locale_extensions).
-    pub unicode: Unicode,
-    /// The transform extension (transformed_extensions).
-    pub transform: Transform,
-}
-
-/// The Unicode extension of a locale.
-#[derive(PartialEq, Eq, Debug, Drop)]
-pub struct Unicode {
-    /// The keywords.
-    pub keywords: Keywords,
-}
-
-/// The transform extension of a locale.
-#[derive(PartialEq, Eq, Debug, Drop)]
-pub struct Transform {
-    /// The language that was transformed, if any.
-    pub lang: Option<LanguageIdentifier>,
 }
 
 impl Locale {

@@ -1,9 +1,9 @@
 // The pieces of a text, cut at every `-` and `_`.
 ghost use Rattle.std.specs.Prelude.{◌≡◌, ◌∷◌, [], List, ℕ, MatchOption};
-ghost use Rattle.std.specs.List.{position};
 ghost use Rattle.std.specs.Iterator.{YieldsFirstRef, item_count};
+ghost use Rattle.std.specs.List.{position};
 ghost use Rattle.icu_locale_core.specs.Identifier.{is_separator, pieces};
-ghost use Rattle.icu_locale_core.specs.Pieces.{pieces_of};
+ghost use Rattle.icu_locale_core.specs.inner.Pieces.{pieces_of, first_of};
 
 use std::marker::Model;
 
@@ -15,9 +15,6 @@ pub struct Pieces<'a> {
 }
 
 impl<'a> Model for Pieces<'a> {
-    ghost use Rattle.std.specs.Prelude.{List, ℕ};
-    ghost use Rattle.icu_locale_core.specs.Pieces.{first_of, pieces_of};
-
     ghost Value = { List (List ℕ) };
 
     ghost view = { λ a. first_of a.first (pieces_of a.rest) };

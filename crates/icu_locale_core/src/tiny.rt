@@ -1,14 +1,13 @@
 // A short text of letters and digits, in an array and behind no pointer.
-ghost use Rattle.std.specs.Prelude.{◌≡◌, ◌≤◌, IsTrue, IfSome, is_some, length, List, ℕ};
-ghost use Rattle.std.specs.Cmp.Lexicographic.{pointwise, slice_cmp};
-ghost use Rattle.std.specs.Ordering.{nat_cmp, as_partial_cmp};
-ghost use Rattle.std.specs.Prelude.{nat_eq};
-ghost use Rattle.icu_locale_core.specs.Class.{is_member, written_case, longest};
-ghost use Rattle.icu_locale_core.specs.Padded.{text_of, padded, IsPadded};
-ghost use Rattle.icu_locale_core.specs.Subtag.{is_alphanumeric, IsWritten};
+ghost use Rattle.std.specs.Prelude.{◌≡◌, ◌≤◌, IsTrue, IfSome, is_some, length, List, ℕ, nat_eq};
 ghost use Rattle.std.proofs.Common.{rules};
 ghost use Rattle.std.specs.Cmp.{partial_order_from_own_ties};
+ghost use Rattle.std.specs.Cmp.Lexicographic.{pointwise, slice_cmp};
 ghost use Rattle.std.specs.Cmp.Rules.{comparing, hashing};
+ghost use Rattle.std.specs.Ordering.{nat_cmp, as_partial_cmp};
+ghost use Rattle.icu_locale_core.specs.Subtag.{is_alphanumeric, IsWritten};
+ghost use Rattle.icu_locale_core.specs.inner.Class.{is_member, written_case, longest};
+ghost use Rattle.icu_locale_core.specs.inner.Padded.{text_of, padded, IsPadded};
 ghost use Rattle.std.specs.Hash as fed;
 
 use crate::classes::Class;
@@ -25,9 +24,6 @@ pub struct TinyText<const N: usize> {
 }
 
 impl<const N: usize> Model for TinyText<N> {
-    ghost use Rattle.std.specs.Prelude.{List, ℕ};
-    ghost use Rattle.icu_locale_core.specs.Padded.{text_of, padded, IsPadded};
-
     ghost Value = { List ℕ };
 
     ghost view = { λ a. text_of a.bytes };

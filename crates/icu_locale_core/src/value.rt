@@ -1,15 +1,14 @@
 //! Values of keywords.
-ghost use Rattle.std.specs.Prelude.{◌≡◌, ◌≢◌, ◌↔◌, ◌++◌, [], false, codes};
-ghost use Rattle.std.specs.Prelude.{◌==◌, Some, Err, IsOk, IfOk, IfErr};
-ghost use Rattle.std.specs.List.{list_all, flat_map};
-ghost use Rattle.std.specs.Fmt.{WritesOnOk};
+ghost use Rattle.std.specs.Prelude.{◌≡◌, ◌≢◌, ◌↔◌, ◌++◌, [], false, codes, ◌==◌};
+ghost use Rattle.std.specs.Prelude.{Some, Err, IsOk, IfOk, IfErr, nat_eq, List, ℕ};
+ghost use Rattle.std.proofs.Common.{rules};
 ghost use Rattle.std.specs.Cmp.Lexicographic.{pointwise};
 ghost use Rattle.std.specs.Cmp.Rules.{comparing};
-ghost use Rattle.std.specs.Prelude.{nat_eq};
-ghost use Rattle.std.proofs.Common.{rules};
+ghost use Rattle.std.specs.Fmt.{WritesOnOk};
+ghost use Rattle.std.specs.List.{list_all, flat_map};
 ghost use Rattle.icu_locale_core.specs.Subtag.{is_subtag};
-ghost use Rattle.icu_locale_core.specs.Value.{IsValue, is_value, read_value, read_subtags};
-ghost use Rattle.icu_locale_core.specs.Value.{only_piece, written_value};
+ghost use Rattle.icu_locale_core.specs.Value.{IsValue, is_value, read_value};
+ghost use Rattle.icu_locale_core.specs.Value.{read_subtags, only_piece, written_value};
 
 use crate::classes::Class;
 use crate::langid::write_after_dash;
@@ -26,9 +25,6 @@ pub struct Value {
 }
 
 impl Model for Value {
-    ghost use Rattle.std.specs.Prelude.{List, ℕ};
-    ghost use Rattle.icu_locale_core.specs.Value.{IsValue};
-
     ghost Value = { List (List ℕ) };
 
     ghost view = { λ a. a.pieces.items };

@@ -1,22 +1,23 @@
 //! The variants of an identifier: a set.
-ghost use Rattle.std.specs.Prelude.{◌≡◌, ◌↔◌, IsTrue, IsOk, IfOk, IfErr, true, ℕ, List, ◌++◌};
-ghost use Rattle.std.specs.List.{All};
-ghost use Rattle.std.specs.List.Sorted.{IsStrictlySortedBy};
-ghost use Rattle.std.specs.Iterator.{YieldsFirst, item_count};
-ghost use Rattle.std.specs.Ordering.{as_partial_cmp, on};
+ghost use Rattle.std.specs.Prelude.{◌≡◌, ◌↔◌, IsTrue, IsOk, IfOk, IfErr};
+ghost use Rattle.std.specs.Prelude.{true, ℕ, List, ◌++◌, nat_eq};
+ghost use Rattle.std.proofs.Common.{rules};
+ghost use Rattle.std.proofs.lemmas.Slice.Eq.{bytes_eq-Decides};
 ghost use Rattle.std.specs.Cmp.{partial_order_from_own_ties};
 ghost use Rattle.std.specs.Cmp.Lexicographic.{pointwise, slice_cmp};
 ghost use Rattle.std.specs.Cmp.Rules.{comparing};
-ghost use Rattle.std.specs.Hash as fed;
-ghost use Rattle.std.proofs.Common.{rules};
-ghost use Rattle.std.specs.Prelude.{nat_eq};
-ghost use Rattle.std.proofs.lemmas.Slice.Eq.{bytes_eq-Decides};
-ghost use Rattle.icu_locale_core.specs.Order.{text_lists_ties};
-ghost use Rattle.icu_locale_core.specs.inner.Merging.{HasAllAbove, least, behind};
-ghost use Rattle.icu_locale_core.specs.laws.TextSets.{is_among};
+ghost use Rattle.std.specs.Iterator.{YieldsFirst, item_count};
+ghost use Rattle.std.specs.List.{All};
+ghost use Rattle.std.specs.List.Sorted.{IsStrictlySortedBy};
+ghost use Rattle.std.specs.Ordering.{as_partial_cmp, on};
 ghost use Rattle.icu_locale_core.specs.Subtag.{IsVariant};
-ghost use Rattle.icu_locale_core.specs.TextSet.{text_cmp, empty, contains, from_list, rising};
-ghost use Rattle.icu_locale_core.specs.TextSet.{len, is_subset, union, difference};
+ghost use Rattle.icu_locale_core.specs.TextSet.{text_cmp, empty, contains, from_list};
+ghost use Rattle.icu_locale_core.specs.TextSet.{rising, len, is_subset, union};
+ghost use Rattle.icu_locale_core.specs.TextSet.{difference, TextSet, text_set_code};
+ghost use Rattle.icu_locale_core.specs.inner.Merging.{HasAllAbove, least, behind};
+ghost use Rattle.icu_locale_core.specs.inner.VariantList.{IsVariantList};
+ghost use Rattle.icu_locale_core.specs.laws.TextSets.{is_among, text_lists_ties};
+ghost use Rattle.std.specs.Hash as fed;
 
 use crate::{ParseError, Variant};
 use std::alloc::Global;
@@ -34,9 +35,6 @@ pub struct Variants {
 }
 
 impl Model for Variants {
-    ghost use Rattle.icu_locale_core.specs.TextSet.{TextSet, text_set_code, from_list};
-    ghost use Rattle.icu_locale_core.specs.Variants.{IsVariantList};
-
     ghost Value = { TextSet };
 
     ghost coded = { text_set_code };
@@ -313,8 +311,6 @@ pub struct VariantsIter<'a> {
 }
 
 impl<'a> Model for VariantsIter<'a> {
-    ghost use Rattle.std.specs.Prelude.{List, ℕ};
-
     ghost Value = { List (List ℕ) };
 
     ghost view = { λ a. a.rest.now };

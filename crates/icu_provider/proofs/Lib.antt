@@ -1,2 +1,2 @@
-mod Maps
-mod Places
+mod Gaps
+mod SortedMaps

@@ -1,7 +1,7 @@
 pub mod Aliases
 pub mod DataError
 pub mod Inserts
-pub mod Maps
-pub mod Places
 pub mod Provider
 pub mod ScriptDirection
+pub mod SortedMaps
+pub mod inner

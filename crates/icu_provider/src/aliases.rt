@@ -1,11 +1,11 @@
 //! Aliases of subtags (UTS #35 Part 1, Annex C, "LocaleId Canonicalization"): the rules of canonicalization, as the
 //! caller hands them in.
 ghost use Rattle.std.specs.Prelude.{◌≡◌, [], option_copied};
-ghost use Rattle.icu_locale_core.specs.TextSet.{text_cmp};
 ghost use Rattle.icu_locale_core.specs.Maps.{value_at};
+ghost use Rattle.icu_locale_core.specs.TextSet.{text_cmp};
 ghost use Rattle.icu_provider.specs.Aliases.{text_at, regions_at};
 ghost use Rattle.icu_provider.specs.Inserts.{Inserts, Pushes};
-ghost use Rattle.icu_provider.specs.Maps.{IsSortedMap};
+ghost use Rattle.icu_provider.specs.SortedMaps.{IsSortedMap};
 
 use crate::{DataError, RowList, Rows, SortedMap};
 use icu_locale_core::{Language, Region, Script, Subtag, Variant};

@@ -1,6 +1,7 @@
 //! Why data is not given, or a row is not taken.
 ghost use Rattle.std.specs.Prelude.{◌≡◌, Some};
 ghost use Rattle.icu_provider.specs.DataError.{kind_name};
+ghost use Rattle.icu_provider.specs.declared.error.DataErrorKind.TheVariants.{Memory};
 
 use std::alloc::{AllocError, AllocFailed};
 use std::error::Error;
@@ -48,8 +49,6 @@ impl fmt::Display for DataError {
 impl Error for DataError {}
 
 impl From<AllocError> for DataError {
-    ghost use Rattle.icu_provider.specs.declared.error.DataErrorKind.TheVariants.{Memory};
-
     ghost from_gives = { λ _ e. e.kind ≡ Memory };
 
     fn from(_refused: AllocError) -> Self {
@@ -60,8 +59,6 @@ impl From<AllocError> for DataError {
 }
 
 impl<T: Drop> From<AllocFailed<T>> for DataError {
-    ghost use Rattle.icu_provider.specs.declared.error.DataErrorKind.TheVariants.{Memory};
-
     ghost from_gives = { λ _ e. e.kind ≡ Memory };
 
     fn from(_refused: AllocFailed<T>) -> Self {

@@ -1,5 +1,5 @@
 //! A list of rows in the order in which they were pushed.
-ghost use Rattle.std.specs.Prelude.{◌≡◌, []};
+ghost use Rattle.std.specs.Prelude.{◌≡◌, [], List};
 ghost use Rattle.icu_provider.specs.Inserts.{Pushes};
 
 use crate::DataError;
@@ -13,8 +13,6 @@ pub struct RowList<T> {
 }
 
 impl<T> Model for RowList<T> {
-    ghost use Rattle.std.specs.Prelude.{List};
-
     ghost Value = { List T };
 
     ghost view = { λ a. a.rows.items };

@@ -1,13 +1,13 @@
 //! A map in a sorted list: look-ups by binary search, and walks in the keys' order.
-ghost use Rattle.std.specs.Prelude.{◌≡◌, ◌==◌, [], length};
-ghost use Rattle.std.specs.Prelude.{Some, MatchResult, is_some, option_copied};
+ghost use Rattle.std.specs.Prelude.{◌≡◌, ◌==◌, [], length, Some};
+ghost use Rattle.std.specs.Prelude.{MatchResult, is_some, option_copied, List, ⊤};
+ghost use Rattle.std.specs.Iterator.{YieldsFirstBy, item_count};
 ghost use Rattle.std.specs.List.{All};
 ghost use Rattle.std.specs.Map.Iter.{deref_pair};
-ghost use Rattle.std.specs.Iterator.{YieldsFirstBy, item_count};
 ghost use Rattle.icu_locale_core.specs.Maps.{value_at};
 ghost use Rattle.icu_provider.specs.Inserts.{Inserts};
-ghost use Rattle.icu_provider.specs.Maps.{IsSortedMap};
-ghost use Rattle.icu_provider.specs.Places.{IsAt, IsGapFor};
+ghost use Rattle.icu_provider.specs.SortedMaps.{IsSortedMap};
+ghost use Rattle.icu_provider.specs.inner.Gaps.{IsAt, IsGapFor};
 
 use crate::DataError;
 use std::alloc::{AllocError, Global};
@@ -21,9 +21,6 @@ pub struct SortedMap<K: Ord, V> {
 }
 
 impl<K: Ord, V> Model for SortedMap<K, V> {
-    ghost use Rattle.std.specs.Prelude.{List};
-    ghost use Rattle.icu_provider.specs.Maps.{IsSortedMap};
-
     ghost Value = { List (K × V) };
 
     ghost view = { λ m. m.entries.items };
@@ -140,8 +137,6 @@ pub struct Rows<'a, K, V> {
 }
 
 impl<'a, K, V> Model for Rows<'a, K, V> {
-    ghost use Rattle.std.specs.Prelude.{List};
-
     ghost Value = { List (K × V) };
 
     ghost view = { λ r. r.rows.now };
@@ -157,8 +152,6 @@ impl<'a, K, V> Rows<'a, K, V> {
 }
 
 impl<'a, K, V> Clone for Rows<'a, K, V> {
-    ghost use Rattle.std.specs.Prelude.{◌≡◌, ⊤};
-
     ghost is_clone = { λ s r. r ≡ s };
 
     ghost is_infallible = { λ _. ⊤ };

@@ -1,10 +1,11 @@
 -- A set of texts is known by its members, and its list by the order.
-use Rattle.std.specs.Prelude.{◌≡◌, ℕ, Bool, true, false, not, cond, ◌&&◌, ◌||◌, is_some}
+use Rattle.std.specs.Prelude.{◌≡◌, ℕ, Bool, true, false, not, cond, ◌&&◌, ◌||◌, is_some, nat_eq}
 use Rattle.std.specs.Prelude.{List, [], ◌∷◌, ◌++◌, length, get_or, Option, Some, None}
 use Rattle.std.proofs.Common.{refl, ap, sym, ◌∙◌}
 use Rattle.std.specs.List.{list_any, filter, Contains}
 use Rattle.std.specs.Cmp.{IsTotalOrder, Equal-is}
-use Rattle.std.specs.Cmp.Lexicographic.{nat_list_cmp_total}
+use Rattle.std.specs.Cmp.Lexicographic.{pointwise, slice_cmp, lists_ties}
+use Rattle.std.specs.Cmp.Lexicographic.{texts_ties, nat_list_cmp_total}
 use Rattle.std.specs.Ordering.{eq_by_cmp, is_eq}
 use Rattle.std.specs.FinMap as fin
 use Rattle.std.specs.FinMap.{IsAntisymmetric, slice_cmp-IsAntisymmetric, nat_cmp-IsAntisymmetric}
@@ -122,3 +123,8 @@ pub contains-replaced : (s r a : TextSet) (q : List ℕ)
     → contains (union (difference s r) a) q ≡ ((not (contains r q) && contains s q) || contains a q)
 contains-replaced s r a q =
     contains-union (difference s r) a q ∙ ap (λ b. b || contains a q) (contains-difference s r q)
+
+-- sets tie exactly where they have the same texts
+pub text_lists_ties : (s u : TextSet) → pointwise (pointwise nat_eq) (rising s) (rising u)
+    ≡ eq_by_cmp (slice_cmp text_cmp) (rising s) (rising u)
+text_lists_ties s u = lists_ties text_cmp texts_ties (rising s) (rising u)

@@ -1,9 +1,9 @@
 //! Likely subtags by script and region.
 ghost use Rattle.std.specs.Prelude.{◌≡◌, []};
-ghost use Rattle.icu_locale_core.specs.TextSet.{text_cmp};
 ghost use Rattle.icu_locale_core.specs.Maps.{value_at};
+ghost use Rattle.icu_locale_core.specs.TextSet.{text_cmp};
 ghost use Rattle.icu_provider.specs.Inserts.{Inserts};
-ghost use Rattle.icu_provider.specs.Maps.{IsSortedMap, pair_cmp};
+ghost use Rattle.icu_provider.specs.SortedMaps.{IsSortedMap, pair_cmp};
 
 use crate::{DataError, Rows, SortedMap};
 use icu_locale_core::{Language, Region, Script};

@@ -1,4 +1,4 @@
-use Rattle.icu_locale_core.specs.Order.{text_lists_ties}
+use Rattle.icu_locale_core.specs.laws.TextSets.{text_lists_ties}
 use Rattle.icu_locale_core.specs.laws.Identifiers.{sets_tell}
 use Rattle.icu_locale_core.proofs.Agreements.{Agree-from_test}
 use Rattle.icu_locale_core.proofs.Hashes.{same_variants}

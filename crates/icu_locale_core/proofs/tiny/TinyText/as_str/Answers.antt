@@ -1,6 +1,6 @@
 use Rattle.std.proofs.Common.{◌≡◌, subst, sym, take}
 use Rattle.std.specs.Str.{IsUtf8}
-use Rattle.icu_locale_core.specs.Padded.{text_of}
+use Rattle.icu_locale_core.specs.inner.Padded.{text_of}
 use Rattle.icu_locale_core.proofs.Padding.{IsUtf8-plain, take-text_of}
 use Rattle.icu_locale_core.proofs.tiny.TinyText.as_str.Goals as goal
 

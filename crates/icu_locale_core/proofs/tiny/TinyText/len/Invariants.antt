@@ -1,5 +1,5 @@
 use Rattle.std.proofs.Common.{◌≡◌, ◌+◌, length, drop}
-use Rattle.icu_locale_core.specs.Padded.{text_of}
+use Rattle.icu_locale_core.specs.inner.Padded.{text_of}
 use Rattle.icu_locale_core.proofs.tiny.TinyText.len.Given as goal
 
 abbrev pub invariant-loop-byte : goal.invariant-loop-byte

@@ -1,8 +1,8 @@
 use Rattle.std.proofs.Common.{◌≡◌, ◌∙◌, ◌++◌, ◌-◌, length, take, replicate, subst, sym, ap, arith, List, ℕ}
 use Rattle.std.proofs.lemmas.List.{take_all}
-use Rattle.icu_locale_core.specs.Class.{is_member, written_case}
+use Rattle.icu_locale_core.specs.inner.Class.{is_member, written_case}
 use Rattle.icu_locale_core.specs.Subtag.{IsWritten}
-use Rattle.icu_locale_core.specs.Padded.{padded, IsPadded, text_of}
+use Rattle.icu_locale_core.specs.inner.Padded.{padded, IsPadded, text_of}
 use Rattle.icu_locale_core.proofs.Cases.{length-written_case, get_or-written_case, written_plain, written_written}
 use Rattle.icu_locale_core.proofs.Padding.{set-next, IsPadded-padded, text_of-zeros}
 use Rattle.icu_locale_core.proofs.tiny.TinyText.written.Goals as goal

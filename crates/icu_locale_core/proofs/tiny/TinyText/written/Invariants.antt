@@ -1,5 +1,5 @@
 use Rattle.std.proofs.Common.{◌≡◌, ◌++◌, ◌-◌, take, replicate}
-use Rattle.icu_locale_core.specs.Class.{written_case}
+use Rattle.icu_locale_core.specs.inner.Class.{written_case}
 use Rattle.icu_locale_core.proofs.tiny.TinyText.written.Given as goal
 
 abbrev pub invariant-loop-place : goal.invariant-loop-place

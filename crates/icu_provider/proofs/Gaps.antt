@@ -14,10 +14,10 @@ use Rattle.std.proofs.lemmas.List.Sorted.{searchable_from_sorted}
 use Rattle.std.proofs.lemmas.Map.Keys.{sorted_tail, Less-from_sorted}
 use Rattle.std.proofs.lemmas.Map.Entries.{length-keys_of}
 use Rattle.icu_locale_core.specs.Maps.{SetsOnly}
-use Rattle.icu_provider.specs.Maps.{IsSortedMap}
-use Rattle.icu_provider.specs.Places.{IsAt, IsGapFor}
+use Rattle.icu_provider.specs.SortedMaps.{IsSortedMap}
+use Rattle.icu_provider.specs.inner.Gaps.{IsAt, IsGapFor}
 use Rattle.icu_locale_core.specs.laws.Maps.{SetsOnly-insert_entry}
-use Rattle.icu_provider.proofs.Maps.{insert_entry-step, IsSortedMap-insert_entry}
+use Rattle.icu_provider.proofs.SortedMaps.{insert_entry-step, IsSortedMap-insert_entry}
 
 -- new has the rows of old with the value inserted at the key, and stays in order
 pub record InsertedRows {K V : Type 0} (compare : K → K → Ordering) (old new : List (K × V)) (key : K) (value : V) : Type 0 where
