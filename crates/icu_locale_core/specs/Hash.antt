@@ -12,9 +12,10 @@ fed_subtag t = fed.str t
 abbrev pub fed_variants : TextSet → fed.HashWrites
 fed_variants s = fed.slice fed_subtag (rising s)
 
--- of an identifier its language, its script, its region and its variants: whether a script or a region
--- is there is fed before it
+-- of an identifier its language, its script, its region and its variants: before a script or a region
+-- whether it is there
 abbrev pub fed_identifier : LanguageIdentifier → fed.HashWrites
 fed_identifier x =
     fed_subtag x.language
-    ++ (fed.option fed_subtag x.script ++ (fed.option fed_subtag x.region ++ fed_variants x.variants))
+    ++ (fed.option fed_subtag x.script
+    ++ (fed.option fed_subtag x.region ++ fed_variants x.variants))

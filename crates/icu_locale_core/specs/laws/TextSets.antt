@@ -80,7 +80,8 @@ contains-insert s t q =
     ap is_some (fin.get-insert text_total s t tt q) ∙ put (eq_by_cmp text_cmp q t) (fin.get s q)
 
 -- a set of a list has the texts of the list
-pub contains-from_list : (ts : List (List ℕ)) (q : List ℕ) → contains (from_list ts) q ≡ is_among q ts
+pub contains-from_list : (ts : List (List ℕ)) (q : List ℕ)
+    → contains (from_list ts) q ≡ is_among q ts
 contains-from_list [] q = ap is_some (fin.get-empty text_cmp q)
 contains-from_list (t ∷ ts) q =
     contains-insert (from_list ts) t q
