@@ -1,7 +1,6 @@
 -- Arrays: how many items there are, and what those that were read say of the whole.
-use Rattle.std.proofs.Common.{◌≡◌, ℕ, ◌+◌, ◌<◌, ◌≤◌, List, [], ◌∷◌, ◌++◌, length, get_or, drop, map, Option, Some, None, option_map, refl, sym, ap, ◌∙◌, append_assoc, drop-cons, add-one}
-use Rattle.std.proofs.lemmas.List.{append-nil, drop_all, map-append}
-use Rattle.serde_json.specs.View.{view, items_view}
+use Rattle.std.proofs.Common.{◌≡◌, ℕ, List, [], ◌∷◌, ◌++◌, length, drop, map, Option, Some, None, option_map, refl, sym, ap, append_assoc}
+use Rattle.serde_json.specs.View.{items_view}
 use Rattle.serde_json.specs.declared.value.Value.{Value}
 use Rattle.icu_tables.specs.Shape.{Shape, applied, two_items, three_items, each_item}
 
@@ -38,28 +37,3 @@ module _ {T A : Type 0} (seen : T → A) (shape : Shape A) (values : List Value)
   -- the items that were read, before those from a place on, are what the array says
   abbrev pub IsReadUpTo : ℕ → List T → Type 0
   IsReadUpTo at done = each_item shape (items_view values) ≡ prefixed (map seen done) (each_item shape (items_view (drop at values)))
-
-  rest_at : (at : ℕ) (value : Value) → at < length values → value ≡ get_or values at value → drop at values ≡ value ∷ drop (at + 1) values
-  rest_at at value within is = drop-cons values at value within ∙ rw (← is, add-one)
-
-  -- one more item is read
-  pub read-more : (at : ℕ) (value : Value) (done : List T) (x : T) → at < length values → value ≡ get_or values at value → shape (view value) ≡ Some (seen x) → IsReadUpTo at done → IsReadUpTo (at + 1) (done ++ x ∷ [])
-  read-more at value done x within is said so_far =
-      let rest = each_item shape (items_view (drop (at + 1) values)) in
-      so_far
-      ∙ ap (λ left. prefixed (map seen done) (each_item shape (items_view left))) (rest_at at value within is)
-      ∙ ap (λ first. prefixed (map seen done) (applied (option_map (λ y ys. y ∷ ys) first) rest)) said
-      ∙ prefixed-more (map seen done) (seen x) rest
-      ∙ ap (λ all. prefixed all rest) (sym (map-append seen done (x ∷ [])))
-
-  -- an item without the shape leaves none
-  pub read-stops : (at : ℕ) (value : Value) (done : List T) → at < length values → value ≡ get_or values at value → shape (view value) ≡ None → IsReadUpTo at done → each_item shape (items_view values) ≡ None
-  read-stops at value done within is said so_far =
-      so_far
-      ∙ ap (λ left. prefixed (map seen done) (each_item shape (items_view left))) (rest_at at value within is)
-      ∙ ap (λ first. prefixed (map seen done) (applied (option_map (λ y ys. y ∷ ys) first) (each_item shape (items_view (drop (at + 1) values))))) said
-
-  -- all are read
-  pub read-ends : (at : ℕ) (done : List T) → length values ≤ at → IsReadUpTo at done → each_item shape (items_view values) ≡ Some (map seen done)
-  read-ends at done past so_far =
-      so_far ∙ ap (λ left. prefixed (map seen done) (each_item shape (items_view left))) (drop_all at values past) ∙ ap (λ all. Some all) (append-nil (map seen done))

@@ -1,5 +1,6 @@
 pub mod Fields
 pub mod File
+pub mod KeyLaws
 pub mod Keys
 pub mod Reads
 pub mod Rows

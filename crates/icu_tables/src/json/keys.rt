@@ -1,6 +1,6 @@
 //! Keys of rows.
 ghost use Rattle.std.specs.Prelude.{◌≡◌};
-ghost use Rattle.icu_tables.specs.Keys.{key_rises, pair_rises};
+ghost use Rattle.icu_tables.specs.KeyLaws.{key_above_dash, key_compares, pair_compares};
 ghost use Rattle.icu_tables.specs.Subtags.{key_of, key_pair};
 
 use crate::json::subtags::FromText;
@@ -9,15 +9,15 @@ use std::cmp::Ord;
 // What the name of a row's member is read as, if it is a key.
 pub(crate) trait RowKey: Ord + Drop {
     ghost use Rattle.std.specs.Prelude.{◌≡◌, List, ℕ, Option};
-    ghost use Rattle.icu_tables.specs.Keys.{Rises};
+    ghost use Rattle.icu_tables.specs.Keys.{ComparesNames};
 
     ghost key: { List ℕ → Option Self };
 
     fn from_name(name: &str) -> Option<Self>
         ensures { result ≡ key name.now };
 
-    // Where names rise, their keys do.
-    ghost rises: { Rises key Self.cmp };
+    // Keys are in the order of their names.
+    ghost by_name: { ComparesNames key Self.cmp };
 }
 
 impl<T: FromText> RowKey for T {
@@ -32,7 +32,7 @@ impl<T: FromText> RowKey for T {
         }
     }
 
-    ghost rises = { key_rises T.written T.reads T.cmp T.in_order };
+    ghost by_name = { key_compares T.written T.reads T.cmp T.by_text };
 }
 
 impl<A: FromText, B: FromText> RowKey for (A, B) {
@@ -43,5 +43,8 @@ impl<A: FromText, B: FromText> RowKey for (A, B) {
         Some((A::from_name(first)?, B::from_name(second)?))
     }
 
-    ghost rises = { pair_rises A.written A.reads A.cmp B.written B.reads B.cmp A.in_order B.in_order A.plain };
+    ghost by_name = { pair_compares (key_of A.written A.reads) (key_of B.written B.reads) A.cmp B.cmp
+        (key_compares A.written A.reads A.cmp A.by_text)
+        (key_compares B.written B.reads B.cmp B.by_text)
+        (key_above_dash A.written A.reads A.above_dash) };
 }

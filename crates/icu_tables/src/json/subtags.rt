@@ -11,9 +11,8 @@ use std::cmp::Ord;
 
 // A subtag that is read from a text in any case.
 pub(crate) trait FromText: Ord + Drop {
-    ghost use Rattle.std.specs.Prelude.{◌≡◌, List, ℕ, Option, Some, IsTrue};
-    ghost use Rattle.icu_locale_core.specs.TextSet.{text_cmp};
-    ghost use Rattle.icu_tables.specs.Keys.{is_above_dash};
+    ghost use Rattle.std.specs.Prelude.{◌≡◌, List, ℕ, Option};
+    ghost use Rattle.icu_tables.specs.Keys.{ComparesTexts, ReadsAboveDash};
 
     ghost written: { Self → List ℕ };
 
@@ -26,14 +25,14 @@ pub(crate) trait FromText: Ord + Drop {
         ensures { result.now ≡ written self.now };
 
     // Subtags are in the order of their texts.
-    ghost in_order: { (x y : Self) → Self.cmp x y ≡ text_cmp (written x) (written y) };
+    ghost by_text: { ComparesTexts written Self.cmp };
 
     // A text that is read has no `-`, and no character before it.
-    ghost plain: { (t : List ℕ) (x : Self) → reads t ≡ Some x → IsTrue (is_above_dash t) };
+    ghost above_dash: { ReadsAboveDash reads };
 }
 
 impl FromText for Language {
-    ghost use Rattle.icu_tables.specs.Keys.{language_above_dash};
+    ghost use Rattle.icu_tables.specs.KeyLaws.{language_above_dash};
     ghost use Rattle.icu_tables.specs.Subtags.{read_language};
 
     ghost written = { λ x. x };
@@ -48,13 +47,13 @@ impl FromText for Language {
         self.as_str()
     }
 
-    ghost in_order = { λ x y. refl };
+    ghost by_text = { λ x y. refl };
 
-    ghost plain = { language_above_dash };
+    ghost above_dash = { language_above_dash };
 }
 
 impl FromText for Script {
-    ghost use Rattle.icu_tables.specs.Keys.{script_above_dash};
+    ghost use Rattle.icu_tables.specs.KeyLaws.{script_above_dash};
     ghost use Rattle.icu_tables.specs.Subtags.{read_script};
 
     ghost written = { λ x. x };
@@ -69,13 +68,13 @@ impl FromText for Script {
         self.as_str()
     }
 
-    ghost in_order = { λ x y. refl };
+    ghost by_text = { λ x y. refl };
 
-    ghost plain = { script_above_dash };
+    ghost above_dash = { script_above_dash };
 }
 
 impl FromText for Region {
-    ghost use Rattle.icu_tables.specs.Keys.{region_above_dash};
+    ghost use Rattle.icu_tables.specs.KeyLaws.{region_above_dash};
     ghost use Rattle.icu_tables.specs.Subtags.{read_region};
 
     ghost written = { λ x. x };
@@ -90,13 +89,13 @@ impl FromText for Region {
         self.as_str()
     }
 
-    ghost in_order = { λ x y. refl };
+    ghost by_text = { λ x y. refl };
 
-    ghost plain = { region_above_dash };
+    ghost above_dash = { region_above_dash };
 }
 
 impl FromText for Variant {
-    ghost use Rattle.icu_tables.specs.Keys.{variant_above_dash};
+    ghost use Rattle.icu_tables.specs.KeyLaws.{variant_above_dash};
     ghost use Rattle.icu_tables.specs.Subtags.{read_variant};
 
     ghost written = { λ x. x };
@@ -111,13 +110,13 @@ impl FromText for Variant {
         self.as_str()
     }
 
-    ghost in_order = { λ x y. refl };
+    ghost by_text = { λ x y. refl };
 
-    ghost plain = { variant_above_dash };
+    ghost above_dash = { variant_above_dash };
 }
 
 impl FromText for Subtag {
-    ghost use Rattle.icu_tables.specs.Keys.{subtag_above_dash};
+    ghost use Rattle.icu_tables.specs.KeyLaws.{subtag_above_dash};
     ghost use Rattle.icu_tables.specs.Subtags.{read_subtag};
 
     ghost written = { λ x. x };
@@ -132,9 +131,9 @@ impl FromText for Subtag {
         self.as_str()
     }
 
-    ghost in_order = { λ x y. refl };
+    ghost by_text = { λ x y. refl };
 
-    ghost plain = { subtag_above_dash };
+    ghost above_dash = { subtag_above_dash };
 }
 
 impl<T: FromText> FromValue for T {

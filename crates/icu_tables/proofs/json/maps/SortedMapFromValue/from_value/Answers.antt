@@ -26,4 +26,4 @@ from_sorted-requires g c =
     let sorted = subst (λ es. IsStrictlySortedBy string_cmp (keys_of es)) (sym whole) c.iter-name-items.ensures.ordered in
     let ended = subst (λ left. IsReadBefore g.K.RowKey.key g.V.FromValue.seen g.V.FromValue.shape all left rows) c.in-None.ensures.steps.0 c.loop-name.invariant in
     let said = rows-end g.K.RowKey.key g.V.FromValue.seen g.V.FromValue.shape all rows ended in
-    subst (IsStrictlySortedBy g.K.Ord.cmp) (keys_of-map_values g.V.FromValue.seen rows) (keys_rise g.K.RowKey.key g.V.FromValue.shape g.K.Ord.cmp g.met.K.RowKey.rises all _ sorted said)
+    subst (IsStrictlySortedBy g.K.Ord.cmp) (keys_of-map_values g.V.FromValue.seen rows) (keys_rise g.K.RowKey.key g.V.FromValue.shape g.K.Ord.cmp g.met.K.RowKey.by_name all _ sorted said)
