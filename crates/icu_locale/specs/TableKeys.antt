@@ -5,7 +5,7 @@ use Rattle.std.specs.Option.{option_or, option_map, option_copied}
 use Rattle.std.specs.Str.{bytes_eq}
 use Rattle.icu_locale_core.specs.TextSet.{text_cmp}
 use Rattle.icu_locale_core.specs.Maps.{value_at}
-use Rattle.icu_provider.specs.Maps.{pair_cmp}
+use Rattle.icu_provider.specs.SortedMaps.{pair_cmp}
 use Rattle.icu_provider.specs.declared.error.DataError.{DataError}
 use Rattle.icu_provider.specs.declared.likely.language.LikelySubtagsForLanguage.{LikelySubtagsForLanguage}
 use Rattle.icu_provider.specs.declared.likely.script_region.LikelySubtagsForScriptRegion.{LikelySubtagsForScriptRegion}
