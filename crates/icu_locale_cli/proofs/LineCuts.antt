@@ -4,7 +4,7 @@ use Rattle.std.specs.List.{slice_split, onto_first, position, position_or_len}
 use Rattle.std.proofs.lemmas.Option.{cond_some, none-some}
 use Rattle.std.proofs.lemmas.Bool.Decides.{nat_tests}
 use Rattle.std.proofs.lemmas.List.{take_all, drop_all}
-use Rattle.icu_locale_core.proofs.Cutting.{slice_split-position, slice_split-no_position}
+use Rattle.icu_locale_core.specs.laws.Cuts.{slice_split-position, slice_split-no_position}
 use Rattle.icu_locale_cli.specs.Lines.{is_line_feed, without_empty_last, lines, first_line, after_first_line}
 
 -- a piece that others follow is a line

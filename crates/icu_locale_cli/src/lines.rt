@@ -55,7 +55,8 @@ pub fn cut(text: &[u8]) -> (&[u8], &[u8])
     match line_feed(text) {
         Some(place) => {
             let (line, rest) = text.split_at(place);
-            (line, &rest[1..])
+            let (_, rest) = rest.split_at(1);
+            (line, rest)
         }
         None => (text, &[]),
     }

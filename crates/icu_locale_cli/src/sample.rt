@@ -5,7 +5,8 @@ use crate::error::CliError;
 use icu_tables::Tables;
 use std::alloc::Global;
 
-const SAMPLE: &str = "{\
+/// The sample as a user writes it, on one line.
+pub const SAMPLE: &str = "{\
     \"likely_language\":{\
         \"und\":[\"en\",\"Latn\",\"US\"],\
         \"language\":{\

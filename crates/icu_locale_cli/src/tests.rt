@@ -2,6 +2,7 @@
 //! borrowed walks, long texts, and comparisons with plain bodies. `run`, `run_json`, the words and the sample too, since
 //! nothing stands on a program.
 mod constructors;
+mod faults;
 mod memory;
 mod plain;
 mod program;

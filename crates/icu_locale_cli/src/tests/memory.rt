@@ -2,12 +2,12 @@
 use crate::command::Command;
 use crate::error::CliError;
 use crate::run::run;
-use crate::sample::sample;
+use crate::sample::{SAMPLE, sample};
 use crate::status::Status;
 use icu_locale::{CanonicalizeError, LocaleCanonicalizer, LocaleExpander, TransformResult};
 use icu_locale_core::{LanguageIdentifier, Locale, ParseError};
 use icu_provider::{DataProvider, SortedMap};
-use icu_tables::Tables;
+use icu_tables::{TableError, Tables};
 use std::alloc::{AllocError, Global};
 use std::io;
 use std::io::Write;
@@ -306,6 +306,38 @@ fn canonicalizing_without_variants_takes_no_memory(rt: HostRuntime) -> Result<()
     let tables = sample(rt.alloc())?;
     for row in WITHOUT_MEMORY {
         starved_row(&rt, rt.alloc(), &tables, row)?;
+    }
+    Ok(())
+}
+
+fn read_tables(alloc: Global, text: &str) -> Answered {
+    match Tables::from_json(alloc, text.as_bytes()) {
+        Ok(_) => Answered::Whole,
+        Err(TableError::Memory) => Answered::Refused,
+        Err(_) => Answered::Wrong,
+    }
+}
+
+fn tables_by_budget(alloc: Global, text: &str) -> Tally {
+    let mut tally = Tally::new();
+    for step in 0..1_000 {
+        if let Ok(filler) = Vec::<u8>::with_capacity(alloc, 65_536 - 16 * step) {
+            tally.count(read_tables(alloc, text));
+            drop(filler);
+        }
+    }
+    tally
+}
+
+#[test]
+fn tables_from_json(rt: HostRuntime) -> Result<(), Fail> {
+    for text in [ENDING, CIRCLING, SAMPLE] {
+        let spare = Vec::<u8>::with_capacity(rt.alloc(), 65_536)?;
+        let held = take_all(rt.alloc())?;
+        drop(spare);
+        let tally = tables_by_budget(rt.alloc(), text);
+        drop(held);
+        assert!(rt; tally.is_good());
     }
     Ok(())
 }

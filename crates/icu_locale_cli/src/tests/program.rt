@@ -2,7 +2,7 @@
 use crate::command::Command;
 use crate::error::CliError;
 use crate::run::{run, run_json};
-use crate::sample::sample;
+use crate::sample::{SAMPLE, sample};
 use crate::status::Status;
 use icu_provider::{DataError, DataErrorKind};
 use icu_tables::{TableError, Tables};
@@ -175,6 +175,40 @@ fn runs(rt: HostRuntime) -> Result<(), Fail> {
     let tables = sample(rt.alloc())?;
     for row in RUNS {
         one_run(&rt, rt.alloc(), &tables, row)?;
+    }
+    Ok(())
+}
+
+// What a run over the sample gives, a run over the sample's text gives too.
+fn one_run_by_text(
+    rt: &impl Abort,
+    alloc: Global,
+    row: (&str, &str, &str, &str),
+) -> Result<(), Fail> {
+    let (words, input, output, status) = row;
+    let Ok((command, false)) = command(alloc, words)? else {
+        return Ok(());
+    };
+    let text = format!(in alloc; "{SAMPLE}\n{input}")?;
+    let mut written = Vec::new(alloc);
+    let ended = run_json(alloc, &command, &mut text.as_bytes(), &mut written);
+    assert_eq!(rt;
+        written.as_slice(),
+        output.as_bytes(),
+        "at {words} json: {input}"
+    );
+    assert_eq!(rt;
+        told(alloc, ended)?.as_str(),
+        status,
+        "at {words} json: {input}"
+    );
+    Ok(())
+}
+
+#[test]
+fn runs_over_the_text_of_the_sample(rt: HostRuntime) -> Result<(), Fail> {
+    for row in RUNS {
+        one_run_by_text(&rt, rt.alloc(), row)?;
     }
     Ok(())
 }

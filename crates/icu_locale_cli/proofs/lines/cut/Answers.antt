@@ -1,20 +1,22 @@
 use Rattle.std.proofs.Common.{◌∙◌, sym, ◌∷◌, ap, take}
-use Rattle.icu_locale_core.proofs.Cutting.{tail-drop}
+use Rattle.std.proofs.lemmas.List.{drop-drop}
 use Rattle.icu_locale_cli.specs.Lines.{lines}
 use Rattle.icu_locale_cli.proofs.LineCuts.{lines-position, lines-no_position, first_line-position, rest-position, first_line-no_position, rest-no_position}
 use Rattle.icu_locale_cli.proofs.lines.cut.Goals as goal
 
 pub returns-in-Some-clause-lines : goal.returns-in-Some-clause-lines
 returns-in-Some-clause-lines c some =
-    lines-position c.args.text.now c.in-Some.place (sym c.in-Some.ensures)
-    ∙ rw (c.split_at.ensures.front, c.split_at.ensures.back) (ap (λ r. take c.in-Some.place c.args.text.now ∷ lines r) (sym (tail-drop c.in-Some.place c.args.text.now)))
+    let text = c.args.text.now in
+    let place = c.in-Some.place in
+    lines-position text place (sym c.in-Some.ensures)
+    ∙ rw (c.split_at.ensures.front, c.split_at-in-Some.ensures.back, c.split_at.ensures.back) (ap (λ r. take place text ∷ lines r) (sym (drop-drop 1 place text)))
 
 pub returns-in-Some-clause-first : goal.returns-in-Some-clause-first
 returns-in-Some-clause-first c = c.split_at.ensures.front ∙ sym (first_line-position c.args.text.now c.in-Some.place (sym c.in-Some.ensures))
 
 pub returns-in-Some-clause-rest : goal.returns-in-Some-clause-rest
 returns-in-Some-clause-rest c =
-    rw c.split_at.ensures.back (tail-drop c.in-Some.place c.args.text.now) ∙ sym (rest-position c.args.text.now c.in-Some.place (sym c.in-Some.ensures))
+    rw (c.split_at-in-Some.ensures.back, c.split_at.ensures.back) (drop-drop 1 c.in-Some.place c.args.text.now) ∙ sym (rest-position c.args.text.now c.in-Some.place (sym c.in-Some.ensures))
 
 pub returns-in-None-clause-lines : goal.returns-in-None-clause-lines
 returns-in-None-clause-lines c some = lines-no_position c.args.text.now some (sym c.in-None.ensures)

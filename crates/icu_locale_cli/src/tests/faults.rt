@@ -1,0 +1,58 @@
+//! The names of refusals.
+use icu_locale::CanonicalizeError;
+use icu_locale_core::{LanguageIdentifier, ParseError};
+use icu_provider::{DataError, DataErrorKind};
+use std::alloc::Global;
+use std::fmt;
+use std::process::Abort;
+use std::test::Fail;
+
+fn is_named(
+    rt: &impl Abort,
+    alloc: Global,
+    fault: impl fmt::Display + Drop,
+    name: &str,
+) -> Result<(), Fail> {
+    let written = format!(in alloc; "{fault}")?;
+    assert_eq!(rt; written.as_str(), name);
+    Ok(())
+}
+
+#[test]
+fn kinds_of_data_errors(rt: HostRuntime) -> Result<(), Fail> {
+    for (kind, name) in [
+        (DataErrorKind::IdentifierNotFound, "IdentifierNotFound"),
+        (DataErrorKind::MarkerNotFound, "MarkerNotFound"),
+        (DataErrorKind::InvalidRequest, "InvalidRequest"),
+        (DataErrorKind::Deserialize, "Deserialize"),
+        (DataErrorKind::Custom, "Custom"),
+        (DataErrorKind::Memory, "Memory"),
+    ] {
+        is_named(&rt, rt.alloc(), DataError { kind }, name)?;
+    }
+    Ok(())
+}
+
+#[test]
+fn refusals_of_texts(rt: HostRuntime) -> Result<(), Fail> {
+    for (refusal, name) in [
+        (ParseError::InvalidLanguage, "InvalidLanguage"),
+        (ParseError::InvalidSubtag, "InvalidSubtag"),
+        (ParseError::Memory, "Memory"),
+    ] {
+        is_named(&rt, rt.alloc(), refusal, name)?;
+    }
+    Ok(())
+}
+
+#[test]
+fn refusals_of_canonicalizing(rt: HostRuntime) -> Result<(), Fail> {
+    let id = LanguageIdentifier::try_from_str(rt.alloc(), "aa")?;
+    is_named(
+        &rt,
+        rt.alloc(),
+        CanonicalizeError::NoFixedPoint(id),
+        "NoFixedPoint",
+    )?;
+    is_named(&rt, rt.alloc(), CanonicalizeError::Memory, "Memory")
+}
