@@ -23,11 +23,6 @@ three_items-other first second third (a ∷ b ∷ c ∷ d ∷ values) other = re
 abbrev pub prefixed : {A : Type 0} → List A → Option (List A) → Option (List A)
 prefixed done rest = option_map (λ more. done ++ more) rest
 
--- nothing before it changes nothing
-pub prefixed-none : {A : Type 0} (rest : Option (List A)) → rest ≡ prefixed [] rest
-prefixed-none None = refl
-prefixed-none (Some more) = refl
-
 -- one more of those that follow
 pub prefixed-more : {A : Type 0} (done : List A) (x : A) (rest : Option (List A)) → prefixed done (applied (Some (λ xs. x ∷ xs)) rest) ≡ prefixed (done ++ x ∷ []) rest
 prefixed-more done x None = refl

@@ -162,12 +162,12 @@ module _ {A B : Type 0} (first : List ℕ → Option A) (second : List ℕ → O
         second_is = parts.1;
       })
 
-  pub pair_compares : (compare_first : A → A → Ordering) (compare_second : B → B → Ordering)
+  pub pair_compares : {compare_first : A → A → Ordering} {compare_second : B → B → Ordering}
       → ComparesNames first compare_first
       → ComparesNames second compare_second
       → ReadsAboveDash first
       → ComparesNames (key_pair first second) (pair_cmp compare_first compare_second)
-  pair_compares compare_first compare_second by_first by_second above s t x y is_x is_y =
+  pair_compares by_first by_second above s t x y is_x is_y =
       let a = names s x is_x in
       let b = names t y is_y in
       let above_a = above _ _ a.first_is in
@@ -175,4 +175,6 @@ module _ {A B : Type 0} (first : List ℕ → Option A) (second : List ℕ → O
       let order = joined a.cut.0 a.cut.1 b.cut.0 b.cut.1 above_a above_b in
       let firsts = by_first _ _ _ _ a.first_is b.first_is in
       let seconds = by_second _ _ _ _ a.second_is b.second_is in
-      (λ i. ordering_then (firsts i) (seconds i)) ∙ order ∙ (λ i. text_cmp (sym a.joins i) (sym b.joins i))
+      (λ i. ordering_then (firsts i) (seconds i))
+      ∙ order
+      ∙ (λ i. text_cmp (sym a.joins i) (sym b.joins i))

@@ -6,7 +6,8 @@ use Rattle.icu_provider.specs.declared.aliases.Aliases.{Aliases}
 use Rattle.icu_provider.specs.declared.likely.extended.LikelySubtagsExtended.{LikelySubtagsExtended}
 use Rattle.icu_provider.specs.declared.likely.language.LikelySubtagsForLanguage.{LikelySubtagsForLanguage}
 use Rattle.icu_provider.specs.declared.likely.script_region.LikelySubtagsForScriptRegion.{LikelySubtagsForScriptRegion}
-use Rattle.icu_tables.specs.Rows.{AliasRows, FileRows, seen_rows, rule, variants_rule, direction_rows}
+use Rattle.icu_tables.specs.Rows.{AliasRows, FileRows, seen_rows}
+use Rattle.icu_tables.specs.Rows.{rule, variants_rule, direction_rows}
 use Rattle.icu_tables.specs.declared.error.TableError.{TableError}
 use Rattle.icu_tables.specs.declared.error.TableError.TheVariants.{Json, Shape, Memory}
 use Rattle.icu_tables.specs.declared.tables.Tables.{Tables}

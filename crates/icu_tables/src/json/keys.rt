@@ -43,7 +43,7 @@ impl<A: FromText, B: FromText> RowKey for (A, B) {
         Some((A::from_name(first)?, B::from_name(second)?))
     }
 
-    ghost by_name = { pair_compares (key_of A.written A.reads) (key_of B.written B.reads) A.cmp B.cmp
+    ghost by_name = { pair_compares (key_of A.written A.reads) (key_of B.written B.reads)
         (key_compares A.written A.reads A.cmp A.by_text)
         (key_compares B.written B.reads B.cmp B.by_text)
         (key_above_dash A.written A.reads A.above_dash) };
