@@ -23,8 +23,13 @@ use serde_json::Value;
 use std::alloc::Global;
 
 impl Tables {
-    /// The tables of a JSON text: an object with a member for each table. A table that the text
-    /// leaves out is not held.
+    /// The tables of a JSON text: an object with the members `likely_language`,
+    /// `likely_script_region`, `likely_extended`, `aliases` and `direction`, any of which may be
+    /// left out. A table that is left out is not held, and a map that is left out has no rows.
+    /// `specs/File.antt` says what stands in each.
+    ///
+    /// Values are read in any case. A key is one subtag in its written form, or two with one `-`
+    /// between them; a row whose key is not of this form is skipped.
     ///
     /// # Errors
     ///

@@ -1,4 +1,4 @@
-//! A provider that holds its data in memory.
+//! A provider that holds its data in memory, and reads it from JSON.
 #![tactic(auto)]
 
 mod error;
