@@ -5,7 +5,7 @@ use icu_locale::{
     TransformResult,
 };
 use icu_locale_core::{LanguageIdentifier, Locale};
-use icu_provider::{DataError, DataProvider, LikelySubtagsExtended};
+use icu_provider::{DataProvider, LikelySubtagsExtended};
 use icu_tables::Tables;
 use std::alloc::Global;
 use std::process::Abort;
@@ -77,29 +77,36 @@ fn directs<'d, E: AsExpander<'d>>(
     Ok(())
 }
 
-// Over tables, over a provider, over an expander and over one that is lent.
-fn directionalities_of<'t>(
-    tables: &'t Tables,
-    expander: LocaleExpander<'t>,
-) -> Result<[LocaleDirectionality<'t>; 5], DataError> {
+fn made_of_tables(rt: &impl Abort, alloc: Global, tables: &Tables) -> Result<(), Fail> {
+    let expander = LocaleExpander::try_new_common_unstable(tables)?;
     let directions = tables.load_script_direction()?;
-    Ok([
-        LocaleDirectionality::new_common(expander.language, expander.script_region, directions),
-        LocaleDirectionality::try_new_common_unstable(tables)?,
-        LocaleDirectionality::try_new_extended_unstable(tables)?,
-        LocaleDirectionality::new_with_expander(directions, expander),
-        LocaleDirectionality::try_new_with_expander_unstable(tables, expander)?,
-    ])
+    let common = LocaleDirectionality::new_common(
+        expander.language,
+        expander.script_region,
+        directions,
+    );
+    directs(rt, alloc, &common)?;
+    let over_expander = LocaleDirectionality::new_with_expander(directions, expander);
+    directs(rt, alloc, &over_expander)
+}
+
+fn made_of_a_provider(rt: &impl Abort, alloc: Global, tables: &Tables) -> Result<(), Fail> {
+    let common = LocaleDirectionality::try_new_common_unstable(tables)?;
+    directs(rt, alloc, &common)?;
+    let all = LocaleDirectionality::try_new_extended_unstable(tables)?;
+    directs(rt, alloc, &all)?;
+    let over_expander = LocaleDirectionality::try_new_with_expander_unstable(
+        tables,
+        common.expander,
+    )?;
+    directs(rt, alloc, &over_expander)
 }
 
 #[test]
 fn directionalities(rt: HostRuntime) -> Result<(), Fail> {
     let tables = extended_sample(rt.alloc())?;
-    let expander = LocaleExpander::try_new_common_unstable(&tables)?;
-    for directionality in directionalities_of(&tables, expander)? {
-        directs(&rt, rt.alloc(), &directionality)?;
-    }
-    Ok(())
+    made_of_tables(&rt, rt.alloc(), &tables)?;
+    made_of_a_provider(&rt, rt.alloc(), &tables)
 }
 
 fn lent_and_extended(rt: &impl Abort, alloc: Global, tables: &Tables) -> Result<(), Fail> {

@@ -15,7 +15,7 @@ use std::process::Abort;
 use std::test::Fail;
 
 // How many blocks are taken at the most.
-const MOST_BLOCKS: usize = 262_144;
+const MOST_BLOCKS: usize = 65_536;
 
 // Blocks of one size, until one is refused.
 fn take_blocks(alloc: Global, held: &mut Vec<Vec<u8>>, size: usize) {
@@ -321,7 +321,7 @@ fn read_tables(alloc: Global, text: &str) -> Answered {
 fn tables_by_budget(alloc: Global, text: &str) -> Tally {
     let mut tally = Tally::new();
     for step in 0..1_000 {
-        if let Ok(filler) = Vec::<u8>::with_capacity(alloc, 65_536 - 16 * step) {
+        if let Ok(filler) = Vec::<u8>::with_capacity(alloc, 65_536 - 64 * step) {
             tally.count(read_tables(alloc, text));
             drop(filler);
         }
