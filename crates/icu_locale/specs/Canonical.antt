@@ -1,5 +1,7 @@
 -- Canonical locales (UTS #35 Part 1, Annex C "LocaleId Canonicalization").
-use Rattle.std.specs.Prelude.{◌≡◌, ◌⊎◌, ◌+◌, ◌*◌, ◌≤◌, ℕ, Bool, true, false, ◌||◌, List, codes, Option, Some, None, is_some, Result, Ok, Err, IfSome, IsSomeAnd, MatchOption}
+use Rattle.std.specs.Prelude.{◌≡◌, ◌⊎◌, ◌+◌, ◌*◌, ◌≤◌, ℕ, Bool, true, false, ◌||◌, List, codes}
+use Rattle.std.specs.Prelude.{Option, Some, None, is_some, Result, Ok, Err, IfSome, IsSomeAnd}
+use Rattle.std.specs.Prelude.{MatchOption}
 use Rattle.std.specs.List.{All}
 use Rattle.std.specs.Option.{option_and_then}
 use Rattle.icu_locale_core.specs.TextSet.{text_cmp, empty}
@@ -15,7 +17,8 @@ use Rattle.icu_locale.specs.declared.expander.TransformResult.{TransformResult}
 use Rattle.icu_locale.specs.declared.expander.TransformResult.TheVariants.{Modified, Unmodified}
 use Rattle.icu_locale.specs.declared.canonicalizer.rules.Rules.{Rules}
 use Rattle.icu_locale.specs.declared.canonicalizer.CanonicalizeError.{CanonicalizeError}
-use Rattle.icu_locale.specs.declared.canonicalizer.CanonicalizeError.TheVariants.{Memory, NoFixedPoint}
+use Rattle.icu_locale.specs.declared.canonicalizer.CanonicalizeError.TheVariants.{Memory}
+use Rattle.icu_locale.specs.declared.canonicalizer.CanonicalizeError.TheVariants.{NoFixedPoint}
 
 -- the key of a region override
 abbrev pub rg : List ℕ
@@ -27,7 +30,8 @@ sd = codes "sd"
 
 -- the value in place of the one at a key, where that has one piece, which is a key of `subdivision`
 abbrev pub subdivision_alias : Rules → KeywordRows → List ℕ → Option (List (List ℕ))
-subdivision_alias rules keywords key = option_and_then (value_at text_cmp rules.subdivision) (option_and_then only_piece (value_at text_cmp keywords key))
+subdivision_alias rules keywords key = option_and_then (value_at text_cmp rules.subdivision)
+    (option_and_then only_piece (value_at text_cmp keywords key))
 
 -- a value put at a key, if there is one
 abbrev pub put : KeywordRows → List ℕ → Option (List (List ℕ)) → KeywordRows
@@ -36,23 +40,30 @@ put keywords key (Some value) = with_value keywords key value
 
 -- the values at `rg` and `sd` are replaced, once, and the others stay
 abbrev pub canonical_keywords : Rules → KeywordRows → KeywordRows
-canonical_keywords rules keywords = put (put keywords rg (subdivision_alias rules keywords rg)) sd (subdivision_alias rules keywords sd)
+canonical_keywords rules keywords = put (put keywords rg (subdivision_alias rules keywords rg)) sd
+    (subdivision_alias rules keywords sd)
 
 -- no transform language stays none, and one becomes the end of its run by language aliases alone
-abbrev pub IsCanonicalTransform : Rules → Option LanguageIdentifier → Option LanguageIdentifier → Type 0
+abbrev pub IsCanonicalTransform : Rules → Option LanguageIdentifier → Option LanguageIdentifier
+    → Type 0
 IsCanonicalTransform rules None new = new ≡ None
 IsCanonicalTransform rules (Some l) new = IsSomeAnd new (EndsAt (by_language_alias rules) l)
 
 -- the canonical locale: the end of the identifier's run, the end of the transform language's, and the canonical keywords
 pub record IsCanonical (likely : LikelySubtags) (rules : Rules) (old new : Locale) : Type 0 where
   pub id : EndsAt (next likely rules) old.id new.id
-  pub transform : IsCanonicalTransform rules old.extensions.transform.lang new.extensions.transform.lang
-  pub keywords : new.extensions.unicode.keywords ≡ canonical_keywords rules old.extensions.unicode.keywords
+  pub transform : IsCanonicalTransform rules old.extensions.transform.lang
+      new.extensions.transform.lang
+  pub keywords : new.extensions.unicode.keywords
+      ≡ canonical_keywords rules old.extensions.unicode.keywords
 
 -- some rule or subdivision row is applied
 abbrev pub is_applied : LikelySubtags → Rules → Locale → Bool
 is_applied likely rules old =
-    is_some (next likely rules old.id) || (is_some (option_and_then (by_language_alias rules) old.extensions.transform.lang) || (is_some (subdivision_alias rules old.extensions.unicode.keywords rg) || is_some (subdivision_alias rules old.extensions.unicode.keywords sd)))
+    is_some (next likely rules old.id)
+    || (is_some (option_and_then (by_language_alias rules) old.extensions.transform.lang)
+    || (is_some (subdivision_alias rules old.extensions.unicode.keywords rg)
+    || is_some (subdivision_alias rules old.extensions.unicode.keywords sd)))
 
 -- what is answered where something was applied, and where nothing was
 abbrev pub answer_of : Bool → TransformResult
@@ -61,4 +72,6 @@ answer_of false = Unmodified
 
 -- no value of `subdivision` is one piece that is a key of it again
 abbrev pub HasFinalSubdivisions : Rules → Type 0
-HasFinalSubdivisions rules = All (λ row. option_and_then (value_at text_cmp rules.subdivision) (only_piece row.1) ≡ None) rules.subdivision
+HasFinalSubdivisions rules =
+    All (λ row. option_and_then (value_at text_cmp rules.subdivision) (only_piece row.1) ≡ None)
+    rules.subdivision

@@ -13,11 +13,13 @@ use Rattle.icu_locale.specs.declared.canonicalizer.CanonicalizeError.TheVariants
 
 -- the locale becomes canonical, or a refusal says why not and it stays as it was; memory aside it succeeds exactly where
 -- the rules come to an end
-pub record Canonicalizes (likely : LikelySubtags) (rules : Rules) (old new : Locale) (result : Result TransformResult CanonicalizeError) : Type 0 where
+pub record Canonicalizes (likely : LikelySubtags) (rules : Rules) (old new : Locale)
+    (result : Result TransformResult CanonicalizeError) : Type 0 where
   pub canonical : OnOk result (IsCanonical likely rules old new)
   pub answer : IfOk result (λ answer. answer ≡ answer_of (is_applied likely rules old))
   pub refusal : IfErr result (IsRefusal likely rules old)
   pub unchanged : OnErr result (new ≡ old)
   pub ends : RulesEnd likely rules old → IsOk result ⊎ IsOutOfMemory result
-  pub repeats : (z : LanguageIdentifier) → ComesAgainFirst likely rules old z → (result ≡ Err (NoFixedPoint z)) ⊎ IsOutOfMemory result
+  pub repeats : (z : LanguageIdentifier) → ComesAgainFirst likely rules old z
+      → (result ≡ Err (NoFixedPoint z)) ⊎ IsOutOfMemory result
   pub free : NeedsNoMemory likely rules old → ¬ (IsOutOfMemory result)

@@ -25,23 +25,28 @@ abbrev pub common : LikelySubtagsForLanguage → LikelySubtagsForScriptRegion �
 common a b = record { language = a; script_region = b; extended = None }
 
 -- the common tables and the extended one
-abbrev pub with_extended : LikelySubtagsForLanguage → LikelySubtagsForScriptRegion → LikelySubtagsExtended → LikelyTables
+abbrev pub with_extended : LikelySubtagsForLanguage → LikelySubtagsForScriptRegion
+    → LikelySubtagsExtended → LikelyTables
 with_extended a b c = record { language = a; script_region = b; extended = Some c }
 
 -- two answers in this order, or the first refusal
-abbrev pub both : {A B : Type 0} → Result A DataError → Result B DataError → Result (A × B) DataError
+abbrev pub both : {A B : Type 0} → Result A DataError → Result B DataError
+    → Result (A × B) DataError
 both (Err refusal) b = Err refusal
 both (Ok a) (Err refusal) = Err refusal
 both (Ok a) (Ok b) = Ok (a, b)
 
 -- the common tables, loaded in this order, or the first refusal
-abbrev pub loaded_common : Result LikelySubtagsForLanguage DataError → Result LikelySubtagsForScriptRegion DataError → Result LikelyTables DataError
+abbrev pub loaded_common : Result LikelySubtagsForLanguage DataError
+    → Result LikelySubtagsForScriptRegion DataError → Result LikelyTables DataError
 loaded_common (Err refusal) b = Err refusal
 loaded_common (Ok a) (Err refusal) = Err refusal
 loaded_common (Ok a) (Ok b) = Ok (common a b)
 
 -- all three tables, loaded in this order, or the first refusal
-abbrev pub loaded_extended : Result LikelySubtagsForLanguage DataError → Result LikelySubtagsForScriptRegion DataError → Result LikelySubtagsExtended DataError → Result LikelyTables DataError
+abbrev pub loaded_extended : Result LikelySubtagsForLanguage DataError
+    → Result LikelySubtagsForScriptRegion DataError → Result LikelySubtagsExtended DataError
+    → Result LikelyTables DataError
 loaded_extended (Err refusal) b c = Err refusal
 loaded_extended (Ok a) (Err refusal) c = Err refusal
 loaded_extended (Ok a) (Ok b) (Err refusal) = Err refusal
@@ -54,21 +59,25 @@ pub record StandsOn (tables : LikelyTables) (e : LocaleExpander) : Type 0 where
   pub extended : option_copied e.extended ≡ tables.extended
 
 -- a directionality stands on these tables and directions
-pub record DirectsOver (over : LikelyTables × ScriptDirection) (d : LocaleDirectionality LocaleExpander) : Type 0 where
+pub record DirectsOver (over : LikelyTables × ScriptDirection)
+    (d : LocaleDirectionality LocaleExpander) : Type 0 where
   pub expander : StandsOn over.0 d.expander
   pub directions : d.script_direction.now ≡ over.1
 
 -- a canonicalizer stands on these tables, and its rules are those that can be read of the aliases
-pub record RewritesOver (over : LikelyTables × Aliases) (c : LocaleCanonicalizer LocaleExpander) : Type 0 where
+pub record RewritesOver (over : LikelyTables × Aliases)
+    (c : LocaleCanonicalizer LocaleExpander) : Type 0 where
   pub expander : StandsOn over.0 c.expander
   pub rules : AreRules over.1 c.rules
 
 -- what is made stands on what was loaded, and a refused load is given unchanged
-abbrev pub IsMade : {T A : Type 0} → (T → A → Type 0) → Result T DataError → Result A DataError → Type 0
+abbrev pub IsMade : {T A : Type 0} → (T → A → Type 0) → Result T DataError → Result A DataError
+    → Type 0
 IsMade Stands (Ok loaded) made = IsOkAnd made (Stands loaded)
 IsMade Stands (Err refusal) made = made ≡ Err refusal
 
 -- the same, but what is made may find no memory
-abbrev pub IsMadeInMemory : {T A : Type 0} → (T → A → Type 0) → Result T DataError → Result A DataError → Type 0
+abbrev pub IsMadeInMemory : {T A : Type 0} → (T → A → Type 0) → Result T DataError
+    → Result A DataError → Type 0
 IsMadeInMemory Stands (Ok loaded) made = MatchResult made (Stands loaded) (λ e. e.kind ≡ Memory)
 IsMadeInMemory Stands (Err refusal) made = made ≡ Err refusal

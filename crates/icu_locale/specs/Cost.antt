@@ -1,5 +1,7 @@
 -- How many searches a canonicalization takes, and when it takes no memory.
-use Rattle.std.specs.Prelude.{◌≡◌, ◌⊎◌, ◌+◌, ◌*◌, ◌≤◌, ℕ, Bool, true, false, ◌||◌, List, codes, Option, Some, None, is_some, Result, Ok, Err, IfSome, IsSomeAnd, MatchOption}
+use Rattle.std.specs.Prelude.{◌≡◌, ◌⊎◌, ◌+◌, ◌*◌, ◌≤◌, ℕ, Bool, true, false, ◌||◌, List, codes}
+use Rattle.std.specs.Prelude.{Option, Some, None, is_some, Result, Ok, Err, IfSome, IsSomeAnd}
+use Rattle.std.specs.Prelude.{MatchOption}
 use Rattle.std.specs.List.{All}
 use Rattle.std.specs.Option.{option_and_then}
 use Rattle.icu_locale_core.specs.TextSet.{text_cmp, empty}
@@ -15,24 +17,29 @@ use Rattle.icu_locale.specs.declared.expander.TransformResult.{TransformResult}
 use Rattle.icu_locale.specs.declared.expander.TransformResult.TheVariants.{Modified, Unmodified}
 use Rattle.icu_locale.specs.declared.canonicalizer.rules.Rules.{Rules}
 use Rattle.icu_locale.specs.declared.canonicalizer.CanonicalizeError.{CanonicalizeError}
-use Rattle.icu_locale.specs.declared.canonicalizer.CanonicalizeError.TheVariants.{Memory, NoFixedPoint}
+use Rattle.icu_locale.specs.declared.canonicalizer.CanonicalizeError.TheVariants.{Memory}
+use Rattle.icu_locale.specs.declared.canonicalizer.CanonicalizeError.TheVariants.{NoFixedPoint}
 use Rattle.icu_locale.specs.Canonical.{rg, sd, subdivision_alias}
 use Rattle.icu_locale.specs.Refusals.{IsOutOfMemory}
 
 -- the searches from before to after never fall, are at most six for each of n identifiers and, unless memory was refused,
 -- at least as many as these
-pub record CountsSearches {T : Type 0} (result : Result T CanonicalizeError) (before after n : ℕ) : Type 0 where
+pub record CountsSearches {T : Type 0} (result : Result T CanonicalizeError)
+    (before after n : ℕ) : Type 0 where
   pub forward : before ≤ after
   pub most : after ≤ before + 6 * n
   pub least : ¬ (IsOutOfMemory result) → before + n ≤ after
 
 -- n is the number of different identifiers in the identifier's run and, where that ends, in the transform language's
-pub record HasIdentifiers (likely : LikelySubtags) (rules : Rules) (old : Locale) (n : ℕ) : Type 0 where
+pub record HasIdentifiers (likely : LikelySubtags) (rules : Rules) (old : Locale)
+    (n : ℕ) : Type 0 where
   pub in_run : ℕ
   pub in_transform : ℕ
   pub sum : n ≡ in_run + in_transform
   pub of_run : HasDistinct (next likely rules) old.id in_run
-  pub of_transform : (y : LanguageIdentifier) → EndsAt (next likely rules) old.id y → MatchOption old.extensions.transform.lang (in_transform ≡ 0) (λ l. HasDistinct (by_language_alias rules) l in_transform)
+  pub of_transform : (y : LanguageIdentifier) → EndsAt (next likely rules) old.id y
+      → MatchOption old.extensions.transform.lang (in_transform ≡ 0)
+      (λ l. HasDistinct (by_language_alias rules) l in_transform)
   pub of_none : (z : LanguageIdentifier) → IsRepeat (next likely rules) old.id z → in_transform ≡ 0
 
 -- no replacement of the rules for identifiers without variants has variants
@@ -42,6 +49,7 @@ AddsNoVariants rules = All (λ r. r.replacement.variants ≡ empty) rules.langua
 -- in each run nothing matches, or there are no variants and none are added; and no subdivision is replaced
 pub record NeedsNoMemory (likely : LikelySubtags) (rules : Rules) (old : Locale) : Type 0 where
   pub id : (next likely rules old.id ≡ None) ⊎ ((old.id.variants ≡ empty) × AddsNoVariants rules)
-  pub transform : IfSome old.extensions.transform.lang (λ l. (by_language_alias rules l ≡ None) ⊎ (l.variants ≡ empty))
+  pub transform : IfSome old.extensions.transform.lang
+      (λ l. (by_language_alias rules l ≡ None) ⊎ (l.variants ≡ empty))
   pub region_override : subdivision_alias rules old.extensions.unicode.keywords rg ≡ None
   pub subdivision : subdivision_alias rules old.extensions.unicode.keywords sd ≡ None

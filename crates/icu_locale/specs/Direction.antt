@@ -1,5 +1,6 @@
 -- Which way the likely script of an identifier runs.
-use Rattle.std.specs.Prelude.{ℕ, Bool, false, true, List, Option, Some, None, if◌then◌else◌, ◌≡◌, Result, Ok, Err}
+use Rattle.std.specs.Prelude.{ℕ, Bool, false, true, List, Option, Some, None, if◌then◌else◌, ◌≡◌}
+use Rattle.std.specs.Prelude.{Result, Ok, Err}
 use Rattle.icu_provider.specs.ScriptDirection.{is_listed}
 use Rattle.icu_provider.specs.declared.direction.ScriptDirection.{ScriptDirection}
 use Rattle.icu_locale.specs.declared.directionality.Direction.{Direction}
@@ -12,7 +13,9 @@ is_script_in scripts (Some s) = is_listed scripts s
 
 -- left to right where the script is in that list, else right to left where it is in the other
 abbrev pub direction_of : ScriptDirection → Option (List ℕ) → Option Direction
-direction_of d s = if is_script_in d.ltr s then Some LeftToRight else (if is_script_in d.rtl s then Some RightToLeft else None)
+direction_of d s =
+    if is_script_in d.ltr s then Some LeftToRight
+    else (if is_script_in d.rtl s then Some RightToLeft else None)
 
 -- no script is in both lists
 abbrev pub AreDisjoint : ScriptDirection → Type 0

@@ -1,12 +1,15 @@
 -- Likely subtags and maximal forms (UTS #35 Part 1, section 4.3, Likely Subtags).
-use Rattle.std.specs.Prelude.{◌≡◌, ◌≢◌, ◌⊎◌, ℕ, List, [], ◌∷◌, codes, Option, Some, None, if◌then◌else◌}
+use Rattle.std.specs.Prelude.{◌≡◌, ◌≢◌, ◌⊎◌, ℕ, List, [], ◌∷◌, codes, Option, Some, None}
+use Rattle.std.specs.Prelude.{if◌then◌else◌}
 use Rattle.std.specs.Option.{option_or, unwrap_or}
 use Rattle.std.specs.Str.{bytes_eq}
 use Rattle.icu_locale_core.specs.Subtag.{und}
 use Rattle.icu_locale_core.specs.declared.langid.LanguageIdentifier.{LanguageIdentifier}
 use Rattle.icu_provider.specs.declared.data_locale.DataLocale.{DataLocale}
 use Rattle.icu_locale.specs.declared.expander.looks.Key.{Key}
-use Rattle.icu_locale.specs.declared.expander.looks.Key.TheVariants.{LanguageRegion, LanguageScript, LanguageAlone, ScriptRegion, ScriptAlone, RegionAlone}
+use Rattle.icu_locale.specs.declared.expander.looks.Key.TheVariants.{LanguageRegion, LanguageScript}
+use Rattle.icu_locale.specs.declared.expander.looks.Key.TheVariants.{LanguageAlone, ScriptRegion}
+use Rattle.icu_locale.specs.declared.expander.looks.Key.TheVariants.{ScriptAlone, RegionAlone}
 
 -- a language, a script and a region
 abbrev pub Triple : Type 0
@@ -31,7 +34,8 @@ known_subtag unknown (Some t) = if bytes_eq t unknown then None else Some t
 
 -- without script `Zzzz` and region `ZZ`, as the first step of section 4.3 removes them
 abbrev pub bare_locale : DataLocale → DataLocale
-bare_locale x = record { language = x.language; script = known_subtag unknown_script x.script; region = known_subtag unknown_region x.region }
+bare_locale x = record { language = x.language; script = known_subtag unknown_script x.script;
+    region = known_subtag unknown_region x.region }
 
 -- the keys of a known language: with the region, with the script, alone
 abbrev pub known_keys : List ℕ → Option (List ℕ) → Option (List ℕ) → List Key
@@ -49,7 +53,9 @@ und_keys (Some s) (Some r) = ScriptRegion s r ∷ ScriptAlone s ∷ RegionAlone 
 
 -- the keys that are looked up, in their order (section 4.3, the look-up step)
 abbrev pub keys : DataLocale → List Key
-keys x = if bytes_eq x.language und then und_keys x.script x.region else known_keys x.language x.script x.region
+keys x =
+    if bytes_eq x.language und then und_keys x.script x.region
+    else known_keys x.language x.script x.region
 
 -- the triple of the first key that the table has
 abbrev pub first_found : LikelySubtags → List Key → Option Triple
@@ -59,7 +65,8 @@ first_found likely (k ∷ ks) = option_or (likely k) (first_found likely ks)
 -- what is missing, taken from the triple: the language where it is `und`, the script and the region where there is none
 abbrev pub filled : DataLocale → Option Triple → DataLocale
 filled x None = x
-filled x (Some t) = record { language = (if bytes_eq x.language und then t.0 else x.language); script = Some (unwrap_or x.script t.1); region = Some (unwrap_or x.region t.2) }
+filled x (Some t) = record { language = (if bytes_eq x.language und then t.0 else x.language);
+    script = Some (unwrap_or x.script t.1); region = Some (unwrap_or x.region t.2) }
 
 -- the maximal form of what is bare already
 abbrev pub maximal_of_bare : LikelySubtags → DataLocale → DataLocale
@@ -75,7 +82,8 @@ locale_of x = record { language = x.language; script = x.script; region = x.regi
 
 -- an identifier with another language, script and region, and its own variants
 abbrev pub with_locale : LanguageIdentifier → DataLocale → LanguageIdentifier
-with_locale x y = record { language = y.language; script = y.script; region = y.region; variants = x.variants }
+with_locale x y =
+    record { language = y.language; script = y.script; region = y.region; variants = x.variants }
 
 -- the maximal form of an identifier: its variants stay
 abbrev pub maximal : LikelySubtags → LanguageIdentifier → LanguageIdentifier

@@ -1,5 +1,6 @@
 -- The one likely table that an expander looks up in (UTS #35 Part 1, section 4.3).
-use Rattle.std.specs.Prelude.{◌≡◌, ℕ, List, [], ◌∷◌, ◌++◌, map, Option, Some, None, Result, Ok, Err, ◌&&◌, if◌then◌else◌}
+use Rattle.std.specs.Prelude.{◌≡◌, ℕ, List, [], ◌∷◌, ◌++◌, map, Option, Some, None, Result, Ok, Err}
+use Rattle.std.specs.Prelude.{◌&&◌, if◌then◌else◌}
 use Rattle.std.specs.Borrow.{Bor}
 use Rattle.std.specs.Option.{option_or, option_map, option_copied}
 use Rattle.std.specs.Str.{bytes_eq}
@@ -11,7 +12,9 @@ use Rattle.icu_provider.specs.declared.likely.language.LikelySubtagsForLanguage.
 use Rattle.icu_provider.specs.declared.likely.script_region.LikelySubtagsForScriptRegion.{LikelySubtagsForScriptRegion}
 use Rattle.icu_provider.specs.declared.likely.extended.LikelySubtagsExtended.{LikelySubtagsExtended}
 use Rattle.icu_locale.specs.declared.expander.looks.Key.{Key}
-use Rattle.icu_locale.specs.declared.expander.looks.Key.TheVariants.{LanguageRegion, LanguageScript, LanguageAlone, ScriptRegion, ScriptAlone, RegionAlone}
+use Rattle.icu_locale.specs.declared.expander.looks.Key.TheVariants.{LanguageRegion, LanguageScript}
+use Rattle.icu_locale.specs.declared.expander.looks.Key.TheVariants.{LanguageAlone, ScriptRegion}
+use Rattle.icu_locale.specs.declared.expander.looks.Key.TheVariants.{ScriptAlone, RegionAlone}
 use Rattle.icu_locale.specs.LikelySubtags.{Triple, LikelySubtags}
 use Rattle.icu_locale.specs.declared.expander.LocaleExpander.{LocaleExpander}
 
@@ -26,18 +29,25 @@ pub record LikelyRows : Type 0 where
 
 -- the rows of the two common tables
 abbrev pub common_rows : LikelySubtagsForLanguage → LikelySubtagsForScriptRegion → LikelyRows
-common_rows a b = record { language = a.language; language_script = a.language_script; language_region = a.language_region; script_region = b.script_region; script = b.script; region = b.region }
+common_rows a b = record { language = a.language; language_script = a.language_script;
+    language_region = a.language_region; script_region = b.script_region; script = b.script;
+    region = b.region }
 
 -- the rows of the extended table
 abbrev pub extended_rows : LikelySubtagsExtended → LikelyRows
-extended_rows e = record { language = e.language; language_script = e.language_script; language_region = e.language_region; script_region = e.script_region; script = e.script; region = e.region }
+extended_rows e = record { language = e.language; language_script = e.language_script;
+    language_region = e.language_region; script_region = e.script_region; script = e.script;
+    region = e.region }
 
 -- the triple at a key: the key's own subtags, and the values of the row
 abbrev pub row_at : LikelyRows → LikelySubtags
-row_at rows (LanguageRegion l r) = option_map (λ s. (l, s, r)) (value_at pair_cmp rows.language_region (l, r))
-row_at rows (LanguageScript l s) = option_map (λ r. (l, s, r)) (value_at pair_cmp rows.language_script (l, s))
+row_at rows (LanguageRegion l r) =
+    option_map (λ s. (l, s, r)) (value_at pair_cmp rows.language_region (l, r))
+row_at rows (LanguageScript l s) =
+    option_map (λ r. (l, s, r)) (value_at pair_cmp rows.language_script (l, s))
 row_at rows (LanguageAlone l) = option_map (λ v. (l, v.0, v.1)) (value_at text_cmp rows.language l)
-row_at rows (ScriptRegion s r) = option_map (λ l. (l, s, r)) (value_at pair_cmp rows.script_region (s, r))
+row_at rows (ScriptRegion s r) =
+    option_map (λ l. (l, s, r)) (value_at pair_cmp rows.script_region (s, r))
 row_at rows (ScriptAlone s) = option_map (λ v. (v.0, s, v.1)) (value_at text_cmp rows.script s)
 row_at rows (RegionAlone r) = option_map (λ v. (v.0, v.1, r)) (value_at text_cmp rows.region r)
 
@@ -61,4 +71,5 @@ und_row t (LanguageAlone l) = None
 
 -- the rows of the common tables cover those of the extended one, and the triple of `und` serves last
 abbrev pub likely : LocaleExpander → LikelySubtags
-likely e k = option_or (common_row e k) (option_or (extension_row e.extended k) (und_row e.language.now.und k))
+likely e k = option_or (common_row e k) (option_or (extension_row e.extended k)
+    (und_row e.language.now.und k))

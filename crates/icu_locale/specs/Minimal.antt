@@ -22,7 +22,9 @@ favored ScriptFirst x = x.script
 
 -- y has fewer subtags than z, or as many and, unlike z, the favored one
 abbrev pub Precedes : Favor → LanguageIdentifier → LanguageIdentifier → Type 0
-Precedes favor y z = (subtag_count y < subtag_count z) ⊎ ((subtag_count y ≡ subtag_count z) × IsSome (favored favor y) × (IsSome (favored favor z) → ⊥))
+Precedes favor y z = (subtag_count y < subtag_count z)
+    ⊎ ((subtag_count y ≡ subtag_count z) × IsSome (favored favor y)
+    × (IsSome (favored favor z) → ⊥))
 
 -- y begins with the language of the maximal form of x, and has the same maximal form
 pub record IsInClass (likely : LikelySubtags) (x y : LanguageIdentifier) : Type 0 where
@@ -31,8 +33,10 @@ pub record IsInClass (likely : LikelySubtags) (x y : LanguageIdentifier) : Type 
 
 -- y is the least of the class of x
 abbrev pub IsLeast : Favor → LikelySubtags → LanguageIdentifier → LanguageIdentifier → Type 0
-IsLeast favor likely x y = IsInClass likely x y × ((z : LanguageIdentifier) → IsInClass likely x z → (y ≡ z) ⊎ Precedes favor y z)
+IsLeast favor likely x y = IsInClass likely x y
+    × ((z : LanguageIdentifier) → IsInClass likely x z → (y ≡ z) ⊎ Precedes favor y z)
 
 -- the minimal form of x is the least of its class, and the maximal form where the class is empty
 abbrev pub IsMinimalForm : Favor → LikelySubtags → LanguageIdentifier → LanguageIdentifier → Type 0
-IsMinimalForm favor likely x y = IsLeast favor likely x y ⊎ (((z : LanguageIdentifier) → IsInClass likely x z → ⊥) × (y ≡ maximal likely x))
+IsMinimalForm favor likely x y = IsLeast favor likely x y
+    ⊎ (((z : LanguageIdentifier) → IsInClass likely x z → ⊥) × (y ≡ maximal likely x))

@@ -1,5 +1,7 @@
 -- Why a locale is not canonicalized.
-use Rattle.std.specs.Prelude.{◌≡◌, ◌⊎◌, ◌+◌, ◌*◌, ◌≤◌, ℕ, Bool, true, false, ◌||◌, List, codes, Option, Some, None, is_some, Result, Ok, Err, IfSome, IsSomeAnd, MatchOption}
+use Rattle.std.specs.Prelude.{◌≡◌, ◌⊎◌, ◌+◌, ◌*◌, ◌≤◌, ℕ, Bool, true, false, ◌||◌, List, codes}
+use Rattle.std.specs.Prelude.{Option, Some, None, is_some, Result, Ok, Err, IfSome, IsSomeAnd}
+use Rattle.std.specs.Prelude.{MatchOption}
 use Rattle.std.specs.List.{All}
 use Rattle.std.specs.Option.{option_and_then}
 use Rattle.icu_locale_core.specs.TextSet.{text_cmp, empty}
@@ -15,17 +17,21 @@ use Rattle.icu_locale.specs.declared.expander.TransformResult.{TransformResult}
 use Rattle.icu_locale.specs.declared.expander.TransformResult.TheVariants.{Modified, Unmodified}
 use Rattle.icu_locale.specs.declared.canonicalizer.rules.Rules.{Rules}
 use Rattle.icu_locale.specs.declared.canonicalizer.CanonicalizeError.{CanonicalizeError}
-use Rattle.icu_locale.specs.declared.canonicalizer.CanonicalizeError.TheVariants.{Memory, NoFixedPoint}
+use Rattle.icu_locale.specs.declared.canonicalizer.CanonicalizeError.TheVariants.{Memory}
+use Rattle.icu_locale.specs.declared.canonicalizer.CanonicalizeError.TheVariants.{NoFixedPoint}
 
 -- the rules come to an end: the run of the identifier ends, and that of the transform language, if any
 pub record RulesEnd (likely : LikelySubtags) (rules : Rules) (old : Locale) : Type 0 where
   pub id : (y : LanguageIdentifier) × EndsAt (next likely rules) old.id y
-  pub transform : IfSome old.extensions.transform.lang (λ l. (y : LanguageIdentifier) × EndsAt (by_language_alias rules) l y)
+  pub transform : IfSome old.extensions.transform.lang
+      (λ l. (y : LanguageIdentifier) × EndsAt (by_language_alias rules) l y)
 
 -- z is the first identifier to come again in the run of the identifier, or, where that ends, in that of the transform language
 abbrev pub ComesAgainFirst : LikelySubtags → Rules → Locale → LanguageIdentifier → Type 0
 ComesAgainFirst likely rules old z =
-    IsRepeat (next likely rules) old.id z ⊎ (((y : LanguageIdentifier) × EndsAt (next likely rules) old.id y) × IsSomeAnd old.extensions.transform.lang (λ l. IsRepeat (by_language_alias rules) l z))
+    IsRepeat (next likely rules) old.id z
+    ⊎ (((y : LanguageIdentifier) × EndsAt (next likely rules) old.id y)
+    × IsSomeAnd old.extensions.transform.lang (λ l. IsRepeat (by_language_alias rules) l z))
 
 -- a refusal other than want of memory names the identifier that comes again first
 abbrev pub IsRefusal : LikelySubtags → Rules → Locale → CanonicalizeError → Type 0

@@ -40,16 +40,19 @@ are_lower_variants t = list_all is_lower_variant (variant_pieces t)
 -- a row of the list `language_variants`: the variants are taken as a set, and the replacement is read
 pub record ReadsVariantRule (row : LanguageStrStrPair) (rule : Rule) : Type 0 where
   pub variants : are_lower_variants (string_bytes row.1) ≡ true
-  pub source : rule.source ≡ record { language = row.0; script = None; region = None; variants = from_list (variant_pieces (string_bytes row.1)) }
+  pub source : rule.source ≡ record { language = row.0; script = None; region = None;
+      variants = from_list (variant_pieces (string_bytes row.1)) }
   pub replacement : Reads (string_bytes row.2) rule.replacement
 
 -- a row of `language_len2` or `language_len3`: the replacement is read
-pub record ReadsLanguage (row : List ℕ × String Global) (kept : List ℕ × LanguageIdentifier) : Type 0 where
+pub record ReadsLanguage (row : List ℕ × String Global)
+    (kept : List ℕ × LanguageIdentifier) : Type 0 where
   pub key : kept.0 ≡ row.0
   pub replacement : Reads (string_bytes row.1) kept.1
 
 -- a row of `subdivision`: the text is read as a value
-pub record ReadsSubdivision (row : List ℕ × String Global) (kept : List ℕ × List (List ℕ)) : Type 0 where
+pub record ReadsSubdivision (row : List ℕ × String Global)
+    (kept : List ℕ × List (List ℕ)) : Type 0 where
   pub key : kept.0 ≡ row.0
   pub readable : is_value (string_bytes row.1) ≡ true
   pub value : kept.1 ≡ read_value (string_bytes row.1)
@@ -58,7 +61,8 @@ pub record ReadsSubdivision (row : List ℕ × String Global) (kept : List ℕ �
 abbrev pub AreRead : {R K : Type 0} → (R → K → Type 0) → List R → List K → Type 0
 AreRead reads [] kept = kept ≡ []
 AreRead {K = K} reads (row ∷ rows) kept =
-    ((k : K) × (rest : List K) × (kept ≡ k ∷ rest) × reads row k × AreRead reads rows rest) ⊎ (((k : K) → ¬ (reads row k)) × AreRead reads rows kept)
+    ((k : K) × (rest : List K) × (kept ≡ k ∷ rest) × reads row k × AreRead reads rows rest)
+    ⊎ (((k : K) → ¬ (reads row k)) × AreRead reads rows kept)
 
 -- the rules are those that can be read of the table
 pub record AreRules (table : Aliases) (rules : Rules) : Type 0 where

@@ -1,6 +1,7 @@
 -- A run is a start and whatever follows it, one state after another, until nothing follows. UTS #35 Part 1,
 -- Annex C "LocaleId Canonicalization", has such runs: there a state is an identifier, and `next` one replacement.
-use Rattle.std.specs.Prelude.{◌≡◌, ◌≢◌, ℕ, zero, suc, ◌<◌, ◌⊎◌, List, length, Option, Some, None, option_and_then}
+use Rattle.std.specs.Prelude.{◌≡◌, ◌≢◌, ℕ, zero, suc, ◌<◌, ◌⊎◌, List, length, Option, Some, None}
+use Rattle.std.specs.Prelude.{option_and_then}
 use Rattle.std.specs.List.{AllPairs, Contains}
 
 -- the state at a place of the run, where the start has place 0; none past the end
@@ -30,7 +31,8 @@ pub record IsRepeat {X : Type 0} (next : X → Option X) (start z : X) : Type 0 
   pub first : (i : ℕ) (y : X) → i < place → at next start i ≡ Some y → ¬ ComesAgain next start y
 
 -- the list has the states of the run and no others, and each of them once
-pub record HasEachOnce {X : Type 0} (next : X → Option X) (start : X) (states : List X) : Type 0 where
+pub record HasEachOnce {X : Type 0} (next : X → Option X) (start : X)
+    (states : List X) : Type 0 where
   pub each : (y : X) → StandsIn next start y → Contains states y
   pub no_other : (y : X) → Contains states y → StandsIn next start y
   pub once : AllPairs (λ y z. y ≢ z) states
@@ -55,7 +57,8 @@ HasOneRepeat {X} next start = (y z : X) → IsRepeat next start y → IsRepeat n
 -- nothing follows an end, and from each state on the way the run has the same end
 abbrev pub KeepsEnd : {X : Type 0} → (X → Option X) → X → Type 0
 KeepsEnd {X} next start =
-    (z : X) → EndsAt next start z → (next z ≡ None) × ((y : X) → StandsIn next start y → EndsAt next y z)
+    (z : X) → EndsAt next start z → (next z ≡ None)
+    × ((y : X) → StandsIn next start y → EndsAt next y z)
 
 -- a run that ends has no state twice
 abbrev pub EndsWithNoRepeat : {X : Type 0} → (X → Option X) → X → Type 0

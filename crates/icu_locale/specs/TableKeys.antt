@@ -1,5 +1,6 @@
 -- The keys of the one likely table of an expander: finitely many.
-use Rattle.std.specs.Prelude.{◌≡◌, ℕ, List, [], ◌∷◌, ◌++◌, map, Option, Some, None, Result, Ok, Err, ◌&&◌, if◌then◌else◌}
+use Rattle.std.specs.Prelude.{◌≡◌, ℕ, List, [], ◌∷◌, ◌++◌, map, Option, Some, None, Result, Ok, Err}
+use Rattle.std.specs.Prelude.{◌&&◌, if◌then◌else◌}
 use Rattle.std.specs.Borrow.{Bor}
 use Rattle.std.specs.Option.{option_or, option_map, option_copied}
 use Rattle.std.specs.Str.{bytes_eq}
@@ -11,7 +12,9 @@ use Rattle.icu_provider.specs.declared.likely.language.LikelySubtagsForLanguage.
 use Rattle.icu_provider.specs.declared.likely.script_region.LikelySubtagsForScriptRegion.{LikelySubtagsForScriptRegion}
 use Rattle.icu_provider.specs.declared.likely.extended.LikelySubtagsExtended.{LikelySubtagsExtended}
 use Rattle.icu_locale.specs.declared.expander.looks.Key.{Key}
-use Rattle.icu_locale.specs.declared.expander.looks.Key.TheVariants.{LanguageRegion, LanguageScript, LanguageAlone, ScriptRegion, ScriptAlone, RegionAlone}
+use Rattle.icu_locale.specs.declared.expander.looks.Key.TheVariants.{LanguageRegion, LanguageScript}
+use Rattle.icu_locale.specs.declared.expander.looks.Key.TheVariants.{LanguageAlone, ScriptRegion}
+use Rattle.icu_locale.specs.declared.expander.looks.Key.TheVariants.{ScriptAlone, RegionAlone}
 use Rattle.icu_locale.specs.LikelySubtags.{Triple, LikelySubtags}
 use Rattle.icu_locale.specs.declared.expander.LocaleExpander.{LocaleExpander}
 use Rattle.icu_locale.specs.LikelyTable.{LikelyRows, common_rows, extended_rows}
@@ -31,7 +34,11 @@ keys_by key rows = map (λ row. key row.0) rows
 
 -- the keys of all rows of a table
 abbrev pub row_keys : LikelyRows → List Key
-row_keys rows = keys_by LanguageAlone rows.language ++ (keys_by (λ k. LanguageScript k.0 k.1) rows.language_script ++ (keys_by (λ k. LanguageRegion k.0 k.1) rows.language_region ++ (keys_by (λ k. ScriptRegion k.0 k.1) rows.script_region ++ (keys_by ScriptAlone rows.script ++ keys_by RegionAlone rows.region))))
+row_keys rows = keys_by LanguageAlone rows.language
+    ++ (keys_by (λ k. LanguageScript k.0 k.1) rows.language_script
+    ++ (keys_by (λ k. LanguageRegion k.0 k.1) rows.language_region
+    ++ (keys_by (λ k. ScriptRegion k.0 k.1) rows.script_region
+    ++ (keys_by ScriptAlone rows.script ++ keys_by RegionAlone rows.region))))
 
 -- the keys of the extended table, if there is one
 abbrev pub extension_keys : Option (Bor LikelySubtagsExtended) → List Key
@@ -44,4 +51,5 @@ und_row_keys t = ScriptRegion t.1 t.2 ∷ ScriptAlone t.1 ∷ RegionAlone t.2 �
 
 -- the keys of the one likely table of an expander
 abbrev pub table_keys : LocaleExpander → List Key
-table_keys e = row_keys (common_rows e.language.now e.script_region.now) ++ (extension_keys e.extended ++ und_row_keys e.language.now.und)
+table_keys e = row_keys (common_rows e.language.now e.script_region.now)
+    ++ (extension_keys e.extended ++ und_row_keys e.language.now.und)

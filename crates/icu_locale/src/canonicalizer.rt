@@ -5,7 +5,8 @@ ghost use Rattle.icu_locale.specs.Canonical.{subdivision_alias};
 ghost use Rattle.icu_locale.specs.Canonicalization.{Canonicalizes};
 ghost use Rattle.icu_locale.specs.Refusals.{IsRefusal, IsOutOfMemory, error_name};
 ghost use Rattle.icu_locale.specs.Cost.{HasIdentifiers, CountsSearches, NeedsNoMemory};
-ghost use Rattle.icu_locale.specs.inner.CanonicalParts.{IsLaterEndOf, IsRunRefusalOf, CountsSearchesOf, IsFree, AreChanges};
+ghost use Rattle.icu_locale.specs.inner.CanonicalParts.{IsLaterEndOf, IsRunRefusalOf};
+ghost use Rattle.icu_locale.specs.inner.CanonicalParts.{CountsSearchesOf, IsFree, AreChanges};
 
 use crate::{AsExpander, LocaleExpander, TransformResult, Turns};
 use icu_locale_core::{Key, Keywords, LanguageIdentifier, Locale, ParseError, Value};

@@ -1,6 +1,7 @@
 //! Which way the script of an identifier runs.
 ghost use Rattle.std.specs.Prelude.{◌≡◌, None, Some};
-ghost use Rattle.icu_locale.specs.Construction.{both, loaded_common, loaded_extended, DirectsOver, IsMade};
+ghost use Rattle.icu_locale.specs.Construction.{both, loaded_common, loaded_extended, DirectsOver};
+ghost use Rattle.icu_locale.specs.Construction.{IsMade};
 ghost use Rattle.icu_locale.specs.LikelySubtags.{likely_script};
 ghost use Rattle.icu_locale.specs.Direction.{is_script_in, direction_of};
 
@@ -122,8 +123,8 @@ impl<'d, E: AsExpander<'d>> LocaleDirectionality<'d, E> {
     ) -> Result<Self, DataError>
     where
         E: Drop,
-        ensures { IsMade (λ table d. (d.expander ≡ expander) × (d.script_direction.now ≡ table))
-            (P.script_direction provider.now) result }
+        ensures { IsMade (λ table d. (d.expander ≡ expander)
+            × (d.script_direction.now ≡ table)) (P.script_direction provider.now) result }
     {
         let script_direction = provider.load_script_direction()?;
         Ok(LocaleDirectionality::new_with_expander(script_direction, expander))

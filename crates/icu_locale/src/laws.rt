@@ -7,7 +7,9 @@ ghost use Rattle.icu_locale_core.specs.Identifier.{IsIdentifier};
 ghost use Rattle.icu_locale_core.specs.Subtag.{und};
 ghost use Rattle.icu_locale_core.specs.declared.langid.LanguageIdentifier.{LanguageIdentifier};
 ghost use Rattle.icu_locale.specs.declared.expander.LocaleExpander.{LocaleExpander};
-ghost use Rattle.icu_locale.specs.LikelySubtags.{LikelySubtags, Triple, unknown_script, unknown_region, maximal, IsModified, HaveSameMaximalParts};
+ghost use Rattle.icu_locale.specs.LikelySubtags.{LikelySubtags, Triple, unknown_script};
+ghost use Rattle.icu_locale.specs.LikelySubtags.{unknown_region, maximal, IsModified};
+ghost use Rattle.icu_locale.specs.LikelySubtags.{HaveSameMaximalParts};
 ghost use Rattle.icu_locale.specs.declared.expander.looks.Key.{Key};
 ghost use Rattle.icu_locale.specs.LikelyTable.{likely, common_row, extension_row, und_row};
 ghost use Rattle.icu_locale.specs.TableKeys.{HasKey, table_keys};
@@ -39,8 +41,8 @@ pub fn the_likely_table_is_one_map()
         → Contains (table_keys e) k }
     ensures common { (e : LocaleExpander) (k : Key) (t : Triple) → common_row e k ≡ Some t
         → likely e k ≡ Some t }
-    ensures extended { (e : LocaleExpander) (k : Key) (t : Triple) →
-        common_row e k ≡ None → extension_row e.extended k ≡ Some t → likely e k ≡ Some t }
+    ensures extended { (e : LocaleExpander) (k : Key) (t : Triple) → common_row e k ≡ None
+        → extension_row e.extended k ≡ Some t → likely e k ≡ Some t }
     ensures und { (e : LocaleExpander) (k : Key) →
         common_row e k ≡ None → extension_row e.extended k ≡ None
         → likely e k ≡ und_row e.language.now.und k }
@@ -64,7 +66,8 @@ pub fn minimal_forms_are_canonical()
         IsMinimalForm favor table x u → IsMinimalForm favor table y v →
         (u ≡ v) ↔ (maximal table x ≡ maximal table y) }
     ensures least { (favor : Favor) (table : LikelySubtags) (x y : LanguageIdentifier) →
-        IsSettled table (maximal table x) → IsMinimalForm favor table x y → IsLeast favor table x y }
+        IsSettled table (maximal table x) → IsMinimalForm favor table x y →
+        IsLeast favor table x y }
 {}
 
 /// Over a settled table, maximizing a maximal or a minimal form gives the maximal form.
@@ -102,9 +105,11 @@ pub fn maximizing_keeps_subtags()
     ensures language { (table : LikelySubtags) (x : LanguageIdentifier) →
         x.language ≢ und → (maximal table x).language ≡ x.language }
     ensures script { (table : LikelySubtags) (x : LanguageIdentifier) (script : List ℕ) →
-        x.script ≡ Some script → script ≢ unknown_script → (maximal table x).script ≡ Some script }
+        x.script ≡ Some script → script ≢ unknown_script →
+        (maximal table x).script ≡ Some script }
     ensures region { (table : LikelySubtags) (x : LanguageIdentifier) (region : List ℕ) →
-        x.region ≡ Some region → region ≢ unknown_region → (maximal table x).region ≡ Some region }
+        x.region ≡ Some region → region ≢ unknown_region →
+        (maximal table x).region ≡ Some region }
     ensures variants { (table : LikelySubtags) (x : LanguageIdentifier)
         → (maximal table x).variants ≡ x.variants }
 {}

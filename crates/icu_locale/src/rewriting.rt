@@ -1,8 +1,10 @@
 // Runs of replacements, of which UTS #35 Part 1, Annex C "LocaleId Canonicalization", has one for each identifier.
 // Two walkers go along a run, one twice as fast as the other, so no list of states is kept.
-ghost use Rattle.std.specs.Prelude.{◌≡◌, ◌<◌, ◌≤◌, ◌+◌, ◌*◌, ℕ, List, Option, Some, true, IfOk, IfErr, IsOk, OnOk, IsSome};
+ghost use Rattle.std.specs.Prelude.{◌≡◌, ◌<◌, ◌≤◌, ◌+◌, ◌*◌, ℕ, List, Option, Some, true, IfOk};
+ghost use Rattle.std.specs.Prelude.{IfErr, IsOk, OnOk, IsSome};
 ghost use Rattle.icu_locale.specs.Run.{StandsIn, HasDistinct, IsRepeat};
-ghost use Rattle.icu_locale.specs.inner.Walk.{IsFullFront, IsMeeting, IsWalk, IsOutcome, IsUniverse};
+ghost use Rattle.icu_locale.specs.inner.Walk.{IsFullFront, IsMeeting, IsWalk, IsOutcome};
+ghost use Rattle.icu_locale.specs.inner.Walk.{IsUniverse};
 
 use crate::Turns;
 
@@ -97,8 +99,8 @@ fn meet<R: Rewriting>(
     ensures forward { turns.old ≤ turns.new }
     ensures most { (n : ℕ) → IsFullFront (R.next rewriting.now) start.now n
         → turns.new ≤ turns.old + 3 * n }
-    ensures least { OnOk result
-        ((n : ℕ) → IsFullFront (R.next rewriting.now) start.now n → turns.old + n ≤ turns.new) }
+    ensures least { OnOk result ((n : ℕ) → IsFullFront (R.next rewriting.now) start.now n
+        → turns.old + n ≤ turns.new) }
 {
     let Some(mut slow) = rewriting.search(start, turns)? else {
         return Ok(Walk::Alone);

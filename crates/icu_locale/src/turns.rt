@@ -1,5 +1,6 @@
 // A count of turns, which only contracts see.
-ghost use Rattle.std.specs.Prelude.{◌≡◌, ◌+◌};
+ghost use Rattle.std.specs.Prelude.{◌≡◌, ◌+◌, ℕ};
+ghost use Rattle.icu_locale.specs.inner.Tally.{strokes};
 
 use std::marker::Model;
 use std::snapshot::Snapshot;
@@ -18,11 +19,7 @@ pub struct Turns {
 }
 
 impl Model for Turns {
-    ghost use Rattle.std.specs.Prelude.{ℕ};
-
     ghost Value = { ℕ };
-
-    ghost use Rattle.icu_locale.specs.inner.Tally.{strokes};
 
     ghost view = { λ turns. strokes turns.tally.value };
 }

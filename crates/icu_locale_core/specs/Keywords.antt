@@ -2,8 +2,7 @@
 use Rattle.std.specs.Prelude.{ℕ, Bool, ◌&&◌, nat_eq, List}
 use Rattle.std.specs.Map.{remove_entry}
 use Rattle.std.specs.BTreeMap.{insert_entry, is_at}
-use Rattle.std.specs.Cmp.{IsEquivalence, and_equiv, on_equiv, nat_eq_equiv}
-use Rattle.std.specs.Cmp.Lexicographic.{pointwise, lists_equiv}
+use Rattle.std.specs.Cmp.Lexicographic.{pointwise}
 use Rattle.icu_locale_core.specs.TextSet.{text_cmp}
 
 -- the rows of the map, a key and its value each, the keys rising
@@ -21,9 +20,3 @@ without_key rows key = remove_entry (is_at (text_cmp key)) rows
 -- two rows have the same key and the same value
 abbrev pub row_eq : (p q : List ℕ × List (List ℕ)) → Bool
 row_eq p q = pointwise nat_eq p.0 q.0 && pointwise (pointwise nat_eq) p.1 q.1
-
--- so it is an equivalence
-pub rows_equiv : IsEquivalence row_eq
-rows_equiv =
-    and_equiv (on_equiv (λ p. p.0) (lists_equiv nat_eq_equiv))
-    (on_equiv (λ p. p.1) (lists_equiv (lists_equiv nat_eq_equiv)))

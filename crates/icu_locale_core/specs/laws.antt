@@ -3,4 +3,5 @@ pub mod Cuts
 pub mod Identifiers
 pub mod Maps
 pub mod RisingLists
+pub mod Rows
 pub mod TextSets

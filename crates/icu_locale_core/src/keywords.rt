@@ -3,9 +3,9 @@ ghost use Rattle.std.specs.Prelude.{◌≡◌, ◌↔◌, [], IsTrue, IsSome, Is
 ghost use Rattle.std.specs.Prelude.{IfErr, OnOk, OnErr, Some, None, option_copied};
 ghost use Rattle.std.specs.Cmp.{partial_equiv_from_equiv};
 ghost use Rattle.std.specs.Cmp.Lexicographic.{pointwise, lists_equiv};
-ghost use Rattle.icu_locale_core.specs.Keywords.{with_value, without_key, row_eq};
-ghost use Rattle.icu_locale_core.specs.Keywords.{rows_equiv, KeywordRows};
+ghost use Rattle.icu_locale_core.specs.Keywords.{with_value, without_key, row_eq, KeywordRows};
 ghost use Rattle.icu_locale_core.specs.Maps.{value_at, SetsOnly};
+ghost use Rattle.icu_locale_core.specs.laws.Rows.{rows_equiv};
 ghost use Rattle.icu_locale_core.specs.TextSet.{text_cmp};
 
 use crate::{Key, ParseError, Value};

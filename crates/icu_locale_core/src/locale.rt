@@ -41,8 +41,10 @@ impl Locale {
     pub fn try_clone(&self) -> Result<Self, ParseError>
         ensures same { IfOk result (λ l. l ≡ self.now) }
         ensures refused { IfErr result (λ e. e ≡ ParseError.Memory) }
-        ensures free { self.now.id.variants ≡ empty → self.now.extensions.unicode.keywords ≡ []
-            → IfSome self.now.extensions.transform.lang (λ l. l.variants ≡ empty) → IsOk result }
+        ensures free { self.now.id.variants ≡ empty
+            → self.now.extensions.unicode.keywords ≡ []
+            → IfSome self.now.extensions.transform.lang (λ l. l.variants ≡ empty)
+            → IsOk result }
     {
         let id = self.id.try_clone()?;
         let keywords = self.extensions.unicode.keywords.try_clone()?;

@@ -17,7 +17,8 @@ pub fn read_identifier(
     ensures read { (result ≡ Err ParseError.Memory) ⊎ (result ≡ read_pieces pieces.entry) }
     ensures language { result ≡ Err ParseError.Memory
         → is_language (slice_index_or pieces.entry 0 []) ≡ true }
-    ensures memory { result ≡ Err ParseError.Memory → list_any is_variant pieces.entry ≡ true }
+    ensures memory { result ≡ Err ParseError.Memory
+        → list_any is_variant pieces.entry ≡ true }
 {
     let Some(language) = pieces.next().and_then(Language::try_from_bytes) else {
         return Err(ParseError::InvalidLanguage);
@@ -54,7 +55,8 @@ fn read_region(pieces: &mut Pieces<'_>) -> Option<Region>
 // The set of all pieces, where each is a variant and none comes twice.
 fn read_variants(alloc: Global, pieces: Pieces<'_>) -> Result<Variants, ParseError>
     ensures read { (result ≡ Err ParseError.Memory) ⊎ (result ≡ read_variants pieces.entry) }
-    ensures memory { result ≡ Err ParseError.Memory → list_any is_variant pieces.entry ≡ true }
+    ensures memory { result ≡ Err ParseError.Memory
+        → list_any is_variant pieces.entry ≡ true }
 {
     let mut list = Vec::new(alloc);
     for piece in pieces {

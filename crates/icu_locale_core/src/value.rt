@@ -42,7 +42,8 @@ impl Value {
     /// - `Memory` where the list of pieces could not grow, and never for a value without pieces.
     pub fn try_from_str(alloc: Global, text: &str) -> Result<Self, ParseError>
         ensures read { IfOk result (λ v. v ≡ read_value text.now) }
-        ensures refused { (result ≡ Err ParseError.InvalidSubtag) ↔ (is_value text.now ≡ false) }
+        ensures refused { (result ≡ Err ParseError.InvalidSubtag)
+            ↔ (is_value text.now ≡ false) }
         ensures language { result ≡ Err ParseError.InvalidLanguage → ⊥ }
         ensures free { read_value text.now ≡ [] → result ≢ Err ParseError.Memory }
     {

@@ -123,7 +123,8 @@ impl Variants {
     ///
     /// `Memory` where the list of variants could not be made.
     pub fn try_replaced(&self, removed: &Variants, added: &Variants) -> Result<Self, ParseError>
-        ensures members { IfOk result (λ s. s ≡ union (difference self.now removed.now) added.now) }
+        ensures members { IfOk result (λ s. s
+            ≡ union (difference self.now removed.now) added.now) }
         ensures refused { IfErr result (λ e. e ≡ ParseError.Memory) }
         ensures free { union (difference self.now removed.now) added.now ≡ empty → IsOk result }
     {
@@ -136,7 +137,8 @@ impl Variants {
 
     // The list of those that are not `removed`, rising.
     fn without(&self, alloc: Global, removed: &Variants) -> Result<Vec<Variant>, ParseError>
-        ensures list { IfOk result (λ list. list.items ≡ rising (difference self.now removed.now)) }
+        ensures list { IfOk result (λ list. list.items
+            ≡ rising (difference self.now removed.now)) }
         ensures refused { IfErr result (λ e. e ≡ ParseError.Memory) }
         ensures free { difference self.now removed.now ≡ empty → IsOk result }
     {
@@ -260,7 +262,8 @@ fn merged<'a>(
 ) -> Result<Vec<Variant>, ParseError>
     requires left { IsStrictlySortedBy text_cmp left.now }
     requires right { IsStrictlySortedBy text_cmp right.now }
-    ensures list { IfOk result (λ list. list.items ≡ rising (from_list (left.now ++ right.now))) }
+    ensures list { IfOk result (λ list. list.items
+        ≡ rising (from_list (left.now ++ right.now))) }
     ensures refused { IfErr result (λ e. e ≡ ParseError.Memory) }
     ensures free { from_list (left.now ++ right.now) ≡ empty → IsOk result }
 {

@@ -37,7 +37,8 @@ impl Tables {
     /// file of tables. `Memory` may stand in the place of any answer.
     pub fn from_json(alloc: Global, text: &[u8]) -> Result<Tables, TableError>
         ensures rows { IfOk result (λ tables. rows_in text.now ≡ Ok (rows_of tables)) }
-        ensures refused { IfErr result (λ e. e ≢ TableError.Memory → rows_in text.now ≡ Err e) }
+        ensures refused { IfErr result (λ e. e ≢ TableError.Memory
+            → rows_in text.now ≡ Err e) }
     {
         let value = parse(alloc, text)?;
         Tables::from_value(alloc, &value)

@@ -9,7 +9,8 @@ use Rattle.icu_locale.specs.declared.expander.Favor.TheVariants.{RegionFirst, Sc
 
 -- whether two locales have the same subtags
 abbrev pub same_locale : DataLocale → DataLocale → Bool
-same_locale x y = bytes_eq x.language y.language && (option_eq bytes_eq x.script y.script && option_eq bytes_eq x.region y.region)
+same_locale x y = bytes_eq x.language y.language
+    && (option_eq bytes_eq x.script y.script && option_eq bytes_eq x.region y.region)
 
 -- the language alone
 abbrev pub alone : DataLocale → DataLocale
@@ -28,7 +29,8 @@ with_other ScriptFirst m = with_favored RegionFirst m
 -- the first trial whose maximal form is m, or m
 abbrev pub first_trial : LikelySubtags → DataLocale → List DataLocale → DataLocale
 first_trial likely m [] = m
-first_trial likely m (t ∷ ts) = if same_locale (maximal_locale likely t) m then t else first_trial likely m ts
+first_trial likely m (t ∷ ts) =
+    if same_locale (maximal_locale likely t) m then t else first_trial likely m ts
 
 -- the three trials over a maximal form
 abbrev pub trials : Favor → DataLocale → List DataLocale

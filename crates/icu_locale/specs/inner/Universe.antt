@@ -23,7 +23,8 @@ of_region r = record { language = und; script = None; region = Some r; variants 
 
 -- the identifier of a variant alone
 abbrev pub of_variant : List ℕ → LanguageIdentifier
-of_variant v = record { language = und; script = None; region = None; variants = from_list (v ∷ []) }
+of_variant v =
+    record { language = und; script = None; region = None; variants = from_list (v ∷ []) }
 
 -- x, and identifiers that hold what the rules put in the place of parts, kind by kind
 abbrev pub parts_by_kind : Rules → LanguageIdentifier → List (List LanguageIdentifier)
@@ -47,7 +48,8 @@ parts rules x = flat_map (λ ps. ps) (parts_by_kind rules x)
 -- the identifiers whose language, script and region are those of parts, or none, and whose variants are of those of parts
 unfoldable pub made_of : List LanguageIdentifier → List LanguageIdentifier
 made_of ps =
-    flat_map (λ l. flat_map (λ s. flat_map (λ r. map (λ vs. record { language = l; script = s; region = r; variants = vs })
+    flat_map (λ l. flat_map (λ s. flat_map (λ r.
+    map (λ vs. record { language = l; script = s; region = r; variants = vs })
     (subsets (flat_map (λ p. rising p.variants) ps)))
     (None ∷ map (λ p. p.region) ps))
     (None ∷ map (λ p. p.script) ps))

@@ -41,6 +41,7 @@ IsOutcome next start (Ends y) = EndsLater next start y
 IsOutcome next start (Repeats z) = IsRepeat next start z
 
 -- the list has the start, and with each state the one that follows it
-pub record IsUniverse {X : Type 0} (next : X → Option X) (start : X) (states : List X) : Type 0 where
+pub record IsUniverse {X : Type 0} (next : X → Option X) (start : X)
+    (states : List X) : Type 0 where
   pub has_start : Contains states start
   pub leads : (y z : X) → Contains states y → next y ≡ Some z → Contains states z

@@ -4,6 +4,7 @@ ghost use Rattle.icu_locale_core.specs.Subtag.{is_key, lowercase};
 ghost use Rattle.icu_locale_core.specs.Maps.{value_at};
 ghost use Rattle.icu_locale_core.specs.TextSet.{text_cmp};
 ghost use Rattle.icu_locale.specs.Canonical.{rg, sd, put, answer_of};
+ghost use Rattle.icu_locale.specs.inner.CanonicalParts.{with_changes, has_change};
 
 use crate::TransformResult;
 use icu_locale_core::{Key, Keywords, LanguageIdentifier, Locale, Value};
@@ -18,8 +19,6 @@ pub struct Changes {
 }
 
 impl Changes {
-    ghost use Rattle.icu_locale.specs.inner.CanonicalParts.{with_changes, has_change};
-
     // Writes the changes, all of them.
     pub fn write(self, locale: &mut Locale) -> TransformResult
         requires region_override { IsSome self.region_override

@@ -4,7 +4,11 @@ ghost use Rattle.icu_locale_core.specs.TextSet.{empty, image};
 ghost use Rattle.icu_locale.specs.Kinds.{variant_alias, next_of};
 ghost use Rattle.icu_locale.specs.inner.Rewrite.{rewritten};
 ghost use Rattle.icu_locale.specs.Refusals.{IsOutOfMemory};
-ghost use Rattle.icu_locale.specs.inner.CanonicalParts.{IsLaterEnd, IsRunRefusal, IsFree, CountsSearchesOf};
+ghost use Rattle.icu_locale.specs.inner.CanonicalParts.{IsLaterEnd, IsRunRefusal, IsFree};
+ghost use Rattle.icu_locale.specs.inner.CanonicalParts.{CountsSearchesOf};
+ghost use Rattle.icu_locale_core.specs.laws.Identifiers.{identifiers_decide};
+ghost use Rattle.icu_locale.specs.inner.Universe.{universe};
+ghost use Rattle.icu_locale.specs.declared.canonicalizer.CanonicalizeError.TheVariants.{Memory};
 
 use super::kinds::{Rewrite, by_language_alias, find_rewrite, variant_alias};
 use super::replacing::replacement;
@@ -114,13 +118,6 @@ impl<'c, 'd, E> Drop for Run<'c, 'd, E> {
 }
 
 impl<'c, 'd, E: AsExpander<'d>> Rewriting for Run<'c, 'd, E> {
-    ghost use Rattle.std.specs.Prelude.{◌≡◌, IfSome};
-    ghost use Rattle.icu_locale_core.specs.TextSet.{empty};
-    ghost use Rattle.icu_locale_core.specs.laws.Identifiers.{identifiers_decide};
-    ghost use Rattle.icu_locale.specs.Kinds.{next_of};
-    ghost use Rattle.icu_locale.specs.inner.Universe.{universe};
-    ghost use Rattle.icu_locale.specs.declared.canonicalizer.CanonicalizeError.TheVariants.{Memory};
-
     type State = LanguageIdentifier;
 
     type Error = CanonicalizeError;

@@ -3,7 +3,9 @@ ghost use Rattle.std.specs.Prelude.{◌≡◌, ◌++◌, IfOk, IfErr, OnOk, Matc
 ghost use Rattle.std.specs.Option.{option_to_list};
 ghost use Rattle.std.specs.List.{list_all};
 ghost use Rattle.icu_locale_core.specs.TextSet.{from_list};
-ghost use Rattle.icu_locale.specs.Rules.{Reads, ReadsRule, ReadsVariantRule, ReadsLanguage, ReadsSubdivision, is_lower_variant, variant_pieces, are_lower_variants, AreRead};
+ghost use Rattle.icu_locale.specs.Rules.{Reads, ReadsRule, ReadsVariantRule, ReadsLanguage};
+ghost use Rattle.icu_locale.specs.Rules.{ReadsSubdivision, is_lower_variant, variant_pieces};
+ghost use Rattle.icu_locale.specs.Rules.{are_lower_variants, AreRead};
 
 use super::rules::Rule;
 use icu_locale_core::{Language, LanguageIdentifier, ParseError, Subtag, Value, Variant, Variants};
@@ -16,8 +18,6 @@ const OUT_OF_MEMORY: DataError = DataError {
 
 // A row of a table that is read as something, if it can be.
 pub trait Readable {
-    ghost use Rattle.std.specs.Prelude.{◌≡◌, IfOk, IfErr, MatchOption};
-
     type Kept: Drop;
 
     ghost reads: { Self → Self.Kept → Type 0 };
@@ -136,7 +136,8 @@ fn read_identifier(alloc: Global, text: &str) -> Result<Option<LanguageIdentifie
 // The set of the pieces of a text, cut at `-`, where each is a variant in lower case.
 fn read_variants(alloc: Global, text: &str) -> Result<Option<Variants>, DataError>
     ensures read { IfOk result (λ s. MatchOption s (are_lower_variants text.now ≡ false)
-        (λ s. (are_lower_variants text.now ≡ true) × (s ≡ from_list (variant_pieces text.now)))) }
+        (λ s. (are_lower_variants text.now ≡ true)
+        × (s ≡ from_list (variant_pieces text.now)))) }
     ensures refused { IfErr result (λ e. e.kind ≡ DataErrorKind.Memory) }
 {
     read_pieces(alloc, &variant_pieces(alloc, text)?)

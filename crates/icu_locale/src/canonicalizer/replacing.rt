@@ -70,7 +70,8 @@ pub fn replacement(
 ) -> Result<LanguageIdentifier, CanonicalizeError>
     ensures replaced { IfOk result (λ x. x ≡ replaced source.now rule.now replacement.now) }
     ensures refused { IfErr result (λ e. e ≡ CanonicalizeError.Memory) }
-    ensures free { (replaced source.now rule.now replacement.now).variants ≡ empty → IsOk result }
+    ensures free { (replaced source.now rule.now replacement.now).variants ≡ empty
+        → IsOk result }
 {
     let variants = match source
         .variants

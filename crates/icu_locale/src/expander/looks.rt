@@ -1,8 +1,11 @@
 //! Look-ups in the one likely table of an expander.
 ghost use Rattle.std.specs.Prelude.{◌≡◌};
 ghost use Rattle.icu_locale_core.specs.Maps.{value_at};
-ghost use Rattle.icu_locale.specs.LikelySubtags.{known_subtag, unknown_script, unknown_region, bare_locale, filled, first_found, keys, known_keys, und_keys};
-ghost use Rattle.icu_locale.specs.LikelyTable.{row_at, common_rows, extended_rows, extension_row, und_row, likely};
+ghost use Rattle.icu_locale.specs.LikelySubtags.{known_subtag, unknown_script, unknown_region};
+ghost use Rattle.icu_locale.specs.LikelySubtags.{bare_locale, filled, first_found, keys};
+ghost use Rattle.icu_locale.specs.LikelySubtags.{known_keys, und_keys};
+ghost use Rattle.icu_locale.specs.LikelyTable.{row_at, common_rows, extended_rows, extension_row};
+ghost use Rattle.icu_locale.specs.LikelyTable.{und_row, likely};
 ghost use Rattle.icu_locale.specs.inner.LikelyMaps.{rows_of};
 
 use crate::expander::LocaleExpander;

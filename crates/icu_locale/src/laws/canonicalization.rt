@@ -8,8 +8,10 @@ ghost use Rattle.icu_locale_core.specs.declared.langid.LanguageIdentifier.{Langu
 ghost use Rattle.icu_locale_core.specs.declared.locale.Locale.{Locale};
 ghost use Rattle.icu_locale.specs.LikelySubtags.{LikelySubtags};
 ghost use Rattle.icu_locale.specs.Kinds.{next_of};
-ghost use Rattle.icu_locale.specs.Run.{EndsOrRepeats, EndsWithNoRepeat, HasOneEnd, KeepsEnd, HasOneRepeat};
-ghost use Rattle.icu_locale.specs.Canonical.{rg, sd, subdivision_alias, canonical_keywords, IsCanonical, is_applied, HasFinalSubdivisions};
+ghost use Rattle.icu_locale.specs.Run.{EndsOrRepeats, EndsWithNoRepeat, HasOneEnd, KeepsEnd};
+ghost use Rattle.icu_locale.specs.Run.{HasOneRepeat};
+ghost use Rattle.icu_locale.specs.Canonical.{rg, sd, subdivision_alias, canonical_keywords};
+ghost use Rattle.icu_locale.specs.Canonical.{IsCanonical, is_applied, HasFinalSubdivisions};
 ghost use Rattle.icu_locale.specs.Cost.{NeedsNoMemory};
 ghost use Rattle.icu_locale.specs.Refusals.{RulesEnd};
 ghost use Rattle.icu_locale.specs.declared.canonicalizer.rules.Rules.{Rules};
@@ -38,7 +40,8 @@ pub fn canonical_keywords_by_key()
     ensures subdivision { (rules : Rules) (keywords : KeywordRows)
         → value_at text_cmp (canonical_keywords rules keywords) sd
         ≡ option_or (subdivision_alias rules keywords sd) (value_at text_cmp keywords sd) }
-    ensures others { (rules : Rules) (keywords : KeywordRows) (key : List ℕ) → key ≢ rg → key ≢ sd
+    ensures others { (rules : Rules) (keywords : KeywordRows) (key : List ℕ)
+        → key ≢ rg → key ≢ sd
         → value_at text_cmp (canonical_keywords rules keywords) key
         ≡ value_at text_cmp keywords key }
 {}

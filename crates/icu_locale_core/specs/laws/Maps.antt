@@ -34,7 +34,8 @@ module _ {K V : Type 0} {compare : K → K → Ordering} (total : IsTotalOrder c
       by : (answer : Ordering) → compare key row.0 ≡ answer
           → value_at compare (insert_entry compare rows key value) q
           ≡ (if is_at (compare q) key then Some value else value_at compare rows q)
-          → value_at compare (match_ordering answer ((key, value) ∷ row ∷ rows) ((row.0, value) ∷ rows)
+          → value_at compare (match_ordering answer ((key, value) ∷ row ∷ rows)
+          ((row.0, value) ∷ rows)
           (row ∷ insert_entry compare rows key value)) q
           ≡ (if is_at (compare q) key then Some value else value_at compare (row ∷ rows) q)
       by Less is later = refl

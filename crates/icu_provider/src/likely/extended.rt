@@ -105,7 +105,8 @@ impl LikelySubtagsExtended {
         script: Script,
         region: Region,
     ) -> Result<(), DataError>
-        ensures table { self.new ≡ record self.old { language_script = self.new.language_script } }
+        ensures table { self.new
+            ≡ record self.old { language_script = self.new.language_script } }
         ensures insert { Inserts pair_cmp self.old.language_script self.new.language_script
             (language, script) region result }
     {
@@ -138,7 +139,8 @@ impl LikelySubtagsExtended {
         region: Region,
         script: Script,
     ) -> Result<(), DataError>
-        ensures table { self.new ≡ record self.old { language_region = self.new.language_region } }
+        ensures table { self.new
+            ≡ record self.old { language_region = self.new.language_region } }
         ensures insert { Inserts pair_cmp self.old.language_region self.new.language_region
             (language, region) script result }
     {

@@ -102,7 +102,8 @@ impl LikelySubtagsForLanguage {
         script: Script,
         region: Region,
     ) -> Result<(), DataError>
-        ensures table { self.new ≡ record self.old { language_script = self.new.language_script } }
+        ensures table { self.new
+            ≡ record self.old { language_script = self.new.language_script } }
         ensures insert { Inserts pair_cmp self.old.language_script self.new.language_script
             (language, script) region result }
     {
@@ -135,7 +136,8 @@ impl LikelySubtagsForLanguage {
         region: Region,
         script: Script,
     ) -> Result<(), DataError>
-        ensures table { self.new ≡ record self.old { language_region = self.new.language_region } }
+        ensures table { self.new
+            ≡ record self.old { language_region = self.new.language_region } }
         ensures insert { Inserts pair_cmp self.old.language_region self.new.language_region
             (language, region) script result }
     {
