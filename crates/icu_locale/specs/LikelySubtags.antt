@@ -34,8 +34,11 @@ known_subtag unknown (Some t) = if bytes_eq t unknown then None else Some t
 
 -- without script `Zzzz` and region `ZZ`, as the first step of section 4.3 removes them
 abbrev pub bare_locale : DataLocale → DataLocale
-bare_locale x = record { language = x.language; script = known_subtag unknown_script x.script;
-    region = known_subtag unknown_region x.region }
+bare_locale x = record {
+  language = x.language;
+  script = known_subtag unknown_script x.script;
+  region = known_subtag unknown_region x.region;
+}
 
 -- the keys of a known language: with the region, with the script, alone
 abbrev pub known_keys : List ℕ → Option (List ℕ) → Option (List ℕ) → List Key
@@ -65,8 +68,11 @@ first_found likely (k ∷ ks) = option_or (likely k) (first_found likely ks)
 -- what is missing, taken from the triple: the language where it is `und`, the script and the region where there is none
 abbrev pub filled : DataLocale → Option Triple → DataLocale
 filled x None = x
-filled x (Some t) = record { language = (if bytes_eq x.language und then t.0 else x.language);
-    script = Some (unwrap_or x.script t.1); region = Some (unwrap_or x.region t.2) }
+filled x (Some t) = record {
+  language = (if bytes_eq x.language und then t.0 else x.language);
+  script = Some (unwrap_or x.script t.1);
+  region = Some (unwrap_or x.region t.2);
+}
 
 -- the maximal form of what is bare already
 abbrev pub maximal_of_bare : LikelySubtags → DataLocale → DataLocale

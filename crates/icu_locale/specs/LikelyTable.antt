@@ -29,15 +29,25 @@ pub record LikelyRows : Type 0 where
 
 -- the rows of the two common tables
 abbrev pub common_rows : LikelySubtagsForLanguage → LikelySubtagsForScriptRegion → LikelyRows
-common_rows a b = record { language = a.language; language_script = a.language_script;
-    language_region = a.language_region; script_region = b.script_region; script = b.script;
-    region = b.region }
+common_rows a b = record {
+  language = a.language;
+  language_script = a.language_script;
+  language_region = a.language_region;
+  script_region = b.script_region;
+  script = b.script;
+  region = b.region;
+}
 
 -- the rows of the extended table
 abbrev pub extended_rows : LikelySubtagsExtended → LikelyRows
-extended_rows e = record { language = e.language; language_script = e.language_script;
-    language_region = e.language_region; script_region = e.script_region; script = e.script;
-    region = e.region }
+extended_rows e = record {
+  language = e.language;
+  language_script = e.language_script;
+  language_region = e.language_region;
+  script_region = e.script_region;
+  script = e.script;
+  region = e.region;
+}
 
 -- the triple at a key: the key's own subtags, and the values of the row
 abbrev pub row_at : LikelyRows → LikelySubtags

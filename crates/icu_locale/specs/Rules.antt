@@ -40,8 +40,12 @@ are_lower_variants t = list_all is_lower_variant (variant_pieces t)
 -- a row of the list `language_variants`: the variants are taken as a set, and the replacement is read
 pub record ReadsVariantRule (row : LanguageStrStrPair) (rule : Rule) : Type 0 where
   pub variants : are_lower_variants (string_bytes row.1) ≡ true
-  pub source : rule.source ≡ record { language = row.0; script = None; region = None;
-      variants = from_list (variant_pieces (string_bytes row.1)) }
+  pub source : rule.source ≡ record {
+    language = row.0;
+    script = None;
+    region = None;
+    variants = from_list (variant_pieces (string_bytes row.1));
+  }
   pub replacement : Reads (string_bytes row.2) rule.replacement
 
 -- a row of `language_len2` or `language_len3`: the replacement is read

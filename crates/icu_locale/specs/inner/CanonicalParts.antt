@@ -68,8 +68,10 @@ abbrev pub with_changes : Changes → Locale → Locale
 with_changes changes old = record {
   id = unwrap_or changes.id old.id;
   extensions = record {
-    unicode = record { keywords =
-      put (put old.extensions.unicode.keywords rg changes.region_override) sd changes.subdivision };
+    unicode = record {
+      keywords =
+          put (put old.extensions.unicode.keywords rg changes.region_override) sd changes.subdivision;
+    };
     transform = record { lang = option_or changes.transform old.extensions.transform.lang };
   };
 }
