@@ -1,7 +1,9 @@
 -- The commands by their words.
 use Rattle.std.specs.Prelude.{ℕ, Bool, true, false, List, [], ◌∷◌, codes}
 use Rattle.icu_locale_cli.specs.declared.command.Command.{Command}
-use Rattle.icu_locale_cli.specs.declared.command.Command.TheVariants.{Maximize, Minimize, MinimizeScript, Canonicalize, Direction, Settled}
+use Rattle.icu_locale_cli.specs.declared.command.Command.TheVariants.{Maximize, Minimize}
+use Rattle.icu_locale_cli.specs.declared.command.Command.TheVariants.{MinimizeScript, Canonicalize}
+use Rattle.icu_locale_cli.specs.declared.command.Command.TheVariants.{Direction, Settled}
 
 -- the word of each command
 abbrev pub command_word : Command → List ℕ

@@ -8,3 +8,4 @@ pub mod Runs
 pub mod Texts
 pub mod WholeRuns
 pub mod Works
+pub mod inner

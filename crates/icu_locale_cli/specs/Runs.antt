@@ -1,5 +1,5 @@
 -- What a run reads and writes.
-use Rattle.std.specs.Prelude.{◌≡◌, ◌↔◌, ℕ, Bool, true, List, [], ◌∷◌, ◌++◌, Option}
+use Rattle.std.specs.Prelude.{◌≡◌, ◌↔◌, ℕ, Bool, true, List, [], ◌∷◌, ◌++◌}
 use Rattle.std.specs.List.{AllZip, flat_map, list_all}
 use Rattle.std.specs.Io.KnownBytes.{Appends, Consumes, IsAtEnd}
 use Rattle.icu_locale_cli.specs.declared.status.Status.{Status}
@@ -7,6 +7,7 @@ use Rattle.icu_locale_cli.specs.declared.status.Status.TheVariants.{Accepted}
 use Rattle.icu_locale_cli.specs.declared.work.Work.{Work}
 use Rattle.icu_locale_cli.specs.Answers.{IsAnswer}
 use Rattle.icu_locale_cli.specs.Lines.{lines}
+use Rattle.icu_locale_cli.specs.Output.{Stream}
 
 -- the answers to lines, in their order: the text of each, and whether its line was accepted
 abbrev pub AreAnswers : Work → List (List ℕ) → List (List ℕ × Bool) → Type 0
@@ -21,19 +22,21 @@ abbrev pub all_accepted : List (List ℕ × Bool) → Bool
 all_accepted answers = list_all (λ a. a.1) answers
 
 -- the input is what the reader had, to its end
-pub record ReadsAll (old new : Option (List ℕ)) (input : List ℕ) : Type 0 where
+pub record ReadsAll (old new : Stream) (input : List ℕ) : Type 0 where
   pub consumed : Consumes old new input
   pub ended : IsAtEnd new
 
 -- the answer to every line of the input is written, in order, and nothing else
-pub record WritesAll (work : Work) (input : List ℕ) (old new : Option (List ℕ)) (status : Status) : Type 0 where
+pub record WritesAll (work : Work) (input : List ℕ) (old new : Stream)
+    (status : Status) : Type 0 where
   pub answers : List (List ℕ × Bool)
   pub each : AreAnswers work (lines input) answers
   pub written : Appends old new (text_of answers)
   pub status_is : (status ≡ Accepted) ↔ (all_accepted answers ≡ true)
 
 -- the answers to the first lines are written, in order, and then a part of a text
-pub record WritesUpTo (work : Work) (input : List ℕ) (old new : Option (List ℕ)) (part : List ℕ) (rest : List (List ℕ)) : Type 0 where
+pub record WritesUpTo (work : Work) (input : List ℕ) (old new : Stream) (part : List ℕ)
+    (rest : List (List ℕ)) : Type 0 where
   pub answered : List (List ℕ)
   pub parted : lines input ≡ answered ++ rest
   pub answers : List (List ℕ × Bool)
@@ -41,11 +44,11 @@ pub record WritesUpTo (work : Work) (input : List ℕ) (old new : Option (List �
   pub written : Appends old new (text_of answers ++ part)
 
 -- whole lines alone are written
-abbrev pub WritesWholeLines : Work → List ℕ → Option (List ℕ) → Option (List ℕ) → Type 0
+abbrev pub WritesWholeLines : Work → List ℕ → Stream → Stream → Type 0
 WritesWholeLines work input old new = (rest : List (List ℕ)) × WritesUpTo work input old new [] rest
 
 -- the earlier lines are written whole, and a beginning of the next
-pub record WritesPart (work : Work) (input : List ℕ) (old new : Option (List ℕ)) : Type 0 where
+pub record WritesPart (work : Work) (input : List ℕ) (old new : Stream) : Type 0 where
   pub line : List ℕ
   pub rest : List (List ℕ)
   pub text : List ℕ

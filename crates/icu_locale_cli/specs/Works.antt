@@ -19,6 +19,8 @@ abbrev pub IsWorkOf : Command → Tables → Work → Type 0
 IsWorkOf command.Maximize t (work.Maximize e) = IsExpanderOf t e
 IsWorkOf command.Minimize t (work.Minimize e) = IsExpanderOf t e
 IsWorkOf command.MinimizeScript t (work.MinimizeScript e) = IsExpanderOf t e
-IsWorkOf command.Canonicalize t (work.Canonicalize c) = IsExpanderOf t c.expander × IsSomeAnd t.aliases (λ table. AreRules table c.rules)
-IsWorkOf command.Direction t (work.Direction d) = IsExpanderOf t d.expander × (t.script_direction ≡ Some d.script_direction.now)
+IsWorkOf command.Canonicalize t (work.Canonicalize c) =
+    IsExpanderOf t c.expander × IsSomeAnd t.aliases (λ table. AreRules table c.rules)
+IsWorkOf command.Direction t (work.Direction d) =
+    IsExpanderOf t d.expander × (t.script_direction ≡ Some d.script_direction.now)
 IsWorkOf c t other = ⊥

@@ -26,14 +26,8 @@ pub fn write_answers<W: Write>(
 {
     let mut status = Status::Accepted;
     for line in Lines::new(input) {
-        let answer = match work.answer(alloc, line) {
-            Ok(answer) => answer,
-            Err(refusal) => return Err(refusal),
-        };
-        match write_line(writer, answer.text.as_bytes()) {
-            Ok(()) => {}
-            Err(refusal) => return Err(refusal),
-        }
+        let answer = work.answer(alloc, line)?;
+        write_line(writer, answer.text.as_bytes())?;
         status = status.after(answer.accepted);
     }
     Ok(status)

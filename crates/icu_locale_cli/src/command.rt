@@ -1,4 +1,8 @@
 //! What the program is asked to do.
+ghost use Rattle.std.specs.Prelude.{◌≡◌, Bool, Ok, IfOk, IfErr, map};
+ghost use Rattle.std.specs.String.{string_bytes};
+ghost use Rattle.icu_locale_cli.specs.Commands.{command_word, command_words};
+
 use crate::error::CliError;
 
 /// What is done with each line, or with the tables alone.
@@ -19,10 +23,6 @@ pub enum Command {
 }
 
 impl Command {
-    ghost use Rattle.std.specs.Prelude.{◌≡◌, Bool, Ok, IfOk, IfErr, map};
-    ghost use Rattle.std.specs.String.{string_bytes};
-    ghost use Rattle.icu_locale_cli.specs.Commands.{command_word, command_words};
-
     /// The command that the words name, and whether the tables come as JSON. It takes no memory.
     ///
     /// # Errors
@@ -30,8 +30,8 @@ impl Command {
     /// `Usage` exactly where the words are not one word that names a command, and then `json` or nothing.
     pub fn from_words(words: &[String]) -> Result<(Command, bool), CliError>
         ensures named { IfOk result (λ c. map string_bytes words.now ≡ command_words c.0 c.1) }
-        ensures only { (c : Command × Bool) → map string_bytes words.now ≡ command_words c.0 c.1
-            → result ≡ Ok c }
+        ensures only { (c : Command × Bool)
+            → map string_bytes words.now ≡ command_words c.0 c.1 → result ≡ Ok c }
         ensures refused { IfErr result (λ e. e ≡ CliError.Usage) }
     {
         match words {

@@ -1,9 +1,11 @@
 //! Why a run ends before its last line.
 ghost use Rattle.std.specs.Prelude.{◌≡◌, Some};
 ghost use Rattle.icu_locale_cli.specs.CliError.{error_words, table_error_name};
+ghost use Rattle.icu_locale_cli.specs.declared.error.CliError.TheVariants.{Data, Memory};
 
 use icu_provider::DataError;
 use icu_tables::TableError;
+use std::alloc::AllocError;
 use std::error::Error;
 use std::fmt;
 
@@ -46,6 +48,22 @@ impl fmt::Display for CliError {
 }
 
 impl Error for CliError {}
+
+impl From<DataError> for CliError {
+    ghost from_gives = { λ refusal e. e ≡ Data refusal };
+
+    fn from(refusal: DataError) -> Self {
+        CliError::Data(refusal)
+    }
+}
+
+impl From<AllocError> for CliError {
+    ghost from_gives = { λ _ e. e ≡ Memory };
+
+    fn from(_refused: AllocError) -> Self {
+        CliError::Memory
+    }
+}
 
 fn table_error_name(refusal: TableError) -> &'static str
     ensures { result.now ≡ table_error_name refusal }

@@ -25,11 +25,7 @@ pub fn read_all<R: Read>(
     for _ in 0..most_reads {
         match reader.read(&mut buffer) {
             Ok(0) => return Ok(text),
-            Ok(count) => {
-                if text.extend_from_slice(&buffer[..count]).is_err() {
-                    return Err(CliError::Memory);
-                }
-            }
+            Ok(count) => text.extend_from_slice(&buffer[..count])?,
             Err(_) => return Err(CliError::Read),
         }
     }

@@ -38,17 +38,24 @@ fn main(rt: HostRuntime) -> ExitCode {
 // The words are asked first, and then the run begins, over the tables of its first line or over the sample.
 fn start(rt: &HostRuntime) -> Result<Status, CliError> {
     let (command, json) = Command::from_words(&words(rt)?)?;
-    let Ok(mut writer) = BufWriter::new(rt.alloc(), io::writer(rt)) else {
-        return Err(CliError::Memory);
-    };
+    run_buffered(rt.alloc(), &command, json, &mut rt.reader(), io::writer(rt))
+}
+
+// The run, whose output is kept until much of it stands, and is written out at the end.
+fn run_buffered<R: Read, W: Write + Drop>(
+    alloc: Global,
+    command: &Command,
+    json: bool,
+    reader: &mut R,
+    writer: W,
+) -> Result<Status, CliError> {
+    let mut writer = BufWriter::new(alloc, writer).map_err(|_| CliError::Memory)?;
     let status = if json {
-        run_json(rt.alloc(), &command, &mut rt.reader(), &mut writer)
+        run_json(alloc, command, reader, &mut writer)
     } else {
-        run_over_sample(rt.alloc(), &command, &mut rt.reader(), &mut writer)
+        run_over_sample(alloc, command, reader, &mut writer)
     };
-    if writer.flush().is_err() {
-        return Err(CliError::Write);
-    }
+    writer.flush().map_err(|_| CliError::Write)?;
     status
 }
 
@@ -73,9 +80,7 @@ fn words(rt: &HostRuntime) -> Result<Vec<String>, CliError> {
     };
     let mut words = Vec::new(rt.alloc());
     for word in args.skip(1) {
-        if words.push(word).is_err() {
-            return Err(CliError::Memory);
-        }
+        words.push(word).map_err(|_| CliError::Memory)?;
     }
     Ok(words)
 }

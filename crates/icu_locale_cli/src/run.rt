@@ -5,7 +5,10 @@ ghost use Rattle.icu_tables.specs.Text.{rows_in};
 ghost use Rattle.icu_locale_cli.specs.Loads.{not_found};
 ghost use Rattle.icu_locale_cli.specs.Texts.{settled_line};
 ghost use Rattle.icu_locale_cli.specs.Works.{has_tables};
-ghost use Rattle.icu_locale_cli.specs.WholeRuns.{IsRun, IsRefusedRun, WritesSettled, IsRefusedSettled, WritesOutput, IsRefusedOutput, IsJsonRun, IsRefusedJsonRun, IsRefusedReading};
+ghost use Rattle.icu_locale_cli.specs.WholeRuns.{IsRun, IsRefusedRun, WritesSettled};
+ghost use Rattle.icu_locale_cli.specs.WholeRuns.{IsRefusedSettled, WritesOutput, IsRefusedOutput};
+ghost use Rattle.icu_locale_cli.specs.WholeRuns.{IsJsonRun, IsRefusedJsonRun};
+ghost use Rattle.icu_locale_cli.specs.inner.Causes.{IsRefusedReading};
 
 use crate::answers::write_answers;
 use crate::command::Command;
@@ -45,14 +48,8 @@ pub fn run<R: Read, W: Write>(
     if *command == Command::Settled {
         return write_settled(tables, writer);
     }
-    let work = match Work::load(alloc, command, tables) {
-        Ok(work) => work,
-        Err(refusal) => return Err(refusal),
-    };
-    let input = match read_all(alloc, reader, MOST_READS) {
-        Ok(input) => input,
-        Err(refusal) => return Err(refusal),
-    };
+    let work = Work::load(alloc, command, tables)?;
+    let input = read_all(alloc, reader, MOST_READS)?;
     write_answers(alloc, &work, &input, writer)
 }
 
@@ -76,15 +73,10 @@ pub fn run_json<R: Read, W: Write>(
     ensures refused { IfErr result (IsRefusedJsonRun command.now (R.remaining reader.old)
         (R.remaining reader.new) (W.contents writer.old) (W.contents writer.new)) }
 {
-    let input = match read_all(alloc, reader, MOST_READS) {
-        Ok(input) => input,
-        Err(refusal) => return Err(refusal),
-    };
+    let input = read_all(alloc, reader, MOST_READS)?;
     let (json, rest) = cut(&input);
-    match read_tables(alloc, json) {
-        Ok(tables) => write_output(alloc, command, &tables, rest, writer),
-        Err(refusal) => Err(refusal),
-    }
+    let tables = read_tables(alloc, json)?;
+    write_output(alloc, command, &tables, rest, writer)
 }
 
 // The tables of a JSON text.
@@ -115,10 +107,7 @@ fn write_output<W: Write>(
     if *command == Command::Settled {
         return write_settled(tables, writer);
     }
-    let work = match Work::load(alloc, command, tables) {
-        Ok(work) => work,
-        Err(refusal) => return Err(refusal),
-    };
+    let work = Work::load(alloc, command, tables)?;
     write_answers(alloc, &work, input, writer)
 }
 
@@ -131,15 +120,10 @@ fn write_settled<W: Write>(tables: &Tables, writer: &mut W) -> Result<Status, Cl
     ensures refused { IfErr result
         (IsRefusedSettled tables.now (W.contents writer.old) (W.contents writer.new)) }
 {
-    let expander = match load_expander(tables) {
-        Ok(expander) => expander,
-        Err(refusal) => return Err(refusal),
-    };
+    let expander = load_expander(tables)?;
     let line = yes_or_no(expander.is_settled());
-    match write_line(writer, line.as_bytes()) {
-        Ok(()) => Ok(Status::Accepted),
-        Err(refusal) => Err(refusal),
-    }
+    write_line(writer, line.as_bytes())?;
+    Ok(Status::Accepted)
 }
 
 fn yes_or_no(settled: bool) -> &'static str

@@ -1,4 +1,5 @@
 //! How a run ends.
+ghost use Rattle.std.specs.Prelude.{◌≡◌, ◌↔◌, true};
 
 /// Whether every line was accepted.
 #[derive(Clone, Copy, Debug, PartialEq, Eq)]
@@ -10,11 +11,10 @@ pub enum Status {
 }
 
 impl Status {
-    ghost use Rattle.std.specs.Prelude.{◌≡◌, ◌↔◌, true};
-
     // The status after one more line.
     pub(crate) fn after(self, accepted: bool) -> Status
-        ensures { (result ≡ Status.Accepted) ↔ ((self ≡ Status.Accepted) × (accepted ≡ true)) }
+        ensures { (result ≡ Status.Accepted)
+            ↔ ((self ≡ Status.Accepted) × (accepted ≡ true)) }
     {
         if accepted { self } else { Status::Refused }
     }

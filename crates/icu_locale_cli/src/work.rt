@@ -1,11 +1,14 @@
 //! What a command works with, and what it makes of one line.
-ghost use Rattle.std.specs.Prelude.{◌≡◌, ◌≢◌, ◌↔◌, ◌⊎◌, Err, IfOk, IfErr, IfSome, IsSomeAnd, is_ok, is_some, true, false};
+ghost use Rattle.std.specs.Prelude.{◌≡◌, ◌≢◌, ◌↔◌, ◌⊎◌, Err, IfOk, IfErr, IfSome, IsSomeAnd, is_ok};
+ghost use Rattle.std.specs.Prelude.{is_some, true, false};
 ghost use Rattle.std.specs.String.{string_bytes};
 ghost use Rattle.icu_locale_cli.specs.Texts.{transformed_line, refused_line, direction_line};
 ghost use Rattle.icu_locale.specs.LikelyTable.{likely};
 ghost use Rattle.icu_locale.specs.Rules.{AreRules};
-ghost use Rattle.icu_locale_cli.specs.Answers.{IsCanonicalized};
+ghost use Rattle.icu_locale_cli.specs.Answers.{IsCanonicalized, IsAnswer, IsLineOf};
 ghost use Rattle.icu_locale_cli.specs.Loads.{IsExpanderOf, has_likely, not_found};
+ghost use Rattle.icu_locale_cli.specs.inner.Causes.{IsRefusedLoad};
+ghost use Rattle.icu_locale_cli.specs.Works.{IsWorkOf, has_tables};
 
 use crate::command::Command;
 use crate::error::CliError;
@@ -42,31 +45,28 @@ pub struct Answer {
 }
 
 impl<'d> Work<'d> {
-    ghost use Rattle.icu_locale_cli.specs.Answers.{IsAnswer, IsLineOf};
-    ghost use Rattle.icu_locale_cli.specs.Works.{IsWorkOf, has_tables};
-
     // What a command of lines works with: its tables are loaded in their order.
     pub fn load(alloc: Global, command: &Command, tables: &'d Tables) -> Result<Self, CliError>
         requires { command.now ≢ Command.Settled }
         ensures made { IfOk result (IsWorkOf command.now tables.now) }
         ensures data { (result ≡ Err (CliError.Data not_found))
             ↔ (has_tables command.now tables.now ≡ false) }
-        ensures refused { IfErr result (λ e. (e ≡ CliError.Data not_found) ⊎ (e ≡ CliError.Memory)) }
+        ensures refused { IfErr result IsRefusedLoad }
     {
         let expander = load_expander(tables)?;
         match command {
             Command::Maximize => Ok(Work::Maximize(expander)),
             Command::Minimize => Ok(Work::Minimize(expander)),
             Command::MinimizeScript => Ok(Work::MinimizeScript(expander)),
-            Command::Canonicalize => match load_canonicalizer(alloc, tables, expander) {
-                Ok(canonicalizer) => Ok(Work::Canonicalize(canonicalizer)),
-                Err(refusal) => Err(refusal),
-            },
+            Command::Canonicalize => {
+                let canonicalizer = load_canonicalizer(alloc, tables, expander)?;
+                Ok(Work::Canonicalize(canonicalizer))
+            }
             Command::Direction => {
-                match LocaleDirectionality::try_new_with_expander_unstable(tables, expander) {
-                    Ok(directionality) => Ok(Work::Direction(directionality)),
-                    Err(refusal) => Err(CliError::Data(refusal)),
-                }
+                let directionality = LocaleDirectionality::try_new_with_expander_unstable(
+                    tables, expander,
+                )?;
+                Ok(Work::Direction(directionality))
             }
             Command::Settled => unreachable!(),
         }
@@ -122,14 +122,10 @@ pub fn load_expander(tables: &Tables) -> Result<LocaleExpander<'_>, CliError>
     ensures loaded { is_ok result ≡ has_likely tables.entry.now }
     ensures refused { IfErr result (λ e. e ≡ CliError.Data not_found) }
 {
-    let made = if tables.likely_extended.is_some() {
-        LocaleExpander::try_new_extended_unstable(tables)
+    if tables.likely_extended.is_some() {
+        Ok(LocaleExpander::try_new_extended_unstable(tables)?)
     } else {
-        LocaleExpander::try_new_common_unstable(tables)
-    };
-    match made {
-        Ok(expander) => Ok(expander),
-        Err(refusal) => Err(CliError::Data(refusal)),
+        Ok(LocaleExpander::try_new_common_unstable(tables)?)
     }
 }
 
@@ -142,17 +138,12 @@ fn load_canonicalizer<'d>(
     ensures expander { IfOk result (λ c. c.expander ≡ expander.entry) }
     ensures rules { IfOk result (λ c. IsSomeAnd tables.now.aliases
         (λ table. AreRules table c.rules)) }
-    ensures data { (result ≡ Err (CliError.Data not_found)) ↔ (is_some tables.now.aliases ≡ false) }
-    ensures refused { IfErr result (λ e. (e ≡ CliError.Data not_found) ⊎ (e ≡ CliError.Memory)) }
+    ensures data { (result ≡ Err (CliError.Data not_found))
+        ↔ (is_some tables.now.aliases ≡ false) }
+    ensures refused { IfErr result IsRefusedLoad }
 {
-    let aliases = match tables.load_aliases() {
-        Ok(aliases) => aliases,
-        Err(refusal) => return Err(CliError::Data(refusal)),
-    };
-    match LocaleCanonicalizer::new_with_expander(alloc, aliases, expander) {
-        Ok(canonicalizer) => Ok(canonicalizer),
-        Err(_) => Err(CliError::Memory),
-    }
+    let aliases = tables.load_aliases()?;
+    LocaleCanonicalizer::new_with_expander(alloc, aliases, expander).map_err(|_| CliError::Memory)
 }
 
 // The line of a locale, of which the identifier is written.
@@ -185,13 +176,10 @@ fn directed(alloc: Global, direction: Option<Direction>) -> Result<Answer, CliEr
         Some(Direction::RightToLeft) => "rtl\n",
         None => "none\n",
     };
-    match String::from_str(alloc, line) {
-        Ok(text) => Ok(Answer {
-            text,
-            accepted: true,
-        }),
-        Err(_) => Err(CliError::Memory),
-    }
+    Ok(Answer {
+        text: String::from_str(alloc, line)?,
+        accepted: true,
+    })
 }
 
 // The line of an identifier and whether it was changed.
@@ -201,20 +189,18 @@ fn transformed(
     changed: TransformResult,
 ) -> Result<Answer, CliError>
     ensures answer { IfOk result (λ a.
-        (string_bytes a.text ≡ transformed_line identifier.now changed) × (a.accepted ≡ true)) }
+        (string_bytes a.text ≡ transformed_line identifier.now changed)
+        × (a.accepted ≡ true)) }
     ensures refused { IfErr result (λ e. e ≡ CliError.Memory) }
 {
     let mark = match changed {
         TransformResult::Modified => 'M',
         TransformResult::Unmodified => 'U',
     };
-    match format!(in alloc; "{identifier}\t{mark}\n") {
-        Ok(text) => Ok(Answer {
-            text,
-            accepted: true,
-        }),
-        Err(_) => Err(CliError::Memory),
-    }
+    Ok(Answer {
+        text: format!(in alloc; "{identifier}\t{mark}\n")?,
+        accepted: true,
+    })
 }
 
 // The line of a refusal.
@@ -223,11 +209,8 @@ fn refused<E: fmt::Display + Drop>(alloc: Global, refusal: E) -> Result<Answer, 
         (λ name. string_bytes a.text ≡ refused_line name) × (a.accepted ≡ false)) }
     ensures refused { IfErr result (λ e. e ≡ CliError.Memory) }
 {
-    match format!(in alloc; "?\t{refusal}\n") {
-        Ok(text) => Ok(Answer {
-            text,
-            accepted: false,
-        }),
-        Err(_) => Err(CliError::Memory),
-    }
+    Ok(Answer {
+        text: format!(in alloc; "?\t{refusal}\n")?,
+        accepted: false,
+    })
 }

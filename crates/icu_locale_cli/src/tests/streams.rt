@@ -3,6 +3,7 @@ use crate::command::Command;
 use crate::error::CliError;
 use crate::input::read_all;
 use crate::run::{run, run_json};
+use crate::run_buffered;
 use crate::sample::sample;
 use crate::status::Status;
 use icu_tables::Tables;
@@ -137,6 +138,30 @@ fn slow_and_full(rt: &impl Abort, alloc: Global, tables: &Tables) {
 fn a_byte_at_a_time_and_a_full_writer(rt: HostRuntime) -> Result<(), Fail> {
     let tables = sample(rt.alloc())?;
     slow_and_full(&rt, rt.alloc(), &tables);
+    Ok(())
+}
+
+// How a run ends whose output is written out at its end, to a writer with so much room.
+fn written_at_the_end(alloc: Global, json: bool, room: usize) -> Result<Status, CliError> {
+    let mut reader = b"{\"likely_language\":{\"und\":[\"en\",\"Latn\",\"US\"]},\
+        \"likely_script_region\":{}}\nen\n"
+        .as_slice();
+    let writer = SlowWriter {
+        bytes: Vec::new(alloc),
+        at_once: 64,
+        room,
+    };
+    run_buffered(alloc, &Command::Settled, json, &mut reader, writer)
+}
+
+#[test]
+fn a_failed_write_at_the_end(rt: HostRuntime) -> Result<(), Fail> {
+    for json in [false, true] {
+        let ended = written_at_the_end(rt.alloc(), json, 3);
+        assert!(rt; ended == Err(CliError::Write));
+        let ended = written_at_the_end(rt.alloc(), json, 4);
+        assert!(rt; ended == Ok(Status::Accepted));
+    }
     Ok(())
 }
 

@@ -20,10 +20,10 @@ returns-clause-refused g c =
     let wrote = g.W.Write.contents in
     let before = wrote c.args.writer.now in
     let after = wrote c.write_answers.new.writer in
-    let work = c.in-Ok.work in
-    let input = c.in-Ok-read_all.input.items in
-    let all : ReadsAll (read c.args.reader.now) (read c.read_all.new.reader) input = record { consumed = c.in-Ok-read_all.ensures.whole; ended = c.in-Ok-read_all.ensures.end } in
+    let work = c.in_ok-work.work in
+    let input = c.in_ok-input.input.items in
+    let all : ReadsAll (read c.args.reader.now) (read c.read_all.new.reader) input = record { consumed = c.in_ok-input.ensures.whole; ended = c.in_ok-input.ensures.end } in
     lines_refused c.args.tables.now before after c.args.command.now c.write_answers.result (read c.args.reader.now) (read c.read_all.new.reader) (λ e. search rules)
     (stopped_run c.args.tables.now before after c.args.command.now c.write_answers.result (read c.args.reader.now) (read c.read_all.new.reader) input all c.write_answers.ensures.refused
-    (λ e. record { work = work; work_of = c.in-Ok.ensures.made; left = subst (λ i. WritesWholeLines work i before after) c.deref.ensures.value (c.write_answers.ensures.memory e) })
-    (λ e. record { work = work; work_of = c.in-Ok.ensures.made; left = subst (λ i. WritesPart work i before after) c.deref.ensures.value (c.write_answers.ensures.write e) }))
+    (λ e. record { work = work; work_of = c.in_ok-work.ensures.made; left = subst (λ i. WritesWholeLines work i before after) c.deref.ensures.value (c.write_answers.ensures.memory e) })
+    (λ e. record { work = work; work_of = c.in_ok-work.ensures.made; left = subst (λ i. WritesPart work i before after) c.deref.ensures.value (c.write_answers.ensures.write e) }))

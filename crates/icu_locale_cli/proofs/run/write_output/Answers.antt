@@ -19,5 +19,5 @@ returns-clause-refused g c =
     let after = g.W.Write.contents c.write_answers.new.writer in
     lines_output_refused c.args.tables.now before after c.args.command.now c.write_answers.result c.args.input.now (λ e. search rules)
     (stopped_lines c.args.tables.now before after c.args.command.now c.write_answers.result c.args.input.now c.write_answers.ensures.refused
-    (λ e. record { work = c.in-Ok.work; work_of = c.in-Ok.ensures.made; left = c.write_answers.ensures.memory e })
-    (λ e. record { work = c.in-Ok.work; work_of = c.in-Ok.ensures.made; left = c.write_answers.ensures.write e }))
+    (λ e. record { work = c.in_ok-work.work; work_of = c.in_ok-work.ensures.made; left = c.write_answers.ensures.memory e })
+    (λ e. record { work = c.in_ok-work.work; work_of = c.in_ok-work.ensures.made; left = c.write_answers.ensures.write e }))

@@ -1,13 +1,15 @@
 use Rattle.std.proofs.Common.{sym, subst, ◌∙◌}
+use Rattle.std.proofs.lemmas.Result.{err_from_is_err_and}
 use Rattle.icu_locale_cli.specs.Output.{AppendsPart}
 use Rattle.icu_locale_cli.specs.WholeRuns.{TellsSettled, IsRefusedSettled}
 use Rattle.icu_locale_cli.proofs.run.write_settled.Goals as goal
 
 -- a failed write leaves a beginning of the one line
-pub returns-in-Err-write_line-clause-refused : goal.returns-in-Err-write_line-clause-refused
-returns-in-Err-write_line-clause-refused g c =
+pub returns-in_err-write_line-clause-refused : goal.returns-in_err-write_line-clause-refused
+returns-in_err-write_line-clause-refused g c =
     let before = g.W.Write.contents c.args.writer.now in
     let after = g.W.Write.contents c.write_line.new.writer in
-    let tells : TellsSettled c.args.tables.now c.is_settled.result = record { expander = c.in-Ok.expander; over = c.in-Ok.ensures.made; tells = c.is_settled.ensures } in
-    let part = subst (AppendsPart before after) (c.as_bytes.ensures.value ∙ c.yes_or_no-line.ensures) c.in-Err-write_line.ensures.part in
-    subst (IsRefusedSettled c.args.tables.now before after) (sym c.in-Err-write_line.ensures.refused) (c.is_settled.result, tells, part)
+    let tells : TellsSettled c.args.tables.now c.is_settled.result = record { expander = c.in_ok-expander.expander; over = c.in_ok-expander.ensures.made; tells = c.is_settled.ensures } in
+    let part = subst (AppendsPart before after) (c.as_bytes.ensures.value ∙ c.yes_or_no-line.ensures) c.in_err-write_line.ensures.part in
+    let passed_on = err_from_is_err_and c.from_residual-in_err-write_line.result c.from_residual-in_err-write_line.ensures.1 in
+    rw (passed_on.1, passed_on.2) (subst (IsRefusedSettled c.args.tables.now before after) (sym c.in_err-write_line.ensures.refused) (c.is_settled.result, tells, part))

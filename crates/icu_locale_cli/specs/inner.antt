@@ -1,0 +1,2 @@
+-- What private functions alone cite.
+pub mod Causes
