@@ -12,12 +12,14 @@ pub mod Canonicals
 pub mod Counts
 pub mod Keywords
 pub mod Lists
+pub mod Negotiating
 pub mod Options
 pub mod Parts
 pub mod Readings
 pub mod Replacing
 pub mod RunPlaces
 pub mod Runs
+pub mod SortedRows
 pub mod Subsets
 pub mod Universes
 pub mod VariantImages

@@ -7,6 +7,7 @@ pub mod Kinds
 pub mod LikelySubtags
 pub mod LikelyTable
 pub mod Minimal
+pub mod Negotiation
 pub mod Refusals
 pub mod Replacement
 pub mod Rules

@@ -1,4 +1,5 @@
 pub mod CanonicalParts
+pub mod Index
 pub mod LikelyMaps
 pub mod Rewrite
 pub mod SettledRows

@@ -226,7 +226,7 @@ impl<'d> LocaleExpander<'d> {
 }
 
 // The language, the script and the region of an identifier.
-fn locale_of(id: &LanguageIdentifier) -> DataLocale
+pub(crate) fn locale_of(id: &LanguageIdentifier) -> DataLocale
     ensures { result ≡ locale_of id.now }
 {
     DataLocale {

@@ -1,0 +1,232 @@
+//! Which of the identifiers that are available means what a request means.
+ghost use Rattle.std.specs.Prelude.{◌≡◌, ◌↔◌, ◌<◌, length, Some, Err, IfOk};
+ghost use Rattle.std.specs.Coded.{codes};
+ghost use Rattle.std.specs.List.{All, slice_get};
+ghost use Rattle.std.specs.List.Sorted.{IsSorted};
+ghost use Rattle.icu_locale_core.specs.Identifier.{IsIdentifier};
+ghost use Rattle.icu_locale_core.specs.TextSet.{text_set_code};
+ghost use Rattle.icu_locale.specs.LikelyTable.{likely};
+ghost use Rattle.icu_locale.specs.Settled.{AreSettled};
+ghost use Rattle.icu_locale.specs.Negotiation.{Negotiation, IsNegotiated, error_name};
+ghost use Rattle.icu_locale.specs.inner.Index.{IsPlainForm, locale_cmp, row_cmp, IsIndex, IsPartOf, IsFirstRow, IsFirstPlace};
+ghost use Rattle.icu_locale.specs.declared.negotiator.NegotiatorError.TheVariants.{Memory};
+
+use crate::expander::locale_of;
+use crate::{LocaleExpander, laws};
+use icu_locale_core::{LanguageIdentifier, Variants};
+use icu_provider::DataLocale;
+use std::alloc::{AllocError, Global};
+use std::cmp::Ord;
+use std::error::Error;
+use std::fmt;
+use std::marker::Model;
+
+/// Why a negotiator is not made.
+#[derive(Clone, Copy, Debug, PartialEq, Eq)]
+pub enum NegotiatorError {
+    /// Memory was asked for and refused.
+    Memory = 1,
+    /// The likely table is not settled: some maximal form has script `Zzzz` or region `ZZ`, or another maximal form.
+    NotSettled = 2,
+}
+
+impl fmt::Display for NegotiatorError {
+    ghost output = { λ e. Some (error_name e) };
+
+    fn fmt<W: fmt::Write>(&self, f: &mut fmt::Formatter<W>) -> fmt::Result {
+        f.write_str(match self {
+            NegotiatorError::Memory => "Memory",
+            NegotiatorError::NotSettled => "NotSettled",
+        })
+    }
+}
+
+impl Error for NegotiatorError {}
+
+impl From<AllocError> for NegotiatorError {
+    ghost from_gives = { λ _ e. e ≡ Memory };
+
+    fn from(_refused: AllocError) -> Self {
+        NegotiatorError::Memory
+    }
+}
+
+// An available identifier: its minimal form, variants aside, and its place.
+#[derive(Clone, Copy, Debug, PartialEq, Eq, PartialOrd, Ord)]
+struct Row {
+    minimal: DataLocale,
+    place: usize,
+}
+
+/// Finds, over a settled likely table, the identifier among those available that means what a request means: identifiers
+/// mean the same where their maximal forms are equal (UTS #35, section 4.3).
+///
+/// Contracts see the expander and the available identifiers. Beside these stands a list of the minimal forms, sorted, so
+/// that a look-up is a binary search.
+#[derive(Debug)]
+pub struct Negotiator<'d> {
+    expander: LocaleExpander<'d>,
+    available: Vec<LanguageIdentifier>,
+    rows: Vec<Row>,
+    alloc: Global,
+}
+
+impl<'d> Model for Negotiator<'d> {
+    ghost Value = { Negotiation };
+
+    ghost coded = { Prim.hlevel (codes, text_set_code) };
+
+    ghost view = { λ n. record { expander = n.expander; available = n.available.items } };
+
+    ghost invariant = { λ n. AreSettled (likely n.expander)
+        × IsIndex (likely n.expander) n.available.items n.rows.items };
+}
+
+impl<'d> Drop for Negotiator<'d> {
+    fn drop(self) {
+        let Negotiator {
+            expander: _,
+            available: _,
+            rows: _,
+            alloc: _,
+        } = self;
+    }
+}
+
+impl<'d> Negotiator<'d> {
+    /// Over an expander, whose likely table has to be settled, and the identifiers that are available. It takes memory
+    /// for the list of their minimal forms.
+    ///
+    /// # Errors
+    ///
+    /// - `NotSettled` exactly where `LocaleExpander::is_settled` answers false. This is asked first.
+    /// - `Memory` where the list of minimal forms could not be made.
+    ///
+    /// The available identifiers are dropped then.
+    pub fn try_new(
+        alloc: Global,
+        expander: LocaleExpander<'d>,
+        available: Vec<LanguageIdentifier>,
+    ) -> Result<Self, NegotiatorError>
+        ensures expander { IfOk result (λ n. n.expander ≡ expander.entry) }
+        ensures available { IfOk result (λ n. n.available ≡ available.items) }
+        ensures settled { IfOk result (λ n. AreSettled (likely n.expander)) }
+        ensures refused { (result ≡ Err NegotiatorError.NotSettled)
+            ↔ (AreSettled (likely expander.entry) → ⊥) }
+    {
+        let rows = settled_rows(alloc, &expander, &available)?;
+        Ok(Negotiator {
+            expander,
+            available,
+            rows,
+            alloc,
+        })
+    }
+
+    /// The available identifiers, as they were handed in. It takes no memory.
+    pub fn available(&self) -> &[LanguageIdentifier]
+        ensures { result.now ≡ self.now.available }
+    {
+        &self.available
+    }
+
+    /// The first request that an available identifier has the maximal form of, and the first such identifier: their
+    /// places. None where there is none. It takes no memory.
+    pub fn negotiate(&self, requests: &[LanguageIdentifier]) -> Option<(usize, usize)>
+        ensures { IsNegotiated (likely self.now.expander) requests.now self.now.available result }
+    {
+        for (asked, request) in requests.iter().enumerate() {
+            if let Some(place) = self.find(request) {
+                return Some((asked, place));
+            }
+        }
+        None
+    }
+
+    // The place of the first available identifier with the maximal form of a request.
+    fn find(&self, request: &LanguageIdentifier) -> Option<usize>
+        ensures { IsFirstPlace (likely self.now.expander) self.now.available request.now result }
+    {
+        laws::minimal_forms_are_canonical();
+        laws::maximal_forms_by_parts();
+        let minimal = plain_form(self.alloc, &self.expander, request);
+        let part = rows_with(&self.rows, &minimal);
+        first_row(part, &self.available, &request.variants)
+    }
+}
+
+// The rows over a likely table that is settled.
+fn settled_rows(
+    alloc: Global,
+    expander: &LocaleExpander<'_>,
+    available: &[LanguageIdentifier],
+) -> Result<Vec<Row>, NegotiatorError>
+    ensures settled { IfOk result (λ _. AreSettled (likely expander.now)) }
+    ensures rows { IfOk result (λ rows. IsIndex (likely expander.now) available.now rows.items) }
+    ensures refused { (result ≡ Err NegotiatorError.NotSettled)
+        ↔ (AreSettled (likely expander.now) → ⊥) }
+{
+    if !expander.is_settled() {
+        return Err(NegotiatorError::NotSettled);
+    }
+    Ok(sorted_rows(alloc, expander, available)?)
+}
+
+// A row for each available identifier, sorted.
+fn sorted_rows(
+    alloc: Global,
+    expander: &LocaleExpander<'_>,
+    available: &[LanguageIdentifier],
+) -> Result<Vec<Row>, AllocError>
+    ensures { IfOk result (λ rows. IsIndex (likely expander.now) available.now rows.items) }
+{
+    let mut rows = Vec::with_capacity(alloc, available.len())?;
+    for (place, id) in available.iter().enumerate() {
+        let minimal = plain_form(alloc, expander, id);
+        rows.push(Row { minimal, place })?;
+    }
+    rows.sort_unstable();
+    Ok(rows)
+}
+
+// The minimal form of an identifier, variants aside.
+fn plain_form(alloc: Global, expander: &LocaleExpander<'_>, id: &LanguageIdentifier) -> DataLocale
+    ensures form { IsPlainForm (likely expander.now) id.now result }
+    ensures known { IsIdentifier id.now }
+{
+    id.known();
+    laws::minimizing_keeps_variants();
+    let mut plain = LanguageIdentifier {
+        language: id.language,
+        script: id.script,
+        region: id.region,
+        variants: Variants::new(alloc),
+    };
+    let _ = expander.minimize(&mut plain);
+    locale_of(&plain)
+}
+
+// The rows with a minimal form, which stand side by side.
+fn rows_with<'r>(rows: &'r [Row], minimal: &DataLocale) -> &'r [Row]
+    requires { IsSorted row_cmp rows.now }
+    ensures { IsPartOf rows.now minimal.now result.now }
+{
+    let below = rows.partition_point(|row| row.minimal < *minimal);
+    let (_, rest) = rows.split_at(below);
+    let count = rest.partition_point(|row| row.minimal <= *minimal);
+    let (part, _) = rest.split_at(count);
+    part
+}
+
+// The place of the first of these rows whose identifier has the variants.
+fn first_row(rows: &[Row], available: &[LanguageIdentifier], variants: &Variants) -> Option<usize>
+    requires { All (λ r. r.place < length available.now) rows.now }
+    ensures { IsFirstRow available.now variants.now rows.now result }
+{
+    for row in rows {
+        if available[row.place].variants == *variants {
+            return Some(row.place);
+        }
+    }
+    None
+}
