@@ -1,9 +1,9 @@
 //! The calls that rows name.
-use crate::canonical;
 use crate::fault::Fault;
 use crate::likely::{self, Likely};
 use crate::texts::{self, Kind};
 use crate::world::World;
+use crate::{canonical, negotiation};
 use icu_tables::{TableError, Tables};
 use std::alloc::Global;
 
@@ -16,6 +16,8 @@ pub enum Call {
     Likely(Likely),
     /// Asks whether the tables are settled.
     Settled,
+    /// Looks among available identifiers for one that means what a request means.
+    Negotiate,
     /// Canonicalizes a locale.
     Canonicalize,
     /// Makes one turn.
@@ -38,7 +40,7 @@ pub enum Call {
     JsonCuts,
 }
 
-const CALLS: [(&str, Call); 26] = [
+const CALLS: [(&str, Call); 27] = [
     ("read", Call::Read(Kind::Identifier)),
     ("language", Call::Read(Kind::Language)),
     ("script", Call::Read(Kind::Script)),
@@ -55,6 +57,7 @@ const CALLS: [(&str, Call); 26] = [
     ("right-to-left", Call::Likely(Likely::RightToLeft)),
     ("left-to-right", Call::Likely(Likely::LeftToRight)),
     ("settled", Call::Settled),
+    ("negotiate", Call::Negotiate),
     ("canonicalize", Call::Canonicalize),
     ("search", Call::Search),
     ("search-transform", Call::SearchTransform),
@@ -94,6 +97,7 @@ pub fn answer(alloc: Global, world: &World, call: Call, input: &[u8]) -> Result<
 fn answer_text(alloc: Global, world: &World, call: Call, text: &str) -> Result<String, Fault> {
     match call {
         Call::Settled => likely::settled(alloc, world),
+        Call::Negotiate => negotiation::negotiate(alloc, world, text),
         Call::Canonicalize => canonical::canonicalize(alloc, world, text),
         Call::Search => canonical::search(alloc, world, false, text),
         Call::SearchTransform => canonical::search(alloc, world, true, text),
