@@ -26,7 +26,8 @@ pub record IsMatch (likely : LikelySubtags) (requests available : List LanguageI
 pub record IsFirstMatch (likely : LikelySubtags) (requests available : List LanguageIdentifier)
     (i j : ℕ) : Type 0 where
   pub matches : IsMatch likely requests available i j
-  pub first : (k l : ℕ) → IsMatch likely requests available k l → (i < k) ⊎ ((i ≡ k) × (j ≤ l))
+  pub first : (k l : ℕ) → IsMatch likely requests available k l
+      → (i < k) ⊎ ((i ≡ k) × (j ≤ l))
 
 -- the first match, and none where there is no match
 abbrev pub IsNegotiated : LikelySubtags → List LanguageIdentifier → List LanguageIdentifier

@@ -52,7 +52,8 @@ pub record AreListed (likely : LikelySubtags) (available : List LanguageIdentifi
 pub record IsIndex (likely : LikelySubtags) (available : List LanguageIdentifier)
     (rows : List Row) : Type 0 where
   pub each_row : All (IsRowOf likely available) rows
-  pub each_place : (k : ℕ) → k < length available → (r : Row) × Contains rows r × (r.place ≡ k)
+  pub each_place : (k : ℕ) → k < length available
+      → (r : Row) × Contains rows r × (r.place ≡ k)
   pub sorted : IsSorted row_cmp rows
 
 -- the part has the rows with the minimal form d, and no other, by rising places
@@ -94,8 +95,8 @@ pub record MeansAt (likely : LikelySubtags) (available : List LanguageIdentifier
   pub same : maximal likely x ≡ maximal likely identifier
 
 -- the first place at which an available identifier has the maximal form of x, if there is one
-abbrev pub IsFirstPlace : LikelySubtags → List LanguageIdentifier → LanguageIdentifier → Option ℕ
-    → Type 0
+abbrev pub IsFirstPlace : LikelySubtags → List LanguageIdentifier → LanguageIdentifier
+    → Option ℕ → Type 0
 IsFirstPlace likely available x None = (k : ℕ) → MeansAt likely available x k → ⊥
 IsFirstPlace likely available x (Some place) =
     MeansAt likely available x place
