@@ -1,5 +1,5 @@
--- Negotiation: which available identifier means what a request means, where identifiers mean the same whose maximal
--- forms are equal (UTS #35 Part 1, section 4.3, Likely Subtags).
+-- Negotiation: which available identifier means what a request means, where identifiers mean the
+-- same whose maximal forms are equal (UTS #35 Part 1, section 4.3, Likely Subtags).
 use Rattle.std.specs.Prelude.{◌≡◌, ◌⊎◌, ℕ, ◌<◌, ◌≤◌, List, codes, Option, Some, None}
 use Rattle.std.specs.List.{slice_get}
 use Rattle.icu_locale_core.specs.declared.langid.LanguageIdentifier.{LanguageIdentifier}
@@ -22,7 +22,7 @@ pub record IsMatch (likely : LikelySubtags) (requests available : List LanguageI
   pub offered : slice_get available j ≡ Some identifier
   pub same : maximal likely request ≡ maximal likely identifier
 
--- (i, j) matches, and every other match has a later request, or the same one and a later available identifier
+-- i and j match, and every other match has a later request, or the same one and a later identifier
 pub record IsFirstMatch (likely : LikelySubtags) (requests available : List LanguageIdentifier)
     (i j : ℕ) : Type 0 where
   pub matches : IsMatch likely requests available i j

@@ -1,14 +1,15 @@
 //! Which of the identifiers that are available means what a request means.
 ghost use Rattle.std.specs.Prelude.{◌≡◌, ◌↔◌, ◌<◌, length, Some, Err, IfOk};
 ghost use Rattle.std.specs.Coded.{codes};
-ghost use Rattle.std.specs.List.{All, slice_get};
+ghost use Rattle.std.specs.List.{All};
 ghost use Rattle.std.specs.List.Sorted.{IsSorted};
 ghost use Rattle.icu_locale_core.specs.Identifier.{IsIdentifier};
 ghost use Rattle.icu_locale_core.specs.TextSet.{text_set_code};
 ghost use Rattle.icu_locale.specs.LikelyTable.{likely};
 ghost use Rattle.icu_locale.specs.Settled.{AreSettled};
 ghost use Rattle.icu_locale.specs.Negotiation.{Negotiation, IsNegotiated, error_name};
-ghost use Rattle.icu_locale.specs.inner.Index.{IsPlainForm, locale_cmp, row_cmp, IsIndex, IsPartOf, IsFirstRow, IsFirstPlace};
+ghost use Rattle.icu_locale.specs.inner.Index.{IsPlainForm, row_cmp, IsIndex, IsPartOf};
+ghost use Rattle.icu_locale.specs.inner.Index.{IsFirstRow, IsFirstPlace};
 ghost use Rattle.icu_locale.specs.declared.negotiator.NegotiatorError.TheVariants.{Memory};
 
 use crate::expander::locale_of;
