@@ -18,6 +18,8 @@ pub enum Call {
     Settled,
     /// Looks among available identifiers for one that means what a request means.
     Negotiate,
+    /// Compares negotiations with a plain search.
+    NegotiateEach,
     /// Canonicalizes a locale.
     Canonicalize,
     /// Makes one turn.
@@ -40,7 +42,7 @@ pub enum Call {
     JsonCuts,
 }
 
-const CALLS: [(&str, Call); 27] = [
+const CALLS: [(&str, Call); 28] = [
     ("read", Call::Read(Kind::Identifier)),
     ("language", Call::Read(Kind::Language)),
     ("script", Call::Read(Kind::Script)),
@@ -58,6 +60,7 @@ const CALLS: [(&str, Call); 27] = [
     ("left-to-right", Call::Likely(Likely::LeftToRight)),
     ("settled", Call::Settled),
     ("negotiate", Call::Negotiate),
+    ("negotiate-each", Call::NegotiateEach),
     ("canonicalize", Call::Canonicalize),
     ("search", Call::Search),
     ("search-transform", Call::SearchTransform),
@@ -98,6 +101,7 @@ fn answer_text(alloc: Global, world: &World, call: Call, text: &str) -> Result<S
     match call {
         Call::Settled => likely::settled(alloc, world),
         Call::Negotiate => negotiation::negotiate(alloc, world, text),
+        Call::NegotiateEach => negotiation::negotiate_each(alloc, world, text),
         Call::Canonicalize => canonical::canonicalize(alloc, world, text),
         Call::Search => canonical::search(alloc, world, false, text),
         Call::SearchTransform => canonical::search(alloc, world, true, text),
