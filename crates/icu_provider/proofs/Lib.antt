@@ -1,2 +1,5 @@
+mod Bounds
 mod Gaps
+mod OneCharacter
 mod SortedMaps
+mod StringSets

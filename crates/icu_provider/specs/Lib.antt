@@ -1,7 +1,10 @@
 pub mod Aliases
 pub mod DataError
+pub mod Exemplars
 pub mod Inserts
+pub mod InversionList
 pub mod Provider
+pub mod Requests
 pub mod ScriptDirection
 pub mod SortedMaps
 pub mod inner

@@ -1,12 +1,14 @@
-//! The data that the crates above are asked over: tables of likely subtags, of aliases and of directions, and the trait
-//! of their sources.
+//! The data that the crates above are asked over: tables of likely subtags, of aliases and of directions, sets of exemplar
+//! characters, names, and the trait of their sources.
 #![tactic(auto)]
 
 mod aliases;
 mod data_locale;
 mod direction;
 mod error;
+mod exemplars;
 mod likely;
+mod names;
 mod provider;
 mod row_list;
 mod sorted_map;
@@ -15,7 +17,9 @@ pub use aliases::{Aliases, LanguageStrStrPair, StrStrPair};
 pub use data_locale::DataLocale;
 pub use direction::ScriptDirection;
 pub use error::{DataError, DataErrorKind};
+pub use exemplars::{CharacterRanges, ExemplarCharactersData, ExemplarMarker, ExemplarStrings};
 pub use likely::{LikelySubtagsExtended, LikelySubtagsForLanguage, LikelySubtagsForScriptRegion};
+pub use names::{NameKey, NameMarker};
 pub use provider::DataProvider;
 pub use row_list::RowList;
 pub use sorted_map::{Rows, SortedMap};

@@ -1,14 +1,14 @@
 //! Where data comes from.
 
 use crate::{
-    Aliases, DataError, LikelySubtagsExtended, LikelySubtagsForLanguage,
-    LikelySubtagsForScriptRegion, ScriptDirection,
+    Aliases, DataError, DataLocale, ExemplarCharactersData, ExemplarMarker, LikelySubtagsExtended,
+    LikelySubtagsForLanguage, LikelySubtagsForScriptRegion, NameKey, NameMarker, ScriptDirection,
 };
 
 /// A source of data. Each load answers the provider's meaning at that request, at every call the same one, and lends
 /// it for the life of the provider.
 pub trait DataProvider {
-    ghost use Rattle.std.specs.Prelude.{◌≡◌, Result};
+    ghost use Rattle.std.specs.Prelude.{◌≡◌, List, ℕ, Result};
     ghost use Rattle.icu_provider.specs.Provider.{lent};
     ghost use Rattle.icu_provider.specs.declared.error.DataError.{DataError};
     ghost use Rattle.icu_provider.specs.declared.aliases.Aliases.{Aliases};
@@ -16,6 +16,11 @@ pub trait DataProvider {
     ghost use Rattle.icu_provider.specs.declared.likely.script_region.LikelySubtagsForScriptRegion.{LikelySubtagsForScriptRegion};
     ghost use Rattle.icu_provider.specs.declared.likely.extended.LikelySubtagsExtended.{LikelySubtagsExtended};
     ghost use Rattle.icu_provider.specs.declared.direction.ScriptDirection.{ScriptDirection};
+    ghost use Rattle.icu_provider.specs.declared.data_locale.DataLocale.{DataLocale};
+    ghost use Rattle.icu_provider.specs.declared.exemplars.ExemplarCharactersData.{ExemplarCharactersData};
+    ghost use Rattle.icu_provider.specs.declared.exemplars.ExemplarMarker.{ExemplarMarker};
+    ghost use Rattle.icu_provider.specs.declared.names.NameKey.{NameKey};
+    ghost use Rattle.icu_provider.specs.declared.names.NameMarker.{NameMarker};
 
     ghost likely_language: { Self → Result LikelySubtagsForLanguage DataError };
 
@@ -26,6 +31,11 @@ pub trait DataProvider {
     ghost aliases: { Self → Result Aliases DataError };
 
     ghost script_direction: { Self → Result ScriptDirection DataError };
+
+    ghost exemplars: { Self → ExemplarMarker → DataLocale
+        → Result ExemplarCharactersData DataError };
+
+    ghost name: { Self → NameMarker → DataLocale → NameKey → Result (List ℕ) DataError };
 
     /// The likely subtags by language.
     ///
@@ -66,4 +76,29 @@ pub trait DataProvider {
     /// Those of the provider.
     fn load_script_direction(&self) -> Result<&ScriptDirection, DataError>
         ensures { lent result ≡ script_direction self.now };
+
+    /// A set of exemplar characters of a locale.
+    ///
+    /// # Errors
+    ///
+    /// Those of the provider.
+    fn load_exemplars(
+        &self,
+        marker: ExemplarMarker,
+        locale: DataLocale,
+    ) -> Result<&ExemplarCharactersData, DataError>
+        ensures { lent result ≡ exemplars self.now marker locale };
+
+    /// A name in the language of a locale.
+    ///
+    /// # Errors
+    ///
+    /// Those of the provider.
+    fn load_name(
+        &self,
+        marker: NameMarker,
+        locale: DataLocale,
+        key: NameKey,
+    ) -> Result<&str, DataError>
+        ensures { lent result ≡ name self.now marker locale key };
 }

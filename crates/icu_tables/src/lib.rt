@@ -3,6 +3,7 @@
 
 mod error;
 mod json;
+mod kinds;
 mod tables;
 
 pub use error::TableError;

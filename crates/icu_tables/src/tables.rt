@@ -1,10 +1,15 @@
 //! Tables in memory, and the provider that they are.
-ghost use Rattle.std.specs.Prelude.{◌≡◌, Some, None};
-ghost use Rattle.icu_tables.specs.Tables.{held};
+ghost use Rattle.std.specs.Prelude.{◌≡◌, [], Some, None, option_copied};
+ghost use Rattle.icu_locale_core.specs.Maps.{value_at};
+ghost use Rattle.icu_provider.specs.Inserts.{Inserts};
+ghost use Rattle.icu_provider.specs.Requests.{exemplar_cmp, name_cmp};
+ghost use Rattle.icu_tables.specs.Tables.{held, name_in};
 
+use crate::kinds::is_of_kind;
 use icu_provider::{
-    Aliases, DataError, DataErrorKind, DataProvider, LikelySubtagsExtended,
-    LikelySubtagsForLanguage, LikelySubtagsForScriptRegion, ScriptDirection,
+    Aliases, DataError, DataErrorKind, DataLocale, DataProvider, ExemplarCharactersData,
+    ExemplarMarker, LikelySubtagsExtended, LikelySubtagsForLanguage, LikelySubtagsForScriptRegion,
+    NameKey, NameMarker, ScriptDirection, SortedMap,
 };
 use std::alloc::Global;
 
@@ -21,6 +26,10 @@ pub struct Tables {
     pub aliases: Option<Aliases>,
     /// Which way scripts run, if it is held.
     pub script_direction: Option<ScriptDirection>,
+    /// The sets of exemplar characters, by marker and locale.
+    pub exemplars: SortedMap<(ExemplarMarker, DataLocale), ExemplarCharactersData>,
+    /// The names, by marker, locale and key.
+    pub names: SortedMap<(NameMarker, DataLocale, NameKey), String>,
 }
 
 impl Drop for Tables {
@@ -31,6 +40,8 @@ impl Drop for Tables {
             likely_extended: _,
             aliases: _,
             script_direction: _,
+            exemplars: _,
+            names: _,
         } = self;
     }
 }
@@ -44,15 +55,18 @@ impl Tables {
           likely_extended = None;
           aliases = None;
           script_direction = None;
+          exemplars = [];
+          names = [];
         } }
     {
-        let _ = alloc;
         Tables {
             likely_language: None,
             likely_script_region: None,
             likely_extended: None,
             aliases: None,
             script_direction: None,
+            exemplars: SortedMap::new(alloc),
+            names: SortedMap::new(alloc),
         }
     }
 
@@ -91,6 +105,54 @@ impl Tables {
     {
         self.script_direction = Some(table);
     }
+
+    /// Sets the exemplar characters of a marker and a locale. A set that is there gives way, and no
+    /// memory is taken.
+    ///
+    /// # Errors
+    ///
+    /// `Memory`, only where the list of sets had to grow and could not: the tables are unchanged
+    /// then.
+    pub fn insert_exemplars(
+        &mut self,
+        marker: ExemplarMarker,
+        locale: DataLocale,
+        set: ExemplarCharactersData,
+    ) -> Result<(), DataError>
+        ensures tables { self.new ≡ record self.old { exemplars = self.new.exemplars } }
+        ensures insert { Inserts exemplar_cmp self.old.exemplars self.new.exemplars
+            (marker, locale) set result }
+    {
+        self.exemplars.insert((marker, locale), set)
+    }
+
+    /// Sets the name of a marker, a locale and a key. A name that is there gives way, and no memory
+    /// is taken. A key of another kind than its marker is kept, and no load finds it.
+    ///
+    /// # Errors
+    ///
+    /// `Memory`, only where the list of names had to grow and could not: the tables are unchanged
+    /// then.
+    pub fn insert_name(
+        &mut self,
+        marker: NameMarker,
+        locale: DataLocale,
+        key: NameKey,
+        name: String,
+    ) -> Result<(), DataError>
+        ensures tables { self.new ≡ record self.old { names = self.new.names } }
+        ensures insert { Inserts name_cmp self.old.names self.new.names
+            (marker, locale, key) name result }
+    {
+        self.names.insert((marker, locale, key), name)
+    }
+
+    // The name of a request, of any kind.
+    fn name_at(&self, marker: NameMarker, locale: DataLocale, key: NameKey) -> Option<&String>
+        ensures { option_copied result ≡ value_at name_cmp self.now.names (marker, locale, key) }
+    {
+        self.names.get(&(marker, locale, key))
+    }
 }
 
 const NOT_FOUND: DataError = DataError {
@@ -107,6 +169,11 @@ impl DataProvider for Tables {
     ghost aliases = { λ t. held t.aliases };
 
     ghost script_direction = { λ t. held t.script_direction };
+
+    ghost exemplars = { λ t marker locale.
+        held (value_at exemplar_cmp t.exemplars (marker, locale)) };
+
+    ghost name = { λ t marker locale key. held (name_in t.names marker locale key) };
 
     fn load_likely_language(&self) -> Result<&LikelySubtagsForLanguage, DataError> {
         self.likely_language.as_ref().ok_or(NOT_FOUND)
@@ -126,5 +193,28 @@ impl DataProvider for Tables {
 
     fn load_script_direction(&self) -> Result<&ScriptDirection, DataError> {
         self.script_direction.as_ref().ok_or(NOT_FOUND)
+    }
+
+    fn load_exemplars(
+        &self,
+        marker: ExemplarMarker,
+        locale: DataLocale,
+    ) -> Result<&ExemplarCharactersData, DataError> {
+        self.exemplars.get(&(marker, locale)).ok_or(NOT_FOUND)
+    }
+
+    fn load_name(
+        &self,
+        marker: NameMarker,
+        locale: DataLocale,
+        key: NameKey,
+    ) -> Result<&str, DataError> {
+        if !is_of_kind(marker, &key) {
+            return Err(NOT_FOUND);
+        }
+        match self.name_at(marker, locale, key) {
+            Some(name) => Ok(name.as_str()),
+            None => Err(NOT_FOUND),
+        }
     }
 }

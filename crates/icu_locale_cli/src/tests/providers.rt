@@ -1,13 +1,16 @@
 //! Providers that refuse a load.
 ghost use Rattle.std.specs.Prelude.{Err};
 ghost use Rattle.std.specs.Option.{option_map, unwrap_or};
-ghost use Rattle.icu_tables.specs.Tables.{held};
+ghost use Rattle.icu_locale_core.specs.Maps.{value_at};
+ghost use Rattle.icu_provider.specs.Requests.{exemplar_cmp};
+ghost use Rattle.icu_tables.specs.Tables.{held, name_in};
 
 use crate::sample::sample;
 use icu_locale::{LocaleCanonicalizer, LocaleDirectionality, LocaleExpander};
 use icu_provider::{
-    Aliases, DataError, DataErrorKind, DataProvider, LikelySubtagsExtended,
-    LikelySubtagsForLanguage, LikelySubtagsForScriptRegion, ScriptDirection,
+    Aliases, DataError, DataErrorKind, DataLocale, DataProvider, ExemplarCharactersData,
+    ExemplarMarker, LikelySubtagsExtended, LikelySubtagsForLanguage, LikelySubtagsForScriptRegion,
+    NameKey, NameMarker, ScriptDirection,
 };
 use icu_tables::Tables;
 use std::alloc::Global;
@@ -23,6 +26,8 @@ struct Refusing<'t> {
     extended: Option<DataError>,
     aliases: Option<DataError>,
     directions: Option<DataError>,
+    exemplars: Option<DataError>,
+    names: Option<DataError>,
 }
 
 impl DataProvider for Refusing<'_> {
@@ -35,6 +40,12 @@ impl DataProvider for Refusing<'_> {
     ghost aliases = { λ p. unwrap_or (option_map (λ e. Err e) p.aliases) (held p.tables.now.aliases) };
 
     ghost script_direction = { λ p. unwrap_or (option_map (λ e. Err e) p.directions) (held p.tables.now.script_direction) };
+
+    ghost exemplars = { λ p marker locale. unwrap_or (option_map (λ e. Err e) p.exemplars)
+        (held (value_at exemplar_cmp p.tables.now.exemplars (marker, locale))) };
+
+    ghost name = { λ p marker locale key. unwrap_or (option_map (λ e. Err e) p.names)
+        (held (name_in p.tables.now.names marker locale key)) };
 
     fn load_likely_language(&self) -> Result<&LikelySubtagsForLanguage, DataError> {
         match self.language {
@@ -70,6 +81,29 @@ impl DataProvider for Refusing<'_> {
             None => self.tables.load_script_direction(),
         }
     }
+
+    fn load_exemplars(
+        &self,
+        marker: ExemplarMarker,
+        locale: DataLocale,
+    ) -> Result<&ExemplarCharactersData, DataError> {
+        match self.exemplars {
+            Some(refusal) => Err(refusal),
+            None => self.tables.load_exemplars(marker, locale),
+        }
+    }
+
+    fn load_name(
+        &self,
+        marker: NameMarker,
+        locale: DataLocale,
+        key: NameKey,
+    ) -> Result<&str, DataError> {
+        match self.names {
+            Some(refusal) => Err(refusal),
+            None => self.tables.load_name(marker, locale, key),
+        }
+    }
 }
 
 const KINDS: [DataErrorKind; 6] = [
@@ -89,6 +123,8 @@ fn willing(tables: &Tables) -> Refusing<'_> {
         extended: None,
         aliases: None,
         directions: None,
+        exemplars: None,
+        names: None,
     }
 }
 

@@ -1,0 +1,24 @@
+-- Inversion lists: sets of characters as bounds.
+use Rattle.std.specs.Prelude.{◌≡◌, ℕ, ◌≤◌, ◌%◌, Bool, ◌&&◌, nat_le, nat_lt, length}
+use Rattle.std.specs.Prelude.{List, [], ◌∷◌}
+use Rattle.std.specs.List.{All, list_any}
+use Rattle.std.specs.List.Sorted.{IsStrictlyIncreasing}
+
+-- an inversion list: bounds that rise, two by two, none above 0x110000
+pub record IsInversionList (bounds : List ℕ) : Type 0 where
+  pub rises : IsStrictlyIncreasing bounds
+  pub even : length bounds % 2 ≡ 0
+  pub limited : All (λ bound. bound ≤ 1114112) bounds
+
+-- the bounds two by two
+abbrev pub pairs : List ℕ → List (ℕ × ℕ)
+pairs (first ∷ second ∷ bounds) = (first, second) ∷ pairs bounds
+pairs _ = []
+
+-- a character lies in a pair: the first bound is in, and the second is not
+abbrev pub is_within : ℕ → ℕ × ℕ → Bool
+is_within character pair = nat_le pair.0 character && nat_lt character pair.1
+
+-- some pair has the character
+abbrev pub has_character : List ℕ → ℕ → Bool
+has_character bounds character = list_any (is_within character) (pairs bounds)

@@ -1,0 +1,54 @@
+//! Requests for names of languages, scripts, regions and variants.
+
+use icu_locale_core::{Language, Region, Script, Variant};
+
+/// A kind of names: whose name it is, how long it may be, and how common a locale's use of it is. A light kind holds
+/// the names that a tiny one leaves out, and a heavy kind those that a light one leaves out.
+#[derive(Clone, Copy, Debug, PartialEq, Eq, PartialOrd, Ord)]
+pub enum NameMarker {
+    /// Names of regions of medium length, the most asked ones.
+    RegionMediumTiny,
+    /// Names of regions of medium length.
+    RegionMediumLight,
+    /// Short names of regions, the most asked ones.
+    RegionShortTiny,
+    /// Short names of regions.
+    RegionShortLight,
+    /// Names of languages of medium length, the most asked ones.
+    LanguageMediumTiny,
+    /// Names of languages of medium length.
+    LanguageMediumLight,
+    /// Names of languages of medium length, the rare ones too.
+    LanguageMediumHeavy,
+    /// Short names of languages.
+    LanguageShortLight,
+    /// Short names of languages, the rare ones too.
+    LanguageShortHeavy,
+    /// Long names of languages.
+    LanguageLongLight,
+    /// Long names of languages, the rare ones too.
+    LanguageLongHeavy,
+    /// Names of scripts of medium length, the most asked ones.
+    ScriptMediumTiny,
+    /// Names of scripts of medium length.
+    ScriptMediumLight,
+    /// Names of scripts of medium length, the rare ones too.
+    ScriptMediumHeavy,
+    /// Short names of scripts, the rare ones too.
+    ScriptShortHeavy,
+    /// Names of variants.
+    VariantMediumHeavy,
+}
+
+/// Whose name is asked for.
+#[derive(Clone, Copy, Debug, PartialEq, Eq, PartialOrd, Ord)]
+pub enum NameKey {
+    /// A language, with a script if any and a region if any, as in a dialect's name.
+    Language(Language, Option<Script>, Option<Region>),
+    /// A script.
+    Script(Script),
+    /// A region.
+    Region(Region),
+    /// A variant.
+    Variant(Variant),
+}
