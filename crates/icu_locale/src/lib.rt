@@ -4,6 +4,7 @@
 mod as_expander;
 mod canonicalizer;
 mod directionality;
+pub mod exemplar_chars;
 mod expander;
 pub mod laws;
 mod negotiator;
