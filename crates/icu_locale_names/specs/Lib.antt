@@ -1,0 +1,4 @@
+pub mod Chains
+pub mod FirstHit
+pub mod Names
+pub mod inner

@@ -1,0 +1,20 @@
+-- Names of one subtag, and what stands for one that is not given.
+use Rattle.std.specs.Prelude.{ℕ, List, Result, Ok, Err}
+use Rattle.icu_provider.specs.declared.data_locale.DataLocale.{DataLocale}
+use Rattle.icu_provider.specs.declared.error.DataError.{DataError}
+use Rattle.icu_provider.specs.declared.names.NameKey.{NameKey}
+use Rattle.icu_provider.specs.declared.names.NameMarker.{NameMarker}
+use Rattle.icu_locale_names.specs.FirstHit.{first_hit}
+
+-- what a provider answers to a marker, a locale and a key
+abbrev pub Answers : Type 0
+Answers = NameMarker → DataLocale → NameKey → Result (List ℕ) DataError
+
+-- the name of a key in the language of a locale, by the first marker of a chain that has one
+abbrev pub name_by : Answers → DataLocale → NameKey → List NameMarker → Result (List ℕ) DataError
+name_by answers locale key chain = first_hit (λ marker. answers marker locale key) chain
+
+-- a name, and the raw subtag on any error
+abbrev pub or_raw : Result (List ℕ) DataError → List ℕ → List ℕ
+or_raw (Ok name) raw = name
+or_raw (Err refusal) raw = raw

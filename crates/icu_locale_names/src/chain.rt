@@ -1,0 +1,38 @@
+//! Chains of kinds of names, asked in order.
+ghost use Rattle.std.specs.Prelude.{◌≡◌};
+ghost use Rattle.icu_locale_names.specs.FirstHit.{is_missing};
+ghost use Rattle.icu_locale_names.specs.Names.{name_by};
+ghost use Rattle.icu_provider.specs.Provider.{lent};
+
+use icu_provider::{DataError, DataErrorKind, DataLocale, DataProvider, NameKey, NameMarker};
+
+// The first answer of the chain other than `IdentifierNotFound`.
+pub(crate) fn first_name<'d, P: DataProvider>(
+    provider: &'d P,
+    chain: &[NameMarker],
+    locale: &DataLocale,
+    key: &NameKey,
+) -> Result<&'d str, DataError>
+    ensures { lent result ≡ name_by (P.name provider.now) locale.now key.now chain.now }
+{
+    for marker in chain {
+        match provider.load_name(*marker, *locale, *key) {
+            Ok(name) => return Ok(name),
+            Err(refusal) => {
+                if !is_missing(refusal) {
+                    return Err(refusal);
+                }
+            }
+        }
+    }
+    Err(DataError {
+        kind: DataErrorKind::IdentifierNotFound,
+    })
+}
+
+// Whether there is no data for a request.
+fn is_missing(refusal: DataError) -> bool
+    ensures { result ≡ is_missing refusal.kind }
+{
+    matches!(refusal.kind, DataErrorKind::IdentifierNotFound)
+}
