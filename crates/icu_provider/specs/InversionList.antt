@@ -1,5 +1,6 @@
 -- Inversion lists: sets of characters as bounds.
-use Rattle.std.specs.Prelude.{◌≡◌, ℕ, ◌≤◌, ◌%◌, Bool, ◌&&◌, nat_le, nat_lt, length}
+use Rattle.std.specs.Prelude.{◌≡◌, ℕ, ◌+◌, ◌≤◌, ◌%◌, ◌==◌, Bool, true}
+use Rattle.std.specs.Prelude.{◌&&◌, nat_le, nat_lt, length}
 use Rattle.std.specs.Prelude.{List, [], ◌∷◌}
 use Rattle.std.specs.List.{All, list_any}
 use Rattle.std.specs.List.Sorted.{IsStrictlyIncreasing}
@@ -9,6 +10,16 @@ pub record IsInversionList (bounds : List ℕ) : Type 0 where
   pub rises : IsStrictlyIncreasing bounds
   pub even : length bounds % 2 ≡ 0
   pub limited : All (λ bound. bound ≤ 1114112) bounds
+
+-- bounds that rise from this one on, none above 0x110000
+abbrev pub rise_from : ℕ → List ℕ → Bool
+rise_from least [] = true
+rise_from least (bound ∷ bounds) =
+    nat_le least bound && nat_le bound 1114112 && rise_from (bound + 1) bounds
+
+-- the test of an inversion list
+abbrev pub is_inversion_list : List ℕ → Bool
+is_inversion_list bounds = rise_from 0 bounds && length bounds % 2 == 0
 
 -- the bounds two by two
 abbrev pub pairs : List ℕ → List (ℕ × ℕ)

@@ -8,3 +8,4 @@ pub mod Requests
 pub mod ScriptDirection
 pub mod SortedMaps
 pub mod inner
+pub mod laws

@@ -38,7 +38,7 @@ script_region_seen-same table = λ i. record { script_region = seen_rows-same ta
 extended_seen-same : (table : LikelySubtagsExtended) → extended_seen table ≡ table
 extended_seen-same table = λ i. record { language = seen_rows-same table.language i; language_script = seen_rows-same table.language_script i; language_region = seen_rows-same table.language_region i; script_region = seen_rows-same table.script_region i; script = seen_rows-same table.script i; region = seen_rows-same table.region i }
 
-map-same : {T : Type 0} (xs : List T) → map (λ x. x) xs ≡ xs
+pub map-same : {T : Type 0} (xs : List T) → map (λ x. x) xs ≡ xs
 map-same [] = refl
 map-same (x ∷ xs) = ap (λ more. x ∷ more) (map-same xs)
 
@@ -76,6 +76,8 @@ file_seen-is tables = λ i. record {
   likely_extended = option_map-same extended_seen extended_seen-same tables.likely_extended i;
   aliases = option_map-seen alias_seen alias_rows alias_seen-same tables.aliases i;
   direction = option_map direction_rows tables.script_direction;
+  exemplars = seen_rows-same tables.exemplars i;
+  names = seen_rows string_bytes tables.names;
 }
 
 -- what was read of the value of a text are the rows of the text

@@ -2,6 +2,10 @@ pub mod Fields
 pub mod File
 pub mod KeyLaws
 pub mod Keys
+pub mod NamedRows
+pub mod Names
+pub mod Numbers
+pub mod Puts
 pub mod Reads
 pub mod Rows
 pub mod Shape

@@ -6,6 +6,8 @@ use Rattle.icu_provider.specs.declared.aliases.Aliases.{Aliases}
 use Rattle.icu_provider.specs.declared.likely.extended.LikelySubtagsExtended.{LikelySubtagsExtended}
 use Rattle.icu_provider.specs.declared.likely.language.LikelySubtagsForLanguage.{LikelySubtagsForLanguage}
 use Rattle.icu_provider.specs.declared.likely.script_region.LikelySubtagsForScriptRegion.{LikelySubtagsForScriptRegion}
+use Rattle.std.specs.declared.cmp.Ordering.{Ordering}
+use Rattle.icu_tables.specs.Puts.{put_all}
 use Rattle.icu_tables.specs.Rows.{AliasRows, FileRows, seen_rows}
 use Rattle.icu_tables.specs.Rows.{rule, variants_rule, direction_rows}
 use Rattle.icu_tables.specs.declared.error.TableError.{TableError}
@@ -27,6 +29,11 @@ Reads seen (Err e) said = Refuses e said
 abbrev pub Fills : {A : Type 0} → Result (Unit {0}) TableError → A → Option A → Type 0
 Fills (Ok done) new said = said ≡ Some new
 Fills (Err e) new said = Refuses e said
+
+-- rows are put into a map, or what says them is refused
+abbrev pub Puts : {K V : Type 0} → (K → K → Ordering) → Result (Unit {0}) TableError
+    → (old new : List (K × V)) → Option (List (K × V)) → Type 0
+Puts compare result old new said = Fills result new (option_map (put_all compare old) said)
 
 -- a test holds, or it fails and the refusal is `Shape`
 abbrev pub Accepts : Result (Unit {0}) TableError → Bool → Type 0
@@ -85,4 +92,6 @@ file_seen tables = record {
   likely_extended = option_map extended_seen tables.likely_extended;
   aliases = option_map alias_seen tables.aliases;
   direction = option_map direction_rows tables.script_direction;
+  exemplars = seen_rows (λ v. v) tables.exemplars;
+  names = seen_rows string_bytes tables.names;
 }

@@ -4,10 +4,15 @@ use Rattle.std.specs.Map.{keys_of}
 use Rattle.icu_provider.specs.declared.aliases.Aliases.{Aliases}
 use Rattle.icu_provider.specs.declared.aliases.LanguageStrStrPair.{LanguageStrStrPair}
 use Rattle.icu_provider.specs.declared.aliases.StrStrPair.{StrStrPair}
+use Rattle.icu_provider.specs.declared.data_locale.DataLocale.{DataLocale}
 use Rattle.icu_provider.specs.declared.direction.ScriptDirection.{ScriptDirection}
+use Rattle.icu_provider.specs.declared.exemplars.ExemplarCharactersData.{ExemplarCharactersData}
+use Rattle.icu_provider.specs.declared.exemplars.ExemplarMarker.{ExemplarMarker}
 use Rattle.icu_provider.specs.declared.likely.extended.LikelySubtagsExtended.{LikelySubtagsExtended}
 use Rattle.icu_provider.specs.declared.likely.language.LikelySubtagsForLanguage.{LikelySubtagsForLanguage}
 use Rattle.icu_provider.specs.declared.likely.script_region.LikelySubtagsForScriptRegion.{LikelySubtagsForScriptRegion}
+use Rattle.icu_provider.specs.declared.names.NameKey.{NameKey}
+use Rattle.icu_provider.specs.declared.names.NameMarker.{NameMarker}
 use Rattle.icu_tables.specs.declared.tables.Tables.{Tables}
 
 -- rows of aliases
@@ -36,6 +41,8 @@ pub record FileRows : Type 0 where
   pub likely_extended : Option LikelySubtagsExtended
   pub aliases : Option AliasRows
   pub direction : Option DirectionRows
+  pub exemplars : List ((ExemplarMarker × DataLocale) × ExemplarCharactersData)
+  pub names : List ((NameMarker × DataLocale × NameKey) × List ℕ)
 
 -- rows with what is seen of their values
 abbrev pub seen_rows : {K V W : Type 0} → (V → W) → List (K × V) → List (K × W)
@@ -77,4 +84,6 @@ rows_of tables = record {
   likely_extended = tables.likely_extended;
   aliases = option_map alias_rows tables.aliases;
   direction = option_map direction_rows tables.script_direction;
+  exemplars = tables.exemplars;
+  names = seen_rows string_bytes tables.names;
 }

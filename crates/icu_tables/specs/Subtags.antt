@@ -1,5 +1,6 @@
 -- Subtags in JSON: as values in any case, as keys in written form alone.
-use Rattle.std.specs.Prelude.{ℕ, Bool, ◌==◌, List, length, nat_eq, nat_lt, if◌then◌else◌}
+use Rattle.std.specs.Prelude.{ℕ, Bool, ◌==◌, List, length, nat_eq, nat_lt}
+use Rattle.std.specs.Prelude.{if◌then◌else◌}
 use Rattle.std.specs.Prelude.{Option, Some, None, option_and_then}
 use Rattle.std.specs.Cmp.Lexicographic.{pointwise}
 use Rattle.std.specs.List.{position_or_len, before_first, after_first}

@@ -8,14 +8,21 @@ ghost use Rattle.serde_json.specs.View.{view};
 mod aliases;
 mod arrays;
 mod direction;
+mod exemplars;
 mod keys;
 mod likely;
+mod locales;
 mod maps;
+mod members;
+mod names;
 mod objects;
 mod subtags;
 mod texts;
 mod values;
 
+use crate::json::exemplars::MarkedExemplars;
+use crate::json::members::fill_by;
+use crate::json::names::MarkedNames;
 use crate::json::objects::{fill, only_members};
 use crate::json::values::FromValue;
 use crate::{TableError, Tables};
@@ -24,12 +31,13 @@ use std::alloc::Global;
 
 impl Tables {
     /// The tables of a JSON text: an object with the members `likely_language`,
-    /// `likely_script_region`, `likely_extended`, `aliases` and `direction`, any of which may be
-    /// left out. A table that is left out is not held, and a map that is left out has no rows.
-    /// `specs/File.antt` says what stands in each.
+    /// `likely_script_region`, `likely_extended`, `aliases`, `direction`, `exemplars` and `names`,
+    /// any of which may be left out. A table that is left out is not held, and a map that is left
+    /// out has no rows. `specs/File.antt` says what stands in each.
     ///
     /// Values are read in any case. A key is one subtag in its written form, or two with one `-`
-    /// between them; a row whose key is not of this form is skipped.
+    /// between them, or a locale: a language, with a script if any and a region if any. A row whose
+    /// key is not of this form is skipped.
     ///
     /// # Errors
     ///
@@ -82,6 +90,8 @@ impl FromValue for Tables {
                 "likely_extended",
                 "aliases",
                 "direction",
+                "exemplars",
+                "names",
             ],
         )?;
         let mut tables = Tables::new(alloc);
@@ -95,6 +105,14 @@ impl FromValue for Tables {
         fill(alloc, value, "likely_extended", &mut tables.likely_extended)?;
         fill(alloc, value, "aliases", &mut tables.aliases)?;
         fill(alloc, value, "direction", &mut tables.script_direction)?;
+        fill_by(
+            alloc,
+            value,
+            "exemplars",
+            &MarkedExemplars,
+            &mut tables.exemplars,
+        )?;
+        fill_by(alloc, value, "names", &MarkedNames, &mut tables.names)?;
         Ok(tables)
     }
 }

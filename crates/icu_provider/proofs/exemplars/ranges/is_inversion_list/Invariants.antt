@@ -1,5 +1,5 @@
 use Rattle.std.proofs.Common.{◌≡◌, drop}
-use Rattle.icu_provider.specs.inner.Bounds.{rise_from}
+use Rattle.icu_provider.specs.InversionList.{rise_from}
 use Rattle.icu_provider.proofs.exemplars.ranges.is_inversion_list.Given as goal
 
 -- what is left decides

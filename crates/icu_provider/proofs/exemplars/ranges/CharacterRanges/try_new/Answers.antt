@@ -1,7 +1,7 @@
 use Rattle.std.proofs.Common.{refl, sym, ap, ◌∙◌}
 use Rattle.std.proofs.lemmas.Bool.{false≢true}
-use Rattle.icu_provider.specs.inner.Bounds.{is_inversion_list}
-use Rattle.icu_provider.proofs.Bounds.{IsInversionList-from_test, test_from_IsInversionList}
+use Rattle.icu_provider.specs.InversionList.{is_inversion_list}
+use Rattle.icu_provider.specs.laws.InversionLists.{IsInversionList-from_test, test_from_IsInversionList}
 use Rattle.icu_provider.proofs.exemplars.ranges.CharacterRanges.try_new.Goals as goal
 
 pub invariant_of-result : goal.invariant_of-result

@@ -1,0 +1,90 @@
+//! Objects whose members put rows into a map, one after another.
+ghost use Rattle.std.specs.Prelude.{◌≡◌, [], Some, IfErr, is_ok};
+ghost use Rattle.serde_json.specs.Find.{get};
+ghost use Rattle.serde_json.specs.View.{view};
+ghost use Rattle.icu_tables.specs.Fields.{said_or};
+ghost use Rattle.icu_tables.specs.Puts.{map_by, rows_by};
+ghost use Rattle.icu_tables.specs.Reads.{Fills, Puts};
+ghost use Rattle.icu_tables.specs.Rows.{seen_rows};
+
+use crate::TableError;
+use icu_provider::{DataError, SortedMap};
+use serde_json::Value;
+use std::alloc::Global;
+use std::cmp::Ord;
+
+// How a member puts its rows into a map.
+pub(crate) trait PutsRows<K: Ord, V> {
+    ghost use Rattle.std.specs.Prelude.{List, ℕ};
+    ghost use Rattle.serde_json.specs.View.{view};
+    ghost use Rattle.icu_tables.specs.Reads.{Puts};
+    ghost use Rattle.icu_tables.specs.Rows.{seen_rows};
+    ghost use Rattle.icu_tables.specs.Shape.{Shape};
+
+    // What a contract sees of what a row holds.
+    ghost Seen: { Type 0 };
+
+    ghost seen: { V → Self.Seen };
+
+    // The rows of a member, by its name and value.
+    ghost says: { Self → List ℕ → Shape (List (K × Self.Seen)) };
+
+    fn put(
+        &self,
+        alloc: Global,
+        name: &str,
+        value: &Value,
+        map: &mut SortedMap<K, V>,
+    ) -> Result<(), TableError>
+        ensures { Puts K.cmp result (seen_rows Self.seen map.old) (seen_rows Self.seen map.new)
+            (Self.says self.now name.now (view value.now)) };
+}
+
+// Puts the rows of each member.
+pub(crate) fn put_members<K: Ord, V, P: PutsRows<K, V>>(
+    alloc: Global,
+    value: &Value,
+    how: &P,
+    map: &mut SortedMap<K, V>,
+) -> Result<(), TableError>
+    ensures { Puts K.cmp result (seen_rows P.seen map.old) (seen_rows P.seen map.new)
+        (rows_by (P.says how.now) (view value.now)) }
+{
+    let Some(members) = value.as_object() else {
+        return Err(TableError::Shape);
+    };
+    for (name, member) in members.iter() {
+        how.put(alloc, name.as_str(), member, map)?;
+    }
+    Ok(())
+}
+
+// Puts what a member says, if it is there, into a map without rows.
+pub(crate) fn fill_by<K: Ord, V, P: PutsRows<K, V>>(
+    alloc: Global,
+    object: &Value,
+    name: &str,
+    how: &P,
+    map: &mut SortedMap<K, V>,
+) -> Result<(), TableError>
+    requires { map.old ≡ [] }
+    ensures { let found = get name.now (view object.now) in
+        Fills result (seen_rows P.seen map.new)
+        (said_or (Some []) (map_by K.cmp (P.says how.now)) found) }
+{
+    match object.get(name) {
+        Some(value) => put_members(alloc, value, how, map),
+        None => Ok(()),
+    }
+}
+
+// An insert is refused by want of memory alone.
+pub(crate) fn in_memory(inserted: Result<(), DataError>) -> Result<(), TableError>
+    ensures done { is_ok result ≡ is_ok inserted }
+    ensures refused { IfErr result (λ e. e ≡ TableError.Memory) }
+{
+    match inserted {
+        Ok(()) => Ok(()),
+        Err(_) => Err(TableError::Memory),
+    }
+}
