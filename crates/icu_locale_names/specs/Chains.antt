@@ -1,14 +1,8 @@
 -- The chains of kinds of names, as the documentation's table has them.
 use Rattle.std.specs.Prelude.{List, [], ◌∷◌}
 use Rattle.icu_provider.specs.declared.names.NameMarker.{NameMarker}
-use Rattle.icu_provider.specs.declared.names.NameMarker.TheVariants.{RegionMediumTiny}
-use Rattle.icu_provider.specs.declared.names.NameMarker.TheVariants.{RegionShortTiny}
-use Rattle.icu_provider.specs.declared.names.NameMarker.TheVariants.{RegionMediumLight}
-use Rattle.icu_provider.specs.declared.names.NameMarker.TheVariants.{RegionShortLight}
-use Rattle.icu_provider.specs.declared.names.NameMarker.TheVariants.{ScriptMediumTiny}
-use Rattle.icu_provider.specs.declared.names.NameMarker.TheVariants.{ScriptMediumLight}
-use Rattle.icu_provider.specs.declared.names.NameMarker.TheVariants.{ScriptMediumHeavy}
-use Rattle.icu_provider.specs.declared.names.NameMarker.TheVariants.{ScriptShortHeavy}
+use Rattle.icu_provider.specs.declared.names.NameMarker.TheVariants.{RegionMediumTiny, RegionShortTiny, RegionMediumLight, RegionShortLight}
+use Rattle.icu_provider.specs.declared.names.NameMarker.TheVariants.{ScriptMediumTiny, ScriptMediumLight, ScriptMediumHeavy, ScriptShortHeavy}
 use Rattle.icu_provider.specs.declared.names.NameMarker.TheVariants.{VariantMediumHeavy}
 
 -- names of regions
@@ -22,7 +16,8 @@ abbrev pub region_light : List NameMarker
 region_light = RegionMediumLight ∷ RegionMediumTiny ∷ []
 
 abbrev pub region_short_light : List NameMarker
-region_short_light = RegionShortLight ∷ RegionShortTiny ∷ RegionMediumLight ∷ RegionMediumTiny ∷ []
+region_short_light =
+    RegionShortLight ∷ RegionShortTiny ∷ RegionMediumLight ∷ RegionMediumTiny ∷ []
 
 -- names of scripts
 abbrev pub script_tiny : List NameMarker
@@ -35,7 +30,8 @@ abbrev pub script_heavy : List NameMarker
 script_heavy = ScriptMediumHeavy ∷ ScriptMediumLight ∷ ScriptMediumTiny ∷ []
 
 abbrev pub script_short_heavy : List NameMarker
-script_short_heavy = ScriptShortHeavy ∷ ScriptMediumHeavy ∷ ScriptMediumLight ∷ ScriptMediumTiny ∷ []
+script_short_heavy =
+    ScriptShortHeavy ∷ ScriptMediumHeavy ∷ ScriptMediumLight ∷ ScriptMediumTiny ∷ []
 
 -- names of variants
 abbrev pub variant_heavy : List NameMarker

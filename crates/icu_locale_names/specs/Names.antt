@@ -11,7 +11,8 @@ abbrev pub Answers : Type 0
 Answers = NameMarker → DataLocale → NameKey → Result (List ℕ) DataError
 
 -- the name of a key in the language of a locale, by the first marker of a chain that has one
-abbrev pub name_by : Answers → DataLocale → NameKey → List NameMarker → Result (List ℕ) DataError
+abbrev pub name_by : Answers → DataLocale → NameKey → List NameMarker
+    → Result (List ℕ) DataError
 name_by answers locale key chain = first_hit (λ marker. answers marker locale key) chain
 
 -- a name, and the raw subtag on any error

@@ -50,8 +50,8 @@ impl<'d> RegionDisplayName<'d> {
         preferences: DisplayNamesPreferences,
         region: Region,
     ) -> Result<Self, DataError>
-        ensures { result
-            ≡ name_by (P.name provider.now) preferences.locale (NameKey.Region region) region_tiny }
+        ensures { result ≡ name_by (P.name provider.now) preferences.locale
+            (NameKey.Region region) region_tiny }
     {
         Self::first(provider, &TINY, preferences, region)
     }
@@ -62,8 +62,8 @@ impl<'d> RegionDisplayName<'d> {
         preferences: DisplayNamesPreferences,
         region: Region,
     ) -> Self
-        ensures { result ≡ or_raw
-            (name_by (P.name provider.now) preferences.locale (NameKey.Region region) region_tiny) region }
+        ensures { result ≡ or_raw (name_by (P.name provider.now) preferences.locale
+            (NameKey.Region region) region_tiny) region }
     {
         Self::first_or_raw(provider, &TINY, preferences, region)
     }
@@ -78,8 +78,8 @@ impl<'d> RegionDisplayName<'d> {
         preferences: DisplayNamesPreferences,
         region: Region,
     ) -> Result<Self, DataError>
-        ensures { result
-            ≡ name_by (P.name provider.now) preferences.locale (NameKey.Region region) region_short_tiny }
+        ensures { result ≡ name_by (P.name provider.now) preferences.locale
+            (NameKey.Region region) region_short_tiny }
     {
         Self::first(provider, &SHORT_TINY, preferences, region)
     }
@@ -90,8 +90,8 @@ impl<'d> RegionDisplayName<'d> {
         preferences: DisplayNamesPreferences,
         region: Region,
     ) -> Self
-        ensures { result ≡ or_raw
-            (name_by (P.name provider.now) preferences.locale (NameKey.Region region) region_short_tiny) region }
+        ensures { result ≡ or_raw (name_by (P.name provider.now) preferences.locale
+            (NameKey.Region region) region_short_tiny) region }
     {
         Self::first_or_raw(provider, &SHORT_TINY, preferences, region)
     }
@@ -106,8 +106,8 @@ impl<'d> RegionDisplayName<'d> {
         preferences: DisplayNamesPreferences,
         region: Region,
     ) -> Result<Self, DataError>
-        ensures { result
-            ≡ name_by (P.name provider.now) preferences.locale (NameKey.Region region) region_light }
+        ensures { result ≡ name_by (P.name provider.now) preferences.locale
+            (NameKey.Region region) region_light }
     {
         Self::first(provider, &LIGHT, preferences, region)
     }
@@ -118,8 +118,8 @@ impl<'d> RegionDisplayName<'d> {
         preferences: DisplayNamesPreferences,
         region: Region,
     ) -> Self
-        ensures { result ≡ or_raw
-            (name_by (P.name provider.now) preferences.locale (NameKey.Region region) region_light) region }
+        ensures { result ≡ or_raw (name_by (P.name provider.now) preferences.locale
+            (NameKey.Region region) region_light) region }
     {
         Self::first_or_raw(provider, &LIGHT, preferences, region)
     }
@@ -134,8 +134,8 @@ impl<'d> RegionDisplayName<'d> {
         preferences: DisplayNamesPreferences,
         region: Region,
     ) -> Result<Self, DataError>
-        ensures { result
-            ≡ name_by (P.name provider.now) preferences.locale (NameKey.Region region) region_short_light }
+        ensures { result ≡ name_by (P.name provider.now) preferences.locale
+            (NameKey.Region region) region_short_light }
     {
         Self::first(provider, &SHORT_LIGHT, preferences, region)
     }
@@ -146,8 +146,8 @@ impl<'d> RegionDisplayName<'d> {
         preferences: DisplayNamesPreferences,
         region: Region,
     ) -> Self
-        ensures { result ≡ or_raw
-            (name_by (P.name provider.now) preferences.locale (NameKey.Region region) region_short_light) region }
+        ensures { result ≡ or_raw (name_by (P.name provider.now) preferences.locale
+            (NameKey.Region region) region_short_light) region }
     {
         Self::first_or_raw(provider, &SHORT_LIGHT, preferences, region)
     }
@@ -168,8 +168,8 @@ impl<'d> RegionDisplayName<'d> {
         preferences: DisplayNamesPreferences,
         region: Region,
     ) -> Result<Self, DataError>
-        ensures { result
-            ≡ name_by (P.name provider.now) preferences.locale (NameKey.Region region) chain.now }
+        ensures { result ≡ name_by (P.name provider.now) preferences.locale
+            (NameKey.Region region) chain.now }
     {
         match first_name(
             provider,
@@ -191,8 +191,8 @@ impl<'d> RegionDisplayName<'d> {
         preferences: DisplayNamesPreferences,
         region: Region,
     ) -> Self
-        ensures { result ≡ or_raw
-            (name_by (P.name provider.now) preferences.locale (NameKey.Region region) chain.now) region }
+        ensures { result ≡ or_raw (name_by (P.name provider.now) preferences.locale
+            (NameKey.Region region) chain.now) region }
     {
         match Self::first(provider, chain, preferences, region) {
             Ok(name) => name,

@@ -54,8 +54,8 @@ impl<'d> ScriptDisplayName<'d> {
         preferences: DisplayNamesPreferences,
         script: Script,
     ) -> Result<Self, DataError>
-        ensures { result
-            ≡ name_by (P.name provider.now) preferences.locale (NameKey.Script script) script_tiny }
+        ensures { result ≡ name_by (P.name provider.now) preferences.locale
+            (NameKey.Script script) script_tiny }
     {
         Self::first(provider, &TINY, preferences, script)
     }
@@ -66,8 +66,8 @@ impl<'d> ScriptDisplayName<'d> {
         preferences: DisplayNamesPreferences,
         script: Script,
     ) -> Self
-        ensures { result ≡ or_raw
-            (name_by (P.name provider.now) preferences.locale (NameKey.Script script) script_tiny) script }
+        ensures { result ≡ or_raw (name_by (P.name provider.now) preferences.locale
+            (NameKey.Script script) script_tiny) script }
     {
         Self::first_or_raw(provider, &TINY, preferences, script)
     }
@@ -82,8 +82,8 @@ impl<'d> ScriptDisplayName<'d> {
         preferences: DisplayNamesPreferences,
         script: Script,
     ) -> Result<Self, DataError>
-        ensures { result
-            ≡ name_by (P.name provider.now) preferences.locale (NameKey.Script script) script_light }
+        ensures { result ≡ name_by (P.name provider.now) preferences.locale
+            (NameKey.Script script) script_light }
     {
         Self::first(provider, &LIGHT, preferences, script)
     }
@@ -94,8 +94,8 @@ impl<'d> ScriptDisplayName<'d> {
         preferences: DisplayNamesPreferences,
         script: Script,
     ) -> Self
-        ensures { result ≡ or_raw
-            (name_by (P.name provider.now) preferences.locale (NameKey.Script script) script_light) script }
+        ensures { result ≡ or_raw (name_by (P.name provider.now) preferences.locale
+            (NameKey.Script script) script_light) script }
     {
         Self::first_or_raw(provider, &LIGHT, preferences, script)
     }
@@ -110,8 +110,8 @@ impl<'d> ScriptDisplayName<'d> {
         preferences: DisplayNamesPreferences,
         script: Script,
     ) -> Result<Self, DataError>
-        ensures { result
-            ≡ name_by (P.name provider.now) preferences.locale (NameKey.Script script) script_heavy }
+        ensures { result ≡ name_by (P.name provider.now) preferences.locale
+            (NameKey.Script script) script_heavy }
     {
         Self::first(provider, &HEAVY, preferences, script)
     }
@@ -122,8 +122,8 @@ impl<'d> ScriptDisplayName<'d> {
         preferences: DisplayNamesPreferences,
         script: Script,
     ) -> Self
-        ensures { result ≡ or_raw
-            (name_by (P.name provider.now) preferences.locale (NameKey.Script script) script_heavy) script }
+        ensures { result ≡ or_raw (name_by (P.name provider.now) preferences.locale
+            (NameKey.Script script) script_heavy) script }
     {
         Self::first_or_raw(provider, &HEAVY, preferences, script)
     }
@@ -138,8 +138,8 @@ impl<'d> ScriptDisplayName<'d> {
         preferences: DisplayNamesPreferences,
         script: Script,
     ) -> Result<Self, DataError>
-        ensures { result
-            ≡ name_by (P.name provider.now) preferences.locale (NameKey.Script script) script_short_heavy }
+        ensures { result ≡ name_by (P.name provider.now) preferences.locale
+            (NameKey.Script script) script_short_heavy }
     {
         Self::first(provider, &SHORT_HEAVY, preferences, script)
     }
@@ -150,8 +150,8 @@ impl<'d> ScriptDisplayName<'d> {
         preferences: DisplayNamesPreferences,
         script: Script,
     ) -> Self
-        ensures { result ≡ or_raw
-            (name_by (P.name provider.now) preferences.locale (NameKey.Script script) script_short_heavy) script }
+        ensures { result ≡ or_raw (name_by (P.name provider.now) preferences.locale
+            (NameKey.Script script) script_short_heavy) script }
     {
         Self::first_or_raw(provider, &SHORT_HEAVY, preferences, script)
     }
@@ -172,8 +172,8 @@ impl<'d> ScriptDisplayName<'d> {
         preferences: DisplayNamesPreferences,
         script: Script,
     ) -> Result<Self, DataError>
-        ensures { result
-            ≡ name_by (P.name provider.now) preferences.locale (NameKey.Script script) chain.now }
+        ensures { result ≡ name_by (P.name provider.now) preferences.locale
+            (NameKey.Script script) chain.now }
     {
         match first_name(
             provider,
@@ -195,8 +195,8 @@ impl<'d> ScriptDisplayName<'d> {
         preferences: DisplayNamesPreferences,
         script: Script,
     ) -> Self
-        ensures { result ≡ or_raw
-            (name_by (P.name provider.now) preferences.locale (NameKey.Script script) chain.now) script }
+        ensures { result ≡ or_raw (name_by (P.name provider.now) preferences.locale
+            (NameKey.Script script) chain.now) script }
     {
         match Self::first(provider, chain, preferences, script) {
             Ok(name) => name,

@@ -39,8 +39,8 @@ impl<'d> VariantDisplayName<'d> {
         preferences: DisplayNamesPreferences,
         variant: Variant,
     ) -> Result<Self, DataError>
-        ensures { result
-            ≡ name_by (P.name provider.now) preferences.locale (NameKey.Variant variant) variant_heavy }
+        ensures { result ≡ name_by (P.name provider.now) preferences.locale
+            (NameKey.Variant variant) variant_heavy }
     {
         Self::first(provider, &HEAVY, preferences, variant)
     }
@@ -51,8 +51,8 @@ impl<'d> VariantDisplayName<'d> {
         preferences: DisplayNamesPreferences,
         variant: Variant,
     ) -> Self
-        ensures { result ≡ or_raw
-            (name_by (P.name provider.now) preferences.locale (NameKey.Variant variant) variant_heavy) variant }
+        ensures { result ≡ or_raw (name_by (P.name provider.now) preferences.locale
+            (NameKey.Variant variant) variant_heavy) variant }
     {
         Self::first_or_raw(provider, &HEAVY, preferences, variant)
     }
@@ -73,8 +73,8 @@ impl<'d> VariantDisplayName<'d> {
         preferences: DisplayNamesPreferences,
         variant: Variant,
     ) -> Result<Self, DataError>
-        ensures { result
-            ≡ name_by (P.name provider.now) preferences.locale (NameKey.Variant variant) chain.now }
+        ensures { result ≡ name_by (P.name provider.now) preferences.locale
+            (NameKey.Variant variant) chain.now }
     {
         match first_name(
             provider,
@@ -96,8 +96,8 @@ impl<'d> VariantDisplayName<'d> {
         preferences: DisplayNamesPreferences,
         variant: Variant,
     ) -> Self
-        ensures { result ≡ or_raw
-            (name_by (P.name provider.now) preferences.locale (NameKey.Variant variant) chain.now) variant }
+        ensures { result ≡ or_raw (name_by (P.name provider.now) preferences.locale
+            (NameKey.Variant variant) chain.now) variant }
     {
         match Self::first(provider, chain, preferences, variant) {
             Ok(name) => name,
