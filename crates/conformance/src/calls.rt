@@ -3,7 +3,7 @@ use crate::fault::Fault;
 use crate::likely::{self, Likely};
 use crate::texts::{self, Kind};
 use crate::world::World;
-use crate::{canonical, negotiation};
+use crate::{canonical, names, negotiation};
 use icu_tables::{TableError, Tables};
 use std::alloc::Global;
 
@@ -36,13 +36,23 @@ pub enum Call {
     Order,
     /// Puts, takes out and asks for keywords.
     Keywords,
+    /// Asks whether bounds are an inversion list.
+    InversionList,
+    /// Asks an exemplar set.
+    Exemplars,
+    /// Names a region.
+    Region,
+    /// Names a script.
+    Script,
+    /// Names a variant.
+    Variant,
     /// Reads tables, and names what they hold.
     Json,
     /// Reads each beginning of a JSON text that is not the whole.
     JsonCuts,
 }
 
-const CALLS: [(&str, Call); 28] = [
+const CALLS: [(&str, Call); 33] = [
     ("read", Call::Read(Kind::Identifier)),
     ("language", Call::Read(Kind::Language)),
     ("script", Call::Read(Kind::Script)),
@@ -69,6 +79,11 @@ const CALLS: [(&str, Call); 28] = [
     ("variants", Call::Variants),
     ("order", Call::Order),
     ("keywords", Call::Keywords),
+    ("inversion-list", Call::InversionList),
+    ("exemplars", Call::Exemplars),
+    ("region-name", Call::Region),
+    ("script-name", Call::Script),
+    ("variant-name", Call::Variant),
     ("json", Call::Json),
     ("json-cuts", Call::JsonCuts),
 ];
@@ -107,6 +122,11 @@ fn answer_text(alloc: Global, world: &World, call: Call, text: &str) -> Result<S
         Call::SearchTransform => canonical::search(alloc, world, true, text),
         Call::Variants => texts::variants(alloc, text),
         Call::Keywords => texts::keywords(alloc, text),
+        Call::InversionList => names::inversion_list(alloc, text),
+        Call::Exemplars => names::exemplars(alloc, world, text),
+        Call::Region => names::name(alloc, world, "region", text),
+        Call::Script => names::name(alloc, world, "script", text),
+        Call::Variant => names::name(alloc, world, "variant", text),
         _ => answer_words(alloc, call, text),
     }
 }
@@ -141,6 +161,8 @@ fn held_names(alloc: Global, tables: &Tables) -> Result<String, Fault> {
         (" likely_extended", tables.likely_extended.is_some()),
         (" aliases", tables.aliases.is_some()),
         (" direction", tables.script_direction.is_some()),
+        (" exemplars", !tables.exemplars.is_empty()),
+        (" names", !tables.names.is_empty()),
     ] {
         if is_held {
             answer.push_str(name)?;

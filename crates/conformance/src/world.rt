@@ -62,4 +62,22 @@ impl World {
         let directions = layered(&self.own.script_direction, &self.sample.script_direction)?;
         Ok(LocaleDirectionality::new_with_expander(directions, self.expander()?))
     }
+
+    /// The tables of exemplar sets: the own ones, if they hold any.
+    pub fn exemplars(&self) -> &Tables {
+        if self.own.exemplars.is_empty() {
+            &self.sample
+        } else {
+            &self.own
+        }
+    }
+
+    /// The tables of names: the own ones, if they hold any.
+    pub fn names(&self) -> &Tables {
+        if self.own.names.is_empty() {
+            &self.sample
+        } else {
+            &self.own
+        }
+    }
 }
