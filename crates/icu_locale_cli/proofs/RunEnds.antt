@@ -1,13 +1,17 @@
 -- How the ends of a run's parts make the ends of the run.
 use Rattle.std.proofs.Common.{◌≡◌, ◌⊎◌, Bool, List, ℕ, Option, Result, Ok, Err, IfOk, IfErr, inl, inr, refl, ap, subst, sym}
+use Rattle.icu_tables.specs.declared.error.TableError.{TableError}
 use Rattle.icu_tables.specs.declared.tables.Tables.{Tables}
 use Rattle.icu_locale_cli.specs.declared.command.Command.{Command}
 use Rattle.icu_locale_cli.specs.declared.command.Command.TheVariants as command
 use Rattle.icu_locale_cli.specs.declared.error.CliError.{CliError}
-use Rattle.icu_locale_cli.specs.declared.error.CliError.TheVariants.{Write, Memory}
+use Rattle.icu_locale_cli.specs.declared.error.CliError.TheVariants.{Usage, Data, Read, Write, Memory}
+use Rattle.icu_locale_cli.specs.declared.error.CliError.TheVariants as error
 use Rattle.icu_locale_cli.specs.declared.status.Status.{Status}
 use Rattle.icu_locale_cli.specs.Runs.{ReadsAll, WritesWholeLines, WritesPart}
+use Rattle.icu_locale_cli.specs.Output.{Stream}
 use Rattle.icu_locale_cli.specs.WholeRuns.{WritesLines, WritesSettled, WritesOutput, StopsAmongLines, IsRefusedLines, IsRefusedSettled, IsRefusedOutput, IsRun, IsRefusedLineRun, IsRefusedRun}
+use Rattle.icu_locale_cli.specs.WholeRuns.{ReadsTables, IsRefusedJsonRun}
 
 -- every command but one works on lines
 lines_only : (P : Command → Type 0) → P command.Maximize → P command.Minimize → P command.MinimizeScript → P command.Canonicalize → P command.Direction → (c : Command) → (c ≡ command.Settled → ⊥) → P c
@@ -73,3 +77,39 @@ module _ (t : Tables) (wrote wrote' : Option (List ℕ)) (c : Command) (r : Resu
       by (Ok s) which memory write = tt
       by (Err e) (inl is) memory write = subst (IsRefusedLineRun c t read read' wrote wrote') (sym is) (inr (input, all, memory (ap Err is)))
       by (Err e) (inr is) memory write = subst (IsRefusedLineRun c t read read' wrote wrote') (sym is) (input, all, write (ap Err is))
+
+
+-- output is refused by three errors alone
+no_usage : (t : Tables) (input : List ℕ) (wrote wrote' : Stream) (c : Command) → IsRefusedOutput c t input wrote wrote' Usage → ⊥
+no_usage t input wrote wrote' command.Settled h = h
+no_usage t input wrote wrote' command.Maximize h = h
+no_usage t input wrote wrote' command.Minimize h = h
+no_usage t input wrote wrote' command.MinimizeScript h = h
+no_usage t input wrote wrote' command.Canonicalize h = h
+no_usage t input wrote wrote' command.Direction h = h
+
+no_read : (t : Tables) (input : List ℕ) (wrote wrote' : Stream) (c : Command) → IsRefusedOutput c t input wrote wrote' Read → ⊥
+no_read t input wrote wrote' command.Settled h = h
+no_read t input wrote wrote' command.Maximize h = h
+no_read t input wrote wrote' command.Minimize h = h
+no_read t input wrote wrote' command.MinimizeScript h = h
+no_read t input wrote wrote' command.Canonicalize h = h
+no_read t input wrote wrote' command.Direction h = h
+
+no_tables : (t : Tables) (input : List ℕ) (wrote wrote' : Stream) (e : TableError) (c : Command) → IsRefusedOutput c t input wrote wrote' (error.Tables e) → ⊥
+no_tables t input wrote wrote' e command.Settled h = h
+no_tables t input wrote wrote' e command.Maximize h = h
+no_tables t input wrote wrote' e command.Minimize h = h
+no_tables t input wrote wrote' e command.MinimizeScript h = h
+no_tables t input wrote wrote' e command.Canonicalize h = h
+no_tables t input wrote wrote' e command.Direction h = h
+
+-- so what output leaves is what the run over the tables of the first line leaves
+pub stopped_json : (t : Tables) (wrote wrote' : Stream) (c : Command) (r : Result Status CliError) (read read' : Stream) (rest : List ℕ) → ReadsTables read read' t rest → IfErr r (IsRefusedOutput c t rest wrote wrote') → IfErr r (IsRefusedJsonRun c read read' wrote wrote')
+stopped_json t wrote wrote' c (Ok s) read read' rest reads h = tt
+stopped_json t wrote wrote' c (Err Usage) read read' rest reads h = no_usage t rest wrote wrote' c h
+stopped_json t wrote wrote' c (Err (error.Tables e)) read read' rest reads h = absurd (no_tables t rest wrote wrote' e c h)
+stopped_json t wrote wrote' c (Err Read) read read' rest reads h = absurd (no_read t rest wrote wrote' c h)
+stopped_json t wrote wrote' c (Err Memory) read read' rest reads h = inr (t, rest, reads, h)
+stopped_json t wrote wrote' c (Err (Data e)) read read' rest reads h = (t, rest, reads, h)
+stopped_json t wrote wrote' c (Err Write) read read' rest reads h = (t, rest, reads, h)
