@@ -78,7 +78,6 @@ module _ (t : Tables) (wrote wrote' : Option (List ℕ)) (c : Command) (r : Resu
       by (Err e) (inl is) memory write = subst (IsRefusedLineRun c t read read' wrote wrote') (sym is) (inr (input, all, memory (ap Err is)))
       by (Err e) (inr is) memory write = subst (IsRefusedLineRun c t read read' wrote wrote') (sym is) (input, all, write (ap Err is))
 
-
 -- output is refused by three errors alone
 no_usage : (t : Tables) (input : List ℕ) (wrote wrote' : Stream) (c : Command) → IsRefusedOutput c t input wrote wrote' Usage → ⊥
 no_usage t input wrote wrote' command.Settled h = h

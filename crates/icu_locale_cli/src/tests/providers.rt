@@ -6,7 +6,12 @@ ghost use Rattle.icu_provider.specs.Requests.{exemplar_cmp};
 ghost use Rattle.icu_tables.specs.Tables.{held, name_in};
 
 use crate::sample::sample;
+use icu_locale::exemplar_chars::ExemplarCharacters;
 use icu_locale::{LocaleCanonicalizer, LocaleDirectionality, LocaleExpander};
+use icu_locale_core::{Language, Region, Script, Variant};
+use icu_locale_names::{
+    DisplayNamesPreferences, RegionDisplayName, ScriptDisplayName, VariantDisplayName,
+};
 use icu_provider::{
     Aliases, DataError, DataErrorKind, DataLocale, DataProvider, ExemplarCharactersData,
     ExemplarMarker, LikelySubtagsExtended, LikelySubtagsForLanguage, LikelySubtagsForScriptRegion,
@@ -31,15 +36,20 @@ struct Refusing<'t> {
 }
 
 impl DataProvider for Refusing<'_> {
-    ghost likely_language = { λ p. unwrap_or (option_map (λ e. Err e) p.language) (held p.tables.now.likely_language) };
+    ghost likely_language = { λ p. unwrap_or (option_map (λ e. Err e) p.language)
+        (held p.tables.now.likely_language) };
 
-    ghost likely_script_region = { λ p. unwrap_or (option_map (λ e. Err e) p.script_region) (held p.tables.now.likely_script_region) };
+    ghost likely_script_region = { λ p. unwrap_or (option_map (λ e. Err e) p.script_region)
+        (held p.tables.now.likely_script_region) };
 
-    ghost likely_extended = { λ p. unwrap_or (option_map (λ e. Err e) p.extended) (held p.tables.now.likely_extended) };
+    ghost likely_extended = { λ p. unwrap_or (option_map (λ e. Err e) p.extended)
+        (held p.tables.now.likely_extended) };
 
-    ghost aliases = { λ p. unwrap_or (option_map (λ e. Err e) p.aliases) (held p.tables.now.aliases) };
+    ghost aliases = { λ p. unwrap_or (option_map (λ e. Err e) p.aliases)
+        (held p.tables.now.aliases) };
 
-    ghost script_direction = { λ p. unwrap_or (option_map (λ e. Err e) p.directions) (held p.tables.now.script_direction) };
+    ghost script_direction = { λ p. unwrap_or (option_map (λ e. Err e) p.directions)
+        (held p.tables.now.script_direction) };
 
     ghost exemplars = { λ p marker locale. unwrap_or (option_map (λ e. Err e) p.exemplars)
         (held (value_at exemplar_cmp p.tables.now.exemplars (marker, locale))) };
@@ -226,4 +236,102 @@ fn aliases_come_last(rt: &impl Abort, alloc: Global, tables: &Tables) -> Result<
 fn the_expander_is_loaded_before_the_aliases(rt: HostRuntime) -> Result<(), Fail> {
     let tables = sample(rt.alloc())?;
     aliases_come_last(&rt, rt.alloc(), &tables)
+}
+
+fn refused_exemplars(
+    rt: &impl Abort,
+    tables: &Tables,
+    language: Language,
+    want: Option<DataError>,
+) {
+    let mut provider = willing(tables);
+    provider.exemplars = want;
+    assert!(rt;
+        ExemplarCharacters::try_new_main_unstable(&provider, of(language).locale).err() == want
+    );
+    assert!(rt;
+        ExemplarCharacters::try_new_auxiliary_unstable(&provider, of(language).locale).err() == want
+    );
+    assert!(rt;
+        ExemplarCharacters::try_new_punctuation_unstable(&provider, of(language).locale).err()
+            == want
+    );
+    assert!(rt;
+        ExemplarCharacters::try_new_numbers_unstable(&provider, of(language).locale).err() == want
+    );
+    assert!(rt;
+        ExemplarCharacters::try_new_index_unstable(&provider, of(language).locale).err() == want
+    );
+}
+
+// Names are asked for in a language.
+fn of(language: Language) -> DisplayNamesPreferences {
+    DisplayNamesPreferences::new(language, None, None)
+}
+
+fn refused_regions(
+    rt: &impl Abort,
+    tables: &Tables,
+    language: Language,
+    region: Region,
+    want: Option<DataError>,
+) {
+    let mut provider = willing(tables);
+    provider.names = want;
+    let name = RegionDisplayName::try_new_tiny_unstable(&provider, of(language), region);
+    assert!(rt; name.err() == want);
+    let name = RegionDisplayName::try_new_short_tiny_unstable(&provider, of(language), region);
+    assert!(rt; name.err() == want);
+    let name = RegionDisplayName::try_new_light_unstable(&provider, of(language), region);
+    assert!(rt; name.err() == want);
+    let name = RegionDisplayName::try_new_short_light_unstable(&provider, of(language), region);
+    assert!(rt; name.err() == want);
+}
+
+fn refused_scripts(
+    rt: &impl Abort,
+    tables: &Tables,
+    language: Language,
+    script: Script,
+    want: Option<DataError>,
+) {
+    let mut provider = willing(tables);
+    provider.names = want;
+    let name = ScriptDisplayName::try_new_tiny_unstable(&provider, of(language), script);
+    assert!(rt; name.err() == want);
+    let name = ScriptDisplayName::try_new_light_unstable(&provider, of(language), script);
+    assert!(rt; name.err() == want);
+    let name = ScriptDisplayName::try_new_heavy_unstable(&provider, of(language), script);
+    assert!(rt; name.err() == want);
+    let name = ScriptDisplayName::try_new_short_heavy_unstable(&provider, of(language), script);
+    assert!(rt; name.err() == want);
+}
+
+fn refused_variant(
+    rt: &impl Abort,
+    tables: &Tables,
+    language: Language,
+    variant: Variant,
+    want: Option<DataError>,
+) {
+    let mut provider = willing(tables);
+    provider.names = want;
+    let name = VariantDisplayName::try_new_heavy_unstable(&provider, of(language), variant);
+    assert!(rt; name.err() == want);
+}
+
+#[test]
+fn each_refusal_of_exemplars_and_names(rt: HostRuntime) -> Result<(), Fail> {
+    let tables = Tables::new(rt.alloc());
+    let language = Language::try_from_str("en")?;
+    let region = Region::try_from_str("US")?;
+    let script = Script::try_from_str("Latn")?;
+    let variant = Variant::try_from_str("fonipa")?;
+    for kind in KINDS {
+        refused_exemplars(&rt, &tables, language, refusal(kind));
+        refused_regions(&rt, &tables, language, region, refusal(kind));
+        refused_scripts(&rt, &tables, language, script, refusal(kind));
+        refused_variant(&rt, &tables, language, variant, refusal(kind));
+    }
+    Ok(())
 }
