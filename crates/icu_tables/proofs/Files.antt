@@ -13,7 +13,7 @@ use Rattle.icu_tables.specs.declared.tables.Tables.{Tables}
 use Rattle.icu_tables.specs.File.{file}
 use Rattle.icu_tables.specs.Text.{json_of, or_json, or_shape, rows_in}
 use Rattle.icu_provider.specs.declared.aliases.Aliases.{Aliases}
-use Rattle.icu_tables.specs.Reads.{Reads, language_seen, script_region_seen, extended_seen, alias_seen, file_seen}
+use Rattle.icu_tables.specs.inner.Reads.{Reads, language_seen, script_region_seen, extended_seen, alias_seen, file_seen}
 use Rattle.icu_tables.specs.Rows.{alias_rows, direction_rows, rows_of, seen_rows, rule, variants_rule}
 use Rattle.icu_tables.proofs.Members.{seen_rows-same}
 

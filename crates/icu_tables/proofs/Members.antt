@@ -13,7 +13,7 @@ use Rattle.serde_json.specs.View.{view, members_view}
 use Rattle.serde_json.proofs.Views.{Entry}
 use Rattle.icu_locale_core.specs.TextSet.{text_cmp}
 use Rattle.icu_tables.specs.Fields.{is_listed, are_listed}
-use Rattle.icu_tables.specs.Keys.{ComparesNames}
+use Rattle.icu_tables.specs.inner.Keys.{ComparesNames}
 use Rattle.icu_tables.specs.Rows.{seen_rows}
 use Rattle.icu_tables.specs.Shape.{Shape, applied, with_row, each_row}
 use Rattle.icu_tables.proofs.Items.{prefixed, prefixed-more}

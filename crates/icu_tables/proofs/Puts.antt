@@ -11,7 +11,7 @@ use Rattle.serde_json.proofs.Views.{Entry}
 use Rattle.icu_tables.specs.Puts.{put_all, each_put}
 use Rattle.icu_provider.specs.Inserts.{Inserts}
 use Rattle.icu_provider.specs.declared.error.DataError.{DataError}
-use Rattle.icu_tables.specs.Reads.{Refuses, Puts}
+use Rattle.icu_tables.specs.inner.Reads.{Refuses, Puts}
 use Rattle.icu_tables.specs.Rows.{seen_rows}
 use Rattle.icu_tables.specs.Shape.{Shape, applied}
 use Rattle.icu_tables.specs.declared.error.TableError.{TableError}

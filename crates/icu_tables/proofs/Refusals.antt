@@ -2,7 +2,7 @@
 use Rattle.std.proofs.Common.{◌≡◌, Option, Some, None, refl, ap, ◌∙◌}
 use Rattle.icu_tables.specs.declared.error.TableError.{TableError}
 use Rattle.icu_tables.specs.declared.error.TableError.TheVariants.{Json, Shape, Memory}
-use Rattle.icu_tables.specs.Reads.{Refuses}
+use Rattle.icu_tables.specs.inner.Reads.{Refuses}
 use Rattle.icu_tables.specs.Shape.{applied}
 
 applied-none : {A B : Type 0} (made : Option (A → B)) → applied made None ≡ None

@@ -1,14 +1,12 @@
 pub mod Fields
 pub mod File
-pub mod KeyLaws
-pub mod Keys
 pub mod NamedRows
 pub mod Names
 pub mod Numbers
 pub mod Puts
-pub mod Reads
 pub mod Rows
 pub mod Shape
 pub mod Subtags
 pub mod Tables
 pub mod Text
+pub mod inner

@@ -3,6 +3,7 @@ use Rattle.std.specs.Prelude.{ℕ, List, [], ◌∷◌, codes, nat_eq, if◌then
 use Rattle.std.specs.Prelude.{Option, Some, None, option_map}
 use Rattle.std.specs.Cmp.Lexicographic.{pointwise}
 use Rattle.std.specs.Map.{lookup}
+use Rattle.std.specs.Option.{option_or}
 use Rattle.icu_provider.specs.declared.data_locale.DataLocale.{DataLocale}
 use Rattle.icu_provider.specs.declared.exemplars.ExemplarMarker.{ExemplarMarker}
 use Rattle.icu_provider.specs.declared.exemplars.ExemplarMarker.TheVariants.{Main, Auxiliary}
@@ -67,16 +68,11 @@ name_markers =
     ∷ (codes "variant/medium/heavy", VariantMediumHeavy)
     ∷ []
 
--- the first that is there
-abbrev pub or_else : {A : Type 0} → Option A → Option A → Option A
-or_else (Some x) other = Some x
-or_else None other = other
-
 -- what may follow the language of a locale: a script, a region, or both
 abbrev pub script_and_region : List ℕ → Option (Option (List ℕ) × Option (List ℕ))
 script_and_region t =
-    or_else (option_map (λ script. (Some script, None)) (script_key t))
-    (or_else (option_map (λ region. (None, Some region)) (region_key t))
+    option_or (option_map (λ script. (Some script, None)) (script_key t))
+    (option_or (option_map (λ region. (None, Some region)) (region_key t))
     (option_map (λ pair. (Some pair.0, Some pair.1)) (key_pair script_key region_key t)))
 
 -- a language, and what follows it

@@ -1,6 +1,6 @@
 //! Tables from a JSON text.
 ghost use Rattle.std.specs.Prelude.{◌≡◌, ◌≢◌, Some, None, Ok, Err, IfOk, IfErr};
-ghost use Rattle.icu_tables.specs.Reads.{file_seen};
+ghost use Rattle.icu_tables.specs.inner.Reads.{file_seen};
 ghost use Rattle.icu_tables.specs.Rows.{rows_of};
 ghost use Rattle.icu_tables.specs.Text.{json_of, rows_in};
 ghost use Rattle.serde_json.specs.View.{view};

@@ -1,6 +1,6 @@
 //! Aliases.
 ghost use Rattle.std.specs.Prelude.{map};
-ghost use Rattle.icu_tables.specs.Reads.{alias_seen};
+ghost use Rattle.icu_tables.specs.inner.Reads.{alias_seen};
 ghost use Rattle.icu_tables.specs.Rows.{rule, variants_rule};
 
 use crate::TableError;

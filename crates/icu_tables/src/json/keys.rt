@@ -1,6 +1,6 @@
 //! Keys of rows.
 ghost use Rattle.std.specs.Prelude.{◌≡◌};
-ghost use Rattle.icu_tables.specs.KeyLaws.{key_above_dash, key_compares, pair_compares};
+ghost use Rattle.icu_tables.specs.inner.KeyLaws.{key_above_dash, key_compares, pair_compares};
 ghost use Rattle.icu_tables.specs.Subtags.{key_of, key_pair};
 
 use crate::json::subtags::FromText;
@@ -9,7 +9,7 @@ use std::cmp::Ord;
 // What the name of a row's member is read as, if it is a key.
 pub(crate) trait RowKey: Ord + Drop {
     ghost use Rattle.std.specs.Prelude.{◌≡◌, List, ℕ, Option};
-    ghost use Rattle.icu_tables.specs.Keys.{ComparesNames};
+    ghost use Rattle.icu_tables.specs.inner.Keys.{ComparesNames};
 
     ghost key: { List ℕ → Option Self };
 

@@ -1,5 +1,5 @@
 //! Tables of likely subtags.
-ghost use Rattle.icu_tables.specs.Reads.{language_seen, script_region_seen, extended_seen};
+ghost use Rattle.icu_tables.specs.inner.Reads.{language_seen, script_region_seen, extended_seen};
 
 use crate::TableError;
 use crate::json::objects::{fill, only_members, required};

@@ -4,7 +4,7 @@ ghost use Rattle.serde_json.specs.Find.{get};
 ghost use Rattle.serde_json.specs.View.{view};
 ghost use Rattle.icu_tables.specs.Fields.{said_or};
 ghost use Rattle.icu_tables.specs.Puts.{map_by, rows_by};
-ghost use Rattle.icu_tables.specs.Reads.{Fills, Puts};
+ghost use Rattle.icu_tables.specs.inner.Reads.{Fills, Puts};
 ghost use Rattle.icu_tables.specs.Rows.{seen_rows};
 
 use crate::TableError;
@@ -17,7 +17,7 @@ use std::cmp::Ord;
 pub(crate) trait PutsRows<K: Ord, V> {
     ghost use Rattle.std.specs.Prelude.{List, ℕ};
     ghost use Rattle.serde_json.specs.View.{view};
-    ghost use Rattle.icu_tables.specs.Reads.{Puts};
+    ghost use Rattle.icu_tables.specs.inner.Reads.{Puts};
     ghost use Rattle.icu_tables.specs.Rows.{seen_rows};
     ghost use Rattle.icu_tables.specs.Shape.{Shape};
 

@@ -3,7 +3,7 @@ ghost use Rattle.std.specs.Prelude.{◌≡◌, Some, None};
 ghost use Rattle.serde_json.specs.Find.{get};
 ghost use Rattle.serde_json.specs.View.{view};
 ghost use Rattle.icu_tables.specs.Fields.{said_or, is_listed, has_only, present};
-ghost use Rattle.icu_tables.specs.Reads.{Accepts, Fills, Reads, texts_of};
+ghost use Rattle.icu_tables.specs.inner.Reads.{Accepts, Fills, Reads, texts_of};
 
 use crate::TableError;
 use crate::json::values::FromValue;

@@ -12,7 +12,7 @@ use std::cmp::Ord;
 // A subtag that is read from a text in any case.
 pub(crate) trait FromText: Ord + Drop {
     ghost use Rattle.std.specs.Prelude.{◌≡◌, List, ℕ, Option};
-    ghost use Rattle.icu_tables.specs.Keys.{ComparesTexts, ReadsAboveDash};
+    ghost use Rattle.icu_tables.specs.inner.Keys.{ComparesTexts, ReadsAboveDash};
 
     ghost written: { Self → List ℕ };
 
@@ -32,7 +32,7 @@ pub(crate) trait FromText: Ord + Drop {
 }
 
 impl FromText for Language {
-    ghost use Rattle.icu_tables.specs.KeyLaws.{language_above_dash};
+    ghost use Rattle.icu_tables.specs.inner.KeyLaws.{language_above_dash};
     ghost use Rattle.icu_tables.specs.Subtags.{read_language};
 
     ghost written = { λ x. x };
@@ -53,7 +53,7 @@ impl FromText for Language {
 }
 
 impl FromText for Script {
-    ghost use Rattle.icu_tables.specs.KeyLaws.{script_above_dash};
+    ghost use Rattle.icu_tables.specs.inner.KeyLaws.{script_above_dash};
     ghost use Rattle.icu_tables.specs.Subtags.{read_script};
 
     ghost written = { λ x. x };
@@ -74,7 +74,7 @@ impl FromText for Script {
 }
 
 impl FromText for Region {
-    ghost use Rattle.icu_tables.specs.KeyLaws.{region_above_dash};
+    ghost use Rattle.icu_tables.specs.inner.KeyLaws.{region_above_dash};
     ghost use Rattle.icu_tables.specs.Subtags.{read_region};
 
     ghost written = { λ x. x };
@@ -95,7 +95,7 @@ impl FromText for Region {
 }
 
 impl FromText for Variant {
-    ghost use Rattle.icu_tables.specs.KeyLaws.{variant_above_dash};
+    ghost use Rattle.icu_tables.specs.inner.KeyLaws.{variant_above_dash};
     ghost use Rattle.icu_tables.specs.Subtags.{read_variant};
 
     ghost written = { λ x. x };
@@ -116,7 +116,7 @@ impl FromText for Variant {
 }
 
 impl FromText for Subtag {
-    ghost use Rattle.icu_tables.specs.KeyLaws.{subtag_above_dash};
+    ghost use Rattle.icu_tables.specs.inner.KeyLaws.{subtag_above_dash};
     ghost use Rattle.icu_tables.specs.Subtags.{read_subtag};
 
     ghost written = { λ x. x };

@@ -7,7 +7,7 @@ use std::alloc::Global;
 // A type that JSON values of one shape are read as.
 pub(crate) trait FromValue: Drop {
     ghost use Rattle.serde_json.specs.View.{view};
-    ghost use Rattle.icu_tables.specs.Reads.{Reads};
+    ghost use Rattle.icu_tables.specs.inner.Reads.{Reads};
     ghost use Rattle.icu_tables.specs.Shape.{Shape};
 
     // What a contract sees of what was read.

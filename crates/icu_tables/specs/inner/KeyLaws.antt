@@ -19,7 +19,7 @@ use Rattle.icu_locale_core.specs.Subtag.{is_language, is_script, is_region, is_v
 use Rattle.icu_locale_core.specs.Subtag.{lowercase, titlecase, uppercase}
 use Rattle.icu_locale_core.specs.Subtag.{is_alphabetic, is_numeric, is_alphanumeric}
 use Rattle.icu_locale_core.specs.TextSet.{text_cmp}
-use Rattle.icu_tables.specs.Keys.{ComparesTexts, ComparesNames, is_above_dash, ReadsAboveDash}
+use Rattle.icu_tables.specs.inner.Keys.{ComparesTexts, ComparesNames, is_above_dash, ReadsAboveDash}
 use Rattle.icu_tables.specs.Shape.{both}
 use Rattle.icu_tables.specs.Subtags.{in_class, if_written, key_of, key_pair}
 use Rattle.icu_tables.specs.Subtags.{is_dash, has_dash, cut_at_dash}
