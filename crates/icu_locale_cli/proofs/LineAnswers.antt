@@ -9,10 +9,10 @@ use Rattle.icu_locale.specs.Refusals.{ComesAgainFirst}
 use Rattle.icu_locale.specs.LikelySubtags.{LikelySubtags}
 use Rattle.icu_locale.specs.declared.canonicalizer.rules.Rules.{Rules}
 use Rattle.icu_locale.specs.declared.expander.TransformResult.{TransformResult}
-use Rattle.icu_locale_cli.specs.declared.work.Work.{Work}
-use Rattle.icu_locale_cli.specs.declared.work.Answer.{Answer}
+use Rattle.icu_locale_cli.specs.declared.task.Task.{Task}
+use Rattle.icu_locale_cli.specs.declared.answer.Answer.{Answer}
 use Rattle.icu_locale_cli.specs.declared.error.CliError.{CliError}
-use Rattle.icu_locale_cli.specs.Answers.{IsTransformed, IsPlain, IsCanonicalized, IsLineOf, IsAnswer}
+use Rattle.icu_locale_cli.specs.Answers.{IsTransformed, IsPlain, IsCanonicalized, IsLineOf, IsIdentifierAnswer}
 use Rattle.icu_locale_cli.specs.Texts.{transformed_line, refused_line}
 
 -- a line of a fitting identifier and answer is that of a transformed identifier
@@ -22,10 +22,10 @@ transformed_from_line Fits y m fits (Ok a) h = (y, m, fits, h.0, h.1)
 transformed_from_line Fits y m fits (Err e) h = tt
 
 -- the answer to the identifier that a line spells is the line's
-pub answer_from_accepted : (work : Work) (line : List ℕ) (x : LanguageIdentifier) → IsIdentifier x × Spells line x → (r : Result Answer CliError)
-    → IfOk r (λ a. IsLineOf work x (string_bytes a.text) a.accepted) → IfOk r (λ a. IsAnswer work line (string_bytes a.text) a.accepted)
-answer_from_accepted work line x spelled (Ok a) h = inl (x, spelled.0, spelled.1, h)
-answer_from_accepted work line x spelled (Err e) h = tt
+pub answer_from_accepted : (task : Task) (line : List ℕ) (x : LanguageIdentifier) → IsIdentifier x × Spells line x → (r : Result Answer CliError)
+    → IfOk r (λ a. IsLineOf task x (string_bytes a.text) a.accepted) → IfOk r (λ a. IsIdentifierAnswer task line (string_bytes a.text) a.accepted)
+answer_from_accepted task line x spelled (Ok a) h = inl (x, spelled.0, spelled.1, h)
+answer_from_accepted task line x spelled (Err e) h = tt
 
 module _ (likely : LikelySubtags) (rules : Rules) (old : Locale) where
   -- the line of a canonical locale

@@ -1,26 +1,35 @@
 -- How the ends of a run's parts make the ends of the run.
-use Rattle.std.proofs.Common.{◌≡◌, ◌⊎◌, Bool, List, ℕ, Option, Result, Ok, Err, IfOk, IfErr, inl, inr, refl, ap, subst, sym}
+use Rattle.std.proofs.Common.{◌≡◌, ◌⊎◌, Bool, false, List, ℕ, Option, Result, Ok, Err, IfOk, IfErr, inl, inr, refl, ap, subst, sym}
 use Rattle.icu_tables.specs.declared.error.TableError.{TableError}
 use Rattle.icu_tables.specs.declared.tables.Tables.{Tables}
 use Rattle.icu_locale_cli.specs.declared.command.Command.{Command}
 use Rattle.icu_locale_cli.specs.declared.command.Command.TheVariants as command
 use Rattle.icu_locale_cli.specs.declared.error.CliError.{CliError}
-use Rattle.icu_locale_cli.specs.declared.error.CliError.TheVariants.{Usage, Data, Read, Write, Memory}
+use Rattle.icu_locale_cli.specs.declared.error.CliError.TheVariants.{Usage, Data, Read, Write, Memory, Available, NotSettled}
 use Rattle.icu_locale_cli.specs.declared.error.CliError.TheVariants as error
 use Rattle.icu_locale_cli.specs.declared.status.Status.{Status}
-use Rattle.icu_locale_cli.specs.Runs.{ReadsAll, WritesWholeLines, WritesPart}
+use Rattle.icu_locale.specs.LikelyTable.{likely}
+use Rattle.icu_locale.specs.Settled.{AreSettled}
+use Rattle.icu_locale.specs.declared.expander.LocaleExpander.{LocaleExpander}
+use Rattle.icu_locale_cli.specs.declared.task.Task.{Task}
+use Rattle.icu_locale_cli.specs.declared.work.Work.{Work}
+use Rattle.icu_locale_cli.specs.Lines.{first_line}
+use Rattle.icu_locale_cli.specs.Runs.{ReadsAll, WritesAll, WritesWholeLines, WritesPart}
+use Rattle.icu_locale_cli.specs.Works.{has_tables, text_answered, IsTaskOf, IsWorkOf, IsUnsettled}
+use Rattle.icu_locale_cli.specs.inner.Causes.{IsRefusedList}
 use Rattle.icu_locale_cli.specs.Output.{Stream}
 use Rattle.icu_locale_cli.specs.WholeRuns.{WritesLines, WritesSettled, WritesOutput, StopsAmongLines, IsRefusedLines, IsRefusedSettled, IsRefusedOutput, IsRun, IsRefusedLineRun, IsRefusedRun}
 use Rattle.icu_locale_cli.specs.WholeRuns.{ReadsTables, IsRefusedJsonRun}
 
 -- every command but one works on lines
-lines_only : (P : Command → Type 0) → P command.Maximize → P command.Minimize → P command.MinimizeScript → P command.Canonicalize → P command.Direction → (c : Command) → (c ≡ command.Settled → ⊥) → P c
-lines_only P m n s k d command.Settled other = absurd (other refl)
-lines_only P m n s k d command.Maximize other = m
-lines_only P m n s k d command.Minimize other = n
-lines_only P m n s k d command.MinimizeScript other = s
-lines_only P m n s k d command.Canonicalize other = k
-lines_only P m n s k d command.Direction other = d
+lines_only : (P : Command → Type 0) → P command.Maximize → P command.Minimize → P command.MinimizeScript → P command.Canonicalize → P command.Direction → P command.Negotiate → (c : Command) → (c ≡ command.Settled → ⊥) → P c
+lines_only P m n s k d g command.Settled other = absurd (other refl)
+lines_only P m n s k d g command.Maximize other = m
+lines_only P m n s k d g command.Minimize other = n
+lines_only P m n s k d g command.MinimizeScript other = s
+lines_only P m n s k d g command.Canonicalize other = k
+lines_only P m n s k d g command.Direction other = d
+lines_only P m n s k d g command.Negotiate other = g
 
 module _ (t : Tables) (wrote wrote' : Option (List ℕ)) (c : Command) (r : Result Status CliError) where
   -- `settled` alone
@@ -49,36 +58,76 @@ module _ (t : Tables) (wrote wrote' : Option (List ℕ)) (c : Command) (r : Resu
   lines_run read read' input other all h = by r h
     where
       by : (s : Result Status CliError) → IfOk s (WritesLines c t input wrote wrote') → IfOk s (IsRun c t read read' wrote wrote')
-      by (Ok s) h = lines_only (λ k. WritesLines k t input wrote wrote' s → IsRun k t read read' wrote wrote' s) (λ w. (input, all, w)) (λ w. (input, all, w)) (λ w. (input, all, w)) (λ w. (input, all, w)) (λ w. (input, all, w)) c other h
+      by (Ok s) h = lines_only (λ k. WritesLines k t input wrote wrote' s → IsRun k t read read' wrote wrote' s) (λ w. (input, all, w)) (λ w. (input, all, w)) (λ w. (input, all, w)) (λ w. (input, all, w)) (λ w. (input, all, w)) (λ w. (input, all, w)) c other h
       by (Err e) h = tt
 
   pub lines_output : (input : List ℕ) → (c ≡ command.Settled → ⊥) → IfOk r (WritesLines c t input wrote wrote') → IfOk r (WritesOutput c t input wrote wrote')
-  lines_output input other h = lines_only (λ k. IfOk r (WritesLines k t input wrote wrote') → IfOk r (WritesOutput k t input wrote wrote')) (λ w. w) (λ w. w) (λ w. w) (λ w. w) (λ w. w) c other h
+  lines_output input other h = lines_only (λ k. IfOk r (WritesLines k t input wrote wrote') → IfOk r (WritesOutput k t input wrote wrote')) (λ w. w) (λ w. w) (λ w. w) (λ w. w) (λ w. w) (λ w. w) c other h
 
   pub lines_output_refused : (input : List ℕ) → (c ≡ command.Settled → ⊥) → IfErr r (IsRefusedLines c t input wrote wrote') → IfErr r (IsRefusedOutput c t input wrote wrote')
-  lines_output_refused input other h = lines_only (λ k. IfErr r (IsRefusedLines k t input wrote wrote') → IfErr r (IsRefusedOutput k t input wrote wrote')) (λ w. w) (λ w. w) (λ w. w) (λ w. w) (λ w. w) c other h
+  lines_output_refused input other h = lines_only (λ k. IfErr r (IsRefusedLines k t input wrote wrote') → IfErr r (IsRefusedOutput k t input wrote wrote')) (λ w. w) (λ w. w) (λ w. w) (λ w. w) (λ w. w) (λ w. w) c other h
 
   pub lines_refused : (read read' : Option (List ℕ)) → (c ≡ command.Settled → ⊥) → IfErr r (IsRefusedLineRun c t read read' wrote wrote') → IfErr r (IsRefusedRun c t read read' wrote wrote')
-  lines_refused read read' other h = lines_only (λ k. IfErr r (IsRefusedLineRun k t read read' wrote wrote') → IfErr r (IsRefusedRun k t read read' wrote wrote')) (λ w. w) (λ w. w) (λ w. w) (λ w. w) (λ w. w) c other h
+  lines_refused read read' other h = lines_only (λ k. IfErr r (IsRefusedLineRun k t read read' wrote wrote') → IfErr r (IsRefusedRun k t read read' wrote wrote')) (λ w. w) (λ w. w) (λ w. w) (λ w. w) (λ w. w) (λ w. w) c other h
 
-  -- what writing lines leaves where it is refused
-  pub stopped_lines : (input : List ℕ) → IfErr r (λ e. (e ≡ Memory) ⊎ (e ≡ Write)) → (r ≡ Err Memory → StopsAmongLines WritesWholeLines c t input wrote wrote') → (r ≡ Err Write → StopsAmongLines WritesPart c t input wrote wrote') → IfErr r (IsRefusedLines c t input wrote wrote')
-  stopped_lines input which memory write = by r which memory write
+  -- what writing lines leaves where it is refused, once all is read
+  pub lines_read : (read read' : Option (List ℕ)) (input : List ℕ) → ReadsAll read read' input → (has_tables c t ≡ false → ⊥) → (IsUnsettled c t → ⊥) → IfErr r (IsRefusedLines c t input wrote wrote') → IfErr r (IsRefusedLineRun c t read read' wrote wrote')
+  lines_read read read' input all held settled h = by r h
     where
-      by : (s : Result Status CliError) → IfErr s (λ e. (e ≡ Memory) ⊎ (e ≡ Write)) → (s ≡ Err Memory → StopsAmongLines WritesWholeLines c t input wrote wrote') → (s ≡ Err Write → StopsAmongLines WritesPart c t input wrote wrote') → IfErr s (IsRefusedLines c t input wrote wrote')
-      by (Ok s) which memory write = tt
-      by (Err e) (inl is) memory write = subst (IsRefusedLines c t input wrote wrote') (sym is) (inr (memory (ap Err is)))
-      by (Err e) (inr is) memory write = subst (IsRefusedLines c t input wrote wrote') (sym is) (write (ap Err is))
+      by : (s : Result Status CliError) → IfErr s (IsRefusedLines c t input wrote wrote') → IfErr s (IsRefusedLineRun c t read read' wrote wrote')
+      by (Ok s) h = tt
+      by (Err Usage) h = absurd h
+      by (Err (error.Tables e)) h = absurd h
+      by (Err (Data e)) h = absurd (held h.1)
+      by (Err Read) h = absurd h
+      by (Err Write) h = (input, all, h)
+      by (Err Memory) (inl same) = inl same
+      by (Err Memory) (inr stops) = inr (input, all, stops)
+      by (Err (Available e)) h = ((input, all, h.0), h.1)
+      by (Err NotSettled) h = absurd (settled h.0)
 
-  pub stopped_run : (read read' : Option (List ℕ)) (input : List ℕ) → ReadsAll read read' input → IfErr r (λ e. (e ≡ Memory) ⊎ (e ≡ Write)) → (r ≡ Err Memory → StopsAmongLines WritesWholeLines c t input wrote wrote') → (r ≡ Err Write → StopsAmongLines WritesPart c t input wrote wrote') → IfErr r (IsRefusedLineRun c t read read' wrote wrote')
-  stopped_run read read' input all which memory write = by r which memory write
+-- the work of a command on an input, and the text whose lines it answers
+module _ (c : Command) (t : Tables) (input : List ℕ) (work : Work) (work_of : IsWorkOf c t input work) (text : List ℕ) (answered : text_answered c input ≡ text) (wrote wrote' : Option (List ℕ)) (r : Result Status CliError) where
+  pub lines_written : IfOk r (WritesAll work text wrote wrote') → IfOk r (WritesLines c t input wrote wrote')
+  lines_written h = by r h
     where
-      by : (s : Result Status CliError) → IfErr s (λ e. (e ≡ Memory) ⊎ (e ≡ Write)) → (s ≡ Err Memory → StopsAmongLines WritesWholeLines c t input wrote wrote') → (s ≡ Err Write → StopsAmongLines WritesPart c t input wrote wrote') → IfErr s (IsRefusedLineRun c t read read' wrote wrote')
-      by (Ok s) which memory write = tt
-      by (Err e) (inl is) memory write = subst (IsRefusedLineRun c t read read' wrote wrote') (sym is) (inr (input, all, memory (ap Err is)))
-      by (Err e) (inr is) memory write = subst (IsRefusedLineRun c t read read' wrote wrote') (sym is) (input, all, write (ap Err is))
+      by : (s : Result Status CliError) → IfOk s (WritesAll work text wrote wrote') → IfOk s (WritesLines c t input wrote wrote')
+      by (Ok s) h = record { work = work; work_of = work_of; all_written = subst (λ x. WritesAll work x wrote wrote' s) (sym answered) h }
+      by (Err e) h = tt
 
--- output is refused by three errors alone
+  stops : (Leaves : Work → List ℕ → Stream → Stream → Type 0) → Leaves work text wrote wrote' → StopsAmongLines Leaves c t input wrote wrote'
+  stops Leaves left = record { work = work; work_of = work_of; left = subst (λ x. Leaves work x wrote wrote') (sym answered) left }
+
+  pub lines_stopped : IfErr r (λ e. (e ≡ Memory) ⊎ (e ≡ Write)) → (r ≡ Err Memory → WritesWholeLines work text wrote wrote') → (r ≡ Err Write → WritesPart work text wrote wrote') → IfErr r (IsRefusedLines c t input wrote wrote')
+  lines_stopped which memory write = by r which memory write
+    where
+      by : (s : Result Status CliError) → IfErr s (λ e. (e ≡ Memory) ⊎ (e ≡ Write)) → (s ≡ Err Memory → WritesWholeLines work text wrote wrote') → (s ≡ Err Write → WritesPart work text wrote wrote') → IfErr s (IsRefusedLines c t input wrote wrote')
+      by (Ok s) which memory write = tt
+      by (Err e) (inl is) memory write = subst (IsRefusedLines c t input wrote wrote') (sym is) (inr (stops WritesWholeLines (memory (ap Err is))))
+      by (Err e) (inr is) memory write = subst (IsRefusedLines c t input wrote wrote') (sym is) (stops WritesPart (write (ap Err is)))
+
+-- a task answers every line
+pub task_answers : (c : Command) (t : Tables) (task : Task) → IsTaskOf c t task → (input : List ℕ) → text_answered c input ≡ input
+task_answers command.Maximize t task of input = refl
+task_answers command.Minimize t task of input = refl
+task_answers command.MinimizeScript t task of input = refl
+task_answers command.Canonicalize t task of input = refl
+task_answers command.Direction t task of input = refl
+task_answers command.Settled t task of input = refl
+task_answers command.Negotiate t task of input = absurd of
+
+-- a negotiator that is not made leaves the writer as it was
+pub unavailable : (c : Command) (t : Tables) (e : LocaleExpander) → c ≡ command.Negotiate → AreSettled (likely e) → (input : List ℕ) (wrote : Stream) (refusal : CliError) → IsRefusedList (likely e) (first_line input) refusal → IsRefusedLines c t input wrote wrote refusal
+unavailable c t e negotiates settled input wrote (Available p) h = ((negotiates, h), refl)
+unavailable c t e negotiates settled input wrote Memory h = inl refl
+unavailable c t e negotiates settled input wrote NotSettled h = absurd (h settled)
+unavailable c t e negotiates settled input wrote Usage h = absurd h
+unavailable c t e negotiates settled input wrote (error.Tables p) h = absurd h
+unavailable c t e negotiates settled input wrote (Data p) h = absurd h
+unavailable c t e negotiates settled input wrote Read h = absurd h
+unavailable c t e negotiates settled input wrote Write h = absurd h
+
+-- output is not refused by these
 no_usage : (t : Tables) (input : List ℕ) (wrote wrote' : Stream) (c : Command) → IsRefusedOutput c t input wrote wrote' Usage → ⊥
 no_usage t input wrote wrote' command.Settled h = h
 no_usage t input wrote wrote' command.Maximize h = h
@@ -86,6 +135,7 @@ no_usage t input wrote wrote' command.Minimize h = h
 no_usage t input wrote wrote' command.MinimizeScript h = h
 no_usage t input wrote wrote' command.Canonicalize h = h
 no_usage t input wrote wrote' command.Direction h = h
+no_usage t input wrote wrote' command.Negotiate h = h
 
 no_read : (t : Tables) (input : List ℕ) (wrote wrote' : Stream) (c : Command) → IsRefusedOutput c t input wrote wrote' Read → ⊥
 no_read t input wrote wrote' command.Settled h = h
@@ -94,6 +144,7 @@ no_read t input wrote wrote' command.Minimize h = h
 no_read t input wrote wrote' command.MinimizeScript h = h
 no_read t input wrote wrote' command.Canonicalize h = h
 no_read t input wrote wrote' command.Direction h = h
+no_read t input wrote wrote' command.Negotiate h = h
 
 no_tables : (t : Tables) (input : List ℕ) (wrote wrote' : Stream) (e : TableError) (c : Command) → IsRefusedOutput c t input wrote wrote' (error.Tables e) → ⊥
 no_tables t input wrote wrote' e command.Settled h = h
@@ -102,6 +153,7 @@ no_tables t input wrote wrote' e command.Minimize h = h
 no_tables t input wrote wrote' e command.MinimizeScript h = h
 no_tables t input wrote wrote' e command.Canonicalize h = h
 no_tables t input wrote wrote' e command.Direction h = h
+no_tables t input wrote wrote' e command.Negotiate h = h
 
 -- so what output leaves is what the run over the tables of the first line leaves
 pub stopped_json : (t : Tables) (wrote wrote' : Stream) (c : Command) (r : Result Status CliError) (read read' : Stream) (rest : List ℕ) → ReadsTables read read' t rest → IfErr r (IsRefusedOutput c t rest wrote wrote') → IfErr r (IsRefusedJsonRun c read read' wrote wrote')
@@ -112,3 +164,5 @@ stopped_json t wrote wrote' c (Err Read) read read' rest reads h = absurd (no_re
 stopped_json t wrote wrote' c (Err Memory) read read' rest reads h = inr (t, rest, reads, h)
 stopped_json t wrote wrote' c (Err (Data e)) read read' rest reads h = (t, rest, reads, h)
 stopped_json t wrote wrote' c (Err Write) read read' rest reads h = (t, rest, reads, h)
+stopped_json t wrote wrote' c (Err (Available e)) read read' rest reads h = (t, rest, reads, h)
+stopped_json t wrote wrote' c (Err NotSettled) read read' rest reads h = (t, rest, reads, h)

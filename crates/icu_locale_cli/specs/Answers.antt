@@ -1,25 +1,28 @@
 -- What is written for each line that is read.
 use Rattle.std.specs.Prelude.{◌≡◌, ◌≢◌, ◌↔◌, ◌⊎◌, ℕ, Bool, true, false, List, [], None, codes}
-use Rattle.icu_locale_core.specs.Identifier.{IsIdentifier, Spells, starts_with_language}
+use Rattle.icu_locale_core.specs.Identifier.{IsIdentifier, Spells}
 use Rattle.icu_locale_core.specs.ParseError.{error_name}
 use Rattle.icu_locale_core.specs.declared.langid.LanguageIdentifier.{LanguageIdentifier}
 use Rattle.icu_locale_core.specs.declared.locale.Locale.{Locale}
 use Rattle.icu_locale_core.specs.declared.parse_error.ParseError.{ParseError}
-use Rattle.icu_locale_core.specs.declared.parse_error.ParseError.TheVariants.{InvalidLanguage}
-use Rattle.icu_locale_core.specs.declared.parse_error.ParseError.TheVariants.{InvalidSubtag, Memory}
 use Rattle.icu_locale.specs.LikelySubtags.{LikelySubtags, maximal, IsModified, likely_script}
 use Rattle.icu_locale.specs.Minimal.{IsMinimalForm}
 use Rattle.icu_locale.specs.declared.expander.Favor.TheVariants.{RegionFirst, ScriptFirst}
 use Rattle.icu_locale.specs.LikelyTable.{likely}
 use Rattle.icu_locale.specs.Canonical.{IsCanonical, is_applied, answer_of}
 use Rattle.icu_locale.specs.Refusals.{ComesAgainFirst}
+use Rattle.icu_locale.specs.Negotiation.{Negotiation}
 use Rattle.icu_locale.specs.Direction.{direction_of}
 use Rattle.icu_locale.specs.declared.canonicalizer.rules.Rules.{Rules}
 use Rattle.icu_locale.specs.declared.expander.TransformResult.{TransformResult}
 use Rattle.icu_locale.specs.declared.expander.TransformResult.TheVariants.{Modified}
+use Rattle.icu_locale_cli.specs.declared.task.Task.{Task}
+use Rattle.icu_locale_cli.specs.declared.task.Task.TheVariants.{Maximize, Minimize, MinimizeScript}
+use Rattle.icu_locale_cli.specs.declared.task.Task.TheVariants.{Canonicalize, Direction}
 use Rattle.icu_locale_cli.specs.declared.work.Work.{Work}
-use Rattle.icu_locale_cli.specs.declared.work.Work.TheVariants.{Maximize, Minimize, MinimizeScript}
-use Rattle.icu_locale_cli.specs.declared.work.Work.TheVariants.{Canonicalize, Direction}
+use Rattle.icu_locale_cli.specs.declared.work.Work.TheVariants.{Identifiers, Requests}
+use Rattle.icu_locale_cli.specs.Lists.{listed, SpellsAll, IsRefusal, IsFirstFault}
+use Rattle.icu_locale_cli.specs.Negotiations.{IsNegotiatedLine}
 use Rattle.icu_locale_cli.specs.Texts.{transformed_line, refused_line, direction_line}
 
 -- some identifier and answer that fit, in one line that is accepted
@@ -42,8 +45,8 @@ IsCanonicalized likely rules old text accepted =
     ⊎ ((z : LanguageIdentifier) × ComesAgainFirst likely rules old z
     × (text ≡ refused_line (codes "NoFixedPoint")) × (accepted ≡ false))
 
--- the line of an identifier: what the work makes of it
-abbrev pub IsLineOf : Work → LanguageIdentifier → List ℕ → Bool → Type 0
+-- the line of an identifier: what the task makes of it
+abbrev pub IsLineOf : Task → LanguageIdentifier → List ℕ → Bool → Type 0
 IsLineOf (Maximize e) x text accepted = IsTransformed
     (λ y m. (y ≡ maximal (likely e) x) × ((m ≡ Modified) ↔ IsModified (likely e) x)) text accepted
 IsLineOf (Minimize e) x text accepted = IsTransformed
@@ -56,16 +59,22 @@ IsLineOf (Direction d) x text accepted = (text
     ≡ direction_line (direction_of d.script_direction.now (likely_script (likely d.expander) x)))
     × (accepted ≡ true)
 
--- why a line spells no identifier
-abbrev pub IsRefusal : List ℕ → ParseError → Type 0
-IsRefusal line InvalidLanguage = starts_with_language line ≡ false
-IsRefusal line InvalidSubtag = (starts_with_language line ≡ true)
-    × ((x : LanguageIdentifier) → IsIdentifier x → ¬ (Spells line x))
-IsRefusal line Memory = ⊥
-
 -- a line that spells an identifier gives its line; every other gives the refusal's
-abbrev pub IsAnswer : Work → List ℕ → List ℕ → Bool → Type 0
-IsAnswer work line text accepted =
-    ((x : LanguageIdentifier) × IsIdentifier x × Spells line x × IsLineOf work x text accepted)
+abbrev pub IsIdentifierAnswer : Task → List ℕ → List ℕ → Bool → Type 0
+IsIdentifierAnswer task line text accepted =
+    ((x : LanguageIdentifier) × IsIdentifier x × Spells line x × IsLineOf task x text accepted)
     ⊎ ((e : ParseError) × IsRefusal line e × (text ≡ refused_line (error_name e))
     × (accepted ≡ false))
+
+-- a line that lists requests gives their line; every other gives the refusal of its first fault
+abbrev pub IsListAnswer : Negotiation → List ℕ → List ℕ → Bool → Type 0
+IsListAnswer negotiation line text accepted =
+    ((requests : List LanguageIdentifier) × SpellsAll (listed line) requests
+    × IsNegotiatedLine negotiation requests text × (accepted ≡ true))
+    ⊎ ((e : ParseError) × IsFirstFault (listed line) e × (text ≡ refused_line (error_name e))
+    × (accepted ≡ false))
+
+-- the answer to a line
+abbrev pub IsAnswer : Work → List ℕ → List ℕ → Bool → Type 0
+IsAnswer (Identifiers task) line text accepted = IsIdentifierAnswer task line text accepted
+IsAnswer (Requests negotiation) line text accepted = IsListAnswer negotiation line text accepted

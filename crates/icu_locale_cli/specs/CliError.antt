@@ -1,12 +1,13 @@
 -- The words of each refusal of a run.
 use Rattle.std.specs.Prelude.{ℕ, List, codes, ◌++◌}
+use Rattle.icu_locale_core.specs.ParseError.{error_name}
 use Rattle.icu_provider.specs.DataError.{kind_name}
 use Rattle.icu_tables.specs.declared.error.TableError.{TableError}
 use Rattle.icu_tables.specs.declared.error.TableError.TheVariants.{Json, Shape}
 use Rattle.icu_tables.specs.declared.error.TableError.TheVariants as tables
 use Rattle.icu_locale_cli.specs.declared.error.CliError.{CliError}
 use Rattle.icu_locale_cli.specs.declared.error.CliError.TheVariants.{Usage, Tables, Data, Read}
-use Rattle.icu_locale_cli.specs.declared.error.CliError.TheVariants.{Write, Memory}
+use Rattle.icu_locale_cli.specs.declared.error.CliError.TheVariants.{Write, Memory, Available, NotSettled}
 
 -- the name of a refusal of tables
 abbrev pub table_error_name : TableError → List ℕ
@@ -22,3 +23,5 @@ error_words (Data e) = codes "data: " ++ kind_name e.kind
 error_words Read = codes "read failed"
 error_words Write = codes "write failed"
 error_words Memory = codes "no memory"
+error_words (Available e) = codes "available: " ++ error_name e
+error_words NotSettled = codes "tables not settled"

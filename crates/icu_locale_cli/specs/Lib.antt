@@ -2,7 +2,9 @@ pub mod Answers
 pub mod CliError
 pub mod Commands
 pub mod Lines
+pub mod Lists
 pub mod Loads
+pub mod Negotiations
 pub mod Output
 pub mod Runs
 pub mod Texts

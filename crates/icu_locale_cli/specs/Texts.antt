@@ -1,5 +1,6 @@
 -- The lines that are written.
 use Rattle.std.specs.Prelude.{ℕ, List, ◌++◌, codes, Bool, true, false, Option, Some, None}
+use Rattle.std.specs.Fmt.{decimal}
 use Rattle.icu_locale.specs.declared.directionality.Direction.{Direction}
 use Rattle.icu_locale.specs.declared.directionality.Direction.TheVariants.{LeftToRight, RightToLeft}
 use Rattle.icu_locale_core.specs.Identifier.{written}
@@ -30,3 +31,7 @@ direction_line None = codes "none\n"
 abbrev pub settled_line : Bool → List ℕ
 settled_line true = codes "yes\n"
 settled_line false = codes "no\n"
+
+-- the place of a request, a tab, and the available identifier in written case
+abbrev pub matched_line : ℕ → LanguageIdentifier → List ℕ
+matched_line place x = decimal place ++ (codes "\t" ++ (written x ++ codes "\n"))

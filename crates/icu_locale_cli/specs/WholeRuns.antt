@@ -4,6 +4,7 @@ use Rattle.std.specs.Io.KnownBytes.{Appends}
 use Rattle.icu_locale.specs.LikelyTable.{likely}
 use Rattle.icu_locale.specs.Settled.{AreSettled}
 use Rattle.icu_locale.specs.declared.expander.LocaleExpander.{LocaleExpander}
+use Rattle.icu_locale_core.specs.declared.parse_error.ParseError.{ParseError}
 use Rattle.icu_tables.specs.Rows.{rows_of}
 use Rattle.icu_tables.specs.Text.{rows_in}
 use Rattle.icu_tables.specs.declared.tables.Tables.{Tables}
@@ -15,18 +16,19 @@ use Rattle.icu_locale_cli.specs.declared.status.Status.{Status}
 use Rattle.icu_locale_cli.specs.declared.status.Status.TheVariants.{Accepted}
 use Rattle.icu_locale_cli.specs.declared.work.Work.{Work}
 use Rattle.icu_locale_cli.specs.Lines.{first_line, after_first_line}
+use Rattle.icu_locale_cli.specs.Lists.{listed, IsFirstFault}
 use Rattle.icu_locale_cli.specs.Loads.{IsExpanderOf, not_found}
 use Rattle.icu_locale_cli.specs.Output.{Stream, AppendsPart}
 use Rattle.icu_locale_cli.specs.Runs.{ReadsAll, WritesAll, WritesWholeLines, WritesPart}
 use Rattle.icu_locale_cli.specs.Texts.{settled_line}
-use Rattle.icu_locale_cli.specs.Works.{IsWorkOf, has_tables}
+use Rattle.icu_locale_cli.specs.Works.{IsWorkOf, IsUnsettled, has_tables, text_answered}
 
--- the work of the command was done on every line of the input
+-- the work of the command was done on every line that it answers
 pub record WritesLines (c : Command) (t : Tables) (input : List ℕ) (wrote wrote' : Stream)
     (status : Status) : Type 0 where
   pub work : Work
-  pub work_of : IsWorkOf c t work
-  pub all_written : WritesAll work input wrote wrote' status
+  pub work_of : IsWorkOf c t input work
+  pub all_written : WritesAll work (text_answered c input) wrote wrote' status
 
 -- the answer tells whether the tables are settled
 pub record TellsSettled (t : Tables) (answer : Bool) : Type 0 where
@@ -50,16 +52,21 @@ WritesOutput c t input wrote wrote' status = WritesLines c t input wrote wrote' 
 pub record StopsAmongLines (Leaves : Work → List ℕ → Stream → Stream → Type 0) (c : Command)
     (t : Tables) (input : List ℕ) (wrote wrote' : Stream) : Type 0 where
   pub work : Work
-  pub work_of : IsWorkOf c t work
-  pub left : Leaves work input wrote wrote'
+  pub work_of : IsWorkOf c t input work
+  pub left : Leaves work (text_answered c input) wrote wrote'
 
 -- a beginning of the one line was written
 abbrev pub WritesPartOfSettled : Tables → Stream → Stream → Type 0
 WritesPartOfSettled t wrote wrote' =
     (answer : Bool) × TellsSettled t answer × AppendsPart wrote wrote' (settled_line answer)
 
--- what lines that stop early leave: a table that is not held leaves the writer as it was; where memory was refused whole
--- lines alone are written; a failed write leaves the earlier lines and a beginning of the one in hand
+-- the first line of an input, which lists what `negotiate` has available, has a fault
+abbrev pub IsUnavailable : Command → List ℕ → ParseError → Type 0
+IsUnavailable c input e = (c ≡ command.Negotiate) × IsFirstFault (listed (first_line input)) e
+
+-- what lines that stop early leave: a table that is not held, tables that are not settled and a fault among the
+-- available identifiers leave the writer as it was; where memory was refused whole lines alone are written; a failed
+-- write leaves the earlier lines and a beginning of the one in hand
 abbrev pub IsRefusedLines : Command → Tables → List ℕ → Stream → Stream → CliError → Type 0
 IsRefusedLines c t input wrote wrote' (error.Data e) =
     (e ≡ not_found) × (has_tables c t ≡ false) × (wrote' ≡ wrote)
@@ -67,6 +74,9 @@ IsRefusedLines c t input wrote wrote' error.Memory =
     (wrote' ≡ wrote) ⊎ StopsAmongLines WritesWholeLines c t input wrote wrote'
 IsRefusedLines c t input wrote wrote' error.Write =
     StopsAmongLines WritesPart c t input wrote wrote'
+IsRefusedLines c t input wrote wrote' (error.Available e) =
+    IsUnavailable c input e × (wrote' ≡ wrote)
+IsRefusedLines c t input wrote wrote' error.NotSettled = IsUnsettled c t × (wrote' ≡ wrote)
 IsRefusedLines c t input wrote wrote' e = ⊥
 
 -- what a refused `settled` leaves: `Memory` is not answered
@@ -88,8 +98,8 @@ IsRun command.Settled t read read' wrote wrote' status =
 IsRun c t read read' wrote wrote' status =
     (input : List ℕ) × ReadsAll read read' input × WritesLines c t input wrote wrote' status
 
--- what a refused run over lines leaves: a table that is not held is found before anything is read, and a failed read leaves
--- the writer as it was
+-- what a refused run over lines leaves: a table that is not held and tables that are not settled are found before
+-- anything is read, a fault among the available identifiers when all is read, and nothing is written then
 abbrev pub IsRefusedLineRun : Command → Tables → Stream → Stream → Stream → Stream → CliError
     → Type 0
 IsRefusedLineRun c t read read' wrote wrote' (error.Data e) =
@@ -100,6 +110,10 @@ IsRefusedLineRun c t read read' wrote wrote' error.Memory = (wrote' ≡ wrote)
     × StopsAmongLines WritesWholeLines c t input wrote wrote')
 IsRefusedLineRun c t read read' wrote wrote' error.Write =
     (input : List ℕ) × ReadsAll read read' input × StopsAmongLines WritesPart c t input wrote wrote'
+IsRefusedLineRun c t read read' wrote wrote' (error.Available e) =
+    ((input : List ℕ) × ReadsAll read read' input × IsUnavailable c input e) × (wrote' ≡ wrote)
+IsRefusedLineRun c t read read' wrote wrote' error.NotSettled =
+    IsUnsettled c t × (read' ≡ read) × (wrote' ≡ wrote)
 IsRefusedLineRun c t read read' wrote wrote' e = ⊥
 
 -- what a refused run leaves

@@ -1,12 +1,19 @@
 -- What each command works with.
-use Rattle.std.specs.Prelude.{◌≡◌, Bool, ◌&&◌, Some, is_some, IsSomeAnd}
+use Rattle.std.specs.Prelude.{◌≡◌, ℕ, List, Bool, true, ◌&&◌, Some, is_some, IsSomeAnd}
+use Rattle.icu_locale.specs.LikelyTable.{likely}
 use Rattle.icu_locale.specs.Rules.{AreRules}
+use Rattle.icu_locale.specs.Settled.{AreSettled}
+use Rattle.icu_locale.specs.declared.expander.LocaleExpander.{LocaleExpander}
 use Rattle.icu_tables.specs.declared.tables.Tables.{Tables}
+use Rattle.icu_locale_cli.specs.Lines.{first_line, after_first_line}
+use Rattle.icu_locale_cli.specs.Lists.{listed, SpellsAll}
 use Rattle.icu_locale_cli.specs.Loads.{IsExpanderOf, has_likely}
 use Rattle.icu_locale_cli.specs.declared.command.Command.{Command}
 use Rattle.icu_locale_cli.specs.declared.command.Command.TheVariants as command
+use Rattle.icu_locale_cli.specs.declared.task.Task.{Task}
+use Rattle.icu_locale_cli.specs.declared.task.Task.TheVariants as task
 use Rattle.icu_locale_cli.specs.declared.work.Work.{Work}
-use Rattle.icu_locale_cli.specs.declared.work.Work.TheVariants as work
+use Rattle.icu_locale_cli.specs.declared.work.Work.TheVariants.{Identifiers, Requests}
 
 -- the tables that a command needs are held
 abbrev pub has_tables : Command → Tables → Bool
@@ -14,13 +21,31 @@ has_tables command.Canonicalize t = has_likely t && is_some t.aliases
 has_tables command.Direction t = has_likely t && is_some t.script_direction
 has_tables c t = has_likely t
 
--- the work of a command over tables
-abbrev pub IsWorkOf : Command → Tables → Work → Type 0
-IsWorkOf command.Maximize t (work.Maximize e) = IsExpanderOf t e
-IsWorkOf command.Minimize t (work.Minimize e) = IsExpanderOf t e
-IsWorkOf command.MinimizeScript t (work.MinimizeScript e) = IsExpanderOf t e
-IsWorkOf command.Canonicalize t (work.Canonicalize c) =
+-- `negotiate` is asked over likely tables that are not settled
+pub record IsUnsettled (c : Command) (t : Tables) : Type 0 where
+  pub negotiates : c ≡ command.Negotiate
+  pub held : has_likely t ≡ true
+  pub unsettled : (e : LocaleExpander) → IsExpanderOf t e → ¬ (AreSettled (likely e))
+
+-- what a command does with the identifier of each line
+abbrev pub IsTaskOf : Command → Tables → Task → Type 0
+IsTaskOf command.Maximize t (task.Maximize e) = IsExpanderOf t e
+IsTaskOf command.Minimize t (task.Minimize e) = IsExpanderOf t e
+IsTaskOf command.MinimizeScript t (task.MinimizeScript e) = IsExpanderOf t e
+IsTaskOf command.Canonicalize t (task.Canonicalize c) =
     IsExpanderOf t c.expander × IsSomeAnd t.aliases (λ table. AreRules table c.rules)
-IsWorkOf command.Direction t (work.Direction d) =
+IsTaskOf command.Direction t (task.Direction d) =
     IsExpanderOf t d.expander × (t.script_direction ≡ Some d.script_direction.now)
-IsWorkOf c t other = ⊥
+IsTaskOf c t other = ⊥
+
+-- the work of a command over tables; the first line of the input lists what `negotiate` has
+-- available
+abbrev pub IsWorkOf : Command → Tables → List ℕ → Work → Type 0
+IsWorkOf c t input (Identifiers task) = IsTaskOf c t task
+IsWorkOf c t input (Requests n) = (c ≡ command.Negotiate) × IsExpanderOf t n.expander
+    × SpellsAll (listed (first_line input)) n.available
+
+-- the text whose lines a command answers: for `negotiate` without its first
+abbrev pub text_answered : Command → List ℕ → List ℕ
+text_answered command.Negotiate input = after_first_line input
+text_answered c input = input

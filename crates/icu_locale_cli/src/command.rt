@@ -20,6 +20,8 @@ pub enum Command {
     Direction,
     /// Whether the tables are settled. No line is used.
     Settled,
+    /// Which of the available identifiers, which the first line lists, means what some request of a line means.
+    Negotiate,
 }
 
 impl Command {
@@ -56,6 +58,7 @@ impl Command {
             "canonicalize" => Ok(Command::Canonicalize),
             "direction" => Ok(Command::Direction),
             "settled" => Ok(Command::Settled),
+            "negotiate" => Ok(Command::Negotiate),
             _ => Err(CliError::Usage),
         }
     }

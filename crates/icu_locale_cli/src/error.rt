@@ -3,6 +3,7 @@ ghost use Rattle.std.specs.Prelude.{◌≡◌, Some};
 ghost use Rattle.icu_locale_cli.specs.CliError.{error_words, table_error_name};
 ghost use Rattle.icu_locale_cli.specs.declared.error.CliError.TheVariants.{Data, Memory};
 
+use icu_locale_core::ParseError;
 use icu_provider::DataError;
 use icu_tables::TableError;
 use std::alloc::AllocError;
@@ -24,6 +25,10 @@ pub enum CliError {
     Write,
     /// Memory was asked for and refused. Whole lines only were written.
     Memory,
+    /// The line that lists the available identifiers has a fault. Nothing was written.
+    Available(ParseError),
+    /// The likely tables that `negotiate` needs are not settled. Nothing was written.
+    NotSettled,
 }
 
 impl fmt::Display for CliError {
@@ -43,6 +48,11 @@ impl fmt::Display for CliError {
             CliError::Read => f.write_str("read failed"),
             CliError::Write => f.write_str("write failed"),
             CliError::Memory => f.write_str("no memory"),
+            CliError::Available(refusal) => {
+                f.write_str("available: ")?;
+                fmt::Display::fmt(refusal, f)
+            }
+            CliError::NotSettled => f.write_str("tables not settled"),
         }
     }
 }

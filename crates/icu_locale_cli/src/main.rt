@@ -1,15 +1,19 @@
 //! Locale identifiers on the command line: each line of the input is one, and each line of the output its answer.
 #![tactic(auto)]
 
+mod answer;
 mod answers;
 mod command;
 mod error;
 mod input;
 mod lines;
+mod lists;
+mod loads;
 mod output;
 mod run;
 mod sample;
 mod status;
+mod task;
 #[cfg(test)]
 mod tests;
 mod work;

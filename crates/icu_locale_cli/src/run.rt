@@ -4,30 +4,32 @@ ghost use Rattle.icu_tables.specs.Rows.{rows_of};
 ghost use Rattle.icu_tables.specs.Text.{rows_in};
 ghost use Rattle.icu_locale_cli.specs.Loads.{not_found};
 ghost use Rattle.icu_locale_cli.specs.Texts.{settled_line};
-ghost use Rattle.icu_locale_cli.specs.Works.{has_tables};
+ghost use Rattle.icu_locale_cli.specs.Works.{IsUnsettled, has_tables};
 ghost use Rattle.icu_locale_cli.specs.WholeRuns.{IsRun, IsRefusedRun, WritesSettled};
 ghost use Rattle.icu_locale_cli.specs.WholeRuns.{IsRefusedSettled, WritesOutput, IsRefusedOutput};
 ghost use Rattle.icu_locale_cli.specs.WholeRuns.{IsJsonRun, IsRefusedJsonRun};
 ghost use Rattle.icu_locale_cli.specs.inner.Causes.{IsRefusedReading};
 
-use crate::answers::write_answers;
 use crate::command::Command;
 use crate::error::CliError;
 use crate::input::{MOST_READS, read_all};
 use crate::lines::cut;
+use crate::loads::{Loaded, load_expander};
 use crate::output::write_line;
 use crate::status::Status;
-use crate::work::{Work, load_expander};
 use icu_tables::{TableError, Tables};
 use std::alloc::Global;
 use std::io::{Read, Write};
 
 /// Loads the tables that the command needs, reads the reader to its end, and writes one line for each of its lines,
-/// made whole before it is written. `Settled` reads nothing and writes one line.
+/// made whole before it is written; `Negotiate` uses the first for what is available. `Settled` reads nothing and writes
+/// one line.
 ///
 /// # Errors
 ///
 /// - `Data` exactly where a needed table is not held: nothing was read or written.
+/// - `NotSettled` exactly where `Negotiate` finds likely tables that are not settled: nothing was read or written.
+/// - `Available` where the first line, which lists what `Negotiate` has available, has a fault: nothing was written.
 /// - `Read` where a read failed or the input did not end: nothing was written.
 /// - `Write` where a write failed or took no byte: the earlier lines were written, and a beginning of the one in hand.
 /// - `Memory` where memory was refused: whole lines only were written.
@@ -42,15 +44,17 @@ pub fn run<R: Read, W: Write>(
         (R.remaining reader.new) (W.contents writer.old) (W.contents writer.new)) }
     ensures data { (result ≡ Err (CliError.Data not_found))
         ↔ (has_tables command.now tables.now ≡ false) }
+    ensures unsettled { (result ≡ Err CliError.NotSettled)
+        ↔ IsUnsettled command.now tables.now }
     ensures refused { IfErr result (IsRefusedRun command.now tables.now (R.remaining reader.old)
         (R.remaining reader.new) (W.contents writer.old) (W.contents writer.new)) }
 {
     if *command == Command::Settled {
         return write_settled(tables, writer);
     }
-    let work = Work::load(alloc, command, tables)?;
+    let loaded = Loaded::load(alloc, command, tables)?;
     let input = read_all(alloc, reader, MOST_READS)?;
-    write_answers(alloc, &work, &input, writer)
+    loaded.write(alloc, &input, writer)
 }
 
 /// Reads the reader to its end, takes the tables of its first line as JSON, and does as `run` with the lines that are
@@ -60,7 +64,8 @@ pub fn run<R: Read, W: Write>(
 ///
 /// - `Read` where a read failed or the input did not end: nothing was written.
 /// - `Tables` where the first line gives no tables: nothing was written.
-/// - `Data` where these leave out a table that the command needs: nothing was written.
+/// - `Data` where these leave out a table that the command needs, `NotSettled` and `Available` as `run` answers them:
+///   nothing was written.
 /// - `Write` and `Memory` as `run` answers them.
 pub fn run_json<R: Read, W: Write>(
     alloc: Global,
@@ -107,8 +112,8 @@ fn write_output<W: Write>(
     if *command == Command::Settled {
         return write_settled(tables, writer);
     }
-    let work = Work::load(alloc, command, tables)?;
-    write_answers(alloc, &work, input, writer)
+    let loaded = Loaded::load(alloc, command, tables)?;
+    loaded.write(alloc, input, writer)
 }
 
 // One line, `yes` or `no`.

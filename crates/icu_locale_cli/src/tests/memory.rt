@@ -4,7 +4,10 @@ use crate::error::CliError;
 use crate::run::run;
 use crate::sample::{SAMPLE, sample};
 use crate::status::Status;
-use icu_locale::{CanonicalizeError, LocaleCanonicalizer, LocaleExpander, TransformResult};
+use icu_locale::{
+    CanonicalizeError, LocaleCanonicalizer, LocaleExpander, Negotiator, NegotiatorError,
+    TransformResult,
+};
 use icu_locale_core::{LanguageIdentifier, Locale, ParseError};
 use icu_provider::{DataProvider, SortedMap};
 use icu_tables::{TableError, Tables};
@@ -160,29 +163,44 @@ impl Write for HeldWriter {
     }
 }
 
-const ANSWERS: &[u8; 50] = b"zh-Hans-CN\tM\nen-Latn-US-posix\tM\n?\tInvalidLanguage\n";
+// Commands, inputs, and what is written where there is memory.
+const RUNS: [(Command, &str, &str); 2] = [
+    (
+        Command::Maximize,
+        "zh-CN\nEN_us-posix\n\n",
+        "zh-Hans-CN\tM\nen-Latn-US-posix\tM\n?\tInvalidLanguage\n",
+    ),
+    (
+        Command::Negotiate,
+        "en-US-posix zh-Hant yue-CN\nfr zh-TW\nen-1abc en-posix\ne\n",
+        "1\tzh-Hant\n1\ten-US-posix\n?\tInvalidLanguage\n",
+    ),
+];
 
-fn one_run(alloc: Global, tables: &Tables) -> Answered {
+fn one_run(alloc: Global, tables: &Tables, row: (Command, &str, &str)) -> Answered {
+    let (command, input, answers) = row;
     let mut writer = HeldWriter {
         bytes: [0; 128],
         len: 0,
     };
-    let mut reader = b"zh-CN\nEN_us-posix\n\n".as_slice();
-    let ended = run(alloc, &Command::Maximize, tables, &mut reader, &mut writer);
+    let mut reader = input.as_bytes();
+    let ended = run(alloc, &command, tables, &mut reader, &mut writer);
     let written = writer.bytes.get(..writer.len).unwrap_or(&[]);
     let whole_lines = written.last().copied().unwrap_or(b'\n') == b'\n';
     match ended {
-        Ok(Status::Refused) if written == ANSWERS.as_slice() => Answered::Whole,
-        Err(CliError::Memory) if whole_lines && ANSWERS.starts_with(written) => Answered::Refused,
+        Ok(Status::Refused) if written == answers.as_bytes() => Answered::Whole,
+        Err(CliError::Memory) if whole_lines && answers.as_bytes().starts_with(written) => {
+            Answered::Refused
+        }
         _ => Answered::Wrong,
     }
 }
 
-fn runs_by_budget(alloc: Global, tables: &Tables) -> Tally {
+fn runs_by_budget(alloc: Global, tables: &Tables, row: (Command, &str, &str)) -> Tally {
     let mut tally = Tally::new();
     for step in 0..1_000 {
         if let Ok(filler) = Vec::<u8>::with_capacity(alloc, 65_536 - 16 * step) {
-            tally.count(one_run(alloc, tables));
+            tally.count(one_run(alloc, tables, row));
             drop(filler);
         }
     }
@@ -192,12 +210,14 @@ fn runs_by_budget(alloc: Global, tables: &Tables) -> Tally {
 #[test]
 fn a_run_writes_whole_lines(rt: HostRuntime) -> Result<(), Fail> {
     let tables = sample(rt.alloc())?;
-    let spare = Vec::<u8>::with_capacity(rt.alloc(), 65_536)?;
-    let held = take_all(rt.alloc())?;
-    drop(spare);
-    let tally = runs_by_budget(rt.alloc(), &tables);
-    drop(held);
-    assert!(rt; tally.is_good());
+    for row in RUNS {
+        let spare = Vec::<u8>::with_capacity(rt.alloc(), 65_536)?;
+        let held = take_all(rt.alloc())?;
+        drop(spare);
+        let tally = runs_by_budget(rt.alloc(), &tables, row);
+        drop(held);
+        assert!(rt; tally.is_good());
+    }
     Ok(())
 }
 
@@ -339,5 +359,30 @@ fn tables_from_json(rt: HostRuntime) -> Result<(), Fail> {
         drop(held);
         assert!(rt; tally.is_good());
     }
+    Ok(())
+}
+
+// The available identifiers are read with ample memory; the list of their minimal forms is what is asked for.
+fn make_negotiator(
+    alloc: Global,
+    tables: &Tables,
+    available: Vec<LanguageIdentifier>,
+) -> Result<(bool, bool), AllocError> {
+    let Ok(expander) = LocaleExpander::try_new_common_unstable(tables) else {
+        return Ok((false, false));
+    };
+    let held = take_all(alloc)?;
+    let made = Negotiator::try_new(alloc, expander, available);
+    drop(held);
+    Ok((true, matches!(made, Err(NegotiatorError::Memory))))
+}
+
+#[test]
+fn a_negotiator_without_memory(rt: HostRuntime) -> Result<(), Fail> {
+    let tables = sample(rt.alloc())?;
+    let mut available = Vec::new(rt.alloc());
+    available.push(LanguageIdentifier::try_from_str(rt.alloc(), "en-US")?)?;
+    let (asked, refused) = make_negotiator(rt.alloc(), &tables, available)?;
+    assert!(rt; asked && refused);
     Ok(())
 }

@@ -4,6 +4,7 @@ use crate::error::CliError;
 use crate::run::{run, run_json};
 use crate::sample::{SAMPLE, sample};
 use crate::status::Status;
+use icu_locale_core::ParseError;
 use icu_provider::{DataError, DataErrorKind};
 use icu_tables::{TableError, Tables};
 use std::alloc::Global;
@@ -16,13 +17,16 @@ const SETTLED: &str =
 const UNSETTLED: &str =
     "{\"likely_language\":{\"und\":[\"en\",\"Latn\",\"US\"],\"language\":{\"xx\":[\"Zzzz\",\"DE\"]}},\"likely_script_region\":{}}\n";
 
+const NEGOTIATED: &str =
+    "{\"likely_language\":{\"und\":[\"en\",\"Latn\",\"US\"]},\"likely_script_region\":{}}\nde en-Latn\nfr und\n";
+
 const EXTENDED: &str =
     "{\"likely_language\":{\"und\":[\"en\",\"Latn\",\"US\"]},\"likely_script_region\":{},\
     \"likely_extended\":{\"language\":{\"az\":[\"Latn\",\"AZ\"]}},\
     \"aliases\":{\"language_len2\":{\"aa\":\"bb\",\"bb\":\"aa\"}},\"direction\":{\"ltr\":[\"Latn\"]}}\naz\naa\n";
 
 // Words, input, output, and 0, 1 or the words of the refusal.
-const RUNS: [(&str, &str, &str, &str); 30] = [
+const RUNS: [(&str, &str, &str, &str); 42] = [
     (
         "maximize",
         "zh-CN\nund-SA\n",
@@ -87,6 +91,30 @@ const RUNS: [(&str, &str, &str, &str); 30] = [
     ),
     ("direction", "en-Arab\nar\nund\n", "rtl\nrtl\nnone\n", "0"),
     ("settled", "never read", "yes\n", "0"),
+    (
+        "negotiate",
+        "en-US zh-Hant yue-CN\nzh-TW\nfr yue-Hans\nund-US\n",
+        "0\tzh-Hant\n1\tyue-CN\n0\ten-US\n",
+        "0",
+    ),
+    (
+        "negotiate",
+        "en-US zh-Hant yue-CN\nen-fonipa\n\n",
+        "none\nnone\n",
+        "0",
+    ),
+    (
+        "negotiate",
+        "en-US zh-Hant yue-CN\nen e\nen  de\nzh-TW de-DE-\nzh_tw",
+        "?\tInvalidLanguage\n?\tInvalidLanguage\n?\tInvalidSubtag\n0\tzh-Hant\n",
+        "1",
+    ),
+    ("negotiate", "en en-US en-Latn\nen-US\n", "0\ten\n", "0"),
+    ("negotiate", "de en\nen de\n", "0\ten\n", "0"),
+    ("negotiate", "en-\nen\n", "", "available: InvalidSubtag"),
+    ("negotiate", "en \nen\n", "", "available: InvalidLanguage"),
+    ("negotiate", "\nen\n", "none\n", "0"),
+    ("negotiate", "", "", "0"),
     ("maximize json", "{}", "", "data: IdentifierNotFound"),
     ("canonicalize json", SETTLED, "", "data: IdentifierNotFound"),
     ("direction json", SETTLED, "", "data: IdentifierNotFound"),
@@ -95,6 +123,9 @@ const RUNS: [(&str, &str, &str, &str); 30] = [
     ("maximize json", "{\"colour\":1}\nen\n", "", "tables: Shape"),
     ("settled json", UNSETTLED, "no\n", "0"),
     ("settled json", SETTLED, "yes\n", "0"),
+    ("negotiate json", "{}\nen\n", "", "data: IdentifierNotFound"),
+    ("negotiate json", UNSETTLED, "", "tables not settled"),
+    ("negotiate json", NEGOTIATED, "1\ten-Latn\n", "0"),
     ("maximize json", EXTENDED, "az-Latn-AZ\tM\naa\tU\n", "0"),
     ("minimize json", EXTENDED, "az\tU\naa\tU\n", "0"),
     (
@@ -246,6 +277,11 @@ fn words_of_refusals(rt: HostRuntime) -> Result<(), Fail> {
         (CliError::Read, "read failed"),
         (CliError::Write, "write failed"),
         (CliError::Memory, "no memory"),
+        (
+            CliError::Available(ParseError::InvalidSubtag),
+            "available: InvalidSubtag",
+        ),
+        (CliError::NotSettled, "tables not settled"),
     ] {
         assert_eq!(rt; format!(in rt.alloc(); "{refusal}")?.as_str(), want);
     }

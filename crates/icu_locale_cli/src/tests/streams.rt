@@ -62,12 +62,13 @@ impl Write for SlowWriter {
     }
 }
 
-const COMMANDS: [Command; 5] = [
+const COMMANDS: [Command; 6] = [
     Command::Maximize,
     Command::Minimize,
     Command::MinimizeScript,
     Command::Canonicalize,
     Command::Direction,
+    Command::Negotiate,
 ];
 
 fn failed_reads(rt: &impl Abort, alloc: Global, tables: &Tables) {

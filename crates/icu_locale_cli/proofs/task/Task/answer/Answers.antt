@@ -5,7 +5,7 @@ use Rattle.icu_locale.specs.declared.expander.Favor.TheVariants.{RegionFirst, Sc
 use Rattle.icu_locale.specs.LikelyTable.{likely}
 use Rattle.icu_locale.specs.declared.expander.TransformResult.TheVariants.{Modified}
 use Rattle.icu_locale_cli.proofs.LineAnswers.{transformed_from_line, plain_from_line}
-use Rattle.icu_locale_cli.proofs.work.Work.answer_identifier.Goals as goal
+use Rattle.icu_locale_cli.proofs.task.Task.answer.Goals as goal
 
 pub returns-in-Maximize-clause-answer : goal.returns-in-Maximize-clause-answer
 returns-in-Maximize-clause-answer c =

@@ -2,7 +2,7 @@ use Rattle.std.proofs.Common.{subst}
 use Rattle.icu_locale.specs.Refusals.{IsRefusal}
 use Rattle.icu_locale.specs.LikelyTable.{likely}
 use Rattle.icu_locale_cli.proofs.LineAnswers.{canonicalized_from_line, repeated_from_line}
-use Rattle.icu_locale_cli.proofs.work.canonicalized.Goals as goal
+use Rattle.icu_locale_cli.proofs.task.canonicalized.Goals as goal
 
 pub returns-in-Ok-clause-answer : goal.returns-in-Ok-clause-answer
 returns-in-Ok-clause-answer c =

@@ -1,0 +1,119 @@
+//! What is done with an identifier.
+ghost use Rattle.std.specs.Prelude.{◌≡◌, IfOk, IfErr, true};
+ghost use Rattle.std.specs.String.{string_bytes};
+ghost use Rattle.icu_locale.specs.LikelyTable.{likely};
+ghost use Rattle.icu_locale_cli.specs.Answers.{IsCanonicalized, IsLineOf};
+ghost use Rattle.icu_locale_cli.specs.Texts.{transformed_line, direction_line};
+
+use crate::answer::{Answer, refused};
+use crate::error::CliError;
+use icu_locale::{
+    CanonicalizeError, Direction, LocaleCanonicalizer, LocaleDirectionality, LocaleExpander,
+    TransformResult,
+};
+use icu_locale_core::{LanguageIdentifier, Locale};
+use std::alloc::Global;
+
+/// What is done with the identifier of each line, over tables that it borrows.
+#[derive(Drop)]
+pub enum Task<'d> {
+    /// Maximal forms.
+    Maximize(LocaleExpander<'d>),
+    /// Minimal forms, the region kept before the script.
+    Minimize(LocaleExpander<'d>),
+    /// Minimal forms, the script kept before the region.
+    MinimizeScript(LocaleExpander<'d>),
+    /// Canonical forms.
+    Canonicalize(LocaleCanonicalizer<'d>),
+    /// Directions.
+    Direction(LocaleDirectionality<'d>),
+}
+
+impl<'d> Task<'d> {
+    // The answer to an identifier.
+    pub fn answer(
+        &self,
+        alloc: Global,
+        mut identifier: LanguageIdentifier,
+    ) -> Result<Answer, CliError>
+        ensures answer { IfOk result (λ a. IsLineOf self.now identifier (string_bytes a.text)
+            a.accepted) }
+        ensures refused { IfErr result (λ e. e ≡ CliError.Memory) }
+    {
+        match self {
+            Task::Maximize(expander) => {
+                let changed = expander.maximize(&mut identifier);
+                transformed(alloc, &identifier, changed)
+            }
+            Task::Minimize(expander) => {
+                let changed = expander.minimize(&mut identifier);
+                transformed(alloc, &identifier, changed)
+            }
+            Task::MinimizeScript(expander) => {
+                let changed = expander.minimize_favor_script(&mut identifier);
+                transformed(alloc, &identifier, changed)
+            }
+            Task::Canonicalize(canonicalizer) => {
+                canonicalized(alloc, canonicalizer, Locale::new(alloc, identifier))
+            }
+            Task::Direction(directionality) => directed(alloc, directionality.get(&identifier)),
+        }
+    }
+}
+
+// The line of a locale, of which the identifier is written.
+fn canonicalized(
+    alloc: Global,
+    canonicalizer: &LocaleCanonicalizer<'_>,
+    mut locale: Locale,
+) -> Result<Answer, CliError>
+    ensures answer { IfOk result (λ a. IsCanonicalized (likely canonicalizer.now.expander)
+        canonicalizer.now.rules locale (string_bytes a.text) a.accepted) }
+    ensures refused { IfErr result (λ e. e ≡ CliError.Memory) }
+{
+    match canonicalizer.canonicalize(&mut locale) {
+        Ok(changed) => transformed(alloc, &locale.id, changed),
+        Err(CanonicalizeError::Memory) => Err(CliError::Memory),
+        Err(CanonicalizeError::NoFixedPoint(again)) => {
+            refused(alloc, CanonicalizeError::NoFixedPoint(again))
+        }
+    }
+}
+
+// The line of a direction.
+fn directed(alloc: Global, direction: Option<Direction>) -> Result<Answer, CliError>
+    ensures answer { IfOk result (λ a. (string_bytes a.text ≡ direction_line direction)
+        × (a.accepted ≡ true)) }
+    ensures refused { IfErr result (λ e. e ≡ CliError.Memory) }
+{
+    let line = match direction {
+        Some(Direction::LeftToRight) => "ltr\n",
+        Some(Direction::RightToLeft) => "rtl\n",
+        None => "none\n",
+    };
+    Ok(Answer {
+        text: String::from_str(alloc, line)?,
+        accepted: true,
+    })
+}
+
+// The line of an identifier and whether it was changed.
+fn transformed(
+    alloc: Global,
+    identifier: &LanguageIdentifier,
+    changed: TransformResult,
+) -> Result<Answer, CliError>
+    ensures answer { IfOk result (λ a.
+        (string_bytes a.text ≡ transformed_line identifier.now changed)
+        × (a.accepted ≡ true)) }
+    ensures refused { IfErr result (λ e. e ≡ CliError.Memory) }
+{
+    let mark = match changed {
+        TransformResult::Modified => 'M',
+        TransformResult::Unmodified => 'U',
+    };
+    Ok(Answer {
+        text: format!(in alloc; "{identifier}\t{mark}\n")?,
+        accepted: true,
+    })
+}
