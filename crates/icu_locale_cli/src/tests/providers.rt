@@ -1,8 +1,9 @@
 //! Providers that refuse a load.
-ghost use Rattle.std.specs.Prelude.{Err};
+ghost use Rattle.std.specs.Prelude.{◌≡◌, Err, if◌then◌else◌, true};
 ghost use Rattle.std.specs.Option.{option_map, unwrap_or};
 ghost use Rattle.icu_locale_core.specs.Maps.{value_at};
 ghost use Rattle.icu_provider.specs.Requests.{exemplar_cmp};
+ghost use Rattle.icu_provider.specs.contracts.names.NameMarkerPartialEq.TheImpl as name_marker;
 ghost use Rattle.icu_tables.specs.Tables.{held, name_in};
 
 use crate::sample::sample;
@@ -33,6 +34,20 @@ struct Refusing<'t> {
     directions: Option<DataError>,
     exemplars: Option<DataError>,
     names: Option<DataError>,
+    names_at: Option<NameMarker>,
+}
+
+impl Refusing<'_> {
+    // Whether the names of a marker are among those that may be refused: of one marker, or of each.
+    fn refuses_name(&self, marker: NameMarker) -> bool
+        ensures { result ≡ unwrap_or (option_map (λ at. name_marker.ghosts.eq at marker)
+            self.now.names_at) true }
+    {
+        match self.names_at {
+            Some(at) => at == marker,
+            None => true,
+        }
+    }
 }
 
 impl DataProvider for Refusing<'_> {
@@ -54,8 +69,11 @@ impl DataProvider for Refusing<'_> {
     ghost exemplars = { λ p marker locale. unwrap_or (option_map (λ e. Err e) p.exemplars)
         (held (value_at exemplar_cmp p.tables.now.exemplars (marker, locale))) };
 
-    ghost name = { λ p marker locale key. unwrap_or (option_map (λ e. Err e) p.names)
-        (held (name_in p.tables.now.names marker locale key)) };
+    ghost name = { λ p marker locale key.
+        if unwrap_or (option_map (λ at. name_marker.ghosts.eq at marker) p.names_at) true
+        then unwrap_or (option_map (λ e. Err e) p.names)
+        (held (name_in p.tables.now.names marker locale key))
+        else held (name_in p.tables.now.names marker locale key) };
 
     fn load_likely_language(&self) -> Result<&LikelySubtagsForLanguage, DataError> {
         match self.language {
@@ -110,8 +128,8 @@ impl DataProvider for Refusing<'_> {
         key: NameKey,
     ) -> Result<&str, DataError> {
         match self.names {
-            Some(refusal) => Err(refusal),
-            None => self.tables.load_name(marker, locale, key),
+            Some(refusal) if self.refuses_name(marker) => Err(refusal),
+            _ => self.tables.load_name(marker, locale, key),
         }
     }
 }
@@ -135,6 +153,7 @@ fn willing(tables: &Tables) -> Refusing<'_> {
         directions: None,
         exemplars: None,
         names: None,
+        names_at: None,
     }
 }
 
@@ -334,4 +353,38 @@ fn each_refusal_of_exemplars_and_names(rt: HostRuntime) -> Result<(), Fail> {
         refused_variant(&rt, &tables, language, variant, refusal(kind));
     }
     Ok(())
+}
+
+// A chain stops at a refusal, though a later marker has a name; with fallback the subtag is taken.
+fn refused_at_one_marker(rt: &impl Abort, alloc: Global, region: Region) -> Result<(), Fail> {
+    let Ok(tables) = Tables::from_json(alloc, MEDIUM_TINY.as_bytes()) else {
+        return Err(Fail::new("the names cannot be read"));
+    };
+    over_named_tables(rt, alloc, &tables, region)
+}
+
+const MEDIUM_TINY: &str = "{\"names\":{\"region/medium/tiny\":{\"en\":{\"DE\":\"X\"}}}}";
+
+fn over_named_tables(
+    rt: &impl Abort,
+    alloc: Global,
+    tables: &Tables,
+    region: Region,
+) -> Result<(), Fail> {
+    let mut provider = willing(tables);
+    provider.names = refusal(DataErrorKind::MarkerNotFound);
+    provider.names_at = Some(NameMarker::RegionMediumLight);
+    let language = Language::try_from_str("en")?;
+    let light = RegionDisplayName::try_new_light_unstable(&provider, of(language), region);
+    assert!(rt; light.err() == refusal(DataErrorKind::MarkerNotFound));
+    let light = RegionDisplayName::new_light_with_fallback(&provider, of(language), region);
+    assert_eq!(rt; format!(in alloc; "{light}")?.as_str(), "DE");
+    let tiny = RegionDisplayName::new_tiny_with_fallback(&provider, of(language), region);
+    assert_eq!(rt; format!(in alloc; "{tiny}")?.as_str(), "X");
+    Ok(())
+}
+
+#[test]
+fn a_chain_stops_at_a_refusal(rt: HostRuntime) -> Result<(), Fail> {
+    refused_at_one_marker(&rt, rt.alloc(), Region::try_from_str("DE")?)
 }
