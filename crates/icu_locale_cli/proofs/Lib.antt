@@ -1,4 +1,6 @@
 mod LineAnswers
 mod LineCuts
+mod ListReading
+mod Loading
 mod Progress
 mod RunEnds

@@ -1,5 +1,10 @@
 -- The answer to one line.
-use Rattle.std.proofs.Common.{◌≡◌, true, false, List, [], None, codes, ℕ, Result, Ok, Err, IfOk, inl, inr, subst}
+use Rattle.std.proofs.Common.{◌≡◌, true, false, List, [], ◌∷◌, None, Some, codes, ℕ, zero, suc, get_or, Result, Ok, Err, IfOk, inl, inr, subst, ap, ◌∙◌}
+use Rattle.std.specs.List.{slice_get}
+use Rattle.std.proofs.lemmas.Option.{same_Some, none-some}
+use Rattle.icu_locale.specs.LikelyTable.{likely}
+use Rattle.icu_locale.specs.Negotiation.{Negotiation, IsNegotiated}
+use Rattle.icu_locale_cli.specs.Negotiations.{IsNegotiatedLine}
 use Rattle.std.specs.String.{string_bytes}
 use Rattle.icu_locale_core.specs.Identifier.{IsIdentifier, Spells}
 use Rattle.icu_locale_core.specs.declared.langid.LanguageIdentifier.{LanguageIdentifier}
@@ -13,7 +18,7 @@ use Rattle.icu_locale_cli.specs.declared.task.Task.{Task}
 use Rattle.icu_locale_cli.specs.declared.answer.Answer.{Answer}
 use Rattle.icu_locale_cli.specs.declared.error.CliError.{CliError}
 use Rattle.icu_locale_cli.specs.Answers.{IsTransformed, IsPlain, IsCanonicalized, IsLineOf, IsIdentifierAnswer}
-use Rattle.icu_locale_cli.specs.Texts.{transformed_line, refused_line}
+use Rattle.icu_locale_cli.specs.Texts.{transformed_line, refused_line, matched_line}
 
 -- a line of a fitting identifier and answer is that of a transformed identifier
 pub transformed_from_line : (Fits : LanguageIdentifier → TransformResult → Type 0) (y : LanguageIdentifier) (m : TransformResult) → Fits y m → (r : Result Answer CliError)
@@ -46,3 +51,17 @@ module _ (likely : LikelySubtags) (rules : Rules) (old : Locale) where
       → IfOk r (λ a. (locale : Locale) × IsPlain x locale × IsCanonicalized likely rules locale (string_bytes a.text) a.accepted)
   plain_from_line x id keywords transform (Ok a) h = (old, record { id = id; keywords = keywords; transform = transform }, h)
   plain_from_line x id keywords transform (Err e) h = tt
+
+get_or-slice_get : (xs : List LanguageIdentifier) (j : ℕ) (x d : LanguageIdentifier) → slice_get xs j ≡ Some x → get_or xs j d ≡ x
+get_or-slice_get [] j x d at = absurd (none-some x at)
+get_or-slice_get (y ∷ ys) zero x d at = same_Some y x at
+get_or-slice_get (y ∷ ys) (suc j) x d at = get_or-slice_get ys j x d at
+
+-- the line of a match is that of what was negotiated
+pub negotiated_from_line : (n : Negotiation) (requests : List LanguageIdentifier) (i j : ℕ) (x : LanguageIdentifier) → IsNegotiated (likely n.expander) requests n.available (Some (i, j)) → x ≡ get_or n.available j x → (r : Result Answer CliError)
+    → IfOk r (λ a. (string_bytes a.text ≡ matched_line i x) × (a.accepted ≡ true)) → IfOk r (λ a. IsNegotiatedLine n requests (string_bytes a.text) × (a.accepted ≡ true))
+negotiated_from_line n requests i j x negotiated here (Ok a) h =
+    let m = negotiated.matches in
+    let same = here ∙ get_or-slice_get n.available j m.identifier x m.offered in
+    ((Some (i, j), negotiated, (m.identifier, m.offered, h.0 ∙ ap (matched_line i) same)), h.1)
+negotiated_from_line n requests i j x negotiated here (Err e) h = tt

@@ -11,6 +11,7 @@ use Rattle.icu_locale_cli.specs.declared.work.Work.{Work}
 use Rattle.icu_locale_cli.specs.Answers.{IsAnswer}
 use Rattle.icu_locale_cli.specs.Lines.{lines}
 use Rattle.icu_locale_cli.specs.Output.{AppendsPart}
+use Rattle.icu_locale_cli.proofs.ListReading.{AllZip-push}
 use Rattle.icu_locale_cli.specs.Runs.{AreAnswers, text_of, all_accepted, WritesAll, WritesWholeLines, WritesPart}
 
 abbrev was_accepted : List ℕ × Bool → Bool
@@ -39,13 +40,6 @@ and_true false b e = absurd (false≢true e)
 true_and : (a b : Bool) → a ≡ true → b ≡ true → (a && (b && true)) ≡ true
 true_and a b p q = λ i. p i && (q i && true)
 
--- one more answer
-AllZip-push-answers : (work : Work) (ls : List (List ℕ)) (answers : List (List ℕ × Bool)) (line : List ℕ) (a : List ℕ × Bool) → AreAnswers work ls answers → IsAnswer work line a.0 a.1 → AreAnswers work (ls ++ line ∷ []) (answers ++ a ∷ [])
-AllZip-push-answers work [] [] line a each answer = (answer, tt)
-AllZip-push-answers work [] (b ∷ answers) line a each answer = absurd each
-AllZip-push-answers work (l ∷ ls) [] line a each answer = absurd each
-AllZip-push-answers work (l ∷ ls) (b ∷ answers) line a each answer = (each.0, AllZip-push-answers work ls answers line a each.1 answer)
-
 module _ (work : Work) (input : List ℕ) (old mid : Option (List ℕ)) (status : Status) (line : List ℕ) (rest : List (List ℕ)) (before : Progress work input old mid status (line ∷ rest)) where
   -- a refusal before the next line is answered leaves whole lines
   pub WritesWholeLines-before : WritesWholeLines work input old mid
@@ -67,7 +61,7 @@ module _ (work : Work) (input : List ℕ) (old mid : Option (List ℕ)) (status 
       answered = before.answered ++ line ∷ [];
       parted = before.parted ∙ sym (append_assoc before.answered (line ∷ []) rest);
       answers = before.answers ++ (text, accepted) ∷ [];
-      each = AllZip-push-answers work before.answered before.answers line (text, accepted) before.each answer;
+      each = AllZip-push (λ line a. IsAnswer work line a.0 a.1) before.answered before.answers line (text, accepted) before.each answer;
       written = subst (Appends old new) (sym (text_of-push before.answers text accepted)) (Appends-trans old mid new (text_of before.answers) text before.written appended);
       status_is = (
         λ e. let both = after.0 e in list_all-append was_accepted before.answers ((text, accepted) ∷ []) ∙ true_and (all_accepted before.answers) accepted (before.status_is.0 both.0) both.1,

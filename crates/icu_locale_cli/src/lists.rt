@@ -1,6 +1,6 @@
 // Lines that list identifiers, cut at each space.
 ghost use Rattle.std.specs.Prelude.{◌≡◌, ◌⊎◌, IfOk, IfErr};
-ghost use Rattle.icu_locale_cli.specs.Lists.{is_space, listed, SpellsAll, IsFirstFault};
+ghost use Rattle.icu_locale_cli.specs.Lists.{listed, SpellsAll, IsFirstFault};
 
 use icu_locale_core::{LanguageIdentifier, ParseError};
 use std::alloc::Global;
@@ -15,14 +15,8 @@ pub fn read_list(alloc: Global, line: &[u8]) -> Result<Vec<LanguageIdentifier>, 
     if line.is_empty() {
         return Ok(list);
     }
-    for piece in line.split(is_space) {
+    for piece in line.split(|byte| *byte == b' ') {
         list.push(LanguageIdentifier::try_from_utf8(alloc, piece)?)?;
     }
     Ok(list)
-}
-
-fn is_space(byte: &u8) -> bool
-    ensures { result ≡ is_space byte.now }
-{
-    *byte == b' '
 }

@@ -3,6 +3,7 @@ ghost use Rattle.std.specs.Prelude.{◌≡◌, ◌⊎◌, IfOk, IfErr, true};
 ghost use Rattle.std.specs.String.{string_bytes};
 ghost use Rattle.icu_locale_cli.specs.Answers.{IsAnswer, IsIdentifierAnswer, IsListAnswer};
 ghost use Rattle.icu_locale_cli.specs.Negotiations.{IsNegotiatedLine};
+ghost use Rattle.icu_locale_cli.specs.Texts.{matched_line};
 
 use crate::answer::{Answer, refused};
 use crate::error::CliError;
@@ -75,15 +76,23 @@ fn negotiated(
         (string_bytes a.text) × (a.accepted ≡ true)) }
     ensures refused { IfErr result (λ e. e ≡ CliError.Memory) }
 {
-    let text = match negotiator.negotiate(requests) {
-        Some((asked, found)) => {
-            let identifier = &negotiator.available()[found];
-            format!(in alloc; "{asked}\t{identifier}\n")?
-        }
-        None => String::from_str(alloc, "none\n")?,
-    };
+    match negotiator.negotiate(requests) {
+        Some((asked, found)) => matched(alloc, asked, &negotiator.available()[found]),
+        None => Ok(Answer {
+            text: String::from_str(alloc, "none\n")?,
+            accepted: true,
+        }),
+    }
+}
+
+// The line of a request's place and the available identifier that means it.
+fn matched(alloc: Global, asked: usize, identifier: &LanguageIdentifier) -> Result<Answer, CliError>
+    ensures answer { IfOk result (λ a. (string_bytes a.text ≡ matched_line asked identifier.now)
+        × (a.accepted ≡ true)) }
+    ensures refused { IfErr result (λ e. e ≡ CliError.Memory) }
+{
     Ok(Answer {
-        text,
+        text: format!(in alloc; "{asked}\t{identifier}\n")?,
         accepted: true,
     })
 }

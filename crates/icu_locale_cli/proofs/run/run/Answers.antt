@@ -1,7 +1,8 @@
-use Rattle.std.proofs.Common.{◌≡◌, subst, rules}
+use Rattle.std.proofs.Common.{◌≡◌, subst, rules, IfOk, IfErr}
 use Rattle.icu_locale_cli.specs.declared.command.Command.TheVariants.{Settled}
-use Rattle.icu_locale_cli.specs.Runs.{ReadsAll, WritesWholeLines, WritesPart}
-use Rattle.icu_locale_cli.proofs.RunEnds.{settled_run, settled_refused, lines_refused, stopped_run}
+use Rattle.icu_locale_cli.specs.Runs.{ReadsAll}
+use Rattle.icu_locale_cli.specs.WholeRuns.{WritesLines, IsRefusedLines}
+use Rattle.icu_locale_cli.proofs.RunEnds.{settled_run, settled_refused, lines_run, lines_refused, lines_read}
 use Rattle.icu_locale_cli.proofs.run.run.Goals as goal
 
 pub returns-then-eq-clause-output : goal.returns-then-eq-clause-output
@@ -14,16 +15,40 @@ returns-then-eq-clause-refused g c =
     let same : c.args.command.now ≡ Settled = search rules in
     settled_refused c.args.tables.now (g.W.Write.contents c.args.writer.now) (g.W.Write.contents c.write_settled.new.writer) c.args.command.now c.write_settled.result (g.R.Read.remaining c.args.reader.now) same c.write_settled.ensures.refused
 
+pub returns-clause-output : goal.returns-clause-output
+returns-clause-output g c =
+    let read = g.R.Read.remaining in
+    let wrote = g.W.Write.contents in
+    let before = wrote c.args.writer.now in
+    let after = wrote c.write.new.writer in
+    let input = c.in_ok-input.input.items in
+    let all : ReadsAll (read c.args.reader.now) (read c.read_all.new.reader) input = record { consumed = c.in_ok-input.ensures.whole; ended = c.in_ok-input.ensures.end } in
+    lines_run c.args.tables.now before after c.args.command.now c.write.result (read c.args.reader.now) (read c.read_all.new.reader) input (λ e. search rules) all
+    (subst (λ i. IfOk c.write.result (WritesLines c.args.command.now c.args.tables.now i before after)) c.deref.ensures.value (c.write.ensures.output c.args.command.now c.args.tables.now c.in_ok-loaded.ensures.loaded))
+
+-- all was loaded, so nothing was refused for a table
+pub returns-clause-data : goal.returns-clause-data
+returns-clause-data g c = (
+  λ e. (subst (λ r. IfErr r (IsRefusedLines c.args.command.now c.args.tables.now c.deref.result.now (g.W.Write.contents c.args.writer.now) (g.W.Write.contents c.write.new.writer))) e (c.write.ensures.left c.args.command.now c.args.tables.now c.in_ok-loaded.ensures.loaded)).1,
+  λ h. let refused = c.load.ensures.data.1 h in search rules,
+)
+
+pub returns-clause-unsettled : goal.returns-clause-unsettled
+returns-clause-unsettled g c = (
+  λ e. (subst (λ r. IfErr r (IsRefusedLines c.args.command.now c.args.tables.now c.deref.result.now (g.W.Write.contents c.args.writer.now) (g.W.Write.contents c.write.new.writer))) e (c.write.ensures.left c.args.command.now c.args.tables.now c.in_ok-loaded.ensures.loaded)).0,
+  λ h. let refused = c.load.ensures.unsettled.1 h in search rules,
+)
+
 pub returns-clause-refused : goal.returns-clause-refused
 returns-clause-refused g c =
     let read = g.R.Read.remaining in
     let wrote = g.W.Write.contents in
     let before = wrote c.args.writer.now in
-    let after = wrote c.write_answers.new.writer in
-    let work = c.in_ok-work.work in
+    let after = wrote c.write.new.writer in
     let input = c.in_ok-input.input.items in
     let all : ReadsAll (read c.args.reader.now) (read c.read_all.new.reader) input = record { consumed = c.in_ok-input.ensures.whole; ended = c.in_ok-input.ensures.end } in
-    lines_refused c.args.tables.now before after c.args.command.now c.write_answers.result (read c.args.reader.now) (read c.read_all.new.reader) (λ e. search rules)
-    (stopped_run c.args.tables.now before after c.args.command.now c.write_answers.result (read c.args.reader.now) (read c.read_all.new.reader) input all c.write_answers.ensures.refused
-    (λ e. record { work = work; work_of = c.in_ok-work.ensures.made; left = subst (λ i. WritesWholeLines work i before after) c.deref.ensures.value (c.write_answers.ensures.memory e) })
-    (λ e. record { work = work; work_of = c.in_ok-work.ensures.made; left = subst (λ i. WritesPart work i before after) c.deref.ensures.value (c.write_answers.ensures.write e) }))
+    lines_refused c.args.tables.now before after c.args.command.now c.write.result (read c.args.reader.now) (read c.read_all.new.reader) (λ e. search rules)
+    (lines_read c.args.tables.now before after c.args.command.now c.write.result (read c.args.reader.now) (read c.read_all.new.reader) input all
+    (λ h. let refused = c.load.ensures.data.1 h in search rules)
+    (λ h. let refused = c.load.ensures.unsettled.1 h in search rules)
+    (subst (λ i. IfErr c.write.result (IsRefusedLines c.args.command.now c.args.tables.now i before after)) c.deref.ensures.value (c.write.ensures.left c.args.command.now c.args.tables.now c.in_ok-loaded.ensures.loaded)))
