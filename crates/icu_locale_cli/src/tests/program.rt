@@ -18,7 +18,7 @@ const UNSETTLED: &str =
     "{\"likely_language\":{\"und\":[\"en\",\"Latn\",\"US\"],\"language\":{\"xx\":[\"Zzzz\",\"DE\"]}},\"likely_script_region\":{}}\n";
 
 const NEGOTIATED: &str =
-    "{\"likely_language\":{\"und\":[\"en\",\"Latn\",\"US\"]},\"likely_script_region\":{}}\nde en-Latn\nfr und\n";
+    "{\"likely_language\":{\"und\":[\"en\",\"Latn\",\"US\"]},\"likely_script_region\":{}}\nde en-Latn-US\nfr und-US\n";
 
 const EXTENDED: &str =
     "{\"likely_language\":{\"und\":[\"en\",\"Latn\",\"US\"]},\"likely_script_region\":{},\
@@ -125,7 +125,7 @@ const RUNS: [(&str, &str, &str, &str); 42] = [
     ("settled json", SETTLED, "yes\n", "0"),
     ("negotiate json", "{}\nen\n", "", "data: IdentifierNotFound"),
     ("negotiate json", UNSETTLED, "", "tables not settled"),
-    ("negotiate json", NEGOTIATED, "1\ten-Latn\n", "0"),
+    ("negotiate json", NEGOTIATED, "1\ten-Latn-US\n", "0"),
     ("maximize json", EXTENDED, "az-Latn-AZ\tM\naa\tU\n", "0"),
     ("minimize json", EXTENDED, "az\tU\naa\tU\n", "0"),
     (
