@@ -3,6 +3,8 @@ pub mod DataError
 pub mod Exemplars
 pub mod Inserts
 pub mod InversionList
+pub mod Menus
+pub mod Patterns
 pub mod Provider
 pub mod Requests
 pub mod ScriptDirection

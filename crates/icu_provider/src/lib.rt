@@ -1,13 +1,15 @@
 //! The data that the crates above are asked over: tables of likely subtags, of aliases and of directions, sets of exemplar
-//! characters, names, and the trait of their sources.
+//! characters, names, names in menus, patterns of names, and the trait of their sources.
 #![tactic(auto)]
 
 mod aliases;
 mod data_locale;
 mod direction;
 mod error;
+mod essentials;
 mod exemplars;
 mod likely;
+mod menus;
 mod names;
 mod provider;
 mod row_list;
@@ -17,8 +19,10 @@ pub use aliases::{Aliases, LanguageStrStrPair, StrStrPair};
 pub use data_locale::DataLocale;
 pub use direction::ScriptDirection;
 pub use error::{DataError, DataErrorKind};
+pub use essentials::{DoublePlaceholderPattern, LocaleNamesEssentials, PatternItem};
 pub use exemplars::{CharacterRanges, ExemplarCharactersData, ExemplarMarker, ExemplarStrings};
 pub use likely::{LikelySubtagsExtended, LikelySubtagsForLanguage, LikelySubtagsForScriptRegion};
+pub use menus::{MenuMarker, MenuNameParts};
 pub use names::{NameKey, NameMarker};
 pub use provider::DataProvider;
 pub use row_list::RowList;

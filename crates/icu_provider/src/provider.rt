@@ -2,8 +2,10 @@
 
 use crate::{
     Aliases, DataError, DataLocale, ExemplarCharactersData, ExemplarMarker, LikelySubtagsExtended,
-    LikelySubtagsForLanguage, LikelySubtagsForScriptRegion, NameKey, NameMarker, ScriptDirection,
+    LikelySubtagsForLanguage, LikelySubtagsForScriptRegion, LocaleNamesEssentials, MenuMarker,
+    MenuNameParts, NameKey, NameMarker, ScriptDirection,
 };
+use icu_locale_core::Language;
 
 /// A source of data. Each load answers the provider's meaning at that request, at every call the same one, and lends
 /// it for the life of the provider.
@@ -19,6 +21,9 @@ pub trait DataProvider {
     ghost use Rattle.icu_provider.specs.declared.data_locale.DataLocale.{DataLocale};
     ghost use Rattle.icu_provider.specs.declared.exemplars.ExemplarCharactersData.{ExemplarCharactersData};
     ghost use Rattle.icu_provider.specs.declared.exemplars.ExemplarMarker.{ExemplarMarker};
+    ghost use Rattle.icu_provider.specs.declared.essentials.LocaleNamesEssentials.{LocaleNamesEssentials};
+    ghost use Rattle.icu_provider.specs.declared.menus.MenuMarker.{MenuMarker};
+    ghost use Rattle.icu_provider.specs.declared.menus.MenuNameParts.{MenuNameParts};
     ghost use Rattle.icu_provider.specs.declared.names.NameKey.{NameKey};
     ghost use Rattle.icu_provider.specs.declared.names.NameMarker.{NameMarker};
 
@@ -36,6 +41,10 @@ pub trait DataProvider {
         → Result ExemplarCharactersData DataError };
 
     ghost name: { Self → NameMarker → DataLocale → NameKey → Result (List ℕ) DataError };
+
+    ghost menu: { Self → MenuMarker → DataLocale → List ℕ → Result MenuNameParts DataError };
+
+    ghost essentials: { Self → DataLocale → Result LocaleNamesEssentials DataError };
 
     /// The likely subtags by language.
     ///
@@ -101,4 +110,25 @@ pub trait DataProvider {
         key: NameKey,
     ) -> Result<&str, DataError>
         ensures { lent result ≡ name self.now marker locale key };
+
+    /// The name of a language in a menu, in the language of a locale.
+    ///
+    /// # Errors
+    ///
+    /// Those of the provider.
+    fn load_menu(
+        &self,
+        marker: MenuMarker,
+        locale: DataLocale,
+        language: Language,
+    ) -> Result<&MenuNameParts, DataError>
+        ensures { lent result ≡ menu self.now marker locale language };
+
+    /// How the parts of a locale's name are put together, in the language of a locale.
+    ///
+    /// # Errors
+    ///
+    /// Those of the provider.
+    fn load_essentials(&self, locale: DataLocale) -> Result<&LocaleNamesEssentials, DataError>
+        ensures { lent result ≡ essentials self.now locale };
 }
