@@ -78,6 +78,8 @@ file_seen-is tables = λ i. record {
   direction = option_map direction_rows tables.script_direction;
   exemplars = seen_rows-same tables.exemplars i;
   names = seen_rows string_bytes tables.names;
+  menus = seen_rows-same tables.menus i;
+  essentials = seen_rows-same tables.essentials i;
 }
 
 -- what was read of the value of a text are the rows of the text

@@ -3,9 +3,10 @@ use Rattle.std.specs.Prelude.{codes}
 use Rattle.icu_provider.specs.declared.likely.extended.LikelySubtagsExtended.{LikelySubtagsExtended}
 use Rattle.icu_provider.specs.declared.likely.language.LikelySubtagsForLanguage.{LikelySubtagsForLanguage}
 use Rattle.icu_provider.specs.declared.likely.script_region.LikelySubtagsForScriptRegion.{LikelySubtagsForScriptRegion}
-use Rattle.icu_provider.specs.Requests.{exemplar_cmp, name_cmp}
+use Rattle.icu_provider.specs.Requests.{exemplar_cmp, locale_cmp, menu_cmp, name_cmp}
 use Rattle.icu_tables.specs.Fields.{fields, ◌and◌, required, rows, optional, object_of}
-use Rattle.icu_tables.specs.NamedRows.{marked_exemplars, marked_names}
+use Rattle.icu_tables.specs.NamedRows.{marked_exemplars, marked_names, marked_menus}
+use Rattle.icu_tables.specs.NamedRows.{locale_essentials}
 use Rattle.icu_tables.specs.Puts.{map_by}
 use Rattle.icu_tables.specs.Rows.{AliasRows, DirectionRows, FileRows}
 use Rattle.icu_tables.specs.Shape.{Shape, text, pair_of, triple_of, array_of, set_of, map_of}
@@ -106,7 +107,7 @@ abbrev pub file : Shape FileRows
 file =
     object_of (
     fields (λ likely_language likely_script_region likely_extended aliases direction exemplars
-    names. record {
+    names menus essentials. record {
       likely_language = likely_language;
       likely_script_region = likely_script_region;
       likely_extended = likely_extended;
@@ -114,6 +115,8 @@ file =
       direction = direction;
       exemplars = exemplars;
       names = names;
+      menus = menus;
+      essentials = essentials;
     })
     and optional (codes "likely_language") likely_language
     and optional (codes "likely_script_region") likely_script_region
@@ -121,4 +124,6 @@ file =
     and optional (codes "aliases") aliases
     and optional (codes "direction") direction
     and rows (codes "exemplars") (map_by exemplar_cmp marked_exemplars)
-    and rows (codes "names") (map_by name_cmp marked_names))
+    and rows (codes "names") (map_by name_cmp marked_names)
+    and rows (codes "menus") (map_by menu_cmp marked_menus)
+    and rows (codes "essentials") (map_by locale_cmp locale_essentials))

@@ -1,3 +1,4 @@
+pub mod Essentials
 pub mod Fields
 pub mod File
 pub mod NamedRows

@@ -1,4 +1,4 @@
--- Rows of exemplar sets and of names: objects from markers to locales to what is held.
+-- Rows of exemplar sets, names and patterns: objects from markers to locales to what is held.
 use Rattle.std.specs.Prelude.{ℕ, List, [], Option, option_map, option_and_then}
 use Rattle.std.specs.Prelude.{if◌then◌else◌, codes, None, Some}
 use Rattle.icu_locale_core.specs.TextSet.{from_list}
@@ -6,12 +6,18 @@ use Rattle.icu_provider.specs.InversionList.{is_inversion_list}
 use Rattle.icu_provider.specs.declared.data_locale.DataLocale.{DataLocale}
 use Rattle.icu_provider.specs.declared.exemplars.ExemplarCharactersData.{ExemplarCharactersData}
 use Rattle.icu_provider.specs.declared.exemplars.ExemplarMarker.{ExemplarMarker}
+use Rattle.icu_provider.specs.declared.essentials.LocaleNamesEssentials.{LocaleNamesEssentials}
+use Rattle.icu_provider.specs.declared.menus.MenuMarker.{MenuMarker}
+use Rattle.icu_provider.specs.declared.menus.MenuNameParts.{MenuNameParts}
 use Rattle.icu_provider.specs.declared.names.NameKey.{NameKey}
 use Rattle.icu_provider.specs.declared.names.NameMarker.{NameMarker}
+use Rattle.icu_tables.specs.Essentials.{name_patterns}
 use Rattle.icu_tables.specs.Fields.{fields, ◌and◌, required, object_of}
-use Rattle.icu_tables.specs.Names.{named_in, exemplar_markers, name_markers, locale_key, name_key}
+use Rattle.icu_tables.specs.Names.{named_in, exemplar_markers, name_markers, menu_markers}
+use Rattle.icu_tables.specs.Names.{locale_key, name_key}
 use Rattle.icu_tables.specs.Puts.{rows_by}
-use Rattle.icu_tables.specs.Shape.{Shape, both, array_of, text, with_row}
+use Rattle.icu_tables.specs.Shape.{Shape, both, array_of, pair_of, text, with_row}
+use Rattle.icu_tables.specs.Subtags.{language_key}
 use Rattle.icu_tables.specs.Numbers.{bound}
 
 -- a set, where its list is an inversion list
@@ -30,6 +36,18 @@ exemplar_set value =
 abbrev pub row_at : {K V : Type 0} → Option K → Shape V → Shape (List (K × V))
 row_at key shape value = option_map (λ held. with_row key held []) (shape value)
 
+-- the rows of a member named by a marker; no other member is there
+abbrev pub marked : {M R : Type 0} → List (List ℕ × M) → (M → List ℕ → Shape (List R))
+    → List ℕ → Shape (List R)
+marked markers rows name value =
+    option_and_then (λ marker. rows_by (rows marker) value) (named_in markers name)
+
+-- the request of a marker, a locale and a key, where both are there
+abbrev pub request_in : {M K : Type 0} → M → Option DataLocale → Option K
+    → Option (M × DataLocale × K)
+request_in marker locale key =
+    option_map (λ pair. (marker, pair.0, pair.1)) (both locale key)
+
 -- the request of a marker and a member named by a locale
 abbrev pub exemplar_request : ExemplarMarker → List ℕ → Option (ExemplarMarker × DataLocale)
 exemplar_request marker name = option_map (λ locale. (marker, locale)) (locale_key name)
@@ -42,14 +60,12 @@ exemplars_of marker name = row_at (exemplar_request marker name) exemplar_set
 -- the sets of a member named by a marker; no other member is there
 abbrev pub marked_exemplars : List ℕ
     → Shape (List ((ExemplarMarker × DataLocale) × ExemplarCharactersData))
-marked_exemplars name value =
-    option_and_then (λ marker. rows_by (exemplars_of marker) value) (named_in exemplar_markers name)
+marked_exemplars = marked exemplar_markers exemplars_of
 
 -- the request of a marker, a locale if it is one, and a member named by a key
 abbrev pub name_request : NameMarker → Option DataLocale → List ℕ
     → Option (NameMarker × DataLocale × NameKey)
-name_request marker locale name =
-    option_map (λ pair. (marker, pair.0, pair.1)) (both locale (name_key marker name))
+name_request marker locale name = request_in marker locale (name_key marker name)
 
 -- the names of a marker and a locale, by key
 abbrev pub names_in_locale : NameMarker → Option DataLocale → List ℕ
@@ -63,5 +79,33 @@ names_of marker name = rows_by (names_in_locale marker (locale_key name))
 
 -- the names of a member named by a marker; no other member is there
 abbrev pub marked_names : List ℕ → Shape (List ((NameMarker × DataLocale × NameKey) × List ℕ))
-marked_names name value =
-    option_and_then (λ marker. rows_by (names_of marker) value) (named_in name_markers name)
+marked_names = marked name_markers names_of
+
+-- a name in a menu: an array of its core and its extension
+abbrev pub menu_name : Shape MenuNameParts
+menu_name value =
+    option_map (λ pair. record { core = pair.0; extension = pair.1 }) (pair_of text text value)
+
+-- the request of a marker, a locale if it is one, and a member named by a language
+abbrev pub menu_request : MenuMarker → Option DataLocale → List ℕ
+    → Option (MenuMarker × DataLocale × List ℕ)
+menu_request marker locale name = request_in marker locale (language_key name)
+
+-- the names in menus of a marker and a locale, by language
+abbrev pub menus_in_locale : MenuMarker → Option DataLocale → List ℕ
+    → Shape (List ((MenuMarker × DataLocale × List ℕ) × MenuNameParts))
+menus_in_locale marker locale name = row_at (menu_request marker locale name) menu_name
+
+-- the names in menus of a marker, by locale
+abbrev pub menus_of : MenuMarker → List ℕ
+    → Shape (List ((MenuMarker × DataLocale × List ℕ) × MenuNameParts))
+menus_of marker name = rows_by (menus_in_locale marker (locale_key name))
+
+-- the names in menus of a member named by a marker; no other member is there
+abbrev pub marked_menus : List ℕ
+    → Shape (List ((MenuMarker × DataLocale × List ℕ) × MenuNameParts))
+marked_menus = marked menu_markers menus_of
+
+-- how the parts of names are put together, in a member named by a locale
+abbrev pub locale_essentials : List ℕ → Shape (List (DataLocale × LocaleNamesEssentials))
+locale_essentials name = row_at (locale_key name) name_patterns

@@ -9,6 +9,8 @@ use Rattle.icu_provider.specs.declared.exemplars.ExemplarMarker.{ExemplarMarker}
 use Rattle.icu_provider.specs.declared.exemplars.ExemplarMarker.TheVariants.{Main, Auxiliary}
 use Rattle.icu_provider.specs.declared.exemplars.ExemplarMarker.TheVariants.{Punctuation, Numbers}
 use Rattle.icu_provider.specs.declared.exemplars.ExemplarMarker.TheVariants.{Index}
+use Rattle.icu_provider.specs.declared.menus.MenuMarker.{MenuMarker}
+use Rattle.icu_provider.specs.declared.menus.MenuMarker.TheVariants.{MediumLight, MediumHeavy}
 use Rattle.icu_provider.specs.declared.names.NameKey.{NameKey}
 use Rattle.icu_provider.specs.declared.names.NameKey.TheVariants.{Language, Script, Region, Variant}
 use Rattle.icu_provider.specs.declared.names.NameMarker.{NameMarker}
@@ -66,6 +68,13 @@ name_markers =
     ∷ (codes "script/medium/heavy", ScriptMediumHeavy)
     ∷ (codes "script/short/heavy", ScriptShortHeavy)
     ∷ (codes "variant/medium/heavy", VariantMediumHeavy)
+    ∷ []
+
+-- the names of markers of names in menus
+abbrev pub menu_markers : List (List ℕ × MenuMarker)
+menu_markers =
+    (codes "language/menu/medium/light", MediumLight)
+    ∷ (codes "language/menu/medium/heavy", MediumHeavy)
     ∷ []
 
 -- what may follow the language of a locale: a script, a region, or both

@@ -6,11 +6,14 @@ use Rattle.icu_provider.specs.declared.aliases.LanguageStrStrPair.{LanguageStrSt
 use Rattle.icu_provider.specs.declared.aliases.StrStrPair.{StrStrPair}
 use Rattle.icu_provider.specs.declared.data_locale.DataLocale.{DataLocale}
 use Rattle.icu_provider.specs.declared.direction.ScriptDirection.{ScriptDirection}
+use Rattle.icu_provider.specs.declared.essentials.LocaleNamesEssentials.{LocaleNamesEssentials}
 use Rattle.icu_provider.specs.declared.exemplars.ExemplarCharactersData.{ExemplarCharactersData}
 use Rattle.icu_provider.specs.declared.exemplars.ExemplarMarker.{ExemplarMarker}
 use Rattle.icu_provider.specs.declared.likely.extended.LikelySubtagsExtended.{LikelySubtagsExtended}
 use Rattle.icu_provider.specs.declared.likely.language.LikelySubtagsForLanguage.{LikelySubtagsForLanguage}
 use Rattle.icu_provider.specs.declared.likely.script_region.LikelySubtagsForScriptRegion.{LikelySubtagsForScriptRegion}
+use Rattle.icu_provider.specs.declared.menus.MenuMarker.{MenuMarker}
+use Rattle.icu_provider.specs.declared.menus.MenuNameParts.{MenuNameParts}
 use Rattle.icu_provider.specs.declared.names.NameKey.{NameKey}
 use Rattle.icu_provider.specs.declared.names.NameMarker.{NameMarker}
 use Rattle.icu_tables.specs.declared.tables.Tables.{Tables}
@@ -43,6 +46,8 @@ pub record FileRows : Type 0 where
   pub direction : Option DirectionRows
   pub exemplars : List ((ExemplarMarker × DataLocale) × ExemplarCharactersData)
   pub names : List ((NameMarker × DataLocale × NameKey) × List ℕ)
+  pub menus : List ((MenuMarker × DataLocale × List ℕ) × MenuNameParts)
+  pub essentials : List (DataLocale × LocaleNamesEssentials)
 
 -- rows with what is seen of their values
 abbrev pub seen_rows : {K V W : Type 0} → (V → W) → List (K × V) → List (K × W)
@@ -86,4 +91,6 @@ rows_of tables = record {
   direction = option_map direction_rows tables.script_direction;
   exemplars = tables.exemplars;
   names = seen_rows string_bytes tables.names;
+  menus = tables.menus;
+  essentials = tables.essentials;
 }

@@ -8,12 +8,14 @@ ghost use Rattle.serde_json.specs.View.{view};
 mod aliases;
 mod arrays;
 mod direction;
+mod essentials;
 mod exemplars;
 mod keys;
 mod likely;
 mod locales;
 mod maps;
 mod members;
+mod menus;
 mod names;
 mod objects;
 mod subtags;
@@ -21,7 +23,9 @@ mod texts;
 mod values;
 
 use crate::json::exemplars::MarkedExemplars;
-use crate::json::members::fill_by;
+use crate::json::locales::Locales;
+use crate::json::members::{RowByRow, fill_by};
+use crate::json::menus::MarkedMenus;
 use crate::json::names::MarkedNames;
 use crate::json::objects::{fill, only_members};
 use crate::json::values::FromValue;
@@ -31,9 +35,9 @@ use std::alloc::Global;
 
 impl Tables {
     /// The tables of a JSON text: an object with the members `likely_language`,
-    /// `likely_script_region`, `likely_extended`, `aliases`, `direction`, `exemplars` and `names`,
-    /// any of which may be left out. A table that is left out is not held, and a map that is left
-    /// out has no rows. `specs/File.antt` says what stands in each.
+    /// `likely_script_region`, `likely_extended`, `aliases`, `direction`, `exemplars`, `names`,
+    /// `menus` and `essentials`, any of which may be left out. A table that is left out is not held,
+    /// and a map that is left out has no rows. `specs/File.antt` says what stands in each.
     ///
     /// Values are read in any case. A key is one subtag in its written form, or two with one `-`
     /// between them, or a locale: a language, with a script if any and a region if any. A row whose
@@ -71,6 +75,18 @@ fn parse(alloc: Global, text: &[u8]) -> Result<Value, TableError>
     }
 }
 
+const MEMBERS: [&str; 9] = [
+    "likely_language",
+    "likely_script_region",
+    "likely_extended",
+    "aliases",
+    "direction",
+    "exemplars",
+    "names",
+    "menus",
+    "essentials",
+];
+
 impl FromValue for Tables {
     ghost use Rattle.icu_tables.specs.File.{file};
     ghost use Rattle.icu_tables.specs.Rows.{FileRows};
@@ -82,18 +98,7 @@ impl FromValue for Tables {
     ghost shape = { file };
 
     fn from_value(alloc: Global, value: &Value) -> Result<Self, TableError> {
-        only_members(
-            value,
-            &[
-                "likely_language",
-                "likely_script_region",
-                "likely_extended",
-                "aliases",
-                "direction",
-                "exemplars",
-                "names",
-            ],
-        )?;
+        only_members(value, &MEMBERS)?;
         let mut tables = Tables::new(alloc);
         fill(alloc, value, "likely_language", &mut tables.likely_language)?;
         fill(
@@ -113,6 +118,14 @@ impl FromValue for Tables {
             &mut tables.exemplars,
         )?;
         fill_by(alloc, value, "names", &MarkedNames, &mut tables.names)?;
+        fill_by(alloc, value, "menus", &MarkedMenus, &mut tables.menus)?;
+        fill_by(
+            alloc,
+            value,
+            "essentials",
+            &RowByRow { keys: Locales },
+            &mut tables.essentials,
+        )?;
         Ok(tables)
     }
 }

@@ -2,14 +2,16 @@
 ghost use Rattle.std.specs.Prelude.{◌≡◌, [], Some, None, option_copied};
 ghost use Rattle.icu_locale_core.specs.Maps.{value_at};
 ghost use Rattle.icu_provider.specs.Inserts.{Inserts};
-ghost use Rattle.icu_provider.specs.Requests.{exemplar_cmp, name_cmp};
+ghost use Rattle.icu_provider.specs.Requests.{exemplar_cmp, locale_cmp, menu_cmp, name_cmp};
 ghost use Rattle.icu_tables.specs.Tables.{held, name_in};
 
 use crate::kinds::is_of_kind;
+use icu_locale_core::Language;
 use icu_provider::{
     Aliases, DataError, DataErrorKind, DataLocale, DataProvider, ExemplarCharactersData,
     ExemplarMarker, LikelySubtagsExtended, LikelySubtagsForLanguage, LikelySubtagsForScriptRegion,
-    NameKey, NameMarker, ScriptDirection, SortedMap,
+    LocaleNamesEssentials, MenuMarker, MenuNameParts, NameKey, NameMarker, ScriptDirection,
+    SortedMap,
 };
 use std::alloc::Global;
 
@@ -30,6 +32,10 @@ pub struct Tables {
     pub exemplars: SortedMap<(ExemplarMarker, DataLocale), ExemplarCharactersData>,
     /// The names, by marker, locale and key.
     pub names: SortedMap<(NameMarker, DataLocale, NameKey), String>,
+    /// The names in menus, by marker, locale and language.
+    pub menus: SortedMap<(MenuMarker, DataLocale, Language), MenuNameParts>,
+    /// How the parts of names are put together, by locale.
+    pub essentials: SortedMap<DataLocale, LocaleNamesEssentials>,
 }
 
 impl Drop for Tables {
@@ -42,6 +48,8 @@ impl Drop for Tables {
             script_direction: _,
             exemplars: _,
             names: _,
+            menus: _,
+            essentials: _,
         } = self;
     }
 }
@@ -57,6 +65,8 @@ impl Tables {
           script_direction = None;
           exemplars = [];
           names = [];
+          menus = [];
+          essentials = [];
         } }
     {
         Tables {
@@ -67,6 +77,8 @@ impl Tables {
             script_direction: None,
             exemplars: SortedMap::new(alloc),
             names: SortedMap::new(alloc),
+            menus: SortedMap::new(alloc),
+            essentials: SortedMap::new(alloc),
         }
     }
 
@@ -147,6 +159,46 @@ impl Tables {
         self.names.insert((marker, locale, key), name)
     }
 
+    /// Sets the name in menus of a marker, a locale and a language. A name that is there gives way,
+    /// and no memory is taken.
+    ///
+    /// # Errors
+    ///
+    /// `Memory`, only where the list of names in menus had to grow and could not: the tables are
+    /// unchanged then.
+    pub fn insert_menu(
+        &mut self,
+        marker: MenuMarker,
+        locale: DataLocale,
+        language: Language,
+        name: MenuNameParts,
+    ) -> Result<(), DataError>
+        ensures tables { self.new ≡ record self.old { menus = self.new.menus } }
+        ensures insert { Inserts menu_cmp self.old.menus self.new.menus
+            (marker, locale, language) name result }
+    {
+        self.menus.insert((marker, locale, language), name)
+    }
+
+    /// Sets how the parts of names are put together in the language of a locale. What is there
+    /// gives way, and no memory is taken.
+    ///
+    /// # Errors
+    ///
+    /// `Memory`, only where the list of locales had to grow and could not: the tables are unchanged
+    /// then.
+    pub fn insert_essentials(
+        &mut self,
+        locale: DataLocale,
+        patterns: LocaleNamesEssentials,
+    ) -> Result<(), DataError>
+        ensures tables { self.new ≡ record self.old { essentials = self.new.essentials } }
+        ensures insert { Inserts locale_cmp self.old.essentials self.new.essentials
+            locale patterns result }
+    {
+        self.essentials.insert(locale, patterns)
+    }
+
     // The name of a request, of any kind.
     fn name_at(&self, marker: NameMarker, locale: DataLocale, key: NameKey) -> Option<&String>
         ensures { option_copied result ≡ value_at name_cmp self.now.names (marker, locale, key) }
@@ -174,6 +226,11 @@ impl DataProvider for Tables {
         held (value_at exemplar_cmp t.exemplars (marker, locale)) };
 
     ghost name = { λ t marker locale key. held (name_in t.names marker locale key) };
+
+    ghost menu = { λ t marker locale language.
+        held (value_at menu_cmp t.menus (marker, locale, language)) };
+
+    ghost essentials = { λ t locale. held (value_at locale_cmp t.essentials locale) };
 
     fn load_likely_language(&self) -> Result<&LikelySubtagsForLanguage, DataError> {
         self.likely_language.as_ref().ok_or(NOT_FOUND)
@@ -216,5 +273,83 @@ impl DataProvider for Tables {
             Some(name) => Ok(name.as_str()),
             None => Err(NOT_FOUND),
         }
+    }
+
+    fn load_menu(
+        &self,
+        marker: MenuMarker,
+        locale: DataLocale,
+        language: Language,
+    ) -> Result<&MenuNameParts, DataError> {
+        self.menus.get(&(marker, locale, language)).ok_or(NOT_FOUND)
+    }
+
+    fn load_essentials(&self, locale: DataLocale) -> Result<&LocaleNamesEssentials, DataError> {
+        self.essentials.get(&locale).ok_or(NOT_FOUND)
+    }
+}
+
+#[cfg(test)]
+mod tests {
+    use super::*;
+    use icu_provider::{DoublePlaceholderPattern, PatternItem};
+    use std::test::Fail;
+
+    fn english() -> Result<DataLocale, Fail> {
+        Ok(DataLocale {
+            language: Language::try_from_str("en")?,
+            script: None,
+            region: None,
+        })
+    }
+
+    fn menu_name(alloc: Global, core: &str, extension: &str) -> Result<MenuNameParts, Fail> {
+        Ok(MenuNameParts {
+            core: String::from_str(alloc, core)?,
+            extension: String::from_str(alloc, extension)?,
+        })
+    }
+
+    // Two patterns of one text each.
+    fn patterns(alloc: Global, text: &str) -> Result<LocaleNamesEssentials, Fail> {
+        let mut pattern = Vec::new(alloc);
+        pattern.push(PatternItem::Literal(String::from_str(alloc, text)?))?;
+        let mut separator = Vec::new(alloc);
+        separator.push(PatternItem::First)?;
+        Ok(LocaleNamesEssentials {
+            locale_pattern: DoublePlaceholderPattern::try_from_items(pattern),
+            locale_separator: DoublePlaceholderPattern::try_from_items(separator),
+        })
+    }
+
+    #[test]
+    fn a_name_in_a_menu_gives_way_to_a_later_one(rt: HostRuntime) -> Result<(), Fail> {
+        let mut tables = Tables::new(rt.alloc());
+        let language = Language::try_from_str("ku")?;
+        let first = menu_name(rt.alloc(), "Kurdish", "Kurmanji")?;
+        tables.insert_menu(MenuMarker::MediumLight, english()?, language, first)?;
+        let second = menu_name(rt.alloc(), "Kurdish", "")?;
+        tables.insert_menu(MenuMarker::MediumLight, english()?, language, second)?;
+        let held = tables.load_menu(MenuMarker::MediumLight, english()?, language)?;
+        assert_eq!(rt; held.core.as_str(), "Kurdish");
+        assert_eq!(rt; held.extension.as_str(), "");
+        let heavy = tables.load_menu(MenuMarker::MediumHeavy, english()?, language);
+        assert!(rt; heavy.err() == Some(NOT_FOUND));
+        Ok(())
+    }
+
+    #[test]
+    fn patterns_give_way_to_later_ones(rt: HostRuntime) -> Result<(), Fail> {
+        let mut tables = Tables::new(rt.alloc());
+        assert!(rt; tables.load_essentials(english()?).err() == Some(NOT_FOUND));
+        tables.insert_essentials(english()?, patterns(rt.alloc(), "first")?)?;
+        tables.insert_essentials(english()?, patterns(rt.alloc(), "second")?)?;
+        let held = tables.load_essentials(english()?)?;
+        assert!(rt; matches!(held.locale_separator.items(), [PatternItem::First]));
+        match held.locale_pattern.items() {
+            [PatternItem::Literal(text)] => assert_eq!(rt; text.as_str(), "second"),
+            _ => assert!(rt; false),
+        }
+        Ok(())
     }
 }

@@ -94,4 +94,6 @@ file_seen tables = record {
   direction = option_map direction_rows tables.script_direction;
   exemplars = seen_rows (λ v. v) tables.exemplars;
   names = seen_rows string_bytes tables.names;
+  menus = seen_rows (λ v. v) tables.menus;
+  essentials = seen_rows (λ v. v) tables.essentials;
 }

@@ -1,18 +1,15 @@
 //! Sets of exemplar characters.
 ghost use Rattle.std.specs.Prelude.{◌≡◌};
-ghost use Rattle.icu_provider.specs.Inserts.{Inserts};
-ghost use Rattle.icu_provider.specs.Requests.{exemplar_cmp};
 ghost use Rattle.icu_tables.specs.NamedRows.{exemplar_set};
 ghost use Rattle.icu_tables.specs.Names.{exemplar_markers, named_in};
 ghost use Rattle.icu_tables.specs.Numbers.{bound};
 
 use crate::TableError;
 use crate::json::locales::locale_named;
-use crate::json::members::{PutsRows, in_memory, put_members};
+use crate::json::members::{NamesKeys, PutsRows, RowByRow, put_members};
 use crate::json::objects::{only_members, required};
 use crate::json::values::FromValue;
-use icu_locale_core::{Language, Region, Script};
-use icu_provider::{DataError, DataLocale, ExemplarCharactersData, ExemplarMarker, SortedMap};
+use icu_provider::{DataLocale, ExemplarCharactersData, ExemplarMarker, SortedMap};
 use serde_json::Value;
 use std::alloc::Global;
 
@@ -76,7 +73,12 @@ impl PutsRows<(ExemplarMarker, DataLocale), ExemplarCharactersData> for MarkedEx
         map: &mut SortedMap<(ExemplarMarker, DataLocale), ExemplarCharactersData>,
     ) -> Result<(), TableError> {
         match marker_named(name) {
-            Some(marker) => put_members(alloc, value, &ExemplarsOf { marker }, map),
+            Some(marker) => {
+                let rows = RowByRow {
+                    keys: ExemplarsOf { marker },
+                };
+                put_members(alloc, value, &rows, map)
+            }
             None => Err(TableError::Shape),
         }
     }
@@ -88,55 +90,14 @@ struct ExemplarsOf {
     marker: ExemplarMarker,
 }
 
-impl PutsRows<(ExemplarMarker, DataLocale), ExemplarCharactersData> for ExemplarsOf {
-    ghost use Rattle.icu_tables.specs.NamedRows.{exemplars_of};
-    ghost use Rattle.icu_provider.specs.declared.exemplars.ExemplarCharactersData.{ExemplarCharactersData};
+impl NamesKeys<(ExemplarMarker, DataLocale)> for ExemplarsOf {
+    ghost use Rattle.icu_tables.specs.NamedRows.{exemplar_request};
 
-    ghost Seen = { ExemplarCharactersData };
+    ghost key = { λ of. exemplar_request of.marker };
 
-    ghost seen = { λ set. set };
-
-    ghost says = { λ of. exemplars_of of.marker };
-
-    fn put(
-        &self,
-        alloc: Global,
-        name: &str,
-        value: &Value,
-        map: &mut SortedMap<(ExemplarMarker, DataLocale), ExemplarCharactersData>,
-    ) -> Result<(), TableError> {
-        let held = ExemplarCharactersData::from_value(alloc, value)?;
-        match locale_named(name) {
-            Some(locale) => in_memory(insert(
-                map,
-                self.marker,
-                locale.language,
-                locale.script,
-                locale.region,
-                held,
-            )),
-            None => Ok(()),
-        }
+    fn key_named(&self, name: &str) -> Option<(ExemplarMarker, DataLocale)> {
+        Some((self.marker, locale_named(name)?))
     }
-}
-
-fn insert(
-    map: &mut SortedMap<(ExemplarMarker, DataLocale), ExemplarCharactersData>,
-    marker: ExemplarMarker,
-    language: Language,
-    script: Option<Script>,
-    region: Option<Region>,
-    set: ExemplarCharactersData,
-) -> Result<(), DataError>
-    ensures { Inserts exemplar_cmp map.old map.new
-        (marker, record { language = language; script = script; region = region }) set result }
-{
-    let locale = DataLocale {
-        language,
-        script,
-        region,
-    };
-    map.insert((marker, locale), set)
 }
 
 fn marker_named(name: &str) -> Option<ExemplarMarker>

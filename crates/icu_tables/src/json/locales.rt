@@ -3,6 +3,7 @@ ghost use Rattle.std.specs.Prelude.{◌≡◌};
 ghost use Rattle.icu_tables.specs.Names.{locale_key, script_and_region};
 
 use crate::json::keys::RowKey;
+use crate::json::members::NamesKeys;
 use icu_locale_core::{Language, Region, Script};
 use icu_provider::DataLocale;
 
@@ -40,4 +41,18 @@ fn script_and_region(text: &str) -> Option<(Option<Script>, Option<Region>)>
     }
     let (script, region) = <(Script, Region)>::from_name(text)?;
     Some((Some(script), Some(region)))
+}
+
+// Locales as keys.
+#[derive(Clone, Copy)]
+pub(crate) struct Locales;
+
+impl NamesKeys<DataLocale> for Locales {
+    ghost use Rattle.icu_tables.specs.Names.{locale_key};
+
+    ghost key = { λ _. locale_key };
+
+    fn key_named(&self, name: &str) -> Option<DataLocale> {
+        locale_named(name)
+    }
 }

@@ -3,11 +3,13 @@ ghost use Rattle.std.specs.Prelude.{◌≡◌, [], Some, IfErr, is_ok};
 ghost use Rattle.serde_json.specs.Find.{get};
 ghost use Rattle.serde_json.specs.View.{view};
 ghost use Rattle.icu_tables.specs.Fields.{said_or};
+ghost use Rattle.icu_tables.specs.NamedRows.{row_at};
 ghost use Rattle.icu_tables.specs.Puts.{map_by, rows_by};
 ghost use Rattle.icu_tables.specs.inner.Reads.{Fills, Puts};
 ghost use Rattle.icu_tables.specs.Rows.{seen_rows};
 
 use crate::TableError;
+use crate::json::values::FromValue;
 use icu_provider::{DataError, SortedMap};
 use serde_json::Value;
 use std::alloc::Global;
@@ -78,8 +80,46 @@ pub(crate) fn fill_by<K: Ord, V, P: PutsRows<K, V>>(
     }
 }
 
+// How the names of members are read as keys.
+pub(crate) trait NamesKeys<K> {
+    ghost use Rattle.std.specs.Prelude.{◌≡◌, List, ℕ, Option};
+
+    ghost key: { Self → List ℕ → Option K };
+
+    fn key_named(&self, name: &str) -> Option<K>
+        ensures { result ≡ key self.now name.now };
+}
+
+// Puts one row for each member whose name is a key. Each value has its shape, also where the name is none.
+#[derive(Clone, Copy)]
+pub(crate) struct RowByRow<R> {
+    pub(crate) keys: R,
+}
+
+impl<K: Ord + Drop, V: FromValue, R: NamesKeys<K>> PutsRows<K, V> for RowByRow<R> {
+    ghost Seen = { V.Seen };
+
+    ghost seen = { V.seen };
+
+    ghost says = { λ rows name. row_at (R.key rows.keys name) V.shape };
+
+    fn put(
+        &self,
+        alloc: Global,
+        name: &str,
+        value: &Value,
+        map: &mut SortedMap<K, V>,
+    ) -> Result<(), TableError> {
+        let held = V::from_value(alloc, value)?;
+        match self.keys.key_named(name) {
+            Some(key) => in_memory(map.insert(key, held)),
+            None => Ok(()),
+        }
+    }
+}
+
 // An insert is refused by want of memory alone.
-pub(crate) fn in_memory(inserted: Result<(), DataError>) -> Result<(), TableError>
+fn in_memory(inserted: Result<(), DataError>) -> Result<(), TableError>
     ensures done { is_ok result ≡ is_ok inserted }
     ensures refused { IfErr result (λ e. e ≡ TableError.Memory) }
 {

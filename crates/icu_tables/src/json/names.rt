@@ -1,17 +1,14 @@
 //! Names.
 ghost use Rattle.std.specs.Prelude.{◌≡◌};
-ghost use Rattle.icu_provider.specs.Inserts.{Inserts};
-ghost use Rattle.icu_provider.specs.Requests.{name_cmp};
 ghost use Rattle.icu_tables.specs.Names.{name_key, name_markers, named_in};
 
 use crate::TableError;
 use crate::json::keys::RowKey;
 use crate::json::locales::locale_named;
-use crate::json::members::{PutsRows, in_memory, put_members};
-use crate::json::values::FromValue;
+use crate::json::members::{NamesKeys, PutsRows, RowByRow, put_members};
 use crate::kinds::{names_languages, names_regions, names_scripts};
-use icu_locale_core::{Language, Region, Script, Variant};
-use icu_provider::{DataError, DataLocale, NameKey, NameMarker, SortedMap};
+use icu_locale_core::{Region, Script, Variant};
+use icu_provider::{DataLocale, NameKey, NameMarker, SortedMap};
 use serde_json::Value;
 use std::alloc::Global;
 
@@ -66,11 +63,13 @@ impl PutsRows<(NameMarker, DataLocale, NameKey), String> for NamesOf {
         value: &Value,
         map: &mut SortedMap<(NameMarker, DataLocale, NameKey), String>,
     ) -> Result<(), TableError> {
-        let in_locale = NamesInLocale {
-            marker: self.marker,
-            locale: locale_named(name),
+        let rows = RowByRow {
+            keys: NamesInLocale {
+                marker: self.marker,
+                locale: locale_named(name),
+            },
         };
-        put_members(alloc, value, &in_locale, map)
+        put_members(alloc, value, &rows, map)
     }
 }
 
@@ -81,60 +80,15 @@ struct NamesInLocale {
     locale: Option<DataLocale>,
 }
 
-impl PutsRows<(NameMarker, DataLocale, NameKey), String> for NamesInLocale {
-    ghost use Rattle.icu_tables.specs.NamedRows.{names_in_locale};
-    ghost use Rattle.std.specs.Prelude.{List, ℕ, string_bytes};
+impl NamesKeys<(NameMarker, DataLocale, NameKey)> for NamesInLocale {
+    ghost use Rattle.icu_tables.specs.NamedRows.{name_request};
 
-    ghost Seen = { List ℕ };
+    ghost key = { λ of. name_request of.marker of.locale };
 
-    ghost seen = { string_bytes };
-
-    ghost says = { λ of. names_in_locale of.marker of.locale };
-
-    fn put(
-        &self,
-        alloc: Global,
-        name: &str,
-        value: &Value,
-        map: &mut SortedMap<(NameMarker, DataLocale, NameKey), String>,
-    ) -> Result<(), TableError> {
-        let held = String::from_value(alloc, value)?;
-        if let Some(locale) = self.locale {
-            if let Some(key) = key_named(self.marker, name) {
-                return in_memory(insert(
-                    map,
-                    self.marker,
-                    locale.language,
-                    locale.script,
-                    locale.region,
-                    key,
-                    held,
-                ));
-            }
-        }
-        Ok(())
+    fn key_named(&self, name: &str) -> Option<(NameMarker, DataLocale, NameKey)> {
+        let locale = self.locale?;
+        Some((self.marker, locale, key_named(self.marker, name)?))
     }
-}
-
-fn insert(
-    map: &mut SortedMap<(NameMarker, DataLocale, NameKey), String>,
-    marker: NameMarker,
-    language: Language,
-    script: Option<Script>,
-    region: Option<Region>,
-    key: NameKey,
-    name: String,
-) -> Result<(), DataError>
-    ensures { Inserts name_cmp map.old map.new
-        (marker, record { language = language; script = script; region = region }, key)
-        name result }
-{
-    let locale = DataLocale {
-        language,
-        script,
-        region,
-    };
-    map.insert((marker, locale, key), name)
 }
 
 // A key of the marker's kind.
