@@ -3,7 +3,7 @@ use crate::fault::Fault;
 use crate::likely::{self, Likely};
 use crate::texts::{self, Kind};
 use crate::world::World;
-use crate::{canonical, names, negotiation};
+use crate::{canonical, menus, names, negotiation};
 use icu_tables::{TableError, Tables};
 use std::alloc::Global;
 
@@ -46,13 +46,17 @@ pub enum Call {
     Script,
     /// Names a variant.
     Variant,
+    /// Names a language in a menu.
+    Menu,
+    /// Shows the patterns of a locale.
+    Essentials,
     /// Reads tables, and names what they hold.
     Json,
     /// Reads each beginning of a JSON text that is not the whole.
     JsonCuts,
 }
 
-const CALLS: [(&str, Call); 33] = [
+const CALLS: [(&str, Call); 35] = [
     ("read", Call::Read(Kind::Identifier)),
     ("language", Call::Read(Kind::Language)),
     ("script", Call::Read(Kind::Script)),
@@ -84,6 +88,8 @@ const CALLS: [(&str, Call); 33] = [
     ("region-name", Call::Region),
     ("script-name", Call::Script),
     ("variant-name", Call::Variant),
+    ("menu", Call::Menu),
+    ("essentials", Call::Essentials),
     ("json", Call::Json),
     ("json-cuts", Call::JsonCuts),
 ];
@@ -127,6 +133,8 @@ fn answer_text(alloc: Global, world: &World, call: Call, text: &str) -> Result<S
         Call::Region => names::name(alloc, world, "region", text),
         Call::Script => names::name(alloc, world, "script", text),
         Call::Variant => names::name(alloc, world, "variant", text),
+        Call::Menu => menus::menu(alloc, world, text),
+        Call::Essentials => menus::essentials(alloc, world, text),
         _ => answer_words(alloc, call, text),
     }
 }
@@ -163,6 +171,8 @@ fn held_names(alloc: Global, tables: &Tables) -> Result<String, Fault> {
         (" direction", tables.script_direction.is_some()),
         (" exemplars", !tables.exemplars.is_empty()),
         (" names", !tables.names.is_empty()),
+        (" menus", !tables.menus.is_empty()),
+        (" essentials", !tables.essentials.is_empty()),
     ] {
         if is_held {
             answer.push_str(name)?;

@@ -7,6 +7,7 @@ mod canonical;
 mod cases;
 mod fault;
 mod likely;
+mod menus;
 mod names;
 mod negotiation;
 mod texts;

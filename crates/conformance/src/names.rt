@@ -71,7 +71,8 @@ fn has(alloc: Global, set: &ExemplarCharacters<'_>, text: &str) -> Result<String
     Ok(String::from_str(alloc, yes_or_no(is_in))?)
 }
 
-fn preferences(alloc: Global, text: &str) -> Result<DisplayNamesPreferences, Fault> {
+/// The preferences of a locale's text.
+pub fn preferences(alloc: Global, text: &str) -> Result<DisplayNamesPreferences, Fault> {
     let id = LanguageIdentifier::try_from_str(alloc, text)?;
     let parts = DisplayNamesPreferences::new(id.language, id.script, id.region);
     let whole = DisplayNamesPreferences::from_locale(&Locale::new(alloc, id));

@@ -2,7 +2,7 @@
 ghost use Rattle.std.specs.Prelude.{◌≡◌, Err, if◌then◌else◌, true};
 ghost use Rattle.std.specs.Option.{option_map, unwrap_or};
 ghost use Rattle.icu_locale_core.specs.Maps.{value_at};
-ghost use Rattle.icu_provider.specs.Requests.{exemplar_cmp};
+ghost use Rattle.icu_provider.specs.Requests.{exemplar_cmp, locale_cmp, menu_cmp};
 ghost use Rattle.icu_provider.specs.contracts.names.NameMarkerPartialEq.TheImpl as name_marker;
 ghost use Rattle.icu_tables.specs.Tables.{held, name_in};
 
@@ -16,7 +16,7 @@ use icu_locale_names::{
 use icu_provider::{
     Aliases, DataError, DataErrorKind, DataLocale, DataProvider, ExemplarCharactersData,
     ExemplarMarker, LikelySubtagsExtended, LikelySubtagsForLanguage, LikelySubtagsForScriptRegion,
-    NameKey, NameMarker, ScriptDirection,
+    LocaleNamesEssentials, MenuMarker, MenuNameParts, NameKey, NameMarker, ScriptDirection,
 };
 use icu_tables::Tables;
 use std::alloc::Global;
@@ -35,6 +35,8 @@ struct Refusing<'t> {
     exemplars: Option<DataError>,
     names: Option<DataError>,
     names_at: Option<NameMarker>,
+    menus: Option<DataError>,
+    essentials: Option<DataError>,
 }
 
 impl Refusing<'_> {
@@ -74,6 +76,12 @@ impl DataProvider for Refusing<'_> {
         then unwrap_or (option_map (λ e. Err e) p.names)
         (held (name_in p.tables.now.names marker locale key))
         else held (name_in p.tables.now.names marker locale key) };
+
+    ghost menu = { λ p marker locale language. unwrap_or (option_map (λ e. Err e) p.menus)
+        (held (value_at menu_cmp p.tables.now.menus (marker, locale, language))) };
+
+    ghost essentials = { λ p locale. unwrap_or (option_map (λ e. Err e) p.essentials)
+        (held (value_at locale_cmp p.tables.now.essentials locale)) };
 
     fn load_likely_language(&self) -> Result<&LikelySubtagsForLanguage, DataError> {
         match self.language {
@@ -132,6 +140,25 @@ impl DataProvider for Refusing<'_> {
             _ => self.tables.load_name(marker, locale, key),
         }
     }
+
+    fn load_menu(
+        &self,
+        marker: MenuMarker,
+        locale: DataLocale,
+        language: Language,
+    ) -> Result<&MenuNameParts, DataError> {
+        match self.menus {
+            Some(refusal) => Err(refusal),
+            None => self.tables.load_menu(marker, locale, language),
+        }
+    }
+
+    fn load_essentials(&self, locale: DataLocale) -> Result<&LocaleNamesEssentials, DataError> {
+        match self.essentials {
+            Some(refusal) => Err(refusal),
+            None => self.tables.load_essentials(locale),
+        }
+    }
 }
 
 const KINDS: [DataErrorKind; 6] = [
@@ -154,6 +181,8 @@ fn willing(tables: &Tables) -> Refusing<'_> {
         exemplars: None,
         names: None,
         names_at: None,
+        menus: None,
+        essentials: None,
     }
 }
 
