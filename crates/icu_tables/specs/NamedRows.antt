@@ -4,9 +4,9 @@ use Rattle.std.specs.Prelude.{if◌then◌else◌, codes, None, Some}
 use Rattle.icu_locale_core.specs.TextSet.{from_list}
 use Rattle.icu_provider.specs.InversionList.{is_inversion_list}
 use Rattle.icu_provider.specs.declared.data_locale.DataLocale.{DataLocale}
+use Rattle.icu_provider.specs.declared.essentials.LocaleNamesEssentials.{LocaleNamesEssentials}
 use Rattle.icu_provider.specs.declared.exemplars.ExemplarCharactersData.{ExemplarCharactersData}
 use Rattle.icu_provider.specs.declared.exemplars.ExemplarMarker.{ExemplarMarker}
-use Rattle.icu_provider.specs.declared.essentials.LocaleNamesEssentials.{LocaleNamesEssentials}
 use Rattle.icu_provider.specs.declared.menus.MenuMarker.{MenuMarker}
 use Rattle.icu_provider.specs.declared.menus.MenuNameParts.{MenuNameParts}
 use Rattle.icu_provider.specs.declared.names.NameKey.{NameKey}
@@ -15,10 +15,10 @@ use Rattle.icu_tables.specs.Essentials.{name_patterns}
 use Rattle.icu_tables.specs.Fields.{fields, ◌and◌, required, object_of}
 use Rattle.icu_tables.specs.Names.{named_in, exemplar_markers, name_markers, menu_markers}
 use Rattle.icu_tables.specs.Names.{locale_key, name_key}
+use Rattle.icu_tables.specs.Numbers.{bound}
 use Rattle.icu_tables.specs.Puts.{rows_by}
 use Rattle.icu_tables.specs.Shape.{Shape, both, array_of, pair_of, text, with_row}
 use Rattle.icu_tables.specs.Subtags.{language_key}
-use Rattle.icu_tables.specs.Numbers.{bound}
 
 -- a set, where its list is an inversion list
 abbrev pub if_inversion_list : ExemplarCharactersData → Option ExemplarCharactersData
@@ -42,12 +42,6 @@ abbrev pub marked : {M R : Type 0} → List (List ℕ × M) → (M → List ℕ 
 marked markers rows name value =
     option_and_then (λ marker. rows_by (rows marker) value) (named_in markers name)
 
--- the request of a marker, a locale and a key, where both are there
-abbrev pub request_in : {M K : Type 0} → M → Option DataLocale → Option K
-    → Option (M × DataLocale × K)
-request_in marker locale key =
-    option_map (λ pair. (marker, pair.0, pair.1)) (both locale key)
-
 -- the request of a marker and a member named by a locale
 abbrev pub exemplar_request : ExemplarMarker → List ℕ → Option (ExemplarMarker × DataLocale)
 exemplar_request marker name = option_map (λ locale. (marker, locale)) (locale_key name)
@@ -62,49 +56,42 @@ abbrev pub marked_exemplars : List ℕ
     → Shape (List ((ExemplarMarker × DataLocale) × ExemplarCharactersData))
 marked_exemplars = marked exemplar_markers exemplars_of
 
--- the request of a marker, a locale if it is one, and a member named by a key
-abbrev pub name_request : NameMarker → Option DataLocale → List ℕ
-    → Option (NameMarker × DataLocale × NameKey)
-name_request marker locale name = request_in marker locale (name_key marker name)
+-- the request of a marker, a locale and a key, where both are there
+abbrev pub request_in : {M K : Type 0} → M → Option DataLocale → Option K
+    → Option (M × DataLocale × K)
+request_in marker locale key =
+    option_map (λ pair. (marker, pair.0, pair.1)) (both locale key)
 
--- the names of a marker and a locale, by key
-abbrev pub names_in_locale : NameMarker → Option DataLocale → List ℕ
-    → Shape (List ((NameMarker × DataLocale × NameKey) × List ℕ))
-names_in_locale marker locale name = row_at (name_request marker locale name) text
+-- the rows of a marker and a locale, by key
+abbrev pub rows_in_locale : {M K V : Type 0} → (M → List ℕ → Option K) → Shape V
+    → M → Option DataLocale → List ℕ → Shape (List ((M × DataLocale × K) × V))
+rows_in_locale key shape marker locale name =
+    row_at (request_in marker locale (key marker name)) shape
 
--- the names of a marker, by locale
-abbrev pub names_of : NameMarker → List ℕ
-    → Shape (List ((NameMarker × DataLocale × NameKey) × List ℕ))
-names_of marker name = rows_by (names_in_locale marker (locale_key name))
+-- the rows of a marker, by locale
+abbrev pub rows_of_marker : {M K V : Type 0} → (M → List ℕ → Option K) → Shape V
+    → M → List ℕ → Shape (List ((M × DataLocale × K) × V))
+rows_of_marker key shape marker name =
+    rows_by (rows_in_locale key shape marker (locale_key name))
 
--- the names of a member named by a marker; no other member is there
+-- the rows of a member named by a marker
+abbrev pub marked_rows : {M K V : Type 0} → List (List ℕ × M) → (M → List ℕ → Option K) → Shape V
+    → List ℕ → Shape (List ((M × DataLocale × K) × V))
+marked_rows markers key shape = marked markers (rows_of_marker key shape)
+
+-- the names of a member named by a marker
 abbrev pub marked_names : List ℕ → Shape (List ((NameMarker × DataLocale × NameKey) × List ℕ))
-marked_names = marked name_markers names_of
+marked_names = marked_rows name_markers name_key text
 
 -- a name in a menu: an array of its core and its extension
 abbrev pub menu_name : Shape MenuNameParts
 menu_name value =
     option_map (λ pair. record { core = pair.0; extension = pair.1 }) (pair_of text text value)
 
--- the request of a marker, a locale if it is one, and a member named by a language
-abbrev pub menu_request : MenuMarker → Option DataLocale → List ℕ
-    → Option (MenuMarker × DataLocale × List ℕ)
-menu_request marker locale name = request_in marker locale (language_key name)
-
--- the names in menus of a marker and a locale, by language
-abbrev pub menus_in_locale : MenuMarker → Option DataLocale → List ℕ
-    → Shape (List ((MenuMarker × DataLocale × List ℕ) × MenuNameParts))
-menus_in_locale marker locale name = row_at (menu_request marker locale name) menu_name
-
--- the names in menus of a marker, by locale
-abbrev pub menus_of : MenuMarker → List ℕ
-    → Shape (List ((MenuMarker × DataLocale × List ℕ) × MenuNameParts))
-menus_of marker name = rows_by (menus_in_locale marker (locale_key name))
-
--- the names in menus of a member named by a marker; no other member is there
+-- the names in menus of a member named by a marker
 abbrev pub marked_menus : List ℕ
     → Shape (List ((MenuMarker × DataLocale × List ℕ) × MenuNameParts))
-marked_menus = marked menu_markers menus_of
+marked_menus = marked_rows menu_markers (λ _. language_key) menu_name
 
 -- how the parts of names are put together, in a member named by a locale
 abbrev pub locale_essentials : List ℕ → Shape (List (DataLocale × LocaleNamesEssentials))

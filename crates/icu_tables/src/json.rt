@@ -14,6 +14,7 @@ mod keys;
 mod likely;
 mod locales;
 mod maps;
+mod marked;
 mod members;
 mod menus;
 mod names;
@@ -24,9 +25,8 @@ mod values;
 
 use crate::json::exemplars::MarkedExemplars;
 use crate::json::locales::Locales;
+use crate::json::marked::Marked;
 use crate::json::members::{RowByRow, fill_by};
-use crate::json::menus::MarkedMenus;
-use crate::json::names::MarkedNames;
 use crate::json::objects::{fill, only_members};
 use crate::json::values::FromValue;
 use crate::{TableError, Tables};
@@ -117,8 +117,8 @@ impl FromValue for Tables {
             &MarkedExemplars,
             &mut tables.exemplars,
         )?;
-        fill_by(alloc, value, "names", &MarkedNames, &mut tables.names)?;
-        fill_by(alloc, value, "menus", &MarkedMenus, &mut tables.menus)?;
+        fill_by(alloc, value, "names", &Marked, &mut tables.names)?;
+        fill_by(alloc, value, "menus", &Marked, &mut tables.menus)?;
         fill_by(
             alloc,
             value,

@@ -1,11 +1,11 @@
 //! Sets of exemplar characters.
 ghost use Rattle.std.specs.Prelude.{◌≡◌};
 ghost use Rattle.icu_tables.specs.NamedRows.{exemplar_set};
-ghost use Rattle.icu_tables.specs.Names.{exemplar_markers, named_in};
 ghost use Rattle.icu_tables.specs.Numbers.{bound};
 
 use crate::TableError;
 use crate::json::locales::locale_named;
+use crate::json::marked::Marker;
 use crate::json::members::{NamesKeys, PutsRows, RowByRow, put_members};
 use crate::json::objects::{only_members, required};
 use crate::json::values::FromValue;
@@ -72,7 +72,7 @@ impl PutsRows<(ExemplarMarker, DataLocale), ExemplarCharactersData> for MarkedEx
         value: &Value,
         map: &mut SortedMap<(ExemplarMarker, DataLocale), ExemplarCharactersData>,
     ) -> Result<(), TableError> {
-        match marker_named(name) {
+        match ExemplarMarker::marker_named(name) {
             Some(marker) => {
                 let rows = RowByRow {
                     keys: ExemplarsOf { marker },
@@ -100,15 +100,19 @@ impl NamesKeys<(ExemplarMarker, DataLocale)> for ExemplarsOf {
     }
 }
 
-fn marker_named(name: &str) -> Option<ExemplarMarker>
-    ensures { result ≡ named_in exemplar_markers name.now }
-{
-    match name {
-        "main" => Some(ExemplarMarker::Main),
-        "auxiliary" => Some(ExemplarMarker::Auxiliary),
-        "punctuation" => Some(ExemplarMarker::Punctuation),
-        "numbers" => Some(ExemplarMarker::Numbers),
-        "index" => Some(ExemplarMarker::Index),
-        _ => None,
+impl Marker for ExemplarMarker {
+    ghost use Rattle.icu_tables.specs.Names.{exemplar_markers};
+
+    ghost markers = { exemplar_markers };
+
+    fn marker_named(name: &str) -> Option<ExemplarMarker> {
+        match name {
+            "main" => Some(ExemplarMarker::Main),
+            "auxiliary" => Some(ExemplarMarker::Auxiliary),
+            "punctuation" => Some(ExemplarMarker::Punctuation),
+            "numbers" => Some(ExemplarMarker::Numbers),
+            "index" => Some(ExemplarMarker::Index),
+            _ => None,
+        }
     }
 }

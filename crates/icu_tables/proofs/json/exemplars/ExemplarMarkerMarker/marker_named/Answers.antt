@@ -1,5 +1,5 @@
 use Rattle.icu_tables.proofs.Names.{unlike}
-use Rattle.icu_tables.proofs.json.exemplars.marker_named.Goals as goal
+use Rattle.icu_tables.proofs.json.exemplars.ExemplarMarkerMarker.marker_named.Goals as goal
 
 -- no marker has the name
 pub returns-in_default : goal.returns-in_default
