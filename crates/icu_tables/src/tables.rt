@@ -310,7 +310,7 @@ mod tests {
         })
     }
 
-    // Two patterns of one text each.
+    // A pattern of one text, and a separator of one placeholder.
     fn patterns(alloc: Global, text: &str) -> Result<LocaleNamesEssentials, Fail> {
         let mut pattern = Vec::new(alloc);
         pattern.push(PatternItem::Literal(String::from_str(alloc, text)?))?;
