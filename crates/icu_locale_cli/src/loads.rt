@@ -1,5 +1,6 @@
 //! The tables that a command needs, before the input is read.
-ghost use Rattle.std.specs.Prelude.{◌≡◌, ◌≢◌, ◌↔◌, Err, IfOk, IfErr, IsSomeAnd, is_ok, is_some, false};
+ghost use Rattle.std.specs.Prelude.{◌≡◌, ◌≢◌, ◌↔◌, Err, IfOk, IfErr, IsSomeAnd, is_ok, is_some};
+ghost use Rattle.std.specs.Prelude.{false};
 ghost use Rattle.icu_locale.specs.LikelyTable.{likely};
 ghost use Rattle.icu_locale.specs.Rules.{AreRules};
 ghost use Rattle.icu_locale_cli.specs.Lists.{listed, SpellsAll};
@@ -19,7 +20,9 @@ use crate::lists::read_list;
 use crate::status::Status;
 use crate::task::Task;
 use crate::work::Work;
-use icu_locale::{LocaleCanonicalizer, LocaleDirectionality, LocaleExpander, Negotiator, NegotiatorError};
+use icu_locale::{
+    LocaleCanonicalizer, LocaleDirectionality, LocaleExpander, Negotiator, NegotiatorError,
+};
 use icu_locale_core::ParseError;
 use icu_provider::DataProvider;
 use icu_tables::Tables;
@@ -82,9 +85,7 @@ impl<'d> Loaded<'d> {
             (W.contents writer.new)) }
     {
         match self {
-            Loaded::Task(task) => {
-                write_answers(alloc, &Work::Identifiers(task), input, writer)
-            }
+            Loaded::Task(task) => { write_answers(alloc, &Work::Identifiers(task), input, writer) }
             Loaded::Negotiate(expander) => {
                 let (first, rest) = cut(input);
                 let negotiator = list_available(alloc, expander, first)?;

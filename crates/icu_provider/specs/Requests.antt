@@ -16,7 +16,8 @@ use Rattle.icu_provider.specs.declared.names.NameMarker.{NameMarker}
 
 -- by marker, and then by locale
 abbrev pub exemplar_cmp : (ExemplarMarker × DataLocale) → (ExemplarMarker × DataLocale) → Ordering
-exemplar_cmp a b = ordering_then (exemplar_marker.ghosts.cmp a.0 b.0) (data_locale.ghosts.cmp a.1 b.1)
+exemplar_cmp a b =
+    ordering_then (exemplar_marker.ghosts.cmp a.0 b.0) (data_locale.ghosts.cmp a.1 b.1)
 
 -- by marker, then by locale, and then by key
 abbrev pub name_cmp : (NameMarker × DataLocale × NameKey)

@@ -8,7 +8,8 @@ use Rattle.serde_json.specs.Find.{as_object}
 use Rattle.icu_tables.specs.Shape.{Shape, applied}
 
 -- a map with each of these rows put into it
-abbrev pub put_all : {K V : Type 0} → (K → K → Ordering) → List (K × V) → List (K × V) → List (K × V)
+abbrev pub put_all : {K V : Type 0} → (K → K → Ordering) → List (K × V) → List (K × V)
+    → List (K × V)
 put_all compare old [] = old
 put_all compare old (row ∷ rows) = put_all compare (insert_entry compare old row.0 row.1) rows
 

@@ -70,7 +70,8 @@ with_changes changes old = record {
   extensions = record {
     unicode = record {
       keywords =
-          put (put old.extensions.unicode.keywords rg changes.region_override) sd changes.subdivision;
+          put (put old.extensions.unicode.keywords rg changes.region_override)
+          sd changes.subdivision;
     };
     transform = record { lang = option_or changes.transform old.extensions.transform.lang };
   };
