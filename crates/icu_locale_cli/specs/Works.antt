@@ -38,12 +38,12 @@ IsTaskOf command.Direction t (task.Direction d) =
     IsExpanderOf t d.expander × (t.script_direction ≡ Some d.script_direction.now)
 IsTaskOf c t other = ⊥
 
--- the work of a command over tables; the first line of the input lists what `negotiate` has
--- available
+-- the work of a command over tables; for `negotiate` these are settled, and the first line of the
+-- input lists what is available
 abbrev pub IsWorkOf : Command → Tables → List ℕ → Work → Type 0
 IsWorkOf c t input (Identifiers task) = IsTaskOf c t task
 IsWorkOf c t input (Requests n) = (c ≡ command.Negotiate) × IsExpanderOf t n.expander
-    × SpellsAll (listed (first_line input)) n.available
+    × AreSettled (likely n.expander) × SpellsAll (listed (first_line input)) n.available
 
 -- the text whose lines a command answers: for `negotiate` without its first
 abbrev pub text_answered : Command → List ℕ → List ℕ

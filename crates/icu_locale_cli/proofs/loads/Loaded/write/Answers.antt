@@ -1,4 +1,6 @@
 use Rattle.std.proofs.Common.{◌≡◌, sym, subst, ap, ◌∙◌}
+use Rattle.icu_locale.specs.LikelyTable.{likely}
+use Rattle.icu_locale.specs.Settled.{AreSettled}
 use Rattle.icu_locale_cli.specs.Lists.{listed, SpellsAll}
 use Rattle.icu_locale_cli.specs.Loads.{IsExpanderOf}
 use Rattle.icu_locale_cli.specs.Works.{text_answered}
@@ -24,15 +26,17 @@ returns-in_ok-negotiator-in-Negotiate-clause-output g c = λ k t loaded.
     let of = subst (IsLoaded k t) c.in-Negotiate.is loaded in
     let made = c.in_ok-negotiator-in-Negotiate in
     let over = subst (IsExpanderOf t) (sym made.ensures.expander) of.1 in
+    let settled = subst (λ e. AreSettled (likely e)) (sym made.ensures.expander) of.2 in
     let available = subst (λ line. SpellsAll (listed line) made.negotiator.available) c.cut.ensures.first made.ensures.available in
     let answered = ap (λ l. text_answered l c.args.input.now) of.0 ∙ sym c.cut.ensures.rest in
-    lines_written k t c.args.input.now (Requests made.negotiator) (of.0, over, available) c.cut.result.1.now answered (g.W.Write.contents c.args.writer.now) (g.W.Write.contents c.write_answers-in-Negotiate.new.writer) c.write_answers-in-Negotiate.result c.write_answers-in-Negotiate.ensures.whole
+    lines_written k t c.args.input.now (Requests made.negotiator) (of.0, over, settled, available) c.cut.result.1.now answered (g.W.Write.contents c.args.writer.now) (g.W.Write.contents c.write_answers-in-Negotiate.new.writer) c.write_answers-in-Negotiate.result c.write_answers-in-Negotiate.ensures.whole
 
 pub returns-in_ok-negotiator-in-Negotiate-clause-left : goal.returns-in_ok-negotiator-in-Negotiate-clause-left
 returns-in_ok-negotiator-in-Negotiate-clause-left g c = λ k t loaded.
     let of = subst (IsLoaded k t) c.in-Negotiate.is loaded in
     let made = c.in_ok-negotiator-in-Negotiate in
     let over = subst (IsExpanderOf t) (sym made.ensures.expander) of.1 in
+    let settled = subst (λ e. AreSettled (likely e)) (sym made.ensures.expander) of.2 in
     let available = subst (λ line. SpellsAll (listed line) made.negotiator.available) c.cut.ensures.first made.ensures.available in
     let answered = ap (λ l. text_answered l c.args.input.now) of.0 ∙ sym c.cut.ensures.rest in
-    lines_stopped k t c.args.input.now (Requests made.negotiator) (of.0, over, available) c.cut.result.1.now answered (g.W.Write.contents c.args.writer.now) (g.W.Write.contents c.write_answers-in-Negotiate.new.writer) c.write_answers-in-Negotiate.result c.write_answers-in-Negotiate.ensures.refused c.write_answers-in-Negotiate.ensures.memory c.write_answers-in-Negotiate.ensures.write
+    lines_stopped k t c.args.input.now (Requests made.negotiator) (of.0, over, settled, available) c.cut.result.1.now answered (g.W.Write.contents c.args.writer.now) (g.W.Write.contents c.write_answers-in-Negotiate.new.writer) c.write_answers-in-Negotiate.result c.write_answers-in-Negotiate.ensures.refused c.write_answers-in-Negotiate.ensures.memory c.write_answers-in-Negotiate.ensures.write
