@@ -222,7 +222,7 @@ region_length t h = by (has_length 2 2 t) (has_length 3 3 t) (λ e. grind (arith
     by false true f g c d h = g refl
     by false false f g c d h = absurd (cc)
 
-variant_length : (t : List ℕ) → is_variant t ≡ true → 4 ≤ length t
+pub variant_length : (t : List ℕ) → is_variant t ≡ true → 4 ≤ length t
 variant_length t h = by (has_length 5 8 t) (has_length 4 4 t) (λ e. grind (arith, nat_tests)) (λ e. grind (arith, nat_tests)) (starts_with_digit t) ((and_parts (has_length 5 8 t || (has_length 4 4 t && starts_with_digit t)) (is_alphanumeric t) h).0)
   where
     by : (a b : Bool) → (a ≡ true → 4 ≤ length t) → (b ≡ true → 4 ≤ length t) → (c : Bool) → (a || (b && c)) ≡ true → 4 ≤ length t

@@ -3,6 +3,7 @@ mod Cases
 mod Hashes
 mod Merges
 mod Padding
+mod Plain
 mod Readings
 mod Searches
 mod TextSets

@@ -1,10 +1,10 @@
 //! Laws of texts and identifiers. Each function here takes nothing, answers nothing and carries a proved fact.
-ghost use Rattle.std.specs.Prelude.{◌≡◌, ◌↔◌, List, ℕ, true};
+ghost use Rattle.std.specs.Prelude.{◌≡◌, ◌↔◌, List, ℕ, true, false};
 ghost use Rattle.icu_locale_core.specs.Agreement.{Agree, TellsEquality};
 ghost use Rattle.icu_locale_core.specs.Hash.{fed_subtag, fed_variants, fed_identifier};
-ghost use Rattle.icu_locale_core.specs.Identifier.{IsIdentifier, Spells, written};
+ghost use Rattle.icu_locale_core.specs.Identifier.{IsIdentifier, Spells, has_variant, written};
 ghost use Rattle.icu_locale_core.specs.Order.{identifier_cmp};
-ghost use Rattle.icu_locale_core.specs.TextSet.{TextSet};
+ghost use Rattle.icu_locale_core.specs.TextSet.{TextSet, empty};
 ghost use Rattle.icu_locale_core.specs.Value.{IsValue, is_value, read_value, written_value};
 
 use crate::{
@@ -23,6 +23,12 @@ pub fn written_spells()
 pub fn spelled_once()
     ensures { (t : List ℕ) (x y : LanguageIdentifier) → IsIdentifier x → IsIdentifier y
         → Spells t x → Spells t y → x ≡ y }
+{}
+
+/// A text that spells an identifier without variants has no piece that is a variant, so reading it takes no memory.
+pub fn spelled_without_variants()
+    ensures { (t : List ℕ) (x : LanguageIdentifier) → IsIdentifier x → Spells t x
+        → x.variants ≡ empty → has_variant t ≡ false }
 {}
 
 /// Two identifiers are equal exactly where their written forms are.
