@@ -31,7 +31,7 @@ pub(crate) fn first_name<'d, P: DataProvider>(
 }
 
 // Whether there is no data for a request.
-fn is_missing(refusal: DataError) -> bool
+pub(crate) fn is_missing(refusal: DataError) -> bool
     ensures { result ≡ is_missing refusal.kind }
 {
     matches!(refusal.kind, DataErrorKind::IdentifierNotFound)

@@ -1,14 +1,23 @@
-//! Names of regions, scripts and variants, in the language of a locale.
+//! Names of identifiers, regions, scripts and variants, in the language of a locale.
 #![tactic(auto)]
 
 mod chain;
+mod fallback_error;
+mod language;
+pub mod laws;
+mod options;
 mod preferences;
 mod region;
 mod script;
 mod shown;
 mod variant;
+mod write_error;
 
+pub use fallback_error::LanguageIdentifierNameFallbackError;
+pub use language::{LanguageIdentifierDisplayName, LanguageIdentifierDisplayNameBorrowed};
+pub use options::{LanguageDisplay, LanguageIdentifierDisplayNameOptions};
 pub use preferences::DisplayNamesPreferences;
 pub use region::{RegionDisplayName, RegionDisplayNameBorrowed};
 pub use script::{ScriptDisplayName, ScriptDisplayNameBorrowed};
 pub use variant::{VariantDisplayName, VariantDisplayNameBorrowed};
+pub use write_error::NameWriteError;

@@ -11,7 +11,7 @@ use icu_provider::{DataError, DataProvider, NameKey, NameMarker};
 use std::fmt;
 use std::marker::Model;
 
-const HEAVY: [NameMarker; 1] = [NameMarker::VariantMediumHeavy];
+pub(crate) const HEAVY: [NameMarker; 1] = [NameMarker::VariantMediumHeavy];
 
 /// The name of a variant, in the language of a locale. No call takes memory.
 #[derive(Debug, Drop)]

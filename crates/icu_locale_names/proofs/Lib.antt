@@ -1,0 +1,4 @@
+mod FlatRequests
+mod Measures
+mod PieceWrites
+mod Reports

@@ -1,0 +1,104 @@
+-- The parts of a name of an identifier, as the code has them.
+use Rattle.std.specs.Prelude.{◌≡◌, ◌⊎◌, ℕ, IsTrue, List, [], ◌∷◌, ◌++◌, map}
+use Rattle.std.specs.Prelude.{Option, Some, None, Result, Err}
+use Rattle.icu_locale_core.specs.declared.langid.LanguageIdentifier.{LanguageIdentifier}
+use Rattle.icu_provider.specs.Patterns.{part_of}
+use Rattle.icu_provider.specs.declared.data_locale.DataLocale.{DataLocale}
+use Rattle.icu_provider.specs.declared.error.DataError.{DataError}
+use Rattle.icu_provider.specs.declared.error.DataErrorKind.TheVariants.{IdentifierNotFound, Memory}
+use Rattle.icu_provider.specs.declared.essentials.PatternItem.{PatternItem}
+use Rattle.icu_provider.specs.declared.names.NameKey.{NameKey}
+use Rattle.icu_provider.specs.declared.names.NameKey.TheVariants.{Language, Script, Region, Variant}
+use Rattle.icu_provider.specs.declared.names.NameMarker.{NameMarker}
+use Rattle.icu_locale_names.specs.FirstHit.{or_next, first_hit, made_of, if_missing}
+use Rattle.icu_locale_names.specs.LanguageChains.{LanguageChain}
+use Rattle.icu_locale_names.specs.LanguageNames.{Base, Head, KeyParts, glued}
+use Rattle.icu_locale_names.specs.LanguageNames.{menu_base, text_base, raw_base, are_many}
+use Rattle.icu_locale_names.specs.Names.{Answers, MenuAnswers, name_by, menu_by}
+use Rattle.icu_locale_names.specs.Pieces.{Piece}
+use Rattle.icu_locale_names.specs.declared.language.base.Base as code
+use Rattle.icu_locale_names.specs.declared.language.chains.Chains.{Chains}
+use Rattle.icu_locale_names.specs.declared.language.parts.Parts.{Parts}
+use Rattle.icu_locale_names.specs.declared.language.variants.VariantNames.{VariantNames}
+use Rattle.icu_locale_names.specs.declared.language.variants.VariantNames.TheVariants as variants
+use Rattle.icu_locale_names.specs.declared.shown.Shown.{Shown}
+use Rattle.icu_locale_names.specs.inner.Shown.{piece_of, shown_pieces}
+
+-- the chains that a constant lends
+abbrev pub chains_of : Chains → LanguageChain
+chains_of chains = record {
+  menu = chains.menu.now;
+  text = chains.text.now;
+  script = chains.script.now;
+  region = chains.region.now;
+}
+
+-- a base as it is shown
+abbrev pub shown_base : code.Base → Base
+shown_base b = record {
+  piece = piece_of b.shown;
+  extension = shown_pieces b.extension;
+  script = b.script;
+  region = b.region;
+}
+
+-- the subtag that a key names
+abbrev pub subtag_of : NameKey → List ℕ
+subtag_of (Language subtag script region) = subtag
+subtag_of (Script subtag) = subtag
+subtag_of (Region subtag) = subtag
+subtag_of (Variant subtag) = subtag
+
+-- what a chain of texts answers to a key, if there is one
+abbrev pub key_asked : Answers → DataLocale → List NameMarker → LanguageIdentifier
+    → Option KeyParts → Result Base DataError
+key_asked name locale chain x None = Err (record { kind = IdentifierNotFound })
+key_asked name locale chain x (Some key) =
+    made_of (text_base x key) (name_by name locale (Language x.language key.0 key.1) chain)
+
+-- what it answers to keys in their order
+abbrev pub keys_asked : Answers → DataLocale → List NameMarker → LanguageIdentifier
+    → List (Option KeyParts) → Result Base DataError
+keys_asked name locale chain x keys = first_hit (key_asked name locale chain x) keys
+
+-- what the menus answer, and then the texts
+abbrev pub first_asked : Answers → MenuAnswers → DataLocale → LanguageChain → LanguageIdentifier
+    → List (Option KeyParts) → Result Base DataError
+first_asked name menu locale chain x keys =
+    or_next (made_of (menu_base x) (menu_by menu locale x.language chain.menu))
+    (keys_asked name locale chain.text x keys)
+
+-- what they answer, or the raw language
+abbrev pub base_asked : Answers → MenuAnswers → DataLocale → LanguageChain → LanguageIdentifier
+    → List (Option KeyParts) → Result Base DataError
+base_asked name menu locale chain x keys =
+    if_missing (raw_base x) (first_asked name menu locale chain x keys)
+
+-- the parts but for variants and patterns, as they are shown
+abbrev pub shown_head : Parts → Head
+shown_head p = record {
+  base = piece_of p.base;
+  qualifiers = shown_pieces p.extension ++ (shown_pieces p.script ++ shown_pieces p.region);
+}
+
+-- the names of variants
+abbrev pub variant_list : VariantNames → List Shown
+variant_list variants.None = []
+variant_list (variants.One name) = name ∷ []
+variant_list (variants.Many names) = names.items
+
+-- as pieces
+abbrev pub variant_pieces : VariantNames → List Piece
+variant_pieces names = map piece_of (variant_list names)
+
+-- what was made of variants is this, or memory was lacking for two or more
+abbrev pub IsThisOrMemory : {A : Type 0} → List (List ℕ) → Result A DataError
+    → Result A DataError → Type 0
+IsThisOrMemory subtags this made =
+    (made ≡ this) ⊎ (IsTrue (are_many subtags) × (made ≡ Err (record { kind = Memory })))
+
+-- the pieces of a name that is made of these parts
+abbrev pub pieces_by : Parts → List Shown → List PatternItem → List ℕ → List Piece
+pieces_by parts names pattern separator =
+    glued (piece_of parts.base) ((shown_head parts).qualifiers ++ map piece_of names)
+    (map part_of pattern) separator

@@ -1,0 +1,211 @@
+//! The base of a name.
+ghost use Rattle.std.specs.Prelude.{◌≡◌};
+ghost use Rattle.std.specs.List.{flat_map};
+ghost use Rattle.std.specs.Option.{option_to_list};
+ghost use Rattle.icu_locale_names.specs.FirstHit.{made_of};
+ghost use Rattle.icu_locale_names.specs.LanguageNames.{in_locale, base_of, keys_of, asks_dialects};
+ghost use Rattle.icu_locale_names.specs.LanguageNames.{menu_base, raw_base, unless_empty};
+ghost use Rattle.icu_locale_names.specs.inner.LanguageParts.{chains_of, shown_base, key_asked};
+ghost use Rattle.icu_locale_names.specs.inner.LanguageParts.{keys_asked, first_asked, base_asked};
+ghost use Rattle.icu_locale_names.specs.inner.Shown.{shown_pieces};
+
+use crate::LanguageDisplay;
+use crate::chain::{first_name, is_missing};
+use crate::language::chains::Chains;
+use crate::language::menus::first_menu;
+use crate::shown::Shown;
+use icu_locale_core::{LanguageIdentifier, Region, Script};
+use icu_provider::{
+    DataError, DataErrorKind, DataLocale, DataProvider, MenuMarker, MenuNameParts, NameKey,
+    NameMarker,
+};
+
+// The base of a name, its extension, and the subtags that are left to qualifiers.
+#[derive(Clone, Copy, Debug)]
+pub struct Base<'d> {
+    pub shown: Shown<'d>,
+    pub extension: Option<Shown<'d>>,
+    pub script: Option<Script>,
+    pub region: Option<Region>,
+}
+
+// The base of the name of an identifier.
+pub fn find_base<'d, P: DataProvider>(
+    provider: &'d P,
+    chains: &Chains<'_>,
+    display: LanguageDisplay,
+    locale: &DataLocale,
+    subject: &LanguageIdentifier,
+) -> Result<Base<'d>, DataError>
+    ensures { made_of shown_base result ≡ base_of
+        (in_locale (P.name provider.now) (P.menu provider.now) (P.essentials provider.now)
+        locale.now) (chains_of chains.now) display subject.now }
+{
+    let keys = language_keys(chains, display, subject);
+    base_at(provider, chains, locale, subject, &keys)
+}
+
+// The keys of an identifier, in the order in which they are asked for.
+fn language_keys(
+    chains: &Chains<'_>,
+    display: LanguageDisplay,
+    subject: &LanguageIdentifier,
+) -> [Option<(Option<Script>, Option<Region>)>; 4]
+    ensures { flat_map option_to_list result
+        ≡ keys_of (chains_of chains.now) display subject.now }
+{
+    if !asks_dialects(chains.menu, display) {
+        return [None, None, None, Some((None, None))];
+    }
+    match (subject.script, subject.region) {
+        (Some(script), Some(region)) => [
+            Some((Some(script), Some(region))),
+            Some((Some(script), None)),
+            Some((None, Some(region))),
+            Some((None, None)),
+        ],
+        (Some(script), None) => [Some((Some(script), None)), None, None, Some((None, None))],
+        (None, Some(region)) => [Some((None, Some(region))), None, None, Some((None, None))],
+        (None, None) => [None, None, None, Some((None, None))],
+    }
+}
+
+// Whether names of dialects are asked for.
+fn asks_dialects(menu: &[MenuMarker], display: LanguageDisplay) -> bool
+    ensures { result ≡ asks_dialects menu.now display }
+{
+    menu.is_empty() && matches!(display, LanguageDisplay::Dialect)
+}
+
+// The base by these keys, or the raw language.
+fn base_at<'d, P: DataProvider>(
+    provider: &'d P,
+    chains: &Chains<'_>,
+    locale: &DataLocale,
+    subject: &LanguageIdentifier,
+    keys: &[Option<(Option<Script>, Option<Region>)>],
+) -> Result<Base<'d>, DataError>
+    ensures { made_of shown_base result ≡ base_asked (P.name provider.now) (P.menu provider.now)
+        locale.now (chains_of chains.now) subject.now keys.now }
+{
+    match first_base(provider, chains, locale, subject, keys) {
+        Ok(base) => return Ok(base),
+        Err(refusal) => {
+            if !is_missing(refusal) {
+                return Err(refusal);
+            }
+        }
+    }
+    Ok(raw_base(subject))
+}
+
+// The base by the menus, and then by these keys.
+fn first_base<'d, P: DataProvider>(
+    provider: &'d P,
+    chains: &Chains<'_>,
+    locale: &DataLocale,
+    subject: &LanguageIdentifier,
+    keys: &[Option<(Option<Script>, Option<Region>)>],
+) -> Result<Base<'d>, DataError>
+    ensures { made_of shown_base result ≡ first_asked (P.name provider.now) (P.menu provider.now)
+        locale.now (chains_of chains.now) subject.now keys.now }
+{
+    match first_menu(provider, chains.menu, locale, &subject.language) {
+        Ok(name) => return Ok(menu_base(name, subject)),
+        Err(refusal) => {
+            if !is_missing(refusal) {
+                return Err(refusal);
+            }
+        }
+    }
+    base_by_keys(provider, chains.text, locale, subject, keys)
+}
+
+// The base by the first of these keys that the chain names.
+fn base_by_keys<'d, P: DataProvider>(
+    provider: &'d P,
+    chain: &[NameMarker],
+    locale: &DataLocale,
+    subject: &LanguageIdentifier,
+    keys: &[Option<(Option<Script>, Option<Region>)>],
+) -> Result<Base<'d>, DataError>
+    ensures { made_of shown_base result ≡ keys_asked (P.name provider.now) locale.now chain.now
+        subject.now keys.now }
+{
+    for key in keys {
+        match base_by_key(provider, chain, locale, subject, key) {
+            Ok(base) => return Ok(base),
+            Err(refusal) => {
+                if !is_missing(refusal) {
+                    return Err(refusal);
+                }
+            }
+        }
+    }
+    Err(DataError {
+        kind: DataErrorKind::IdentifierNotFound,
+    })
+}
+
+// The base by a key that the chain names; where there is no key, `IdentifierNotFound`.
+fn base_by_key<'d, P: DataProvider>(
+    provider: &'d P,
+    chain: &[NameMarker],
+    locale: &DataLocale,
+    subject: &LanguageIdentifier,
+    key: &Option<(Option<Script>, Option<Region>)>,
+) -> Result<Base<'d>, DataError>
+    ensures { made_of shown_base result ≡ key_asked (P.name provider.now) locale.now chain.now
+        subject.now key.now }
+{
+    let Some(parts) = key else {
+        return Err(DataError {
+            kind: DataErrorKind::IdentifierNotFound,
+        });
+    };
+    let key = NameKey::Language(subject.language, parts.0, parts.1);
+    match first_name(provider, chain, locale, &key) {
+        Ok(name) => Ok(Base {
+            shown: Shown::Name(name),
+            extension: None,
+            script: subject.script.xor(parts.0),
+            region: subject.region.xor(parts.1),
+        }),
+        Err(refusal) => Err(refusal),
+    }
+}
+
+// A name in menus as a base.
+fn menu_base<'d>(name: &'d MenuNameParts, subject: &LanguageIdentifier) -> Base<'d>
+    ensures { shown_base result ≡ menu_base subject.now name.now }
+{
+    Base {
+        shown: Shown::Name(name.core.as_str()),
+        extension: unless_empty(name.extension.as_str()),
+        script: subject.script,
+        region: subject.region,
+    }
+}
+
+// A text as a qualifier, if it is not empty.
+fn unless_empty(text: &str) -> Option<Shown<'_>>
+    ensures { shown_pieces result ≡ unless_empty text.now }
+{
+    if text.is_empty() {
+        None
+    } else {
+        Some(Shown::Name(text))
+    }
+}
+
+// The raw language as a base.
+fn raw_base<'d>(subject: &LanguageIdentifier) -> Base<'d>
+    ensures { shown_base result ≡ raw_base subject.now }
+{
+    Base {
+        shown: Shown::Language(subject.language),
+        extension: None,
+        script: subject.script,
+        region: subject.region,
+    }
+}

@@ -1,0 +1,54 @@
+//! What is known of a name before its variants are asked for.
+ghost use Rattle.std.specs.Prelude.{◌≡◌};
+ghost use Rattle.icu_locale_names.specs.FirstHit.{made_of};
+ghost use Rattle.icu_locale_names.specs.LanguageNames.{in_locale, head_of};
+ghost use Rattle.icu_locale_names.specs.inner.LanguageParts.{chains_of, shown_head};
+
+use crate::LanguageDisplay;
+use crate::language::base::find_base;
+use crate::language::chains::Chains;
+use crate::language::named::{region_name, script_name};
+use crate::shown::Shown;
+use icu_locale_core::LanguageIdentifier;
+use icu_provider::{DataError, DataLocale, DataProvider};
+
+// The base, and the qualifiers before the variants.
+#[derive(Clone, Copy, Debug)]
+pub struct Parts<'d> {
+    pub base: Shown<'d>,
+    pub extension: Option<Shown<'d>>,
+    pub script: Option<Shown<'d>>,
+    pub region: Option<Shown<'d>>,
+}
+
+// The names of the language, the script and the region, asked for in this order.
+pub fn find_parts<'d, P: DataProvider>(
+    provider: &'d P,
+    chains: &Chains<'_>,
+    display: LanguageDisplay,
+    locale: &DataLocale,
+    subject: &LanguageIdentifier,
+) -> Result<Parts<'d>, DataError>
+    ensures { made_of shown_head result ≡ head_of
+        (in_locale (P.name provider.now) (P.menu provider.now) (P.essentials provider.now)
+        locale.now) (chains_of chains.now) display subject.now }
+{
+    let found = match find_base(provider, chains, display, locale, subject) {
+        Ok(found) => found,
+        Err(refusal) => return Err(refusal),
+    };
+    let script = match script_name(provider, chains.script, locale, found.script) {
+        Ok(script) => script,
+        Err(refusal) => return Err(refusal),
+    };
+    let region = match region_name(provider, chains.region, locale, found.region) {
+        Ok(region) => region,
+        Err(refusal) => return Err(refusal),
+    };
+    Ok(Parts {
+        base: found.shown,
+        extension: found.extension,
+        script,
+        region,
+    })
+}

@@ -1,0 +1,114 @@
+//! Passes over the pieces of a name: how long it is, what is raw in it, and its text.
+ghost use Rattle.std.specs.Prelude.{◌≡◌, ◌^◌, ◌<◌, ◌≤◌, length, MatchBool};
+ghost use Rattle.std.specs.Prelude.{OnOk, OnErr, IfOk, IfErr};
+ghost use Rattle.std.specs.Fmt.{WritesOnOk};
+ghost use Rattle.std.specs.Io.KnownBytes.{Appends};
+ghost use Rattle.icu_locale_names.specs.LentNames.{pieces_of};
+ghost use Rattle.icu_locale_names.specs.Pieces.{text_of, spans, has_raw};
+ghost use Rattle.icu_locale_names.specs.Writing.{AppendsPart};
+
+use crate::language::LanguageIdentifierDisplayNameBorrowed;
+use crate::write_error::NameWriteError;
+use std::alloc::Global;
+use std::{fmt, io};
+
+// Whether the text has more bytes than can be counted.
+#[tactic(auto, using(crate::proofs::Measures::text_length))]
+pub fn is_too_long(name: &LanguageIdentifierDisplayNameBorrowed<'_>) -> bool
+    ensures { MatchBool result (2 ^ 64 ≤ length (text_of (pieces_of name.now)))
+        (length (text_of (pieces_of name.now)) < 2 ^ 64) }
+{
+    let mut total: usize = 0;
+    for piece in name.pieces() {
+        match total.checked_add(piece.text.len()) {
+            Some(sum) => total = sum,
+            None => return true,
+        }
+    }
+    false
+}
+
+// Whether a raw subtag stands in the text.
+pub fn has_raw(name: &LanguageIdentifierDisplayNameBorrowed<'_>) -> bool
+    ensures { result ≡ has_raw (pieces_of name.now) }
+{
+    for piece in name.pieces() {
+        if piece.is_raw {
+            return true;
+        }
+    }
+    false
+}
+
+// The places of the raw subtags.
+#[tactic(auto, using(crate::proofs::Measures::text_length))]
+pub fn spans_of(
+    alloc: Global,
+    name: &LanguageIdentifierDisplayNameBorrowed<'_>,
+) -> Result<Vec<(usize, usize)>, NameWriteError>
+    requires { length (text_of (pieces_of name.now)) < 2 ^ 64 }
+    ensures whole { IfOk result (λ marks. marks.items ≡ spans (pieces_of name.now)) }
+    ensures refused { IfErr result (λ e. e ≡ NameWriteError.Memory) }
+{
+    let mut marks = Vec::new(alloc);
+    let mut start: usize = 0;
+    for piece in name.pieces() {
+        let behind = start + piece.text.len();
+        if piece.is_raw {
+            marks.push((start, behind))?;
+        }
+        start = behind;
+    }
+    Ok(marks)
+}
+
+// The text, written piece by piece.
+pub fn write_pieces<W: io::Write>(
+    name: &LanguageIdentifierDisplayNameBorrowed<'_>,
+    sink: &mut W,
+) -> Result<(), NameWriteError>
+    ensures whole { OnOk result (Appends (W.contents sink.old) (W.contents sink.new)
+        (text_of (pieces_of name.now))) }
+    ensures refused { IfErr result (λ e. e ≡ NameWriteError.Sink) }
+    ensures part { OnErr result (AppendsPart (W.contents sink.old) (W.contents sink.new)
+        (text_of (pieces_of name.now))) }
+{
+    for piece in name.pieces() {
+        write_text(piece.text, sink)?;
+    }
+    Ok(())
+}
+
+// A text, written whole or refused. A write that takes no byte counts as a failure.
+#[tactic(auto, using(crate::proofs::PieceWrites::not_empty))]
+fn write_text<W: io::Write>(text: &str, sink: &mut W) -> Result<(), NameWriteError>
+    ensures whole { OnOk result (Appends (W.contents sink.old) (W.contents sink.new) text.now) }
+    ensures refused { IfErr result (λ e. e ≡ NameWriteError.Sink) }
+    ensures part { OnErr result
+        (AppendsPart (W.contents sink.old) (W.contents sink.new) text.now) }
+{
+    let mut rest = text.as_bytes();
+    while !rest.is_empty() {
+        match sink.write(rest) {
+            Ok(0) | Err(_) => return Err(NameWriteError::Sink),
+            Ok(count) => {
+                let (_, left) = rest.split_at(count);
+                rest = left;
+            }
+        }
+    }
+    Ok(())
+}
+
+// The text, written piece by piece to a formatter.
+pub fn format_pieces<W: fmt::Write>(
+    name: &LanguageIdentifierDisplayNameBorrowed<'_>,
+    f: &mut fmt::Formatter<W>,
+) -> fmt::Result
+    ensures { WritesOnOk W.write_str_gives f.old result (text_of (pieces_of name.now)) f.new }
+{
+    for piece in name.pieces() {
+        f.write_str(piece.text)?;
+    }
+    Ok(())
+}

@@ -1,0 +1,59 @@
+//! Why a name is not written.
+
+use std::alloc::{AllocError, AllocFailed};
+use thiserror::Error;
+
+/// Why a name is not written: `Display` writes the name of the refusal. The list of spans is unchanged after each.
+#[derive(Clone, Copy, Debug, PartialEq, Eq, Error)]
+pub enum NameWriteError {
+    /// Memory for the spans was asked for and refused. Nothing was written.
+    #[error("Memory")]
+    Memory = 1,
+    /// A write failed or took no byte. A beginning of the text was written, and not the whole.
+    #[error("Sink")]
+    Sink = 2,
+    /// The text is longer than `usize::MAX` bytes. Nothing was written.
+    #[error("TooLong")]
+    TooLong = 3,
+}
+
+impl From<AllocError> for NameWriteError {
+    ghost use Rattle.icu_locale_names.specs.declared.write_error.NameWriteError.TheVariants.{Memory};
+    ghost use Rattle.std.specs.Prelude.{◌≡◌};
+
+    ghost from_gives = { λ _ e. e ≡ Memory };
+
+    fn from(_refused: AllocError) -> Self {
+        NameWriteError::Memory
+    }
+}
+
+impl<T: Drop> From<AllocFailed<T>> for NameWriteError {
+    ghost use Rattle.icu_locale_names.specs.declared.write_error.NameWriteError.TheVariants.{Memory};
+    ghost use Rattle.std.specs.Prelude.{◌≡◌};
+
+    ghost from_gives = { λ _ e. e ≡ Memory };
+
+    fn from(_refused: AllocFailed<T>) -> Self {
+        NameWriteError::Memory
+    }
+}
+
+#[cfg(test)]
+mod tests {
+    use super::*;
+    use std::test::Fail;
+
+    #[test]
+    fn each_refusal_is_written_by_its_name(rt: HostRuntime) -> Result<(), Fail> {
+        for (error, name) in [
+            (NameWriteError::Memory, "Memory"),
+            (NameWriteError::Sink, "Sink"),
+            (NameWriteError::TooLong, "TooLong"),
+        ] {
+            let written = format!(in rt.alloc(); "{error}")?;
+            assert_eq!(rt; written.as_str(), name);
+        }
+        Ok(())
+    }
+}
