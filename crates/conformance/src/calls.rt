@@ -3,7 +3,7 @@ use crate::fault::Fault;
 use crate::likely::{self, Likely};
 use crate::texts::{self, Kind};
 use crate::world::World;
-use crate::{canonical, menus, names, negotiation};
+use crate::{canonical, language_names, menus, names, negotiation};
 use icu_tables::{TableError, Tables};
 use std::alloc::Global;
 
@@ -46,6 +46,8 @@ pub enum Call {
     Script,
     /// Names a variant.
     Variant,
+    /// Names an identifier.
+    LanguageName,
     /// Names a language in a menu.
     Menu,
     /// Shows the patterns of a locale.
@@ -56,7 +58,7 @@ pub enum Call {
     JsonCuts,
 }
 
-const CALLS: [(&str, Call); 35] = [
+const CALLS: [(&str, Call); 36] = [
     ("read", Call::Read(Kind::Identifier)),
     ("language", Call::Read(Kind::Language)),
     ("script", Call::Read(Kind::Script)),
@@ -88,6 +90,7 @@ const CALLS: [(&str, Call); 35] = [
     ("region-name", Call::Region),
     ("script-name", Call::Script),
     ("variant-name", Call::Variant),
+    ("language-name", Call::LanguageName),
     ("menu", Call::Menu),
     ("essentials", Call::Essentials),
     ("json", Call::Json),
@@ -133,6 +136,7 @@ fn answer_text(alloc: Global, world: &World, call: Call, text: &str) -> Result<S
         Call::Region => names::name(alloc, world, "region", text),
         Call::Script => names::name(alloc, world, "script", text),
         Call::Variant => names::name(alloc, world, "variant", text),
+        Call::LanguageName => language_names::language_name(alloc, world, text),
         Call::Menu => menus::menu(alloc, world, text),
         Call::Essentials => menus::essentials(alloc, world, text),
         _ => answer_words(alloc, call, text),
