@@ -1,3 +1,4 @@
+mod CommandWords
 mod LineAnswers
 mod LineCuts
 mod ListReading

@@ -5,7 +5,6 @@ use Rattle.std.proofs.lemmas.Option.{same_Some, none-some}
 use Rattle.icu_locale.specs.LikelyTable.{likely}
 use Rattle.icu_locale.specs.Negotiation.{Negotiation, IsNegotiated}
 use Rattle.icu_locale_cli.specs.Negotiations.{IsNegotiatedLine}
-use Rattle.std.specs.String.{string_bytes}
 use Rattle.icu_locale_core.specs.Identifier.{IsIdentifier, Spells}
 use Rattle.icu_locale_core.specs.declared.langid.LanguageIdentifier.{LanguageIdentifier}
 use Rattle.icu_locale_core.specs.declared.locale.Locale.{Locale}
@@ -22,33 +21,33 @@ use Rattle.icu_locale_cli.specs.Texts.{transformed_line, refused_line, matched_l
 
 -- a line of a fitting identifier and answer is that of a transformed identifier
 pub transformed_from_line : (Fits : LanguageIdentifier → TransformResult → Type 0) (y : LanguageIdentifier) (m : TransformResult) → Fits y m → (r : Result Answer CliError)
-    → IfOk r (λ a. (string_bytes a.text ≡ transformed_line y m) × (a.accepted ≡ true)) → IfOk r (λ a. IsTransformed Fits (string_bytes a.text) a.accepted)
+    → IfOk r (λ a. (a.text.items ≡ transformed_line y m) × (a.accepted ≡ true)) → IfOk r (λ a. IsTransformed Fits a.text.items a.accepted)
 transformed_from_line Fits y m fits (Ok a) h = (y, m, fits, h.0, h.1)
 transformed_from_line Fits y m fits (Err e) h = tt
 
 -- the answer to the identifier that a line spells is the line's
 pub answer_from_accepted : (task : Task) (line : List ℕ) (x : LanguageIdentifier) → IsIdentifier x × Spells line x → (r : Result Answer CliError)
-    → IfOk r (λ a. IsLineOf task x (string_bytes a.text) a.accepted) → IfOk r (λ a. IsIdentifierAnswer task line (string_bytes a.text) a.accepted)
+    → IfOk r (λ a. IsLineOf task x a.text.items a.accepted) → IfOk r (λ a. IsIdentifierAnswer task line a.text.items a.accepted)
 answer_from_accepted task line x spelled (Ok a) h = inl (x, spelled.0, spelled.1, h)
 answer_from_accepted task line x spelled (Err e) h = tt
 
 module _ (likely : LikelySubtags) (rules : Rules) (old : Locale) where
   -- the line of a canonical locale
   pub canonicalized_from_line : (new : Locale) (m : TransformResult) → IsCanonical likely rules old new → m ≡ answer_of (is_applied likely rules old) → (r : Result Answer CliError)
-      → IfOk r (λ a. (string_bytes a.text ≡ transformed_line new.id m) × (a.accepted ≡ true)) → IfOk r (λ a. IsCanonicalized likely rules old (string_bytes a.text) a.accepted)
-  canonicalized_from_line new m canonical answer (Ok a) h = inl (new, canonical, subst (λ k. string_bytes a.text ≡ transformed_line new.id k) answer h.0, h.1)
+      → IfOk r (λ a. (a.text.items ≡ transformed_line new.id m) × (a.accepted ≡ true)) → IfOk r (λ a. IsCanonicalized likely rules old a.text.items a.accepted)
+  canonicalized_from_line new m canonical answer (Ok a) h = inl (new, canonical, subst (λ k. a.text.items ≡ transformed_line new.id k) answer h.0, h.1)
   canonicalized_from_line new m canonical answer (Err e) h = tt
 
   -- the line of an identifier that comes again
   pub repeated_from_line : (z : LanguageIdentifier) → ComesAgainFirst likely rules old z → (r : Result Answer CliError)
-      → IfOk r (λ a. (string_bytes a.text ≡ refused_line (codes "NoFixedPoint")) × (a.accepted ≡ false)) → IfOk r (λ a. IsCanonicalized likely rules old (string_bytes a.text) a.accepted)
+      → IfOk r (λ a. (a.text.items ≡ refused_line (codes "NoFixedPoint")) × (a.accepted ≡ false)) → IfOk r (λ a. IsCanonicalized likely rules old a.text.items a.accepted)
   repeated_from_line z again (Ok a) h = inr (z, again, h.0, h.1)
   repeated_from_line z again (Err e) h = tt
 
   -- the line of an identifier is that of its locale
   pub plain_from_line : (x : LanguageIdentifier) → old.id ≡ x → old.extensions.unicode.keywords ≡ [] → old.extensions.transform.lang ≡ None → (r : Result Answer CliError)
-      → IfOk r (λ a. IsCanonicalized likely rules old (string_bytes a.text) a.accepted)
-      → IfOk r (λ a. (locale : Locale) × IsPlain x locale × IsCanonicalized likely rules locale (string_bytes a.text) a.accepted)
+      → IfOk r (λ a. IsCanonicalized likely rules old a.text.items a.accepted)
+      → IfOk r (λ a. (locale : Locale) × IsPlain x locale × IsCanonicalized likely rules locale a.text.items a.accepted)
   plain_from_line x id keywords transform (Ok a) h = (old, record { id = id; keywords = keywords; transform = transform }, h)
   plain_from_line x id keywords transform (Err e) h = tt
 
@@ -59,7 +58,7 @@ get_or-slice_get (y ∷ ys) (suc j) x d at = get_or-slice_get ys j x d at
 
 -- the line of a match is that of what was negotiated
 pub negotiated_from_line : (n : Negotiation) (requests : List LanguageIdentifier) (i j : ℕ) (x : LanguageIdentifier) → IsNegotiated (likely n.expander) requests n.available (Some (i, j)) → x ≡ get_or n.available j x → (r : Result Answer CliError)
-    → IfOk r (λ a. (string_bytes a.text ≡ matched_line i x) × (a.accepted ≡ true)) → IfOk r (λ a. IsNegotiatedLine n requests (string_bytes a.text) × (a.accepted ≡ true))
+    → IfOk r (λ a. (a.text.items ≡ matched_line i x) × (a.accepted ≡ true)) → IfOk r (λ a. IsNegotiatedLine n requests a.text.items × (a.accepted ≡ true))
 negotiated_from_line n requests i j x negotiated here (Ok a) h =
     let m = negotiated.matches in
     let same = here ∙ get_or-slice_get n.available j m.identifier x m.offered in

@@ -1,5 +1,5 @@
 -- Tables make one expander, so one that is not settled tells of all.
-use Rattle.std.proofs.Common.{◌≡◌, Bool, true, Option, Some, None, refl, ap, sym, subst, ◌∙◌}
+use Rattle.std.proofs.Common.{◌≡◌, true, Option, Some, None, refl, ap, sym, subst, ◌∙◌}
 use Rattle.std.specs.Borrow.{Bor}
 use Rattle.std.specs.Option.{option_copied, option_or}
 use Rattle.std.proofs.lemmas.Option.{same_Some, none-some}

@@ -1,5 +1,5 @@
 -- How the ends of a run's parts make the ends of the run.
-use Rattle.std.proofs.Common.{◌≡◌, ◌⊎◌, Bool, false, List, ℕ, Option, Result, Ok, Err, IfOk, IfErr, inl, inr, refl, ap, subst, sym}
+use Rattle.std.proofs.Common.{◌≡◌, ◌⊎◌, false, List, ℕ, Option, Result, Ok, Err, IfOk, IfErr, inl, inr, refl, ap, subst, sym}
 use Rattle.icu_tables.specs.declared.error.TableError.{TableError}
 use Rattle.icu_tables.specs.declared.tables.Tables.{Tables}
 use Rattle.icu_locale_cli.specs.declared.command.Command.{Command}
@@ -11,6 +11,8 @@ use Rattle.icu_locale_cli.specs.declared.status.Status.{Status}
 use Rattle.icu_locale.specs.LikelyTable.{likely}
 use Rattle.icu_locale.specs.Settled.{AreSettled}
 use Rattle.icu_locale.specs.declared.expander.LocaleExpander.{LocaleExpander}
+use Rattle.icu_locale_names.specs.declared.preferences.DisplayNamesPreferences.{DisplayNamesPreferences}
+use Rattle.icu_locale_cli.specs.declared.naming.NameChain.{NameChain}
 use Rattle.icu_locale_cli.specs.declared.task.Task.{Task}
 use Rattle.icu_locale_cli.specs.declared.work.Work.{Work}
 use Rattle.icu_locale_cli.specs.Lines.{first_line}
@@ -22,14 +24,15 @@ use Rattle.icu_locale_cli.specs.WholeRuns.{WritesLines, WritesSettled, WritesOut
 use Rattle.icu_locale_cli.specs.WholeRuns.{ReadsTables, IsRefusedJsonRun}
 
 -- every command but one works on lines
-lines_only : (P : Command → Type 0) → P command.Maximize → P command.Minimize → P command.MinimizeScript → P command.Canonicalize → P command.Direction → P command.Negotiate → (c : Command) → (c ≡ command.Settled → ⊥) → P c
-lines_only P m n s k d g command.Settled other = absurd (other refl)
-lines_only P m n s k d g command.Maximize other = m
-lines_only P m n s k d g command.Minimize other = n
-lines_only P m n s k d g command.MinimizeScript other = s
-lines_only P m n s k d g command.Canonicalize other = k
-lines_only P m n s k d g command.Direction other = d
-lines_only P m n s k d g command.Negotiate other = g
+lines_only : (P : Command → Type 0) → P command.Maximize → P command.Minimize → P command.MinimizeScript → P command.Canonicalize → P command.Direction → P command.Negotiate → ((chain : NameChain) (preferences : DisplayNamesPreferences) → P (command.Name chain preferences)) → (c : Command) → (c ≡ command.Settled → ⊥) → P c
+lines_only P m n s k d g a command.Settled other = absurd (other refl)
+lines_only P m n s k d g a command.Maximize other = m
+lines_only P m n s k d g a command.Minimize other = n
+lines_only P m n s k d g a command.MinimizeScript other = s
+lines_only P m n s k d g a command.Canonicalize other = k
+lines_only P m n s k d g a command.Direction other = d
+lines_only P m n s k d g a command.Negotiate other = g
+lines_only P m n s k d g a (command.Name chain preferences) other = a chain preferences
 
 module _ (t : Tables) (wrote wrote' : Option (List ℕ)) (c : Command) (r : Result Status CliError) where
   -- `settled` alone
@@ -58,17 +61,17 @@ module _ (t : Tables) (wrote wrote' : Option (List ℕ)) (c : Command) (r : Resu
   lines_run read read' input other all h = by r h
     where
       by : (s : Result Status CliError) → IfOk s (WritesLines c t input wrote wrote') → IfOk s (IsRun c t read read' wrote wrote')
-      by (Ok s) h = lines_only (λ k. WritesLines k t input wrote wrote' s → IsRun k t read read' wrote wrote' s) (λ w. (input, all, w)) (λ w. (input, all, w)) (λ w. (input, all, w)) (λ w. (input, all, w)) (λ w. (input, all, w)) (λ w. (input, all, w)) c other h
+      by (Ok s) h = lines_only (λ k. WritesLines k t input wrote wrote' s → IsRun k t read read' wrote wrote' s) (λ w. (input, all, w)) (λ w. (input, all, w)) (λ w. (input, all, w)) (λ w. (input, all, w)) (λ w. (input, all, w)) (λ w. (input, all, w)) (λ chain preferences w. (input, all, w)) c other h
       by (Err e) h = tt
 
   pub lines_output : (input : List ℕ) → (c ≡ command.Settled → ⊥) → IfOk r (WritesLines c t input wrote wrote') → IfOk r (WritesOutput c t input wrote wrote')
-  lines_output input other h = lines_only (λ k. IfOk r (WritesLines k t input wrote wrote') → IfOk r (WritesOutput k t input wrote wrote')) (λ w. w) (λ w. w) (λ w. w) (λ w. w) (λ w. w) (λ w. w) c other h
+  lines_output input other h = lines_only (λ k. IfOk r (WritesLines k t input wrote wrote') → IfOk r (WritesOutput k t input wrote wrote')) (λ w. w) (λ w. w) (λ w. w) (λ w. w) (λ w. w) (λ w. w) (λ chain preferences w. w) c other h
 
   pub lines_output_refused : (input : List ℕ) → (c ≡ command.Settled → ⊥) → IfErr r (IsRefusedLines c t input wrote wrote') → IfErr r (IsRefusedOutput c t input wrote wrote')
-  lines_output_refused input other h = lines_only (λ k. IfErr r (IsRefusedLines k t input wrote wrote') → IfErr r (IsRefusedOutput k t input wrote wrote')) (λ w. w) (λ w. w) (λ w. w) (λ w. w) (λ w. w) (λ w. w) c other h
+  lines_output_refused input other h = lines_only (λ k. IfErr r (IsRefusedLines k t input wrote wrote') → IfErr r (IsRefusedOutput k t input wrote wrote')) (λ w. w) (λ w. w) (λ w. w) (λ w. w) (λ w. w) (λ w. w) (λ chain preferences w. w) c other h
 
   pub lines_refused : (read read' : Option (List ℕ)) → (c ≡ command.Settled → ⊥) → IfErr r (IsRefusedLineRun c t read read' wrote wrote') → IfErr r (IsRefusedRun c t read read' wrote wrote')
-  lines_refused read read' other h = lines_only (λ k. IfErr r (IsRefusedLineRun k t read read' wrote wrote') → IfErr r (IsRefusedRun k t read read' wrote wrote')) (λ w. w) (λ w. w) (λ w. w) (λ w. w) (λ w. w) (λ w. w) c other h
+  lines_refused read read' other h = lines_only (λ k. IfErr r (IsRefusedLineRun k t read read' wrote wrote') → IfErr r (IsRefusedRun k t read read' wrote wrote')) (λ w. w) (λ w. w) (λ w. w) (λ w. w) (λ w. w) (λ w. w) (λ chain preferences w. w) c other h
 
   -- what writing lines leaves where it is refused, once all is read
   pub lines_read : (read read' : Option (List ℕ)) (input : List ℕ) → ReadsAll read read' input → (has_tables c t ≡ false → ⊥) → (IsUnsettled c t → ⊥) → IfErr r (IsRefusedLines c t input wrote wrote') → IfErr r (IsRefusedLineRun c t read read' wrote wrote')
@@ -114,6 +117,7 @@ task_answers command.MinimizeScript t task of input = refl
 task_answers command.Canonicalize t task of input = refl
 task_answers command.Direction t task of input = refl
 task_answers command.Settled t task of input = refl
+task_answers (command.Name chain preferences) t task of input = refl
 task_answers command.Negotiate t task of input = absurd of
 
 -- a negotiator that is not made leaves the writer as it was
@@ -136,6 +140,7 @@ no_usage t input wrote wrote' command.MinimizeScript h = h
 no_usage t input wrote wrote' command.Canonicalize h = h
 no_usage t input wrote wrote' command.Direction h = h
 no_usage t input wrote wrote' command.Negotiate h = h
+no_usage t input wrote wrote' (command.Name chain preferences) h = h
 
 no_read : (t : Tables) (input : List ℕ) (wrote wrote' : Stream) (c : Command) → IsRefusedOutput c t input wrote wrote' Read → ⊥
 no_read t input wrote wrote' command.Settled h = h
@@ -145,6 +150,7 @@ no_read t input wrote wrote' command.MinimizeScript h = h
 no_read t input wrote wrote' command.Canonicalize h = h
 no_read t input wrote wrote' command.Direction h = h
 no_read t input wrote wrote' command.Negotiate h = h
+no_read t input wrote wrote' (command.Name chain preferences) h = h
 
 no_tables : (t : Tables) (input : List ℕ) (wrote wrote' : Stream) (e : TableError) (c : Command) → IsRefusedOutput c t input wrote wrote' (error.Tables e) → ⊥
 no_tables t input wrote wrote' e command.Settled h = h
@@ -154,6 +160,7 @@ no_tables t input wrote wrote' e command.MinimizeScript h = h
 no_tables t input wrote wrote' e command.Canonicalize h = h
 no_tables t input wrote wrote' e command.Direction h = h
 no_tables t input wrote wrote' e command.Negotiate h = h
+no_tables t input wrote wrote' e (command.Name chain preferences) h = h
 
 -- so what output leaves is what the run over the tables of the first line leaves
 pub stopped_json : (t : Tables) (wrote wrote' : Stream) (c : Command) (r : Result Status CliError) (read read' : Stream) (rest : List ℕ) → ReadsTables read read' t rest → IfErr r (IsRefusedOutput c t rest wrote wrote') → IfErr r (IsRefusedJsonRun c read read' wrote wrote')

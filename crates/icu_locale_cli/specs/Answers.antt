@@ -18,10 +18,11 @@ use Rattle.icu_locale.specs.declared.expander.TransformResult.{TransformResult}
 use Rattle.icu_locale.specs.declared.expander.TransformResult.TheVariants.{Modified}
 use Rattle.icu_locale_cli.specs.declared.task.Task.{Task}
 use Rattle.icu_locale_cli.specs.declared.task.Task.TheVariants.{Maximize, Minimize, MinimizeScript}
-use Rattle.icu_locale_cli.specs.declared.task.Task.TheVariants.{Canonicalize, Direction}
+use Rattle.icu_locale_cli.specs.declared.task.Task.TheVariants.{Canonicalize, Direction, Name}
 use Rattle.icu_locale_cli.specs.declared.work.Work.{Work}
 use Rattle.icu_locale_cli.specs.declared.work.Work.TheVariants.{Identifiers, Requests}
 use Rattle.icu_locale_cli.specs.Lists.{listed, SpellsAll, IsRefusal, IsFirstFault}
+use Rattle.icu_locale_cli.specs.Names.{name_by, IsNamedLine}
 use Rattle.icu_locale_cli.specs.Negotiations.{IsNegotiatedLine}
 use Rattle.icu_locale_cli.specs.Texts.{transformed_line, refused_line, direction_line}
 
@@ -58,6 +59,7 @@ IsLineOf (Canonicalize c) x text accepted = (locale : Locale) × IsPlain x local
 IsLineOf (Direction d) x text accepted = (text
     ≡ direction_line (direction_of d.script_direction.now (likely_script (likely d.expander) x)))
     × (accepted ≡ true)
+IsLineOf (Name n) x text accepted = IsNamedLine (name_by n x) text accepted
 
 -- a line that spells an identifier gives its line; every other gives the refusal's
 abbrev pub IsIdentifierAnswer : Task → List ℕ → List ℕ → Bool → Type 0

@@ -1,9 +1,15 @@
 -- The commands by their words.
-use Rattle.std.specs.Prelude.{ℕ, Bool, true, false, List, [], ◌∷◌, codes}
+use Rattle.std.specs.Prelude.{◌≡◌, ℕ, Bool, true, false, List, [], ◌∷◌, ◌++◌, codes}
+use Rattle.icu_locale_core.specs.Identifier.{IsIdentifier, Spells}
+use Rattle.icu_locale_core.specs.TextSet.{empty}
+use Rattle.icu_locale_core.specs.declared.langid.LanguageIdentifier.{LanguageIdentifier}
+use Rattle.icu_locale_names.specs.declared.preferences.DisplayNamesPreferences.{DisplayNamesPreferences}
 use Rattle.icu_locale_cli.specs.declared.command.Command.{Command}
 use Rattle.icu_locale_cli.specs.declared.command.Command.TheVariants.{Maximize, Minimize}
 use Rattle.icu_locale_cli.specs.declared.command.Command.TheVariants.{MinimizeScript, Canonicalize}
 use Rattle.icu_locale_cli.specs.declared.command.Command.TheVariants.{Direction, Settled, Negotiate}
+use Rattle.icu_locale_cli.specs.declared.command.Command.TheVariants.{Name}
+use Rattle.icu_locale_cli.specs.Names.{chain_word}
 
 -- the word of each command
 abbrev pub command_word : Command → List ℕ
@@ -14,8 +20,32 @@ command_word Canonicalize = codes "canonicalize"
 command_word Direction = codes "direction"
 command_word Settled = codes "settled"
 command_word Negotiate = codes "negotiate"
+command_word (Name chain preferences) = codes "name"
 
--- the words of a command, with tables as JSON or without
-abbrev pub command_words : Command → Bool → List (List ℕ)
-command_words c false = command_word c ∷ []
-command_words c true = command_word c ∷ codes "json" ∷ []
+-- a text that spells an identifier without variants names the preferences of its subtags
+abbrev pub SpellsPreferences : List ℕ → DisplayNamesPreferences → Type 0
+SpellsPreferences text preferences = (x : LanguageIdentifier) × IsIdentifier x × Spells text x
+    × (x.variants ≡ empty) × (preferences ≡ record {
+      locale = record {
+        language = x.language;
+        script = x.script;
+        region = x.region;
+      };
+    })
+
+-- the words behind that of a command: for `name` a chain and preferences
+abbrev pub AreArguments : Command → List (List ℕ) → Type 0
+AreArguments (Name chain preferences) words = (text : List ℕ)
+    × (words ≡ chain_word chain ∷ text ∷ []) × SpellsPreferences text preferences
+AreArguments c words = words ≡ []
+
+-- the words of a command: its own, and its arguments
+abbrev pub AreCommandWords : List (List ℕ) → Command → Type 0
+AreCommandWords words c = (arguments : List (List ℕ)) × AreArguments c arguments
+    × (words ≡ command_word c ∷ arguments)
+
+-- the words of a command, with `json` behind them for tables as JSON
+abbrev pub AreWords : List (List ℕ) → Command → Bool → Type 0
+AreWords words c false = AreCommandWords words c
+AreWords words c true = (front : List (List ℕ)) × AreCommandWords front c
+    × (words ≡ front ++ codes "json" ∷ [])

@@ -4,6 +4,7 @@ use Rattle.std.specs.Fmt.{decimal}
 use Rattle.icu_locale.specs.declared.directionality.Direction.{Direction}
 use Rattle.icu_locale.specs.declared.directionality.Direction.TheVariants.{LeftToRight, RightToLeft}
 use Rattle.icu_locale_core.specs.Identifier.{written}
+use Rattle.icu_locale_names.specs.Pieces.{Piece, text_of, has_raw}
 use Rattle.icu_locale_core.specs.declared.langid.LanguageIdentifier.{LanguageIdentifier}
 use Rattle.icu_locale.specs.declared.expander.TransformResult.{TransformResult}
 use Rattle.icu_locale.specs.declared.expander.TransformResult.TheVariants.{Modified, Unmodified}
@@ -31,6 +32,15 @@ direction_line None = codes "none\n"
 abbrev pub settled_line : Bool → List ℕ
 settled_line true = codes "yes\n"
 settled_line false = codes "no\n"
+
+-- `R` where a raw subtag was written, else `N`
+abbrev pub raw_mark : Bool → List ℕ
+raw_mark true = codes "R"
+raw_mark false = codes "N"
+
+-- the text of a name, a tab, and whether a raw subtag was written
+abbrev pub named_line : List Piece → List ℕ
+named_line pieces = text_of pieces ++ (codes "\t" ++ (raw_mark (has_raw pieces) ++ codes "\n"))
 
 -- the place of a request, a tab, and the available identifier in written case
 abbrev pub matched_line : ℕ → LanguageIdentifier → List ℕ

@@ -15,10 +15,11 @@ use Rattle.icu_locale_cli.specs.declared.task.Task.TheVariants as task
 use Rattle.icu_locale_cli.specs.declared.work.Work.{Work}
 use Rattle.icu_locale_cli.specs.declared.work.Work.TheVariants.{Identifiers, Requests}
 
--- the tables that a command needs are held
+-- the tables that a command needs are held; `name` needs none
 abbrev pub has_tables : Command → Tables → Bool
 has_tables command.Canonicalize t = has_likely t && is_some t.aliases
 has_tables command.Direction t = has_likely t && is_some t.script_direction
+has_tables (command.Name chain preferences) t = true
 has_tables c t = has_likely t
 
 -- `negotiate` is asked over likely tables that are not settled
@@ -36,6 +37,8 @@ IsTaskOf command.Canonicalize t (task.Canonicalize c) =
     IsExpanderOf t c.expander × IsSomeAnd t.aliases (λ table. AreRules table c.rules)
 IsTaskOf command.Direction t (task.Direction d) =
     IsExpanderOf t d.expander × (t.script_direction ≡ Some d.script_direction.now)
+IsTaskOf (command.Name chain preferences) t (task.Name n) =
+    (n.tables.now ≡ t) × (n.chain ≡ chain) × (n.preferences ≡ preferences)
 IsTaskOf c t other = ⊥
 
 -- the work of a command over tables; for `negotiate` these are settled, and the first line of the

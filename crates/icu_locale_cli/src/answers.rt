@@ -27,7 +27,7 @@ pub fn write_answers<W: Write>(
     let mut status = Status::Accepted;
     for line in Lines::new(input) {
         let answer = work.answer(alloc, line)?;
-        write_line(writer, answer.text.as_bytes())?;
+        write_line(writer, answer.text.as_slice())?;
         status = status.after(answer.accepted);
     }
     Ok(status)

@@ -1,9 +1,13 @@
 //! What the program is asked to do.
-ghost use Rattle.std.specs.Prelude.{◌≡◌, Bool, Ok, IfOk, IfErr, map};
+ghost use Rattle.std.specs.Prelude.{◌≡◌, Bool, Ok, IfOk, IfErr, map, [], ◌∷◌, codes};
 ghost use Rattle.std.specs.String.{string_bytes};
-ghost use Rattle.icu_locale_cli.specs.Commands.{command_word, command_words};
+ghost use Rattle.icu_locale_cli.specs.Commands.{AreArguments, AreCommandWords, AreWords};
+ghost use Rattle.icu_locale_cli.specs.Commands.{command_word};
 
 use crate::error::CliError;
+use crate::naming::{NameChain, read_preferences};
+use icu_locale_names::DisplayNamesPreferences;
+use std::alloc::Global;
 
 /// What is done with each line, or with the tables alone.
 #[derive(Clone, Copy, Debug, PartialEq, Eq)]
@@ -22,33 +26,65 @@ pub enum Command {
     Settled,
     /// Which of the available identifiers, which the first line lists, means what some request of a line means.
     Negotiate,
+    /// The name of each identifier, by a chain and in the language of preferences.
+    Name(NameChain, DisplayNamesPreferences),
 }
 
 impl Command {
-    /// The command that the words name, and whether the tables come as JSON. It takes no memory.
+    /// The command that the words name, and whether the tables come as JSON. Its answer does not depend on memory:
+    /// reading takes some for variants alone, and preferences have none.
     ///
     /// # Errors
     ///
-    /// `Usage` exactly where the words are not one word that names a command, and then `json` or nothing.
-    pub fn from_words(words: &[String]) -> Result<(Command, bool), CliError>
-        ensures named { IfOk result (λ c. map string_bytes words.now ≡ command_words c.0 c.1) }
+    /// `Usage` exactly where the words are not those of a command, and then `json` or nothing.
+    pub fn from_words(alloc: Global, words: &[String]) -> Result<(Command, bool), CliError>
+        ensures named { IfOk result (λ c. AreWords (map string_bytes words.now) c.0 c.1) }
         ensures only { (c : Command × Bool)
-            → map string_bytes words.now ≡ command_words c.0 c.1 → result ≡ Ok c }
+            → AreWords (map string_bytes words.now) c.0 c.1 → result ≡ Ok c }
+        ensures refused { IfErr result (λ e. e ≡ CliError.Usage) }
+    {
+        match words.split_last() {
+            Some((json, front)) if json.as_str() == "json" => {
+                Ok((Command::from_front(alloc, front)?, true))
+            }
+            _ => Ok((Command::from_front(alloc, words)?, false)),
+        }
+    }
+
+    // The command that the words name, without what may stand behind them.
+    fn from_front(alloc: Global, words: &[String]) -> Result<Command, CliError>
+        ensures named { IfOk result (AreCommandWords (map string_bytes words.now)) }
+        ensures only { (c : Command) → AreCommandWords (map string_bytes words.now) c
+            → result ≡ Ok c }
         ensures refused { IfErr result (λ e. e ≡ CliError.Usage) }
     {
         match words {
-            [word] => Ok((Command::from_word(word.as_str())?, false)),
-            [word, json] if json.as_str() == "json" => {
-                Ok((Command::from_word(word.as_str())?, true))
+            [word] => Command::from_word(word.as_str()),
+            [word, chain, text] if word.as_str() == "name" => {
+                Command::name(alloc, chain.as_str(), text.as_str())
             }
             _ => Err(CliError::Usage),
         }
     }
 
-    // The command of a word.
+    // The command `name` of a chain and of preferences.
+    fn name(alloc: Global, chain: &str, text: &str) -> Result<Command, CliError>
+        ensures named { IfOk result (λ c. (codes "name" ≡ command_word c)
+            × AreArguments c (chain.now ∷ text.now ∷ [])) }
+        ensures only { (c : Command) → AreArguments c (chain.now ∷ text.now ∷ [])
+            → result ≡ Ok c }
+        ensures refused { IfErr result (λ e. e ≡ CliError.Usage) }
+    {
+        let chain = NameChain::from_word(chain)?;
+        let preferences = read_preferences(alloc, text)?;
+        Ok(Command::Name(chain, preferences))
+    }
+
+    // The command of a word alone.
     fn from_word(word: &str) -> Result<Command, CliError>
-        ensures named { IfOk result (λ c. word.now ≡ command_word c) }
-        ensures only { (c : Command) → word.now ≡ command_word c → result ≡ Ok c }
+        ensures named { IfOk result (λ c. (word.now ≡ command_word c) × AreArguments c []) }
+        ensures only { (c : Command) → word.now ≡ command_word c → AreArguments c []
+            → result ≡ Ok c }
         ensures refused { IfErr result (λ e. e ≡ CliError.Usage) }
     {
         match word {

@@ -17,6 +17,7 @@ use crate::command::Command;
 use crate::error::CliError;
 use crate::lines::cut;
 use crate::lists::read_list;
+use crate::naming::Naming;
 use crate::status::Status;
 use crate::task::Task;
 use crate::work::Work;
@@ -49,6 +50,13 @@ impl<'d> Loaded<'d> {
             ↔ IsUnsettled command.now tables.now }
         ensures refused { IfErr result IsRefusedLoad }
     {
+        if let Command::Name(chain, preferences) = command {
+            return Ok(Loaded::Task(Task::Name(Naming {
+                tables,
+                chain: *chain,
+                preferences: *preferences,
+            })));
+        }
         let expander = load_expander(tables)?;
         match command {
             Command::Maximize => Ok(Loaded::Task(Task::Maximize(expander))),
@@ -66,7 +74,7 @@ impl<'d> Loaded<'d> {
             }
             Command::Negotiate if expander.is_settled() => Ok(Loaded::Negotiate(expander)),
             Command::Negotiate => Err(CliError::NotSettled),
-            Command::Settled => unreachable!(),
+            Command::Settled | Command::Name(_, _) => unreachable!(),
         }
     }
 

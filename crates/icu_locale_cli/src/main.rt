@@ -9,6 +9,7 @@ mod input;
 mod lines;
 mod lists;
 mod loads;
+mod naming;
 mod output;
 mod run;
 mod sample;
@@ -39,10 +40,20 @@ fn main(rt: HostRuntime) -> ExitCode {
     }
 }
 
-// The words are asked first, and then the run begins, over the tables of its first line or over the sample.
 fn start(rt: &HostRuntime) -> Result<Status, CliError> {
-    let (command, json) = Command::from_words(&words(rt)?)?;
-    run_buffered(rt.alloc(), &command, json, &mut rt.reader(), io::writer(rt))
+    let words = words(rt)?;
+    run_words(rt.alloc(), &words, &mut rt.reader(), io::writer(rt))
+}
+
+// The words are asked first, and then the run begins, over the tables of its first line or over the sample.
+fn run_words<R: Read, W: Write + Drop>(
+    alloc: Global,
+    words: &[String],
+    reader: &mut R,
+    writer: W,
+) -> Result<Status, CliError> {
+    let (command, json) = Command::from_words(alloc, words)?;
+    run_buffered(alloc, &command, json, reader, writer)
 }
 
 // The run, whose output is kept until much of it stands, and is written out at the end.

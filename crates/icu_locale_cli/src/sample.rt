@@ -27,10 +27,21 @@ pub const SAMPLE: &str = "{\
         \"subdivision\":{\"abcdefg\":\"xyz\"}},\
     \"direction\":{\
         \"ltr\":[\"Latn\",\"Hans\",\"Hant\",\"Armn\"],\
-        \"rtl\":[\"Arab\",\"Hebr\"]}}";
+        \"rtl\":[\"Arab\",\"Hebr\"]},\
+    \"exemplars\":{\"main\":{\"en\":{\"ranges\":[97,123],\"strings\":[\"ng\"]}}},\
+    \"names\":{\
+        \"language/medium/tiny\":{\"en\":{\"en\":\"English\"}},\
+        \"language/medium/light\":{\"en\":{\"it\":\"Italian\",\"ku\":\"Kurdish\"}},\
+        \"language/short/light\":{\"en\":{\"en-US\":\"US English\"}},\
+        \"script/medium/light\":{\"en\":{\"Latn\":\"Latin\"}},\
+        \"region/medium/light\":{\"en\":{\"150\":\"Europe\",\"US\":\"United States\"}},\
+        \"region/short/light\":{\"en\":{\"US\":\"US\"}},\
+        \"variant/medium/heavy\":{\"en\":{\"fonipa\":\"IPA Phonetics\"}}},\
+    \"menus\":{\"language/menu/medium/light\":{\"en\":{\"ku\":[\"Kurdish\",\"Kurmanji\"]}}},\
+    \"essentials\":{\"en\":{\"pattern\":[0,\" (\",1,\")\"],\"separator\":[0,\", \",1]}}}";
 
-/// The sample tables: common likely subtags, rules of canonicalization, and directions. The text gives tables, as its
-/// tests show, so a refusal is want of memory.
+/// The sample tables: common likely subtags, rules of canonicalization, directions, an exemplar set, and names with their
+/// patterns. The text gives tables, as its tests show, so a refusal is want of memory.
 ///
 /// # Errors
 ///

@@ -1,12 +1,12 @@
 //! What is done with an identifier.
 ghost use Rattle.std.specs.Prelude.{◌≡◌, IfOk, IfErr, true};
-ghost use Rattle.std.specs.String.{string_bytes};
 ghost use Rattle.icu_locale.specs.LikelyTable.{likely};
 ghost use Rattle.icu_locale_cli.specs.Answers.{IsCanonicalized, IsLineOf};
 ghost use Rattle.icu_locale_cli.specs.Texts.{transformed_line, direction_line};
 
 use crate::answer::{Answer, refused};
 use crate::error::CliError;
+use crate::naming::Naming;
 use icu_locale::{
     CanonicalizeError, Direction, LocaleCanonicalizer, LocaleDirectionality, LocaleExpander,
     TransformResult,
@@ -27,6 +27,8 @@ pub enum Task<'d> {
     Canonicalize(LocaleCanonicalizer<'d>),
     /// Directions.
     Direction(LocaleDirectionality<'d>),
+    /// Names.
+    Name(Naming<'d>),
 }
 
 impl<'d> Task<'d> {
@@ -36,7 +38,7 @@ impl<'d> Task<'d> {
         alloc: Global,
         mut identifier: LanguageIdentifier,
     ) -> Result<Answer, CliError>
-        ensures answer { IfOk result (λ a. IsLineOf self.now identifier (string_bytes a.text)
+        ensures answer { IfOk result (λ a. IsLineOf self.now identifier a.text.items
             a.accepted) }
         ensures refused { IfErr result (λ e. e ≡ CliError.Memory) }
     {
@@ -57,6 +59,7 @@ impl<'d> Task<'d> {
                 canonicalized(alloc, canonicalizer, Locale::new(alloc, identifier))
             }
             Task::Direction(directionality) => directed(alloc, directionality.get(&identifier)),
+            Task::Name(naming) => naming.answer(alloc, &identifier),
         }
     }
 }
@@ -68,7 +71,7 @@ fn canonicalized(
     mut locale: Locale,
 ) -> Result<Answer, CliError>
     ensures answer { IfOk result (λ a. IsCanonicalized (likely canonicalizer.now.expander)
-        canonicalizer.now.rules locale (string_bytes a.text) a.accepted) }
+        canonicalizer.now.rules locale a.text.items a.accepted) }
     ensures refused { IfErr result (λ e. e ≡ CliError.Memory) }
 {
     match canonicalizer.canonicalize(&mut locale) {
@@ -82,7 +85,7 @@ fn canonicalized(
 
 // The line of a direction.
 fn directed(alloc: Global, direction: Option<Direction>) -> Result<Answer, CliError>
-    ensures answer { IfOk result (λ a. (string_bytes a.text ≡ direction_line direction)
+    ensures answer { IfOk result (λ a. (a.text.items ≡ direction_line direction)
         × (a.accepted ≡ true)) }
     ensures refused { IfErr result (λ e. e ≡ CliError.Memory) }
 {
@@ -92,7 +95,7 @@ fn directed(alloc: Global, direction: Option<Direction>) -> Result<Answer, CliEr
         None => "none\n",
     };
     Ok(Answer {
-        text: String::from_str(alloc, line)?,
+        text: String::from_str(alloc, line)?.into_bytes(),
         accepted: true,
     })
 }
@@ -104,7 +107,7 @@ fn transformed(
     changed: TransformResult,
 ) -> Result<Answer, CliError>
     ensures answer { IfOk result (λ a.
-        (string_bytes a.text ≡ transformed_line identifier.now changed)
+        (a.text.items ≡ transformed_line identifier.now changed)
         × (a.accepted ≡ true)) }
     ensures refused { IfErr result (λ e. e ≡ CliError.Memory) }
 {
@@ -113,7 +116,7 @@ fn transformed(
         TransformResult::Unmodified => 'U',
     };
     Ok(Answer {
-        text: format!(in alloc; "{identifier}\t{mark}\n")?,
+        text: format!(in alloc; "{identifier}\t{mark}\n")?.into_bytes(),
         accepted: true,
     })
 }

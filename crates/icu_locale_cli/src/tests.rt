@@ -3,6 +3,7 @@
 //! nothing stands on a program.
 mod constructors;
 mod faults;
+mod languages;
 mod memory;
 mod plain;
 mod program;

@@ -1,6 +1,5 @@
 //! What a command works with, and what it makes of one line.
 ghost use Rattle.std.specs.Prelude.{◌≡◌, ◌⊎◌, IfOk, IfErr, true};
-ghost use Rattle.std.specs.String.{string_bytes};
 ghost use Rattle.icu_locale_cli.specs.Answers.{IsAnswer, IsIdentifierAnswer, IsListAnswer};
 ghost use Rattle.icu_locale_cli.specs.Negotiations.{IsNegotiatedLine};
 ghost use Rattle.icu_locale_cli.specs.Texts.{matched_line};
@@ -25,7 +24,7 @@ pub enum Work<'d> {
 impl<'d> Work<'d> {
     // The answer to one line.
     pub fn answer(&self, alloc: Global, line: &[u8]) -> Result<Answer, CliError>
-        ensures answer { IfOk result (λ a. IsAnswer self.now line.now (string_bytes a.text)
+        ensures answer { IfOk result (λ a. IsAnswer self.now line.now a.text.items
             a.accepted) }
         ensures refused { IfErr result (λ e. e ≡ CliError.Memory) }
     {
@@ -38,7 +37,7 @@ impl<'d> Work<'d> {
 
 // The answer to a line that is an identifier.
 fn answer_identifier(alloc: Global, task: &Task<'_>, line: &[u8]) -> Result<Answer, CliError>
-    ensures answer { IfOk result (λ a. IsIdentifierAnswer task.now line.now (string_bytes a.text)
+    ensures answer { IfOk result (λ a. IsIdentifierAnswer task.now line.now a.text.items
         a.accepted) }
     ensures refused { IfErr result (λ e. e ≡ CliError.Memory) }
 {
@@ -55,7 +54,7 @@ fn answer_requests(
     negotiator: &Negotiator<'_>,
     line: &[u8],
 ) -> Result<Answer, CliError>
-    ensures answer { IfOk result (λ a. IsListAnswer negotiator.now line.now (string_bytes a.text)
+    ensures answer { IfOk result (λ a. IsListAnswer negotiator.now line.now a.text.items
         a.accepted) }
     ensures refused { IfErr result (λ e. e ≡ CliError.Memory) }
 {
@@ -73,13 +72,13 @@ fn negotiated(
     requests: &[LanguageIdentifier],
 ) -> Result<Answer, CliError>
     ensures answer { IfOk result (λ a. IsNegotiatedLine negotiator.now requests.now
-        (string_bytes a.text) × (a.accepted ≡ true)) }
+        a.text.items × (a.accepted ≡ true)) }
     ensures refused { IfErr result (λ e. e ≡ CliError.Memory) }
 {
     match negotiator.negotiate(requests) {
         Some((asked, found)) => matched(alloc, asked, &negotiator.available()[found]),
         None => Ok(Answer {
-            text: String::from_str(alloc, "none\n")?,
+            text: String::from_str(alloc, "none\n")?.into_bytes(),
             accepted: true,
         }),
     }
@@ -87,12 +86,12 @@ fn negotiated(
 
 // The line of a request's place and the available identifier that means it.
 fn matched(alloc: Global, asked: usize, identifier: &LanguageIdentifier) -> Result<Answer, CliError>
-    ensures answer { IfOk result (λ a. (string_bytes a.text ≡ matched_line asked identifier.now)
+    ensures answer { IfOk result (λ a. (a.text.items ≡ matched_line asked identifier.now)
         × (a.accepted ≡ true)) }
     ensures refused { IfErr result (λ e. e ≡ CliError.Memory) }
 {
     Ok(Answer {
-        text: format!(in alloc; "{asked}\t{identifier}\n")?,
+        text: format!(in alloc; "{asked}\t{identifier}\n")?.into_bytes(),
         accepted: true,
     })
 }

@@ -177,14 +177,14 @@ const RUNS: [(Command, &str, &str); 2] = [
     ),
 ];
 
-fn one_run(alloc: Global, tables: &Tables, row: (Command, &str, &str)) -> Answered {
+fn one_run(alloc: Global, tables: &Tables, row: &(Command, &str, &str)) -> Answered {
     let (command, input, answers) = row;
     let mut writer = HeldWriter {
         bytes: [0; 128],
         len: 0,
     };
     let mut reader = input.as_bytes();
-    let ended = run(alloc, &command, tables, &mut reader, &mut writer);
+    let ended = run(alloc, command, tables, &mut reader, &mut writer);
     let written = writer.bytes.get(..writer.len).unwrap_or(&[]);
     let whole_lines = written.last().copied().unwrap_or(b'\n') == b'\n';
     match ended {
@@ -196,7 +196,7 @@ fn one_run(alloc: Global, tables: &Tables, row: (Command, &str, &str)) -> Answer
     }
 }
 
-fn runs_by_budget(alloc: Global, tables: &Tables, row: (Command, &str, &str)) -> Tally {
+fn runs_by_budget(alloc: Global, tables: &Tables, row: &(Command, &str, &str)) -> Tally {
     let mut tally = Tally::new();
     for step in 0..1_000 {
         if let Ok(filler) = Vec::<u8>::with_capacity(alloc, 65_536 - 16 * step) {
@@ -210,7 +210,7 @@ fn runs_by_budget(alloc: Global, tables: &Tables, row: (Command, &str, &str)) ->
 #[test]
 fn a_run_writes_whole_lines(rt: HostRuntime) -> Result<(), Fail> {
     let tables = sample(rt.alloc())?;
-    for row in RUNS {
+    for row in &RUNS {
         let spare = Vec::<u8>::with_capacity(rt.alloc(), 65_536)?;
         let held = take_all(rt.alloc())?;
         drop(spare);

@@ -26,7 +26,7 @@ const EXTENDED: &str =
     \"aliases\":{\"language_len2\":{\"aa\":\"bb\",\"bb\":\"aa\"}},\"direction\":{\"ltr\":[\"Latn\"]}}\naz\naa\n";
 
 // Words, input, output, and 0, 1 or the words of the refusal.
-const RUNS: [(&str, &str, &str, &str); 42] = [
+const RUNS: [(&str, &str, &str, &str); 62] = [
     (
         "maximize",
         "zh-CN\nund-SA\n",
@@ -143,6 +143,81 @@ const RUNS: [(&str, &str, &str, &str); 42] = [
         "",
         "usage: icu_locale_cli COMMAND [json]",
     ),
+    ("name tiny en", "en-US\n", "English (US)\tR\n", "0"),
+    (
+        "name light en",
+        "it-Qabc-150\n",
+        "Italian (Qabc, Europe)\tR\n",
+        "0",
+    ),
+    (
+        "name light EN",
+        "it\ne\nit-Latn-fonipa-posix\n",
+        "Italian\tN\n?\tInvalidLanguage\nItalian (Latin, IPA Phonetics, posix)\tR\n",
+        "1",
+    ),
+    ("name light zh", "it\n", "?\tIdentifierNotFound\n", "1"),
+    ("name short-light en", "en-US\n", "US English\tN\n", "0"),
+    (
+        "name long-light en",
+        "en-US",
+        "English (United States)\tN\n",
+        "0",
+    ),
+    (
+        "name menu-light en",
+        "ku-Latn\n",
+        "Kurdish (Kurmanji, Latin)\tN\n",
+        "0",
+    ),
+    (
+        "name short-menu-light en",
+        "en-US\n",
+        "English (US)\tN\n",
+        "0",
+    ),
+    ("name heavy en", "ku-Latn\n", "Kurdish (Latin)\tN\n", "0"),
+    ("name short-heavy en", "en-US\n", "US English\tN\n", "0"),
+    ("name long-heavy en", "ku\n", "Kurdish\tN\n", "0"),
+    ("name menu-heavy en", "ku\n", "Kurdish (Kurmanji)\tN\n", "0"),
+    (
+        "name short-menu-heavy en",
+        "en-US\n",
+        "English (US)\tN\n",
+        "0",
+    ),
+    (
+        "name light en json",
+        "{}\nit\n",
+        "?\tIdentifierNotFound\n",
+        "1",
+    ),
+    (
+        "name light en json",
+        "{\"essentials\":{\"en\":{\"pattern\":[0,\" (\",1,\")\"],\"separator\":[0,\", \",1]}}}\nit\n",
+        "it\tR\n",
+        "0",
+    ),
+    (
+        "name light en-fonipa",
+        "",
+        "",
+        "usage: icu_locale_cli COMMAND [json]",
+    ),
+    ("name light", "", "", "usage: icu_locale_cli COMMAND [json]"),
+    (
+        "name lighter en",
+        "",
+        "",
+        "usage: icu_locale_cli COMMAND [json]",
+    ),
+    (
+        "name light json",
+        "",
+        "",
+        "usage: icu_locale_cli COMMAND [json]",
+    ),
+    ("light en", "", "", "usage: icu_locale_cli COMMAND [json]"),
     (
         "maximize json json",
         "",
@@ -156,7 +231,7 @@ fn command(alloc: Global, words: &str) -> Result<Result<(Command, bool), CliErro
     for word in words.split_whitespace() {
         list.push(String::from_str(alloc, word)?)?;
     }
-    Ok(Command::from_words(&list))
+    Ok(Command::from_words(alloc, &list))
 }
 
 // The status of a run, or the words of its refusal.

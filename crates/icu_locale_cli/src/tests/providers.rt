@@ -25,7 +25,7 @@ use std::test::Fail;
 
 // Tables behind a provider that refuses some loads.
 #[derive(Drop)]
-struct Refusing<'t> {
+pub struct Refusing<'t> {
     tables: &'t Tables,
     language: Option<DataError>,
     script_region: Option<DataError>,
@@ -33,10 +33,10 @@ struct Refusing<'t> {
     aliases: Option<DataError>,
     directions: Option<DataError>,
     exemplars: Option<DataError>,
-    names: Option<DataError>,
-    names_at: Option<NameMarker>,
-    menus: Option<DataError>,
-    essentials: Option<DataError>,
+    pub names: Option<DataError>,
+    pub names_at: Option<NameMarker>,
+    pub menus: Option<DataError>,
+    pub essentials: Option<DataError>,
 }
 
 impl Refusing<'_> {
@@ -161,7 +161,7 @@ impl DataProvider for Refusing<'_> {
     }
 }
 
-const KINDS: [DataErrorKind; 6] = [
+pub const KINDS: [DataErrorKind; 6] = [
     DataErrorKind::IdentifierNotFound,
     DataErrorKind::MarkerNotFound,
     DataErrorKind::InvalidRequest,
@@ -170,7 +170,7 @@ const KINDS: [DataErrorKind; 6] = [
     DataErrorKind::Memory,
 ];
 
-fn willing(tables: &Tables) -> Refusing<'_> {
+pub fn willing(tables: &Tables) -> Refusing<'_> {
     Refusing {
         tables,
         language: None,
@@ -186,7 +186,7 @@ fn willing(tables: &Tables) -> Refusing<'_> {
     }
 }
 
-fn refusal(kind: DataErrorKind) -> Option<DataError> {
+pub fn refusal(kind: DataErrorKind) -> Option<DataError> {
     Some(DataError { kind })
 }
 

@@ -1,4 +1,4 @@
-use Rattle.std.proofs.Common.{refl, sym, ◌∙◌, rules}
+use Rattle.std.proofs.Common.{refl, rules}
 use Rattle.icu_locale_cli.proofs.Loading.{unsettled_from_one}
 use Rattle.icu_locale_cli.proofs.loads.Loaded.load.Goals as goal
 

@@ -1,0 +1,378 @@
+//! Names of identifiers over providers that refuse a load, under refused memory, and into sinks that fail.
+ghost use Rattle.std.specs.Prelude.{Err, if◌then◌else◌};
+ghost use Rattle.icu_locale_core.specs.Maps.{value_at};
+ghost use Rattle.icu_provider.specs.Requests.{exemplar_cmp, locale_cmp, menu_cmp};
+ghost use Rattle.icu_provider.specs.contracts.names.NameMarkerPartialEq.TheImpl as name_marker;
+ghost use Rattle.icu_tables.specs.Tables.{held, name_in};
+
+use crate::tests::memory::take_all;
+use crate::tests::providers::{KINDS, refusal, willing};
+use icu_locale_core::{Language, LanguageIdentifier};
+use icu_locale_names::{
+    DisplayNamesPreferences, LanguageIdentifierDisplayName, LanguageIdentifierDisplayNameBorrowed,
+    LanguageIdentifierDisplayNameOptions, NameWriteError,
+};
+use icu_provider::{
+    Aliases, DataError, DataErrorKind, DataLocale, DataProvider, ExemplarCharactersData,
+    ExemplarMarker, LikelySubtagsExtended, LikelySubtagsForLanguage, LikelySubtagsForScriptRegion,
+    LocaleNamesEssentials, MenuMarker, MenuNameParts, NameKey, NameMarker, ScriptDirection,
+};
+use icu_tables::Tables;
+use std::alloc::Global;
+use std::io;
+use std::io::Write;
+use std::process::Abort;
+use std::test::Fail;
+
+const PATTERNS: &str =
+    "{\"names\":{\"region/medium/light\":{\"en\":{\"150\":\"Europe\"}}},\"essentials\":{\"en\":{\"pattern\":[0,\" (\",1,\")\"],\"separator\":[0,\", \",1]}}}";
+
+fn patterns(alloc: Global) -> Result<Tables, Fail> {
+    match Tables::from_json(alloc, PATTERNS.as_bytes()) {
+        Ok(tables) => Ok(tables),
+        Err(_) => Err(Fail::new("the names cannot be read")),
+    }
+}
+
+fn english() -> Result<DisplayNamesPreferences, Fail> {
+    Ok(DisplayNamesPreferences::new(Language::try_from_str("en")?, None, None))
+}
+
+// The name by one of the eleven constructors.
+fn named<'t, P: DataProvider>(
+    alloc: Global,
+    provider: &'t P,
+    of: DisplayNamesPreferences,
+    subject: &LanguageIdentifier,
+    constructor: usize,
+) -> Result<LanguageIdentifierDisplayName<'t>, DataError> {
+    let options = LanguageIdentifierDisplayNameOptions::default();
+    match constructor {
+        0 => LanguageIdentifierDisplayName::try_new_tiny_unstable(
+            alloc, provider, of, subject, options,
+        ),
+        1 => LanguageIdentifierDisplayName::try_new_light_unstable(
+            alloc, provider, of, subject, options,
+        ),
+        2 => LanguageIdentifierDisplayName::try_new_short_light_unstable(
+            alloc, provider, of, subject, options,
+        ),
+        3 => LanguageIdentifierDisplayName::try_new_long_light_unstable(
+            alloc, provider, of, subject, options,
+        ),
+        4 => LanguageIdentifierDisplayName::try_new_menu_light_unstable(
+            alloc, provider, of, subject, options,
+        ),
+        5 => LanguageIdentifierDisplayName::try_new_short_menu_light_unstable(
+            alloc, provider, of, subject, options,
+        ),
+        6 => LanguageIdentifierDisplayName::try_new_heavy_unstable(
+            alloc, provider, of, subject, options,
+        ),
+        7 => LanguageIdentifierDisplayName::try_new_short_heavy_unstable(
+            alloc, provider, of, subject, options,
+        ),
+        8 => LanguageIdentifierDisplayName::try_new_long_heavy_unstable(
+            alloc, provider, of, subject, options,
+        ),
+        9 => LanguageIdentifierDisplayName::try_new_menu_heavy_unstable(
+            alloc, provider, of, subject, options,
+        ),
+        _ => LanguageIdentifierDisplayName::try_new_short_menu_heavy_unstable(
+            alloc, provider, of, subject, options,
+        ),
+    }
+}
+
+// Markers that stand in the chains of each constructor, one for each part of a name.
+const MARKERS: [NameMarker; 4] = [
+    NameMarker::LanguageMediumTiny,
+    NameMarker::ScriptMediumTiny,
+    NameMarker::RegionMediumTiny,
+    NameMarker::VariantMediumHeavy,
+];
+
+fn refused_at_a_name(
+    rt: &impl Abort,
+    alloc: Global,
+    tables: &Tables,
+    subject: &LanguageIdentifier,
+    kind: DataErrorKind,
+) -> Result<(), Fail> {
+    for marker in MARKERS {
+        let mut provider = willing(tables);
+        provider.names = refusal(kind);
+        provider.names_at = Some(marker);
+        for constructor in 0..11 {
+            let refused = named(alloc, &provider, english()?, subject, constructor).err();
+            if kind == DataErrorKind::IdentifierNotFound {
+                assert!(rt; refused.is_none());
+            } else {
+                assert!(rt; refused == refusal(kind));
+            }
+        }
+    }
+    Ok(())
+}
+
+// Patterns are asked for by each constructor, and must be there.
+fn refused_at_the_patterns(
+    rt: &impl Abort,
+    alloc: Global,
+    tables: &Tables,
+    subject: &LanguageIdentifier,
+    kind: DataErrorKind,
+) -> Result<(), Fail> {
+    let mut provider = willing(tables);
+    provider.essentials = refusal(kind);
+    for constructor in 0..11 {
+        let refused = named(alloc, &provider, english()?, subject, constructor).err();
+        assert!(rt; refused == refusal(kind));
+    }
+    Ok(())
+}
+
+// Names in menus are asked for by the four constructors of menus.
+fn refused_at_the_menus(
+    rt: &impl Abort,
+    alloc: Global,
+    tables: &Tables,
+    subject: &LanguageIdentifier,
+    kind: DataErrorKind,
+) -> Result<(), Fail> {
+    let mut provider = willing(tables);
+    provider.menus = refusal(kind);
+    for constructor in 0..11 {
+        let refused = named(alloc, &provider, english()?, subject, constructor).err();
+        let asks = matches!(constructor, 4 | 5 | 9 | 10);
+        if asks && kind != DataErrorKind::IdentifierNotFound {
+            assert!(rt; refused == refusal(kind));
+        } else {
+            assert!(rt; refused.is_none());
+        }
+    }
+    Ok(())
+}
+
+#[test]
+fn each_refusal_at_each_load_of_a_name(rt: HostRuntime) -> Result<(), Fail> {
+    let tables = patterns(rt.alloc())?;
+    let subject = LanguageIdentifier::try_from_str(rt.alloc(), "it-Latn-US-fonipa")?;
+    for kind in KINDS {
+        refused_at_a_name(&rt, rt.alloc(), &tables, &subject, kind)?;
+        refused_at_the_patterns(&rt, rt.alloc(), &tables, &subject, kind)?;
+        refused_at_the_menus(&rt, rt.alloc(), &tables, &subject, kind)?;
+    }
+    Ok(())
+}
+
+// Tables behind a provider that refuses the names of two markers.
+#[derive(Drop)]
+struct RefusingTwo<'t> {
+    tables: &'t Tables,
+    first: NameMarker,
+    first_refusal: DataError,
+    second: NameMarker,
+    second_refusal: DataError,
+}
+
+impl DataProvider for RefusingTwo<'_> {
+    ghost likely_language = { λ p. held p.tables.now.likely_language };
+
+    ghost likely_script_region = { λ p. held p.tables.now.likely_script_region };
+
+    ghost likely_extended = { λ p. held p.tables.now.likely_extended };
+
+    ghost aliases = { λ p. held p.tables.now.aliases };
+
+    ghost script_direction = { λ p. held p.tables.now.script_direction };
+
+    ghost exemplars = { λ p marker locale.
+        held (value_at exemplar_cmp p.tables.now.exemplars (marker, locale)) };
+
+    ghost name = { λ p marker locale key.
+        if name_marker.ghosts.eq p.first marker then Err p.first_refusal
+        else if name_marker.ghosts.eq p.second marker then Err p.second_refusal
+        else held (name_in p.tables.now.names marker locale key) };
+
+    ghost menu = { λ p marker locale language.
+        held (value_at menu_cmp p.tables.now.menus (marker, locale, language)) };
+
+    ghost essentials = { λ p locale. held (value_at locale_cmp p.tables.now.essentials locale) };
+
+    fn load_likely_language(&self) -> Result<&LikelySubtagsForLanguage, DataError> {
+        self.tables.load_likely_language()
+    }
+
+    fn load_likely_script_region(&self) -> Result<&LikelySubtagsForScriptRegion, DataError> {
+        self.tables.load_likely_script_region()
+    }
+
+    fn load_likely_extended(&self) -> Result<&LikelySubtagsExtended, DataError> {
+        self.tables.load_likely_extended()
+    }
+
+    fn load_aliases(&self) -> Result<&Aliases, DataError> {
+        self.tables.load_aliases()
+    }
+
+    fn load_script_direction(&self) -> Result<&ScriptDirection, DataError> {
+        self.tables.load_script_direction()
+    }
+
+    fn load_exemplars(
+        &self,
+        marker: ExemplarMarker,
+        locale: DataLocale,
+    ) -> Result<&ExemplarCharactersData, DataError> {
+        self.tables.load_exemplars(marker, locale)
+    }
+
+    fn load_name(
+        &self,
+        marker: NameMarker,
+        locale: DataLocale,
+        key: NameKey,
+    ) -> Result<&str, DataError> {
+        if self.first == marker {
+            return Err(self.first_refusal);
+        }
+        if self.second == marker {
+            return Err(self.second_refusal);
+        }
+        self.tables.load_name(marker, locale, key)
+    }
+
+    fn load_menu(
+        &self,
+        marker: MenuMarker,
+        locale: DataLocale,
+        language: Language,
+    ) -> Result<&MenuNameParts, DataError> {
+        self.tables.load_menu(marker, locale, language)
+    }
+
+    fn load_essentials(&self, locale: DataLocale) -> Result<&LocaleNamesEssentials, DataError> {
+        self.tables.load_essentials(locale)
+    }
+}
+
+#[test]
+fn the_script_is_asked_for_before_the_region(rt: HostRuntime) -> Result<(), Fail> {
+    let tables = patterns(rt.alloc())?;
+    let provider = RefusingTwo {
+        tables: &tables,
+        first: NameMarker::RegionMediumLight,
+        first_refusal: DataError {
+            kind: DataErrorKind::InvalidRequest,
+        },
+        second: NameMarker::ScriptMediumLight,
+        second_refusal: DataError {
+            kind: DataErrorKind::Custom,
+        },
+    };
+    let subject = LanguageIdentifier::try_from_str(rt.alloc(), "it-Latn-US")?;
+    let refused = named(rt.alloc(), &provider, english()?, &subject, 1).err();
+    assert!(rt; refused == refusal(DataErrorKind::Custom));
+    Ok(())
+}
+
+// What a name of two variants answers where no memory is left and names of one marker are refused.
+fn without_memory(
+    alloc: Global,
+    tables: &Tables,
+    subject: &LanguageIdentifier,
+    marker: NameMarker,
+) -> Result<Option<DataError>, Fail> {
+    let mut provider = willing(tables);
+    provider.names = refusal(DataErrorKind::Custom);
+    provider.names_at = Some(marker);
+    let of = english()?;
+    let held = take_all(alloc)?;
+    let refused = named(alloc, &provider, of, subject, 1).err();
+    drop(held);
+    Ok(refused)
+}
+
+#[test]
+fn memory_is_taken_behind_the_region_and_before_the_variants(rt: HostRuntime) -> Result<(), Fail> {
+    let tables = patterns(rt.alloc())?;
+    let two = LanguageIdentifier::try_from_str(rt.alloc(), "it-Latn-US-fonipa-posix")?;
+    let one = LanguageIdentifier::try_from_str(rt.alloc(), "it-Latn-US-fonipa")?;
+    let region = NameMarker::RegionMediumLight;
+    let variant = NameMarker::VariantMediumHeavy;
+    let short = NameMarker::RegionShortTiny;
+    assert!(rt;
+        without_memory(rt.alloc(), &tables, &two, region)? == refusal(DataErrorKind::Custom)
+    );
+    assert!(rt;
+        without_memory(rt.alloc(), &tables, &two, variant)? == refusal(DataErrorKind::Memory)
+    );
+    assert!(rt;
+        without_memory(rt.alloc(), &tables, &two, short)? == refusal(DataErrorKind::Memory)
+    );
+    assert!(rt; without_memory(rt.alloc(), &tables, &one, short)?.is_none());
+    Ok(())
+}
+
+// A sink that takes so many bytes, and keeps none.
+#[derive(Drop)]
+struct ShortSink {
+    taken: usize,
+    room: usize,
+}
+
+impl Write for ShortSink {
+    fn write(&mut self, buf: &[u8]) -> io::Result<usize> {
+        let count = buf.len().min(self.room);
+        if count == 0 {
+            return Err(io::Error::from(io::ErrorKind::Other));
+        }
+        self.room = self.room.saturating_sub(count);
+        self.taken = self.taken.saturating_add(count);
+        Ok(count)
+    }
+
+    fn flush(&mut self) -> io::Result<()> {
+        Ok(())
+    }
+}
+
+#[test]
+fn a_failed_write_leaves_the_spans(rt: HostRuntime) -> Result<(), Fail> {
+    let tables = patterns(rt.alloc())?;
+    let subject = LanguageIdentifier::try_from_str(rt.alloc(), "tlh-Qabc-150")?;
+    let name = named(rt.alloc(), &tables, english()?, &subject, 1)?;
+    for room in 0..18 {
+        let mut sink = ShortSink { taken: 0, room };
+        let mut parts = Vec::new(rt.alloc());
+        parts.push((1, 2))?;
+        let written = name.as_borrowed().try_write_to_parts(&mut sink, &mut parts);
+        assert!(rt; written.err() == Some(NameWriteError::Sink));
+        assert!(rt; sink.taken == room);
+        assert!(rt; parts.len() == 1 && parts.as_slice().first().copied() == Some((1, 2)));
+    }
+    Ok(())
+}
+
+fn written_without_memory(
+    alloc: Global,
+    name: LanguageIdentifierDisplayNameBorrowed<'_>,
+) -> Result<(Option<NameWriteError>, usize, usize), Fail> {
+    let mut sink = ShortSink { taken: 0, room: 64 };
+    let mut parts = Vec::new(alloc);
+    let held = take_all(alloc)?;
+    let refused = name.try_write_to_parts(&mut sink, &mut parts).err();
+    drop(held);
+    Ok((refused, sink.taken, parts.len()))
+}
+
+#[test]
+fn spans_that_find_no_room(rt: HostRuntime) -> Result<(), Fail> {
+    let tables = patterns(rt.alloc())?;
+    let subject = LanguageIdentifier::try_from_str(rt.alloc(), "tlh-Qabc-150")?;
+    let name = named(rt.alloc(), &tables, english()?, &subject, 1)?;
+    let (refused, taken, spans) = written_without_memory(rt.alloc(), name.as_borrowed())?;
+    assert!(rt; refused == Some(NameWriteError::Memory) && taken == 0 && spans == 0);
+    Ok(())
+}
