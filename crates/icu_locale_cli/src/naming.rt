@@ -50,7 +50,8 @@ impl NameChain {
     // The chain that a word names.
     pub fn from_word(word: &str) -> Result<NameChain, CliError>
         ensures named { IfOk result (λ chain. word.now ≡ chain_word chain) }
-        ensures only { (chain : NameChain) → word.now ≡ chain_word chain → result ≡ Ok chain }
+        ensures only { (chain : NameChain) → word.now ≡ chain_word chain
+            → result ≡ Ok chain }
         ensures refused { IfErr result (λ e. e ≡ CliError.Usage) }
     {
         match word {
@@ -73,7 +74,8 @@ impl NameChain {
 // The preferences that a text names: an identifier without variants. Where memory for variants is refused there are some.
 pub fn read_preferences(alloc: Global, text: &str) -> Result<DisplayNamesPreferences, CliError>
     ensures named { IfOk result (SpellsPreferences text.now) }
-    ensures only { (p : DisplayNamesPreferences) → SpellsPreferences text.now p → result ≡ Ok p }
+    ensures only { (p : DisplayNamesPreferences) → SpellsPreferences text.now p
+        → result ≡ Ok p }
     ensures refused { IfErr result (λ e. e ≡ CliError.Usage) }
 {
     laws::spelled_without_variants();

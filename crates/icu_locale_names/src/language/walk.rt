@@ -134,7 +134,8 @@ impl<'a> PieceWalk<'a> {
         pattern: &'a [PatternItem],
         separator: &'a str,
     ) -> Self
-        ensures { pieces_left result ≡ pieces_by parts.now variants.now pattern.now separator.now }
+        ensures { pieces_left result
+            ≡ pieces_by parts.now variants.now pattern.now separator.now }
     {
         let base = parts.base.lend();
         let qualifiers = Qualifiers {
