@@ -5,3 +5,4 @@ pub mod Maps
 pub mod RisingLists
 pub mod Rows
 pub mod TextSets
+pub mod Values

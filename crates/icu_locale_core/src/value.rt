@@ -47,16 +47,31 @@ impl Value {
         ensures language { result ≡ Err ParseError.InvalidLanguage → ⊥ }
         ensures free { read_value text.now ≡ [] → result ≢ Err ParseError.Memory }
     {
+        Value::try_from_utf8(alloc, text.as_bytes())
+    }
+
+    /// Reads a value as `try_from_str` does. A byte past ASCII belongs to no piece.
+    ///
+    /// # Errors
+    ///
+    /// Those of `try_from_str`.
+    pub fn try_from_utf8(alloc: Global, text: &[u8]) -> Result<Self, ParseError>
+        ensures read { IfOk result (λ v. v ≡ read_value text.now) }
+        ensures refused { (result ≡ Err ParseError.InvalidSubtag)
+            ↔ (is_value text.now ≡ false) }
+        ensures language { result ≡ Err ParseError.InvalidLanguage → ⊥ }
+        ensures free { read_value text.now ≡ [] → result ≢ Err ParseError.Memory }
+    {
         if text.is_empty() {
             return Ok(Value {
                 pieces: Vec::new(alloc),
             });
         }
-        if !are_subtags(Pieces::new(text.as_bytes())) {
+        if !are_subtags(Pieces::new(text)) {
             return Err(ParseError::InvalidSubtag);
         }
         Ok(Value {
-            pieces: read_subtags(alloc, Pieces::new(text.as_bytes()))?,
+            pieces: read_subtags(alloc, Pieces::new(text))?,
         })
     }
 
