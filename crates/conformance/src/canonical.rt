@@ -87,8 +87,10 @@ fn told(
 
 fn refused(alloc: Global, refusal: CanonicalizeError) -> Result<String, Fault> {
     let mut text = format!(in alloc; "{refusal}")?;
-    if let CanonicalizeError::NoFixedPoint(id) = refusal {
-        write!(text, " {id}")?;
+    match refusal {
+        CanonicalizeError::Memory => return Err(Fault::Memory),
+        CanonicalizeError::NoFixedPoint(again) => write!(text, " {again}")?,
+        CanonicalizeError::NoSubdivisionFixedPoint(again) => write!(text, " {again}")?,
     }
     Ok(text)
 }

@@ -47,6 +47,7 @@ pub fn read(alloc: Global, kind: Kind, text: &[u8]) -> Result<String, Fault> {
             alloc,
             copied(LanguageIdentifier::try_from_utf8(alloc, text)),
         ),
+        Kind::Value => shown(alloc, Value::try_from_utf8(alloc, text)),
         _ => match str::from_utf8(text) {
             Ok(text) => read_str(alloc, kind, text),
             Err(_) => Err(Fault::Row),

@@ -1,6 +1,6 @@
 -- Canonical locales from the ends of their runs, and refusals from runs without an end.
-use Rattle.std.proofs.Common.{◌≡◌, ◌≢◌, ◌+◌, ◌*◌, ◌≤◌, ℕ, Bool, true, false, Option, Some, None, IfSome, unwrap_or, Result, Err, ◌⊎◌, inl, inr, refl, ap, sym, ◌∙◌, arith}
-use Rattle.std.specs.Option.{IsSomeAnd, MatchOption, option_or}
+use Rattle.std.proofs.Common.{◌≡◌, ◌≢◌, ◌+◌, ◌*◌, ◌≤◌, ℕ, Bool, true, false, List, Option, Some, None, IfSome, unwrap_or, Result, Ok, Err, ◌⊎◌, inl, inr, refl, ap, sym, ◌∙◌, arith}
+use Rattle.std.specs.Option.{MatchOption}
 use Rattle.std.proofs.lemmas.Bool.{cases_Bool, false≢true}
 use Rattle.icu_locale_core.specs.TextSet.{empty}
 use Rattle.icu_locale_core.specs.declared.langid.LanguageIdentifier.{LanguageIdentifier}
@@ -8,45 +8,23 @@ use Rattle.icu_locale_core.specs.declared.locale.Locale.{Locale}
 use Rattle.icu_locale_core.specs.laws.Identifiers.{identifiers_decide}
 use Rattle.icu_locale.specs.LikelySubtags.{LikelySubtags}
 use Rattle.icu_locale.specs.Kinds.{next, by_language_alias, next_of}
-use Rattle.icu_locale.specs.Run.{EndsAt, IsRepeat, HasDistinct, EndsOrRepeats}
+use Rattle.icu_locale.specs.Run.{EndsAt, IsLaterEnd, IsRepeat, HasDistinct, EndsOrRepeats}
 use Rattle.icu_locale.specs.inner.Walk.{IsFullFront}
 use Rattle.icu_locale.specs.inner.Universe.{universe}
-use Rattle.icu_locale.specs.Canonical.{rg, sd, put, IsCanonicalTransform, IsCanonical}
-use Rattle.icu_locale.specs.Refusals.{RulesEnd, ComesAgainFirst, IsRefusal, IsMemory, IsOutOfMemory}
+use Rattle.icu_locale.specs.Canonical.{IsCanonical}
+use Rattle.icu_locale.specs.Refusals.{IdentifiersEnd, RulesEnd, ComesAgainFirst, ValueComesAgainFirst, IsRefusal, IsMemory, IsOutOfMemory}
 use Rattle.icu_locale.specs.Cost.{HasIdentifiers, CountsSearches, NeedsNoMemory}
-use Rattle.icu_locale.specs.inner.CanonicalParts.{IsLaterEnd, IsLaterEndOf, IsRunRefusal, IsRunRefusalOf, IsFree, CountsSearchesOf, AreChanges, with_changes}
+use Rattle.icu_locale.specs.inner.CanonicalParts.{IsRunRefusal, IsRunRefusalOf, IsIdentifierRefusal, IsValuesRefusal, IsFree, CountsSearchesOf, AreLaterEnds, AreChanges, with_changes}
 use Rattle.icu_locale.specs.declared.canonicalizer.rules.Rules.{Rules}
 use Rattle.icu_locale.specs.declared.canonicalizer.changes.Changes.{Changes}
 use Rattle.icu_locale.specs.declared.canonicalizer.CanonicalizeError.{CanonicalizeError}
-use Rattle.icu_locale.specs.declared.canonicalizer.CanonicalizeError.TheVariants.{Memory, NoFixedPoint}
+use Rattle.icu_locale.specs.declared.canonicalizer.CanonicalizeError.TheVariants.{Memory, NoFixedPoint, NoSubdivisionFixedPoint}
 use Rattle.icu_locale.proofs.WithoutVariants.{free_alone, free_bare, bare_next, bare_alias}
 use Rattle.icu_locale.proofs.Counts.{has_count, HasDistinct-from_count}
+use Rattle.icu_locale.proofs.LaterEnds.{EndsAt-later_end, EndsIfAny-later_end, BecomesEnd-later_end, not_both, same_repeat}
 use Rattle.icu_locale.proofs.Runs.{ends_with_no_repeat, repeat_is_unique, EndsOrRepeats-from_count}
+use Rattle.icu_locale.proofs.Values.{ValuesEnd-later, no_value_repeats, same_value_repeats}
 use Rattle.icu_locale.proofs.Universes.{IsUniverse-universe}
-
--- ---- one run
-
-module _ (turn : LanguageIdentifier → Option LanguageIdentifier) where
-  pub EndsAt-later_end : (x : LanguageIdentifier) (end : Option LanguageIdentifier) → IsLaterEnd turn x end → EndsAt turn x (unwrap_or end x)
-  EndsAt-later_end x None h = record { stands = (0, refl); last = h }
-  EndsAt-later_end x (Some y) h = h.1
-
-  end_or_itself : (l : LanguageIdentifier) (end : Option LanguageIdentifier) → IsLaterEnd turn l end → IsSomeAnd (option_or end (Some l)) (EndsAt turn l)
-  end_or_itself l None h = record { stands = (0, refl); last = h }
-  end_or_itself l (Some y) h = h.1
-
-  not_both : (lang : Option LanguageIdentifier) (z : LanguageIdentifier) → IfSome lang (λ l. (y : LanguageIdentifier) × EndsAt turn l y) → IsSomeAnd lang (λ l. IsRepeat turn l z) → ⊥
-  not_both None z ends repeats = repeats
-  not_both (Some l) z ends repeats = ends_with_no_repeat turn l ends.0 z ends.1 repeats.again
-
-  later_not_both : (lang end : Option LanguageIdentifier) (z : LanguageIdentifier) → IsLaterEndOf turn lang end → IsSomeAnd lang (λ l. IsRepeat turn l z) → ⊥
-  later_not_both None end z ends repeats = repeats
-  later_not_both (Some l) end z ends repeats =
-      ends_with_no_repeat turn l (unwrap_or end l) z (EndsAt-later_end l end ends) repeats.again
-
-  same_repeat : (lang : Option LanguageIdentifier) (y z : LanguageIdentifier) → IsSomeAnd lang (λ l. IsRepeat turn l y) → IsSomeAnd lang (λ l. IsRepeat turn l z) → y ≡ z
-  same_repeat None y z a b = absurd a
-  same_repeat (Some l) y z a b = repeat_is_unique turn l y z a b
 
 same_identifier : (y z : LanguageIdentifier) → (y ≡ z) ⊎ (y ≢ z)
 same_identifier y z =
@@ -71,27 +49,42 @@ module _ (likely : LikelySubtags) (rules : Rules) (old : Locale) where
   abbrev lang : Option LanguageIdentifier
   lang = old.extensions.transform.lang
 
-  transform_from : (start end : Option LanguageIdentifier) → IsLaterEndOf (by_language_alias rules) start end → IsCanonicalTransform rules start (option_or end start)
-  transform_from None end h = ap (λ o. option_or o None) h
-  transform_from (Some l) end h = end_or_itself (by_language_alias rules) l end h
-
   pub IsCanonical-with_changes : (changes : Changes) → AreChanges likely rules old changes → IsCanonical likely rules old (with_changes changes old)
   IsCanonical-with_changes changes h = record {
-    id = EndsAt-later_end (next likely rules) old.id changes.id h.id;
-    transform = transform_from lang changes.transform h.transform;
-    keywords = λ i. put (put old.extensions.unicode.keywords rg (h.region_override i)) sd (h.subdivision i);
+    id = EndsAt-later_end (next likely rules) old.id changes.id h.identifiers.id;
+    transform = BecomesEnd-later_end (by_language_alias rules) lang changes.transform h.identifiers.transform;
+    keywords = record {
+      region_override = changes.region_override;
+      subdivision = changes.subdivision;
+      region_override_end = h.values.region_override;
+      subdivision_end = h.values.subdivision;
+      whole = refl;
+    };
   }
+
+  IdentifiersEnd-later : (ends : Option LanguageIdentifier × Option LanguageIdentifier) → AreLaterEnds likely rules old ends → IdentifiersEnd likely rules old
+  IdentifiersEnd-later ends h = record {
+    id = (unwrap_or ends.0 old.id, EndsAt-later_end (next likely rules) old.id ends.0 h.id);
+    transform = EndsIfAny-later_end (by_language_alias rules) lang ends.1 h.transform;
+  }
+
+  -- where the runs of identifiers end, none comes again
+  none_first : IdentifiersEnd likely rules old → (z : LanguageIdentifier) → ComesAgainFirst likely rules old z → ⊥
+  none_first ends z (inl repeats) = ends_with_no_repeat (next likely rules) old.id ends.id.0 z ends.id.1 repeats.again
+  none_first ends z (inr (ended, repeats)) = not_both (by_language_alias rules) lang z ends.transform repeats
 
   pub memory_from_end : (e : CanonicalizeError) → IsRefusal likely rules old e → RulesEnd likely rules old → IsMemory e
   memory_from_end Memory h ends = tt
-  memory_from_end (NoFixedPoint z) (inl repeats) ends =
-      absurd (ends_with_no_repeat (next likely rules) old.id ends.id.0 z ends.id.1 repeats.again)
-  memory_from_end (NoFixedPoint z) (inr (ended, repeats)) ends = absurd (not_both (by_language_alias rules) lang z ends.transform repeats)
+  memory_from_end (NoFixedPoint z) h ends = absurd (none_first ends.identifiers z h)
+  memory_from_end (NoSubdivisionFixedPoint v) (identifiers, repeats) ends =
+      absurd (no_value_repeats rules old.extensions.unicode.keywords ends.values v repeats)
 
   pub no_repeat : (changes : Changes) (z : LanguageIdentifier) → AreChanges likely rules old changes → ComesAgainFirst likely rules old z → ⊥
-  no_repeat changes z h (inl repeats) =
-      ends_with_no_repeat (next likely rules) old.id (unwrap_or changes.id old.id) z (EndsAt-later_end (next likely rules) old.id changes.id h.id) repeats.again
-  no_repeat changes z h (inr (ended, repeats)) = later_not_both (by_language_alias rules) lang changes.transform z h.transform repeats
+  no_repeat changes z h = none_first (IdentifiersEnd-later (changes.id, changes.transform) h.identifiers) z
+
+  pub no_value_repeat : (changes : Changes) (v : List (List ℕ)) → AreChanges likely rules old changes → ValueComesAgainFirst likely rules old v → ⊥
+  no_value_repeat changes v h (identifiers, repeats) =
+      no_value_repeats rules old.extensions.unicode.keywords (ValuesEnd-later rules old.extensions.unicode.keywords (changes.region_override, changes.subdivision) h.values) v repeats
 
   same_first : (y z : LanguageIdentifier) → ComesAgainFirst likely rules old y → ComesAgainFirst likely rules old z → y ≡ z
   same_first y z (inl a) (inl b) = repeat_is_unique (next likely rules) old.id y z a b
@@ -102,11 +95,34 @@ module _ (likely : LikelySubtags) (rules : Rules) (old : Locale) where
   pub named : {T : Type 0} (e : CanonicalizeError) (z : LanguageIdentifier) → IsRefusal likely rules old e → ComesAgainFirst likely rules old z → (◌≡◌ {A = Result T CanonicalizeError} (Err e) (Err (NoFixedPoint z))) ⊎ IsMemory e
   named Memory z h first = inr tt
   named (NoFixedPoint y) z h first = inl (ap (λ w. Err (NoFixedPoint w)) (same_first y z h first))
+  named (NoSubdivisionFixedPoint v) z (identifiers, repeats) first = absurd (none_first identifiers z first)
 
-  pub IsRefusal-of_transform : (e : CanonicalizeError) (end : Option LanguageIdentifier) → IsLaterEnd (next likely rules) old.id end → IsRunRefusalOf (by_language_alias rules) lang e → IsRefusal likely rules old e
-  IsRefusal-of_transform Memory end ends h = tt
-  IsRefusal-of_transform (NoFixedPoint z) end ends h =
+  pub named_value : {T : Type 0} (e : CanonicalizeError) (v : List (List ℕ)) → IsRefusal likely rules old e → ValueComesAgainFirst likely rules old v → (◌≡◌ {A = Result T CanonicalizeError} (Err e) (Err (NoSubdivisionFixedPoint v))) ⊎ IsMemory e
+  named_value Memory v h first = inr tt
+  named_value (NoFixedPoint z) v h (identifiers, repeats) = absurd (none_first identifiers z h)
+  named_value (NoSubdivisionFixedPoint w) v (before, a) (identifiers, b) =
+      inl (ap (λ u. Err (NoSubdivisionFixedPoint u)) (same_value_repeats rules old.extensions.unicode.keywords w v a b))
+
+  pub refused_id : (e : CanonicalizeError) → IsRunRefusal (next likely rules) old.id e → IsIdentifierRefusal likely rules old e
+  refused_id Memory h = tt
+  refused_id (NoFixedPoint z) h = inl h
+  refused_id (NoSubdivisionFixedPoint v) h = h
+
+  pub refused_transform : (e : CanonicalizeError) (end : Option LanguageIdentifier) → IsLaterEnd (next likely rules) old.id end → IsRunRefusalOf (by_language_alias rules) lang e → IsIdentifierRefusal likely rules old e
+  refused_transform Memory end ends h = tt
+  refused_transform (NoFixedPoint z) end ends h =
       inr ((unwrap_or end old.id, EndsAt-later_end (next likely rules) old.id end ends), h)
+  refused_transform (NoSubdivisionFixedPoint v) end ends h = h
+
+  pub refused_identifiers : (e : CanonicalizeError) → IsIdentifierRefusal likely rules old e → IsRefusal likely rules old e
+  refused_identifiers Memory h = tt
+  refused_identifiers (NoFixedPoint z) h = h
+  refused_identifiers (NoSubdivisionFixedPoint v) h = absurd h
+
+  pub refused_values : (ends : Option LanguageIdentifier × Option LanguageIdentifier) → AreLaterEnds likely rules old ends → (e : CanonicalizeError) → IsValuesRefusal rules old.extensions.unicode.keywords e → IsRefusal likely rules old e
+  refused_values ends are Memory h = tt
+  refused_values ends are (NoFixedPoint z) h = absurd h
+  refused_values ends are (NoSubdivisionFixedPoint v) h = (IdentifiersEnd-later ends are, h)
 
   -- ---- memory
 
@@ -164,6 +180,7 @@ module _ (likely : LikelySubtags) (rules : Rules) (old : Locale) where
 
   least_of_refusal : (e : CanonicalizeError) (before after a b : ℕ) → IsRunRefusal (next likely rules) old.id e → ((z : LanguageIdentifier) → IsRepeat (next likely rules) old.id z → b ≡ 0) → (¬ (IsMemory e) → before + a ≤ after) → ¬ (IsMemory e) → before + (a + b) ≤ after
   least_of_refusal Memory before after a b h zero_there least no_memory = absurd (no_memory tt)
+  least_of_refusal (NoSubdivisionFixedPoint v) before after a b h zero_there least no_memory = absurd h
   least_of_refusal (NoFixedPoint z) before after a b h zero_there least no_memory =
       let nothing : b ≡ 0 = zero_there z h in
       let enough : before + a ≤ after = least no_memory in
@@ -194,3 +211,11 @@ module _ (likely : LikelySubtags) (rules : Rules) (old : Locale) where
               omega (arith, least_first, least_second);
         },
       )
+
+-- a count of searches that succeeded is one of whatever follows them
+pub counts_whole : {T U : Type 0} (x : T) (whole : Result U CanonicalizeError) (before after n : ℕ) → CountsSearches {T = T} (Ok x) before after n → CountsSearches whole before after n
+counts_whole x whole before after n counted = record {
+  forward = counted.forward;
+  most = counted.most;
+  least = λ no_memory. counted.least (λ out. out);
+}

@@ -1,5 +1,5 @@
 -- Keywords with a value put at a key.
-use Rattle.std.proofs.Common.{◌≡◌, ◌≢◌, ◌∙◌, List, ℕ, false, Option, Some, None, refl, sym, ap, if◌then◌else◌}
+use Rattle.std.proofs.Common.{◌≡◌, ◌≢◌, ◌∙◌, List, ℕ, false, Option, Some, None, refl, sym, ap, subst, if◌then◌else◌}
 use Rattle.std.specs.BTreeMap.{is_at}
 use Rattle.std.specs.Option.{option_or}
 use Rattle.std.specs.Ordering.{is_eq}
@@ -10,8 +10,10 @@ use Rattle.icu_locale_core.specs.Maps.{value_at}
 use Rattle.icu_locale_core.specs.TextSet.{text_cmp}
 use Rattle.icu_locale_core.specs.laws.TextSets.{text_total, same_from_tied}
 use Rattle.icu_locale_core.specs.laws.Maps.{SetsOnly-insert_entry}
-use Rattle.icu_locale.specs.Canonical.{rg, sd, put, subdivision_alias, canonical_keywords}
+use Rattle.icu_locale.specs.Canonical.{rg, sd, put, next_value, AreCanonicalKeywords}
+use Rattle.icu_locale.specs.Run.{BecomesEnd}
 use Rattle.icu_locale.specs.declared.canonicalizer.rules.Rules.{Rules}
+use Rattle.icu_locale.proofs.LaterEnds.{BecomesEnd-later_end}
 
 -- what is put at a key stands there
 pub put-own : (keywords : KeywordRows) (key : List ℕ) (value : Option (List (List ℕ))) → value_at text_cmp (put keywords key value) key ≡ option_or value (value_at text_cmp keywords key)
@@ -30,19 +32,29 @@ put-other keywords key other (Some v) apart =
 apart_from : (key other : List ℕ) → other ≢ key → is_at (text_cmp key) other ≡ false
 apart_from key other ne = false_from_ne_true (is_at (text_cmp key) other) (λ tied. ne (sym (same_from_tied key other tied)))
 
-module _ (rules : Rules) (keywords : KeywordRows) where
-  abbrev with_region_override : KeywordRows
-  with_region_override = put keywords rg (subdivision_alias rules keywords rg)
+module _ (keywords : KeywordRows) (a b : Option (List (List ℕ))) where
+  put-at_rg : value_at text_cmp (put (put keywords rg a) sd b) rg ≡ option_or a (value_at text_cmp keywords rg)
+  put-at_rg = put-other (put keywords rg a) sd rg b refl ∙ put-own keywords rg a
 
-  pub canonical_at_rg : value_at text_cmp (canonical_keywords rules keywords) rg ≡ option_or (subdivision_alias rules keywords rg) (value_at text_cmp keywords rg)
-  canonical_at_rg = put-other with_region_override sd rg (subdivision_alias rules keywords sd) refl ∙ put-own keywords rg (subdivision_alias rules keywords rg)
+  put-at_sd : value_at text_cmp (put (put keywords rg a) sd b) sd ≡ option_or b (value_at text_cmp keywords sd)
+  put-at_sd =
+      put-own (put keywords rg a) sd b ∙ ap (λ before. option_or b before) (put-other keywords rg sd a refl)
 
-  pub canonical_at_sd : value_at text_cmp (canonical_keywords rules keywords) sd ≡ option_or (subdivision_alias rules keywords sd) (value_at text_cmp keywords sd)
+  put-elsewhere : (key : List ℕ) → key ≢ rg → key ≢ sd → value_at text_cmp (put (put keywords rg a) sd b) key ≡ value_at text_cmp keywords key
+  put-elsewhere key not_rg not_sd =
+      put-other (put keywords rg a) sd key b (apart_from sd key not_sd) ∙ put-other keywords rg key a (apart_from rg key not_rg)
+
+module _ (rules : Rules) (old new : KeywordRows) (are : AreCanonicalKeywords rules old new) where
+  pub canonical_at_rg : BecomesEnd (next_value rules) (value_at text_cmp old rg) (value_at text_cmp new rg)
+  canonical_at_rg =
+      subst (BecomesEnd (next_value rules) (value_at text_cmp old rg)) (sym (ap (λ k. value_at text_cmp k rg) are.whole ∙ put-at_rg old are.region_override are.subdivision))
+      (BecomesEnd-later_end (next_value rules) (value_at text_cmp old rg) are.region_override are.region_override_end)
+
+  pub canonical_at_sd : BecomesEnd (next_value rules) (value_at text_cmp old sd) (value_at text_cmp new sd)
   canonical_at_sd =
-      put-own with_region_override sd (subdivision_alias rules keywords sd)
-      ∙ ap (λ before. option_or (subdivision_alias rules keywords sd) before) (put-other keywords rg sd (subdivision_alias rules keywords rg) refl)
+      subst (BecomesEnd (next_value rules) (value_at text_cmp old sd)) (sym (ap (λ k. value_at text_cmp k sd) are.whole ∙ put-at_sd old are.region_override are.subdivision))
+      (BecomesEnd-later_end (next_value rules) (value_at text_cmp old sd) are.subdivision are.subdivision_end)
 
-  pub canonical_elsewhere : (key : List ℕ) → key ≢ rg → key ≢ sd → value_at text_cmp (canonical_keywords rules keywords) key ≡ value_at text_cmp keywords key
+  pub canonical_elsewhere : (key : List ℕ) → key ≢ rg → key ≢ sd → value_at text_cmp new key ≡ value_at text_cmp old key
   canonical_elsewhere key not_rg not_sd =
-      put-other with_region_override sd key (subdivision_alias rules keywords sd) (apart_from sd key not_sd)
-      ∙ put-other keywords rg key (subdivision_alias rules keywords rg) (apart_from rg key not_rg)
+      ap (λ k. value_at text_cmp k key) are.whole ∙ put-elsewhere old are.region_override are.subdivision key not_rg not_sd

@@ -11,6 +11,7 @@ pub mod CanonicalAgain
 pub mod Canonicals
 pub mod Counts
 pub mod Keywords
+pub mod LaterEnds
 pub mod Lists
 pub mod Negotiating
 pub mod Options
@@ -22,6 +23,7 @@ pub mod Runs
 pub mod SortedRows
 pub mod Subsets
 pub mod Universes
+pub mod Values
 pub mod VariantImages
 pub mod Walks
 pub mod WithoutVariants

@@ -17,6 +17,7 @@ use Rattle.icu_locale.specs.Cost.{AddsNoVariants}
 use Rattle.icu_locale.specs.inner.CanonicalParts.{IsFree}
 use Rattle.icu_locale.specs.declared.canonicalizer.rules.Rule.{Rule}
 use Rattle.icu_locale.specs.declared.canonicalizer.rules.Rules.{Rules}
+use Rattle.icu_locale.proofs.LaterEnds.{none_later}
 use Rattle.icu_locale.proofs.Lists.{Contains-find}
 use Rattle.icu_locale.proofs.VariantImages.{image-empty}
 use Rattle.icu_locale.proofs.Options.{some_map, some_or}
@@ -85,14 +86,10 @@ module _ (likely : LikelySubtags) (rules : Rules) where
 -- ---- along a run
 
 module _ (turn : LanguageIdentifier → Option LanguageIdentifier) (x : LanguageIdentifier) where
-  pub none_later : turn x ≡ None → (place : ℕ) → at turn x (suc place) ≡ None
-  none_later none zero = none
-  none_later none (suc place) = ap (option_and_then turn) (none_later none place)
-
   pub free_alone : turn x ≡ None → IsFree turn x
   free_alone none y (zero, here) =
       subst (λ w. IfSome (turn w) (λ z. z.variants ≡ empty)) (same_Some x y here) (subst (λ o. IfSome o (λ z. z.variants ≡ empty)) (sym none) tt)
-  free_alone none y (suc place, here) = absurd (none-some y (sym (none_later none place) ∙ here))
+  free_alone none y (suc place, here) = absurd (none-some y (sym (none_later turn x none place) ∙ here))
 
   bare_at : ((y z : LanguageIdentifier) → y.variants ≡ empty → turn y ≡ Some z → z.variants ≡ empty) → x.variants ≡ empty → (place : ℕ) (y : LanguageIdentifier) → at turn x place ≡ Some y → y.variants ≡ empty
   bare_at keeps bare zero y here = ap (λ w. w.variants) (sym (same_Some x y here)) ∙ bare

@@ -12,7 +12,7 @@ use Rattle.icu_locale_core.specs.declared.locale.Locale.{Locale}
 use Rattle.icu_locale_core.specs.Maps.{value_at}
 use Rattle.icu_locale.specs.LikelySubtags.{LikelySubtags}
 use Rattle.icu_locale.specs.Kinds.{next, by_language_alias}
-use Rattle.icu_locale.specs.Run.{EndsAt, IsRepeat, HasDistinct}
+use Rattle.icu_locale.specs.Run.{EndsAt, IsLaterEndOf, BecomesEnd}
 use Rattle.icu_locale.specs.declared.expander.TransformResult.{TransformResult}
 use Rattle.icu_locale.specs.declared.expander.TransformResult.TheVariants.{Modified, Unmodified}
 use Rattle.icu_locale.specs.declared.canonicalizer.rules.Rules.{Rules}
@@ -28,34 +28,41 @@ rg = codes "rg"
 abbrev pub sd : List ℕ
 sd = codes "sd"
 
--- the value in place of the one at a key, where that has one piece, which is a key of `subdivision`
+-- the value that follows another: that of the row whose key is its only piece
+abbrev pub next_value : Rules → List (List ℕ) → Option (List (List ℕ))
+next_value rules value = option_and_then (value_at text_cmp rules.subdivision) (only_piece value)
+
+-- the value that follows the one at a key
 abbrev pub subdivision_alias : Rules → KeywordRows → List ℕ → Option (List (List ℕ))
-subdivision_alias rules keywords key = option_and_then (value_at text_cmp rules.subdivision)
-    (option_and_then only_piece (value_at text_cmp keywords key))
+subdivision_alias rules keywords key =
+    option_and_then (next_value rules) (value_at text_cmp keywords key)
 
 -- a value put at a key, if there is one
 abbrev pub put : KeywordRows → List ℕ → Option (List (List ℕ)) → KeywordRows
 put keywords key None = keywords
 put keywords key (Some value) = with_value keywords key value
 
--- the values at `rg` and `sd` are replaced, once, and the others stay
-abbrev pub canonical_keywords : Rules → KeywordRows → KeywordRows
-canonical_keywords rules keywords = put (put keywords rg (subdivision_alias rules keywords rg)) sd
-    (subdivision_alias rules keywords sd)
+-- the values at `rg` and `sd` become the ends of their runs, and all else stays
+pub record AreCanonicalKeywords (rules : Rules) (old new : KeywordRows) : Type 0 where
+  pub region_override : Option (List (List ℕ))
+  pub subdivision : Option (List (List ℕ))
+  pub region_override_end : IsLaterEndOf (next_value rules) (value_at text_cmp old rg)
+      region_override
+  pub subdivision_end : IsLaterEndOf (next_value rules) (value_at text_cmp old sd) subdivision
+  pub whole : new ≡ put (put old rg region_override) sd subdivision
 
 -- no transform language stays none, and one becomes the end of its run by language aliases alone
 abbrev pub IsCanonicalTransform : Rules → Option LanguageIdentifier → Option LanguageIdentifier
     → Type 0
-IsCanonicalTransform rules None new = new ≡ None
-IsCanonicalTransform rules (Some l) new = IsSomeAnd new (EndsAt (by_language_alias rules) l)
+IsCanonicalTransform rules old new = BecomesEnd (by_language_alias rules) old new
 
--- the canonical locale: the end of the identifier's run, the end of the transform language's, and the canonical keywords
+-- the canonical locale: the end of the identifier's run, the end of the transform language's, and the ends of the values'
 pub record IsCanonical (likely : LikelySubtags) (rules : Rules) (old new : Locale) : Type 0 where
   pub id : EndsAt (next likely rules) old.id new.id
   pub transform : IsCanonicalTransform rules old.extensions.transform.lang
       new.extensions.transform.lang
-  pub keywords : new.extensions.unicode.keywords
-      ≡ canonical_keywords rules old.extensions.unicode.keywords
+  pub keywords : AreCanonicalKeywords rules old.extensions.unicode.keywords
+      new.extensions.unicode.keywords
 
 -- some rule or subdivision row is applied
 abbrev pub is_applied : LikelySubtags → Rules → Locale → Bool
@@ -69,9 +76,3 @@ is_applied likely rules old =
 abbrev pub answer_of : Bool → TransformResult
 answer_of true = Modified
 answer_of false = Unmodified
-
--- no value of `subdivision` is one piece that is a key of it again
-abbrev pub HasFinalSubdivisions : Rules → Type 0
-HasFinalSubdivisions rules =
-    All (λ row. option_and_then (value_at text_cmp rules.subdivision) (only_piece row.1) ≡ None)
-    rules.subdivision

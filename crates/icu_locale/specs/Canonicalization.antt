@@ -1,15 +1,17 @@
 -- What canonicalizing a locale does (UTS #35 Part 1, Annex C "LocaleId Canonicalization").
-use Rattle.std.specs.Prelude.{◌≡◌, ◌⊎◌, Result, Err, OnOk, OnErr, IfOk, IfErr, IsOk}
+use Rattle.std.specs.Prelude.{◌≡◌, ◌⊎◌, ℕ, List, Result, Err, OnOk, OnErr, IfOk, IfErr, IsOk}
 use Rattle.icu_locale_core.specs.declared.langid.LanguageIdentifier.{LanguageIdentifier}
 use Rattle.icu_locale_core.specs.declared.locale.Locale.{Locale}
 use Rattle.icu_locale.specs.LikelySubtags.{LikelySubtags}
 use Rattle.icu_locale.specs.Canonical.{IsCanonical, is_applied, answer_of}
-use Rattle.icu_locale.specs.Refusals.{RulesEnd, ComesAgainFirst, IsRefusal, IsOutOfMemory}
+use Rattle.icu_locale.specs.Refusals.{RulesEnd, ComesAgainFirst, ValueComesAgainFirst}
+use Rattle.icu_locale.specs.Refusals.{IsRefusal, IsOutOfMemory}
 use Rattle.icu_locale.specs.Cost.{NeedsNoMemory}
 use Rattle.icu_locale.specs.declared.expander.TransformResult.{TransformResult}
 use Rattle.icu_locale.specs.declared.canonicalizer.rules.Rules.{Rules}
 use Rattle.icu_locale.specs.declared.canonicalizer.CanonicalizeError.{CanonicalizeError}
 use Rattle.icu_locale.specs.declared.canonicalizer.CanonicalizeError.TheVariants.{NoFixedPoint}
+use Rattle.icu_locale.specs.declared.canonicalizer.CanonicalizeError.TheVariants.{NoSubdivisionFixedPoint}
 
 -- the locale becomes canonical, or a refusal says why not and it stays as it was; memory aside it succeeds exactly where
 -- the rules come to an end
@@ -22,4 +24,6 @@ pub record Canonicalizes (likely : LikelySubtags) (rules : Rules) (old new : Loc
   pub ends : RulesEnd likely rules old → IsOk result ⊎ IsOutOfMemory result
   pub repeats : (z : LanguageIdentifier) → ComesAgainFirst likely rules old z
       → (result ≡ Err (NoFixedPoint z)) ⊎ IsOutOfMemory result
+  pub values_repeat : (v : List (List ℕ)) → ValueComesAgainFirst likely rules old v
+      → (result ≡ Err (NoSubdivisionFixedPoint v)) ⊎ IsOutOfMemory result
   pub free : NeedsNoMemory likely rules old → ¬ (IsOutOfMemory result)

@@ -1,7 +1,7 @@
 -- A run is a start and whatever follows it, one state after another, until nothing follows. UTS #35 Part 1,
 -- Annex C "LocaleId Canonicalization", has such runs: there a state is an identifier, and `next` one replacement.
 use Rattle.std.specs.Prelude.{◌≡◌, ◌≢◌, ℕ, zero, suc, ◌<◌, ◌⊎◌, List, length, Option, Some, None}
-use Rattle.std.specs.Prelude.{option_and_then}
+use Rattle.std.specs.Prelude.{option_and_then, IsSome, IfSome, IsSomeAnd}
 use Rattle.std.specs.List.{AllPairs, Contains}
 
 -- the state at a place of the run, where the start has place 0; none past the end
@@ -17,6 +17,29 @@ StandsIn next start y = (place : ℕ) × (at next start place ≡ Some y)
 pub record EndsAt {X : Type 0} (next : X → Option X) (start y : X) : Type 0 where
   pub stands : StandsIn next start y
   pub last : next y ≡ None
+
+-- the run comes to y at a later place than its start, and nothing follows y
+abbrev pub EndsLater : {X : Type 0} → (X → Option X) → X → X → Type 0
+EndsLater next start y = IsSome (next start) × EndsAt next start y
+
+-- the end of a run at a later place than its start, or none where nothing follows the start
+abbrev pub IsLaterEnd : {X : Type 0} → (X → Option X) → X → Option X → Type 0
+IsLaterEnd next start None = next start ≡ None
+IsLaterEnd next start (Some y) = EndsLater next start y
+
+-- the same of a run that there may be
+abbrev pub IsLaterEndOf : {X : Type 0} → (X → Option X) → Option X → Option X → Type 0
+IsLaterEndOf next None end = end ≡ None
+IsLaterEndOf next (Some start) end = IsLaterEnd next start end
+
+-- a run that there may be has an end
+abbrev pub EndsIfAny : {X : Type 0} → (X → Option X) → Option X → Type 0
+EndsIfAny {X} next start = IfSome start (λ s. (y : X) × EndsAt next s y)
+
+-- no state stays none, and one becomes the end of its run
+abbrev pub BecomesEnd : {X : Type 0} → (X → Option X) → Option X → Option X → Type 0
+BecomesEnd next None new = new ≡ None
+BecomesEnd next (Some start) new = IsSomeAnd new (EndsAt next start)
 
 -- y stands at two places of the run
 abbrev pub ComesAgain : {X : Type 0} → (X → Option X) → X → X → Type 0

@@ -1,15 +1,16 @@
 //! Canonicalization of locales (UTS #35 Part 1, Annex C, "LocaleId Canonicalization").
-ghost use Rattle.std.specs.Prelude.{◌≡◌, ℕ, Some, None, IfOk, IfErr, IfSome, IsOk, option_copied};
+ghost use Rattle.std.specs.Prelude.{◌≡◌, ℕ, Some, IfOk, IfErr, IfSome};
 ghost use Rattle.icu_locale.specs.Kinds.{by_language_alias};
-ghost use Rattle.icu_locale.specs.Canonical.{subdivision_alias};
 ghost use Rattle.icu_locale.specs.Canonicalization.{Canonicalizes};
 ghost use Rattle.icu_locale.specs.Refusals.{IsRefusal, IsOutOfMemory, error_name};
 ghost use Rattle.icu_locale.specs.Cost.{HasIdentifiers, CountsSearches, NeedsNoMemory};
-ghost use Rattle.icu_locale.specs.inner.CanonicalParts.{IsLaterEndOf, IsRunRefusalOf};
-ghost use Rattle.icu_locale.specs.inner.CanonicalParts.{CountsSearchesOf, IsFree, AreChanges};
+ghost use Rattle.icu_locale.specs.Run.{IsLaterEndOf};
+ghost use Rattle.icu_locale.specs.inner.CanonicalParts.{IsRunRefusalOf, IsIdentifierRefusal};
+ghost use Rattle.icu_locale.specs.inner.CanonicalParts.{CountsSearchesOf, IsFree};
+ghost use Rattle.icu_locale.specs.inner.CanonicalParts.{AreLaterEnds, AreChanges};
 
 use crate::{AsExpander, LocaleExpander, TransformResult, Turns};
-use icu_locale_core::{Key, Keywords, LanguageIdentifier, Locale, ParseError, Value};
+use icu_locale_core::{LanguageIdentifier, Locale, Value};
 use std::error::Error;
 use std::fmt;
 
@@ -20,10 +21,12 @@ mod making;
 mod reading;
 pub mod replacing;
 pub mod rules;
+mod values;
 
-use changes::{Changes, region_override_key, subdivision_key};
+use changes::Changes;
 use identifiers::later_end;
 use rules::Rules;
+use values::later_values;
 
 /// Canonicalizes locales by the rules of a table of aliases.
 #[derive(Debug)]
@@ -50,6 +53,8 @@ pub enum CanonicalizeError {
     Memory,
     /// The rules come to no end: the identifier comes again, and is the first that does.
     NoFixedPoint(LanguageIdentifier),
+    /// The rows of subdivisions come to no end: the value comes again, and is the first that does.
+    NoSubdivisionFixedPoint(Value),
 }
 
 impl fmt::Display for CanonicalizeError {
@@ -59,6 +64,7 @@ impl fmt::Display for CanonicalizeError {
         f.write_str(match self {
             CanonicalizeError::Memory => "Memory",
             CanonicalizeError::NoFixedPoint(_) => "NoFixedPoint",
+            CanonicalizeError::NoSubdivisionFixedPoint(_) => "NoSubdivisionFixedPoint",
         })
     }
 }
@@ -67,15 +73,17 @@ impl Error for CanonicalizeError {}
 
 impl<'d, E: AsExpander<'d>> LocaleCanonicalizer<'d, E> {
     /// Brings a locale to its canonical form: its identifier to the end of its run, its transform language to the end
-    /// of its run by language aliases alone, and the values at `rg` and `sd`, where a row replaces them, to that row's.
-    /// The answer is `Modified` exactly where a rule or a row was applied.
+    /// of its run by language aliases alone, and the values at `rg` and `sd` to the ends of theirs by the rows of
+    /// subdivisions. The answer is `Modified` exactly where a rule or a row was applied.
     ///
     /// # Errors
     ///
     /// - `NoFixedPoint` exactly where a run has no end: it names the first identifier that comes again in the run of
     ///   the identifier, or, where that ends, in the run of the transform language.
+    /// - `NoSubdivisionFixedPoint` exactly where these runs end, and that of the value at `rg` or at `sd` has no end: it
+    ///   names the first value that comes again in the run at `rg`, or, where that ends, in the run at `sd`.
     /// - `Memory` where memory was asked for and refused: never where nothing matches, nor where neither the identifier,
-    ///   the transform language nor a replacement has variants, and no row replaces a value.
+    ///   the transform language nor a replacement has variants, and no row replaces a value at `rg` or `sd`.
     ///
     /// The locale is unchanged then.
     pub fn canonicalize(&self, locale: &mut Locale) -> Result<TransformResult, CanonicalizeError>
@@ -118,22 +126,41 @@ impl<'d, E: AsExpander<'d>> LocaleCanonicalizer<'d, E> {
             × HasIdentifiers (E.table self.now.expander) self.now.rules locale.now n
             × CountsSearches result turns.old turns.new n }
     {
-        let id = later_end(self, &locale.id, false, turns)?;
-        let transform = self.transform_end(&locale.extensions.transform.lang, turns)?;
+        let (id, transform) = self.find_ends(locale, turns)?;
         let keywords = &locale.extensions.unicode.keywords;
-        let Ok(region_override) = subdivision_alias(&self.rules, keywords, region_override_key())
-        else {
-            return Err(CanonicalizeError::Memory);
-        };
-        let Ok(subdivision) = subdivision_alias(&self.rules, keywords, subdivision_key()) else {
-            return Err(CanonicalizeError::Memory);
-        };
+        let (region_override, subdivision) = later_values(
+            &self.rules,
+            keywords,
+            &mut Turns::new(),
+        )?;
         Ok(Changes {
             id,
             transform,
             region_override,
             subdivision,
         })
+    }
+
+    // Where the runs of the identifier and then of the transform language end, each if that is at a later place than its
+    // start.
+    fn find_ends(
+        &self,
+        locale: &Locale,
+        turns: &mut Turns,
+    ) -> Result<(Option<LanguageIdentifier>, Option<LanguageIdentifier>), CanonicalizeError>
+        ensures ends { IfOk result
+            (AreLaterEnds (E.table self.now.expander) self.now.rules locale.now) }
+        ensures refusal { IfErr result
+            (IsIdentifierRefusal (E.table self.now.expander) self.now.rules locale.now) }
+        ensures free { NeedsNoMemory (E.table self.now.expander) self.now.rules locale.now
+            → ¬ (IsOutOfMemory result) }
+        ensures count { (n : ℕ)
+            × HasIdentifiers (E.table self.now.expander) self.now.rules locale.now n
+            × CountsSearches result turns.old turns.new n }
+    {
+        let id = later_end(self, &locale.id, false, turns)?;
+        let transform = self.transform_end(&locale.extensions.transform.lang, turns)?;
+        Ok((id, transform))
     }
 
     // Where the run of a transform language ends, if there is one and its end is at a later place than its start.
@@ -155,26 +182,4 @@ impl<'d, E: AsExpander<'d>> LocaleCanonicalizer<'d, E> {
             None => Ok(None),
         }
     }
-}
-
-// The value in place of the one at a key, where a row replaces it.
-fn subdivision_alias(
-    rules: &Rules<'_>,
-    keywords: &Keywords,
-    key: Key,
-) -> Result<Option<Value>, ParseError>
-    ensures found { IfOk result (λ value. value ≡ subdivision_alias rules.now keywords.now key) }
-    ensures free { subdivision_alias rules.now keywords.now key ≡ None → IsOk result }
-{
-    let Some(value) = subdivision_row(rules, keywords, key) else {
-        return Ok(None);
-    };
-    Ok(Some(value.try_clone()?))
-}
-
-fn subdivision_row<'r>(rules: &'r Rules<'_>, keywords: &Keywords, key: Key) -> Option<&'r Value>
-    ensures { option_copied result ≡ subdivision_alias rules.now keywords.now key }
-{
-    let subtag = keywords.get(key)?.as_single_subtag()?;
-    rules.subdivision.get(&subtag)
 }

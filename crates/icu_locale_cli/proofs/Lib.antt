@@ -3,5 +3,6 @@ mod LineAnswers
 mod LineCuts
 mod ListReading
 mod Loading
+mod LocaleLines
 mod Progress
 mod RunEnds

@@ -1,5 +1,5 @@
 -- The answer to one line.
-use Rattle.std.proofs.Common.{◌≡◌, true, false, List, [], ◌∷◌, None, Some, codes, ℕ, zero, suc, get_or, Result, Ok, Err, IfOk, inl, inr, subst, ap, ◌∙◌}
+use Rattle.std.proofs.Common.{◌≡◌, true, List, [], ◌∷◌, Some, ℕ, zero, suc, get_or, Result, Ok, Err, IfOk, inl, inr, subst, ap, ◌∙◌}
 use Rattle.std.specs.List.{slice_get}
 use Rattle.std.proofs.lemmas.Option.{same_Some, none-some}
 use Rattle.icu_locale.specs.LikelyTable.{likely}
@@ -9,15 +9,19 @@ use Rattle.icu_locale_core.specs.Identifier.{IsIdentifier, Spells}
 use Rattle.icu_locale_core.specs.declared.langid.LanguageIdentifier.{LanguageIdentifier}
 use Rattle.icu_locale_core.specs.declared.locale.Locale.{Locale}
 use Rattle.icu_locale.specs.Canonical.{IsCanonical, is_applied, answer_of}
-use Rattle.icu_locale.specs.Refusals.{ComesAgainFirst}
+use Rattle.icu_locale.specs.Refusals.{IsRefusal}
 use Rattle.icu_locale.specs.LikelySubtags.{LikelySubtags}
+use Rattle.icu_locale.specs.declared.canonicalizer.CanonicalizeError.{CanonicalizeError}
+use Rattle.icu_locale.specs.declared.canonicalizer.CanonicalizeError.TheVariants.{Memory, NoFixedPoint, NoSubdivisionFixedPoint}
 use Rattle.icu_locale.specs.declared.canonicalizer.rules.Rules.{Rules}
 use Rattle.icu_locale.specs.declared.expander.TransformResult.{TransformResult}
 use Rattle.icu_locale_cli.specs.declared.task.Task.{Task}
 use Rattle.icu_locale_cli.specs.declared.answer.Answer.{Answer}
 use Rattle.icu_locale_cli.specs.declared.error.CliError.{CliError}
-use Rattle.icu_locale_cli.specs.Answers.{IsTransformed, IsPlain, IsCanonicalized, IsLineOf, IsIdentifierAnswer}
-use Rattle.icu_locale_cli.specs.Texts.{transformed_line, refused_line, matched_line}
+use Rattle.icu_locale_cli.specs.Answers.{IsTransformed, IsCanonicalized, IsLineOf, IsIdentifierAnswer, IsLocaleAnswer}
+use Rattle.icu_locale_cli.specs.Locales.{SpellsLocale}
+use Rattle.icu_locale_cli.specs.Texts.{transformed_line, canonical_line, matched_line}
+use Rattle.icu_locale_cli.specs.inner.Uncanonical.{TellsRefusal}
 
 -- a line of a fitting identifier and answer is that of a transformed identifier
 pub transformed_from_line : (Fits : LanguageIdentifier → TransformResult → Type 0) (y : LanguageIdentifier) (m : TransformResult) → Fits y m → (r : Result Answer CliError)
@@ -34,22 +38,25 @@ answer_from_accepted task line x spelled (Err e) h = tt
 module _ (likely : LikelySubtags) (rules : Rules) (old : Locale) where
   -- the line of a canonical locale
   pub canonicalized_from_line : (new : Locale) (m : TransformResult) → IsCanonical likely rules old new → m ≡ answer_of (is_applied likely rules old) → (r : Result Answer CliError)
-      → IfOk r (λ a. (a.text.items ≡ transformed_line new.id m) × (a.accepted ≡ true)) → IfOk r (λ a. IsCanonicalized likely rules old a.text.items a.accepted)
-  canonicalized_from_line new m canonical answer (Ok a) h = inl (new, canonical, subst (λ k. a.text.items ≡ transformed_line new.id k) answer h.0, h.1)
+      → IfOk r (λ a. (a.text.items ≡ canonical_line new m) × (a.accepted ≡ true)) → IfOk r (λ a. IsCanonicalized likely rules old a.text.items a.accepted)
+  canonicalized_from_line new m canonical answer (Ok a) h = inl (new, canonical, subst (λ k. a.text.items ≡ canonical_line new k) answer h.0, h.1)
   canonicalized_from_line new m canonical answer (Err e) h = tt
 
-  -- the line of an identifier that comes again
-  pub repeated_from_line : (z : LanguageIdentifier) → ComesAgainFirst likely rules old z → (r : Result Answer CliError)
-      → IfOk r (λ a. (a.text.items ≡ refused_line (codes "NoFixedPoint")) × (a.accepted ≡ false)) → IfOk r (λ a. IsCanonicalized likely rules old a.text.items a.accepted)
-  repeated_from_line z again (Ok a) h = inr (z, again, h.0, h.1)
-  repeated_from_line z again (Err e) h = tt
+  -- the line of what comes again
+  pub refused_from_line : (refusal : CanonicalizeError) → IsRefusal likely rules old refusal → (r : Result Answer CliError)
+      → IfOk r (λ a. TellsRefusal refusal a.text.items a.accepted) → IfOk r (λ a. IsCanonicalized likely rules old a.text.items a.accepted)
+  refused_from_line Memory why (Ok a) h = absurd h
+  refused_from_line Memory why (Err e) h = tt
+  refused_from_line (NoFixedPoint z) why (Ok a) h = inr (inl (z, why, h.0, h.1))
+  refused_from_line (NoFixedPoint z) why (Err e) h = tt
+  refused_from_line (NoSubdivisionFixedPoint v) why (Ok a) h = inr (inr (v, why, h.0, h.1))
+  refused_from_line (NoSubdivisionFixedPoint v) why (Err e) h = tt
 
-  -- the line of an identifier is that of its locale
-  pub plain_from_line : (x : LanguageIdentifier) → old.id ≡ x → old.extensions.unicode.keywords ≡ [] → old.extensions.transform.lang ≡ None → (r : Result Answer CliError)
-      → IfOk r (λ a. IsCanonicalized likely rules old a.text.items a.accepted)
-      → IfOk r (λ a. (locale : Locale) × IsPlain x locale × IsCanonicalized likely rules locale a.text.items a.accepted)
-  plain_from_line x id keywords transform (Ok a) h = (old, record { id = id; keywords = keywords; transform = transform }, h)
-  plain_from_line x id keywords transform (Err e) h = tt
+  -- the line of the locale that a line spells
+  pub answer_from_locale : (line : List ℕ) → SpellsLocale line old → (r : Result Answer CliError)
+      → IfOk r (λ a. IsCanonicalized likely rules old a.text.items a.accepted) → IfOk r (λ a. IsLocaleAnswer likely rules line a.text.items a.accepted)
+  answer_from_locale line spells (Ok a) h = inl (old, spells, h)
+  answer_from_locale line spells (Err e) h = tt
 
 get_or-slice_get : (xs : List LanguageIdentifier) (j : ℕ) (x d : LanguageIdentifier) → slice_get xs j ≡ Some x → get_or xs j d ≡ x
 get_or-slice_get [] j x d at = absurd (none-some x at)

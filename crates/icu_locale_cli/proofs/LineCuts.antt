@@ -1,11 +1,11 @@
--- The first line of a text ends at its first line feed.
-use Rattle.std.proofs.Common.{◌≡◌, ◌≢◌, ℕ, ◌+◌, ◌≤◌, nat_lt, length, arith, true, false, cond, List, [], ◌∷◌, take, drop, Some, None, refl, ap, sym, ◌∙◌}
-use Rattle.std.specs.List.{slice_split, onto_first, position, position_or_len}
+-- Where a text is cut: at its first line feed, and at any other separator.
+use Rattle.std.proofs.Common.{◌≡◌, ◌≢◌, ℕ, Bool, ◌+◌, ◌≤◌, nat_lt, length, arith, true, false, cond, List, [], ◌∷◌, take, drop, Some, None, refl, ap, sym, ◌∙◌}
+use Rattle.std.specs.List.{slice_split, onto_first, position, position_or_len, before_first, after_first}
 use Rattle.std.proofs.lemmas.Option.{cond_some, none-some}
 use Rattle.std.proofs.lemmas.Bool.Decides.{nat_tests}
 use Rattle.std.proofs.lemmas.List.{take_all, drop_all}
 use Rattle.icu_locale_core.specs.laws.Cuts.{slice_split-position, slice_split-no_position}
-use Rattle.icu_locale_cli.specs.Lines.{is_line_feed, without_empty_last, lines, first_line, after_first_line}
+use Rattle.icu_locale_cli.specs.Lines.{is_line_feed, without_empty_last, lines}
 
 -- a piece that others follow is a line
 without_empty_last-more : (x y : List ℕ) (ys : List (List ℕ)) → without_empty_last (x ∷ y ∷ ys) ≡ x ∷ without_empty_last (y ∷ ys)
@@ -31,25 +31,27 @@ pub lines-no_position : (t : List ℕ) → t ≢ [] → position is_line_feed t 
 lines-no_position [] some none = absurd (some refl)
 lines-no_position (c ∷ t) some none = ap without_empty_last (slice_split-no_position is_line_feed (c ∷ t) none)
 
--- the first line ends where the first line feed stands
-place : (t : List ℕ) (n : ℕ) → position is_line_feed t ≡ Some n → position_or_len is_line_feed t ≡ n
-place t n at = (cond_some (nat_lt (position_or_len is_line_feed t) (length t)) (position_or_len is_line_feed t) n at).1
+-- what stands before and behind the first separator of a text
+module _ (p : ℕ → Bool) (t : List ℕ) where
+  -- where it stands
+  place : (n : ℕ) → position p t ≡ Some n → position_or_len p t ≡ n
+  place n at = (cond_some (nat_lt (position_or_len p t) (length t)) (position_or_len p t) n at).1
 
-pub first_line-position : (t : List ℕ) (n : ℕ) → position is_line_feed t ≡ Some n → first_line t ≡ take n t
-first_line-position t n at = ap (λ k. take k t) (place t n at)
+  pub before_first-position : (n : ℕ) → position p t ≡ Some n → before_first p t ≡ take n t
+  before_first-position n at = ap (λ k. take k t) (place n at)
 
-pub rest-position : (t : List ℕ) (n : ℕ) → position is_line_feed t ≡ Some n → after_first_line t ≡ drop (n + 1) t
-rest-position t n at = ap (λ k. drop (k + 1) t) (place t n at)
+  pub after_first-position : (n : ℕ) → position p t ≡ Some n → after_first p t ≡ drop (n + 1) t
+  after_first-position n at = ap (λ k. drop (k + 1) t) (place n at)
 
--- without a line feed the first line is all
-past_end : (t : List ℕ) → position is_line_feed t ≡ None → length t ≤ position_or_len is_line_feed t
-past_end t none = elim (nat_lt (position_or_len is_line_feed t) (length t)) as (λ b. nat_lt (position_or_len is_line_feed t) (length t) ≡ b → cond b (Some (position_or_len is_line_feed t)) None ≡ None → length t ≤ position_or_len is_line_feed t) [
-  | true ↦ λ is some. absurd (none-some _ (sym some))
-  | false ↦ λ is some. grind (arith, nat_tests)
-] refl none
+  -- without one all stands before it
+  past_end : position p t ≡ None → length t ≤ position_or_len p t
+  past_end none = elim (nat_lt (position_or_len p t) (length t)) as (λ b. nat_lt (position_or_len p t) (length t) ≡ b → cond b (Some (position_or_len p t)) None ≡ None → length t ≤ position_or_len p t) [
+    | true ↦ λ is some. absurd (none-some _ (sym some))
+    | false ↦ λ is some. grind (arith, nat_tests)
+  ] refl none
 
-pub first_line-no_position : (t : List ℕ) → position is_line_feed t ≡ None → first_line t ≡ t
-first_line-no_position t none = take_all (position_or_len is_line_feed t) t (past_end t none)
+  pub before_first-no_position : position p t ≡ None → before_first p t ≡ t
+  before_first-no_position none = take_all (position_or_len p t) t (past_end none)
 
-pub rest-no_position : (t : List ℕ) → position is_line_feed t ≡ None → after_first_line t ≡ []
-rest-no_position t none = drop_all (position_or_len is_line_feed t + 1) t (let past = past_end t none in omega arith)
+  pub after_first-no_position : position p t ≡ None → after_first p t ≡ []
+  after_first-no_position none = drop_all (position_or_len p t + 1) t (let past = past_end none in omega arith)

@@ -40,7 +40,7 @@ is_invalid_subtag (Err InvalidSubtag) = Unit {0}
 is_invalid_subtag r = ⊥
 
 -- why reading refuses a text
-refusal_from_reading : (t : List ℕ) (e : ParseError) → ReadsIdentifier t (Err e) → (e ≡ Memory) ⊎ IsRefusal t e
+pub refusal_from_reading : (t : List ℕ) (e : ParseError) → ReadsIdentifier t (Err e) → (e ≡ Memory) ⊎ IsRefusal t e
 unfolding is_invalid_subtag
 refusal_from_reading t InvalidLanguage reads = inr (reads.language.0 refl)
 refusal_from_reading t InvalidSubtag reads = inr (by (starts_with_language t) refl, reads.subtag refl)

@@ -4,6 +4,7 @@ pub mod Commands
 pub mod Lines
 pub mod Lists
 pub mod Loads
+pub mod Locales
 pub mod Names
 pub mod Negotiations
 pub mod Output

@@ -3,9 +3,14 @@ use Rattle.std.specs.Prelude.{ℕ, List, ◌++◌, codes, Bool, true, false, Opt
 use Rattle.std.specs.Fmt.{decimal}
 use Rattle.icu_locale.specs.declared.directionality.Direction.{Direction}
 use Rattle.icu_locale.specs.declared.directionality.Direction.TheVariants.{LeftToRight, RightToLeft}
+use Rattle.icu_locale.specs.Canonical.{rg}
 use Rattle.icu_locale_core.specs.Identifier.{written}
+use Rattle.icu_locale_core.specs.Maps.{value_at}
+use Rattle.icu_locale_core.specs.TextSet.{text_cmp}
+use Rattle.icu_locale_core.specs.Value.{written_value}
 use Rattle.icu_locale_names.specs.Pieces.{Piece, text_of, has_raw}
 use Rattle.icu_locale_core.specs.declared.langid.LanguageIdentifier.{LanguageIdentifier}
+use Rattle.icu_locale_core.specs.declared.locale.Locale.{Locale}
 use Rattle.icu_locale.specs.declared.expander.TransformResult.{TransformResult}
 use Rattle.icu_locale.specs.declared.expander.TransformResult.TheVariants.{Modified, Unmodified}
 
@@ -17,6 +22,18 @@ mark Unmodified = codes "U"
 -- the identifier in written case, a tab, and whether it was changed
 abbrev pub transformed_line : LanguageIdentifier → TransformResult → List ℕ
 transformed_line x m = written x ++ (codes "\t" ++ (mark m ++ codes "\n"))
+
+-- the identifier in written case, a tab, the value if there is one, a tab behind it, and whether
+-- anything was changed
+abbrev pub override_line : LanguageIdentifier → Option (List (List ℕ)) → TransformResult → List ℕ
+override_line x None m = transformed_line x m
+override_line x (Some v) m =
+    written x ++ (codes "\t" ++ (written_value v ++ (codes "\t" ++ (mark m ++ codes "\n"))))
+
+-- the line of a canonical locale: its identifier, and its value at `rg` if there is one
+abbrev pub canonical_line : Locale → TransformResult → List ℕ
+canonical_line locale m =
+    override_line locale.id (value_at text_cmp locale.extensions.unicode.keywords rg) m
 
 -- `?`, a tab, and the name of the refusal
 abbrev pub refused_line : List ℕ → List ℕ

@@ -18,7 +18,7 @@ pub enum Command {
     Minimize,
     /// The minimal form of each identifier, the script kept before the region.
     MinimizeScript,
-    /// The canonical form of each identifier, as that of a locale without extensions.
+    /// The canonical form of each locale: an identifier, or an identifier, a tab and a value for `rg`.
     Canonicalize,
     /// Which way the likely script of each identifier runs.
     Direction,

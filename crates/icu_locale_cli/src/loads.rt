@@ -33,8 +33,10 @@ use std::io::Write;
 // What a command of lines has before its input is read.
 #[derive(Drop)]
 pub enum Loaded<'d> {
-    // All that it works with.
+    // What is done with the identifier of each line.
     Task(Task<'d>),
+    // A canonicalizer, whose lines are locales.
+    Canonicalize(LocaleCanonicalizer<'d>),
     // An expander over settled tables, which waits for the identifiers that are available.
     Negotiate(LocaleExpander<'d>),
 }
@@ -64,7 +66,7 @@ impl<'d> Loaded<'d> {
             Command::MinimizeScript => Ok(Loaded::Task(Task::MinimizeScript(expander))),
             Command::Canonicalize => {
                 let canonicalizer = load_canonicalizer(alloc, tables, expander)?;
-                Ok(Loaded::Task(Task::Canonicalize(canonicalizer)))
+                Ok(Loaded::Canonicalize(canonicalizer))
             }
             Command::Direction => {
                 let directionality = LocaleDirectionality::try_new_with_expander_unstable(
@@ -94,6 +96,9 @@ impl<'d> Loaded<'d> {
     {
         match self {
             Loaded::Task(task) => { write_answers(alloc, &Work::Identifiers(task), input, writer) }
+            Loaded::Canonicalize(canonicalizer) => {
+                write_answers(alloc, &Work::Locales(canonicalizer), input, writer)
+            }
             Loaded::Negotiate(expander) => {
                 let (first, rest) = cut(input);
                 let negotiator = list_available(alloc, expander, first)?;

@@ -3,12 +3,14 @@
 
 mod answer;
 mod answers;
+mod canonical;
 mod command;
 mod error;
 mod input;
 mod lines;
 mod lists;
 mod loads;
+mod locales;
 mod naming;
 mod output;
 mod run;

@@ -1,17 +1,13 @@
 //! What is done with an identifier.
 ghost use Rattle.std.specs.Prelude.{◌≡◌, IfOk, IfErr, true};
-ghost use Rattle.icu_locale.specs.LikelyTable.{likely};
-ghost use Rattle.icu_locale_cli.specs.Answers.{IsCanonicalized, IsLineOf};
-ghost use Rattle.icu_locale_cli.specs.Texts.{transformed_line, direction_line};
+ghost use Rattle.icu_locale_cli.specs.Answers.{IsLineOf};
+ghost use Rattle.icu_locale_cli.specs.Texts.{mark, transformed_line, direction_line};
 
-use crate::answer::{Answer, refused};
+use crate::answer::Answer;
 use crate::error::CliError;
 use crate::naming::Naming;
-use icu_locale::{
-    CanonicalizeError, Direction, LocaleCanonicalizer, LocaleDirectionality, LocaleExpander,
-    TransformResult,
-};
-use icu_locale_core::{LanguageIdentifier, Locale};
+use icu_locale::{Direction, LocaleDirectionality, LocaleExpander, TransformResult};
+use icu_locale_core::LanguageIdentifier;
 use std::alloc::Global;
 
 /// What is done with the identifier of each line, over tables that it borrows.
@@ -23,8 +19,6 @@ pub enum Task<'d> {
     Minimize(LocaleExpander<'d>),
     /// Minimal forms, the script kept before the region.
     MinimizeScript(LocaleExpander<'d>),
-    /// Canonical forms.
-    Canonicalize(LocaleCanonicalizer<'d>),
     /// Directions.
     Direction(LocaleDirectionality<'d>),
     /// Names.
@@ -55,30 +49,8 @@ impl<'d> Task<'d> {
                 let changed = expander.minimize_favor_script(&mut identifier);
                 transformed(alloc, &identifier, changed)
             }
-            Task::Canonicalize(canonicalizer) => {
-                canonicalized(alloc, canonicalizer, Locale::new(alloc, identifier))
-            }
             Task::Direction(directionality) => directed(alloc, directionality.get(&identifier)),
             Task::Name(naming) => naming.answer(alloc, &identifier),
-        }
-    }
-}
-
-// The line of a locale, of which the identifier is written.
-fn canonicalized(
-    alloc: Global,
-    canonicalizer: &LocaleCanonicalizer<'_>,
-    mut locale: Locale,
-) -> Result<Answer, CliError>
-    ensures answer { IfOk result (λ a. IsCanonicalized (likely canonicalizer.now.expander)
-        canonicalizer.now.rules locale a.text.items a.accepted) }
-    ensures refused { IfErr result (λ e. e ≡ CliError.Memory) }
-{
-    match canonicalizer.canonicalize(&mut locale) {
-        Ok(changed) => transformed(alloc, &locale.id, changed),
-        Err(CanonicalizeError::Memory) => Err(CliError::Memory),
-        Err(CanonicalizeError::NoFixedPoint(again)) => {
-            refused(alloc, CanonicalizeError::NoFixedPoint(again))
         }
     }
 }
@@ -101,7 +73,7 @@ fn directed(alloc: Global, direction: Option<Direction>) -> Result<Answer, CliEr
 }
 
 // The line of an identifier and whether it was changed.
-fn transformed(
+pub fn transformed(
     alloc: Global,
     identifier: &LanguageIdentifier,
     changed: TransformResult,
@@ -111,12 +83,19 @@ fn transformed(
         × (a.accepted ≡ true)) }
     ensures refused { IfErr result (λ e. e ≡ CliError.Memory) }
 {
-    let mark = match changed {
-        TransformResult::Modified => 'M',
-        TransformResult::Unmodified => 'U',
-    };
+    let letter = mark(changed);
     Ok(Answer {
-        text: format!(in alloc; "{identifier}\t{mark}\n")?.into_bytes(),
+        text: format!(in alloc; "{identifier}\t{letter}\n")?.into_bytes(),
         accepted: true,
     })
+}
+
+// `M` where something was changed, and `U` where nothing was.
+pub fn mark(changed: TransformResult) -> &'static str
+    ensures { result.now ≡ mark changed }
+{
+    match changed {
+        TransformResult::Modified => "M",
+        TransformResult::Unmodified => "U",
+    }
 }

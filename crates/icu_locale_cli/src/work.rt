@@ -1,14 +1,18 @@
 //! What a command works with, and what it makes of one line.
 ghost use Rattle.std.specs.Prelude.{◌≡◌, ◌⊎◌, IfOk, IfErr, true};
-ghost use Rattle.icu_locale_cli.specs.Answers.{IsAnswer, IsIdentifierAnswer, IsListAnswer};
+ghost use Rattle.icu_locale.specs.LikelyTable.{likely};
+ghost use Rattle.icu_locale_cli.specs.Answers.{IsAnswer, IsIdentifierAnswer, IsLocaleAnswer};
+ghost use Rattle.icu_locale_cli.specs.Answers.{IsListAnswer};
 ghost use Rattle.icu_locale_cli.specs.Negotiations.{IsNegotiatedLine};
 ghost use Rattle.icu_locale_cli.specs.Texts.{matched_line};
 
 use crate::answer::{Answer, refused};
+use crate::canonical::canonicalized;
 use crate::error::CliError;
 use crate::lists::read_list;
+use crate::locales::read_locale;
 use crate::task::Task;
-use icu_locale::Negotiator;
+use icu_locale::{LocaleCanonicalizer, Negotiator};
 use icu_locale_core::{LanguageIdentifier, ParseError};
 use std::alloc::Global;
 
@@ -17,6 +21,8 @@ use std::alloc::Global;
 pub enum Work<'d> {
     /// Each line is an identifier.
     Identifiers(Task<'d>),
+    /// Each line is a locale, which is brought to its canonical form.
+    Locales(LocaleCanonicalizer<'d>),
     /// Each line lists requests.
     Requests(Negotiator<'d>),
 }
@@ -30,6 +36,7 @@ impl<'d> Work<'d> {
     {
         match self {
             Work::Identifiers(task) => answer_identifier(alloc, task, line),
+            Work::Locales(canonicalizer) => answer_locale(alloc, canonicalizer, line),
             Work::Requests(negotiator) => answer_requests(alloc, negotiator, line),
         }
     }
@@ -43,6 +50,23 @@ fn answer_identifier(alloc: Global, task: &Task<'_>, line: &[u8]) -> Result<Answ
 {
     match LanguageIdentifier::try_from_utf8(alloc, line) {
         Ok(identifier) => task.answer(alloc, identifier),
+        Err(ParseError::Memory) => Err(CliError::Memory),
+        Err(refusal) => refused(alloc, refusal),
+    }
+}
+
+// The answer to a line that is a locale.
+fn answer_locale(
+    alloc: Global,
+    canonicalizer: &LocaleCanonicalizer<'_>,
+    line: &[u8],
+) -> Result<Answer, CliError>
+    ensures answer { IfOk result (λ a. IsLocaleAnswer (likely canonicalizer.now.expander)
+        canonicalizer.now.rules line.now a.text.items a.accepted) }
+    ensures refused { IfErr result (λ e. e ≡ CliError.Memory) }
+{
+    match read_locale(alloc, line) {
+        Ok(locale) => canonicalized(alloc, canonicalizer, locale),
         Err(ParseError::Memory) => Err(CliError::Memory),
         Err(refusal) => refused(alloc, refusal),
     }

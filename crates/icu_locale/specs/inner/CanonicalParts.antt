@@ -1,39 +1,31 @@
 -- What the parts of a canonicalization find: what only private functions cite.
-use Rattle.std.specs.Prelude.{◌≡◌, ℕ, Bool, ◌||◌, Option, Some, None, is_some, IfSome, IsSomeAnd}
+use Rattle.std.specs.Prelude.{◌≡◌, ℕ, List, Bool, ◌||◌, Option, Some, None, is_some, IfSome, IsSomeAnd}
 use Rattle.std.specs.Prelude.{MatchOption, Result, unwrap_or}
 use Rattle.std.specs.Option.{option_or}
-use Rattle.icu_locale_core.specs.TextSet.{empty}
+use Rattle.icu_locale_core.specs.Keywords.{KeywordRows}
+use Rattle.icu_locale_core.specs.Maps.{value_at}
+use Rattle.icu_locale_core.specs.TextSet.{text_cmp, empty}
 use Rattle.icu_locale_core.specs.declared.langid.LanguageIdentifier.{LanguageIdentifier}
 use Rattle.icu_locale_core.specs.declared.locale.Locale.{Locale}
 use Rattle.icu_locale.specs.LikelySubtags.{LikelySubtags}
 use Rattle.icu_locale.specs.Kinds.{next, by_language_alias}
-use Rattle.icu_locale.specs.Run.{StandsIn, IsRepeat, HasDistinct}
-use Rattle.icu_locale.specs.inner.Walk.{EndsLater}
+use Rattle.icu_locale.specs.Run.{StandsIn, IsLaterEnd, IsLaterEndOf, IsRepeat, HasDistinct}
 use Rattle.icu_locale.specs.Cost.{CountsSearches}
-use Rattle.icu_locale.specs.Canonical.{rg, sd, put, subdivision_alias}
+use Rattle.icu_locale.specs.Canonical.{rg, sd, put, next_value}
+use Rattle.icu_locale.specs.Refusals.{ComesAgainFirst, ValueRepeats}
 use Rattle.icu_locale.specs.declared.canonicalizer.rules.Rules.{Rules}
 use Rattle.icu_locale.specs.declared.canonicalizer.changes.Changes.{Changes}
 use Rattle.icu_locale.specs.declared.canonicalizer.CanonicalizeError.{CanonicalizeError}
 use Rattle.icu_locale.specs.declared.canonicalizer.CanonicalizeError.TheVariants.{Memory}
 use Rattle.icu_locale.specs.declared.canonicalizer.CanonicalizeError.TheVariants.{NoFixedPoint}
-
--- the end of a run at a later place than its start, or none where nothing follows the start
-abbrev pub IsLaterEnd : (LanguageIdentifier → Option LanguageIdentifier) → LanguageIdentifier
-    → Option LanguageIdentifier → Type 0
-IsLaterEnd next x None = next x ≡ None
-IsLaterEnd next x (Some y) = EndsLater next x y
-
--- the same of a run that there may be
-abbrev pub IsLaterEndOf : (LanguageIdentifier → Option LanguageIdentifier)
-    → Option LanguageIdentifier → Option LanguageIdentifier → Type 0
-IsLaterEndOf next None end = end ≡ None
-IsLaterEndOf next (Some x) end = IsLaterEnd next x end
+use Rattle.icu_locale.specs.declared.canonicalizer.CanonicalizeError.TheVariants.{NoSubdivisionFixedPoint}
 
 -- a refusal of a run names its first repeat
 abbrev pub IsRunRefusal : (LanguageIdentifier → Option LanguageIdentifier) → LanguageIdentifier
     → CanonicalizeError → Type 0
 IsRunRefusal next x Memory = Unit {0}
 IsRunRefusal next x (NoFixedPoint z) = IsRepeat next x z
+IsRunRefusal next x (NoSubdivisionFixedPoint v) = ⊥
 
 -- what each identifier of a run becomes has no variants
 abbrev pub IsFree : (LanguageIdentifier → Option LanguageIdentifier) → LanguageIdentifier → Type 0
@@ -52,16 +44,45 @@ abbrev pub IsRunRefusalOf : (LanguageIdentifier → Option LanguageIdentifier)
     → Option LanguageIdentifier → CanonicalizeError → Type 0
 IsRunRefusalOf next start Memory = Unit {0}
 IsRunRefusalOf next start (NoFixedPoint z) = IsSomeAnd start (λ x. IsRepeat next x z)
+IsRunRefusalOf next start (NoSubdivisionFixedPoint v) = ⊥
 
--- what is to be changed of a locale: the ends of the runs, and the values in place of those at `rg` and `sd`
+-- a refusal of the runs of identifiers names the one that comes again first
+abbrev pub IsIdentifierRefusal : LikelySubtags → Rules → Locale → CanonicalizeError → Type 0
+IsIdentifierRefusal likely rules old Memory = Unit {0}
+IsIdentifierRefusal likely rules old (NoFixedPoint z) = ComesAgainFirst likely rules old z
+IsIdentifierRefusal likely rules old (NoSubdivisionFixedPoint v) = ⊥
+
+-- a refusal of the run of a value that there may be names its first repeat
+abbrev pub IsValueRefusal : Rules → Option (List (List ℕ)) → CanonicalizeError → Type 0
+IsValueRefusal rules value Memory = Unit {0}
+IsValueRefusal rules value (NoFixedPoint z) = ⊥
+IsValueRefusal rules value (NoSubdivisionFixedPoint v) =
+    IsSomeAnd value (λ s. IsRepeat (next_value rules) s v)
+
+-- a refusal of the runs of the values at `rg` and `sd` names the one that comes again first
+abbrev pub IsValuesRefusal : Rules → KeywordRows → CanonicalizeError → Type 0
+IsValuesRefusal rules keywords Memory = Unit {0}
+IsValuesRefusal rules keywords (NoFixedPoint z) = ⊥
+IsValuesRefusal rules keywords (NoSubdivisionFixedPoint v) = ValueRepeats rules keywords v
+
+-- the ends of the runs of identifiers
+pub record AreLaterEnds (likely : LikelySubtags) (rules : Rules) (old : Locale)
+    (ends : Option LanguageIdentifier × Option LanguageIdentifier) : Type 0 where
+  pub id : IsLaterEnd (next likely rules) old.id ends.0
+  pub transform : IsLaterEndOf (by_language_alias rules) old.extensions.transform.lang ends.1
+
+-- the ends of the runs of the values at `rg` and `sd`
+pub record AreLaterValues (rules : Rules) (keywords : KeywordRows)
+    (ends : Option (List (List ℕ)) × Option (List (List ℕ))) : Type 0 where
+  pub region_override : IsLaterEndOf (next_value rules) (value_at text_cmp keywords rg) ends.0
+  pub subdivision : IsLaterEndOf (next_value rules) (value_at text_cmp keywords sd) ends.1
+
+-- what is to be changed of a locale: the ends of its runs
 pub record AreChanges (likely : LikelySubtags) (rules : Rules) (old : Locale)
     (changes : Changes) : Type 0 where
-  pub id : IsLaterEnd (next likely rules) old.id changes.id
-  pub transform : IsLaterEndOf (by_language_alias rules) old.extensions.transform.lang
-      changes.transform
-  pub region_override : changes.region_override
-      ≡ subdivision_alias rules old.extensions.unicode.keywords rg
-  pub subdivision : changes.subdivision ≡ subdivision_alias rules old.extensions.unicode.keywords sd
+  pub identifiers : AreLaterEnds likely rules old (changes.id, changes.transform)
+  pub values : AreLaterValues rules old.extensions.unicode.keywords
+      (changes.region_override, changes.subdivision)
 
 -- the locale with the changes
 abbrev pub with_changes : Changes → Locale → Locale

@@ -1,4 +1,4 @@
--- Finitely many identifiers among which a run stays: what only proofs cite.
+-- Finitely many states among which a run stays: what only proofs cite.
 use Rattle.std.specs.Prelude.{ℕ, List, [], ◌∷◌, ◌++◌, map, Some, None}
 use Rattle.std.specs.List.{flat_map}
 use Rattle.std.specs.FinMap as fin
@@ -58,3 +58,7 @@ made_of ps =
 -- the identifiers made of x and of what the rules put in the place of parts
 abbrev pub universe : Rules → LanguageIdentifier → List LanguageIdentifier
 universe rules x = made_of (parts rules x)
+
+-- a value, and those of the rows
+abbrev pub values : Rules → List (List ℕ) → List (List (List ℕ))
+values rules v = v ∷ map (λ row. row.1) rules.subdivision

@@ -1,7 +1,7 @@
 -- What the two walkers know on the way, and what they answer: what only the walk's own functions cite.
-use Rattle.std.specs.Prelude.{◌≡◌, ◌≢◌, ℕ, ◌+◌, ◌<◌, ◌⊎◌, List, Option, Some, None, IsSome}
+use Rattle.std.specs.Prelude.{◌≡◌, ◌≢◌, ℕ, ◌+◌, ◌<◌, ◌⊎◌, List, Option, Some, None}
 use Rattle.std.specs.List.{Contains}
-use Rattle.icu_locale.specs.Run.{at, EndsAt, IsRepeat}
+use Rattle.icu_locale.specs.Run.{at, EndsLater, IsRepeat}
 use Rattle.icu_locale.specs.declared.rewriting.Outcome.{Outcome}
 use Rattle.icu_locale.specs.declared.rewriting.Outcome.TheVariants.{Same, Ends, Repeats}
 use Rattle.icu_locale.specs.declared.rewriting.Walk.{Walk}
@@ -23,10 +23,6 @@ pub record IsMeeting {X : Type 0} (next : X → Option X) (start z : X) : Type 0
   pub started : 0 < place
   pub here : at next start place ≡ Some z
   pub again : at next start (place + place) ≡ Some z
-
--- the run ends at y, at a later place than its start
-abbrev pub EndsLater : {X : Type 0} → (X → Option X) → X → X → Type 0
-EndsLater next start y = IsSome (next start) × EndsAt next start y
 
 -- the walk tells the truth of the run: nothing follows the start, or where it ends, or where the walkers meet
 abbrev pub IsWalk : {X : Type 0} → (X → Option X) → X → Walk X → Type 0

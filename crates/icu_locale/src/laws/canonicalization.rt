@@ -1,6 +1,5 @@
 //! Laws of canonicalization. Each function here takes nothing, answers nothing and carries a proved fact.
 ghost use Rattle.std.specs.Prelude.{◌≡◌, ◌≢◌, ◌↔◌, ℕ, Bool, true, false, List};
-ghost use Rattle.std.specs.Option.{option_or};
 ghost use Rattle.icu_locale_core.specs.Keywords.{KeywordRows};
 ghost use Rattle.icu_locale_core.specs.Maps.{value_at};
 ghost use Rattle.icu_locale_core.specs.TextSet.{text_cmp};
@@ -9,11 +8,11 @@ ghost use Rattle.icu_locale_core.specs.declared.locale.Locale.{Locale};
 ghost use Rattle.icu_locale.specs.LikelySubtags.{LikelySubtags};
 ghost use Rattle.icu_locale.specs.Kinds.{next_of};
 ghost use Rattle.icu_locale.specs.Run.{EndsOrRepeats, EndsWithNoRepeat, HasOneEnd, KeepsEnd};
-ghost use Rattle.icu_locale.specs.Run.{HasOneRepeat};
-ghost use Rattle.icu_locale.specs.Canonical.{rg, sd, subdivision_alias, canonical_keywords};
-ghost use Rattle.icu_locale.specs.Canonical.{IsCanonical, is_applied, HasFinalSubdivisions};
+ghost use Rattle.icu_locale.specs.Run.{HasOneRepeat, BecomesEnd};
+ghost use Rattle.icu_locale.specs.Canonical.{rg, sd, next_value, AreCanonicalKeywords};
+ghost use Rattle.icu_locale.specs.Canonical.{IsCanonical, is_applied};
 ghost use Rattle.icu_locale.specs.Cost.{NeedsNoMemory};
-ghost use Rattle.icu_locale.specs.Refusals.{RulesEnd};
+ghost use Rattle.icu_locale.specs.Refusals.{RulesEnd, EndsInPlace};
 ghost use Rattle.icu_locale.specs.declared.canonicalizer.rules.Rules.{Rules};
 
 /// Of each run of an identifier, by all rules or by language aliases alone, exactly one holds: it ends, or it has a
@@ -31,42 +30,50 @@ pub fn runs_end_or_repeat()
         (x : LanguageIdentifier) → HasOneRepeat (next_of likely rules transform) x }
 {}
 
-/// The canonical keywords have at `rg` and at `sd` the value in place of the one there, where there is such a value, and
-/// at each other key what was there.
-pub fn canonical_keywords_by_key()
-    ensures region_override { (rules : Rules) (keywords : KeywordRows)
-        → value_at text_cmp (canonical_keywords rules keywords) rg
-        ≡ option_or (subdivision_alias rules keywords rg) (value_at text_cmp keywords rg) }
-    ensures subdivision { (rules : Rules) (keywords : KeywordRows)
-        → value_at text_cmp (canonical_keywords rules keywords) sd
-        ≡ option_or (subdivision_alias rules keywords sd) (value_at text_cmp keywords sd) }
-    ensures others { (rules : Rules) (keywords : KeywordRows) (key : List ℕ)
-        → key ≢ rg → key ≢ sd
-        → value_at text_cmp (canonical_keywords rules keywords) key
-        ≡ value_at text_cmp keywords key }
+/// Of each run of a value, exactly one holds: it ends, or it has a first value that comes again. The end is one, and is
+/// kept from each value on the way; so is the repeat one.
+pub fn value_runs_end_or_repeat()
+    ensures one { (rules : Rules) (v : List (List ℕ)) → EndsOrRepeats (next_value rules) v }
+    ensures not_both { (rules : Rules) (v : List (List ℕ))
+        → EndsWithNoRepeat (next_value rules) v }
+    ensures one_end { (rules : Rules) (v : List (List ℕ)) → HasOneEnd (next_value rules) v }
+    ensures kept { (rules : Rules) (v : List (List ℕ)) → KeepsEnd (next_value rules) v }
+    ensures one_repeat { (rules : Rules) (v : List (List ℕ))
+        → HasOneRepeat (next_value rules) v }
 {}
 
-/// A canonical locale is canonical itself: where no value of a subdivision is a key again, the rules end on it, nothing
-/// more is applied to it, and no memory is needed to find that. So `canonicalize` succeeds on it and changes nothing.
+/// Canonical keywords have at `rg` and at `sd` the end of the run of the value there, where there was one, and at each
+/// other key what was there.
+pub fn canonical_keywords_by_key()
+    ensures region_override { (rules : Rules) (old new : KeywordRows)
+        → AreCanonicalKeywords rules old new
+        → BecomesEnd (next_value rules) (value_at text_cmp old rg) (value_at text_cmp new rg) }
+    ensures subdivision { (rules : Rules) (old new : KeywordRows)
+        → AreCanonicalKeywords rules old new
+        → BecomesEnd (next_value rules) (value_at text_cmp old sd) (value_at text_cmp new sd) }
+    ensures others { (rules : Rules) (old new : KeywordRows) → AreCanonicalKeywords rules old new
+        → (key : List ℕ) → key ≢ rg → key ≢ sd
+        → value_at text_cmp new key ≡ value_at text_cmp old key }
+{}
+
+/// A canonical locale is canonical itself: the rules end on it, and each run where it begins; nothing more is applied to
+/// it, and no memory is needed to find that. So `canonicalize` succeeds on it and changes nothing.
 pub fn canonical_stays_canonical()
     ensures canonical { (likely : LikelySubtags) (rules : Rules) (old new : Locale)
-        → HasFinalSubdivisions rules → IsCanonical likely rules old new
-        → IsCanonical likely rules new new }
+        → IsCanonical likely rules old new → IsCanonical likely rules new new }
     ensures unapplied { (likely : LikelySubtags) (rules : Rules) (old new : Locale)
-        → HasFinalSubdivisions rules → IsCanonical likely rules old new
-        → is_applied likely rules new ≡ false }
+        → IsCanonical likely rules old new → is_applied likely rules new ≡ false }
     ensures ends { (likely : LikelySubtags) (rules : Rules) (old new : Locale)
-        → HasFinalSubdivisions rules → IsCanonical likely rules old new
-        → RulesEnd likely rules new }
+        → IsCanonical likely rules old new → RulesEnd likely rules new }
+    ensures in_place { (likely : LikelySubtags) (rules : Rules) (old new : Locale)
+        → IsCanonical likely rules old new → EndsInPlace likely rules new }
     ensures free { (likely : LikelySubtags) (rules : Rules) (old new : Locale)
-        → HasFinalSubdivisions rules → IsCanonical likely rules old new
-        → NeedsNoMemory likely rules new }
+        → IsCanonical likely rules old new → NeedsNoMemory likely rules new }
 {}
 
-/// Something is applied to a locale exactly where its canonical form differs, where no value of a subdivision is a key
-/// again.
+/// Something is applied to a locale exactly where its canonical form differs.
 pub fn applied_where_changed()
     ensures { (likely : LikelySubtags) (rules : Rules) (old new : Locale)
-        → HasFinalSubdivisions rules → IsCanonical likely rules old new
+        → IsCanonical likely rules old new
         → (is_applied likely rules old ≡ true) ↔ (old ≢ new) }
 {}

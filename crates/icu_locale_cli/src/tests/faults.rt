@@ -1,6 +1,6 @@
 //! The names of refusals.
 use icu_locale::CanonicalizeError;
-use icu_locale_core::{LanguageIdentifier, ParseError};
+use icu_locale_core::{LanguageIdentifier, ParseError, Value};
 use icu_provider::{DataError, DataErrorKind};
 use std::alloc::Global;
 use std::fmt;
@@ -53,6 +53,13 @@ fn refusals_of_canonicalizing(rt: HostRuntime) -> Result<(), Fail> {
         rt.alloc(),
         CanonicalizeError::NoFixedPoint(id),
         "NoFixedPoint",
+    )?;
+    let value = Value::try_from_str(rt.alloc(), "aaa")?;
+    is_named(
+        &rt,
+        rt.alloc(),
+        CanonicalizeError::NoSubdivisionFixedPoint(value),
+        "NoSubdivisionFixedPoint",
     )?;
     is_named(&rt, rt.alloc(), CanonicalizeError::Memory, "Memory")
 }

@@ -8,7 +8,7 @@ use icu_locale::{
     CanonicalizeError, LocaleCanonicalizer, LocaleExpander, Negotiator, NegotiatorError,
     TransformResult,
 };
-use icu_locale_core::{LanguageIdentifier, Locale, ParseError};
+use icu_locale_core::{Key, LanguageIdentifier, Locale, ParseError, Value};
 use icu_provider::{DataProvider, SortedMap};
 use icu_tables::{TableError, Tables};
 use std::alloc::{AllocError, Global};
@@ -164,11 +164,16 @@ impl Write for HeldWriter {
 }
 
 // Commands, inputs, and what is written where there is memory.
-const RUNS: [(Command, &str, &str); 2] = [
+const RUNS: [(Command, &str, &str); 3] = [
     (
         Command::Maximize,
         "zh-CN\nEN_us-posix\n\n",
         "zh-Hans-CN\tM\nen-Latn-US-posix\tM\n?\tInvalidLanguage\n",
+    ),
+    (
+        Command::Canonicalize,
+        "sh-posix\tabcdefg\nja\nja\tab\n",
+        "sr-Latn-posix\txyz\tM\nja\tU\n?\tInvalidSubtag\n",
     ),
     (
         Command::Negotiate,
@@ -327,6 +332,32 @@ fn canonicalizing_without_variants_takes_no_memory(rt: HostRuntime) -> Result<()
     for row in WITHOUT_MEMORY {
         starved_row(&rt, rt.alloc(), &tables, row)?;
     }
+    Ok(())
+}
+
+// What a call on a locale with a value at `rg` answers while no memory is left, and whether the locale is as it was.
+fn starved_value(
+    alloc: Global,
+    canonicalizer: &LocaleCanonicalizer<'_>,
+    text: &str,
+) -> Result<(Result<TransformResult, CanonicalizeError>, bool), Fail> {
+    let mut locale = Locale::new(alloc, LanguageIdentifier::try_from_str(alloc, "en")?);
+    let value = Value::try_from_str(alloc, text)?;
+    let keywords = &mut locale.extensions.unicode.keywords;
+    let _ = keywords.set(Key::try_from_str("rg")?, value)?;
+    let before = locale.try_clone()?;
+    let answer = starved(alloc, canonicalizer, &mut locale)?;
+    Ok((answer, locale == before))
+}
+
+#[test]
+fn values_without_memory(rt: HostRuntime) -> Result<(), Fail> {
+    let tables = sample(rt.alloc())?;
+    let canonicalizer = LocaleCanonicalizer::try_new_common_unstable(rt.alloc(), &tables)?;
+    let (kept, is_same) = starved_value(rt.alloc(), &canonicalizer, "xyz")?;
+    assert!(rt; is_same && matches!(kept, Ok(TransformResult::Unmodified)));
+    let (refused, is_same) = starved_value(rt.alloc(), &canonicalizer, "abcdefg")?;
+    assert!(rt; is_same && matches!(refused, Err(CanonicalizeError::Memory)));
     Ok(())
 }
 

@@ -25,8 +25,14 @@ const EXTENDED: &str =
     \"likely_extended\":{\"language\":{\"az\":[\"Latn\",\"AZ\"]}},\
     \"aliases\":{\"language_len2\":{\"aa\":\"bb\",\"bb\":\"aa\"}},\"direction\":{\"ltr\":[\"Latn\"]}}\naz\naa\n";
 
+const CIRCLING: &str =
+    "{\"likely_language\":{\"und\":[\"en\",\"Latn\",\"US\"]},\"likely_script_region\":{},\
+    \"aliases\":{\"language_len2\":{\"aa\":\"aa\"},\
+    \"subdivision\":{\"aaa\":\"bbb\",\"bbb\":\"ccc\",\"ccc\":\"bbb\",\"ddd\":\"eee\",\"eee\":\"fff\"}}}\n\
+    en\taaa\nen\tddd\naa\taaa\naa\tab\nen\n";
+
 // Words, input, output, and 0, 1 or the words of the refusal.
-const RUNS: [(&str, &str, &str, &str); 62] = [
+const RUNS: [(&str, &str, &str, &str); 70] = [
     (
         "maximize",
         "zh-CN\nund-SA\n",
@@ -89,6 +95,33 @@ const RUNS: [(&str, &str, &str, &str); 62] = [
         "gsg\tM\nsr-Latn\tM\nja\tU\n",
         "0",
     ),
+    (
+        "canonicalize",
+        "sh\tabcdefg\nja\t\nja\tab\n",
+        "sr-Latn\txyz\tM\nja\t\tU\n?\tInvalidSubtag\n",
+        "1",
+    ),
+    (
+        "canonicalize",
+        "en\tABCDEFG_uvw\nen\ttrue\nja\tXYZ",
+        "en\tabcdefg-uvw\tU\nen\t\tU\nja\txyz\tU\n",
+        "0",
+    ),
+    (
+        "canonicalize",
+        "e\tab\n\tabc\nen-\tabc\nen\tabc\tabc\nen\t\t\n",
+        "?\tInvalidLanguage\n?\tInvalidLanguage\n?\tInvalidSubtag\n?\tInvalidSubtag\n?\tInvalidSubtag\n",
+        "1",
+    ),
+    (
+        "maximize",
+        "en\tabc\nen-US\tabc\n",
+        "?\tInvalidLanguage\n?\tInvalidSubtag\n",
+        "1",
+    ),
+    ("direction", "en-US\t\n", "?\tInvalidSubtag\n", "1"),
+    ("name light en", "it-US\tabc\n", "?\tInvalidSubtag\n", "1"),
+    ("negotiate", "en\nen-US\tabc\n", "?\tInvalidSubtag\n", "1"),
     ("direction", "en-Arab\nar\nund\n", "rtl\nrtl\nnone\n", "0"),
     ("settled", "never read", "yes\n", "0"),
     (
@@ -132,6 +165,12 @@ const RUNS: [(&str, &str, &str, &str); 62] = [
         "canonicalize json",
         EXTENDED,
         "az\tU\n?\tNoFixedPoint\n",
+        "1",
+    ),
+    (
+        "canonicalize json",
+        CIRCLING,
+        "?\tNoSubdivisionFixedPoint\nen\tfff\tM\n?\tNoFixedPoint\n?\tInvalidSubtag\nen\tU\n",
         "1",
     ),
     ("direction json", EXTENDED, "ltr\nnone\n", "0"),
@@ -319,24 +358,38 @@ fn runs_over_the_text_of_the_sample(rt: HostRuntime) -> Result<(), Fail> {
     Ok(())
 }
 
+// A run over the sample, of whose lines some are refused.
+fn refused_run(
+    rt: &impl Abort,
+    alloc: Global,
+    command: &Command,
+    mut input: &[u8],
+    output: &[u8],
+) -> Result<(), Fail> {
+    let tables = sample(alloc)?;
+    let mut written = Vec::new(alloc);
+    let ended = run(alloc, command, &tables, &mut input, &mut written);
+    assert!(rt; ended == Ok(Status::Refused));
+    assert_eq!(rt; written.as_slice(), output);
+    Ok(())
+}
+
 #[test]
 fn bytes_past_ascii(rt: HostRuntime) -> Result<(), Fail> {
-    let tables = sample(rt.alloc())?;
-    let mut written = Vec::new(rt.alloc());
-    let mut reader = b"en-\xff\n\xff".as_slice();
-    let ended = run(
+    refused_run(
+        &rt,
         rt.alloc(),
         &Command::Maximize,
-        &tables,
-        &mut reader,
-        &mut written,
-    );
-    assert!(rt; ended == Ok(Status::Refused));
-    assert_eq!(rt;
-        written.as_slice(),
-        b"?\tInvalidSubtag\n?\tInvalidLanguage\n".as_slice()
-    );
-    Ok(())
+        b"en-\xff\n\xff",
+        b"?\tInvalidSubtag\n?\tInvalidLanguage\n",
+    )?;
+    refused_run(
+        &rt,
+        rt.alloc(),
+        &Command::Canonicalize,
+        b"en\tabc-\xff\n\xff\tabc",
+        b"?\tInvalidSubtag\n?\tInvalidLanguage\n",
+    )
 }
 
 #[test]

@@ -1,7 +1,7 @@
 use Rattle.std.proofs.Common.{subst, sym, inl, inr, refl, rules}
 use Rattle.std.proofs.lemmas.Result.{err_from_is_err_and}
 use Rattle.icu_locale.specs.Canonical.{IsCanonical}
-use Rattle.icu_locale.proofs.Canonicals.{IsCanonical-with_changes, memory_from_end, no_repeat, named}
+use Rattle.icu_locale.proofs.Canonicals.{IsCanonical-with_changes, memory_from_end, no_repeat, no_value_repeat, named, named_value}
 use Rattle.icu_locale.proofs.canonicalizer.LocaleCanonicalizer.canonicalize_counted.Goals as goal
 
 pub returns-in_err-changes-clause-outcome : goal.returns-in_err-changes-clause-outcome
@@ -15,6 +15,7 @@ returns-in_err-changes-clause-outcome g c =
       unchanged = refl;
       ends = λ ends. inr (memory_from_end (g.E.AsExpander.table c.args.self.now.expander) c.args.self.now.rules c.args.locale.now refusal c.in_err-changes.ensures.refusal ends);
       repeats = λ z first. named (g.E.AsExpander.table c.args.self.now.expander) c.args.self.now.rules c.args.locale.now refusal z c.in_err-changes.ensures.refusal first;
+      values_repeat = λ v first. named_value (g.E.AsExpander.table c.args.self.now.expander) c.args.self.now.rules c.args.locale.now refusal v c.in_err-changes.ensures.refusal first;
       free = c.in_err-changes.ensures.free;
     }
 
@@ -30,5 +31,6 @@ returns-clause-outcome g c =
       unchanged = tt;
       ends = λ ends. inl refl;
       repeats = λ z first. absurd (no_repeat known kept c.args.locale.now changes z c.in_ok-changes.ensures.found first);
+      values_repeat = λ v first. absurd (no_value_repeat known kept c.args.locale.now changes v c.in_ok-changes.ensures.found first);
       free = λ needs out. out;
     }

@@ -5,7 +5,7 @@ use Rattle.icu_locale_cli.specs.Lists.{listed, SpellsAll}
 use Rattle.icu_locale_cli.specs.Loads.{IsExpanderOf}
 use Rattle.icu_locale_cli.specs.Works.{text_answered}
 use Rattle.icu_locale_cli.specs.inner.Loaded.{IsLoaded}
-use Rattle.icu_locale_cli.specs.declared.work.Work.TheVariants.{Identifiers, Requests}
+use Rattle.icu_locale_cli.specs.declared.work.Work.TheVariants.{Identifiers, Locales, Requests}
 use Rattle.icu_locale_cli.proofs.RunEnds.{lines_written, lines_stopped, task_answers}
 use Rattle.icu_locale_cli.proofs.loads.Loaded.write.Goals as goal
 
@@ -19,6 +19,19 @@ pub returns-in-Task-clause-left : goal.returns-in-Task-clause-left
 returns-in-Task-clause-left g c = λ k t loaded.
     let of = subst (IsLoaded k t) c.in-Task.is loaded in
     lines_stopped k t c.args.input.now (Identifiers c.in-Task.task) of c.args.input.now (task_answers k t c.in-Task.task of c.args.input.now) (g.W.Write.contents c.args.writer.now) (g.W.Write.contents c.write_answers.new.writer) c.write_answers.result c.write_answers.ensures.refused c.write_answers.ensures.memory c.write_answers.ensures.write
+
+-- a canonicalizer answers every line
+pub returns-in-Canonicalize-clause-output : goal.returns-in-Canonicalize-clause-output
+returns-in-Canonicalize-clause-output g c = λ k t loaded.
+    let of = subst (IsLoaded k t) c.in-Canonicalize.is loaded in
+    let answered = ap (λ l. text_answered l c.args.input.now) of.0 in
+    lines_written k t c.args.input.now (Locales c.in-Canonicalize.canonicalizer) of c.args.input.now answered (g.W.Write.contents c.args.writer.now) (g.W.Write.contents c.write_answers-in-Canonicalize.new.writer) c.write_answers-in-Canonicalize.result c.write_answers-in-Canonicalize.ensures.whole
+
+pub returns-in-Canonicalize-clause-left : goal.returns-in-Canonicalize-clause-left
+returns-in-Canonicalize-clause-left g c = λ k t loaded.
+    let of = subst (IsLoaded k t) c.in-Canonicalize.is loaded in
+    let answered = ap (λ l. text_answered l c.args.input.now) of.0 in
+    lines_stopped k t c.args.input.now (Locales c.in-Canonicalize.canonicalizer) of c.args.input.now answered (g.W.Write.contents c.args.writer.now) (g.W.Write.contents c.write_answers-in-Canonicalize.new.writer) c.write_answers-in-Canonicalize.result c.write_answers-in-Canonicalize.ensures.refused c.write_answers-in-Canonicalize.ensures.memory c.write_answers-in-Canonicalize.ensures.write
 
 -- a negotiation uses the first line
 pub returns-in_ok-negotiator-in-Negotiate-clause-output : goal.returns-in_ok-negotiator-in-Negotiate-clause-output

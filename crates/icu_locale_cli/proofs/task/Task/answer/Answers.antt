@@ -4,7 +4,7 @@ use Rattle.icu_locale.specs.Minimal.{IsMinimalForm}
 use Rattle.icu_locale.specs.declared.expander.Favor.TheVariants.{RegionFirst, ScriptFirst}
 use Rattle.icu_locale.specs.LikelyTable.{likely}
 use Rattle.icu_locale.specs.declared.expander.TransformResult.TheVariants.{Modified}
-use Rattle.icu_locale_cli.proofs.LineAnswers.{transformed_from_line, plain_from_line}
+use Rattle.icu_locale_cli.proofs.LineAnswers.{transformed_from_line}
 use Rattle.icu_locale_cli.proofs.task.Task.answer.Goals as goal
 
 pub returns-in-Maximize-clause-answer : goal.returns-in-Maximize-clause-answer
@@ -24,8 +24,3 @@ returns-in-MinimizeScript-clause-answer c =
     rw c.in-MinimizeScript.is (transformed_from_line
     (λ y m. IsMinimalForm ScriptFirst (likely c.in-MinimizeScript.expander) c.args.identifier y × ((m ≡ Modified) ↔ (y ≢ c.args.identifier)))
     c.minimize_favor_script-changed.new.id c.minimize_favor_script-changed.result (c.minimize_favor_script-changed.ensures.minimal, c.minimize_favor_script-changed.ensures.modified) c.transformed-in-MinimizeScript.result c.transformed-in-MinimizeScript.ensures.answer)
-
-pub returns-in-Canonicalize-clause-answer : goal.returns-in-Canonicalize-clause-answer
-returns-in-Canonicalize-clause-answer c =
-    rw c.in-Canonicalize.is (plain_from_line (likely c.in-Canonicalize.canonicalizer.expander) c.in-Canonicalize.canonicalizer.rules c.new.result c.args.identifier
-    c.new.ensures.id c.new.ensures.keywords c.new.ensures.language c.canonicalized.result c.canonicalized.ensures.answer)

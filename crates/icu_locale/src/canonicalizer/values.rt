@@ -1,0 +1,92 @@
+// Runs of the values at `rg` and `sd`.
+ghost use Rattle.std.specs.Prelude.{◌≡◌, ◌⊎◌, None, IfOk, IfErr, option_copied};
+ghost use Rattle.std.specs.Option.{option_and_then};
+ghost use Rattle.icu_locale_core.specs.laws.Values.{values_decide};
+ghost use Rattle.icu_locale_core.specs.declared.parse_error.ParseError.TheVariants.{Memory};
+ghost use Rattle.icu_locale.specs.Canonical.{rg, sd, next_value, subdivision_alias};
+ghost use Rattle.icu_locale.specs.Refusals.{IsOutOfMemory};
+ghost use Rattle.icu_locale.specs.Run.{IsLaterEndOf};
+ghost use Rattle.icu_locale.specs.inner.CanonicalParts.{IsValueRefusal, IsValuesRefusal};
+ghost use Rattle.icu_locale.specs.inner.CanonicalParts.{AreLaterValues};
+ghost use Rattle.icu_locale.specs.inner.Universe.{values};
+
+use super::changes::{region_override_key, subdivision_key};
+use crate::rewriting::{Outcome, Rewriting, end_of_run};
+use crate::{CanonicalizeError, Rules, Turns};
+use icu_locale_core::{Keywords, ParseError, Value};
+
+// One run of values: of one piece that is a key of `subdivision`, the value of its row follows.
+#[derive(Drop)]
+struct Values<'c, 'd> {
+    rules: &'c Rules<'d>,
+}
+
+impl Rewriting for Values<'_, '_> {
+    type State = Value;
+
+    type Error = ParseError;
+
+    ghost next = { λ r. next_value r.rules.now };
+
+    ghost universe = { λ r v. values r.rules.now v };
+
+    ghost refuses = { λ e. e ≡ Memory };
+
+    ghost needs_none = { λ r v. next_value r.rules.now v ≡ None };
+
+    fn search(&self, state: &Value, turns: &mut Turns) -> Result<Option<Value>, ParseError> {
+        turns.take();
+        match next_value(self.rules, state) {
+            Some(value) => Ok(Some(value.try_clone()?)),
+            None => Ok(None),
+        }
+    }
+
+    ghost exact = { λ v w e. (values_decide v w).0 e };
+}
+
+// The value that follows another.
+fn next_value<'r>(rules: &'r Rules<'_>, value: &Value) -> Option<&'r Value>
+    ensures { option_copied result ≡ next_value rules.now value.now }
+{
+    rules.subdivision.get(&value.as_single_subtag()?)
+}
+
+// Where the runs of the values at `rg` and then at `sd` end, each if that is at a later place than its start. Their steps
+// are counted apart, since they are no searches for a rule.
+pub fn later_values(
+    rules: &Rules<'_>,
+    keywords: &Keywords,
+    apart: &mut Turns,
+) -> Result<(Option<Value>, Option<Value>), CanonicalizeError>
+    ensures ends { IfOk result (AreLaterValues rules.now keywords.now) }
+    ensures refused { IfErr result (IsValuesRefusal rules.now keywords.now) }
+    ensures free { subdivision_alias rules.now keywords.now rg ≡ None
+        → subdivision_alias rules.now keywords.now sd ≡ None → ¬ (IsOutOfMemory result) }
+{
+    let region_override = later_value(rules, keywords.get(region_override_key()), apart)?;
+    let subdivision = later_value(rules, keywords.get(subdivision_key()), apart)?;
+    Ok((region_override, subdivision))
+}
+
+// Where the run of a value ends, if there is one and that is at a later place than its start.
+fn later_value(
+    rules: &Rules<'_>,
+    value: Option<&Value>,
+    apart: &mut Turns,
+) -> Result<Option<Value>, CanonicalizeError>
+    ensures end { IfOk result (IsLaterEndOf (next_value rules.now) (option_copied value.entry)) }
+    ensures refused { IfErr result (IsValueRefusal rules.now (option_copied value.entry)) }
+    ensures free { option_and_then (next_value rules.now) (option_copied value.entry) ≡ None
+        → ¬ (IsOutOfMemory result) }
+{
+    let Some(value) = value else {
+        return Ok(None);
+    };
+    match end_of_run(&Values { rules }, value, apart) {
+        Ok(Outcome::Same) => Ok(None),
+        Ok(Outcome::Ends(last)) => Ok(Some(last)),
+        Ok(Outcome::Repeats(first)) => Err(CanonicalizeError::NoSubdivisionFixedPoint(first)),
+        Err(_) => Err(CanonicalizeError::Memory),
+    }
+}
