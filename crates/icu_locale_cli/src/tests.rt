@@ -1,14 +1,15 @@
 //! What rows of calls and answers cannot say: refused memory, readers and writers that fail, providers that refuse,
-//! borrowed walks, long texts, and comparisons with plain bodies. `run`, `run_json`, the words and the sample too, since
-//! nothing stands on a program.
+//! borrowed walks and long texts, each of any crate: a crate that has tests is proved twice, so that those of the
+//! libraries stand here. `run`, `run_json`, the words and the sample too, since nothing stands on a program.
+mod budget;
 mod constructors;
 mod faults;
 mod languages;
+mod maps;
 mod memory;
-mod plain;
 mod program;
 mod providers;
 mod streams;
+mod tables;
 mod texts;
 mod walks;
-mod world;

@@ -17,17 +17,3 @@ impl fmt::Display for LanguageIdentifierNameFallbackError {
 }
 
 impl Error for LanguageIdentifierNameFallbackError {}
-
-#[cfg(test)]
-mod tests {
-    use super::*;
-    use std::test::Fail;
-
-    #[test]
-    fn the_report_is_written_by_its_type(rt: HostRuntime) -> Result<(), Fail> {
-        let report = LanguageIdentifierNameFallbackError::default();
-        let written = format!(in rt.alloc(); "{report}")?;
-        assert_eq!(rt; written.as_str(), "LanguageIdentifierNameFallbackError");
-        Ok(())
-    }
-}

@@ -38,22 +38,3 @@ impl<T: Drop> From<AllocFailed<T>> for NameWriteError {
         NameWriteError::Memory
     }
 }
-
-#[cfg(test)]
-mod tests {
-    use super::*;
-    use std::test::Fail;
-
-    #[test]
-    fn each_refusal_is_written_by_its_name(rt: HostRuntime) -> Result<(), Fail> {
-        for (error, name) in [
-            (NameWriteError::Memory, "Memory"),
-            (NameWriteError::Sink, "Sink"),
-            (NameWriteError::TooLong, "TooLong"),
-        ] {
-            let written = format!(in rt.alloc(); "{error}")?;
-            assert_eq!(rt; written.as_str(), name);
-        }
-        Ok(())
-    }
-}

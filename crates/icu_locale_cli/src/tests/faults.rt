@@ -1,7 +1,9 @@
 //! The names of refusals.
 use icu_locale::CanonicalizeError;
 use icu_locale_core::{LanguageIdentifier, ParseError, Value};
+use icu_locale_names::{LanguageIdentifierNameFallbackError, NameWriteError};
 use icu_provider::{DataError, DataErrorKind};
+use icu_tables::TableError;
 use std::alloc::Global;
 use std::fmt;
 use std::process::Abort;
@@ -62,4 +64,34 @@ fn refusals_of_canonicalizing(rt: HostRuntime) -> Result<(), Fail> {
         "NoSubdivisionFixedPoint",
     )?;
     is_named(&rt, rt.alloc(), CanonicalizeError::Memory, "Memory")
+}
+
+#[test]
+fn refusals_of_tables(rt: HostRuntime) -> Result<(), Fail> {
+    for (refusal, name) in [
+        (TableError::Json, "Json"),
+        (TableError::Shape, "Shape"),
+        (TableError::Memory, "Memory"),
+    ] {
+        is_named(&rt, rt.alloc(), refusal, name)?;
+    }
+    Ok(())
+}
+
+#[test]
+fn refusals_of_names(rt: HostRuntime) -> Result<(), Fail> {
+    for (refusal, name) in [
+        (NameWriteError::Memory, "Memory"),
+        (NameWriteError::Sink, "Sink"),
+        (NameWriteError::TooLong, "TooLong"),
+    ] {
+        is_named(&rt, rt.alloc(), refusal, name)?;
+    }
+    let report = LanguageIdentifierNameFallbackError::default();
+    is_named(
+        &rt,
+        rt.alloc(),
+        report,
+        "LanguageIdentifierNameFallbackError",
+    )
 }

@@ -5,7 +5,7 @@ ghost use Rattle.icu_provider.specs.Requests.{exemplar_cmp, locale_cmp, menu_cmp
 ghost use Rattle.icu_provider.specs.contracts.names.NameMarkerPartialEq.TheImpl as name_marker;
 ghost use Rattle.icu_tables.specs.Tables.{held, name_in};
 
-use crate::tests::memory::take_all;
+use crate::tests::budget::{Answered, Call, by_budget, take_all};
 use crate::tests::providers::{KINDS, refusal, willing};
 use icu_locale_core::{Language, LanguageIdentifier};
 use icu_locale_names::{
@@ -374,5 +374,56 @@ fn spans_that_find_no_room(rt: HostRuntime) -> Result<(), Fail> {
     let name = named(rt.alloc(), &tables, english()?, &subject, 1)?;
     let (refused, taken, spans) = written_without_memory(rt.alloc(), name.as_borrowed())?;
     assert!(rt; refused == Some(NameWriteError::Memory) && taken == 0 && spans == 0);
+    Ok(())
+}
+
+// A name with two variants, over all names and patterns there are.
+#[derive(Drop)]
+struct MakeName<'t> {
+    tables: &'t Tables,
+    subject: &'t LanguageIdentifier,
+    of: DisplayNamesPreferences,
+}
+
+impl Call for MakeName<'_> {
+    fn answer(&self, alloc: Global) -> Answered {
+        match named(alloc, self.tables, self.of, self.subject, 1) {
+            Ok(_) => Answered::Whole,
+            Err(refusal) if refusal.kind == DataErrorKind::Memory => Answered::Refused,
+            Err(_) => Answered::Wrong,
+        }
+    }
+}
+
+// Writing a name, with the spans of its raw subtags.
+#[derive(Drop)]
+struct WriteName<'n>(LanguageIdentifierDisplayNameBorrowed<'n>);
+
+impl Call for WriteName<'_> {
+    // Where no room is found for the spans, nothing is written.
+    fn answer(&self, alloc: Global) -> Answered {
+        let mut sink = ShortSink { taken: 0, room: 64 };
+        let mut parts = Vec::new(alloc);
+        match self.0.try_write_to_parts(&mut sink, &mut parts) {
+            Ok(_) if parts.as_slice() == [(0, 3), (5, 9)].as_slice() => Answered::Whole,
+            Err(NameWriteError::Memory) if parts.is_empty() && sink.taken == 0 => Answered::Refused,
+            _ => Answered::Wrong,
+        }
+    }
+}
+
+#[test]
+fn names_at_every_budget(rt: HostRuntime) -> Result<(), Fail> {
+    let tables = patterns(rt.alloc())?;
+    let two = LanguageIdentifier::try_from_str(rt.alloc(), "it-Latn-fonipa-posix")?;
+    let make = MakeName {
+        tables: &tables,
+        subject: &two,
+        of: english()?,
+    };
+    assert!(rt; by_budget(rt.alloc(), &make, 16)?.is_good());
+    let raw = LanguageIdentifier::try_from_str(rt.alloc(), "tlh-Qabc-150")?;
+    let name = named(rt.alloc(), &tables, english()?, &raw, 1)?;
+    assert!(rt; by_budget(rt.alloc(), &WriteName(name.as_borrowed()), 16)?.is_good());
     Ok(())
 }

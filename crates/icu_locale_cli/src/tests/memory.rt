@@ -1,15 +1,16 @@
-//! Calls under refused memory. All memory is taken first, and then a budget of bytes is handed back, step by step.
+//! Calls under refused memory: what they answer, and what they leave.
 use crate::command::Command;
 use crate::error::CliError;
-use crate::run::run;
+use crate::run::{run, run_json};
 use crate::sample::{SAMPLE, sample};
 use crate::status::Status;
+use crate::tests::budget::{Answered, Call, by_budget, take_all};
 use icu_locale::{
     CanonicalizeError, LocaleCanonicalizer, LocaleExpander, Negotiator, NegotiatorError,
     TransformResult,
 };
 use icu_locale_core::{Key, LanguageIdentifier, Locale, ParseError, Value};
-use icu_provider::{DataProvider, SortedMap};
+use icu_provider::{Aliases, DataErrorKind, DataProvider, SortedMap};
 use icu_tables::{TableError, Tables};
 use std::alloc::{AllocError, Global};
 use std::io;
@@ -17,80 +18,17 @@ use std::io::Write;
 use std::process::Abort;
 use std::test::Fail;
 
-// How many blocks are taken at the most.
-const MOST_BLOCKS: usize = 65_536;
+// Reading and copying an identifier with variants.
+#[derive(Drop)]
+struct ReadAndCopy;
 
-// Blocks of one size, until one is refused.
-fn take_blocks(alloc: Global, held: &mut Vec<Vec<u8>>, size: usize) {
-    for _ in 0..MOST_BLOCKS {
-        match Vec::<u8>::with_capacity(alloc, size) {
-            Ok(block) => {
-                if held.len() == MOST_BLOCKS || held.push(block).is_err() {
-                    break;
-                }
-            }
-            Err(_) => break,
+impl Call for ReadAndCopy {
+    fn answer(&self, alloc: Global) -> Answered {
+        match LanguageIdentifier::try_from_str(alloc, "de-Latn-DE-1901-1996-fonipa-posix") {
+            Ok(identifier) => copy(&identifier),
+            Err(ParseError::Memory) => Answered::Refused,
+            Err(_) => Answered::Wrong,
         }
-    }
-}
-
-// Blocks that together leave no memory: ever smaller ones.
-pub fn take_all(alloc: Global) -> Result<Vec<Vec<u8>>, AllocError> {
-    let mut held = Vec::with_capacity(alloc, MOST_BLOCKS)?;
-    let mut size: usize = 1 << 44;
-    for _ in 0..41 {
-        take_blocks(alloc, &mut held, size);
-        if size > 16 {
-            size /= 2;
-        }
-    }
-    Ok(held)
-}
-
-// What a call answered: as it should with memory, as it should without, or otherwise.
-#[derive(Clone, Copy, PartialEq, Eq)]
-enum Answered {
-    Whole,
-    Refused,
-    Wrong,
-}
-
-// How a call answers at every budget.
-#[derive(Clone, Copy, PartialEq, Eq)]
-struct Tally {
-    whole: bool,
-    refused: bool,
-    wrong: bool,
-}
-
-impl Tally {
-    fn new() -> Tally {
-        Tally {
-            whole: false,
-            refused: false,
-            wrong: false,
-        }
-    }
-
-    fn count(&mut self, answered: Answered) {
-        match answered {
-            Answered::Whole => self.whole = true,
-            Answered::Refused => self.refused = true,
-            Answered::Wrong => self.wrong = true,
-        }
-    }
-
-    // Some answers of either kind, and none other.
-    fn is_good(&self) -> bool {
-        self.whole && self.refused && !self.wrong
-    }
-}
-
-fn read_and_copy(alloc: Global) -> Answered {
-    match LanguageIdentifier::try_from_str(alloc, "de-Latn-DE-1901-1996-fonipa-posix") {
-        Ok(identifier) => copy(&identifier),
-        Err(ParseError::Memory) => Answered::Refused,
-        Err(_) => Answered::Wrong,
     }
 }
 
@@ -102,36 +40,23 @@ fn copy(identifier: &LanguageIdentifier) -> Answered {
     }
 }
 
-// Without variants nothing is asked of memory.
-fn read_without_memory(alloc: Global) -> Answered {
-    match LanguageIdentifier::try_from_str(alloc, "de-Latn-DE") {
-        Ok(identifier) if identifier.try_clone().is_ok() => Answered::Whole,
-        _ => Answered::Wrong,
-    }
-}
+// The same without variants, where nothing is asked of memory.
+#[derive(Drop)]
+struct ReadWithoutVariants;
 
-// Each budget in turn: what the filler leaves of the memory that is there.
-fn reads_by_budget(alloc: Global) -> (Tally, Tally) {
-    let (mut with, mut without) = (Tally::new(), Tally::new());
-    for step in 0..500 {
-        if let Ok(filler) = Vec::<u8>::with_capacity(alloc, 65_536 - 16 * step) {
-            with.count(read_and_copy(alloc));
-            without.count(read_without_memory(alloc));
-            drop(filler);
+impl Call for ReadWithoutVariants {
+    fn answer(&self, alloc: Global) -> Answered {
+        match LanguageIdentifier::try_from_str(alloc, "de-Latn-DE") {
+            Ok(identifier) if identifier.try_clone().is_ok() => Answered::Whole,
+            _ => Answered::Wrong,
         }
     }
-    (with, without)
 }
 
 #[test]
-fn identifiers_with_variants(rt: HostRuntime) -> Result<(), Fail> {
-    let spare = Vec::<u8>::with_capacity(rt.alloc(), 65_536)?;
-    let held = take_all(rt.alloc())?;
-    drop(spare);
-    let (with, without) = reads_by_budget(rt.alloc());
-    drop(held);
-    assert!(rt; with.is_good());
-    assert!(rt; without.whole && !without.refused && !without.wrong);
+fn identifiers(rt: HostRuntime) -> Result<(), Fail> {
+    assert!(rt; by_budget(rt.alloc(), &ReadAndCopy, 16)?.is_good());
+    assert!(rt; by_budget(rt.alloc(), &ReadWithoutVariants, 16)?.is_whole());
     Ok(())
 }
 
@@ -140,6 +65,15 @@ fn identifiers_with_variants(rt: HostRuntime) -> Result<(), Fail> {
 struct HeldWriter {
     bytes: [u8; 128],
     len: usize,
+}
+
+impl HeldWriter {
+    fn new() -> HeldWriter {
+        HeldWriter {
+            bytes: [0; 128],
+            len: 0,
+        }
+    }
 }
 
 impl Write for HeldWriter {
@@ -182,14 +116,8 @@ const RUNS: [(Command, &str, &str); 3] = [
     ),
 ];
 
-fn one_run(alloc: Global, tables: &Tables, row: &(Command, &str, &str)) -> Answered {
-    let (command, input, answers) = row;
-    let mut writer = HeldWriter {
-        bytes: [0; 128],
-        len: 0,
-    };
-    let mut reader = input.as_bytes();
-    let ended = run(alloc, command, tables, &mut reader, &mut writer);
+// How a run ended: whole, or with whole lines alone.
+fn ended(ended: Result<Status, CliError>, writer: &HeldWriter, answers: &str) -> Answered {
     let written = writer.bytes.get(..writer.len).unwrap_or(&[]);
     let whole_lines = written.last().copied().unwrap_or(b'\n') == b'\n';
     match ended {
@@ -201,27 +129,55 @@ fn one_run(alloc: Global, tables: &Tables, row: &(Command, &str, &str)) -> Answe
     }
 }
 
-fn runs_by_budget(alloc: Global, tables: &Tables, row: &(Command, &str, &str)) -> Tally {
-    let mut tally = Tally::new();
-    for step in 0..1_000 {
-        if let Ok(filler) = Vec::<u8>::with_capacity(alloc, 65_536 - 16 * step) {
-            tally.count(one_run(alloc, tables, row));
-            drop(filler);
-        }
+// A run over tables.
+#[derive(Drop)]
+struct Run<'r> {
+    tables: &'r Tables,
+    row: &'r (Command, &'r str, &'r str),
+}
+
+impl Call for Run<'_> {
+    fn answer(&self, alloc: Global) -> Answered {
+        let (command, input, answers) = self.row;
+        let mut writer = HeldWriter::new();
+        let mut reader = input.as_bytes();
+        let status = run(alloc, command, self.tables, &mut reader, &mut writer);
+        ended(status, &writer, answers)
     }
-    tally
+}
+
+// A run over the tables of its first line.
+#[derive(Drop)]
+struct RunJson<'r> {
+    command: &'r Command,
+    text: &'r str,
+    answers: &'r str,
+}
+
+impl Call for RunJson<'_> {
+    fn answer(&self, alloc: Global) -> Answered {
+        let mut writer = HeldWriter::new();
+        let mut reader = self.text.as_bytes();
+        let status = run_json(alloc, self.command, &mut reader, &mut writer);
+        ended(status, &writer, self.answers)
+    }
 }
 
 #[test]
 fn a_run_writes_whole_lines(rt: HostRuntime) -> Result<(), Fail> {
     let tables = sample(rt.alloc())?;
     for row in &RUNS {
-        let spare = Vec::<u8>::with_capacity(rt.alloc(), 65_536)?;
-        let held = take_all(rt.alloc())?;
-        drop(spare);
-        let tally = runs_by_budget(rt.alloc(), &tables, row);
-        drop(held);
-        assert!(rt; tally.is_good());
+        let (command, input, answers) = row;
+        let tables = &tables;
+        assert!(rt; by_budget(rt.alloc(), &Run { tables, row }, 16)?.is_good());
+        let text = format!(in rt.alloc(); "{SAMPLE}\n{input}")?;
+        let text = text.as_str();
+        let of_text = RunJson {
+            command,
+            text,
+            answers,
+        };
+        assert!(rt; by_budget(rt.alloc(), &of_text, 64)?.is_good());
     }
     Ok(())
 }
@@ -266,6 +222,9 @@ const ENDING: &str =
 const CIRCLING: &str =
     "{\"aliases\":{\"language_len2\":{\"sh\":\"sr-Latn\",\"aa\":\"bb\",\"bb\":\"aa\",\
     \"xx\":\"yy\",\"yy\":\"zz\",\"zz\":\"yy\"}}}";
+
+const PATTERNS: &str =
+    "{\"essentials\":{\"en\":{\"pattern\":[0,\" (\",1,\")\"],\"separator\":[0,\", \",1]}}}";
 
 // What a call answers while no memory is left.
 fn starved(
@@ -361,59 +320,123 @@ fn values_without_memory(rt: HostRuntime) -> Result<(), Fail> {
     Ok(())
 }
 
-fn read_tables(alloc: Global, text: &str) -> Answered {
-    match Tables::from_json(alloc, text.as_bytes()) {
-        Ok(_) => Answered::Whole,
-        Err(TableError::Memory) => Answered::Refused,
-        Err(_) => Answered::Wrong,
-    }
-}
+// Reading tables.
+#[derive(Drop)]
+struct ReadTables<'t>(&'t str);
 
-fn tables_by_budget(alloc: Global, text: &str) -> Tally {
-    let mut tally = Tally::new();
-    for step in 0..1_000 {
-        if let Ok(filler) = Vec::<u8>::with_capacity(alloc, 65_536 - 64 * step) {
-            tally.count(read_tables(alloc, text));
-            drop(filler);
+impl Call for ReadTables<'_> {
+    fn answer(&self, alloc: Global) -> Answered {
+        match Tables::from_json(alloc, self.0.as_bytes()) {
+            Ok(_) => Answered::Whole,
+            Err(TableError::Memory) => Answered::Refused,
+            Err(_) => Answered::Wrong,
         }
     }
-    tally
 }
 
 #[test]
 fn tables_from_json(rt: HostRuntime) -> Result<(), Fail> {
-    for text in [ENDING, CIRCLING, SAMPLE] {
-        let spare = Vec::<u8>::with_capacity(rt.alloc(), 65_536)?;
-        let held = take_all(rt.alloc())?;
-        drop(spare);
-        let tally = tables_by_budget(rt.alloc(), text);
-        drop(held);
-        assert!(rt; tally.is_good());
+    for text in [ENDING, CIRCLING, PATTERNS, SAMPLE] {
+        assert!(rt; by_budget(rt.alloc(), &ReadTables(text), 64)?.is_good());
     }
     Ok(())
 }
 
-// The available identifiers are read with ample memory; the list of their minimal forms is what is asked for.
-fn make_negotiator(
-    alloc: Global,
-    tables: &Tables,
-    available: Vec<LanguageIdentifier>,
-) -> Result<(bool, bool), AllocError> {
-    let Ok(expander) = LocaleExpander::try_new_common_unstable(tables) else {
-        return Ok((false, false));
-    };
-    let held = take_all(alloc)?;
-    let made = Negotiator::try_new(alloc, expander, available);
-    drop(held);
-    Ok((true, matches!(made, Err(NegotiatorError::Memory))))
+// Making a canonicalizer.
+#[derive(Drop)]
+struct MakeCanonicalizer<'d> {
+    aliases: &'d Aliases,
+    expander: LocaleExpander<'d>,
+}
+
+impl Call for MakeCanonicalizer<'_> {
+    fn answer(&self, alloc: Global) -> Answered {
+        match LocaleCanonicalizer::new_with_expander(alloc, self.aliases, self.expander) {
+            Ok(_) => Answered::Whole,
+            Err(refusal) if refusal.kind == DataErrorKind::Memory => Answered::Refused,
+            Err(_) => Answered::Wrong,
+        }
+    }
+}
+
+// Canonicalizing a locale with variants.
+#[derive(Drop)]
+struct Canonicalize<'c, 'd> {
+    canonicalizer: &'c LocaleCanonicalizer<'d>,
+    from: &'c str,
+    to: &'c str,
+}
+
+impl Call for Canonicalize<'_, '_> {
+    fn answer(&self, alloc: Global) -> Answered {
+        match self.try_answer(alloc) {
+            Ok(answered) => answered,
+            Err(ParseError::Memory) => Answered::Refused,
+            Err(_) => Answered::Wrong,
+        }
+    }
+}
+
+impl Canonicalize<'_, '_> {
+    // A refused call leaves the locale.
+    fn try_answer(&self, alloc: Global) -> Result<Answered, ParseError> {
+        let from = LanguageIdentifier::try_from_str(alloc, self.from)?;
+        let to = LanguageIdentifier::try_from_str(alloc, self.to)?;
+        let mut locale = Locale::new(alloc, from.try_clone()?);
+        Ok(match self.canonicalizer.canonicalize(&mut locale) {
+            Ok(TransformResult::Modified) if locale.id == to => Answered::Whole,
+            Err(CanonicalizeError::Memory) if locale.id == from => Answered::Refused,
+            _ => Answered::Wrong,
+        })
+    }
 }
 
 #[test]
-fn a_negotiator_without_memory(rt: HostRuntime) -> Result<(), Fail> {
+fn canonicalizers(rt: HostRuntime) -> Result<(), Fail> {
     let tables = sample(rt.alloc())?;
-    let mut available = Vec::new(rt.alloc());
-    available.push(LanguageIdentifier::try_from_str(rt.alloc(), "en-US")?)?;
-    let (asked, refused) = make_negotiator(rt.alloc(), &tables, available)?;
-    assert!(rt; asked && refused);
+    let expander = LocaleExpander::try_new_common_unstable(&tables)?;
+    let aliases = tables.load_aliases()?;
+    let make = MakeCanonicalizer { aliases, expander };
+    assert!(rt; by_budget(rt.alloc(), &make, 16)?.is_good());
+    let canonicalizer = LocaleCanonicalizer::new_with_expander(rt.alloc(), aliases, expander)?;
+    let call = Canonicalize {
+        canonicalizer: &canonicalizer,
+        from: "ja-Latn-fonipa-hepburn-heploc",
+        to: "ja-Latn-alalc97-fonipa",
+    };
+    assert!(rt; by_budget(rt.alloc(), &call, 16)?.is_good());
+    Ok(())
+}
+
+// Making a negotiator over a list that finds memory itself.
+#[derive(Drop)]
+struct MakeNegotiator<'d>(LocaleExpander<'d>);
+
+impl Call for MakeNegotiator<'_> {
+    fn answer(&self, alloc: Global) -> Answered {
+        match available(alloc) {
+            Ok(list) => match Negotiator::try_new(alloc, self.0, list) {
+                Ok(_) => Answered::Whole,
+                Err(NegotiatorError::Memory) => Answered::Refused,
+                Err(_) => Answered::Wrong,
+            },
+            Err(_) => Answered::Refused,
+        }
+    }
+}
+
+fn available(alloc: Global) -> Result<Vec<LanguageIdentifier>, ParseError> {
+    let mut list = Vec::new(alloc);
+    for text in ["en-US", "zh-Hant", "yue-CN-fonipa"] {
+        list.push(LanguageIdentifier::try_from_str(alloc, text)?)?;
+    }
+    Ok(list)
+}
+
+#[test]
+fn negotiators(rt: HostRuntime) -> Result<(), Fail> {
+    let tables = sample(rt.alloc())?;
+    let expander = LocaleExpander::try_new_common_unstable(&tables)?;
+    assert!(rt; by_budget(rt.alloc(), &MakeNegotiator(expander), 16)?.is_good());
     Ok(())
 }

@@ -6,6 +6,7 @@ use crate::run::{run, run_json};
 use crate::run_buffered;
 use crate::sample::sample;
 use crate::status::Status;
+use crate::tests::program::command;
 use icu_tables::Tables;
 use std::alloc::Global;
 use std::io;
@@ -62,40 +63,56 @@ impl Write for SlowWriter {
     }
 }
 
-const COMMANDS: [Command; 6] = [
-    Command::Maximize,
-    Command::Minimize,
-    Command::MinimizeScript,
-    Command::Canonicalize,
-    Command::Direction,
-    Command::Negotiate,
+// Commands that read, inputs and outputs.
+const RUNS: [(&str, &str, &str); 7] = [
+    ("maximize", "zh-CN\nde\n", "zh-Hans-CN\tM\nde-Latn-DE\tM\n"),
+    ("minimize", "zh-Hans-CN\n\n", "zh\tM\n?\tInvalidLanguage\n"),
+    ("minimize-script", "zh-TW\n", "zh-Hant\tM\n"),
+    (
+        "canonicalize",
+        "sh\tabcdefg\nja\n",
+        "sr-Latn\txyz\tM\nja\tU\n",
+    ),
+    ("direction", "ar\nen\n", "rtl\nltr\n"),
+    ("negotiate", "en-US zh-Hant\nfr zh-TW\n", "1\tzh-Hant\n"),
+    ("name light en", "it\n", "Italian\tN\n"),
 ];
 
-fn failed_reads(rt: &impl Abort, alloc: Global, tables: &Tables) {
-    for command in COMMANDS {
-        let mut written = Vec::new(alloc);
-        let mut reader = SlowReader {
-            bytes: b"zh-",
-            fails: true,
-        };
-        let ended = run(alloc, &command, tables, &mut reader, &mut written);
-        assert!(rt; ended == Err(CliError::Read));
-        assert!(rt; written.is_empty());
+fn known(alloc: Global, words: &str) -> Result<Command, Fail> {
+    match command(alloc, words)? {
+        Ok((command, _)) => Ok(command),
+        Err(_) => Err(Fail::new("the command is not known")),
     }
 }
 
-#[test]
-fn a_failed_read_under_each_command(rt: HostRuntime) -> Result<(), Fail> {
-    let tables = sample(rt.alloc())?;
-    failed_reads(&rt, rt.alloc(), &tables);
-    let mut written = Vec::new(rt.alloc());
-    let mut reader = SlowReader {
-        bytes: b"{}",
-        fails: true,
-    };
-    let ended = run_json(rt.alloc(), &Command::Settled, &mut reader, &mut written);
+// A reader that fails after so many bytes of an input.
+fn failed_read(
+    rt: &impl Abort,
+    alloc: Global,
+    tables: &Tables,
+    (command, bytes): (&Command, &[u8]),
+) {
+    let mut written = Vec::new(alloc);
+    let mut reader = SlowReader { bytes, fails: true };
+    let ended = run(alloc, command, tables, &mut reader, &mut written);
     assert!(rt; ended == Err(CliError::Read));
     assert!(rt; written.is_empty());
+    let mut reader = SlowReader { bytes, fails: true };
+    let ended = run_json(alloc, command, &mut reader, &mut written);
+    assert!(rt; ended == Err(CliError::Read));
+    assert!(rt; written.is_empty());
+}
+
+#[test]
+fn a_failed_read_after_every_byte(rt: HostRuntime) -> Result<(), Fail> {
+    let tables = sample(rt.alloc())?;
+    for (words, input, _) in RUNS {
+        let command = known(rt.alloc(), words)?;
+        for count in 0..=input.len() {
+            let (bytes, _) = input.as_bytes().split_at(count);
+            failed_read(&rt, rt.alloc(), &tables, (&command, bytes));
+        }
+    }
     Ok(())
 }
 
@@ -103,11 +120,11 @@ fn a_failed_read_under_each_command(rt: HostRuntime) -> Result<(), Fail> {
 fn written(
     alloc: Global,
     tables: &Tables,
-    at_once: usize,
-    room: usize,
+    (command, input): (&Command, &str),
+    (at_once, room): (usize, usize),
 ) -> (Result<Status, CliError>, Vec<u8>) {
     let mut reader = SlowReader {
-        bytes: b"zh-CN\nde\n",
+        bytes: input.as_bytes(),
         fails: false,
     };
     let mut writer = SlowWriter {
@@ -115,7 +132,7 @@ fn written(
         at_once,
         room,
     };
-    let ended = run(alloc, &Command::Maximize, tables, &mut reader, &mut writer);
+    let ended = run(alloc, command, tables, &mut reader, &mut writer);
     let SlowWriter {
         bytes,
         at_once: _,
@@ -124,21 +141,36 @@ fn written(
     (ended, bytes)
 }
 
-fn slow_and_full(rt: &impl Abort, alloc: Global, tables: &Tables) {
-    let whole = b"zh-Hans-CN\tM\nde-Latn-DE\tM\n".as_slice();
-    let (ended, bytes) = written(alloc, tables, 1, 64);
-    assert!(rt; ended == Ok(Status::Accepted) && bytes.as_slice() == whole);
-    for room in 0..whole.len() {
-        let (ended, bytes) = written(alloc, tables, 7, room);
+// A writer that takes a byte at a time takes all; one that is full takes what it can.
+fn slow_and_full(
+    rt: &impl Abort,
+    alloc: Global,
+    tables: &Tables,
+    call: (&Command, &str),
+    output: &[u8],
+) {
+    let (ended, bytes) = written(alloc, tables, call, (1, output.len()));
+    assert!(rt; ended.is_ok() && bytes.as_slice() == output);
+    for room in 0..output.len() {
+        let (ended, bytes) = written(alloc, tables, call, (7, room));
         assert!(rt; ended == Err(CliError::Write));
-        assert_eq!(rt; bytes.as_slice(), &whole[..room]);
+        assert_eq!(rt; bytes.as_slice(), &output[..room]);
     }
 }
 
 #[test]
 fn a_byte_at_a_time_and_a_full_writer(rt: HostRuntime) -> Result<(), Fail> {
     let tables = sample(rt.alloc())?;
-    slow_and_full(&rt, rt.alloc(), &tables);
+    for (words, input, output) in RUNS {
+        let command = known(rt.alloc(), words)?;
+        slow_and_full(
+            &rt,
+            rt.alloc(),
+            &tables,
+            (&command, input),
+            output.as_bytes(),
+        );
+    }
     Ok(())
 }
 

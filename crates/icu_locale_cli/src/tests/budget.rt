@@ -1,0 +1,109 @@
+//! Calls under refused memory. All memory is taken first, and then a budget of bytes is handed back, step by step.
+use std::alloc::{AllocError, Global};
+
+// How many blocks are taken at the most.
+const MOST_BLOCKS: usize = 65_536;
+
+// The largest budget, and how many are tried.
+const MOST_BYTES: usize = 65_536;
+
+const BUDGETS: usize = 1_000;
+
+// Blocks of one size, until one is refused.
+fn take_blocks(alloc: Global, held: &mut Vec<Vec<u8>>, size: usize) {
+    for _ in 0..MOST_BLOCKS {
+        match Vec::<u8>::with_capacity(alloc, size) {
+            Ok(block) => {
+                if held.len() == MOST_BLOCKS || held.push(block).is_err() {
+                    break;
+                }
+            }
+            Err(_) => break,
+        }
+    }
+}
+
+/// Blocks that together leave no memory: ever smaller ones.
+pub fn take_all(alloc: Global) -> Result<Vec<Vec<u8>>, AllocError> {
+    let mut held = Vec::with_capacity(alloc, MOST_BLOCKS)?;
+    let mut size: usize = 1 << 44;
+    for _ in 0..41 {
+        take_blocks(alloc, &mut held, size);
+        if size > 16 {
+            size /= 2;
+        }
+    }
+    Ok(held)
+}
+
+/// What a call answered: as it should with memory, as it should without, or otherwise.
+#[derive(Clone, Copy, PartialEq, Eq)]
+pub enum Answered {
+    Whole,
+    Refused,
+    Wrong,
+}
+
+/// A call that may ask for memory.
+pub trait Call {
+    fn answer(&self, alloc: Global) -> Answered;
+}
+
+/// How a call answers at every budget.
+#[derive(Clone, Copy, PartialEq, Eq)]
+pub struct Tally {
+    whole: bool,
+    refused: bool,
+    wrong: bool,
+}
+
+impl Tally {
+    fn new() -> Tally {
+        Tally {
+            whole: false,
+            refused: false,
+            wrong: false,
+        }
+    }
+
+    fn count(&mut self, answered: Answered) {
+        match answered {
+            Answered::Whole => self.whole = true,
+            Answered::Refused => self.refused = true,
+            Answered::Wrong => self.wrong = true,
+        }
+    }
+
+    /// Some answers of either kind, and none other.
+    pub fn is_good(&self) -> bool {
+        self.whole && self.refused && !self.wrong
+    }
+
+    /// Whole answers alone: the call asks for no memory.
+    pub fn is_whole(&self) -> bool {
+        self.whole && !self.refused && !self.wrong
+    }
+}
+
+// Each budget in turn: what the filler leaves of the memory that is there. A step is a number of bytes.
+fn at_each_budget<C: Call>(alloc: Global, call: &C, step: usize) -> Tally {
+    let mut tally = Tally::new();
+    for number in 0..BUDGETS {
+        let taken = MOST_BYTES.saturating_sub(number.saturating_mul(step));
+        if let Ok(filler) = Vec::<u8>::with_capacity(alloc, taken) {
+            tally.count(call.answer(alloc));
+            drop(filler);
+        }
+    }
+    tally
+}
+
+/// How a call answers at every budget, each of so many bytes more.
+pub fn by_budget<C: Call>(alloc: Global, call: &C, step: usize) -> Result<Tally, AllocError> {
+    let spare = Vec::<u8>::with_capacity(alloc, MOST_BYTES)?;
+    let held = take_all(alloc)?;
+    drop(spare);
+    let tally = at_each_budget(alloc, call, step);
+    drop(held);
+    Ok(tally)
+}

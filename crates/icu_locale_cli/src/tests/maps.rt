@@ -1,0 +1,82 @@
+//! Sorted maps, whatever the order of inserts.
+use icu_provider::{DataError, SortedMap};
+use std::alloc::Global;
+use std::test::Fail;
+
+// A map with a row for each number, whose value is one more.
+fn filled(alloc: Global, keys: &[u16]) -> Result<SortedMap<u16, u16>, DataError> {
+    let mut map = SortedMap::new(alloc);
+    for key in keys {
+        map.insert(*key, key.wrapping_add(1))?;
+    }
+    Ok(map)
+}
+
+#[test]
+fn each_order_of_inserts_gives_the_same_walk(rt: HostRuntime) -> Result<(), Fail> {
+    let alloc = rt.alloc();
+    let rising: Vec<u16> = (0..200).collect(alloc)?;
+    let falling: Vec<u16> = (0..200).map(|key: u16| 199 - key).collect(alloc)?;
+    let mixed: Vec<u16> = (0..200).map(|key: u16| key * 77 % 200).collect(alloc)?;
+    let first = filled(alloc, &rising)?;
+    let second = filled(alloc, &falling)?;
+    let third = filled(alloc, &mixed)?;
+    assert_eq!(rt; first.len(), 200);
+    assert_eq!(rt; second.as_slice(), first.as_slice());
+    assert_eq!(rt; third.as_slice(), first.as_slice());
+    let walked: Vec<u16> = third.iter().map(|(key, _)| *key).collect(alloc)?;
+    assert_eq!(rt; walked.as_slice(), rising.as_slice());
+    Ok(())
+}
+
+#[test]
+fn an_insert_at_a_key_that_is_there_changes_its_value_alone(rt: HostRuntime) -> Result<(), Fail> {
+    let mut map = filled(rt.alloc(), &[5, 3, 9])?;
+    map.insert(5, 70)?;
+    assert_eq!(rt; map.as_slice(), [(3, 4), (5, 70), (9, 10)].as_slice());
+    assert_eq!(rt; map.get(&5).copied(), Some(70));
+    assert_eq!(rt; map.get(&4).copied(), None);
+    assert!(rt; map.contains_key(&9));
+    assert!(rt; !map.contains_key(&10));
+    Ok(())
+}
+
+#[test]
+fn keys_of_two_parts_rise_by_the_first_and_then_the_second(rt: HostRuntime) -> Result<(), Fail> {
+    let mut map = SortedMap::<(u8, u8), char>::new(rt.alloc());
+    for (first, second, value) in [(2, 1, 'c'), (1, 9, 'b'), (2, 2, 'd'), (1, 2, 'a')] {
+        map.insert((first, second), value)?;
+    }
+    let walked: Vec<char> = map.iter().map(|(_, value)| *value).collect(rt.alloc())?;
+    assert_eq!(rt; walked.as_slice(), ['a', 'b', 'c', 'd'].as_slice());
+    assert_eq!(rt; map.get(&(2, 1)).copied(), Some('c'));
+    assert_eq!(rt; map.get(&(1, 1)).copied(), None);
+    Ok(())
+}
+
+#[test]
+fn a_map_to_nothing_is_a_set(rt: HostRuntime) -> Result<(), Fail> {
+    let mut set = SortedMap::<u8, ()>::new(rt.alloc());
+    assert!(rt; set.is_empty());
+    for key in [7, 3, 7] {
+        set.insert(key, ())?;
+    }
+    assert_eq!(rt; set.len(), 2);
+    assert!(rt; set.contains_key(&7));
+    assert!(rt; !set.contains_key(&4));
+    Ok(())
+}
+
+#[test]
+fn a_walk_shows_what_is_left(rt: HostRuntime) -> Result<(), Fail> {
+    let map = filled(rt.alloc(), &[2, 1, 3])?;
+    let mut rows = map.iter();
+    assert_eq!(rt;
+        rows.next().map(|(key, value)| (*key, *value)),
+        Some((1, 2))
+    );
+    assert_eq!(rt; rows.as_slice(), [(2, 3), (3, 4)].as_slice());
+    assert_eq!(rt; rows.clone()?.count(), 2);
+    assert_eq!(rt; rows.count(), 2);
+    Ok(())
+}
