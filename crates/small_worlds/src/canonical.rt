@@ -1,0 +1,250 @@
+//! Canonical locales, by runs that keep every state.
+use crate::fault::Fault;
+use crate::forms::tells;
+use crate::likely::Row;
+use crate::numbers::{Drawn, Numbers};
+use crate::plain::{Plain, everyone};
+use crate::report::{Kind, Report};
+use crate::rules::{Rules, by_language_alias, next};
+use crate::runs::{Run, Step, walk};
+use crate::subtags::Subtags;
+use crate::values::{PlainValue, ValueRow, next_value};
+use icu_locale::{CanonicalizeError, LocaleCanonicalizer, TransformResult, Turns};
+use icu_locale_core::{Key, Locale, Value};
+use std::alloc::Global;
+
+/// The rules of one world, and the rows of its likely subtags.
+#[derive(Clone, Copy)]
+pub struct World<'w> {
+    pub rules: &'w Rules,
+    pub rows: &'w [Row],
+    pub values: &'w [ValueRow],
+    pub subtags: &'w Subtags,
+}
+
+// One turn of an identifier.
+#[derive(Clone, Copy)]
+struct ByAll<'w>(World<'w>);
+
+impl Step<Plain> for ByAll<'_> {
+    fn next(&self, x: &Plain) -> Option<Plain> {
+        next(self.0.rules, self.0.rows, self.0.subtags, x)
+    }
+}
+
+// One turn of a transform language, where there is one.
+#[derive(Clone, Copy)]
+struct ByLanguage<'w>(World<'w>);
+
+impl Step<Option<Plain>> for ByLanguage<'_> {
+    fn next(&self, x: &Option<Plain>) -> Option<Option<Plain>> {
+        Some(Some(by_language_alias(self.0.rules, x.as_ref()?)?))
+    }
+}
+
+// One step of a value, where there is one.
+#[derive(Clone, Copy)]
+struct ByRow<'w>(World<'w>);
+
+impl Step<Option<PlainValue>> for ByRow<'_> {
+    fn next(&self, value: &Option<PlainValue>) -> Option<Option<PlainValue>> {
+        Some(Some(next_value(self.0.values, (*value)?)?))
+    }
+}
+
+// A locale, plainly.
+#[derive(Clone, Copy)]
+struct PlainLocale {
+    id: Plain,
+    lang: Option<Plain>,
+    rg: Option<PlainValue>,
+    sd: Option<PlainValue>,
+}
+
+impl PlainLocale {
+    fn held(&self, alloc: Global, subtags: &Subtags) -> Result<Locale, Fault> {
+        let mut locale = Locale::new(alloc, self.id.held(alloc, subtags)?);
+        if let Some(lang) = self.lang {
+            locale.extensions.transform.lang = Some(lang.held(alloc, subtags)?);
+        }
+        put(alloc, &mut locale, "rg", self.rg)?;
+        put(alloc, &mut locale, "sd", self.sd)?;
+        Ok(locale)
+    }
+}
+
+fn put(
+    alloc: Global,
+    locale: &mut Locale,
+    key: &str,
+    value: Option<PlainValue>,
+) -> Result<(), Fault> {
+    if let Some(value) = value {
+        let value = Value::try_from_str(alloc, value.text())?;
+        let keywords = &mut locale.extensions.unicode.keywords;
+        let _ = keywords.set(Key::try_from_str(key)?, value)?;
+    }
+    Ok(())
+}
+
+// What a call answers.
+type Answer = Result<TransformResult, CanonicalizeError>;
+
+// What has to become of a locale.
+#[derive(Clone, Copy)]
+enum Outcome {
+    Canonical(PlainLocale),
+    Repeats(Option<Plain>),
+    ValueRepeats(Option<PlainValue>),
+}
+
+// The identifier's run is asked first, then the transform language's, then the values'.
+fn wanted(alloc: Global, world: World<'_>, old: &PlainLocale) -> Result<Outcome, Fault> {
+    let id = match walk(alloc, &ByAll(world), old.id)? {
+        Run::Ends(id) => id,
+        Run::Repeats(again) => return Ok(Outcome::Repeats(Some(again))),
+    };
+    let lang = match walk(alloc, &ByLanguage(world), old.lang)? {
+        Run::Ends(lang) => lang,
+        Run::Repeats(again) => return Ok(Outcome::Repeats(again)),
+    };
+    let rg = match walk(alloc, &ByRow(world), old.rg)? {
+        Run::Ends(rg) => rg,
+        Run::Repeats(again) => return Ok(Outcome::ValueRepeats(again)),
+    };
+    let sd = match walk(alloc, &ByRow(world), old.sd)? {
+        Run::Ends(sd) => sd,
+        Run::Repeats(again) => return Ok(Outcome::ValueRepeats(again)),
+    };
+    Ok(Outcome::Canonical(PlainLocale { id, lang, rg, sd }))
+}
+
+// Whether some rule or row is applied.
+fn is_applied(world: World<'_>, old: &PlainLocale) -> bool {
+    ByAll(world).next(&old.id).is_some()
+        || ByLanguage(world).next(&old.lang).is_some()
+        || ByRow(world).next(&old.rg).is_some()
+        || ByRow(world).next(&old.sd).is_some()
+}
+
+// Whether an answer names the identifier that comes again.
+fn names(answer: &Answer, again: &Option<Plain>, subtags: &Subtags) -> bool {
+    match (answer, again) {
+        (Err(CanonicalizeError::NoFixedPoint(named)), Some(again)) => {
+            again.is_held_as(named, subtags)
+        }
+        _ => false,
+    }
+}
+
+// Whether an answer names the value that comes again.
+fn names_value(alloc: Global, answer: &Answer, again: &Option<PlainValue>) -> Result<bool, Fault> {
+    match (answer, again) {
+        (Err(CanonicalizeError::NoSubdivisionFixedPoint(named)), Some(again)) => {
+            Ok(again.is_held_as(alloc, named)?)
+        }
+        _ => Ok(false),
+    }
+}
+
+// Whether a call answered, and left the locale, as it has to.
+fn agrees(
+    alloc: Global,
+    world: World<'_>,
+    old: &PlainLocale,
+    (answer, left): (&Answer, &Locale),
+) -> Result<bool, Fault> {
+    let (is_so, new) = match wanted(alloc, world, old)? {
+        Outcome::Canonical(new) => (tells_applied(answer, is_applied(world, old)), new),
+        Outcome::Repeats(again) => (names(answer, &again, world.subtags), *old),
+        Outcome::ValueRepeats(again) => (names_value(alloc, answer, &again)?, *old),
+    };
+    Ok(is_so && *left == new.held(alloc, world.subtags)?)
+}
+
+fn tells_applied(answer: &Answer, applied: bool) -> bool {
+    match answer {
+        Ok(answer) => tells(*answer, applied),
+        Err(_) => false,
+    }
+}
+
+// Which kind of answer a call gave.
+fn kind(answer: &Answer) -> Result<Kind, Fault> {
+    match answer {
+        Ok(_) => Ok(Kind::Ends),
+        Err(CanonicalizeError::NoFixedPoint(_)) => Ok(Kind::Repeats),
+        Err(CanonicalizeError::NoSubdivisionFixedPoint(_)) => Ok(Kind::ValuesRepeat),
+        Err(CanonicalizeError::Memory) => Err(Fault::Starved),
+    }
+}
+
+// `canonicalize`, or the call that counts.
+fn call(canonicalizer: &LocaleCanonicalizer<'_>, locale: &mut Locale, is_counted: bool) -> Answer {
+    if is_counted {
+        canonicalizer.canonicalize_counted(locale, &mut Turns::new())
+    } else {
+        canonicalizer.canonicalize(locale)
+    }
+}
+
+// Which kind of answer one of the two calls gave, and whether it agrees.
+fn compare_call(
+    alloc: Global,
+    canonicalizer: &LocaleCanonicalizer<'_>,
+    world: World<'_>,
+    old: &PlainLocale,
+    is_counted: bool,
+) -> Result<(Kind, bool), Fault> {
+    let mut left = old.held(alloc, world.subtags)?;
+    let answer = call(canonicalizer, &mut left, is_counted);
+    let agrees = agrees(alloc, world, old, (&answer, &left))?;
+    Ok((kind(&answer)?, agrees))
+}
+
+// Which kind of answer the calls gave, and whether both agree.
+fn compare_calls(
+    alloc: Global,
+    canonicalizer: &LocaleCanonicalizer<'_>,
+    world: World<'_>,
+    old: &PlainLocale,
+) -> Result<(Kind, bool), Fault> {
+    let (kind, agrees) = compare_call(alloc, canonicalizer, world, old, false)?;
+    let (_, also) = compare_call(alloc, canonicalizer, world, old, true)?;
+    Ok((kind, agrees && also))
+}
+
+fn compare_everyone(
+    alloc: Global,
+    report: &mut Report,
+    canonicalizer: &LocaleCanonicalizer<'_>,
+    world: World<'_>,
+    (numbers, variants): (&mut Numbers, u8),
+) -> Result<(), Fault> {
+    for id in everyone(world.subtags, variants, alloc)? {
+        let old = PlainLocale {
+            id,
+            lang: Drawn::draw(numbers, world.subtags),
+            rg: Drawn::draw(numbers, world.subtags),
+            sd: Drawn::draw(numbers, world.subtags),
+        };
+        let (kind, agrees) = compare_calls(alloc, canonicalizer, world, &old)?;
+        report.meet(kind);
+        report.see(agrees, "canonicalize", &old.id)?;
+    }
+    Ok(())
+}
+
+/// The calls of a canonicalizer at everyone, with some transform language and some values.
+pub fn compare_canonical(
+    alloc: Global,
+    report: &mut Report,
+    canonicalizer: &LocaleCanonicalizer<'_>,
+    world: World<'_>,
+    numbers: &mut Numbers,
+) -> Result<(), Fault> {
+    for variants in 0..8 {
+        compare_everyone(alloc, report, canonicalizer, world, (numbers, variants))?;
+    }
+    Ok(())
+}

@@ -1,0 +1,84 @@
+//! Negotiations, by a search through the maximal forms.
+use crate::fault::Fault;
+use crate::likely::{Row, maximal};
+use crate::numbers::{Numbers, draw_list};
+use crate::plain::Plain;
+use crate::report::Report;
+use crate::subtags::Subtags;
+use icu_locale::{LocaleExpander, Negotiator, NegotiatorError};
+use icu_locale_core::LanguageIdentifier;
+use std::alloc::Global;
+
+fn held(
+    alloc: Global,
+    list: &[Plain],
+    subtags: &Subtags,
+) -> Result<Vec<LanguageIdentifier>, Fault> {
+    let mut all = Vec::new(alloc);
+    for x in list {
+        all.push(x.held(alloc, subtags)?)?;
+    }
+    Ok(all)
+}
+
+// The first request that some available identifier has the maximal form of, and the first such identifier.
+fn wanted(
+    rows: &[Row],
+    subtags: &Subtags,
+    available: &[Plain],
+    requests: &[Plain],
+) -> Option<(usize, usize)> {
+    for (asked, request) in requests.iter().enumerate() {
+        let form = maximal(rows, subtags, request);
+        let place = available
+            .iter()
+            .position(|x| maximal(rows, subtags, x) == form);
+        if let Some(place) = place {
+            return Some((asked, place));
+        }
+    }
+    None
+}
+
+fn compare_requests(
+    alloc: Global,
+    report: &mut Report,
+    negotiator: &Negotiator<'_>,
+    (rows, subtags): (&[Row], &Subtags),
+    numbers: &mut Numbers,
+    available: &[Plain],
+) -> Result<(), Fault> {
+    for _ in 0..16 {
+        let requests: Vec<Plain> = draw_list(alloc, numbers, subtags, 3)?;
+        let found = negotiator.negotiate(&held(alloc, &requests, subtags)?);
+        let wanted = wanted(rows, subtags, available, &requests);
+        report.met.negotiated |= wanted.is_some();
+        for request in &requests {
+            report.see(found == wanted, "negotiate", request)?;
+        }
+    }
+    Ok(())
+}
+
+/// A negotiator over some identifiers, asked for others. Over tables that are not settled there is none.
+pub fn compare_negotiations(
+    alloc: Global,
+    report: &mut Report,
+    expander: &LocaleExpander<'_>,
+    rows: &[Row],
+    subtags: &Subtags,
+    numbers: &mut Numbers,
+) -> Result<(), Fault> {
+    let available: Vec<Plain> = draw_list(alloc, numbers, subtags, 12)?;
+    let settled = expander.is_settled();
+    let und = Plain::of_language(subtags.languages[0]);
+    match Negotiator::try_new(alloc, *expander, held(alloc, &available, subtags)?) {
+        Ok(negotiator) => {
+            report.see(settled, "Negotiator::try_new", &und)?;
+            let table = (rows, subtags);
+            compare_requests(alloc, report, &negotiator, table, numbers, &available)
+        }
+        Err(NegotiatorError::NotSettled) => Ok(report.see(!settled, "Negotiator::try_new", &und)?),
+        Err(NegotiatorError::Memory) => Err(Fault::Starved),
+    }
+}

@@ -1,0 +1,130 @@
+//! A fixed sequence of numbers, and what is drawn from it.
+ghost use Rattle.std.specs.Prelude.{◌<◌};
+
+use crate::subtags::Subtags;
+use icu_locale_core::{Language, Region, Script, Subtag};
+use rand_core::Rng;
+use rand_pcg::Pcg32;
+use std::alloc::{AllocError, Global};
+
+/// The numbers that are left.
+#[derive(Drop)]
+pub struct Numbers {
+    generator: Pcg32,
+}
+
+impl Numbers {
+    /// All of them.
+    pub fn new() -> Numbers {
+        Numbers {
+            generator: Pcg32::new(42, 54),
+        }
+    }
+
+    /// One of three places.
+    pub fn place(&mut self) -> usize
+        ensures { result < 3 }
+    {
+        match self.generator.next_u32() % 3 {
+            0 => 0,
+            1 => 1,
+            _ => 2,
+        }
+    }
+
+    /// Whether something that comes one time in three comes now.
+    pub fn is_chosen(&mut self) -> bool {
+        self.place() == 0
+    }
+
+    /// One of three.
+    pub fn one_of<T: Copy>(&mut self, three: &[T; 3]) -> T {
+        three[self.place()]
+    }
+}
+
+/// What a world is made of.
+pub trait Drawn: Drop {
+    /// The next one.
+    fn draw(numbers: &mut Numbers, subtags: &Subtags) -> Self;
+}
+
+impl Drawn for bool {
+    fn draw(numbers: &mut Numbers, _subtags: &Subtags) -> bool {
+        numbers.is_chosen()
+    }
+}
+
+impl Drawn for Language {
+    fn draw(numbers: &mut Numbers, subtags: &Subtags) -> Language {
+        numbers.one_of(&subtags.languages)
+    }
+}
+
+impl Drawn for Script {
+    fn draw(numbers: &mut Numbers, subtags: &Subtags) -> Script {
+        numbers.one_of(&subtags.scripts)
+    }
+}
+
+impl Drawn for Region {
+    fn draw(numbers: &mut Numbers, subtags: &Subtags) -> Region {
+        numbers.one_of(&subtags.regions)
+    }
+}
+
+impl Drawn for Subtag {
+    fn draw(numbers: &mut Numbers, subtags: &Subtags) -> Subtag {
+        numbers.one_of(&subtags.subdivisions)
+    }
+}
+
+impl<A: Drawn> Drawn for Option<A> {
+    fn draw(numbers: &mut Numbers, subtags: &Subtags) -> Option<A> {
+        if numbers.is_chosen() {
+            None
+        } else {
+            Some(A::draw(numbers, subtags))
+        }
+    }
+}
+
+impl<A: Drawn, B: Drawn> Drawn for (A, B) {
+    fn draw(numbers: &mut Numbers, subtags: &Subtags) -> (A, B) {
+        (A::draw(numbers, subtags), B::draw(numbers, subtags))
+    }
+}
+
+impl<A: Drawn, B: Drawn, C: Drawn> Drawn for (A, B, C) {
+    fn draw(numbers: &mut Numbers, subtags: &Subtags) -> (A, B, C) {
+        (
+            A::draw(numbers, subtags),
+            B::draw(numbers, subtags),
+            C::draw(numbers, subtags),
+        )
+    }
+}
+
+/// So many of a kind.
+pub fn draw_list<T: Drawn>(
+    alloc: Global,
+    numbers: &mut Numbers,
+    subtags: &Subtags,
+    count: usize,
+) -> Result<Vec<T>, AllocError> {
+    let mut list = Vec::new(alloc);
+    for _ in 0..count {
+        list.push(T::draw(numbers, subtags))?;
+    }
+    Ok(list)
+}
+
+/// None, one or two of a kind.
+pub fn draw_few<T: Drawn>(
+    alloc: Global,
+    numbers: &mut Numbers,
+    subtags: &Subtags,
+) -> Result<Vec<T>, AllocError> {
+    let count = numbers.place();
+    draw_list(alloc, numbers, subtags, count)
+}

@@ -1,0 +1,99 @@
+//! What the comparison finds.
+use crate::plain::Plain;
+use std::alloc::{AllocError, Global};
+
+// How many differences are shown.
+const SHOWN: usize = 20;
+
+/// What differs, and which kinds of answers were met.
+#[derive(Drop)]
+pub struct Report {
+    text: String,
+    differences: usize,
+    /// The world in hand.
+    pub world: usize,
+    /// The kinds of answers so far.
+    pub met: Met,
+}
+
+/// The kinds of answers that were met. A comparison that meets only one kind shows little.
+#[derive(Clone, Copy)]
+pub struct Met {
+    pub settled: bool,
+    pub unsettled: bool,
+    pub ends: bool,
+    pub repeats: bool,
+    pub values_repeat: bool,
+    pub negotiated: bool,
+}
+
+/// How a canonicalization is answered.
+#[derive(Clone, Copy)]
+pub enum Kind {
+    Ends,
+    Repeats,
+    ValuesRepeat,
+}
+
+impl Report {
+    /// Nothing yet.
+    pub fn new(alloc: Global) -> Report {
+        Report {
+            text: String::new(alloc),
+            differences: 0,
+            world: 0,
+            met: Met {
+                settled: false,
+                unsettled: false,
+                ends: false,
+                repeats: false,
+                values_repeat: false,
+                negotiated: false,
+            },
+        }
+    }
+
+    /// A canonicalization was answered so.
+    pub fn meet(&mut self, kind: Kind) {
+        match kind {
+            Kind::Ends => self.met.ends = true,
+            Kind::Repeats => self.met.repeats = true,
+            Kind::ValuesRepeat => self.met.values_repeat = true,
+        }
+    }
+
+    /// A call that has to answer as its slow body does.
+    pub fn see(&mut self, agrees: bool, call: &str, at: &Plain) -> Result<(), AllocError> {
+        if agrees {
+            return Ok(());
+        }
+        self.differences = self.differences.saturating_add(1);
+        if self.differences <= SHOWN {
+            let world = self.world;
+            write!(self.text, "world {world}: {call} differs at {at:?}\n")?;
+        }
+        Ok(())
+    }
+
+    /// The whole text, which ends with the number of worlds.
+    pub fn end(mut self, count: usize) -> Result<String, AllocError> {
+        if !self.met.is_all() {
+            self.text.push_str("some kind of answer was not met\n")?;
+        }
+        let differences = self.differences;
+        write!(self.text, "{count} worlds, {differences} differences\n")?;
+        Ok(self.text)
+    }
+}
+
+impl Met {
+    // Whether each kind was met.
+    fn is_all(self) -> bool {
+        self.settled
+            && self.unsettled
+            && self.ends
+            && self.repeats
+            && self.values_repeat
+            && self.negotiated
+    }
+}
