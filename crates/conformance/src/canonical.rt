@@ -4,7 +4,7 @@ use crate::likely::{mark, yes_or_no};
 use crate::world::World;
 use icu_locale::{CanonicalizeError, LocaleCanonicalizer, TransformResult, Turns, laws};
 use icu_locale_core::{Key, LanguageIdentifier, Locale, Value};
-use std::alloc::Global;
+use std::alloc::{AllocError, Global};
 
 // The locale of an identifier, and of what stands behind it: `t=` a transform language, `rg=` and `sd=` values.
 fn locale(alloc: Global, text: &str) -> Result<Locale, Fault> {
@@ -88,7 +88,7 @@ fn told(
 fn refused(alloc: Global, refusal: CanonicalizeError) -> Result<String, Fault> {
     let mut text = format!(in alloc; "{refusal}")?;
     match refusal {
-        CanonicalizeError::Memory => return Err(Fault::Memory),
+        CanonicalizeError::Memory => return Err(Fault::Memory(AllocError)),
         CanonicalizeError::NoFixedPoint(again) => write!(text, " {again}")?,
         CanonicalizeError::NoSubdivisionFixedPoint(again) => write!(text, " {again}")?,
     }
@@ -111,7 +111,7 @@ fn follow(
     match laws::search(canonicalizer, id, transform, &mut Turns::new()) {
         Ok(Some(next)) => Ok(format!(in alloc; "{next}")?),
         Ok(None) => Ok(String::from_str(alloc, "none")?),
-        Err(_) => Err(Fault::Memory),
+        Err(_) => Err(Fault::Memory(AllocError)),
     }
 }
 
@@ -134,6 +134,6 @@ pub fn replacement(
     let replacement = LanguageIdentifier::try_from_str(alloc, replacement)?;
     match laws::replacement(&source, &rule, &replacement) {
         Ok(made) => Ok(format!(in alloc; "{made}")?),
-        Err(_) => Err(Fault::Memory),
+        Err(_) => Err(Fault::Memory(AllocError)),
     }
 }
