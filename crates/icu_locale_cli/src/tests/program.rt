@@ -12,7 +12,7 @@ use std::process::Abort;
 use std::test::Fail;
 
 // A line a row: words, input, output, and 0, 1 or the words of the refusal. Spaces round a bar say nothing; `\n`, `\t` and
-// `\r` are what they are in a text of Rust, and `\s` is a space. (An array of as many texts takes minutes to check.)
+// `\r` are what they are in a text of Rust, and `\s` is a space.
 const RUNS: &str = r#"
 maximize | zh-CN\nund-SA\n | zh-Hans-CN\tM\nar-Arab-SA\tM\n | 0
 maximize | zh-CN\nEN_us\n\n | zh-Hans-CN\tM\nen-Latn-US\tM\n?\tInvalidLanguage\n | 1

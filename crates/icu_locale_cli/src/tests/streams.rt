@@ -78,40 +78,59 @@ const RUNS: [(&str, &str, &str); 7] = [
     ("name light en", "it\n", "Italian\tN\n"),
 ];
 
-fn known(alloc: Global, words: &str) -> Result<Command, Fail> {
-    match command(alloc, words)? {
-        Ok((command, _)) => Ok(command),
-        Err(_) => Err(Fail::new("the command is not known")),
-    }
+// How a run ends, of tables that are there or of those of its first line.
+fn ended<R: Read, W: Write>(
+    alloc: Global,
+    tables: Option<&Tables>,
+    words: &str,
+    reader: &mut R,
+    writer: &mut W,
+) -> Result<Result<Status, CliError>, Fail> {
+    let Ok((command, _)) = command(alloc, words)? else {
+        return Err(Fail::new("the command is not known"));
+    };
+    Ok(match tables {
+        Some(tables) => run(alloc, &command, tables, reader, writer),
+        None => run_json(alloc, &command, reader, writer),
+    })
 }
 
 // A reader that fails after so many bytes of an input.
 fn failed_read(
     rt: &impl Abort,
     alloc: Global,
-    tables: &Tables,
-    (command, bytes): (&Command, &[u8]),
-) {
+    tables: Option<&Tables>,
+    words: &str,
+    bytes: &[u8],
+) -> Result<(), Fail> {
     let mut written = Vec::new(alloc);
     let mut reader = SlowReader { bytes, fails: true };
-    let ended = run(alloc, command, tables, &mut reader, &mut written);
+    let ended = ended(alloc, tables, words, &mut reader, &mut written)?;
     assert!(rt; ended == Err(CliError::Read));
     assert!(rt; written.is_empty());
-    let mut reader = SlowReader { bytes, fails: true };
-    let ended = run_json(alloc, command, &mut reader, &mut written);
-    assert!(rt; ended == Err(CliError::Read));
-    assert!(rt; written.is_empty());
+    Ok(())
+}
+
+fn failed_reads(
+    rt: &impl Abort,
+    alloc: Global,
+    tables: &Tables,
+    words: &str,
+    input: &str,
+) -> Result<(), Fail> {
+    for count in 0..=input.len() {
+        let (bytes, _) = input.as_bytes().split_at(count);
+        failed_read(rt, alloc, Some(tables), words, bytes)?;
+        failed_read(rt, alloc, None, words, bytes)?;
+    }
+    Ok(())
 }
 
 #[test]
 fn a_failed_read_after_every_byte(rt: HostRuntime) -> Result<(), Fail> {
     let tables = sample(rt.alloc())?;
-    for (words, input, _) in RUNS {
-        let command = known(rt.alloc(), words)?;
-        for count in 0..=input.len() {
-            let (bytes, _) = input.as_bytes().split_at(count);
-            failed_read(&rt, rt.alloc(), &tables, (&command, bytes));
-        }
+    for (words, input, _) in &RUNS {
+        failed_reads(&rt, rt.alloc(), &tables, words, input)?;
     }
     Ok(())
 }
@@ -120,9 +139,10 @@ fn a_failed_read_after_every_byte(rt: HostRuntime) -> Result<(), Fail> {
 fn written(
     alloc: Global,
     tables: &Tables,
-    (command, input): (&Command, &str),
+    words: &str,
+    input: &str,
     (at_once, room): (usize, usize),
-) -> (Result<Status, CliError>, Vec<u8>) {
+) -> Result<(Result<Status, CliError>, Vec<u8>), Fail> {
     let mut reader = SlowReader {
         bytes: input.as_bytes(),
         fails: false,
@@ -132,13 +152,13 @@ fn written(
         at_once,
         room,
     };
-    let ended = run(alloc, command, tables, &mut reader, &mut writer);
+    let ended = ended(alloc, Some(tables), words, &mut reader, &mut writer)?;
     let SlowWriter {
         bytes,
         at_once: _,
         room: _,
     } = writer;
-    (ended, bytes)
+    Ok((ended, bytes))
 }
 
 // A writer that takes a byte at a time takes all; one that is full takes what it can.
@@ -146,30 +166,25 @@ fn slow_and_full(
     rt: &impl Abort,
     alloc: Global,
     tables: &Tables,
-    call: (&Command, &str),
-    output: &[u8],
-) {
-    let (ended, bytes) = written(alloc, tables, call, (1, output.len()));
-    assert!(rt; ended.is_ok() && bytes.as_slice() == output);
-    for room in 0..output.len() {
-        let (ended, bytes) = written(alloc, tables, call, (7, room));
+    row: &(&str, &str, &str),
+) -> Result<(), Fail> {
+    let (words, input, output) = row;
+    let whole = output.as_bytes();
+    let (ended, bytes) = written(alloc, tables, words, input, (1, whole.len()))?;
+    assert!(rt; ended.is_ok() && bytes.as_slice() == whole);
+    for room in 0..whole.len() {
+        let (ended, bytes) = written(alloc, tables, words, input, (7, room))?;
         assert!(rt; ended == Err(CliError::Write));
-        assert_eq!(rt; bytes.as_slice(), &output[..room]);
+        assert_eq!(rt; bytes.as_slice(), &whole[..room]);
     }
+    Ok(())
 }
 
 #[test]
 fn a_byte_at_a_time_and_a_full_writer(rt: HostRuntime) -> Result<(), Fail> {
     let tables = sample(rt.alloc())?;
-    for (words, input, output) in RUNS {
-        let command = known(rt.alloc(), words)?;
-        slow_and_full(
-            &rt,
-            rt.alloc(),
-            &tables,
-            (&command, input),
-            output.as_bytes(),
-        );
+    for row in &RUNS {
+        slow_and_full(&rt, rt.alloc(), &tables, row)?;
     }
     Ok(())
 }
