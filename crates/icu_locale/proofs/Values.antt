@@ -1,6 +1,5 @@
 -- Runs of the values at `rg` and `sd`.
-use Rattle.std.proofs.Common.{◌≡◌, ◌≢◌, ℕ, List, Option, Some, None, Result, Ok, Err, ◌⊎◌, inl, inr, map, refl, ap, sym, ◌∙◌, subst}
-use Rattle.std.specs.Option.{IsSomeAnd, option_and_then}
+use Rattle.std.proofs.Common.{◌≡◌, ◌≢◌, ℕ, List, Option, None, ◌⊎◌, inl, inr, map, ap, sym, ◌∙◌}
 use Rattle.std.proofs.lemmas.Bool.{cases_Bool, false≢true}
 use Rattle.std.proofs.lemmas.Option.{option_and_then_some}
 use Rattle.icu_locale_core.specs.Keywords.{KeywordRows}
@@ -9,7 +8,7 @@ use Rattle.icu_locale_core.specs.TextSet.{text_cmp}
 use Rattle.icu_locale_core.specs.Value.{only_piece}
 use Rattle.icu_locale_core.specs.laws.Values.{values_decide}
 use Rattle.icu_locale.specs.Canonical.{rg, sd, next_value}
-use Rattle.icu_locale.specs.Refusals.{ValuesEnd, ValueRepeats, IsOutOfMemory}
+use Rattle.icu_locale.specs.Refusals.{ValuesEnd, ValueRepeats}
 use Rattle.icu_locale.specs.Run.{StandsIn, IsLaterEndOf, EndsOrRepeats}
 use Rattle.icu_locale.specs.inner.CanonicalParts.{IsValueRefusal, IsValuesRefusal, AreLaterValues}
 use Rattle.icu_locale.specs.inner.Universe.{values}

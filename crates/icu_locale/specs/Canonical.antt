@@ -1,10 +1,8 @@
 -- Canonical locales (UTS #35 Part 1, Annex C "LocaleId Canonicalization").
-use Rattle.std.specs.Prelude.{◌≡◌, ◌⊎◌, ◌+◌, ◌*◌, ◌≤◌, ℕ, Bool, true, false, ◌||◌, List, codes}
-use Rattle.std.specs.Prelude.{Option, Some, None, is_some, Result, Ok, Err, IfSome, IsSomeAnd}
-use Rattle.std.specs.Prelude.{MatchOption}
-use Rattle.std.specs.List.{All}
+use Rattle.std.specs.Prelude.{◌≡◌, ℕ, Bool, true, false, ◌||◌, List, codes}
+use Rattle.std.specs.Prelude.{Option, Some, None, is_some}
 use Rattle.std.specs.Option.{option_and_then}
-use Rattle.icu_locale_core.specs.TextSet.{text_cmp, empty}
+use Rattle.icu_locale_core.specs.TextSet.{text_cmp}
 use Rattle.icu_locale_core.specs.Value.{only_piece}
 use Rattle.icu_locale_core.specs.Keywords.{KeywordRows, with_value}
 use Rattle.icu_locale_core.specs.declared.langid.LanguageIdentifier.{LanguageIdentifier}
@@ -16,9 +14,6 @@ use Rattle.icu_locale.specs.Run.{EndsAt, IsLaterEndOf, BecomesEnd}
 use Rattle.icu_locale.specs.declared.expander.TransformResult.{TransformResult}
 use Rattle.icu_locale.specs.declared.expander.TransformResult.TheVariants.{Modified, Unmodified}
 use Rattle.icu_locale.specs.declared.canonicalizer.rules.Rules.{Rules}
-use Rattle.icu_locale.specs.declared.canonicalizer.CanonicalizeError.{CanonicalizeError}
-use Rattle.icu_locale.specs.declared.canonicalizer.CanonicalizeError.TheVariants.{Memory}
-use Rattle.icu_locale.specs.declared.canonicalizer.CanonicalizeError.TheVariants.{NoFixedPoint}
 
 -- the key of a region override
 abbrev pub rg : List ℕ

@@ -1,24 +1,16 @@
 -- How many searches a canonicalization takes, and when it takes no memory.
-use Rattle.std.specs.Prelude.{◌≡◌, ◌⊎◌, ◌+◌, ◌*◌, ◌≤◌, ℕ, Bool, true, false, ◌||◌, List, codes}
-use Rattle.std.specs.Prelude.{Option, Some, None, is_some, Result, Ok, Err, IfSome, IsSomeAnd}
+use Rattle.std.specs.Prelude.{◌≡◌, ◌⊎◌, ◌+◌, ◌*◌, ◌≤◌, ℕ}
+use Rattle.std.specs.Prelude.{None, Result, IfSome}
 use Rattle.std.specs.Prelude.{MatchOption}
 use Rattle.std.specs.List.{All}
-use Rattle.std.specs.Option.{option_and_then}
-use Rattle.icu_locale_core.specs.TextSet.{text_cmp, empty}
-use Rattle.icu_locale_core.specs.Value.{only_piece}
-use Rattle.icu_locale_core.specs.Keywords.{KeywordRows, with_value}
+use Rattle.icu_locale_core.specs.TextSet.{empty}
 use Rattle.icu_locale_core.specs.declared.langid.LanguageIdentifier.{LanguageIdentifier}
 use Rattle.icu_locale_core.specs.declared.locale.Locale.{Locale}
-use Rattle.icu_locale_core.specs.Maps.{value_at}
 use Rattle.icu_locale.specs.LikelySubtags.{LikelySubtags}
 use Rattle.icu_locale.specs.Kinds.{next, by_language_alias}
 use Rattle.icu_locale.specs.Run.{EndsAt, IsRepeat, HasDistinct}
-use Rattle.icu_locale.specs.declared.expander.TransformResult.{TransformResult}
-use Rattle.icu_locale.specs.declared.expander.TransformResult.TheVariants.{Modified, Unmodified}
 use Rattle.icu_locale.specs.declared.canonicalizer.rules.Rules.{Rules}
 use Rattle.icu_locale.specs.declared.canonicalizer.CanonicalizeError.{CanonicalizeError}
-use Rattle.icu_locale.specs.declared.canonicalizer.CanonicalizeError.TheVariants.{Memory}
-use Rattle.icu_locale.specs.declared.canonicalizer.CanonicalizeError.TheVariants.{NoFixedPoint}
 use Rattle.icu_locale.specs.Canonical.{rg, sd, subdivision_alias}
 use Rattle.icu_locale.specs.Refusals.{IsOutOfMemory}
 

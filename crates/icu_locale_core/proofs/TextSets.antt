@@ -1,16 +1,16 @@
 -- The rising list of a set, and a set inside another.
-use Rattle.std.proofs.Common.{◌≡◌, ℕ, Bool, true, false, ◌&&◌, ◌||◌, List, [], ◌∷◌, map, is_some, T, refl, ap, sym, ◌∙◌}
+use Rattle.std.proofs.Common.{◌≡◌, ℕ, Bool, true, false, ◌||◌, List, [], ◌∷◌, map, T, refl, ap, sym, ◌∙◌}
 use Rattle.std.specs.List.{AllByRecursion, list_all}
 use Rattle.std.specs.List.Sorted.{IsStrictlySortedBy}
 use Rattle.std.specs.Ordering.{is_lt, eq_by_cmp}
 use Rattle.std.specs.declared.cmp.Ordering.{Ordering}
-use Rattle.std.specs.FinMap.Entries.{below_all, is_some-find}
+use Rattle.std.specs.FinMap.Entries.{below_all}
 use Rattle.std.specs.declared.cmp.Ordering.TheVariants.{Less, Equal, Greater}
 use Rattle.std.specs.FinMap as fin
 use Rattle.std.specs.FinMap.{is_sorted}
 use Rattle.std.proofs.lemmas.Bool.{false≢true, and_parts}
-use Rattle.icu_locale_core.specs.TextSet.{text_cmp, TextSet, contains, from_list, rising, is_subset}
-use Rattle.icu_locale_core.specs.laws.TextSets.{is_among, contains-from_list, contains-rising, same_set, same_from_tied}
+use Rattle.icu_locale_core.specs.TextSet.{text_cmp, TextSet, contains, rising, is_subset}
+use Rattle.icu_locale_core.specs.laws.TextSets.{is_among, contains-rising, same_from_tied}
 
 true_from_T : (b : Bool) → T b → b ≡ true
 true_from_T true e = refl

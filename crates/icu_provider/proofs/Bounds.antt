@@ -1,12 +1,10 @@
 -- Bounds of characters: where a character stands among them, and which lists of bounds are inversion lists.
-use Rattle.std.proofs.Common.{◌≡◌, ℕ, zero, suc, ◌+◌, ◌-◌, ◌≤◌, ◌<◌, ◌%◌, ◌==◌, ◌&&◌, true, false, nat_le, List, [], ◌∷◌, length, get_or, slice_index, refl, ap, ◌∙◌, arith}
-use Rattle.std.proofs.lemmas.Bool.{and_parts, eqb-true}
+use Rattle.std.proofs.Common.{◌≡◌, ℕ, zero, suc, ◌+◌, ◌-◌, ◌≤◌, ◌<◌, ◌%◌, ◌==◌, true, false, nat_le, List, [], ◌∷◌, length, slice_index, refl, ap, ◌∙◌, arith}
 use Rattle.std.proofs.lemmas.List.Sorted.{IsPartitionedBy-leb, IsNonDecreasingBy-from_default}
 use Rattle.std.proofs.lemmas.Bool.Decides.{nat_tests}
 use native.Mathlib.Numerals.{unary_clauses}
-use Rattle.std.specs.List.{All}
 use Rattle.std.specs.List.Sorted.{IsStrictlyIncreasing, IsPartitionedBy, IsPartitionPoint}
-use Rattle.icu_provider.specs.InversionList.{IsInversionList, has_character, rise_from, is_inversion_list}
+use Rattle.icu_provider.specs.InversionList.{has_character}
 use Rattle.icu_provider.specs.inner.Bounds.{IsPlace}
 
 odd_after : (n : ℕ) → (suc (suc n) % 2 == 1) ≡ (n % 2 == 1)

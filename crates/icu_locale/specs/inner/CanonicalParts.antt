@@ -1,5 +1,5 @@
 -- What the parts of a canonicalization find: what only private functions cite.
-use Rattle.std.specs.Prelude.{◌≡◌, ℕ, List, Bool, ◌||◌, Option, Some, None, is_some, IfSome, IsSomeAnd}
+use Rattle.std.specs.Prelude.{◌≡◌, ℕ, List, Bool, ◌||◌, Option, is_some, IfSome, IsSomeAnd}
 use Rattle.std.specs.Prelude.{MatchOption, Result, unwrap_or}
 use Rattle.std.specs.Option.{option_or}
 use Rattle.icu_locale_core.specs.Keywords.{KeywordRows}

@@ -1,4 +1,4 @@
-use Rattle.std.proofs.Common.{Ok, Err}
+use Rattle.std.proofs.Common.{Ok}
 use Rattle.std.proofs.lemmas.Result.{err_from_is_err_and}
 use Rattle.icu_locale.proofs.Canonicals.{refused_identifiers, refused_values, counts_whole}
 use Rattle.icu_locale.proofs.canonicalizer.LocaleCanonicalizer.find_changes.Goals as goal

@@ -1,4 +1,4 @@
-use Rattle.std.proofs.Common.{◌≡◌, None, ap, subst, ◌∙◌, rules}
+use Rattle.std.proofs.Common.{◌≡◌, ap, subst, ◌∙◌, rules}
 use Rattle.std.specs.Option.{option_copied, option_and_then}
 use Rattle.std.proofs.lemmas.Result.{err_from_is_err_and}
 use Rattle.icu_locale_core.specs.Maps.{value_at}
