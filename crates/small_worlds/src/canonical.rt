@@ -7,6 +7,7 @@ use crate::plain::{Plain, everyone};
 use crate::report::{Kind, Report};
 use crate::rules::{Rules, by_language_alias, next};
 use crate::runs::{Run, Step, walk};
+use crate::steps::compare_steps;
 use crate::subtags::Subtags;
 use crate::values::{PlainValue, ValueRow, next_value};
 use icu_locale::{CanonicalizeError, LocaleCanonicalizer, TransformResult, Turns};
@@ -231,6 +232,7 @@ fn compare_everyone(
         let (kind, agrees) = compare_calls(alloc, canonicalizer, world, &old)?;
         report.meet(kind);
         report.see(agrees, "canonicalize", &old.id)?;
+        compare_steps(alloc, report, canonicalizer, world, &id)?;
     }
     Ok(())
 }

@@ -15,6 +15,7 @@ mod plain;
 mod report;
 mod rules;
 mod runs;
+mod steps;
 mod subtags;
 mod tables;
 mod values;

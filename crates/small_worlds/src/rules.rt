@@ -106,7 +106,8 @@ fn by_variants<'r>(rules: &'r Rules, x: &Plain) -> Option<&'r Rule> {
         && matches(x, &rule.source))
 }
 
-fn matches(x: &Plain, rule: &Plain) -> bool {
+/// Whether a rule matches an identifier.
+pub fn matches(x: &Plain, rule: &Plain) -> bool {
     (rule.language.is_unknown() || rule.language == x.language)
         && fits(rule.script, x.script)
         && fits(rule.region, x.region)
@@ -121,7 +122,8 @@ fn part<T: Drop>(x: Option<T>, rule: Option<T>, replacement: Option<T>) -> Optio
     }
 }
 
-fn replaced(x: &Plain, rule: &Plain, replacement: &Plain) -> Plain {
+/// What a rule and its replacement make of an identifier.
+pub fn replaced(x: &Plain, rule: &Plain, replacement: &Plain) -> Plain {
     let is_given = !rule.language.is_unknown()
         || (x.language.is_unknown() && !replacement.language.is_unknown());
     Plain {

@@ -1,0 +1,75 @@
+//! The steps of a canonicalization: one search, one match and one replacement.
+use crate::canonical::World;
+use crate::fault::Fault;
+use crate::plain::Plain;
+use crate::report::Report;
+use crate::rules::{Rule, by_language_alias, matches, next, replaced};
+use crate::subtags::Subtags;
+use icu_locale::{LocaleCanonicalizer, Turns, laws};
+use icu_locale_core::LanguageIdentifier;
+use std::alloc::Global;
+
+// Whether the crates hold what follows an identifier, or nothing where nothing follows.
+fn is_held(wanted: &Option<Plain>, held: &Option<LanguageIdentifier>, subtags: &Subtags) -> bool {
+    match (wanted, held) {
+        (Some(wanted), Some(held)) => wanted.is_held_as(held, subtags),
+        (None, None) => true,
+        _ => false,
+    }
+}
+
+fn compare_search(
+    alloc: Global,
+    report: &mut Report,
+    canonicalizer: &LocaleCanonicalizer<'_>,
+    world: World<'_>,
+    x: &Plain,
+    transform: bool,
+) -> Result<(), Fault> {
+    let id = x.held(alloc, world.subtags)?;
+    let wanted = if transform {
+        by_language_alias(world.rules, x)
+    } else {
+        next(world.rules, world.rows, world.subtags, x)
+    };
+    let Ok(found) = laws::search(canonicalizer, &id, transform, &mut Turns::new()) else {
+        return Err(Fault::Starved);
+    };
+    Ok(report.see(is_held(&wanted, &found, world.subtags), "search", x)?)
+}
+
+fn compare_rule(
+    alloc: Global,
+    report: &mut Report,
+    subtags: &Subtags,
+    rule: &Rule,
+    x: &Plain,
+) -> Result<(), Fault> {
+    let id = x.held(alloc, subtags)?;
+    let source = rule.source.held(alloc, subtags)?;
+    let is_so = laws::rule_matches(&id, &source) == matches(x, &rule.source);
+    report.see(is_so, "rule_matches", x)?;
+    let replacement = rule.replacement.held(alloc, subtags)?;
+    let Ok(made) = laws::replacement(&id, &source, &replacement) else {
+        return Err(Fault::Starved);
+    };
+    let wanted = replaced(x, &rule.source, &rule.replacement);
+    Ok(report.see(wanted.is_held_as(&made, subtags), "replacement", x)?)
+}
+
+/// The steps from an identifier, by all rules and by those of a transform language, and the rules without variants by
+/// themselves.
+pub fn compare_steps(
+    alloc: Global,
+    report: &mut Report,
+    canonicalizer: &LocaleCanonicalizer<'_>,
+    world: World<'_>,
+    x: &Plain,
+) -> Result<(), Fault> {
+    compare_search(alloc, report, canonicalizer, world, x, false)?;
+    compare_search(alloc, report, canonicalizer, world, x, true)?;
+    for rule in &world.rules.language {
+        compare_rule(alloc, report, world.subtags, rule, x)?;
+    }
+    Ok(())
+}
