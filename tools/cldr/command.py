@@ -1,0 +1,84 @@
+"""The command `cldr-tables`."""
+import argparse
+import json
+import sys
+
+from .account import Account
+from .aliases import read_aliases
+from .directions import directions
+from .exemplars import add_exemplars, exemplar_rows
+from .inheritance import Inheritance
+from .likely import read_likely
+from .names import Names, name_rows
+from .patterns import essentials, pattern_rows
+from .source import Common, NoCldr
+from .subtags import read_locale
+
+DESCRIPTION = """\
+Writes the JSON tables of one run of icu_locale_cli, on one line: likely subtags, aliases and directions, and for each
+LOCALE its names, its names in menus, the patterns that put them together, and its exemplar sets. On standard error it
+says what is left out and why: a reason, how many there are, and their names.
+
+The program looks up what it is asked and falls back from no locale to another. So what a locale inherits in CLDR, from
+its parents up to `root`, is written as its own."""
+EPILOG = """\
+status: 0, or 2 where the folder or a locale is not there
+example: (tools/cldr-tables /usr/share/unicode/cldr/common en; echo zh-TW) | ./icu_locale_cli name light en json"""
+
+
+def arguments(words):
+    parser = argparse.ArgumentParser(prog="cldr-tables", description=DESCRIPTION, epilog=EPILOG,
+                                     formatter_class=argparse.RawDescriptionHelpFormatter)
+    parser.add_argument("--settled", action="store_true",
+                        help="leave out the likely subtags that keep the table from being settled")
+    parser.add_argument("common", metavar="COMMON",
+                        help="CLDR's folder `common`; Debian's package unicode-cldr-core has /usr/share/unicode/cldr/common")
+    parser.add_argument("locales", metavar="LOCALE", nargs="*", help="a locale of CLDR, such as en or zh-Hant-HK")
+    return parser.parse_args(words)
+
+
+def tables_of(common, locales, is_settled, account):
+    """The tables of a file."""
+    likely = read_likely(common, account)
+    if is_settled:
+        likely.settle(account)
+    tables = likely.tables() | {
+        "aliases": read_aliases(common, account).table(),
+        "direction": directions(common, account),
+    }
+    return tables | tables_of_locales(common, locales, account) if locales else tables
+
+
+def tables_of_locales(common, locales, account):
+    """The tables of names, patterns and exemplar sets of some locales."""
+    inheritance, names, patterns, exemplars = Inheritance(common), Names(account), {}, {}
+    for locale in locales:
+        names.add(locale, inheritance.resolved(locale, name_rows, account))
+        pattern = essentials(inheritance.resolved(locale, pattern_rows, account), locale, account)
+        if pattern:
+            patterns[str(locale)] = pattern
+        add_exemplars(exemplars, locale, inheritance.resolved(locale, exemplar_rows, account), account)
+    return names.tables() | {"essentials": patterns, "exemplars": exemplars}
+
+
+def read_locales(words):
+    """The locales of some words."""
+    for word in words:
+        locale = read_locale(word)
+        if locale is None:
+            raise NoCldr(f"{word} is no locale that a table could name: a language, a script if any, a region if any")
+        yield locale
+
+
+def main(words):
+    """Runs the command, and answers its status."""
+    chosen, account = arguments(words), Account()
+    try:
+        tables = tables_of(Common(chosen.common), list(read_locales(chosen.locales)), chosen.settled, account)
+    except NoCldr as fault:
+        print(f"cldr-tables: {fault}", file=sys.stderr)
+        return 2
+    print(json.dumps(tables, ensure_ascii=False, separators=(",", ":")))
+    for line in account.lines():
+        print(line, file=sys.stderr)
+    return 0

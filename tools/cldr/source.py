@@ -1,0 +1,43 @@
+"""The files of a CLDR `common` folder."""
+import xml.etree.ElementTree as ElementTree
+from functools import lru_cache
+from pathlib import Path
+
+PACKAGE = "unicode-cldr-core"
+DEBIAN_COMMON = Path("/usr/share/unicode/cldr/common")
+
+
+class NoCldr(Exception):
+    """A file of CLDR is not there, or does not hold what its place promises."""
+
+
+class Common:
+    """A CLDR `common` folder, of any version."""
+
+    def __init__(self, folder):
+        self.folder = Path(folder)
+
+    def path(self, name):
+        """The path of a file that has to be there."""
+        path = self.folder / name
+        if not path.is_file():
+            raise NoCldr(f"no file {path}; the folder is to be CLDR's `common`, as Debian's package {PACKAGE} has it")
+        return path
+
+    def text(self, name):
+        return self.path(name).read_text(encoding="utf-8")
+
+    @lru_cache(maxsize=None)
+    def document(self, name):
+        """The root element of an XML file."""
+        try:
+            return ElementTree.parse(self.path(name)).getroot()
+        except ElementTree.ParseError as fault:
+            raise NoCldr(f"{self.folder / name} is no XML: {fault}") from fault
+
+    def has_locale(self, name):
+        return (self.folder / "main" / f"{name}.xml").is_file()
+
+    def locale(self, name):
+        """The file of a locale, by its name in CLDR."""
+        return self.document(f"main/{name}.xml")
