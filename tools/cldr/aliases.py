@@ -4,7 +4,7 @@ from .subtags import UNKNOWN_LANGUAGE, Identifier, read_identifier, read_subtag
 NO_TYPE = "aliases: no identifier that the program reads is of this form, so the rule could match none"
 NO_REPLACEMENT = "aliases: what the rule gives is no identifier that the program could hold"
 NO_PLACE = "aliases: no table has a place for rules of this form"
-FIRST_ALONE = "aliases: a subdivision that became several; the first is taken, as no rule of UTS #35 chooses"
+FIRST_ALONE = "aliases: a subdivision that became several; the row gives the first"
 ADDED = "aliases: rows of `language_variants` added, closed under language aliases as Annex C has them"
 # A region as a subdivision is spelled so (UTS #35 Part 1, section 3.6.5).
 WHOLE_REGION = "zzzz"
