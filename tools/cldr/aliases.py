@@ -1,4 +1,7 @@
-"""Rules of canonicalization (UTS #35 Part 1, Annex C), of the element `alias` of supplemental/supplementalMetadata.xml."""
+"""Rules of canonicalization (UTS #35 Part 1, Annex C).
+
+They are the elements of `alias` in supplemental/supplementalMetadata.xml.
+"""
 from .subtags import UNKNOWN_LANGUAGE, Identifier, read_identifier, read_subtag
 
 NO_TYPE = "aliases: no identifier that the program reads is of this form, so the rule could match none"
@@ -76,8 +79,8 @@ class Aliases:
     def close(self):
         """Closes the rules of variants under the aliases of a language alone, until none is added.
 
-        Annex C brings an identifier's language to its canonical form before it looks for variants alone. The program
-        asks `language_variants` before the aliases of a language, so that what Annex C reaches by both is one rule here.
+        Annex C replaces a language before it looks for variants alone. The program asks `language_variants` before the
+        aliases of a language, so what Annex C reaches by both is one rule here.
         """
         while added := self.missing_rules():
             for rule, replacement in added.items():

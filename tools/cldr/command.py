@@ -32,7 +32,7 @@ def arguments(words):
     parser.add_argument("--settled", action="store_true",
                         help="leave out the likely subtags that keep the table from being settled")
     parser.add_argument("common", metavar="COMMON",
-                        help="CLDR's folder `common`; Debian's package unicode-cldr-core has /usr/share/unicode/cldr/common")
+                        help="CLDR's folder `common`, such as /usr/share/unicode/cldr/common of unicode-cldr-core")
     parser.add_argument("locales", metavar="LOCALE", nargs="*", help="a locale of CLDR, such as en or zh-Hant-HK")
     return parser.parse_args(words)
 

@@ -1,4 +1,4 @@
-"""Sets of exemplar characters, of the elements `exemplarCharacters` (UTS #35 Part 2, section 3; sets: Part 1, 5.3.3)."""
+"""Sets of exemplar characters, of the elements `exemplarCharacters` (UTS #35 Part 2, section 3; Part 1, 5.3.3)."""
 import re
 
 MARKERS = {None: "main", "auxiliary": "auxiliary", "punctuation": "punctuation", "numbers": "numbers",
