@@ -27,7 +27,7 @@ class Common:
     def text(self, name):
         return self.path(name).read_text(encoding="utf-8")
 
-    @lru_cache(maxsize=None)
+    @lru_cache(maxsize=16)
     def document(self, name):
         """The root element of an XML file."""
         try:
