@@ -9,7 +9,7 @@ from .directions import directions
 from .exemplars import add_exemplars, exemplar_rows
 from .inheritance import Inheritance
 from .likely import read_likely
-from .names import Names, name_rows
+from .names import Names, name_rows, note_others
 from .patterns import essentials, pattern_rows
 from .source import Common, NoCldr
 from .subtags import read_locale
@@ -53,6 +53,7 @@ def tables_of_locales(common, locales, account):
     """The tables of names, patterns and exemplar sets of some locales."""
     inheritance, names, patterns, exemplars = Inheritance(common), Names(account), {}, {}
     for locale in locales:
+        note_others(inheritance.chain(locale), locale, account)
         names.add(locale, inheritance.resolved(locale, name_rows, account))
         pattern = essentials(inheritance.resolved(locale, pattern_rows, account), locale, account)
         if pattern:

@@ -38,6 +38,15 @@ def name_rows(document):
             yield (tag, element.get("type"), form_of(element)), element
 
 
+def note_others(documents, locale, account):
+    """Says which other names CLDR has for a locale: of keys, of types, of systems of measurement and the like."""
+    read = {group for group, _ in LISTS} | {"localeDisplayPattern"}
+    for document in documents:
+        for group in document.iterfind("localeDisplayNames/*"):
+            if group.tag not in read:
+                account.note(f"{locale}: lists of names of what is no subtag", group.tag)
+
+
 def key_of(kind, subtag):
     """The key of a name in its written form, or None where no table has one for it."""
     if kind == "language":
