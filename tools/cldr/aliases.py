@@ -79,8 +79,8 @@ class Aliases:
     def close(self):
         """Closes the rules of variants under the aliases of a language alone, until none is added.
 
-        Annex C replaces a language before it looks for variants alone. The program asks `language_variants` before the
-        aliases of a language, so what Annex C reaches by both is one rule here.
+        Annex C replaces a language before it looks for variants alone. The program asks `language_variants` before
+        the aliases of a language, so what Annex C reaches by both is one rule here.
         """
         while added := self.missing_rules():
             for rule, replacement in added.items():

@@ -19,8 +19,8 @@ Writes the JSON tables of one run of icu_locale_cli, on one line: likely subtags
 LOCALE its names, its names in menus, the patterns that put them together, and its exemplar sets. On standard error it
 says what is left out and why: a reason, how many there are, and their names.
 
-The program looks up what it is asked and falls back from no locale to another. So what a locale inherits in CLDR, from
-its parents up to `root`, is written as its own."""
+The program looks up what it is asked and falls back from no locale to another. So what a locale inherits in CLDR,
+from its parents up to `root`, is written as its own."""
 EPILOG = """\
 status: 0, or 2 where the folder or a locale is not there
 example: (tools/cldr-tables /usr/share/unicode/cldr/common en; echo zh-TW) | ./icu_locale_cli name light en json"""

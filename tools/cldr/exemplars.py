@@ -4,8 +4,9 @@ import re
 MARKERS = {None: "main", "auxiliary": "auxiliary", "punctuation": "punctuation", "numbers": "numbers",
            "index": "index"}
 # A space, an escape by its number, an escaped character, one that is a sign of the syntax, or any other.
-TOKEN = re.compile(r"\s+|\\u([0-9A-Fa-f]{4})|\\U([0-9A-Fa-f]{8})|\\x([0-9A-Fa-f]{2})|\\([^uUxNpP])|([\[\]{}^&$-])|(.)",
-                   re.DOTALL)
+TOKEN = re.compile(
+    r"\s+|\\u([0-9A-Fa-f]{4})|\\U([0-9A-Fa-f]{8})|\\x([0-9A-Fa-f]{2})|\\([^uUxNpP])|([\[\]{}^&$-])|(.)", re.DOTALL
+)
 
 
 class NoSet(Exception):

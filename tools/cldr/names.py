@@ -1,6 +1,6 @@
 """Names of languages, scripts, regions and variants, of the element `localeDisplayNames` (UTS #35 Part 2, section 1).
 
-What a size of data is to a library that is linked with it, a table in memory has no use for: so each name stands under
+A table in memory has no use for weights, which divide data that a library is linked with: so each name stands under
 the lightest marker of its form, which every chain that has this form asks.
 """
 from .subtags import UNKNOWN_LANGUAGE, read_locale, read_subtag
