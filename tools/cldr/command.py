@@ -62,6 +62,11 @@ def tables_of_locales(common, locales, account):
     return names.tables() | {"essentials": patterns, "exemplars": exemplars}
 
 
+def on_one_line(tables):
+    """The JSON text of tables, as bytes."""
+    return json.dumps(tables, ensure_ascii=False, separators=(",", ":")).encode()
+
+
 def read_locales(words):
     """The locales of some words."""
     for word in words:
@@ -79,7 +84,7 @@ def main(words):
     except NoCldr as fault:
         print(f"cldr-tables: {fault}", file=sys.stderr)
         return 2
-    print(json.dumps(tables, ensure_ascii=False, separators=(",", ":")))
+    sys.stdout.buffer.write(on_one_line(tables) + b"\n")
     for line in account.lines():
         print(line, file=sys.stderr)
     return 0
