@@ -7,3 +7,4 @@ pub mod Tally
 pub mod Trials
 pub mod Universe
 pub mod Walk
+pub mod Whole

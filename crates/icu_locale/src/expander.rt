@@ -13,7 +13,7 @@ ghost use Rattle.icu_locale.specs.Minimal.{IsMinimalForm};
 
 pub(crate) mod looks;
 
-use crate::expander::looks::{bare_locale, filled};
+use crate::expander::looks::{bare_locale, filled, is_whole};
 use icu_locale_core::{LanguageIdentifier, Script};
 use icu_provider::{
     DataError, DataLocale, DataProvider, LikelySubtagsExtended, LikelySubtagsForLanguage,
@@ -220,6 +220,9 @@ impl<'d> LocaleExpander<'d> {
     fn maximal_of_bare(&self, bare: DataLocale) -> DataLocale
         ensures { result ≡ maximal_of_bare (likely self.now) bare }
     {
+        if is_whole(&bare) {
+            return bare;
+        }
         let found = self.first_found(bare);
         filled(&bare, found)
     }

@@ -6,26 +6,14 @@ use Rattle.std.proofs.lemmas.Bool.Decides.{nat_tests}
 use Rattle.std.proofs.lemmas.List.{take_all, drop_all}
 use Rattle.icu_locale_core.specs.laws.Cuts.{slice_split-position, slice_split-no_position}
 use Rattle.icu_locale_cli.specs.Lines.{is_line_feed, without_empty_last, lines}
-
--- a piece that others follow is a line
-without_empty_last-more : (x y : List ℕ) (ys : List (List ℕ)) → without_empty_last (x ∷ y ∷ ys) ≡ x ∷ without_empty_last (y ∷ ys)
-without_empty_last-more [] y ys = refl
-without_empty_last-more (c ∷ x) y ys = refl
-
--- pieces never run out
-split_more : (t : List ℕ) → record { first : List ℕ; others : List (List ℕ); is : slice_split is_line_feed t ≡ first ∷ others }
-split_more [] = record { first = []; others = []; is = refl }
-split_more (c ∷ t) = elim (is_line_feed c) as (λ b. record { first : List ℕ; others : List (List ℕ); is : cond b ([] ∷ slice_split is_line_feed t) (onto_first c (slice_split is_line_feed t)) ≡ first ∷ others }) [
-  | true ↦ record { first = []; others = slice_split is_line_feed t; is = refl }
-  | false ↦ let more = split_more t in record { first = c ∷ more.first; others = more.others; is = ap (onto_first c) more.is }
-]
+use Rattle.icu_locale_cli.specs.laws.Parts.{has_pieces, without_empty_last-more}
 
 pub lines-position : (t : List ℕ) (n : ℕ) → position is_line_feed t ≡ Some n → lines t ≡ take n t ∷ lines (drop (n + 1) t)
 lines-position t n at =
-    let rest = split_more (drop (n + 1) t) in
-    ap without_empty_last (slice_split-position is_line_feed t n at ∙ ap (λ ps. take n t ∷ ps) rest.is)
+    let rest = has_pieces (drop (n + 1) t) in
+    ap without_empty_last (slice_split-position is_line_feed t n at ∙ ap (λ ps. take n t ∷ ps) rest.are)
     ∙ without_empty_last-more (take n t) rest.first rest.others
-    ∙ ap (λ ps. take n t ∷ without_empty_last ps) (sym rest.is)
+    ∙ ap (λ ps. take n t ∷ without_empty_last ps) (sym rest.are)
 
 pub lines-no_position : (t : List ℕ) → t ≢ [] → position is_line_feed t ≡ None → lines t ≡ t ∷ []
 lines-no_position [] some none = absurd (some refl)

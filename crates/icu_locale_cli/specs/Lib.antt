@@ -13,3 +13,4 @@ pub mod Texts
 pub mod WholeRuns
 pub mod Works
 pub mod inner
+pub mod laws

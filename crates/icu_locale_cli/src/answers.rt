@@ -1,7 +1,8 @@
-// The answers to all lines, each made whole before it is written.
+// The answers to all lines, each made whole before it is written, all in one room.
 ghost use Rattle.std.specs.Prelude.{◌≡◌, ◌⊎◌, Err, IfOk, IfErr};
 ghost use Rattle.icu_locale_cli.specs.Runs.{WritesAll, WritesWholeLines, WritesPart};
 
+use crate::answer::Answer;
 use crate::error::CliError;
 use crate::lines::Lines;
 use crate::output::write_line;
@@ -25,10 +26,12 @@ pub fn write_answers<W: Write>(
     ensures refused { IfErr result (λ e. (e ≡ CliError.Memory) ⊎ (e ≡ CliError.Write)) }
 {
     let mut status = Status::Accepted;
+    let mut room = Vec::new(alloc);
     for line in Lines::new(input) {
-        let answer = work.answer(alloc, line)?;
-        write_line(writer, answer.text.as_slice())?;
-        status = status.after(answer.accepted);
+        let Answer { text, accepted } = work.answer(room, line)?;
+        write_line(writer, text.as_slice())?;
+        status = status.after(accepted);
+        room = text;
     }
     Ok(status)
 }

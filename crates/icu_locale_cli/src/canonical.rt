@@ -5,17 +5,16 @@ ghost use Rattle.icu_locale_cli.specs.Answers.{IsCanonicalized};
 ghost use Rattle.icu_locale_cli.specs.Texts.{override_line, canonical_line};
 ghost use Rattle.icu_locale_cli.specs.inner.Uncanonical.{TellsRefusal};
 
-use crate::answer::{Answer, refused};
+use crate::answer::{Answer, emptied, refused};
 use crate::error::CliError;
 use crate::locales::region_override_key;
-use crate::task::{mark, transformed};
+use crate::task::{ending, transformed};
 use icu_locale::{CanonicalizeError, LocaleCanonicalizer, TransformResult};
 use icu_locale_core::{LanguageIdentifier, Locale, Value};
-use std::alloc::Global;
 
 // The line of a locale that is brought to its canonical form.
 pub fn canonicalized(
-    alloc: Global,
+    room: Vec<u8>,
     canonicalizer: &LocaleCanonicalizer<'_>,
     mut locale: Locale,
 ) -> Result<Answer, CliError>
@@ -24,14 +23,14 @@ pub fn canonicalized(
     ensures refused { IfErr result (λ e. e ≡ CliError.Memory) }
 {
     match canonicalizer.canonicalize(&mut locale) {
-        Ok(changed) => canonical_answer(alloc, &locale, changed),
-        Err(refusal) => uncanonical(alloc, refusal),
+        Ok(changed) => canonical_answer(room, &locale, changed),
+        Err(refusal) => uncanonical(room, refusal),
     }
 }
 
 // The line of a canonical locale: its identifier, its value at `rg` if there is one, and whether anything was changed.
 fn canonical_answer(
-    alloc: Global,
+    room: Vec<u8>,
     locale: &Locale,
     changed: TransformResult,
 ) -> Result<Answer, CliError>
@@ -41,14 +40,14 @@ fn canonical_answer(
 {
     let keywords = &locale.extensions.unicode.keywords;
     match keywords.get(region_override_key()) {
-        Some(value) => overridden(alloc, &locale.id, value, changed),
-        None => transformed(alloc, &locale.id, changed),
+        Some(value) => overridden(room, &locale.id, value, changed),
+        None => transformed(room, &locale.id, changed),
     }
 }
 
 // The line of an identifier, a value, and whether anything was changed.
 fn overridden(
-    alloc: Global,
+    room: Vec<u8>,
     identifier: &LanguageIdentifier,
     value: &Value,
     changed: TransformResult,
@@ -58,25 +57,27 @@ fn overridden(
         × (a.accepted ≡ true)) }
     ensures refused { IfErr result (λ e. e ≡ CliError.Memory) }
 {
-    let letter = mark(changed);
+    let mut text = emptied(room);
+    write!(text, "{identifier}\t{value}")?;
+    text.push_str(ending(changed))?;
     Ok(Answer {
-        text: format!(in alloc; "{identifier}\t{value}\t{letter}\n")?.into_bytes(),
+        text: text.into_bytes(),
         accepted: true,
     })
 }
 
 // The line of a refusal. Want of memory ends the run.
-fn uncanonical(alloc: Global, refusal: CanonicalizeError) -> Result<Answer, CliError>
+fn uncanonical(room: Vec<u8>, refusal: CanonicalizeError) -> Result<Answer, CliError>
     ensures answer { IfOk result (λ a. TellsRefusal refusal a.text.items a.accepted) }
     ensures refused { IfErr result (λ e. e ≡ CliError.Memory) }
 {
     match refusal {
         CanonicalizeError::Memory => Err(CliError::Memory),
         CanonicalizeError::NoFixedPoint(again) => {
-            refused(alloc, CanonicalizeError::NoFixedPoint(again))
+            refused(room, CanonicalizeError::NoFixedPoint(again))
         }
         CanonicalizeError::NoSubdivisionFixedPoint(again) => {
-            refused(alloc, CanonicalizeError::NoSubdivisionFixedPoint(again))
+            refused(room, CanonicalizeError::NoSubdivisionFixedPoint(again))
         }
     }
 }

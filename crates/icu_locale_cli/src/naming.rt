@@ -100,15 +100,15 @@ pub struct Naming<'d> {
 
 impl<'d> Naming<'d> {
     // The answer to an identifier.
-    pub fn answer(&self, alloc: Global, identifier: &LanguageIdentifier) -> Result<Answer, CliError>
+    pub fn answer(&self, room: Vec<u8>, identifier: &LanguageIdentifier) -> Result<Answer, CliError>
         ensures answer { IfOk result (λ a. IsNamedLine (name_by self.now identifier.now)
             a.text.items a.accepted) }
         ensures refused { IfErr result (λ e. e ≡ CliError.Memory) }
     {
-        match self.name(alloc, identifier) {
-            Ok(name) => named(alloc, &name),
+        match self.name(*room.allocator(), identifier) {
+            Ok(name) => named(room, &name),
             Err(refusal) if refusal.kind == DataErrorKind::Memory => Err(CliError::Memory),
-            Err(refusal) => refused(alloc, refusal),
+            Err(refusal) => refused(room, refusal),
         }
     }
 
@@ -166,13 +166,13 @@ impl<'d> Naming<'d> {
 }
 
 // The line of a name: its text, and whether a raw subtag was written. A text that is too long finds no memory.
-fn named(alloc: Global, name: &LanguageIdentifierDisplayName<'_>) -> Result<Answer, CliError>
+fn named(mut text: Vec<u8>, name: &LanguageIdentifierDisplayName<'_>) -> Result<Answer, CliError>
     ensures answer { IfOk result (λ a. (a.text.items ≡ named_line name.now)
         × (a.accepted ≡ true)) }
     ensures refused { IfErr result (λ e. e ≡ CliError.Memory) }
 {
-    let mut text = Vec::new(alloc);
-    let mut spans = Vec::new(alloc);
+    text.clear();
+    let mut spans = Vec::new(*text.allocator());
     let report = name
         .as_borrowed()
         .try_write_to_parts(&mut text, &mut spans)

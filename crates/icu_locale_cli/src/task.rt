@@ -1,14 +1,13 @@
 //! What is done with an identifier.
-ghost use Rattle.std.specs.Prelude.{◌≡◌, IfOk, IfErr, true};
+ghost use Rattle.std.specs.Prelude.{◌≡◌, ◌++◌, IfOk, IfErr, true, codes};
 ghost use Rattle.icu_locale_cli.specs.Answers.{IsLineOf};
 ghost use Rattle.icu_locale_cli.specs.Texts.{mark, transformed_line, direction_line};
 
-use crate::answer::Answer;
+use crate::answer::{Answer, emptied, told};
 use crate::error::CliError;
 use crate::naming::Naming;
 use icu_locale::{Direction, LocaleDirectionality, LocaleExpander, TransformResult};
 use icu_locale_core::LanguageIdentifier;
-use std::alloc::Global;
 
 /// What is done with the identifier of each line, over tables that it borrows.
 #[derive(Drop)]
@@ -29,7 +28,7 @@ impl<'d> Task<'d> {
     // The answer to an identifier.
     pub fn answer(
         &self,
-        alloc: Global,
+        room: Vec<u8>,
         mut identifier: LanguageIdentifier,
     ) -> Result<Answer, CliError>
         ensures answer { IfOk result (λ a. IsLineOf self.now identifier a.text.items
@@ -39,24 +38,24 @@ impl<'d> Task<'d> {
         match self {
             Task::Maximize(expander) => {
                 let changed = expander.maximize(&mut identifier);
-                transformed(alloc, &identifier, changed)
+                transformed(room, &identifier, changed)
             }
             Task::Minimize(expander) => {
                 let changed = expander.minimize(&mut identifier);
-                transformed(alloc, &identifier, changed)
+                transformed(room, &identifier, changed)
             }
             Task::MinimizeScript(expander) => {
                 let changed = expander.minimize_favor_script(&mut identifier);
-                transformed(alloc, &identifier, changed)
+                transformed(room, &identifier, changed)
             }
-            Task::Direction(directionality) => directed(alloc, directionality.get(&identifier)),
-            Task::Name(naming) => naming.answer(alloc, &identifier),
+            Task::Direction(directionality) => directed(room, directionality.get(&identifier)),
+            Task::Name(naming) => naming.answer(room, &identifier),
         }
     }
 }
 
 // The line of a direction.
-fn directed(alloc: Global, direction: Option<Direction>) -> Result<Answer, CliError>
+fn directed(room: Vec<u8>, direction: Option<Direction>) -> Result<Answer, CliError>
     ensures answer { IfOk result (λ a. (a.text.items ≡ direction_line direction)
         × (a.accepted ≡ true)) }
     ensures refused { IfErr result (λ e. e ≡ CliError.Memory) }
@@ -66,15 +65,12 @@ fn directed(alloc: Global, direction: Option<Direction>) -> Result<Answer, CliEr
         Some(Direction::RightToLeft) => "rtl\n",
         None => "none\n",
     };
-    Ok(Answer {
-        text: String::from_str(alloc, line)?.into_bytes(),
-        accepted: true,
-    })
+    told(room, line)
 }
 
 // The line of an identifier and whether it was changed.
 pub fn transformed(
-    alloc: Global,
+    room: Vec<u8>,
     identifier: &LanguageIdentifier,
     changed: TransformResult,
 ) -> Result<Answer, CliError>
@@ -83,19 +79,21 @@ pub fn transformed(
         × (a.accepted ≡ true)) }
     ensures refused { IfErr result (λ e. e ≡ CliError.Memory) }
 {
-    let letter = mark(changed);
+    let mut text = emptied(room);
+    write!(text, "{identifier}")?;
+    text.push_str(ending(changed))?;
     Ok(Answer {
-        text: format!(in alloc; "{identifier}\t{letter}\n")?.into_bytes(),
+        text: text.into_bytes(),
         accepted: true,
     })
 }
 
-// `M` where something was changed, and `U` where nothing was.
-pub fn mark(changed: TransformResult) -> &'static str
-    ensures { result.now ≡ mark changed }
+// The end of a line: a tab, and `M` where something was changed, or `U` where nothing was.
+pub fn ending(changed: TransformResult) -> &'static str
+    ensures { result.now ≡ codes "\t" ++ (mark changed ++ codes "\n") }
 {
     match changed {
-        TransformResult::Modified => "M",
-        TransformResult::Unmodified => "U",
+        TransformResult::Modified => "\tM\n",
+        TransformResult::Unmodified => "\tU\n",
     }
 }

@@ -6,7 +6,7 @@ ghost use Rattle.icu_locale_cli.specs.Answers.{IsListAnswer};
 ghost use Rattle.icu_locale_cli.specs.Negotiations.{IsNegotiatedLine};
 ghost use Rattle.icu_locale_cli.specs.Texts.{matched_line};
 
-use crate::answer::{Answer, refused};
+use crate::answer::{Answer, emptied, refused, told};
 use crate::canonical::canonicalized;
 use crate::error::CliError;
 use crate::lists::read_list;
@@ -14,7 +14,6 @@ use crate::locales::read_locale;
 use crate::task::Task;
 use icu_locale::{LocaleCanonicalizer, Negotiator};
 use icu_locale_core::{LanguageIdentifier, ParseError};
-use std::alloc::Global;
 
 /// What a command works with, over tables that it borrows.
 #[derive(Drop)]
@@ -28,36 +27,36 @@ pub enum Work<'d> {
 }
 
 impl<'d> Work<'d> {
-    // The answer to one line.
-    pub fn answer(&self, alloc: Global, line: &[u8]) -> Result<Answer, CliError>
+    // The answer to one line, in the room of an earlier one.
+    pub fn answer(&self, room: Vec<u8>, line: &[u8]) -> Result<Answer, CliError>
         ensures answer { IfOk result (λ a. IsAnswer self.now line.now a.text.items
             a.accepted) }
         ensures refused { IfErr result (λ e. e ≡ CliError.Memory) }
     {
         match self {
-            Work::Identifiers(task) => answer_identifier(alloc, task, line),
-            Work::Locales(canonicalizer) => answer_locale(alloc, canonicalizer, line),
-            Work::Requests(negotiator) => answer_requests(alloc, negotiator, line),
+            Work::Identifiers(task) => answer_identifier(room, task, line),
+            Work::Locales(canonicalizer) => answer_locale(room, canonicalizer, line),
+            Work::Requests(negotiator) => answer_requests(room, negotiator, line),
         }
     }
 }
 
 // The answer to a line that is an identifier.
-fn answer_identifier(alloc: Global, task: &Task<'_>, line: &[u8]) -> Result<Answer, CliError>
+fn answer_identifier(room: Vec<u8>, task: &Task<'_>, line: &[u8]) -> Result<Answer, CliError>
     ensures answer { IfOk result (λ a. IsIdentifierAnswer task.now line.now a.text.items
         a.accepted) }
     ensures refused { IfErr result (λ e. e ≡ CliError.Memory) }
 {
-    match LanguageIdentifier::try_from_utf8(alloc, line) {
-        Ok(identifier) => task.answer(alloc, identifier),
+    match LanguageIdentifier::try_from_utf8(*room.allocator(), line) {
+        Ok(identifier) => task.answer(room, identifier),
         Err(ParseError::Memory) => Err(CliError::Memory),
-        Err(refusal) => refused(alloc, refusal),
+        Err(refusal) => refused(room, refusal),
     }
 }
 
 // The answer to a line that is a locale.
 fn answer_locale(
-    alloc: Global,
+    room: Vec<u8>,
     canonicalizer: &LocaleCanonicalizer<'_>,
     line: &[u8],
 ) -> Result<Answer, CliError>
@@ -65,16 +64,16 @@ fn answer_locale(
         canonicalizer.now.rules line.now a.text.items a.accepted) }
     ensures refused { IfErr result (λ e. e ≡ CliError.Memory) }
 {
-    match read_locale(alloc, line) {
-        Ok(locale) => canonicalized(alloc, canonicalizer, locale),
+    match read_locale(*room.allocator(), line) {
+        Ok(locale) => canonicalized(room, canonicalizer, locale),
         Err(ParseError::Memory) => Err(CliError::Memory),
-        Err(refusal) => refused(alloc, refusal),
+        Err(refusal) => refused(room, refusal),
     }
 }
 
 // The answer to a line that lists requests.
 fn answer_requests(
-    alloc: Global,
+    room: Vec<u8>,
     negotiator: &Negotiator<'_>,
     line: &[u8],
 ) -> Result<Answer, CliError>
@@ -82,16 +81,16 @@ fn answer_requests(
         a.accepted) }
     ensures refused { IfErr result (λ e. e ≡ CliError.Memory) }
 {
-    match read_list(alloc, line) {
-        Ok(requests) => negotiated(alloc, negotiator, &requests),
+    match read_list(*room.allocator(), line) {
+        Ok(requests) => negotiated(room, negotiator, &requests),
         Err(ParseError::Memory) => Err(CliError::Memory),
-        Err(refusal) => refused(alloc, refusal),
+        Err(refusal) => refused(room, refusal),
     }
 }
 
 // The line of requests: the place of the first that is met, and the identifier that meets it.
 fn negotiated(
-    alloc: Global,
+    room: Vec<u8>,
     negotiator: &Negotiator<'_>,
     requests: &[LanguageIdentifier],
 ) -> Result<Answer, CliError>
@@ -100,22 +99,21 @@ fn negotiated(
     ensures refused { IfErr result (λ e. e ≡ CliError.Memory) }
 {
     match negotiator.negotiate(requests) {
-        Some((asked, found)) => matched(alloc, asked, &negotiator.available()[found]),
-        None => Ok(Answer {
-            text: String::from_str(alloc, "none\n")?.into_bytes(),
-            accepted: true,
-        }),
+        Some((asked, found)) => matched(room, asked, &negotiator.available()[found]),
+        None => told(room, "none\n"),
     }
 }
 
 // The line of a request's place and the available identifier that means it.
-fn matched(alloc: Global, asked: usize, identifier: &LanguageIdentifier) -> Result<Answer, CliError>
+fn matched(room: Vec<u8>, asked: usize, identifier: &LanguageIdentifier) -> Result<Answer, CliError>
     ensures answer { IfOk result (λ a. (a.text.items ≡ matched_line asked identifier.now)
         × (a.accepted ≡ true)) }
     ensures refused { IfErr result (λ e. e ≡ CliError.Memory) }
 {
+    let mut text = emptied(room);
+    write!(text, "{asked}\t{identifier}\n")?;
     Ok(Answer {
-        text: format!(in alloc; "{asked}\t{identifier}\n")?.into_bytes(),
+        text: text.into_bytes(),
         accepted: true,
     })
 }

@@ -7,6 +7,7 @@ ghost use Rattle.icu_locale.specs.LikelySubtags.{known_keys, und_keys};
 ghost use Rattle.icu_locale.specs.LikelyTable.{row_at, common_rows, extended_rows, extension_row};
 ghost use Rattle.icu_locale.specs.LikelyTable.{und_row, likely};
 ghost use Rattle.icu_locale.specs.inner.LikelyMaps.{rows_of};
+ghost use Rattle.icu_locale.specs.inner.Whole.{is_whole};
 
 use crate::expander::LocaleExpander;
 use icu_locale_core::{Language, Region, Script};
@@ -39,6 +40,7 @@ pub(crate) struct LikelyMaps<'d> {
 
 impl<'d> LikelyMaps<'d> {
     // The triple at a key: the key's own subtags, and the values of the row.
+    #[inline(always)]
     fn row_at(&self, key: &Key) -> Option<Triple>
         ensures { result ≡ row_at (rows_of self.now) key.now }
     {
@@ -180,6 +182,7 @@ impl<'d> LocaleExpander<'d> {
     }
 
     // The triple at a key: the common tables cover the extended one, and the triple of `und` serves last.
+    #[inline(always)]
     fn row_at(&self, key: &Key) -> Option<Triple>
         ensures { result ≡ likely self.now key.now }
     {
@@ -198,6 +201,13 @@ impl<'d> LocaleExpander<'d> {
     {
         extended_maps(self.extended?).row_at(key)
     }
+}
+
+// Whether nothing is missing: the language is known, and there are a script and a region.
+pub(crate) fn is_whole(bare: &DataLocale) -> bool
+    ensures { result ≡ is_whole bare.now }
+{
+    !bare.language.is_unknown() && bare.script.is_some() && bare.region.is_some()
 }
 
 // What is missing, taken from the triple that was found.

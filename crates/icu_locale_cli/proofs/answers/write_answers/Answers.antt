@@ -10,7 +10,7 @@ returns-in_err-write_line-clause-write g c = λ refused.
     let contents = g.W.Write.contents in
     let before = subst (Progress c.args.work.now c.args.input.now (contents c.args.writer.now) (contents c.loop-line.writer) c.loop-line.status) c.in-Some.ensures.steps c.loop-line.invariant in
     let part = subst (AppendsPart (contents c.loop-line.writer) (contents c.write_line.new.writer)) c.as_slice.ensures.value c.in_err-write_line.ensures.part in
-    WritesPart-from_part c.args.work.now c.args.input.now (contents c.args.writer.now) (contents c.loop-line.writer) c.loop-line.status c.in-Some.line.now c.next.new.self before _ c.in_ok-answer.answer.accepted c.in_ok-answer.ensures.answer (contents c.write_line.new.writer) part
+    WritesPart-from_part c.args.work.now c.args.input.now (contents c.args.writer.now) (contents c.loop-line.writer) c.loop-line.status c.in-Some.line.now c.next.new.self before _ c.in_ok-text.field-0.accepted c.in_ok-text.ensures.answer (contents c.write_line.new.writer) part
 
 -- one more line is answered and written
 pub loop-line-preserved : goal.loop-line-preserved
@@ -18,4 +18,4 @@ loop-line-preserved g c =
     let contents = g.W.Write.contents in
     let before = subst (Progress c.args.work.now c.args.input.now (contents c.args.writer.now) (contents c.loop-line.writer) c.loop-line.status) c.in-Some.ensures.steps c.loop-line.invariant in
     let whole = subst (Appends (contents c.loop-line.writer) (contents c.write_line.new.writer)) c.as_slice.ensures.value c.in_ok-write_line.ensures.whole in
-    Progress-more c.args.work.now c.args.input.now (contents c.args.writer.now) (contents c.loop-line.writer) c.loop-line.status c.in-Some.line.now c.next.new.self before _ c.in_ok-answer.answer.accepted c.in_ok-answer.ensures.answer (contents c.write_line.new.writer) whole c.after-status.result c.after-status.ensures
+    Progress-more c.args.work.now c.args.input.now (contents c.args.writer.now) (contents c.loop-line.writer) c.loop-line.status c.in-Some.line.now c.next.new.self before _ c.in_ok-text.field-0.accepted c.in_ok-text.ensures.answer (contents c.write_line.new.writer) whole c.after-status.result c.after-status.ensures

@@ -1,0 +1,2 @@
+-- Facts about the definitions, with their proofs.
+pub mod Parts
