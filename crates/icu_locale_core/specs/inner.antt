@@ -1,5 +1,6 @@
 -- What only private functions and invariants cite.
 pub mod Class
+pub mod Heads
 pub mod Merging
 pub mod Padded
 pub mod Pieces

@@ -4,6 +4,7 @@ ghost use Rattle.std.specs.Fmt.{WritesOnOk};
 ghost use Rattle.std.specs.List.{flat_map};
 ghost use Rattle.icu_locale_core.specs.Identifier.{IsIdentifier, ReadsIdentifier, written};
 ghost use Rattle.icu_locale_core.specs.TextSet.{rising, empty};
+ghost use Rattle.icu_locale_core.specs.inner.Heads.{head};
 
 use crate::pieces::Pieces;
 use crate::reader::read_identifier;
@@ -89,15 +90,24 @@ impl fmt::Display for LanguageIdentifier {
     ghost output = { λ x. Some (written x) };
 
     fn fmt<W: fmt::Write>(&self, f: &mut fmt::Formatter<W>) -> fmt::Result {
-        f.write_str(self.language.as_str())?;
-        if let Some(script) = &self.script {
-            write_after_dash(script.as_str(), f)?;
-        }
-        if let Some(region) = &self.region {
-            write_after_dash(region.as_str(), f)?;
-        }
+        write_head(self, f)?;
         write_variants(&self.variants, f)
     }
+}
+
+// The language, the script and the region in one run of bytes, with `-` between them.
+fn write_head<W: fmt::Write>(x: &LanguageIdentifier, f: &mut fmt::Formatter<W>) -> fmt::Result
+    ensures { WritesOnOk W.write_str_gives f.old result (head x.now) f.new }
+{
+    let mut buffer = [0; 12];
+    let mut end = x.language.0.put(&mut buffer, 0);
+    if let Some(script) = &x.script {
+        end = script.0.put_after_dash(&mut buffer, end);
+    }
+    if let Some(region) = &x.region {
+        end = region.0.put_after_dash(&mut buffer, end);
+    }
+    f.write_str(unsafe { str::from_utf8_unchecked(&buffer[..end]) })
 }
 
 // Each variant in rising order, with `-` before it.

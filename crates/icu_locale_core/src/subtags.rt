@@ -14,7 +14,7 @@ use std::marker::Model;
 
 /// A language: 2 or 3 letters, written in lower case (unicode_language_subtag of UTS #35, section 3.1).
 #[derive(Clone, Copy, Debug, PartialEq, Eq, PartialOrd, Ord, Hash)]
-pub struct Language(TinyText<3>);
+pub struct Language(pub(crate) TinyText<3>);
 
 impl Model for Language {
     ghost Value = { List ℕ };
@@ -77,7 +77,7 @@ impl fmt::Display for Language {
 
 /// A script: 4 letters, written with the first in upper case (unicode_script_subtag of UTS #35, section 3.1).
 #[derive(Clone, Copy, Debug, PartialEq, Eq, PartialOrd, Ord, Hash)]
-pub struct Script(TinyText<4>);
+pub struct Script(pub(crate) TinyText<4>);
 
 impl Model for Script {
     ghost Value = { List ℕ };
@@ -130,7 +130,7 @@ impl fmt::Display for Script {
 
 /// A region: 2 letters or 3 digits, written in upper case (unicode_region_subtag of UTS #35, section 3.1).
 #[derive(Clone, Copy, Debug, PartialEq, Eq, PartialOrd, Ord, Hash)]
-pub struct Region(TinyText<3>);
+pub struct Region(pub(crate) TinyText<3>);
 
 impl Model for Region {
     ghost Value = { List ℕ };

@@ -1,5 +1,5 @@
 // A short text of letters and digits, in an array and behind no pointer.
-ghost use Rattle.std.specs.Prelude.{◌≡◌, ◌≤◌, IsTrue, IfSome, is_some, length, List, ℕ, nat_eq};
+ghost use Rattle.std.specs.Prelude.{◌≡◌, ◌≤◌, ◌+◌, ◌++◌, take, codes, IsTrue, IfSome, is_some, length, List, ℕ, nat_eq};
 ghost use Rattle.std.proofs.Common.{rules};
 ghost use Rattle.std.specs.Cmp.{partial_order_from_own_ties};
 ghost use Rattle.std.specs.Cmp.Lexicographic.{pointwise, slice_cmp};
@@ -84,6 +84,32 @@ impl<const N: usize> TinyText<N> {
     {
         let text = &self.bytes[..self.len()];
         unsafe { str::from_utf8_unchecked(text) }
+    }
+
+    // Puts the text into a buffer at a place, and tells where it ends there. What stands behind that is lost.
+    #[inline(always)]
+    pub fn put(&self, buffer: &mut [u8], at: usize) -> usize
+        requires { at + N ≤ length buffer.old }
+        ensures text { take result buffer.new ≡ take at buffer.old ++ self.now }
+        ensures end { (at ≤ result) × (result ≤ at + N) }
+        ensures size { length buffer.new ≡ length buffer.old }
+        ensures plain { IsTrue (is_alphanumeric self.now) }
+    {
+        buffer[at..at + N].copy_from_slice(&self.bytes);
+        at + self.len()
+    }
+
+    // Puts `-` and the text into a buffer at a place, and tells where they end there.
+    #[inline(always)]
+    pub fn put_after_dash(&self, buffer: &mut [u8], at: usize) -> usize
+        requires { at + (1 + N) ≤ length buffer.old }
+        ensures text { take result buffer.new ≡ take at buffer.old ++ (codes "-" ++ self.now) }
+        ensures end { (at ≤ result) × (result ≤ at + (1 + N)) }
+        ensures size { length buffer.new ≡ length buffer.old }
+        ensures plain { IsTrue (is_alphanumeric self.now) }
+    {
+        buffer[at] = b'-';
+        self.put(buffer, at + 1)
     }
 
     // The text with the zeros behind it, which has the order of the text alone.

@@ -3,37 +3,38 @@
 use icu_locale_core::{Language, Region, Script, Variant};
 
 /// A kind of names: whose name it is, how long it may be, and how common a locale's use of it is. A light kind holds
-/// the names that a tiny one leaves out, and a heavy kind those that a light one leaves out.
+/// the names that a tiny one leaves out, and a heavy kind those that a light one leaves out. Their order is that of these
+/// words, so that tables whose kinds are listed by name are filled from one end.
 #[derive(Clone, Copy, Debug, PartialEq, Eq, PartialOrd, Ord)]
 pub enum NameMarker {
-    /// Names of regions of medium length, the most asked ones.
-    RegionMediumTiny,
-    /// Names of regions of medium length.
-    RegionMediumLight,
-    /// Short names of regions, the most asked ones.
-    RegionShortTiny,
-    /// Short names of regions.
-    RegionShortLight,
-    /// Names of languages of medium length, the most asked ones.
-    LanguageMediumTiny,
-    /// Names of languages of medium length.
-    LanguageMediumLight,
-    /// Names of languages of medium length, the rare ones too.
-    LanguageMediumHeavy,
-    /// Short names of languages.
-    LanguageShortLight,
-    /// Short names of languages, the rare ones too.
-    LanguageShortHeavy,
-    /// Long names of languages.
-    LanguageLongLight,
     /// Long names of languages, the rare ones too.
     LanguageLongHeavy,
-    /// Names of scripts of medium length, the most asked ones.
-    ScriptMediumTiny,
-    /// Names of scripts of medium length.
-    ScriptMediumLight,
+    /// Long names of languages.
+    LanguageLongLight,
+    /// Names of languages of medium length, the rare ones too.
+    LanguageMediumHeavy,
+    /// Names of languages of medium length.
+    LanguageMediumLight,
+    /// Names of languages of medium length, the most asked ones.
+    LanguageMediumTiny,
+    /// Short names of languages, the rare ones too.
+    LanguageShortHeavy,
+    /// Short names of languages.
+    LanguageShortLight,
+    /// Names of regions of medium length.
+    RegionMediumLight,
+    /// Names of regions of medium length, the most asked ones.
+    RegionMediumTiny,
+    /// Short names of regions.
+    RegionShortLight,
+    /// Short names of regions, the most asked ones.
+    RegionShortTiny,
     /// Names of scripts of medium length, the rare ones too.
     ScriptMediumHeavy,
+    /// Names of scripts of medium length.
+    ScriptMediumLight,
+    /// Names of scripts of medium length, the most asked ones.
+    ScriptMediumTiny,
     /// Short names of scripts, the rare ones too.
     ScriptShortHeavy,
     /// Names of variants.

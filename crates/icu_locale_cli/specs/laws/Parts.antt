@@ -1,9 +1,9 @@
--- A text that is cut behind a line feed, its parts answered apart: what they give, joined in order, is an output of the
--- whole. So runs over parts may go side by side.
+-- A text that is cut behind a line feed, its parts answered apart: what they give, joined in order,
+-- is an output of the whole. So runs over parts may go side by side.
 use Rattle.std.specs.Prelude.{◌≡◌, ◌↔◌, ℕ, Bool, true, false, ◌&&◌, cond}
 use Rattle.std.specs.Prelude.{List, [], ◌∷◌, ◌++◌, Some}
 use Rattle.std.specs.List.{AllZip, slice_split, onto_first}
-use Rattle.std.proofs.Common.{refl, ap, sym, subst, ◌∙◌, append_assoc, append-nil}
+use Rattle.std.proofs.Common.{refl, ap, sym, subst, ◌∙◌, append-nil}
 use Rattle.std.proofs.lemmas.Bool.{false≢true}
 use Rattle.std.proofs.lemmas.List.Folds.{list_all-append}
 use Rattle.std.proofs.lemmas.Grind.{flat_map-append}
@@ -59,7 +59,7 @@ record HasFront (all : List ℕ → List (List ℕ)) : Type 0 where
 has_lines : (a : List ℕ) → HasFront (λ b. slice_split is_line_feed (a ++ 10 ∷ b))
 has_lines [] = record { first = []; others = []; are = λ b. refl }
 has_lines (c ∷ a) = let more = has_lines a in elim (is_line_feed c)
-    as (λ f. HasFront (λ b. cond f ([] ∷ pieces (a ++ 10 ∷ b)) (onto_first c (pieces (a ++ 10 ∷ b))))) [
+    as (λ f. HasFront (λ b. let ps = pieces (a ++ 10 ∷ b) in cond f ([] ∷ ps) (onto_first c ps))) [
   | true ↦ record { first = []; others = more.first ∷ more.others;
     are = λ b. ap (λ ps. [] ∷ ps) (more.are b) }
   | false ↦ record { first = c ∷ more.first; others = more.others;
@@ -90,8 +90,8 @@ all_accepted_of_parts : (p q : Bool) → ((p && q) ≡ true) ↔ ((p ≡ true) �
 all_accepted_of_parts true q = (λ e. (refl, e), λ both. both.1)
 all_accepted_of_parts false q = (λ e. absurd (false≢true e), λ both. absurd (false≢true both.0))
 
--- what runs over two parts write, one after the other, is what a run over the whole may write: it accepts every line
--- exactly where they do
+-- what runs over two parts write, one after the other, is what a run over the whole may write: it
+-- accepts every line exactly where they do
 pub outputs_of_parts : (work : Work) (a b one two : List ℕ) (of_one of_two whole : Status)
     → WritesAll work (a ++ 10 ∷ []) (Some []) (Some one) of_one
     → WritesAll work b (Some []) (Some two) of_two
