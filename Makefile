@@ -1,7 +1,8 @@
-# `make` proves the crates, builds the program and leaves it here; `make test` checks everything.
+# `make` proves the crates, builds the program and leaves it here; `make test` checks everything; `make compare` measures
+# the program beside others, once it is built.
 PROGRAM = icu_locale_cli
 
-.PHONY: all test
+.PHONY: all test compare
 .SILENT: test
 
 all:
@@ -12,3 +13,6 @@ test:
 	.ci/borrows/run
 	.ci/examples/run
 	rt ci
+
+compare:
+	bench/compare/run

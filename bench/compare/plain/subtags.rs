@@ -46,51 +46,52 @@ pub struct Identifier {
     pub variants: Vec<Variant>,
 }
 
-fn padded<const SIZE: usize>(piece: &[u8]) -> [u8; SIZE] {
-    let mut subtag = [0; SIZE];
-    subtag[..piece.len()].copy_from_slice(piece);
+/// Up to eight bytes in lower case.
+fn lower_padded(piece: &[u8]) -> [u8; 8] {
+    let mut subtag = [0; 8];
+    for (kept, byte) in subtag.iter_mut().zip(piece) {
+        *kept = byte.to_ascii_lowercase();
+    }
     subtag
 }
 
-fn are_letters(piece: &[u8]) -> bool {
-    piece.iter().all(u8::is_ascii_alphabetic)
-}
-
 pub fn language(piece: &[u8]) -> Option<Language> {
-    if !matches!(piece.len(), 2 | 3) || !are_letters(piece) {
-        return None;
-    }
-    Some(padded(piece).map(|byte: u8| byte.to_ascii_lowercase()))
+    let language = match *piece {
+        [first, second] => [first, second, 0],
+        [first, second, third] => [first, second, third],
+        _ => return None,
+    };
+    let reads = piece.iter().all(u8::is_ascii_alphabetic);
+    reads.then(|| language.map(|byte| byte.to_ascii_lowercase()))
 }
 
 pub fn script(piece: &[u8]) -> Option<Script> {
-    if piece.len() != 4 || !are_letters(piece) {
-        return None;
-    }
-    let mut subtag: Script = padded(piece).map(|byte: u8| byte.to_ascii_lowercase());
-    subtag[0] = subtag[0].to_ascii_uppercase();
-    Some(subtag)
+    let script: Script = piece.try_into().ok()?;
+    let reads = script.iter().all(u8::is_ascii_alphabetic);
+    let [first, rest @ ..] = script.map(|byte| byte.to_ascii_lowercase());
+    reads.then_some([first.to_ascii_uppercase(), rest[0], rest[1], rest[2]])
 }
 
 pub fn region(piece: &[u8]) -> Option<Region> {
-    let reads = match piece.len() {
-        2 => are_letters(piece),
-        3 => piece.iter().all(u8::is_ascii_digit),
-        _ => false,
-    };
-    reads.then(|| padded(piece).map(|byte: u8| byte.to_ascii_uppercase()))
+    match *piece {
+        [first, second] if piece.iter().all(u8::is_ascii_alphabetic) => {
+            Some([first.to_ascii_uppercase(), second.to_ascii_uppercase(), 0])
+        }
+        [first, second, third] if piece.iter().all(u8::is_ascii_digit) => Some([first, second, third]),
+        _ => None,
+    }
 }
 
 pub fn variant(piece: &[u8]) -> Option<Variant> {
     let fits = matches!(piece.len(), 5..=8) || (piece.len() == 4 && piece[0].is_ascii_digit());
     let reads = fits && piece.iter().all(u8::is_ascii_alphanumeric);
-    reads.then(|| padded(piece).map(|byte: u8| byte.to_ascii_lowercase()))
+    reads.then(|| lower_padded(piece))
 }
 
 /// A piece of a value: 3 to 8 letters or digits.
 pub fn value_piece(piece: &[u8]) -> Option<[u8; 8]> {
     let reads = matches!(piece.len(), 3..=8) && piece.iter().all(u8::is_ascii_alphanumeric);
-    reads.then(|| padded(piece).map(|byte: u8| byte.to_ascii_lowercase()))
+    reads.then(|| lower_padded(piece))
 }
 
 /// The bytes of a subtag without its padding.

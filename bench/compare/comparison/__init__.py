@@ -1,0 +1,1 @@
+"""The program beside others: what each answers, and what a line costs."""

@@ -1,0 +1,208 @@
+"""What the program and ICU4C answer over CLDR's own lists, and why they differ where they do."""
+import json
+import re
+import subprocess
+import xml.etree.ElementTree
+from collections import Counter
+from dataclasses import dataclass, field
+
+from .inputs import LOCALES
+from .programs import COMMON, output_of
+
+SUITE = "testData/localeIdentifiers/localeCanonicalization.txt"
+# A language that every locale names, and no locale names together with a script or a region.
+CARRIER = "it"
+KINDS = {
+    "bare und": ("`und` alone",
+                 "ICU fills it in from CLDR's row of `und`; here it stays, since it has no script and no region."),
+    "macro region": ("macro regions",
+                     "ICU replaces the region by that of the row; here maximizing replaces no subtag that is given."),
+    "data": ("other data", "ICU's own row of this subtag is another one than that of this version of CLDR."),
+    "root": ("`und` is the root", "ICU takes `und` for the locale `root`, and says so."),
+    "brackets": ("brackets in brackets", "ICU makes round brackets square inside those of the pattern."),
+    "data and brackets": ("both", "ICU's own row is another one, and its brackets are made square."),
+    "unexplained": ("unexplained", ""),
+}
+
+
+@dataclass
+class Comparison:
+    """One list: how many were asked, and those that differ by kind, each with both answers. Lists of a group are alike."""
+
+    title: str
+    group: str
+    asked: int = 0
+    differing: dict = field(default_factory=dict)
+
+    def add(self, kind, question, ours, theirs):
+        self.asked += 1
+        if kind is not None:
+            self.differing.setdefault(kind, []).append((question, ours, theirs))
+
+    @property
+    def agreeing(self):
+        return self.asked - sum(len(found) for found in self.differing.values())
+
+
+def parsed(name):
+    return xml.etree.ElementTree.parse(COMMON / name).getroot()
+
+
+def answers(program, command, questions, inputs, locale="en"):
+    """The answer to each question, without the mark behind it."""
+    path = inputs.work / "questions"
+    tables = inputs.tables.read_text() if program.takes_tables else ""
+    path.write_text(tables + "".join(f"{question}\n" for question in questions))
+    return [line.split("\t")[0] for line in output_of(program, command, path, locale)]
+
+
+def spelled(identifier):
+    """One spelling for what ICU and CLDR spell otherwise."""
+    pieces = re.split("[-_]", identifier.lower())
+    return "-".join([pieces[0] or "und", *(piece for piece in pieces[1:] if piece)])
+
+
+def icu_rows(icu, *words):
+    """The rows of ICU's own data, by kind and key."""
+    ran = subprocess.run([*icu.words, *words], capture_output=True, text=True, check=True)
+    rows = (line.split("\t") for line in ran.stdout.split("\n") if line)
+    return {(kind, key): text for kind, key, text in rows}
+
+
+def macro_regions():
+    """The regions that contain others."""
+    return {group.get("type") for group in parsed("supplemental/supplementalData.xml").iter("group")}
+
+
+def with_region(identifier, region):
+    """A full identifier of three subtags, with another region."""
+    return "-".join([*identifier.split("-")[:2], region])
+
+
+def maximal_kind(key, ours, theirs, row, own_row, macros):
+    """Why maximal forms differ: row is that of CLDR, own_row that of ICU."""
+    if spelled(ours) == spelled(theirs):
+        return None
+    if key == "und":
+        return "bare und" if spelled(theirs) == spelled(row) else "unexplained"
+    if own_row != row and spelled(theirs) == spelled(own_row):
+        return "data"
+    region = key.split("_")[-1]
+    if region in macros and with_region(ours, theirs.split("-")[-1]) == theirs and theirs == row.replace("_", "-"):
+        return "macro region"
+    return "unexplained"
+
+
+def compare_maximal(program, icu, inputs):
+    """The maximal form of every key of CLDR's likely subtags."""
+    rows = {row.get("from"): row.get("to") for row in parsed("supplemental/likelySubtags.xml").iter("likelySubtag")}
+    own, macros = icu_rows(icu, "likely"), macro_regions()
+    found = Comparison("maximal forms of the keys of CLDR's likely subtags", "maximal forms")
+    mine = answers(program, "maximize", rows, inputs)
+    theirs = answers(icu, "maximize", rows, inputs)
+    for (key, row), one, other in zip(rows.items(), mine, theirs):
+        found.add(maximal_kind(key, one, other, row, own.get(("likely", key)), macros), key, one, other)
+    return found
+
+
+def suite_rows():
+    """The identifiers of CLDR's suite, and their canonical forms."""
+    lines = (COMMON / SUITE).read_text().split("\n")
+    rows = (line.split(";") for line in lines if ";" in line and not line.startswith("#"))
+    return {source.strip(): wanted.strip() for source, wanted in rows}
+
+
+def compare_canonical(program, icu, inputs):
+    """The canonical forms of CLDR's suite: against ICU4C, and of both against the suite."""
+    rows = suite_rows()
+    found = Comparison("canonical forms of CLDR's suite", "canonical forms")
+    mine, theirs = answers(program, "canonicalize", rows, inputs), answers(icu, "canonicalize", rows, inputs)
+    right = Counter()
+    for (source, wanted), one, other in zip(rows.items(), mine, theirs):
+        found.add(None if spelled(one) == spelled(other) else "unexplained", source, one, other)
+        right[program.name] += spelled(one) == spelled(wanted)
+        right[icu.name] += spelled(other) == spelled(wanted)
+    return found, right, len(rows)
+
+
+def square(name):
+    return name.replace("(", "[").replace(")", "]")
+
+
+def name_kind(subject, ours, theirs, row, own_row):
+    """Why names differ: row is CLDR's name of the subtag, and own_row that of ICU."""
+    if ours == theirs:
+        return None
+    if subject == "und":
+        return "root" if theirs == "root" else "unexplained"
+    if own_row is None:
+        return "unexplained"
+    begin, _, end = ours.rpartition(row)
+    if subject.startswith(f"{CARRIER}-"):
+        if begin + square(row) + end == theirs:
+            return "brackets"
+        if begin + own_row + end == theirs:
+            return "data"
+        return "data and brackets" if begin + square(own_row) + end == theirs else "unexplained"
+    return "data" if own_row == theirs else "unexplained"
+
+
+def subjects_of(tables, locale):
+    """Every language, script and region that CLDR names in a locale: kind, subtag, what is asked, and its name."""
+    for kind, marker in (("language", "language/medium/tiny"), ("script", "script/medium/tiny"),
+                         ("region", "region/medium/tiny")):
+        for subtag, name in tables["names"][marker][locale].items():
+            yield kind, subtag, subtag if kind == "language" else f"{CARRIER}-{subtag}", name
+
+
+def compare_names(program, icu, inputs, locale):
+    """The names of every language, script and region that CLDR names in a locale."""
+    subjects = list(subjects_of(json.loads(inputs.tables.read_text()), locale))
+    questions = [question for _, _, question, _ in subjects]
+    own = icu_rows(icu, "names", locale)
+    found = Comparison(f"names of languages, scripts and regions in `{locale}`", "names")
+    mine = answers(program, "name", questions, inputs, locale)
+    theirs = answers(icu, "name", questions, inputs, locale)
+    for (kind, subtag, question, name), one, other in zip(subjects, mine, theirs):
+        own_row = own.get((kind, subtag.replace("-", "_")))
+        found.add(name_kind(question, one, other, name, own_row), question, one, other)
+    return found
+
+
+def table_of_counts(comparisons):
+    yield "| | asked | agree | differ | unexplained |"
+    yield "|---|---|---|---|---|"
+    for found in comparisons:
+        unexplained = len(found.differing.get("unexplained", []))
+        yield f"| {found.title} | {found.asked} | {found.agreeing} | {found.asked - found.agreeing} | {unexplained} |"
+
+
+def by_kind(comparisons):
+    """All that differ, by group and kind."""
+    found = {}
+    for comparison in comparisons:
+        for kind, differing in comparison.differing.items():
+            found.setdefault((comparison.group, kind), []).extend(differing)
+    return found
+
+
+def table_of_kinds(comparisons):
+    yield "| where | kind of difference | how many | cause | for example: here, ICU4C |"
+    yield "|---|---|---|---|---|"
+    for (group, kind), differing in by_kind(comparisons).items():
+        title, cause = KINDS[kind]
+        question, ours, theirs = differing[0]
+        yield f"| {group} | {title} | {len(differing)} | {cause} | `{question}`: `{ours}`, `{theirs}` |"
+
+
+def report(program, icu, inputs):
+    """The section of answers, as lines of Markdown."""
+    canonical, right, whole = compare_canonical(program, icu, inputs)
+    comparisons = [compare_maximal(program, icu, inputs), canonical]
+    comparisons += [compare_names(program, icu, inputs, locale) for locale in LOCALES]
+    yield from table_of_counts(comparisons)
+    yield ""
+    suite = " and ".join(f"{right[name]} by {name}" for name in (program.name, icu.name))
+    yield f"Of the {whole} canonical forms that the suite itself wants, {suite} are those."
+    yield ""
+    yield from table_of_kinds(comparisons)

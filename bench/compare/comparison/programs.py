@@ -1,0 +1,156 @@
+"""The programs that are compared: where they are, how they are run, and what a run costs."""
+import os
+import re
+import shutil
+import subprocess
+import sys
+from dataclasses import dataclass
+from pathlib import Path
+
+HERE = Path(__file__).resolve().parent.parent
+ROOT = HERE.parent.parent
+COMMON = Path(os.environ.get("CLDR", "/usr/share/unicode/cldr/common"))
+COMMANDS = ["maximize", "minimize", "minimize-script", "canonicalize", "direction", "negotiate", "name"]
+NAMED_IN = "en"
+ACCEPTED = (0, 1)
+# Starts a program from a small process, since the memory of what starts it counts as its own, and writes what it took.
+COSTS = """
+import os, sys
+process = os.spawnvp(os.P_NOWAIT, sys.argv[1], sys.argv[1:])
+_, status, usage = os.wait4(process, 0)
+print(os.waitstatus_to_exitcode(status), usage.ru_utime + usage.ru_stime, usage.ru_maxrss * 1024, file=sys.stderr)
+"""
+
+
+class Stop(Exception):
+    """Why a comparison stops: what is missing, or what went wrong."""
+
+
+@dataclass
+class Program:
+    """A program, the words before those of a command, and what it can do."""
+
+    name: str
+    words: list
+    commands: list
+    takes_tables: bool = False
+    is_counted: bool = True
+
+    def run_words(self, command, locale=NAMED_IN):
+        """The words of a run."""
+        if self.takes_tables:
+            middle = ["name", "light", locale] if command == "name" else [command]
+            return [*self.words, *middle, "json"]
+        return [*self.words, command, *([locale] if command == "name" else [])]
+
+
+@dataclass
+class Cost:
+    """What a run took: processor time in seconds, and the most memory in bytes."""
+
+    seconds: float
+    memory: int
+
+
+def need(found, package):
+    """Stops where something is missing, and names its Debian package."""
+    if not found:
+        raise Stop(f"missing: Debian's package {package}")
+
+
+def check_packages():
+    """Stops where a package is missing that every comparison needs."""
+    need(COMMON.is_dir(), "unicode-cldr-core (or CLDR=FOLDER for its folder `common`)")
+    need(shutil.which("rustc"), "rustc")
+    need(shutil.which("g++"), "g++")
+    need(Path("/usr/include/unicode/uloc.h").exists(), "libicu-dev")
+    for word, package in (("valgrind", "valgrind"), ("node", "nodejs"), ("parallel", "parallel")):
+        if not shutil.which(word):
+            print(f"without {word}, whose figures are left out: Debian's package {package}", file=sys.stderr)
+
+
+def this_program():
+    """The program of this repository."""
+    path = Path(os.environ.get("PROGRAM", ROOT / "icu_locale_cli")).resolve()
+    if not path.exists():
+        raise Stop(f"missing: {path}, which `make` builds (or PROGRAM=PATH)")
+    return Program("this program", [str(path)], COMMANDS, takes_tables=True)
+
+
+def plain_program(work):
+    """The plain Rust program, built."""
+    path = work / "plain"
+    source = HERE / "plain" / "main.rs"
+    subprocess.run(["rustc", "--edition", "2024", "-O", "-o", path, source], check=True)
+    return Program("plain Rust", [str(path)], COMMANDS, takes_tables=True)
+
+
+def icu_program(work):
+    """The program over ICU4C, built."""
+    path = work / "icu"
+    words = ["g++", "-std=c++17", "-O2", "-o", path, HERE / "icu.cpp", "-licuuc", "-licui18n"]
+    subprocess.run(words, check=True)
+    commands = [command for command in COMMANDS if command != "minimize-script"]
+    return Program("ICU4C", [str(path)], commands)
+
+
+def node_program():
+    """The program over Intl, where Node.js is installed."""
+    if not shutil.which("node"):
+        return None
+    commands = [command for command in COMMANDS if command not in ("minimize-script", "negotiate")]
+    return Program("Node.js", ["node", str(HERE / "intl.mjs")], commands, is_counted=False)
+
+
+def output_of(program, command, path, locale=NAMED_IN):
+    """What a run writes, as lines."""
+    with open(path, "rb") as stdin:
+        ran = subprocess.run(program.run_words(command, locale), stdin=stdin, stdout=subprocess.PIPE)
+    if ran.returncode not in ACCEPTED:
+        raise Stop(f"{program.name} ended with status {ran.returncode} at {command}")
+    return ran.stdout.decode().split("\n")[:-1]
+
+
+def write_output(program, command, path, target):
+    """Puts what a run writes into a file."""
+    with open(path, "rb") as stdin, open(target, "wb") as stdout:
+        subprocess.run(program.run_words(command), stdin=stdin, stdout=stdout)
+
+
+def cost_of(program, command, path):
+    """What a run costs."""
+    words = [sys.executable, "-S", "-E", "-c", COSTS, *program.run_words(command)]
+    with open(path, "rb") as stdin:
+        ran = subprocess.run(words, stdin=stdin, stdout=subprocess.DEVNULL, stderr=subprocess.PIPE, text=True)
+    status, seconds, memory = ran.stderr.split("\n")[-2].split()
+    if int(status) not in ACCEPTED:
+        raise Stop(f"{program.name} ended with status {status} at {command}: {ran.stderr}")
+    return Cost(float(seconds), int(memory))
+
+
+def instructions_of(program, command, path):
+    """The instructions of a run as valgrind counts them, or None where it cannot."""
+    if not program.is_counted or not shutil.which("valgrind"):
+        return None
+    words = ["valgrind", "--tool=callgrind", "--callgrind-out-file=/dev/null", *program.run_words(command)]
+    with open(path, "rb") as stdin:
+        ran = subprocess.run(words, stdin=stdin, stdout=subprocess.DEVNULL, stderr=subprocess.PIPE, text=True)
+    return int(re.search(r"Collected : (\d+)", ran.stderr)[1])
+
+
+def first_line_of(words):
+    ran = subprocess.run(words, capture_output=True, text=True)
+    return (ran.stdout.strip() or ran.stderr.strip()).split("\n")[0]
+
+
+def versions(icu, node):
+    """The versions of everything that is compared, one a line."""
+    found = [first_line_of(["rustc", "--version"]), first_line_of(["g++", "--version"])]
+    found.append(first_line_of([*icu.words, "versions"]))
+    if node:
+        found.append(first_line_of([*node.words, "versions"]))
+    if shutil.which("valgrind"):
+        found.append(first_line_of(["valgrind", "--version"]))
+    if shutil.which("parallel"):
+        found.append(first_line_of(["parallel", "--version"]))
+    return found

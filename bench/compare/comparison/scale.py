@@ -1,0 +1,52 @@
+"""One run beside parts of it that run side by side, by GNU parallel."""
+import os
+import shutil
+import subprocess
+import time
+
+from .programs import Stop
+
+COMMAND = "maximize"
+BLOCK = "1M"
+
+
+def timed(words, path, target):
+    """How long a command takes on the clock, from a file to a file."""
+    start = time.monotonic()
+    with open(path, "rb") as stdin, open(target, "wb") as stdout:
+        subprocess.run(words, stdin=stdin, stdout=stdout, stderr=subprocess.DEVNULL)
+    return time.monotonic() - start
+
+
+def is_same(one, other):
+    return subprocess.run(["cmp", "-s", one, other]).returncode == 0
+
+
+def runs(program, path):
+    """Each way to run, by the words that are shown, with its own words."""
+    run = program.run_words(COMMAND)
+    by_pipe = ["parallel", "--pipe", "--header", "1", "-k", "--block", BLOCK]
+    by_part = ["parallel", "--pipepart", "-a", str(path), "--header", "1", "-k", "--block", BLOCK]
+    every = str(os.cpu_count())
+    yield "one run", "1", run
+    yield "`parallel --pipe`", "1", [*by_pipe, "-j", "1", *run]
+    yield "`parallel --pipe`", every, [*by_pipe, "-j", every, *run]
+    yield "`parallel --pipepart`", every, [*by_part, "-j", every, *run]
+
+
+def report(program, inputs, lines):
+    """The section of parts, as lines of Markdown."""
+    if not shutil.which("parallel"):
+        raise Stop("missing: Debian's package parallel")
+    path = inputs.of(program, COMMAND, lines)
+    whole, part = inputs.work / "whole", inputs.work / "part"
+    yield f"`{COMMAND}` over {lines:,} lines and CLDR's tables, in blocks of {BLOCK}, seconds on the clock:"
+    yield ""
+    yield "| | processors | seconds | output |"
+    yield "|---|---|---|---|"
+    for title, processors, words in runs(program, path):
+        first = title == "one run"
+        seconds = timed(words, path, whole if first else part)
+        if not first and not is_same(whole, part):
+            raise Stop(f"{title} on {processors} processors wrote something else than one run")
+        yield f"| {title} | {processors} | {seconds:.2f} | {'' if first else 'equal to that of one run'} |"
