@@ -1,5 +1,5 @@
-# `make` proves the crates, builds the program and leaves it here; `make test` checks everything; `make compare` measures
-# the program beside others, once it is built.
+# `make` proves the crates, builds the program and leaves it here; `make test` checks everything; `make compare`
+# measures the program beside others, once it is built.
 PROGRAM = icu_locale_cli
 
 .PHONY: all test compare

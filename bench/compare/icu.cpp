@@ -1,10 +1,12 @@
-// Locale identifiers by line with ICU4C, by the calls that ICU offers for each command.
+// Locale identifiers by line with ICU4C.
 //
-//     icu COMMAND [LOCALE]
+//     icu [own] COMMAND [LOCALE]
 //
-// The commands are those of icu_locale_cli, as far as ICU has them: maximize, minimize, canonicalize, direction, negotiate
-// (the first line lists what is available) and `name LOCALE`. `likely`, `aliases` and `names LOCALE` write the rows of
-// ICU's own data, and `versions` says which these are.
+// The commands are those of icu_locale_cli, as far as ICU has them: maximize, minimize, canonicalize, direction,
+// negotiate (the first line lists what is available) and `name LOCALE`. They read and write language tags, and refuse
+// a line that is none. With `own` they take each line for an identifier of ICU's own form, refuse nothing, and make no
+// tag of the result: the shortest way through ICU. `likely` and `names LOCALE` write rows of ICU's own data, and
+// `versions` says which that is.
 #include <cstdio>
 #include <cstring>
 #include <iostream>
@@ -12,6 +14,7 @@
 #include <string>
 #include <vector>
 
+#include <unicode/bytestream.h>
 #include <unicode/localematcher.h>
 #include <unicode/locdspnm.h>
 #include <unicode/locid.h>
@@ -38,37 +41,89 @@ void append_hyphened(std::string &output, const char *identifier) {
     }
 }
 
-// One of ICU's calls that make an identifier of an identifier.
-using Transform = int32_t (*)(const char *, char *, int32_t, UErrorCode *);
+// The ways to take a line: as a language tag, or as an identifier of ICU's own form.
+enum class Form { Tag, Own };
 
-void append_transformed(std::string &output, const char *line, Transform transform) {
+Locale read_locale(const std::string &text, Form form) {
+    if (form == Form::Own) {
+        return Locale(text.c_str());
+    }
+    UErrorCode status = U_ZERO_ERROR;
+    Locale locale = Locale::forLanguageTag(text, status);
+    if (U_FAILURE(status)) {
+        locale.setToBogus();
+    }
+    return locale;
+}
+
+void append_locale(std::string &output, const Locale &locale, Form form) {
+    if (locale.isBogus()) {
+        output += REFUSED;
+    } else if (form == Form::Own) {
+        append_hyphened(output, locale.getName());
+    } else {
+        UErrorCode status = U_ZERO_ERROR;
+        icu::StringByteSink<std::string> sink(&output);
+        locale.toLanguageTag(sink, status);
+    }
+}
+
+// One of ICU's calls that make an identifier of an identifier of its own form.
+using OwnTransform = int32_t (*)(const char *, char *, int32_t, UErrorCode *);
+
+void append_own(std::string &output, const char *line, OwnTransform transform) {
     char result[CAPACITY];
     UErrorCode status = U_ZERO_ERROR;
     transform(line, result, CAPACITY, &status);
     append_hyphened(output, U_SUCCESS(status) && result[0] != 0 ? result : REFUSED);
 }
 
-void append_canonical(std::string &output, const char *line) {
-    Locale locale = Locale::createCanonical(line);
-    append_hyphened(output, locale.isBogus() ? REFUSED : locale.getName());
+// One of ICU's calls that change a locale.
+using Transform = void (Locale::*)(UErrorCode &);
+
+void append_transformed(std::string &output, const std::string &line, Transform transform) {
+    Locale locale = read_locale(line, Form::Tag);
+    UErrorCode status = U_ZERO_ERROR;
+    if (!locale.isBogus()) {
+        (locale.*transform)(status);
+    }
+    append_locale(output, locale, Form::Tag);
 }
 
-void append_name(std::string &output, const char *line, const LocaleDisplayNames &names) {
+void append_direction(std::string &output, const std::string &line, Form form) {
+    if (form == Form::Own) {
+        output += uloc_isRightToLeft(line.c_str()) ? "rtl" : "ltr";
+        return;
+    }
+    Locale locale = read_locale(line, form);
+    output += locale.isBogus() ? REFUSED : locale.isRightToLeft() ? "rtl" : "ltr";
+}
+
+void append_name(std::string &output, const std::string &line, Form form, const LocaleDisplayNames &names) {
     UnicodeString name;
-    names.localeDisplayName(line, name).toUTF8String(output);
+    if (form == Form::Own) {
+        names.localeDisplayName(line.c_str(), name).toUTF8String(output);
+        return;
+    }
+    Locale locale = read_locale(line, form);
+    if (locale.isBogus()) {
+        output += REFUSED;
+    } else {
+        names.localeDisplayName(locale, name).toUTF8String(output);
+    }
 }
 
-std::vector<Locale> read_list(const std::string &line) {
+std::vector<Locale> read_list(const std::string &line, Form form) {
     std::vector<Locale> list;
     std::istringstream words(line);
     for (std::string word; words >> word;) {
-        list.emplace_back(word.c_str());
+        list.push_back(read_locale(word, form));
     }
     return list;
 }
 
-void append_negotiated(std::string &output, const std::string &line, const LocaleMatcher &matcher) {
-    std::vector<Locale> requests = read_list(line);
+void append_negotiated(std::string &output, const std::string &line, Form form, const LocaleMatcher &matcher) {
+    std::vector<Locale> requests = read_list(line, form);
     Locale::RangeIterator<std::vector<Locale>::iterator> range(requests.begin(), requests.end());
     UErrorCode status = U_ZERO_ERROR;
     LocaleMatcher::Result result = matcher.getBestMatchResult(range, status);
@@ -77,13 +132,13 @@ void append_negotiated(std::string &output, const std::string &line, const Local
         return;
     }
     output += std::to_string(result.getDesiredIndex()) + "\t";
-    append_hyphened(output, result.getSupportedLocale()->getName());
+    append_locale(output, *result.getSupportedLocale(), form);
 }
 
-LocaleMatcher make_matcher(UErrorCode &status) {
+LocaleMatcher make_matcher(Form form, UErrorCode &status) {
     std::string first;
     std::getline(std::cin, first);
-    std::vector<Locale> available = read_list(first);
+    std::vector<Locale> available = read_list(first, form);
     LocaleMatcher::Builder builder;
     builder.setSupportedLocales(available.begin(), available.end());
     builder.setNoDefaultLocale();
@@ -116,25 +171,16 @@ std::string text_of(const UResourceBundle *row, UErrorCode &status) {
     return bytes;
 }
 
-// Writes each row of a table of texts: `kind`, the key and the text. Where a row is a table, its replacement is meant.
+// Writes each row of a table of texts: `kind`, the key and the text.
 void write_rows(const char *kind, UResourceBundle *table) {
-    UErrorCode status = U_ZERO_ERROR;
     int32_t count = ures_getSize(table);
     for (int32_t place = 0; place < count; place++) {
+        UErrorCode status = U_ZERO_ERROR;
         UResourceBundle *row = ures_getByIndex(table, place, nullptr, &status);
-        const char *key = ures_getKey(row);
-        std::string text;
-        if (ures_getType(row) == URES_TABLE) {
-            UResourceBundle *replacement = ures_getByKey(row, "replacement", nullptr, &status);
-            text = text_of(replacement, status);
-            ures_close(replacement);
-        } else {
-            text = text_of(row, status);
-        }
+        std::string text = text_of(row, status);
         if (U_SUCCESS(status)) {
-            std::printf("%s\t%s\t%s\n", kind, key, text.c_str());
+            std::printf("%s\t%s\t%s\n", kind, ures_getKey(row), text.c_str());
         }
-        status = U_ZERO_ERROR;
         ures_close(row);
     }
 }
@@ -159,20 +205,6 @@ int write_likely() {
     return U_SUCCESS(status) ? 0 : 2;
 }
 
-int write_aliases() {
-    UErrorCode status = U_ZERO_ERROR;
-    UResourceBundle *metadata = ures_openDirect(nullptr, "metadata", &status);
-    UResourceBundle *aliases = ures_getByKey(metadata, "alias", nullptr, &status);
-    for (const char *kind : {"language", "script", "territory", "variant", "subdivision"}) {
-        UResourceBundle *table = ures_getByKey(aliases, kind, nullptr, &status);
-        write_rows(kind, table);
-        ures_close(table);
-    }
-    ures_close(aliases);
-    ures_close(metadata);
-    return U_SUCCESS(status) ? 0 : 2;
-}
-
 int write_names(const char *locale) {
     return write_member_rows(U_ICUDATA_NAME "-lang", locale, "Languages", "language") +
            write_member_rows(U_ICUDATA_NAME "-lang", locale, "Scripts", "script") +
@@ -189,33 +221,62 @@ int write_versions() {
     return U_SUCCESS(status) ? 0 : 2;
 }
 
-int answer(const std::string &command, const char *locale) {
+int usage() {
+    std::fprintf(stderr, "usage: icu [own] COMMAND [LOCALE]\n");
+    return 2;
+}
+
+// Answers lines by the commands that change an identifier.
+int transform(const std::string &command, Form form) {
+    struct Calls {
+        const char *command;
+        Transform of_tag;
+        OwnTransform own;
+    };
+    static const Calls calls[] = {
+        {"maximize", &Locale::addLikelySubtags, uloc_addLikelySubtags},
+        {"minimize", &Locale::minimizeSubtags, uloc_minimizeSubtags},
+    };
+    for (const Calls &call : calls) {
+        if (command == call.command) {
+            answer_lines([&call, form](std::string &output, const std::string &line) {
+                if (form == Form::Own) {
+                    append_own(output, line.c_str(), call.own);
+                } else {
+                    append_transformed(output, line, call.of_tag);
+                }
+            });
+            return 0;
+        }
+    }
+    return usage();
+}
+
+int answer(const std::string &command, const char *locale, Form form) {
     UErrorCode status = U_ZERO_ERROR;
-    if (command == "maximize" || command == "minimize") {
-        Transform transform = command == "maximize" ? uloc_addLikelySubtags : uloc_minimizeSubtags;
-        answer_lines([transform](std::string &output, const std::string &line) {
-            append_transformed(output, line.c_str(), transform);
+    if (command == "canonicalize") {
+        answer_lines([form](std::string &output, const std::string &line) {
+            if (form == Form::Own) {
+                append_locale(output, Locale::createCanonical(line.c_str()), form);
+            } else {
+                append_transformed(output, line, &Locale::canonicalize);
+            }
         });
-    } else if (command == "canonicalize") {
-        answer_lines([](std::string &output, const std::string &line) { append_canonical(output, line.c_str()); });
     } else if (command == "direction") {
-        answer_lines([](std::string &output, const std::string &line) {
-            output += uloc_isRightToLeft(line.c_str()) ? "rtl" : "ltr";
-        });
+        answer_lines([form](std::string &output, const std::string &line) { append_direction(output, line, form); });
     } else if (command == "negotiate") {
-        LocaleMatcher matcher = make_matcher(status);
-        answer_lines([&matcher](std::string &output, const std::string &line) {
-            append_negotiated(output, line, matcher);
+        LocaleMatcher matcher = make_matcher(form, status);
+        answer_lines([&matcher, form](std::string &output, const std::string &line) {
+            append_negotiated(output, line, form, matcher);
         });
     } else if (command == "name") {
         LocaleDisplayNames *names = LocaleDisplayNames::createInstance(Locale(locale), ULDN_DIALECT_NAMES);
-        answer_lines([names](std::string &output, const std::string &line) {
-            append_name(output, line.c_str(), *names);
+        answer_lines([names, form](std::string &output, const std::string &line) {
+            append_name(output, line, form, *names);
         });
         delete names;
     } else {
-        std::fprintf(stderr, "usage: icu COMMAND [LOCALE]\n");
-        return 2;
+        return transform(command, form);
     }
     return U_SUCCESS(status) ? 0 : 2;
 }
@@ -224,19 +285,24 @@ int answer(const std::string &command, const char *locale) {
 
 int main(int count, char **words) {
     std::ios::sync_with_stdio(false);
-    std::string command = count > 1 ? words[1] : "";
-    const char *locale = count > 2 ? words[2] : "en";
-    if (command == "likely") {
+    std::vector<std::string> said(words + 1, words + count);
+    Form form = Form::Tag;
+    if (!said.empty() && said[0] == "own") {
+        form = Form::Own;
+        said.erase(said.begin());
+    }
+    if (said.empty()) {
+        return usage();
+    }
+    const char *locale = said.size() > 1 ? said[1].c_str() : "en";
+    if (said[0] == "likely") {
         return write_likely();
     }
-    if (command == "aliases") {
-        return write_aliases();
-    }
-    if (command == "names") {
+    if (said[0] == "names") {
         return write_names(locale);
     }
-    if (command == "versions") {
+    if (said[0] == "versions") {
         return write_versions();
     }
-    return answer(command, locale);
+    return answer(said[0], locale, form);
 }

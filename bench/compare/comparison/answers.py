@@ -13,6 +13,8 @@ SUITE = "testData/localeIdentifiers/localeCanonicalization.txt"
 # A language that every locale names, and no locale names together with a script or a region.
 CARRIER = "it"
 KINDS = {
+    "reading": ("read as another tag",
+                "ICU replaces what is deprecated in a tag when it reads it; in its own form it answers as here."),
     "bare und": ("`und` alone",
                  "ICU fills it in from CLDR's row of `und`; here it stays, since it has no script and no region."),
     "macro region": ("macro regions",
@@ -27,7 +29,7 @@ KINDS = {
 
 @dataclass
 class Comparison:
-    """One list: how many were asked, and those that differ by kind, each with both answers. Lists of a group are alike."""
+    """One list: how many were asked, and those that differ by kind, with both answers. Lists of a group are alike."""
 
     title: str
     group: str
@@ -49,10 +51,10 @@ def parsed(name):
 
 
 def answers(program, command, questions, inputs, locale="en"):
-    """The answer to each question, without the mark behind it."""
+    """The answer to each identifier, without the mark behind it."""
     path = inputs.work / "questions"
     tables = inputs.tables.read_text() if program.takes_tables else ""
-    path.write_text(tables + "".join(f"{question}\n" for question in questions))
+    path.write_text(tables + "".join(f"{question}\n".replace("_", "-") for question in questions))
     return [line.split("\t")[0] for line in output_of(program, command, path, locale)]
 
 
@@ -79,10 +81,15 @@ def with_region(identifier, region):
     return "-".join([*identifier.split("-")[:2], region])
 
 
-def maximal_kind(key, ours, theirs, row, own_row, macros):
-    """Why maximal forms differ: row is that of CLDR, own_row that of ICU."""
+def read_kind(ours, theirs, own):
+    """Whether identifiers are the same, or would be but for ICU's reading of tags; own is ICU's answer without it."""
     if spelled(ours) == spelled(theirs):
         return None
+    return "reading" if spelled(ours) == spelled(own) else "unexplained"
+
+
+def maximal_kind(key, ours, theirs, row, own_row, macros):
+    """Why maximal forms differ: row is that of CLDR, own_row that of ICU."""
     if key == "und":
         return "bare und" if spelled(theirs) == spelled(row) else "unexplained"
     if own_row != row and spelled(theirs) == spelled(own_row):
@@ -93,15 +100,17 @@ def maximal_kind(key, ours, theirs, row, own_row, macros):
     return "unexplained"
 
 
-def compare_maximal(program, icu, inputs):
+def compare_maximal(program, icu, own, inputs):
     """The maximal form of every key of CLDR's likely subtags."""
     rows = {row.get("from"): row.get("to") for row in parsed("supplemental/likelySubtags.xml").iter("likelySubtag")}
-    own, macros = icu_rows(icu, "likely"), macro_regions()
+    own_rows, macros = icu_rows(icu, "likely"), macro_regions()
     found = Comparison("maximal forms of the keys of CLDR's likely subtags", "maximal forms")
-    mine = answers(program, "maximize", rows, inputs)
-    theirs = answers(icu, "maximize", rows, inputs)
-    for (key, row), one, other in zip(rows.items(), mine, theirs):
-        found.add(maximal_kind(key, one, other, row, own.get(("likely", key)), macros), key, one, other)
+    asked = [answers(it, "maximize", rows, inputs) for it in (program, icu, own)]
+    for (key, row), ours, theirs, owns in zip(rows.items(), *asked):
+        kind = read_kind(ours, theirs, owns)
+        if kind == "unexplained":
+            kind = maximal_kind(key, ours, theirs, row, own_rows.get(("likely", key)), macros)
+        found.add(kind, key, ours, theirs)
     return found
 
 
@@ -112,16 +121,16 @@ def suite_rows():
     return {source.strip(): wanted.strip() for source, wanted in rows}
 
 
-def compare_canonical(program, icu, inputs):
-    """The canonical forms of CLDR's suite: against ICU4C, and of both against the suite."""
+def compare_canonical(program, icu, own, inputs):
+    """The canonical forms of CLDR's suite: against ICU4C, and how many of each are those of the suite."""
     rows = suite_rows()
     found = Comparison("canonical forms of CLDR's suite", "canonical forms")
-    mine, theirs = answers(program, "canonicalize", rows, inputs), answers(icu, "canonicalize", rows, inputs)
+    asked = [answers(it, "canonicalize", rows, inputs) for it in (program, icu, own)]
     right = Counter()
-    for (source, wanted), one, other in zip(rows.items(), mine, theirs):
-        found.add(None if spelled(one) == spelled(other) else "unexplained", source, one, other)
-        right[program.name] += spelled(one) == spelled(wanted)
-        right[icu.name] += spelled(other) == spelled(wanted)
+    for (source, wanted), ours, theirs, owns in zip(rows.items(), *asked):
+        found.add(read_kind(ours, theirs, owns), source, ours, theirs)
+        right[program.name] += spelled(ours) == spelled(wanted)
+        right[icu.name] += spelled(theirs) == spelled(wanted)
     return found, right, len(rows)
 
 
@@ -131,20 +140,15 @@ def square(name):
 
 def name_kind(subject, ours, theirs, row, own_row):
     """Why names differ: row is CLDR's name of the subtag, and own_row that of ICU."""
-    if ours == theirs:
-        return None
     if subject == "und":
         return "root" if theirs == "root" else "unexplained"
     if own_row is None:
         return "unexplained"
+    if not subject.startswith(f"{CARRIER}-"):
+        return "data" if own_row == theirs else "unexplained"
     begin, _, end = ours.rpartition(row)
-    if subject.startswith(f"{CARRIER}-"):
-        if begin + square(row) + end == theirs:
-            return "brackets"
-        if begin + own_row + end == theirs:
-            return "data"
-        return "data and brackets" if begin + square(own_row) + end == theirs else "unexplained"
-    return "data" if own_row == theirs else "unexplained"
+    changed = {"brackets": square(row), "data": own_row, "data and brackets": square(own_row)}
+    return next((kind for kind, name in changed.items() if begin + name + end == theirs), "unexplained")
 
 
 def subjects_of(tables, locale):
@@ -155,17 +159,22 @@ def subjects_of(tables, locale):
             yield kind, subtag, subtag if kind == "language" else f"{CARRIER}-{subtag}", name
 
 
-def compare_names(program, icu, inputs, locale):
+def compare_names(program, icu, own, inputs, locale):
     """The names of every language, script and region that CLDR names in a locale."""
     subjects = list(subjects_of(json.loads(inputs.tables.read_text()), locale))
     questions = [question for _, _, question, _ in subjects]
-    own = icu_rows(icu, "names", locale)
+    own_rows = icu_rows(icu, "names", locale)
     found = Comparison(f"names of languages, scripts and regions in `{locale}`", "names")
-    mine = answers(program, "name", questions, inputs, locale)
-    theirs = answers(icu, "name", questions, inputs, locale)
-    for (kind, subtag, question, name), one, other in zip(subjects, mine, theirs):
-        own_row = own.get((kind, subtag.replace("-", "_")))
-        found.add(name_kind(question, one, other, name, own_row), question, one, other)
+    asked = [answers(it, "name", questions, inputs, locale) for it in (program, icu, own)]
+    for (kind, subtag, question, name), ours, theirs, owns in zip(subjects, *asked):
+        own_row = own_rows.get((kind, subtag.replace("-", "_")))
+        if ours == theirs:
+            cause = None
+        elif ours == owns:
+            cause = "reading"
+        else:
+            cause = name_kind(question, ours, theirs, name, own_row)
+        found.add(cause, question, ours, theirs)
     return found
 
 
@@ -195,11 +204,11 @@ def table_of_kinds(comparisons):
         yield f"| {group} | {title} | {len(differing)} | {cause} | `{question}`: `{ours}`, `{theirs}` |"
 
 
-def report(program, icu, inputs):
+def report(program, icu, own, inputs):
     """The section of answers, as lines of Markdown."""
-    canonical, right, whole = compare_canonical(program, icu, inputs)
-    comparisons = [compare_maximal(program, icu, inputs), canonical]
-    comparisons += [compare_names(program, icu, inputs, locale) for locale in LOCALES]
+    canonical, right, whole = compare_canonical(program, icu, own, inputs)
+    comparisons = [compare_maximal(program, icu, own, inputs), canonical]
+    comparisons += [compare_names(program, icu, own, inputs, locale) for locale in LOCALES]
     yield from table_of_counts(comparisons)
     yield ""
     suite = " and ".join(f"{right[name]} by {name}" for name in (program.name, icu.name))

@@ -13,7 +13,7 @@ COMMON = Path(os.environ.get("CLDR", "/usr/share/unicode/cldr/common"))
 COMMANDS = ["maximize", "minimize", "minimize-script", "canonicalize", "direction", "negotiate", "name"]
 NAMED_IN = "en"
 ACCEPTED = (0, 1)
-# Starts a program from a small process, since the memory of what starts it counts as its own, and writes what it took.
+# Starts a program from a small process, since the memory of what starts it counts as its own, and says what it took.
 COSTS = """
 import os, sys
 process = os.spawnvp(os.P_NOWAIT, sys.argv[1], sys.argv[1:])
@@ -85,13 +85,14 @@ def plain_program(work):
     return Program("plain Rust", [str(path)], COMMANDS, takes_tables=True)
 
 
-def icu_program(work):
-    """The program over ICU4C, built."""
+def icu_programs(work):
+    """The program over ICU4C, built: over language tags, and over identifiers of ICU's own form."""
     path = work / "icu"
     words = ["g++", "-std=c++17", "-O2", "-o", path, HERE / "icu.cpp", "-licuuc", "-licui18n"]
     subprocess.run(words, check=True)
     commands = [command for command in COMMANDS if command != "minimize-script"]
-    return Program("ICU4C", [str(path)], commands)
+    by_tags = Program("ICU4C", [str(path)], commands)
+    return by_tags, Program("ICU4C, own form", [str(path), "own"], commands)
 
 
 def node_program():

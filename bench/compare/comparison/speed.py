@@ -1,9 +1,15 @@
 """What a line costs, command by command, in each program."""
 from .programs import COMMANDS, Stop, cost_of, instructions_of, write_output
 
-# Of the lines that are timed, how many are counted under valgrind, and how many the slow programs get.
+# Of the lines that are timed one in so many is counted under valgrind, and one in so many is for the slow programs.
 COUNTED = 100
 SLOW = 10
+FEWEST = 1_000
+# Of so many runs the fastest one counts.
+RUNS = 3
+# The goals: at most so many times the plain Rust program, and at least so many times ahead of the others.
+MOST = 1.25
+AHEAD = 40
 
 
 def check_equal(program, plain, inputs, command, lines):
@@ -28,12 +34,7 @@ def per_line(measure, program, inputs, command, lines):
 
 
 def nanoseconds(program, command, path):
-    return cost_of(program, command, path).seconds * 1e9
-
-
-def nanoseconds_a_line(program, inputs, command, lines):
-    """The processor time of a line."""
-    return per_line(nanoseconds, program, inputs, command, lines)
+    return min(cost_of(program, command, path).seconds for _ in range(RUNS)) * 1e9
 
 
 def instructions_a_line(program, inputs, command, lines):
@@ -53,43 +54,70 @@ def times(one, other):
     return "–" if one is None or other is None else f"{other / one:,.0f}"
 
 
-def instruction_rows(program, plain, icu, inputs, lines):
-    yield "| command | this program | plain Rust | ratio | ICU4C | times ahead |"
-    yield "|---|---|---|---|---|---|"
-    for command in COMMANDS:
-        counts = []
-        for other, share in ((program, COUNTED), (plain, COUNTED), (icu, COUNTED * SLOW)):
-            asked = command in other.commands
-            count = max(lines // share, 100)
-            counts.append(instructions_a_line(other, inputs, command, count) if asked else None)
-        mine, plains, icus = counts
-        cells = [shown(mine), shown(plains), ratio(mine, plains), shown(icus), times(mine, icus)]
-        yield f"| `{command}` | {' | '.join(cells)} |"
+class Costs:
+    """What a line of each command costs in each program. The slow programs get fewer lines."""
 
+    def __init__(self, programs, inputs, lines, measure):
+        self.programs = programs
+        self.found = {}
+        for program in programs:
+            count = max(lines // (1 if program.takes_tables else SLOW), FEWEST)
+            for command in program.commands:
+                self.found[program.name, command] = per_line(measure, program, inputs, command, count)
 
-def time_rows(program, plain, others, inputs, lines):
-    yield "| command | this program | plain Rust | ratio |" + "".join(f" {it.name} | times ahead |" for it in others)
-    yield "|---|---|---|---|" + "---|---|" * len(others)
-    for command in COMMANDS:
-        check_equal(program, plain, inputs, command, lines)
-        mine = nanoseconds_a_line(program, inputs, command, lines)
-        plains = nanoseconds_a_line(plain, inputs, command, lines)
+    def of(self, program, command):
+        return self.found.get((program.name, command))
+
+    def row(self, command):
+        """The costs of a line, and how they compare."""
+        program, plain, *others = self.programs
+        mine, plains = self.of(program, command), self.of(plain, command)
         cells = [shown(mine), shown(plains), ratio(mine, plains)]
         for other in others:
-            asked = command in other.commands
-            slow = nanoseconds_a_line(other, inputs, command, max(lines // SLOW, 100)) if asked else None
-            cells += [shown(slow), times(mine, slow)]
-        yield f"| `{command}` | {' | '.join(cells)} |"
+            cells += [shown(self.of(other, command)), times(mine, self.of(other, command))]
+        return f"| `{command}` | {' | '.join(cells)} |"
+
+    def table(self):
+        others = self.programs[2:]
+        yield "| command | this program | plain Rust | ratio |" + "".join(f" {it.name} | times ahead |" for it in others)
+        yield "|---|---|---|---|" + "---|---|" * len(others)
+        yield from map(self.row, COMMANDS)
+
+    def goals(self):
+        """Which commands reach the goals, of each program."""
+        program, plain, *others = self.programs
+        asked = {it: [command for command in COMMANDS if self.of(it, command)] for it in self.programs}
+        within = [it for it in asked[plain] if self.of(program, it) <= MOST * self.of(plain, it)]
+        yield f"- at most {MOST} times {plain.name}: {listed(within, asked[plain])}"
+        for other in others:
+            reached = [it for it in asked[other] if self.of(other, it) >= AHEAD * self.of(program, it)]
+            as_plain = [it for it in asked[other] if self.of(other, it) >= AHEAD * self.of(plain, it)]
+            yield f"- at least {AHEAD} times ahead of {other.name}: {listed(reached, asked[other])}"
+            yield f"  (and {plain.name}: {listed(as_plain, asked[other])})"
 
 
-def report(program, plain, icu, node, inputs, lines):
+def listed(commands, asked):
+    """How many commands these are of those asked, and which."""
+    names = ", ".join(f"`{command}`" for command in commands)
+    return f"{len(commands)} of {len(asked)} commands" + (f", {names}" if commands else "")
+
+
+def report(program, plain, others, inputs, lines):
     """The section of speed, as lines of Markdown."""
-    others = [icu, node] if node else [icu]
-    yield f"Nanoseconds of processor time a line, over {lines:,} lines ({lines // SLOW:,} for the programs in C++ and"
-    yield "JavaScript); the outputs of the first two programs were equal, byte for byte."
+    for command in COMMANDS:
+        check_equal(program, plain, inputs, command, lines)
+    timed = Costs([program, plain, *others], inputs, lines, nanoseconds)
+    yield f"Nanoseconds of processor time a line, over {lines:,} lines, or a tenth of them for those in C++ and"
+    yield "JavaScript; the first two programs wrote the same bytes:"
     yield ""
-    yield from time_rows(program, plain, others, inputs, lines)
+    yield from timed.table()
     yield ""
-    yield f"Instructions a line, counted by valgrind over {max(lines // COUNTED, 100):,} lines."
+    yield "By this time the goals are reached so:"
     yield ""
-    yield from instruction_rows(program, plain, icu, inputs, lines)
+    yield from timed.goals()
+    yield ""
+    count = max(lines // COUNTED, FEWEST)
+    counted = Costs([it for it in timed.programs if it.is_counted], inputs, count, instructions_of)
+    yield f"Instructions a line, counted by valgrind over {count:,} lines, or a tenth of them for those in C++:"
+    yield ""
+    yield from counted.table()

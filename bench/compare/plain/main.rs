@@ -1,6 +1,6 @@
 //! Locale identifiers by line in plain Rust: the same work and the same bytes as of `icu_locale_cli COMMAND json`,
-//! over sorted arrays of subtags, by binary search. The speed of that program is measured against this one. Of the tables,
-//! those that a command does not ask for are not checked.
+//! over sorted arrays of subtags, by binary search. The speed of that program is measured against this one. Of the
+//! tables, those that a command does not ask for are not checked.
 mod canonical;
 mod json;
 mod likely;
