@@ -4,8 +4,8 @@
 //
 // The commands are those of icu_locale_cli, as far as ICU has them: maximize, minimize, canonicalize, direction,
 // negotiate (the first line lists what is available) and `name LOCALE`. They read and write language tags, and refuse
-// a line that is none. With `own` they take each line for an identifier of ICU's own form, refuse nothing, and make no
-// tag of the result: the shortest way through ICU. `likely` and `names LOCALE` write rows of ICU's own data, and
+// a line that is none. With `own` they take each line for an identifier of ICU's own form, refuse nothing, and make
+// no tag of the result: the shortest way through ICU. `likely` and `names LOCALE` write rows of ICU's own data, and
 // `versions` says which that is.
 #include <cstdio>
 #include <cstring>

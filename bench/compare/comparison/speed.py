@@ -79,21 +79,20 @@ class Costs:
 
     def table(self):
         others = self.programs[2:]
-        yield "| command | this program | plain Rust | ratio |" + "".join(f" {it.name} | times ahead |" for it in others)
+        heads = "".join(f" {other.name} | times ahead |" for other in others)
+        yield f"| command | this program | plain Rust | ratio |{heads}"
         yield "|---|---|---|---|" + "---|---|" * len(others)
         yield from map(self.row, COMMANDS)
 
     def goals(self):
         """Which commands reach the goals, of each program."""
         program, plain, *others = self.programs
-        asked = {it: [command for command in COMMANDS if self.of(it, command)] for it in self.programs}
-        within = [it for it in asked[plain] if self.of(program, it) <= MOST * self.of(plain, it)]
-        yield f"- at most {MOST} times {plain.name}: {listed(within, asked[plain])}"
+        within = [it for it in COMMANDS if self.of(program, it) <= MOST * self.of(plain, it)]
+        yield f"- {program.name} at most {MOST} times {plain.name}: {listed(within, COMMANDS)}"
         for other in others:
-            reached = [it for it in asked[other] if self.of(other, it) >= AHEAD * self.of(program, it)]
-            as_plain = [it for it in asked[other] if self.of(other, it) >= AHEAD * self.of(plain, it)]
-            yield f"- at least {AHEAD} times ahead of {other.name}: {listed(reached, asked[other])}"
-            yield f"  (and {plain.name}: {listed(as_plain, asked[other])})"
+            for first in (program, plain):
+                ahead = [it for it in other.commands if self.of(other, it) >= AHEAD * self.of(first, it)]
+                yield f"- {first.name} at least {AHEAD} times ahead of {other.name}: {listed(ahead, other.commands)}"
 
 
 def listed(commands, asked):
