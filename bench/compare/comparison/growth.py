@@ -1,38 +1,50 @@
 """How the cost of a line grows with the lines and with the rows of tables, and memory with the input."""
+from functools import partial
+
 from .inputs import joined, made_lines, made_tables, repeated
-from .programs import cost_of, instructions_of
-from .speed import instructions_a_line, shown
+from .programs import cost_of
+from .speed import added_instructions, added_time, per_line, shown
 
 BY_LINES = [1_000, 10_000, 100_000]
 BY_ROWS = [100, 1_000, 8_000]
 LINES_BY_ROWS = 10_000
 ROW_COMMANDS = ["maximize", "minimize", "canonicalize", "name"]
 MEGABYTE = 1_000_000
+# Short runs are timed more often.
+MEASURES = (added_instructions, partial(added_time, runs=10))
+
+
+def cell(instructions, time):
+    return f"{shown(instructions)} | {shown(time)}"
+
+
+def head(counts, what):
+    yield "| command |" + "".join(f" {count:,} {what} | ns |" for count in counts)
+    yield "|---|" + "---|---|" * len(counts)
 
 
 def line_rows(program, inputs):
-    yield "| command |" + "".join(f" {count:,} lines |" for count in BY_LINES)
-    yield "|---|" + "---|" * len(BY_LINES)
+    yield from head(BY_LINES, "lines")
     for command in program.commands:
-        counts = [instructions_a_line(program, inputs, command, count) for count in BY_LINES]
-        yield f"| `{command}` | " + " | ".join(map(shown, counts)) + " |"
+        cells = []
+        for count in BY_LINES:
+            cells.append(cell(*(per_line(added, program, inputs, command, count) for added in MEASURES)))
+        yield f"| `{command}` | " + " | ".join(cells) + " |"
 
 
 def by_rows(program, inputs, command, rows):
-    """The instructions of a line over so many rows."""
+    """The instructions and the time of a line over so many rows."""
     tables = made_tables(inputs.work / "made.json", rows)
-    lines = made_lines(inputs.work / "lines", rows, LINES_BY_ROWS)
-    whole = instructions_of(program, command, joined(inputs.work / "input", tables, lines))
-    empty = instructions_of(program, command, tables)
-    return None if whole is None else (whole - empty) / LINES_BY_ROWS
+    lines = made_lines(inputs.work / "made-lines", rows, LINES_BY_ROWS)
+    both = joined(inputs.work / "made", tables, lines)
+    return [added(program, command, LINES_BY_ROWS, both, tables) for added in MEASURES]
 
 
 def row_rows(program, inputs):
-    yield "| command |" + "".join(f" {rows:,} rows |" for rows in BY_ROWS)
-    yield "|---|" + "---|" * len(BY_ROWS)
+    yield from head(BY_ROWS, "rows")
     for command in ROW_COMMANDS:
-        counts = [by_rows(program, inputs, command, rows) for rows in BY_ROWS]
-        yield f"| `{command}` | " + " | ".join(map(shown, counts)) + " |"
+        cells = (cell(*by_rows(program, inputs, command, rows)) for rows in BY_ROWS)
+        yield f"| `{command}` | " + " | ".join(cells) + " |"
 
 
 def memory_rows(programs, inputs, sizes):
@@ -49,11 +61,11 @@ def memory_rows(programs, inputs, sizes):
 
 def report(program, plain, inputs, sizes):
     """The section of growth, as lines of Markdown."""
-    yield "Instructions a line, by the number of lines, over CLDR's tables:"
+    yield "Instructions and nanoseconds a line, by the number of lines, over CLDR's tables:"
     yield ""
     yield from line_rows(program, inputs)
     yield ""
-    yield f"Instructions a line, by the number of rows, over {LINES_BY_ROWS:,} lines, each of which finds a row:"
+    yield f"The same by the number of rows, over {LINES_BY_ROWS:,} lines, each of which finds a row:"
     yield ""
     yield from row_rows(program, inputs)
     yield ""

@@ -69,10 +69,10 @@ class Inputs:
         """The input of a command for a program: so many lines, behind the tables where it takes them."""
         is_list = command == "negotiate"
         lines = self.requests if is_list else self.identifiers
-        path = first_lines(self.work / "lines", lines, count + is_list)
+        path = first_lines(self.work / f"lines-{count}", lines, count + is_list)
         if not program.takes_tables:
             return path
-        return joined(self.work / "input", self.settled if is_list else self.tables, path)
+        return joined(self.work / f"input-{count}", self.settled if is_list else self.tables, path)
 
 
 def made_language(number):

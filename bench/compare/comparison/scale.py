@@ -1,13 +1,15 @@
 """One run beside parts of it that run side by side, by GNU parallel."""
 import os
-import shutil
 import subprocess
 import time
 
+from .inputs import first_lines, joined
 from .programs import Stop
 
 COMMAND = "maximize"
-BLOCK = "1M"
+BLOCK = "10M"
+# The lines are written so many times, since a run of few is over before its parts have begun.
+TIMES = 10
 
 
 def timed(words, path, target):
@@ -36,11 +38,10 @@ def runs(program, path):
 
 def report(program, inputs, lines):
     """The section of parts, as lines of Markdown."""
-    if not shutil.which("parallel"):
-        raise Stop("missing: Debian's package parallel")
-    path = inputs.of(program, COMMAND, lines)
+    some = first_lines(inputs.work / "lines", inputs.identifiers, lines)
+    path = joined(inputs.work / "large", inputs.tables, *[some] * TIMES)
     whole, part = inputs.work / "whole", inputs.work / "part"
-    yield f"`{COMMAND}` over {lines:,} lines and CLDR's tables, in blocks of {BLOCK}, seconds on the clock:"
+    yield f"`{COMMAND}` over {lines * TIMES:,} lines and CLDR's tables, in blocks of {BLOCK}, seconds on the clock:"
     yield ""
     yield "| | processors | seconds | output |"
     yield "|---|---|---|---|"

@@ -26,20 +26,28 @@ def check_equal(program, plain, inputs, command, lines):
         raise Stop(f"{command}: the outputs have not the same size")
 
 
-def per_line(measure, program, inputs, command, lines):
-    """What a line adds to a run, beyond what a run without lines costs."""
-    whole = measure(program, command, inputs.of(program, command, lines))
-    empty = measure(program, command, inputs.of(program, command, 0))
-    return None if whole is None else (whole - empty) / lines
+def least_times(program, command, paths, runs):
+    """The shortest processor time of a run over each input; the inputs take turns, since a machine is never quiet."""
+    turns = [[cost_of(program, command, path).seconds for path in paths] for _ in range(runs)]
+    return [min(times) for times in zip(*turns)]
 
 
-def nanoseconds(program, command, path):
-    return min(cost_of(program, command, path).seconds for _ in range(RUNS)) * 1e9
+def added_time(program, command, lines, whole, empty, runs=RUNS):
+    """The nanoseconds that a line adds to a run, beyond those of a run without lines."""
+    longer, shorter = least_times(program, command, (whole, empty), runs)
+    return (longer - shorter) / lines * 1e9
 
 
-def instructions_a_line(program, inputs, command, lines):
-    """The instructions of a line."""
-    return per_line(instructions_of, program, inputs, command, lines)
+def added_instructions(program, command, lines, whole, empty):
+    """The instructions that a line adds to a run, beyond those of a run without lines."""
+    longer, shorter = (instructions_of(program, command, path) for path in (whole, empty))
+    return None if longer is None else (longer - shorter) / lines
+
+
+def per_line(added, program, inputs, command, lines):
+    """What a line adds to a run over CLDR's tables."""
+    whole, empty = (inputs.of(program, command, count) for count in (lines, 0))
+    return added(program, command, lines, whole, empty)
 
 
 def shown(number):
@@ -57,13 +65,13 @@ def times(one, other):
 class Costs:
     """What a line of each command costs in each program. The slow programs get fewer lines."""
 
-    def __init__(self, programs, inputs, lines, measure):
+    def __init__(self, programs, inputs, lines, added):
         self.programs = programs
         self.found = {}
         for program in programs:
             count = max(lines // (1 if program.takes_tables else SLOW), FEWEST)
             for command in program.commands:
-                self.found[program.name, command] = per_line(measure, program, inputs, command, count)
+                self.found[program.name, command] = per_line(added, program, inputs, command, count)
 
     def of(self, program, command):
         return self.found.get((program.name, command))
@@ -105,7 +113,7 @@ def report(program, plain, others, inputs, lines):
     """The section of speed, as lines of Markdown."""
     for command in COMMANDS:
         check_equal(program, plain, inputs, command, lines)
-    timed = Costs([program, plain, *others], inputs, lines, nanoseconds)
+    timed = Costs([program, plain, *others], inputs, lines, added_time)
     yield f"Nanoseconds of processor time a line, over {lines:,} lines, or a tenth of them for those in C++ and"
     yield "JavaScript; the first two programs wrote the same bytes:"
     yield ""
@@ -116,7 +124,7 @@ def report(program, plain, others, inputs, lines):
     yield from timed.goals()
     yield ""
     count = max(lines // COUNTED, FEWEST)
-    counted = Costs([it for it in timed.programs if it.is_counted], inputs, count, instructions_of)
+    counted = Costs([it for it in timed.programs if it.is_counted], inputs, count, added_instructions)
     yield f"Instructions a line, counted by valgrind over {count:,} lines, or a tenth of them for those in C++:"
     yield ""
     yield from counted.table()
