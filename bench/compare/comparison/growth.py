@@ -3,47 +3,30 @@ from functools import partial
 
 from .inputs import joined, made_lines, made_tables, repeated
 from .programs import cost_of
-from .speed import added_instructions, added_time, per_line, shown
+from .speed import added_instructions, added_time, shown
 
-BY_LINES = [1_000, 10_000, 100_000]
-BY_ROWS = [100, 1_000, 8_000]
-LINES_BY_ROWS = 10_000
-ROW_COMMANDS = ["maximize", "minimize", "canonicalize", "name"]
+LINES = [1_000, 10_000, 100_000]
+ROWS = [100, 1_000, 8_000]
+COMMANDS = ["maximize", "minimize", "canonicalize", "name"]
 MEGABYTE = 1_000_000
 # Short runs are timed more often.
 MEASURES = (added_instructions, partial(added_time, runs=10))
 
 
-def cell(instructions, time):
-    return f"{shown(instructions)} | {shown(time)}"
+def costs(program, work, command, rows, count):
+    """The instructions and the time of a line, over made tables with so many rows and as many lines as said."""
+    tables = made_tables(work / "made.json", rows)
+    both = joined(work / "made", tables, made_lines(work / "made-lines", rows, count))
+    found = [added(program, command, count, both, tables) for added in MEASURES]
+    return " | ".join(map(shown, found))
 
 
-def head(counts, what):
+def table(program, work, counts, what, sizes):
+    """A table by command; sizes gives the rows and the lines of each column."""
     yield "| command |" + "".join(f" {count:,} {what} | ns |" for count in counts)
     yield "|---|" + "---|---|" * len(counts)
-
-
-def line_rows(program, inputs):
-    yield from head(BY_LINES, "lines")
-    for command in program.commands:
-        cells = []
-        for count in BY_LINES:
-            cells.append(cell(*(per_line(added, program, inputs, command, count) for added in MEASURES)))
-        yield f"| `{command}` | " + " | ".join(cells) + " |"
-
-
-def by_rows(program, inputs, command, rows):
-    """The instructions and the time of a line over so many rows."""
-    tables = made_tables(inputs.work / "made.json", rows)
-    lines = made_lines(inputs.work / "made-lines", rows, LINES_BY_ROWS)
-    both = joined(inputs.work / "made", tables, lines)
-    return [added(program, command, LINES_BY_ROWS, both, tables) for added in MEASURES]
-
-
-def row_rows(program, inputs):
-    yield from head(BY_ROWS, "rows")
-    for command in ROW_COMMANDS:
-        cells = (cell(*by_rows(program, inputs, command, rows)) for rows in BY_ROWS)
+    for command in COMMANDS:
+        cells = (costs(program, work, command, *sizes(count)) for count in counts)
         yield f"| `{command}` | " + " | ".join(cells) + " |"
 
 
@@ -61,14 +44,15 @@ def memory_rows(programs, inputs, sizes):
 
 def report(program, plain, inputs, sizes):
     """The section of growth, as lines of Markdown."""
-    yield "Instructions and nanoseconds a line, by the number of lines, over CLDR's tables:"
+    few, many = ROWS[0], LINES[-1]
+    yield f"Instructions and nanoseconds a line, by the number of lines, over tables of {few:,} rows:"
     yield ""
-    yield from line_rows(program, inputs)
+    yield from table(program, inputs.work, LINES, "lines", lambda lines: (few, lines))
     yield ""
-    yield f"The same by the number of rows, over {LINES_BY_ROWS:,} lines, each of which finds a row:"
+    yield f"The same by the number of rows, over {many:,} lines:"
     yield ""
-    yield from row_rows(program, inputs)
+    yield from table(program, inputs.work, ROWS, "rows", lambda rows: (rows, many))
     yield ""
-    yield "The most memory that `maximize` held, by the size of its input, and its processor time:"
+    yield "The most memory that `maximize` held over CLDR's tables, by the size of its input, and its processor time:"
     yield ""
     yield from memory_rows([program, plain], inputs, sizes)

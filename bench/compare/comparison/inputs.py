@@ -58,7 +58,6 @@ class Inputs:
     """The tables of CLDR and realistic lines, in a folder."""
 
     def __init__(self, work, lines):
-        """There are at least as many lines as asked for."""
         self.work = work
         self.tables = cldr_tables(work / "tables.json", COMMON, *LOCALES)
         self.settled = cldr_tables(work / "settled.json", "--settled", COMMON)

@@ -62,6 +62,11 @@ def times(one, other):
     return "–" if one is None or other is None else f"{other / one:,.0f}"
 
 
+def fewer(lines, share):
+    """One line in so many, but not too few."""
+    return min(lines, max(lines // share, FEWEST))
+
+
 class Costs:
     """What a line of each command costs in each program. The slow programs get fewer lines."""
 
@@ -69,7 +74,7 @@ class Costs:
         self.programs = programs
         self.found = {}
         for program in programs:
-            count = max(lines // (1 if program.takes_tables else SLOW), FEWEST)
+            count = lines if program.takes_tables else fewer(lines, SLOW)
             for command in program.commands:
                 self.found[program.name, command] = per_line(added, program, inputs, command, count)
 
@@ -123,7 +128,7 @@ def report(program, plain, others, inputs, lines):
     yield ""
     yield from timed.goals()
     yield ""
-    count = max(lines // COUNTED, FEWEST)
+    count = fewer(lines, COUNTED)
     counted = Costs([it for it in timed.programs if it.is_counted], inputs, count, added_instructions)
     yield f"Instructions a line, counted by valgrind over {count:,} lines, or a tenth of them for those in C++:"
     yield ""
