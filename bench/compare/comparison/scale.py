@@ -28,7 +28,7 @@ def runs(program, path):
     """Each way to run, by the words that are shown, with its own words."""
     run = program.run_words(COMMAND)
     by_pipe = ["parallel", "--pipe", "--header", "1", "-k", "--block", BLOCK]
-    by_part = ["parallel", "--pipepart", "-a", str(path), "--header", "1", "-k", "--block", BLOCK]
+    by_part = ["parallel", "--pipepart", "-a", str(path), "--header", "1", "-k", "--block", "-1"]
     every = str(os.cpu_count())
     yield "one run", "1", run
     yield "`parallel --pipe`", "1", [*by_pipe, "-j", "1", *run]
@@ -41,7 +41,7 @@ def report(program, inputs, lines):
     some = first_lines(inputs.work / "lines", inputs.identifiers, lines)
     path = joined(inputs.work / "large", inputs.tables, *[some] * TIMES)
     whole, part = inputs.work / "whole", inputs.work / "part"
-    yield f"`{COMMAND}` over {lines * TIMES:,} lines and CLDR's tables, in blocks of {BLOCK}, seconds on the clock:"
+    yield f"`{COMMAND}` over {lines * TIMES:,} lines and CLDR's tables, seconds on the clock:"
     yield ""
     yield "| | processors | seconds | output |"
     yield "|---|---|---|---|"

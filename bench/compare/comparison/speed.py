@@ -32,22 +32,23 @@ def least_times(program, command, paths, runs):
     return [min(times) for times in zip(*turns)]
 
 
-def added_time(program, command, lines, whole, empty, runs=RUNS):
-    """The nanoseconds that a line adds to a run, beyond those of a run without lines."""
-    longer, shorter = least_times(program, command, (whole, empty), runs)
+def added_time(program, command, lines, whole, part, runs=RUNS):
+    """The nanoseconds of a line, of which one input has so many more than the other."""
+    longer, shorter = least_times(program, command, (whole, part), runs)
     return (longer - shorter) / lines * 1e9
 
 
-def added_instructions(program, command, lines, whole, empty):
-    """The instructions that a line adds to a run, beyond those of a run without lines."""
-    longer, shorter = (instructions_of(program, command, path) for path in (whole, empty))
+def added_instructions(program, command, lines, whole, part):
+    """The instructions of a line, of which one input has so many more than the other."""
+    longer, shorter = (instructions_of(program, command, path) for path in (whole, part))
     return None if longer is None else (longer - shorter) / lines
 
 
 def per_line(added, program, inputs, command, lines):
-    """What a line adds to a run over CLDR's tables."""
-    whole, empty = (inputs.of(program, command, count) for count in (lines, 0))
-    return added(program, command, lines, whole, empty)
+    """What a line adds to a run over CLDR's tables, beyond a run of a tenth of the lines."""
+    few = lines // 10
+    whole, part = (inputs.of(program, command, count) for count in (lines, few))
+    return added(program, command, lines - few, whole, part)
 
 
 def shown(number):
@@ -98,7 +99,9 @@ class Costs:
         yield from map(self.row, COMMANDS)
 
     def goals(self):
-        """Which commands reach the goals, of each program."""
+        """Which commands reach the goals."""
+        yield "The goals are reached so:"
+        yield ""
         program, plain, *others = self.programs
         within = [it for it in COMMANDS if self.of(program, it) <= MOST * self.of(plain, it)]
         yield f"- {program.name} at most {MOST} times {plain.name}: {listed(within, COMMANDS)}"
@@ -124,8 +127,6 @@ def report(program, plain, others, inputs, lines):
     yield ""
     yield from timed.table()
     yield ""
-    yield "By this time the goals are reached so:"
-    yield ""
     yield from timed.goals()
     yield ""
     count = fewer(lines, COUNTED)
@@ -133,3 +134,5 @@ def report(program, plain, others, inputs, lines):
     yield f"Instructions a line, counted by valgrind over {count:,} lines, or a tenth of them for those in C++:"
     yield ""
     yield from counted.table()
+    yield ""
+    yield from counted.goals()
