@@ -8,7 +8,6 @@
 // no tag of the result: the shortest way through ICU. `likely` and `names LOCALE` write rows of ICU's own data, and
 // `versions` says which that is.
 #include <cstdio>
-#include <cstring>
 #include <iostream>
 #include <sstream>
 #include <string>

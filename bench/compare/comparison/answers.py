@@ -7,7 +7,7 @@ from collections import Counter
 from dataclasses import dataclass, field
 
 from .inputs import LOCALES
-from .programs import COMMON, output_of
+from .programs import COMMON, Stop, output_of
 
 SUITE = "testData/localeIdentifiers/localeCanonicalization.txt"
 # A language that every locale names, and no locale names together with a script or a region.
@@ -55,7 +55,10 @@ def answers(program, command, questions, inputs, locale="en"):
     path = inputs.work / "questions"
     tables = inputs.tables.read_text() if program.takes_tables else ""
     path.write_text(tables + "".join(f"{question}\n".replace("_", "-") for question in questions))
-    return [line.split("\t")[0] for line in output_of(program, command, path, locale)]
+    found = [line.split("\t")[0] for line in output_of(program, command, path, locale)]
+    if len(found) != len(questions):
+        raise Stop(f"{program.name} gave {len(found)} answers to {len(questions)} lines of {command}")
+    return found
 
 
 def spelled(identifier):
@@ -153,10 +156,11 @@ def name_kind(subject, ours, theirs, row, own_row):
 
 def subjects_of(tables, locale):
     """Every language, script and region that CLDR names in a locale: kind, subtag, what is asked, and its name."""
-    for kind, marker in (("language", "language/medium/tiny"), ("script", "script/medium/tiny"),
-                         ("region", "region/medium/tiny")):
-        for subtag, name in tables["names"][marker][locale].items():
-            yield kind, subtag, subtag if kind == "language" else f"{CARRIER}-{subtag}", name
+    for marker, rows in tables["names"].items():
+        kind, length, _ = marker.split("/")
+        if kind in ("language", "script", "region") and length == "medium":
+            for subtag, name in rows.get(locale, {}).items():
+                yield kind, subtag, subtag if kind == "language" else f"{CARRIER}-{subtag}", name
 
 
 def compare_names(program, icu, own, inputs, locale):

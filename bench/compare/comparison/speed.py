@@ -1,4 +1,6 @@
 """What a line costs, command by command, in each program."""
+import shutil
+
 from .programs import COMMANDS, Stop, cost_of, instructions_of, write_output
 
 # Of the lines that are timed one in so many is counted under valgrind, and one in so many is for the slow programs.
@@ -128,9 +130,11 @@ def report(program, plain, others, inputs, lines):
     yield from timed.table()
     yield ""
     yield from timed.goals()
-    yield ""
+    if not shutil.which("valgrind"):
+        return
     count = fewer(lines, COUNTED)
     counted = Costs([it for it in timed.programs if it.is_counted], inputs, count, added_instructions)
+    yield ""
     yield f"Instructions a line, counted by valgrind over {count:,} lines, or a tenth of them for those in C++:"
     yield ""
     yield from counted.table()
