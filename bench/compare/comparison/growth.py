@@ -1,24 +1,28 @@
 """How the cost of a line grows with the lines and with the rows of tables, and memory with the input."""
-from functools import partial
-
 from .inputs import joined, made_lines, made_tables, repeated
-from .programs import cost_of
-from .speed import added_instructions, added_time, shown
+from .programs import cost_of, has_valgrind
+from .speed import instructions, nanoseconds, shown
 
 LINES = [1_000, 10_000, 100_000]
 ROWS = [100, 1_000, 8_000]
 COMMANDS = ["maximize", "minimize", "canonicalize", "name"]
 MEGABYTE = 1_000_000
 # Short runs are timed more often.
-MEASURES = (added_instructions, partial(added_time, runs=10))
+SHORT_TURNS = 10
 
 
 def costs(program, work, command, rows, count):
     """The instructions and the time of a line, over made tables with so many rows and as many lines as said."""
     tables = made_tables(work / "made.json", rows)
     both = joined(work / "made", tables, made_lines(work / "made-lines", rows, count))
-    found = [added(program, command, count, both, tables) for added in MEASURES]
-    return " | ".join(map(shown, found))
+    runs = [(program, command, path) for path in (both, tables)]
+    counted = difference(instructions(runs), count) if has_valgrind() else None
+    return f"{shown(counted)} | {shown(difference(nanoseconds(runs, turns=SHORT_TURNS), count))}"
+
+
+def difference(measured, count):
+    whole, part = measured
+    return (whole - part) / count
 
 
 def table(program, work, counts, what, sizes):

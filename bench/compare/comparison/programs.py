@@ -69,6 +69,10 @@ def check_packages():
             print(f"without {word}, whose figures are left out: Debian's package {package}", file=sys.stderr)
 
 
+def has_valgrind():
+    return shutil.which("valgrind") is not None
+
+
 def this_program():
     """The program of this repository."""
     path = Path(os.environ.get("PROGRAM", ROOT / "icu_locale_cli")).resolve()
@@ -130,9 +134,7 @@ def cost_of(program, command, path):
 
 
 def instructions_of(program, command, path):
-    """The instructions of a run as valgrind counts them, or None where it cannot."""
-    if not program.is_counted or not shutil.which("valgrind"):
-        return None
+    """The instructions of a run, as valgrind counts them."""
     words = ["valgrind", "--tool=callgrind", "--callgrind-out-file=/dev/null", *program.run_words(command)]
     with open(path, "rb") as stdin:
         ran = subprocess.run(words, stdin=stdin, stdout=subprocess.DEVNULL, stderr=subprocess.PIPE, text=True)
@@ -150,7 +152,7 @@ def versions(icu, node):
     found.append(first_line_of([*icu.words, "versions"]))
     if node:
         found.append(first_line_of([*node.words, "versions"]))
-    if shutil.which("valgrind"):
+    if has_valgrind():
         found.append(first_line_of(["valgrind", "--version"]))
     if shutil.which("parallel"):
         found.append(first_line_of(["parallel", "--version"]))

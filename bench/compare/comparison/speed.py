@@ -1,14 +1,12 @@
 """What a line costs, command by command, in each program."""
-import shutil
-
-from .programs import COMMANDS, Stop, cost_of, instructions_of, write_output
+from .programs import COMMANDS, Stop, cost_of, has_valgrind, instructions_of, write_output
 
 # Of the lines that are timed one in so many is counted under valgrind, and one in so many is for the slow programs.
 COUNTED = 100
 SLOW = 10
 FEWEST = 1_000
-# Of so many runs the fastest one counts.
-RUNS = 3
+# Of so many turns the fastest one counts.
+TURNS = 3
 # The goals: at most so many times the plain Rust program, and at least so many times ahead of the others.
 MOST = 1.25
 AHEAD = 40
@@ -28,29 +26,16 @@ def check_equal(program, plain, inputs, command, lines):
         raise Stop(f"{command}: the outputs have not the same size")
 
 
-def least_times(program, command, paths, runs):
-    """The shortest processor time of a run over each input; the inputs take turns, since a machine is never quiet."""
-    turns = [[cost_of(program, command, path).seconds for path in paths] for _ in range(runs)]
-    return [min(times) for times in zip(*turns)]
+def nanoseconds(runs, turns=TURNS):
+    """The processor time of each run, which is a program, a command and an input: the least of some turns, since a
+    machine is never quiet."""
+    times = [[cost_of(*run).seconds * 1e9 for run in runs] for _ in range(turns)]
+    return [min(found) for found in zip(*times)]
 
 
-def added_time(program, command, lines, whole, part, runs=RUNS):
-    """The nanoseconds of a line, of which one input has so many more than the other."""
-    longer, shorter = least_times(program, command, (whole, part), runs)
-    return (longer - shorter) / lines * 1e9
-
-
-def added_instructions(program, command, lines, whole, part):
-    """The instructions of a line, of which one input has so many more than the other."""
-    longer, shorter = (instructions_of(program, command, path) for path in (whole, part))
-    return None if longer is None else (longer - shorter) / lines
-
-
-def per_line(added, program, inputs, command, lines):
-    """What a line adds to a run over CLDR's tables, beyond a run of a tenth of the lines."""
-    few = lines // 10
-    whole, part = (inputs.of(program, command, count) for count in (lines, few))
-    return added(program, command, lines - few, whole, part)
+def instructions(runs):
+    """The instructions of each run, as valgrind counts them."""
+    return [instructions_of(*run) for run in runs]
 
 
 def shown(number):
@@ -73,13 +58,24 @@ def fewer(lines, share):
 class Costs:
     """What a line of each command costs in each program. The slow programs get fewer lines."""
 
-    def __init__(self, programs, inputs, lines, added):
+    def __init__(self, programs, inputs, lines, measure):
         self.programs = programs
         self.found = {}
-        for program in programs:
-            count = lines if program.takes_tables else fewer(lines, SLOW)
-            for command in program.commands:
-                self.found[program.name, command] = per_line(added, program, inputs, command, count)
+        for command in COMMANDS:
+            self.measure(command, inputs, lines, measure)
+
+    def measure(self, command, inputs, lines, measure):
+        """Finds what a run of many lines costs beyond one of a tenth of them, in all programs side by side."""
+        able = [program for program in self.programs if command in program.commands]
+        counts = [lines if program.takes_tables else fewer(lines, SLOW) for program in able]
+        runs = [
+            (program, command, inputs.of(program, command, asked))
+            for program, count in zip(able, counts)
+            for asked in (count, count // 10)
+        ]
+        found = measure(runs)
+        for program, count, whole, part in zip(able, counts, found[::2], found[1::2]):
+            self.found[program.name, command] = (whole - part) / (count - count // 10)
 
     def of(self, program, command):
         return self.found.get((program.name, command))
@@ -123,17 +119,17 @@ def report(program, plain, others, inputs, lines):
     """The section of speed, as lines of Markdown."""
     for command in COMMANDS:
         check_equal(program, plain, inputs, command, lines)
-    timed = Costs([program, plain, *others], inputs, lines, added_time)
+    timed = Costs([program, plain, *others], inputs, lines, nanoseconds)
     yield f"Nanoseconds of processor time a line, over {lines:,} lines, or a tenth of them for those in C++ and"
     yield "JavaScript; the first two programs wrote the same bytes:"
     yield ""
     yield from timed.table()
     yield ""
     yield from timed.goals()
-    if not shutil.which("valgrind"):
+    if not has_valgrind():
         return
     count = fewer(lines, COUNTED)
-    counted = Costs([it for it in timed.programs if it.is_counted], inputs, count, added_instructions)
+    counted = Costs([it for it in timed.programs if it.is_counted], inputs, count, instructions)
     yield ""
     yield f"Instructions a line, counted by valgrind over {count:,} lines, or a tenth of them for those in C++:"
     yield ""
