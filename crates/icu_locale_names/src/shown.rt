@@ -16,6 +16,7 @@ pub enum Shown<'d> {
 }
 
 impl<'d> Shown<'d> {
+    #[inline]
     pub(crate) fn as_str(&self) -> &str
         ensures { result.now ≡ shown_text self.now }
     {
@@ -29,6 +30,7 @@ impl<'d> Shown<'d> {
     }
 
     // As a piece of a text.
+    #[inline]
     pub fn lend(&self) -> LentPiece<'_>
         ensures { lent_piece result ≡ piece_of self.now }
     {
@@ -50,6 +52,7 @@ pub struct LentPiece<'a> {
 }
 
 impl<'a> LentPiece<'a> {
+    #[inline]
     pub fn plain(text: &'a str) -> Self
         ensures { lent_piece result ≡ plain text.now }
     {
@@ -59,6 +62,7 @@ impl<'a> LentPiece<'a> {
         }
     }
 
+    #[inline]
     fn raw_subtag(text: &'a str) -> Self
         ensures { lent_piece result ≡ raw_subtag text.now }
     {

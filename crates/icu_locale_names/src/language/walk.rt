@@ -23,6 +23,7 @@ pub struct Qualifiers<'a> {
 
 impl<'a> Qualifiers<'a> {
     // No qualifiers.
+    #[inline(always)]
     fn none() -> Self
         ensures { qualifier_pieces result ≡ [] }
     {
@@ -35,6 +36,7 @@ impl<'a> Qualifiers<'a> {
     }
 
     // The first of them, and those behind it.
+    #[inline(always)]
     fn split_first(&self) -> Option<(LentPiece<'a>, Qualifiers<'a>)>
         ensures { MatchOption result (qualifier_pieces self.now ≡ [])
             (λ r. qualifier_pieces self.now ≡ lent_piece r.0 ∷ qualifier_pieces r.1) }
@@ -54,6 +56,7 @@ impl<'a> Qualifiers<'a> {
     }
 
     // The same of the script and what is behind it.
+    #[inline(always)]
     fn split_from_script(&self) -> Option<(LentPiece<'a>, Qualifiers<'a>)>
         ensures { MatchOption result (pieces_from_script self.now ≡ [])
             (λ r. pieces_from_script self.now ≡ lent_piece r.0 ∷ qualifier_pieces r.1) }
@@ -73,6 +76,7 @@ impl<'a> Qualifiers<'a> {
     }
 
     // The same of the region and what is behind it.
+    #[inline(always)]
     fn split_from_region(&self) -> Option<(LentPiece<'a>, Qualifiers<'a>)>
         ensures { MatchOption result (pieces_from_region self.now ≡ [])
             (λ r. pieces_from_region self.now ≡ lent_piece r.0 ∷ qualifier_pieces r.1) }
@@ -92,6 +96,7 @@ impl<'a> Qualifiers<'a> {
     }
 
     // The same of the variants.
+    #[inline(always)]
     fn split_variants(&self) -> Option<(LentPiece<'a>, Qualifiers<'a>)>
         ensures { MatchOption result (map piece_of self.now.variants.now ≡ [])
             (λ r. map piece_of self.now.variants.now ≡ lent_piece r.0 ∷ qualifier_pieces r.1) }
@@ -171,6 +176,7 @@ impl<'a> PieceWalk<'a> {
     }
 
     // The first piece, and the walk behind it.
+    #[inline(always)]
     fn step(&self) -> Option<(LentPiece<'a>, PieceWalk<'a>)>
         ensures { MatchOption result (pieces_left self.now ≡ [])
             (λ r. pieces_left self.now ≡ lent_piece r.0 ∷ pieces_left r.1) }
@@ -190,6 +196,7 @@ impl<'a> PieceWalk<'a> {
     }
 
     // The same where no piece is ready: what comes first is a separator, if a qualifier is left.
+    #[inline(always)]
     fn step_through_pending(&self) -> Option<(LentPiece<'a>, PieceWalk<'a>)>
         ensures { MatchOption result (pieces_not_ready self.now ≡ [])
             (λ r. pieces_not_ready self.now ≡ lent_piece r.0 ∷ pieces_left r.1) }
@@ -209,6 +216,7 @@ impl<'a> PieceWalk<'a> {
     }
 
     // The first piece of what the items stand for, and the walk behind it.
+    #[inline(always)]
     fn step_through_items(&self) -> Option<(LentPiece<'a>, PieceWalk<'a>)>
         ensures { MatchOption result (pieces_of_items self.now.frame self.now.items.now ≡ [])
             (λ r. pieces_of_items self.now.frame self.now.items.now
@@ -233,6 +241,7 @@ impl<'a> PieceWalk<'a> {
     }
 
     // The walk through these items alone.
+    #[inline(always)]
     fn at_items(&self, items: &'a [PatternItem]) -> PieceWalk<'a>
         ensures { pieces_left result ≡ pieces_of_items self.now.frame items.now }
     {
@@ -262,6 +271,7 @@ impl<'a> Iterator for PieceWalk<'a> {
 
     ghost remaining = { item_count pieces_left };
 
+    #[inline(always)]
     fn next(&mut self) -> Option<LentPiece<'a>> {
         let (piece, after) = self.step()?;
         *self = after;
