@@ -4,5 +4,6 @@ mod LineCuts
 mod ListReading
 mod Loading
 mod LocaleLines
+mod OneAnswer
 mod Progress
 mod RunEnds

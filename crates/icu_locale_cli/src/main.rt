@@ -7,6 +7,7 @@ mod canonical;
 mod command;
 mod error;
 mod input;
+pub mod laws;
 mod lines;
 mod lists;
 mod loads;

@@ -12,7 +12,7 @@ use Rattle.icu_locale_cli.specs.declared.status.Status.TheVariants.{Accepted}
 use Rattle.icu_locale_cli.specs.declared.work.Work.{Work}
 use Rattle.icu_locale_cli.specs.Answers.{IsAnswer}
 use Rattle.icu_locale_cli.specs.Lines.{is_line_feed, without_empty_last, lines}
-use Rattle.icu_locale_cli.specs.Runs.{AreAnswers, text_of, all_accepted, WritesAll}
+use Rattle.icu_locale_cli.specs.Runs.{AreAnswers, all_accepted, WritesAll}
 
 -- the pieces of a text
 abbrev pieces : List ℕ → List (List ℕ)
@@ -90,6 +90,15 @@ all_accepted_of_parts : (p q : Bool) → ((p && q) ≡ true) ↔ ((p ≡ true) �
 all_accepted_of_parts true q = (λ e. (refl, e), λ both. both.1)
 all_accepted_of_parts false q = (λ e. absurd (false≢true e), λ both. absurd (false≢true both.0))
 
+-- the answers to both parts are those to the whole
+pub answers_of_parts : (work : Work) (a b : List ℕ) (xs ys : List (List ℕ × Bool))
+    → AreAnswers work (lines (a ++ 10 ∷ [])) xs → AreAnswers work (lines b) ys
+    → AreAnswers work (lines (a ++ 10 ∷ b)) (xs ++ ys)
+answers_of_parts work a b xs ys first second = subst (λ ls. AreAnswers work ls (xs ++ ys))
+    (sym (lines_of_parts a b))
+    (AllZip-append (λ line t. IsAnswer work line t.0 t.1) (lines (a ++ 10 ∷ [])) (lines b)
+    xs ys first second)
+
 -- what runs over two parts write, one after the other, is what a run over the whole may write: it
 -- accepts every line exactly where they do
 pub outputs_of_parts : (work : Work) (a b one two : List ℕ) (of_one of_two whole : Status)
@@ -99,10 +108,7 @@ pub outputs_of_parts : (work : Work) (a b one two : List ℕ) (of_one of_two who
     → WritesAll work (a ++ 10 ∷ b) (Some []) (Some (one ++ two)) whole
 outputs_of_parts work a b one two of_one of_two whole first second both = record {
   answers = first.answers ++ second.answers;
-  each = subst (λ ls. AreAnswers work ls (first.answers ++ second.answers))
-    (sym (lines_of_parts a b))
-    (AllZip-append (λ line t. IsAnswer work line t.0 t.1) (lines (a ++ 10 ∷ [])) (lines b)
-    first.answers second.answers first.each second.each);
+  each = answers_of_parts work a b first.answers second.answers first.each second.each;
   written = (λ i. first.written i ++ second.written i)
     ∙ sym (flat_map-append (λ (t : List ℕ × Bool). t.0) first.answers second.answers);
   status_is =
