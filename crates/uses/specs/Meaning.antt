@@ -1,0 +1,13 @@
+-- What identifiers mean over a likely table.
+use Rattle.std.specs.Prelude.{◌≡◌, List}
+use Rattle.std.specs.List.{All}
+use Rattle.icu_locale_core.specs.declared.langid.LanguageIdentifier.{LanguageIdentifier}
+use Rattle.icu_locale.specs.LikelySubtags.{LikelySubtags, maximal}
+
+-- two identifiers mean the same: their maximal forms are equal
+abbrev pub MeanTheSame : LikelySubtags → LanguageIdentifier → LanguageIdentifier → Type 0
+MeanTheSame likely x y = maximal likely x ≡ maximal likely y
+
+-- no identifier of a list means the same as x
+abbrev pub NoneMeans : LikelySubtags → List LanguageIdentifier → LanguageIdentifier → Type 0
+NoneMeans likely available x = All (λ y. ¬ (MeanTheSame likely x y)) available

@@ -1,0 +1,24 @@
+-- The line of a menu.
+use Rattle.std.specs.Prelude.{◌≡◌, ◌≤◌, ◌^◌, List, length, Result, Ok, Err}
+use Rattle.icu_provider.specs.declared.error.DataError.{DataError}
+use Rattle.icu_locale_names.specs.Pieces.{Piece, text_of, spans}
+use Rattle.icu_locale_names.specs.declared.write_error.NameWriteError.TheVariants.{TooLong}
+use Rattle.uses.specs.declared.menu.MenuLine.{MenuLine}
+use Rattle.uses.specs.declared.menu.MenuError.{MenuError}
+use Rattle.uses.specs.declared.menu.MenuError.TheVariants.{Refused, Unwritten}
+
+-- the line has the text of the pieces and the spans of those that are raw
+pub record ShowsPieces (pieces : List Piece) (line : MenuLine) : Type 0 where
+  pub text : line.text.items ≡ text_of pieces
+  pub raw : line.raw.items ≡ spans pieces
+
+-- the line shows the pieces, or was not written
+abbrev pub Shows : List Piece → Result MenuLine MenuError → Type 0
+Shows pieces (Ok line) = ShowsPieces pieces line
+Shows pieces (Err (Refused e)) = ⊥
+Shows pieces (Err (Unwritten e)) = e ≡ TooLong → 2 ^ 64 ≤ length (text_of pieces)
+
+-- the line of a name, or the refusal of the name
+abbrev pub IsLineOf : Result (List Piece) DataError → Result MenuLine MenuError → Type 0
+IsLineOf (Ok pieces) result = Shows pieces result
+IsLineOf (Err refusal) result = result ≡ Err (Refused refusal)

@@ -1,0 +1,18 @@
+//! What callers do with the crates of locales: each caller is short, and its contract says what it may rest on.
+#![tactic(auto)]
+
+mod fallback;
+mod files;
+mod keys;
+mod menu;
+mod negotiation;
+mod rows;
+mod spelling;
+
+pub use fallback::mean_the_same;
+pub use files::likely_row;
+pub use keys::{have_one_key, store_key};
+pub use menu::{MenuError, MenuLine, menu_line};
+pub use negotiation::find_served;
+pub use rows::table_with_row;
+pub use spelling::is_spelling;
