@@ -2,7 +2,10 @@
 use Rattle.std.specs.Prelude.{◌≡◌, List}
 use Rattle.std.specs.List.{All}
 use Rattle.icu_locale_core.specs.declared.langid.LanguageIdentifier.{LanguageIdentifier}
+use Rattle.icu_locale_core.specs.Identifier.{IsIdentifier}
 use Rattle.icu_locale.specs.LikelySubtags.{LikelySubtags, maximal}
+use Rattle.icu_locale.specs.Minimal.{IsMinimalForm}
+use Rattle.icu_locale.specs.declared.expander.Favor.TheVariants.{RegionFirst}
 
 -- two identifiers mean the same: their maximal forms are equal
 abbrev pub MeanTheSame : LikelySubtags → LanguageIdentifier → LanguageIdentifier → Type 0
@@ -11,3 +14,8 @@ MeanTheSame likely x y = maximal likely x ≡ maximal likely y
 -- no identifier of a list means the same as x
 abbrev pub NoneMeans : LikelySubtags → List LanguageIdentifier → LanguageIdentifier → Type 0
 NoneMeans likely available x = All (λ y. ¬ (MeanTheSame likely x y)) available
+
+-- an identifier that is its own minimal form
+pub record IsMinimal (likely : LikelySubtags) (x : LanguageIdentifier) : Type 0 where
+  pub known : IsIdentifier x
+  pub minimal : IsMinimalForm RegionFirst likely x x

@@ -4,14 +4,16 @@
 mod fallback;
 mod files;
 mod keys;
+mod meaning;
 mod menu;
 mod negotiation;
 mod rows;
 mod spelling;
 
-pub use fallback::mean_the_same;
+pub use fallback::find_form;
 pub use files::likely_row;
 pub use keys::{have_one_key, store_key};
+pub use meaning::mean_the_same;
 pub use menu::{MenuError, MenuLine, menu_line};
 pub use negotiation::find_served;
 pub use rows::table_with_row;

@@ -8,7 +8,9 @@ pub returns-clause-told : goal.returns-clause-told
 returns-clause-told c x y canonical_x canonical_y =
     let one = c.in_ok-one.ensures.key in
     let other = c.in_ok-other.ensures.key in
-    let ends = c.runs_end_or_repeat.ensures.one_end (likely c.args.canonicalizer.now.expander) c.args.canonicalizer.now.rules false in
+    let canonicalizer = c.args.canonicalizer.now in
+    let table = likely canonicalizer.expander in
+    let ends = c.runs_end_or_repeat.ensures.one_end table canonicalizer.rules false in
     let is_one = ends c.args.one.id x.id one.0.id canonical_x.id one.1.id in
     let is_other = ends c.args.other.id y.id other.0.id canonical_y.id other.1.id in
     let law = c.written_once.ensures one.0.id other.0.id one.2 other.2 in
