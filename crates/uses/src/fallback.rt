@@ -10,8 +10,8 @@ use icu_locale::{LocaleExpander, laws};
 use icu_locale_core::LanguageIdentifier;
 use std::cmp::PartialEq;
 
-/// The place, in a list of minimal forms, of one that an identifier falls back to over a settled table: of one that means
-/// the same. It takes no memory. What `minimize` leaves is such a form (`laws::minimal_forms_are_stable`).
+/// The place, in a list of minimal forms, of one that an identifier falls back to over a settled table: of one that
+/// means the same. It takes no memory. What `minimize` leaves is such a form (`laws::minimal_forms_are_stable`).
 pub fn find_form(
     expander: &LocaleExpander<'_>,
     forms: &[LanguageIdentifier],
