@@ -10,8 +10,26 @@ use icu_locale::{LocaleExpander, laws};
 use icu_locale_core::LanguageIdentifier;
 use std::cmp::PartialEq;
 
+/// The minimal form of an identifier over a settled table, which means the same: `find_form` is handed a list of these.
+/// It takes no memory.
+pub fn minimal_form(
+    expander: &LocaleExpander<'_>,
+    mut given: LanguageIdentifier,
+) -> LanguageIdentifier
+    requires { AreSettled (likely expander.now) }
+    ensures minimal { IsMinimal (likely expander.now) result }
+    ensures same { MeanTheSame (likely expander.now) given result }
+{
+    given.known();
+    laws::minimal_forms_are_stable();
+    laws::maximal_forms_are_stable();
+    let _ = expander.minimize(&mut given);
+    given.known();
+    given
+}
+
 /// The place, in a list of minimal forms, of one that an identifier falls back to over a settled table: of one that
-/// means the same. It takes no memory. What `minimize` leaves is such a form (`laws::minimal_forms_are_stable`).
+/// means the same. It takes no memory.
 pub fn find_form(
     expander: &LocaleExpander<'_>,
     forms: &[LanguageIdentifier],

@@ -10,7 +10,7 @@ mod negotiation;
 mod rows;
 mod spelling;
 
-pub use fallback::find_form;
+pub use fallback::{find_form, minimal_form};
 pub use files::likely_row;
 pub use keys::{have_one_key, store_key};
 pub use meaning::mean_the_same;

@@ -18,9 +18,9 @@ use std::alloc::Global;
 /// A line of a menu.
 #[derive(Debug, Drop)]
 pub struct MenuLine {
-    /// The name.
+    /// The name, in bytes.
     pub text: Vec<u8>,
-    /// Where each raw subtag begins and ends in the name, in order.
+    /// Where each raw subtag begins and ends in it, in order.
     pub raw: Vec<(usize, usize)>,
 }
 
