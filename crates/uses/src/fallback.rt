@@ -10,8 +10,8 @@ use icu_locale::{LocaleExpander, laws};
 use icu_locale_core::LanguageIdentifier;
 use std::cmp::PartialEq;
 
-/// The minimal form of an identifier over a settled table, which means the same: `find_form` is handed a list of these.
-/// It takes no memory.
+/// The minimal form of an identifier over a settled table, which means the same. A list of these is what `find_form`
+/// looks in. It takes no memory.
 pub fn minimal_form(
     expander: &LocaleExpander<'_>,
     mut given: LanguageIdentifier,
