@@ -1,7 +1,11 @@
 -- The line of a menu.
 use Rattle.std.specs.Prelude.{◌≡◌, ◌≤◌, ◌^◌, List, length, Result, Ok, Err}
 use Rattle.icu_provider.specs.declared.error.DataError.{DataError}
+use Rattle.icu_locale_core.specs.declared.langid.LanguageIdentifier.{LanguageIdentifier}
+use Rattle.icu_locale_names.specs.LanguageChains.{language_light}
+use Rattle.icu_locale_names.specs.LanguageNames.{LocaleAnswers, GivesName}
 use Rattle.icu_locale_names.specs.Pieces.{Piece, text_of, spans}
+use Rattle.icu_locale_names.specs.declared.options.LanguageDisplay.TheVariants.{Dialect}
 use Rattle.icu_locale_names.specs.declared.write_error.NameWriteError.TheVariants.{TooLong}
 use Rattle.uses.specs.declared.menu.MenuLine.{MenuLine}
 use Rattle.uses.specs.declared.menu.MenuError.{MenuError}
@@ -22,3 +26,9 @@ Shows pieces (Err (Unwritten e)) = e ≡ TooLong → 2 ^ 64 ≤ length (text_of 
 abbrev pub IsLineOf : Result (List Piece) DataError → Result MenuLine MenuError → Type 0
 IsLineOf (Ok pieces) result = Shows pieces result
 IsLineOf (Err refusal) result = result ≡ Err (Refused refusal)
+
+-- the line of an identifier, over what a provider answers
+abbrev pub IsLineFor : LocaleAnswers → LanguageIdentifier → Result MenuLine MenuError → Type 0
+IsLineFor answers x result =
+    (name : Result (List Piece) DataError) × IsLineOf name result
+    × GivesName answers language_light Dialect x name

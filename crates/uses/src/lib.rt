@@ -14,7 +14,7 @@ pub use fallback::{find_form, minimal_form};
 pub use files::likely_row;
 pub use keys::{have_one_key, store_key};
 pub use meaning::mean_the_same;
-pub use menu::{MenuError, MenuLine, menu_line};
+pub use menu::{MenuError, MenuLine, menu_line, menu_lines};
 pub use negotiation::find_served;
 pub use rows::table_with_row;
 pub use spelling::is_spelling;

@@ -1,11 +1,8 @@
 //! A settings menu of names, with raw parts marked.
-ghost use Rattle.std.specs.Prelude.{List, Result};
-ghost use Rattle.icu_provider.specs.declared.error.DataError.{DataError};
-ghost use Rattle.icu_locale_names.specs.LanguageChains.{language_light};
-ghost use Rattle.icu_locale_names.specs.LanguageNames.{GivesName, in_locale};
-ghost use Rattle.icu_locale_names.specs.Pieces.{Piece};
-ghost use Rattle.icu_locale_names.specs.declared.options.LanguageDisplay.TheVariants.{Dialect};
-ghost use Rattle.uses.specs.Menu.{IsLineOf, Shows};
+ghost use Rattle.std.specs.Prelude.{◌≡◌, ◌⊎◌, ◌++◌, ◌∷◌, [], Ok, Err, IfOk, IfErr, OnOk};
+ghost use Rattle.std.specs.List.{Any, AllZip};
+ghost use Rattle.icu_locale_names.specs.LanguageNames.{in_locale};
+ghost use Rattle.uses.specs.Menu.{IsLineFor, Shows};
 
 use icu_locale_core::LanguageIdentifier;
 use icu_locale_names::{
@@ -33,6 +30,35 @@ pub enum MenuError {
     Unwritten(NameWriteError),
 }
 
+/// The lines of a menu: that of each identifier, in order.
+///
+/// # Errors
+///
+/// The error of a line, or `Unwritten` where there was no room for the lines.
+pub fn menu_lines<P: DataProvider>(
+    alloc: Global,
+    provider: &P,
+    preferences: &DisplayNamesPreferences,
+    subjects: &[LanguageIdentifier],
+) -> Result<Vec<MenuLine>, MenuError>
+    ensures lines { IfOk result (λ lines. AllZip (λ x line.
+        IsLineFor (in_locale (P.name provider.now) (P.menu provider.now)
+        (P.essentials provider.now) preferences.now.locale) x (Ok line))
+        subjects.now lines.items) }
+    ensures refused { IfErr result (λ e. (e ≡ MenuError.Unwritten NameWriteError.Memory)
+        ⊎ Any (λ x. IsLineFor (in_locale (P.name provider.now) (P.menu provider.now)
+        (P.essentials provider.now) preferences.now.locale) x (Err e)) subjects.now) }
+{
+    let mut lines = Vec::new(alloc);
+    for subject in subjects {
+        match menu_line(alloc, provider, *preferences, subject) {
+            Ok(line) => push_line(&mut lines, line)?,
+            Err(refusal) => return Err(refusal),
+        }
+    }
+    Ok(lines)
+}
+
 /// The line of an identifier: its name in the language of the preferences, and where raw subtags stand in it.
 ///
 /// # Errors
@@ -44,10 +70,8 @@ pub fn menu_line<P: DataProvider>(
     preferences: DisplayNamesPreferences,
     subject: &LanguageIdentifier,
 ) -> Result<MenuLine, MenuError>
-    ensures { (name : Result (List Piece) DataError) × IsLineOf name result
-        × GivesName (in_locale (P.name provider.now) (P.menu provider.now)
-        (P.essentials provider.now) preferences.locale) language_light Dialect
-        subject.now name }
+    ensures { IsLineFor (in_locale (P.name provider.now) (P.menu provider.now)
+        (P.essentials provider.now) preferences.locale) subject.now result }
 {
     let options = LanguageIdentifierDisplayNameOptions::default();
     match LanguageIdentifierDisplayName::try_new_light_unstable(
@@ -71,5 +95,16 @@ fn line_of(alloc: Global, name: &LanguageIdentifierDisplayName<'_>) -> Result<Me
     match name.as_borrowed().try_write_to_parts(&mut text, &mut raw) {
         Ok(_) => Ok(MenuLine { text, raw }),
         Err(refusal) => Err(MenuError::Unwritten(refusal)),
+    }
+}
+
+// One line more.
+fn push_line(lines: &mut Vec<MenuLine>, line: MenuLine) -> Result<(), MenuError>
+    ensures pushed { OnOk result (lines.new.items ≡ lines.old.items ++ line ∷ []) }
+    ensures refused { IfErr result (λ e. e ≡ MenuError.Unwritten NameWriteError.Memory) }
+{
+    match lines.push(line) {
+        Ok(()) => Ok(()),
+        Err(_) => Err(MenuError::Unwritten(NameWriteError::Memory)),
     }
 }
