@@ -244,6 +244,7 @@ module _ (spelled_once : (t : List ℕ) (x y : LanguageIdentifier) → IsIdentif
     where
       Fault : ParseError → Type 0
       Fault e = IsRefusal (identifier_text line) e ⊎ (SpellsSome (identifier_text line) × IsValueFault (value_text line) e)
+
       by : Fault e → Fault f → e ≡ f
       by (inl r) (inl s) = refusal_one (identifier_text line) e f r s
       by (inl r) (inr s) = absurd (not_refused (identifier_text line) s.0.0 e s.0.1 s.0.2 r)

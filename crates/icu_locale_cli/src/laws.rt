@@ -5,8 +5,9 @@ ghost use Rattle.icu_locale_cli.specs.declared.work.Work.{Work};
 ghost use Rattle.icu_locale_cli.specs.Answers.{IsAnswer};
 ghost use Rattle.icu_locale_cli.specs.Runs.{WritesAll};
 
-use icu_locale::laws::{canonical_keywords_by_key, minimal_form_is_one};
-use icu_locale::laws::{runs_end_or_repeat, value_runs_end_or_repeat};
+use icu_locale::laws::{
+    canonical_keywords_by_key, minimal_form_is_one, runs_end_or_repeat, value_runs_end_or_repeat,
+};
 use icu_locale_core::laws::spelled_once;
 
 /// A line has one answer at most: what is written for it is told by the line and the work alone.

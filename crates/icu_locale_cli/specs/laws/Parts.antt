@@ -28,10 +28,10 @@ pub has_pieces : (t : List ℕ) → HasPieces (slice_split is_line_feed t)
 has_pieces [] = record { first = []; others = []; are = refl }
 has_pieces (c ∷ t) = elim (is_line_feed c)
     as (λ b. HasPieces (cond b ([] ∷ pieces t) (onto_first c (pieces t)))) [
-  | true ↦ record { first = []; others = pieces t; are = refl }
-  | false ↦ let more = has_pieces t in
-    record { first = c ∷ more.first; others = more.others; are = ap (onto_first c) more.are }
-]
+      | true ↦ record { first = []; others = pieces t; are = refl }
+      | false ↦ let more = has_pieces t in
+          record { first = c ∷ more.first; others = more.others; are = ap (onto_first c) more.are }
+    ]
 
 -- a piece that others follow is a line
 pub without_empty_last-more : (x y : List ℕ) (ys : List (List ℕ))
@@ -60,11 +60,17 @@ has_lines : (a : List ℕ) → HasFront (λ b. slice_split is_line_feed (a ++ 10
 has_lines [] = record { first = []; others = []; are = λ b. refl }
 has_lines (c ∷ a) = let more = has_lines a in elim (is_line_feed c)
     as (λ f. HasFront (λ b. let ps = pieces (a ++ 10 ∷ b) in cond f ([] ∷ ps) (onto_first c ps))) [
-  | true ↦ record { first = []; others = more.first ∷ more.others;
-    are = λ b. ap (λ ps. [] ∷ ps) (more.are b) }
-  | false ↦ record { first = c ∷ more.first; others = more.others;
-    are = λ b. ap (onto_first c) (more.are b) }
-]
+      | true ↦ record {
+        first = [];
+        others = more.first ∷ more.others;
+        are = λ b. ap (λ ps. [] ∷ ps) (more.are b);
+      }
+      | false ↦ record {
+        first = c ∷ more.first;
+        others = more.others;
+        are = λ b. ap (onto_first c) (more.are b);
+      }
+    ]
 
 -- the lines of a text that is cut behind a line feed are those of its parts
 pub lines_of_parts : (a b : List ℕ) → lines (a ++ 10 ∷ b) ≡ lines (a ++ 10 ∷ []) ++ lines b
@@ -110,12 +116,13 @@ outputs_of_parts work a b one two of_one of_two whole first second both = record
   answers = first.answers ++ second.answers;
   each = answers_of_parts work a b first.answers second.answers first.each second.each;
   written = (λ i. first.written i ++ second.written i)
-    ∙ sym (flat_map-append (λ (t : List ℕ × Bool). t.0) first.answers second.answers);
+      ∙ sym (flat_map-append (λ (t : List ℕ × Bool). t.0) first.answers second.answers);
   status_is =
-    let all = list_all-append (λ (t : List ℕ × Bool). t.1) first.answers second.answers in
-    let each = all_accepted_of_parts (all_accepted first.answers) (all_accepted second.answers) in
-    (λ e. let at = both.0 e in
-    all ∙ each.1 (first.status_is.0 at.0, second.status_is.0 at.1),
-    λ e. let at = each.0 (sym all ∙ e) in
-    both.1 (first.status_is.1 at.0, second.status_is.1 at.1));
+      let all = list_all-append (λ (t : List ℕ × Bool). t.1) first.answers second.answers in
+      let each = all_accepted_of_parts (all_accepted first.answers) (all_accepted second.answers) in (
+        λ e. let at = both.0 e in
+            all ∙ each.1 (first.status_is.0 at.0, second.status_is.0 at.1),
+        λ e. let at = each.0 (sym all ∙ e) in
+            both.1 (first.status_is.1 at.0, second.status_is.1 at.1),
+      );
 }
