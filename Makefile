@@ -10,6 +10,7 @@ all:
 	cp crates/$(PROGRAM)/out/$(PROGRAM) $(PROGRAM)
 
 test:
+	.ci/layout/run
 	.ci/callers/run
 	.ci/borrows/run
 	.ci/examples/run
