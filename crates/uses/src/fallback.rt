@@ -49,7 +49,8 @@ pub fn find_form(
 
 // The place of an identifier in a list.
 fn position_of(list: &[LanguageIdentifier], id: &LanguageIdentifier) -> Option<usize>
-    ensures { result ≡ position (λ x. ⟦<LanguageIdentifier as PartialEq>⟧.eq x id.now) list.now }
+    ensures { result
+        ≡ position (λ x. ⟦<LanguageIdentifier as PartialEq>⟧.eq x id.now) list.now }
 {
     list.iter().position(|x| *x == *id)
 }
