@@ -1,8 +1,8 @@
 -- Whether an identifier is changed, told by its language, script and region.
-use Rattle.std.proofs.Common.{◌≡◌, ◌≢◌, true, false, ap, sym, ◌∙◌, inl}
+use Rattle.std.proofs.Common.{◌≡◌, ◌≢◌, true, false, ap, sym, ◌∙◌}
 use Rattle.icu_locale_core.specs.declared.langid.LanguageIdentifier.{LanguageIdentifier}
 use Rattle.icu_provider.specs.declared.data_locale.DataLocale.{DataLocale}
-use Rattle.icu_locale.specs.LikelySubtags.{LikelySubtags, bare_locale, locale_of, with_locale, IsModified}
+use Rattle.icu_locale.specs.LikelySubtags.{locale_of, with_locale}
 use Rattle.icu_locale.specs.inner.Trials.{same_locale}
 use Rattle.icu_locale.proofs.Locales.{same_from_test, other_from_test}
 
@@ -21,9 +21,3 @@ unchanged x given y is e = same_with_locale x y (same_from_test y given (sym e) 
 -- another one changes it
 pub changed : (x : LanguageIdentifier) (given y : DataLocale) → given ≡ locale_of x → false ≡ same_locale y given → with_locale x y ≢ x
 changed x given y is e same = other_from_test y given (sym e) (locale_from_same x y same ∙ sym is)
-
--- something was removed
-pub IsModified-removed : (likely : LikelySubtags) (x : LanguageIdentifier) (given bare : DataLocale) → given ≡ locale_of x → bare ≡ bare_locale given → false ≡ same_locale bare given → IsModified likely x
-IsModified-removed likely x given bare is removed e =
-    let bare_is : bare ≡ bare_locale (locale_of x) = removed ∙ ap bare_locale is in
-    inl (λ is_bare. other_from_test bare given (sym e) (bare_is ∙ locale_from_same x (bare_locale (locale_of x)) is_bare ∙ sym is))

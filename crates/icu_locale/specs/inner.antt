@@ -1,4 +1,5 @@
 pub mod CanonicalParts
+pub mod Filling
 pub mod Index
 pub mod LikelyMaps
 pub mod Rewrite
@@ -7,4 +8,3 @@ pub mod Tally
 pub mod Trials
 pub mod Universe
 pub mod Walk
-pub mod Whole

@@ -115,6 +115,7 @@ impl<'d, E: AsExpander<'d>> LocaleCanonicalizer<'d, E> {
     }
 
     // What is to be changed of a locale, found before anything is written.
+    #[inline(always)]
     fn find_changes(&self, locale: &Locale, turns: &mut Turns) -> Result<Changes, CanonicalizeError>
         ensures found { IfOk result
             (AreChanges (E.table self.now.expander) self.now.rules locale.now) }
@@ -143,6 +144,7 @@ impl<'d, E: AsExpander<'d>> LocaleCanonicalizer<'d, E> {
 
     // Where the runs of the identifier and then of the transform language end, each if that is at a later place than its
     // start.
+    #[inline(always)]
     fn find_ends(
         &self,
         locale: &Locale,
@@ -164,6 +166,7 @@ impl<'d, E: AsExpander<'d>> LocaleCanonicalizer<'d, E> {
     }
 
     // Where the run of a transform language ends, if there is one and its end is at a later place than its start.
+    #[inline(always)]
     fn transform_end(
         &self,
         lang: &Option<LanguageIdentifier>,

@@ -13,7 +13,7 @@ ghost use Rattle.icu_locale.specs.Minimal.{IsMinimalForm};
 
 pub(crate) mod looks;
 
-use crate::expander::looks::{bare_locale, filled, is_whole};
+use crate::expander::looks::{bare_locale, fill_in, remove_unknown};
 use icu_locale_core::{LanguageIdentifier, Script};
 use icu_provider::{
     DataError, DataLocale, DataProvider, LikelySubtagsExtended, LikelySubtagsForLanguage,
@@ -126,14 +126,15 @@ impl<'d> LocaleExpander<'d> {
         ensures modified { (result ≡ TransformResult.Modified)
             ↔ IsModified (likely self.now) id.old }
     {
-        let given = locale_of(id);
-        let bare = bare_locale(given);
-        let maximal = self.maximal_of_bare(bare);
-        let changed = set_locale(id, maximal);
-        if bare == given {
-            changed
-        } else {
+        let removed = remove_unknown(&mut id.script, &mut id.region);
+        let added = match self.added(id.language, id.script, id.region) {
+            Some(row) => fill_in(&mut id.language, &mut id.script, &mut id.region, row),
+            None => false,
+        };
+        if removed || added {
             TransformResult::Modified
+        } else {
+            TransformResult::Unmodified
         }
     }
 
@@ -217,14 +218,13 @@ impl<'d> LocaleExpander<'d> {
     }
 
     // The maximal form of what has neither script `Zzzz` nor region `ZZ`.
-    fn maximal_of_bare(&self, bare: DataLocale) -> DataLocale
+    fn maximal_of_bare(&self, mut bare: DataLocale) -> DataLocale
         ensures { result ≡ maximal_of_bare (likely self.now) bare }
     {
-        if is_whole(&bare) {
-            return bare;
+        if let Some(row) = self.added(bare.language, bare.script, bare.region) {
+            fill_in(&mut bare.language, &mut bare.script, &mut bare.region, row);
         }
-        let found = self.first_found(bare);
-        filled(&bare, found)
+        bare
     }
 }
 

@@ -13,22 +13,24 @@ use icu_locale::{CanonicalizeError, LocaleCanonicalizer, TransformResult};
 use icu_locale_core::{LanguageIdentifier, Locale, Value};
 
 // The line of a locale that is brought to its canonical form.
+#[inline(always)]
 pub fn canonicalized(
     room: Vec<u8>,
     canonicalizer: &LocaleCanonicalizer<'_>,
-    mut locale: Locale,
+    locale: &mut Locale,
 ) -> Result<Answer, CliError>
     ensures answer { IfOk result (λ a. IsCanonicalized (likely canonicalizer.now.expander)
-        canonicalizer.now.rules locale a.text.items a.accepted) }
+        canonicalizer.now.rules locale.old a.text.items a.accepted) }
     ensures refused { IfErr result (λ e. e ≡ CliError.Memory) }
 {
-    match canonicalizer.canonicalize(&mut locale) {
-        Ok(changed) => canonical_answer(room, &locale, changed),
+    match canonicalizer.canonicalize(locale) {
+        Ok(changed) => canonical_answer(room, locale, changed),
         Err(refusal) => uncanonical(room, refusal),
     }
 }
 
 // The line of a canonical locale: its identifier, its value at `rg` if there is one, and whether anything was changed.
+#[inline(always)]
 fn canonical_answer(
     room: Vec<u8>,
     locale: &Locale,

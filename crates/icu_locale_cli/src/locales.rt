@@ -13,6 +13,7 @@ use icu_locale_core::{Key, LanguageIdentifier, Locale, ParseError, Value};
 use std::alloc::Global;
 
 // The locale that a line spells. Its identifier is read before its value.
+#[inline(always)]
 pub fn read_locale(alloc: Global, line: &[u8]) -> Result<Locale, ParseError>
     ensures read { IfOk result (SpellsLocale line.now) }
     ensures refused { IfErr result (λ e. (e ≡ ParseError.Memory) ⊎ IsLocaleFault line.now e) }
@@ -25,6 +26,7 @@ pub fn read_locale(alloc: Global, line: &[u8]) -> Result<Locale, ParseError>
 }
 
 // The locale of an identifier, where there is a text with its value at `rg`.
+#[inline(always)]
 fn with_override(
     alloc: Global,
     identifier: LanguageIdentifier,
@@ -72,6 +74,7 @@ fn put_override(mut locale: Locale, value: Value) -> Result<Locale, ParseError>
 }
 
 // A line up to its first tab, and what stands behind that, if there is one.
+#[inline(always)]
 fn cut_at_tab(line: &[u8]) -> (&[u8], Option<&[u8]>)
     ensures identifier { result.0.now ≡ identifier_text line.now }
     ensures value { option_copied result.1 ≡ value_text line.now }

@@ -42,6 +42,7 @@ impl<'d> Work<'d> {
 }
 
 // The answer to a line that is an identifier.
+#[inline(always)]
 fn answer_identifier(room: Vec<u8>, task: &Task<'_>, line: &[u8]) -> Result<Answer, CliError>
     ensures answer { IfOk result (λ a. IsIdentifierAnswer task.now line.now a.text.items
         a.accepted) }
@@ -55,6 +56,7 @@ fn answer_identifier(room: Vec<u8>, task: &Task<'_>, line: &[u8]) -> Result<Answ
 }
 
 // The answer to a line that is a locale.
+#[inline(always)]
 fn answer_locale(
     room: Vec<u8>,
     canonicalizer: &LocaleCanonicalizer<'_>,
@@ -65,7 +67,7 @@ fn answer_locale(
     ensures refused { IfErr result (λ e. e ≡ CliError.Memory) }
 {
     match read_locale(*room.allocator(), line) {
-        Ok(locale) => canonicalized(room, canonicalizer, locale),
+        Ok(mut locale) => canonicalized(room, canonicalizer, &mut locale),
         Err(ParseError::Memory) => Err(CliError::Memory),
         Err(refusal) => refused(room, refusal),
     }

@@ -13,11 +13,11 @@ use Rattle.icu_locale_core.specs.declared.classes.Class.TheVariants.{Language, S
 use Rattle.icu_locale_core.specs.declared.langid.LanguageIdentifier.{LanguageIdentifier}
 use Rattle.icu_locale_core.specs.declared.parse_error.ParseError.{ParseError}
 use Rattle.icu_locale_core.specs.declared.parse_error.ParseError.TheVariants.{InvalidLanguage, InvalidSubtag, Memory}
-use Rattle.icu_locale_core.specs.TextSet.{TextSet, from_list, contains, len}
+use Rattle.icu_locale_core.specs.TextSet.{TextSet, from_list, contains, len, empty}
 use Rattle.icu_locale_core.specs.Identifier.{IsIdentifier, Lists, subtags, pieces, Spells, IsOkUnlessMemory}
 use Rattle.icu_locale_core.specs.inner.Reading.{optional, after_optional, are_variants, read_variants, with_variants, read_rest, read_pieces}
 use Rattle.icu_locale_core.proofs.Cases.{is_member-lowercase, written_case-lowercase, lowercase-written_case, written_written, region_no_script, variant_no_script, variant_no_region}
-use Rattle.icu_locale_core.specs.laws.TextSets.{contains-from_list, Contains-is_among, is_among-Contains}
+use Rattle.icu_locale_core.specs.laws.TextSets.{contains-from_list, Contains-is_among, is_among-Contains, length-rising_empty}
 
 -- the pieces ps are the subtags of x, case aside, with the variants in some order
 pub record Reads (ps : List (List ℕ)) (x : LanguageIdentifier) : Type 0 where
@@ -105,6 +105,10 @@ written_variants (p ∷ ps) h = All-cons IsVariant (lowercase p) (map lowercase 
 each_of_lists : (order : List (List ℕ)) (s : TextSet) → Lists order s → ((v : List ℕ) → contains s v ≡ true → IsVariant v) → All IsVariant order
 each_of_lists order s lists each =
     All-weaker (Contains order) IsVariant (λ v here. each v (ap (λ u. contains u v) (sym lists.members) ∙ contains-from_list order v ∙ is_among-Contains v order here)) order (All-contains_itself order)
+
+-- no pieces are no variants
+pub no_pieces : read_variants [] ≡ Ok empty
+no_pieces = rw length-rising_empty refl
 
 -- pieces that are such a list, case aside, are read as the set
 read_variants-lists : (ps order : List (List ℕ)) (s : TextSet) → Lists order s → All IsVariant order → map lowercase ps ≡ map lowercase order → read_variants ps ≡ Ok s

@@ -1,7 +1,7 @@
 // The classes of subtags: which texts belong to each, and how each is written.
-ghost use Rattle.std.specs.Prelude.{◌≡◌};
-ghost use Rattle.icu_locale_core.specs.Subtag.{is_alphabetic, is_numeric, is_alphanumeric};
-ghost use Rattle.icu_locale_core.specs.inner.Class.{is_member, written_byte};
+ghost use Rattle.std.specs.Prelude.{◌≡◌, ◌≤◌, length, IfSome};
+ghost use Rattle.icu_locale_core.specs.inner.Class.{is_member, written_byte, longest};
+ghost use Rattle.icu_locale_core.specs.inner.Class.{is_character, consists_of};
 
 #[derive(Clone, Copy)]
 pub enum Class {
@@ -13,23 +13,37 @@ pub enum Class {
     Subtag,
 }
 
+// Kinds of characters.
+#[derive(Clone, Copy)]
+pub enum Characters {
+    Letters,
+    Digits,
+    LettersAndDigits,
+}
+
 impl Class {
-    // Whether a text belongs to the class, in any case.
-    pub fn has(self, text: &[u8]) -> bool
-        ensures { result ≡ is_member self text.now }
+    // The kind of characters that makes a text a member, where all of them are of that kind. No walk over the text is
+    // needed to tell it. Where there is none, the text is no member, whatever its case.
+    #[inline(always)]
+    pub fn characters(self, text: &[u8]) -> Option<Characters>
+        ensures member { is_member self text.now ≡ consists_of result text.now }
+        ensures short { IfSome result (λ _. length text.now ≤ longest self) }
     {
-        let length = text.len();
-        match self {
-            Class::Language => 2 <= length && length <= 3 && is_alphabetic(text),
-            Class::Script => length == 4 && is_alphabetic(text),
-            Class::Region => is_region(text),
-            Class::Variant => is_variant(text),
-            Class::Key => is_key(text),
-            Class::Subtag => 3 <= length && length <= 8 && is_alphanumeric(text),
+        match (self, text.len()) {
+            (Class::Language, 2 | 3) => Some(Characters::Letters),
+            (Class::Script, 4) => Some(Characters::Letters),
+            (Class::Region, 2) => Some(Characters::Letters),
+            (Class::Region, 3) => Some(Characters::Digits),
+            (Class::Variant, 4) if text[0].is_ascii_digit() => Some(Characters::LettersAndDigits),
+            (Class::Variant, 5..=8) => Some(Characters::LettersAndDigits),
+            (Class::Key, 2) if text[1].is_ascii_alphabetic() => Some(Characters::LettersAndDigits),
+            (Class::Subtag, 3..=8) => Some(Characters::LettersAndDigits),
+            _ => None,
         }
     }
 
     // How a character at a place is written.
+    #[inline(always)]
     pub fn written_byte(self, place: usize, byte: u8) -> u8
         ensures { result ≡ written_byte self place byte }
     {
@@ -41,49 +55,16 @@ impl Class {
     }
 }
 
-fn is_region(text: &[u8]) -> bool
-    ensures { result ≡ is_member Class.Region text.now }
-{
-    match text.len() {
-        2 => is_alphabetic(text),
-        3 => is_numeric(text),
-        _ => false,
+impl Characters {
+    // Whether a character is of the kind.
+    #[inline(always)]
+    pub fn has(self, byte: u8) -> bool
+        ensures { result ≡ is_character self byte }
+    {
+        match self {
+            Characters::Letters => byte.is_ascii_alphabetic(),
+            Characters::Digits => byte.is_ascii_digit(),
+            Characters::LettersAndDigits => byte.is_ascii_alphanumeric(),
+        }
     }
-}
-
-fn is_variant(text: &[u8]) -> bool
-    ensures { result ≡ is_member Class.Variant text.now }
-{
-    match text.len() {
-        4 => text[0].is_ascii_digit() && is_alphanumeric(text),
-        5..=8 => is_alphanumeric(text),
-        _ => false,
-    }
-}
-
-fn is_key(text: &[u8]) -> bool
-    ensures { result ≡ is_member Class.Key text.now }
-{
-    match text {
-        [first, second] => first.is_ascii_alphanumeric() && second.is_ascii_alphabetic(),
-        _ => false,
-    }
-}
-
-fn is_alphabetic(text: &[u8]) -> bool
-    ensures { result ≡ is_alphabetic text.now }
-{
-    text.iter().all(|b| b.is_ascii_alphabetic())
-}
-
-fn is_numeric(text: &[u8]) -> bool
-    ensures { result ≡ is_numeric text.now }
-{
-    text.iter().all(|b| b.is_ascii_digit())
-}
-
-fn is_alphanumeric(text: &[u8]) -> bool
-    ensures { result ≡ is_alphanumeric text.now }
-{
-    text.iter().all(|b| b.is_ascii_alphanumeric())
 }

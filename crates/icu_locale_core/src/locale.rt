@@ -17,6 +17,7 @@ pub struct Locale {
 
 impl Locale {
     /// The identifier without extensions. It takes no memory.
+    #[inline(always)]
     pub fn new(alloc: Global, id: LanguageIdentifier) -> Self
         ensures id { result.id ≡ id }
         ensures keywords { result.extensions.unicode.keywords ≡ [] }

@@ -21,6 +21,7 @@ impl<'a> Model for Pieces<'a> {
 }
 
 impl<'a> Pieces<'a> {
+    #[inline(always)]
     pub fn new(text: &'a [u8]) -> Self
         ensures { result ≡ pieces text.now }
     {
@@ -32,6 +33,7 @@ impl<'a> Pieces<'a> {
     }
 
     // The next piece.
+    #[inline(always)]
     pub fn peek(&self) -> Option<&'a [u8]>
         ensures { MatchOption result (self.now ≡ [])
             (λ p. (ps : List (List ℕ)) × (self.now ≡ p.now ∷ ps)) }
@@ -47,6 +49,7 @@ impl<'a> Iterator for Pieces<'a> {
 
     ghost remaining = { item_count (λ s. s) };
 
+    #[inline(always)]
     fn next(&mut self) -> Option<&'a [u8]> {
         let first = self.first?;
         match self.rest {
@@ -64,6 +67,7 @@ impl<'a> Iterator for Pieces<'a> {
 }
 
 // The first piece of a text, and what follows its separator.
+#[inline(always)]
 fn cut(text: &[u8]) -> (&[u8], Option<&[u8]>)
     ensures { pieces text.now ≡ result.0.now ∷ pieces_of result.1 }
 {
@@ -78,12 +82,14 @@ fn cut(text: &[u8]) -> (&[u8], Option<&[u8]>)
 }
 
 // Where the first separator stands.
+#[inline(always)]
 fn separator(text: &[u8]) -> Option<usize>
     ensures { result ≡ position is_separator text.now }
 {
     text.iter().position(is_separator)
 }
 
+#[inline(always)]
 fn is_separator(byte: &u8) -> bool
     ensures { result ≡ is_separator byte.now }
 {

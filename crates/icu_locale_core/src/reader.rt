@@ -34,6 +34,7 @@ pub fn read_identifier(
     })
 }
 
+#[inline(always)]
 fn read_script(pieces: &mut Pieces<'_>) -> Option<Script>
     ensures read { result ≡ optional is_script titlecase pieces.old }
     ensures rest { pieces.new ≡ after_optional is_script pieces.old }
@@ -43,6 +44,7 @@ fn read_script(pieces: &mut Pieces<'_>) -> Option<Script>
     Some(script)
 }
 
+#[inline(always)]
 fn read_region(pieces: &mut Pieces<'_>) -> Option<Region>
     ensures read { result ≡ optional is_region uppercase pieces.old }
     ensures rest { pieces.new ≡ after_optional is_region pieces.old }
@@ -53,11 +55,15 @@ fn read_region(pieces: &mut Pieces<'_>) -> Option<Region>
 }
 
 // The set of all pieces, where each is a variant and none comes twice.
+#[tactic(auto, using(crate::proofs::Readings::no_pieces))]
 fn read_variants(alloc: Global, pieces: Pieces<'_>) -> Result<Variants, ParseError>
     ensures read { (result ≡ Err ParseError.Memory) ⊎ (result ≡ read_variants pieces.entry) }
     ensures memory { result ≡ Err ParseError.Memory
         → list_any is_variant pieces.entry ≡ true }
 {
+    if pieces.peek().is_none() {
+        return Ok(Variants::new(alloc));
+    }
     let mut list = Vec::new(alloc);
     for piece in pieces {
         match Variant::try_from_bytes(piece) {

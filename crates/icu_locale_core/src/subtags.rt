@@ -41,6 +41,7 @@ impl Language {
     }
 
     // Reads the bytes of a language.
+    #[inline(always)]
     pub(crate) fn try_from_bytes(text: &[u8]) -> Option<Self>
         ensures read { IfSome result (λ x. x ≡ lowercase text.now) }
         ensures accepted { is_some result ≡ is_language text.now }
@@ -104,6 +105,7 @@ impl Script {
     }
 
     // Reads the bytes of a script.
+    #[inline(always)]
     pub(crate) fn try_from_bytes(text: &[u8]) -> Option<Self>
         ensures read { IfSome result (λ x. x ≡ titlecase text.now) }
         ensures accepted { is_some result ≡ is_script text.now }
@@ -157,6 +159,7 @@ impl Region {
     }
 
     // Reads the bytes of a region.
+    #[inline(always)]
     pub(crate) fn try_from_bytes(text: &[u8]) -> Option<Self>
         ensures read { IfSome result (λ x. x ≡ uppercase text.now) }
         ensures accepted { is_some result ≡ is_region text.now }
@@ -217,6 +220,7 @@ impl Variant {
     }
 
     // Reads the bytes of a variant.
+    #[inline(always)]
     pub(crate) fn try_from_bytes(text: &[u8]) -> Option<Self>
         ensures read { IfSome result (λ x. x ≡ lowercase text.now) }
         ensures accepted { is_some result ≡ is_variant text.now }
@@ -270,6 +274,7 @@ impl Key {
     }
 
     // Reads the bytes of a key.
+    #[inline(always)]
     pub(crate) fn try_from_bytes(text: &[u8]) -> Option<Self>
         ensures read { IfSome result (λ x. x ≡ lowercase text.now) }
         ensures accepted { is_some result ≡ is_key text.now }
@@ -323,6 +328,7 @@ impl Subtag {
     }
 
     // Reads the bytes of a subtag.
+    #[inline(always)]
     pub(crate) fn try_from_bytes(text: &[u8]) -> Option<Self>
         ensures read { IfSome result (λ x. x ≡ lowercase text.now) }
         ensures accepted { is_some result ≡ is_subtag text.now }

@@ -36,32 +36,23 @@ impl<const N: usize> Model for TinyText<N> {
 }
 
 impl<const N: usize> TinyText<N> {
-    // The text in the written case of its class.
-    fn written(class: Class, text: &[u8]) -> Self
-        requires member { IsTrue (is_member class text.now) }
-        requires short { length text.now ≤ N }
-        ensures text { result ≡ written_case class text.now }
-        ensures known { IsWritten (is_member class) (written_case class) result }
-    {
-        let mut bytes = [0; N];
-        for (place, byte) in text.iter().enumerate() {
-            bytes[place] = class.written_byte(place, *byte);
-        }
-        TinyText { bytes }
-    }
-
-    // The text in the written case of a class, where it belongs to the class.
+    // The text in the written case of a class, where it belongs to the class: one walk tells both.
+    #[inline(always)]
     pub fn read(class: Class, text: &[u8]) -> Option<Self>
         requires { longest class ≤ N }
         ensures text { IfSome result (λ x. x ≡ written_case class text.now) }
         ensures accepted { is_some result ≡ is_member class text.now }
         ensures known { IfSome result (IsWritten (is_member class) (written_case class)) }
     {
-        if class.has(text) {
-            Some(TinyText::written(class, text))
-        } else {
-            None
+        let kind = class.characters(text)?;
+        let mut bytes = [0; N];
+        for (place, byte) in text.iter().enumerate() {
+            if !kind.has(*byte) {
+                return None;
+            }
+            bytes[place] = class.written_byte(place, *byte);
         }
+        Some(TinyText { bytes })
     }
 
     // How many bytes the text has.

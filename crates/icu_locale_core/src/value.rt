@@ -10,7 +10,6 @@ ghost use Rattle.icu_locale_core.specs.Subtag.{is_subtag};
 ghost use Rattle.icu_locale_core.specs.Value.{IsValue, is_value, read_value};
 ghost use Rattle.icu_locale_core.specs.Value.{read_subtags, only_piece, written_value};
 
-use crate::classes::Class;
 use crate::langid::write_after_dash;
 use crate::pieces::Pieces;
 use crate::{ParseError, Subtag};
@@ -163,7 +162,7 @@ fn are_subtags(pieces: Pieces<'_>) -> bool
     ensures { result ≡ list_all is_subtag pieces.entry }
 {
     for piece in pieces {
-        if !Class::Subtag.has(piece) {
+        if Subtag::try_from_bytes(piece).is_none() {
             return false;
         }
     }

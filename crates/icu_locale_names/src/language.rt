@@ -1,5 +1,5 @@
 //! Names of identifiers: a language, and qualifiers behind it.
-ghost use Rattle.std.specs.Prelude.{◌≡◌, ◌⊎◌, ◌↔◌, ◌^◌, ◌≤◌, ◌++◌, length, map};
+ghost use Rattle.std.specs.Prelude.{◌≡◌, ◌≢◌, ◌⊎◌, ◌↔◌, ◌^◌, ◌<◌, ◌≤◌, ◌++◌, length, map, false};
 ghost use Rattle.std.specs.Prelude.{Some, Err, OnOk, OnErr, IfOk, IfErr, IsErr, IsTrue};
 ghost use Rattle.std.specs.Io.KnownBytes.{Appends};
 ghost use Rattle.icu_locale_names.specs.LanguageChains.{language_tiny, language_light};
@@ -33,7 +33,7 @@ use crate::language::chains::Chains;
 use crate::language::parts::{Parts, find_parts};
 use crate::language::variants::{VariantNames, variant_names};
 use crate::language::walk::PieceWalk;
-use crate::language::writing::{format_pieces, has_raw, is_too_long, spans_of, write_pieces};
+use crate::language::writing::{format_pieces, measured, spans_of, write_pieces};
 use crate::options::{LanguageIdentifierDisplayNameOptions, display_of};
 use crate::shown::Shown;
 use crate::write_error::NameWriteError;
@@ -480,9 +480,8 @@ impl<'a> LanguageIdentifierDisplayNameBorrowed<'a> {
     /// `parts` is unchanged after each.
     ///
     /// - `TooLong` exactly where the text is longer than `usize::MAX` bytes. Nothing was written.
-    /// - `Memory` where the spans found no room. Nothing was written.
+    /// - `Memory` where the spans found no room, never where no raw subtag stands in the text. Nothing was written.
     /// - `Sink` where a write failed or took no byte. A beginning of the text was written, and not the whole.
-    #[tactic(auto, using(crate::proofs::Measures::take_front))]
     pub fn try_write_to_parts<W: io::Write>(
         &self,
         sink: &mut W,
@@ -501,15 +500,42 @@ impl<'a> LanguageIdentifierDisplayNameBorrowed<'a> {
         ensures part { result ≡ Err NameWriteError.Sink → AppendsPart (W.contents sink.old)
             (W.contents sink.new) (text_of (pieces_of self.now)) }
         ensures unmarked { OnErr result (parts.new.items ≡ parts.old.items) }
+        ensures free { has_raw (pieces_of self.now) ≡ false
+            → result ≢ Err NameWriteError.Memory }
     {
-        if is_too_long(self) {
+        let Some(is_raw) = measured(self) else {
             return Err(NameWriteError::TooLong);
+        };
+        if is_raw {
+            self.write_marked(sink, parts)?;
+            return Ok(Err(LanguageIdentifierNameFallbackError));
         }
+        write_pieces(self, sink)?;
+        Ok(Ok(()))
+    }
+
+    // Writes the text, and puts the span of each raw subtag behind `parts`, which is unchanged after a refusal.
+    #[tactic(auto, using(crate::proofs::Measures::take_front))]
+    fn write_marked<W: io::Write>(
+        &self,
+        sink: &mut W,
+        parts: &mut Vec<(usize, usize)>,
+    ) -> Result<(), NameWriteError>
+        requires { length (text_of (pieces_of self.now)) < 2 ^ 64 }
+        ensures text { OnOk result (Appends (W.contents sink.old) (W.contents sink.new)
+            (text_of (pieces_of self.now))) }
+        ensures marked { OnOk result (parts.new.items
+            ≡ parts.old.items ++ spans (pieces_of self.now)) }
+        ensures refused { IfErr result (λ e. ((e ≡ NameWriteError.Memory) × (sink.new ≡ sink.old))
+            ⊎ ((e ≡ NameWriteError.Sink) × AppendsPart (W.contents sink.old)
+            (W.contents sink.new) (text_of (pieces_of self.now)))) }
+        ensures unmarked { OnErr result (parts.new.items ≡ parts.old.items) }
+    {
         let marks = spans_of(*parts.allocator(), self)?;
         let before = parts.as_slice().len();
         parts.extend_from_slice(marks.as_slice())?;
         match write_pieces(self, sink) {
-            Ok(()) => Ok(report(has_raw(self))),
+            Ok(()) => Ok(()),
             Err(refusal) => {
                 parts.truncate(before);
                 Err(refusal)
@@ -522,17 +548,6 @@ impl<'a> LanguageIdentifierDisplayNameBorrowed<'a> {
         ensures { pieces_left result ≡ pieces_of self.now }
     {
         PieceWalk::new(self.parts, self.variants, self.pattern, self.separator)
-    }
-}
-
-// The report that a raw subtag was written.
-fn report(is_raw: bool) -> Result<(), LanguageIdentifierNameFallbackError>
-    ensures { IsErr result ↔ IsTrue is_raw }
-{
-    if is_raw {
-        Err(LanguageIdentifierNameFallbackError)
-    } else {
-        Ok(())
     }
 }
 

@@ -20,6 +20,7 @@ pub struct Changes {
 
 impl Changes {
     // Writes the changes, all of them.
+    #[inline(always)]
     pub fn write(self, locale: &mut Locale) -> TransformResult
         requires region_override { IsSome self.region_override
             → IsSome (value_at text_cmp locale.old.extensions.unicode.keywords rg) }
@@ -48,6 +49,7 @@ impl Changes {
     }
 }
 
+#[inline(always)]
 fn answer_of(is_changed: bool) -> TransformResult
     ensures { result ≡ answer_of is_changed }
 {
@@ -58,6 +60,7 @@ fn answer_of(is_changed: bool) -> TransformResult
     }
 }
 
+#[inline(always)]
 fn replace<T: Drop>(place: &mut T, by: Option<T>) -> bool
     ensures written { place.new ≡ unwrap_or by place.old }
     ensures answer { result ≡ is_some by }
@@ -72,6 +75,7 @@ fn replace<T: Drop>(place: &mut T, by: Option<T>) -> bool
 }
 
 // Puts a value at a key that is there.
+#[inline(always)]
 fn put(keywords: &mut Keywords, key: Key, value: Option<Value>) -> bool
     requires { IsSome value → IsSome (value_at text_cmp keywords.old key) }
     ensures rows { keywords.new ≡ put keywords.old key value }
@@ -86,18 +90,21 @@ fn put(keywords: &mut Keywords, key: Key, value: Option<Value>) -> bool
     }
 }
 
+#[inline(always)]
 pub fn region_override_key() -> Key
     ensures { result ≡ rg }
 {
     key("rg")
 }
 
+#[inline(always)]
 pub fn subdivision_key() -> Key
     ensures { result ≡ sd }
 {
     key("sd")
 }
 
+#[inline(always)]
 fn key(text: &str) -> Key
     requires { IsTrue (is_key text.now) }
     ensures { result ≡ lowercase text.now }

@@ -145,6 +145,7 @@ impl<'c, 'd, E: AsExpander<'d>> Rewriting for Run<'c, 'd, E> {
 }
 
 // Where a run ends, if that is at a later place than its start.
+#[inline(always)]
 pub fn later_end<'d, E: AsExpander<'d>>(
     canonicalizer: &LocaleCanonicalizer<'d, E>,
     id: &LanguageIdentifier,

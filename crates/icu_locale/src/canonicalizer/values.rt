@@ -54,6 +54,7 @@ fn next_value<'r>(rules: &'r Rules<'_>, value: &Value) -> Option<&'r Value>
 
 // Where the runs of the values at `rg` and then at `sd` end, each if that is at a later place than its start. Their steps
 // are counted apart, since they are no searches for a rule.
+#[inline(always)]
 pub fn later_values(
     rules: &Rules<'_>,
     keywords: &Keywords,
@@ -70,6 +71,7 @@ pub fn later_values(
 }
 
 // Where the run of a value ends, if there is one and that is at a later place than its start.
+#[inline(always)]
 fn later_value(
     rules: &Rules<'_>,
     value: Option<&Value>,

@@ -1,13 +1,14 @@
 //! Look-ups in the one likely table of an expander.
-ghost use Rattle.std.specs.Prelude.{◌≡◌};
+ghost use Rattle.std.specs.Prelude.{◌≡◌, not, Some, is_some};
+ghost use Rattle.std.specs.Option.{unwrap_or};
 ghost use Rattle.icu_locale_core.specs.Maps.{value_at};
 ghost use Rattle.icu_locale.specs.LikelySubtags.{known_subtag, unknown_script, unknown_region};
-ghost use Rattle.icu_locale.specs.LikelySubtags.{bare_locale, filled, first_found, keys};
-ghost use Rattle.icu_locale.specs.LikelySubtags.{known_keys, und_keys};
+ghost use Rattle.icu_locale.specs.LikelySubtags.{bare_locale, filled, first_found};
+ghost use Rattle.icu_locale.specs.LikelySubtags.{known_keys, und_keys, maximal_of_bare};
 ghost use Rattle.icu_locale.specs.LikelyTable.{row_at, common_rows, extended_rows, extension_row};
 ghost use Rattle.icu_locale.specs.LikelyTable.{und_row, likely};
+ghost use Rattle.icu_locale.specs.inner.Filling.{locale_with, is_unknown, loses, gains};
 ghost use Rattle.icu_locale.specs.inner.LikelyMaps.{rows_of};
-ghost use Rattle.icu_locale.specs.inner.Whole.{is_whole};
 
 use crate::expander::LocaleExpander;
 use icu_locale_core::{Language, Region, Script};
@@ -122,14 +123,24 @@ impl<'d> LocaleExpander<'d> {
         }
     }
 
-    // The triple of the first key that the table has.
-    pub(crate) fn first_found(&self, bare: DataLocale) -> Option<Triple>
-        ensures { result ≡ first_found (likely self.now) (keys bare) }
+    // The triple that what is bare is filled from: that of the first key that the table has. Where nothing is missing
+    // no key is looked up.
+    #[inline(always)]
+    pub(crate) fn added(
+        &self,
+        language: Language,
+        script: Option<Script>,
+        region: Option<Region>,
+    ) -> Option<Triple>
+        ensures { let bare = locale_with language script region in filled bare result
+            ≡ maximal_of_bare (likely self.now) bare }
     {
-        if bare.language.is_unknown() {
-            self.first_of_und(bare.script, bare.region)
+        if language.is_unknown() {
+            self.first_of_und(script, region)
+        } else if script.is_some() && region.is_some() {
+            None
         } else {
-            self.first_of_known(bare.language, bare.script, bare.region)
+            self.first_of_known(language, script, region)
         }
     }
 
@@ -203,58 +214,84 @@ impl<'d> LocaleExpander<'d> {
     }
 }
 
-// Whether nothing is missing: the language is known, and there are a script and a region.
-pub(crate) fn is_whole(bare: &DataLocale) -> bool
-    ensures { result ≡ is_whole bare.now }
+// Fills in what is missing from a triple, and tells whether that changed anything.
+#[inline(always)]
+pub(crate) fn fill_in(
+    language: &mut Language,
+    script: &mut Option<Script>,
+    region: &mut Option<Region>,
+    row: Triple,
+) -> bool
+    ensures value { locale_with language.new script.new region.new
+        ≡ filled (locale_with language.old script.old region.old) (Some row) }
+    ensures told { result ≡ gains (locale_with language.old script.old region.old) row }
 {
-    !bare.language.is_unknown() && bare.script.is_some() && bare.region.is_some()
+    let is_new = language.is_unknown() && !row.0.is_unknown();
+    if is_new {
+        *language = row.0;
+    }
+    let has_script = fill(script, row.1);
+    let has_region = fill(region, row.2);
+    is_new || has_script || has_region
 }
 
-// What is missing, taken from the triple that was found.
-pub(crate) fn filled(bare: &DataLocale, found: Option<Triple>) -> DataLocale
-    ensures { result ≡ filled bare.now found }
+// Puts a subtag where there is none, and tells whether there was none.
+#[inline(always)]
+fn fill<T: Copy>(place: &mut Option<T>, likely: T) -> bool
+    ensures value { place.new ≡ Some (unwrap_or place.old likely) }
+    ensures told { result ≡ not (is_some place.old) }
 {
-    let Some((language, script, region)) = found else {
-        return *bare;
-    };
-    DataLocale {
-        language: if bare.language.is_unknown() {
-            language
-        } else {
-            bare.language
-        },
-        script: Some(bare.script.unwrap_or(script)),
-        region: Some(bare.region.unwrap_or(region)),
+    let is_missing = place.is_none();
+    if is_missing {
+        *place = Some(likely);
+    }
+    is_missing
+}
+
+// Takes out script `Zzzz` and region `ZZ`, and tells whether that changed anything.
+#[inline(always)]
+pub(crate) fn remove_unknown(script: &mut Option<Script>, region: &mut Option<Region>) -> bool
+    ensures script { script.new ≡ known_subtag unknown_script script.old }
+    ensures region { region.new ≡ known_subtag unknown_region region.old }
+    ensures told { result ≡ loses script.old region.old }
+{
+    let is_script_unknown = is_unknown_script(script);
+    if is_script_unknown {
+        *script = None;
+    }
+    let is_region_unknown = is_unknown_region(region);
+    if is_region_unknown {
+        *region = None;
+    }
+    is_script_unknown || is_region_unknown
+}
+
+// Whether a script is `Zzzz`.
+#[inline(always)]
+fn is_unknown_script(script: &Option<Script>) -> bool
+    ensures { result ≡ is_unknown unknown_script script.now }
+{
+    match script {
+        Some(script) => script.as_str() == "Zzzz",
+        None => false,
+    }
+}
+
+// Whether a region is `ZZ`.
+#[inline(always)]
+fn is_unknown_region(region: &Option<Region>) -> bool
+    ensures { result ≡ is_unknown unknown_region region.now }
+{
+    match region {
+        Some(region) => region.as_str() == "ZZ",
+        None => false,
     }
 }
 
 // Without script `Zzzz` and region `ZZ`.
-pub(crate) fn bare_locale(given: DataLocale) -> DataLocale
+pub(crate) fn bare_locale(mut given: DataLocale) -> DataLocale
     ensures { result ≡ bare_locale given }
 {
-    DataLocale {
-        language: given.language,
-        script: known_script(given.script),
-        region: known_region(given.region),
-    }
-}
-
-// A script, unless it is `Zzzz`.
-fn known_script(script: Option<Script>) -> Option<Script>
-    ensures { result ≡ known_subtag unknown_script script }
-{
-    match script {
-        Some(script) if script.as_str() == "Zzzz" => None,
-        _ => script,
-    }
-}
-
-// A region, unless it is `ZZ`.
-fn known_region(region: Option<Region>) -> Option<Region>
-    ensures { result ≡ known_subtag unknown_region region }
-{
-    match region {
-        Some(region) if region.as_str() == "ZZ" => None,
-        _ => region,
-    }
+    remove_unknown(&mut given.script, &mut given.region);
+    given
 }

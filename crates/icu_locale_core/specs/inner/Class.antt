@@ -1,11 +1,16 @@
 -- The classes of subtags behind one name each.
-use Rattle.std.specs.Prelude.{ℕ, Bool, List, zero}
+use Rattle.std.specs.Prelude.{ℕ, Bool, false, List, zero, Option, Some, None}
+use Rattle.std.specs.Char.{is_ascii_alphabetic, is_ascii_digit, is_ascii_alphanumeric}
 use Rattle.std.specs.Char.{to_ascii_lowercase, to_ascii_uppercase}
+use Rattle.std.specs.List.{list_all}
 use Rattle.icu_locale_core.specs.Subtag.{is_language, is_script, is_region, is_variant, is_key}
 use Rattle.icu_locale_core.specs.Subtag.{is_subtag, lowercase, titlecase, uppercase}
 use Rattle.icu_locale_core.specs.declared.classes.Class.{Class}
 use Rattle.icu_locale_core.specs.declared.classes.Class.TheVariants.{Language, Script, Region}
 use Rattle.icu_locale_core.specs.declared.classes.Class.TheVariants.{Variant, Key, Subtag}
+use Rattle.icu_locale_core.specs.declared.classes.Characters.{Characters}
+use Rattle.icu_locale_core.specs.declared.classes.Characters.TheVariants.{Letters, Digits}
+use Rattle.icu_locale_core.specs.declared.classes.Characters.TheVariants.{LettersAndDigits}
 
 -- whether a text belongs to a class
 abbrev pub is_member : Class → List ℕ → Bool
@@ -39,3 +44,14 @@ abbrev pub written_byte : Class → ℕ → ℕ → ℕ
 written_byte Script zero c = to_ascii_uppercase c
 written_byte Region place c = to_ascii_uppercase c
 written_byte class place c = to_ascii_lowercase c
+
+-- whether a character is of a kind
+abbrev pub is_character : Characters → ℕ → Bool
+is_character Letters c = is_ascii_alphabetic c
+is_character Digits c = is_ascii_digit c
+is_character LettersAndDigits c = is_ascii_alphanumeric c
+
+-- every character of a text is of a kind, if there is one
+abbrev pub consists_of : Option Characters → List ℕ → Bool
+consists_of None t = false
+consists_of (Some kind) t = list_all (is_character kind) t

@@ -1,6 +1,6 @@
 //! Passes over the pieces of a name: how long it is, what is raw in it, and its text.
-ghost use Rattle.std.specs.Prelude.{◌≡◌, ◌^◌, ◌<◌, ◌≤◌, length, MatchBool};
-ghost use Rattle.std.specs.Prelude.{OnOk, OnErr, IfOk, IfErr};
+ghost use Rattle.std.specs.Prelude.{◌≡◌, ◌^◌, ◌<◌, ◌≤◌, length, MatchOption};
+ghost use Rattle.std.specs.Prelude.{OnOk, OnErr, IfOk, IfErr, IfSome};
 ghost use Rattle.std.specs.Fmt.{WritesOnOk};
 ghost use Rattle.std.specs.Io.KnownBytes.{Appends};
 ghost use Rattle.icu_locale_names.specs.LentNames.{pieces_of};
@@ -12,32 +12,22 @@ use crate::write_error::NameWriteError;
 use std::alloc::Global;
 use std::{fmt, io};
 
-// Whether the text has more bytes than can be counted.
+// Whether a raw subtag stands in the text; nothing where it has more bytes than can be counted. One walk tells both.
 #[tactic(auto, using(crate::proofs::Measures::text_length))]
-pub fn is_too_long(name: &LanguageIdentifierDisplayNameBorrowed<'_>) -> bool
-    ensures { MatchBool result (2 ^ 64 ≤ length (text_of (pieces_of name.now)))
-        (length (text_of (pieces_of name.now)) < 2 ^ 64) }
+pub fn measured(name: &LanguageIdentifierDisplayNameBorrowed<'_>) -> Option<bool>
+    ensures counted { MatchOption result (2 ^ 64 ≤ length (text_of (pieces_of name.now)))
+        (λ _. length (text_of (pieces_of name.now)) < 2 ^ 64) }
+    ensures raw { IfSome result (λ is_raw. is_raw ≡ has_raw (pieces_of name.now)) }
 {
     let mut total: usize = 0;
+    let mut is_raw = false;
     for piece in name.pieces() {
-        match total.checked_add(piece.text.len()) {
-            Some(sum) => total = sum,
-            None => return true,
-        }
-    }
-    false
-}
-
-// Whether a raw subtag stands in the text.
-pub fn has_raw(name: &LanguageIdentifierDisplayNameBorrowed<'_>) -> bool
-    ensures { result ≡ has_raw (pieces_of name.now) }
-{
-    for piece in name.pieces() {
+        total = total.checked_add(piece.text.len())?;
         if piece.is_raw {
-            return true;
+            is_raw = true;
         }
     }
-    false
+    Some(is_raw)
 }
 
 // The places of the raw subtags.
