@@ -526,9 +526,11 @@ impl<'a> LanguageIdentifierDisplayNameBorrowed<'a> {
             (text_of (pieces_of self.now))) }
         ensures marked { OnOk result (parts.new.items
             ≡ parts.old.items ++ spans (pieces_of self.now)) }
-        ensures refused { IfErr result (λ e. ((e ≡ NameWriteError.Memory) × (sink.new ≡ sink.old))
-            ⊎ ((e ≡ NameWriteError.Sink) × AppendsPart (W.contents sink.old)
-            (W.contents sink.new) (text_of (pieces_of self.now)))) }
+        ensures refused { IfErr result
+            (λ e. (e ≡ NameWriteError.Memory) ⊎ (e ≡ NameWriteError.Sink)) }
+        ensures unwritten { result ≡ Err NameWriteError.Memory → sink.new ≡ sink.old }
+        ensures part { result ≡ Err NameWriteError.Sink → AppendsPart (W.contents sink.old)
+            (W.contents sink.new) (text_of (pieces_of self.now)) }
         ensures unmarked { OnErr result (parts.new.items ≡ parts.old.items) }
     {
         let marks = spans_of(*parts.allocator(), self)?;
