@@ -34,6 +34,12 @@ pub record HasIdentifiers (likely : LikelySubtags) (rules : Rules) (old : Locale
       (λ l. HasDistinct (by_language_alias rules) l in_transform)
   pub of_none : (z : LanguageIdentifier) → IsRepeat (next likely rules) old.id z → in_transform ≡ 0
 
+-- the searches from before to after are counted by the different identifiers of the runs of a locale
+abbrev pub CountsRuns : {T : Type 0} → LikelySubtags → Rules → Locale
+    → Result T CanonicalizeError → ℕ → ℕ → Type 0
+CountsRuns likely rules old result before after =
+    (n : ℕ) × HasIdentifiers likely rules old n × CountsSearches result before after n
+
 -- no replacement of the rules for identifiers without variants has variants
 abbrev pub AddsNoVariants : Rules → Type 0
 AddsNoVariants rules = All (λ r. r.replacement.variants ≡ empty) rules.language

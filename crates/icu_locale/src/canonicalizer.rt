@@ -1,9 +1,9 @@
 //! Canonicalization of locales (UTS #35 Part 1, Annex C, "LocaleId Canonicalization").
-ghost use Rattle.std.specs.Prelude.{◌≡◌, ℕ, Some, IfOk, IfErr, IfSome};
+ghost use Rattle.std.specs.Prelude.{◌≡◌, Some, IfOk, IfErr, IfSome};
 ghost use Rattle.icu_locale.specs.Kinds.{by_language_alias};
 ghost use Rattle.icu_locale.specs.Canonicalization.{Canonicalizes};
 ghost use Rattle.icu_locale.specs.Refusals.{IsRefusal, IsOutOfMemory, error_name};
-ghost use Rattle.icu_locale.specs.Cost.{HasIdentifiers, CountsSearches, NeedsNoMemory};
+ghost use Rattle.icu_locale.specs.Cost.{CountsRuns, NeedsNoMemory};
 ghost use Rattle.icu_locale.specs.Run.{IsLaterEndOf};
 ghost use Rattle.icu_locale.specs.inner.CanonicalParts.{IsRunRefusalOf, IsIdentifierRefusal};
 ghost use Rattle.icu_locale.specs.inner.CanonicalParts.{CountsSearchesOf, IsFree};
@@ -106,9 +106,8 @@ impl<'d, E: AsExpander<'d>> LocaleCanonicalizer<'d, E> {
     ) -> Result<TransformResult, CanonicalizeError>
         ensures outcome { Canonicalizes (E.table self.now.expander) self.now.rules
             locale.old locale.new result }
-        ensures count { (n : ℕ)
-            × HasIdentifiers (E.table self.now.expander) self.now.rules locale.old n
-            × CountsSearches result turns.old turns.new n }
+        ensures count { CountsRuns (E.table self.now.expander) self.now.rules locale.old
+            result turns.old turns.new }
     {
         let changes = self.find_changes(locale, turns)?;
         Ok(changes.write(locale))
@@ -123,9 +122,8 @@ impl<'d, E: AsExpander<'d>> LocaleCanonicalizer<'d, E> {
             (IsRefusal (E.table self.now.expander) self.now.rules locale.now) }
         ensures free { NeedsNoMemory (E.table self.now.expander) self.now.rules locale.now
             → ¬ (IsOutOfMemory result) }
-        ensures count { (n : ℕ)
-            × HasIdentifiers (E.table self.now.expander) self.now.rules locale.now n
-            × CountsSearches result turns.old turns.new n }
+        ensures count { CountsRuns (E.table self.now.expander) self.now.rules locale.now
+            result turns.old turns.new }
     {
         let (id, transform) = self.find_ends(locale, turns)?;
         let keywords = &locale.extensions.unicode.keywords;
@@ -156,9 +154,8 @@ impl<'d, E: AsExpander<'d>> LocaleCanonicalizer<'d, E> {
             (IsIdentifierRefusal (E.table self.now.expander) self.now.rules locale.now) }
         ensures free { NeedsNoMemory (E.table self.now.expander) self.now.rules locale.now
             → ¬ (IsOutOfMemory result) }
-        ensures count { (n : ℕ)
-            × HasIdentifiers (E.table self.now.expander) self.now.rules locale.now n
-            × CountsSearches result turns.old turns.new n }
+        ensures count { CountsRuns (E.table self.now.expander) self.now.rules locale.now
+            result turns.old turns.new }
     {
         let id = later_end(self, &locale.id, false, turns)?;
         let transform = self.transform_end(&locale.extensions.transform.lang, turns)?;
