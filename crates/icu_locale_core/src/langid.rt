@@ -99,7 +99,7 @@ impl fmt::Display for LanguageIdentifier {
 fn write_head<W: fmt::Write>(x: &LanguageIdentifier, f: &mut fmt::Formatter<W>) -> fmt::Result
     ensures { WritesOnOk W.write_str_gives f.old result (head x.now) f.new }
 {
-    let mut buffer = [0; 12];
+    let mut buffer = [0; 14];
     let mut end = x.language.0.put(&mut buffer, 0);
     if let Some(script) = &x.script {
         end = script.0.put_after_dash(&mut buffer, end);

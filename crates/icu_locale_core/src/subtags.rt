@@ -14,7 +14,7 @@ use std::marker::Model;
 
 /// A language: 2 or 3 letters, written in lower case (unicode_language_subtag of UTS #35, section 3.1).
 #[derive(Clone, Copy, Debug, PartialEq, Eq, PartialOrd, Ord, Hash)]
-pub struct Language(pub(crate) TinyText<3>);
+pub struct Language(pub(crate) TinyText<4>);
 
 impl Model for Language {
     ghost Value = { List ℕ };
@@ -58,7 +58,7 @@ impl Language {
     }
 
     /// The language `und`, which stands for none that is known.
-    pub const UNKNOWN: Language = Language(TinyText { bytes: *b"und" });
+    pub const UNKNOWN: Language = Language(TinyText { bytes: *b"und\0" });
 
     /// Whether the language is `und`. It takes no memory.
     pub fn is_unknown(&self) -> bool
@@ -132,7 +132,7 @@ impl fmt::Display for Script {
 
 /// A region: 2 letters or 3 digits, written in upper case (unicode_region_subtag of UTS #35, section 3.1).
 #[derive(Clone, Copy, Debug, PartialEq, Eq, PartialOrd, Ord, Hash)]
-pub struct Region(pub(crate) TinyText<3>);
+pub struct Region(pub(crate) TinyText<4>);
 
 impl Model for Region {
     ghost Value = { List ℕ };

@@ -97,6 +97,7 @@ fn sign_language(rules: &Rules<'_>, x: &LanguageIdentifier) -> Option<Language>
 }
 
 // The rewrite by a language alias.
+#[inline(always)]
 pub fn by_language_alias<'r>(rules: &'r Rules<'_>, x: &LanguageIdentifier) -> Option<Rewrite<'r>>
     ensures { option_map (rewritten rules.now x.now) result ≡ by_language_alias rules.now x.now }
 {
