@@ -35,11 +35,12 @@ class Program:
     commands: list
     takes_tables: bool = False
     is_counted: bool = True
+    name_word: str = "name"
 
     def run_words(self, command, locale=NAMED_IN):
         """The words of a run."""
         if self.takes_tables:
-            middle = ["name", "light", locale] if command == "name" else [command]
+            middle = [self.name_word, "light", locale] if command == "name" else [command]
             return [*self.words, *middle, "json"]
         return [*self.words, command, *([locale] if command == "name" else [])]
 
@@ -87,6 +88,11 @@ def plain_program(work):
     source = HERE / "plain" / "main.rs"
     subprocess.run(["rustc", "--edition", "2024", "-O", "-o", path, source], check=True)
     return Program("plain Rust", [str(path)], COMMANDS, takes_tables=True)
+
+
+def by_arrays(plain):
+    """The plain Rust program where it names by an array for each kind of name."""
+    return Program("plain Rust by arrays", plain.words, ["name"], takes_tables=True, name_word="name-by-arrays")
 
 
 def icu_programs(work):

@@ -1,5 +1,5 @@
 """What a line costs, command by command, in each program."""
-from .programs import COMMANDS, Stop, cost_of, has_valgrind, instructions_of, write_output
+from .programs import COMMANDS, Stop, by_arrays, cost_of, has_valgrind, instructions_of, write_output
 
 # Of the lines that are timed one in so many is counted under valgrind, and one in so many is for the slow programs.
 COUNTED = 100
@@ -61,7 +61,8 @@ class Costs:
     def __init__(self, programs, inputs, lines, measure):
         self.programs = programs
         self.found = {}
-        for command in COMMANDS:
+        asked = {command for program in programs for command in program.commands}
+        for command in filter(asked.__contains__, COMMANDS):
             self.measure(command, inputs, lines, measure)
 
     def measure(self, command, inputs, lines, measure):
@@ -115,15 +116,26 @@ def listed(commands, asked):
     return f"{len(commands)} of {len(asked)} commands" + (f", {names}" if commands else "")
 
 
+def by_arrays_too(costs, plain, inputs, lines, measure, unit):
+    """What a name costs by an array for each kind, beside the others, as lines of Markdown."""
+    arrays = by_arrays(plain)
+    mine, theirs = costs.of(costs.programs[0], "name"), Costs([arrays], inputs, lines, measure).of(arrays, "name")
+    yield ""
+    yield f"A name of plain Rust by arrays that were found before the first line: {shown(theirs)} {unit}."
+    yield f"This program takes {ratio(mine, theirs)} times as many."
+
+
 def report(program, plain, others, inputs, lines):
     """The section of speed, as lines of Markdown."""
     for command in COMMANDS:
         check_equal(program, plain, inputs, command, lines)
+    check_equal(program, by_arrays(plain), inputs, "name", lines)
     timed = Costs([program, plain, *others], inputs, lines, nanoseconds)
     yield f"Nanoseconds of processor time a line, over {lines:,} lines, or a tenth of them for those in C++ and"
     yield "JavaScript; the first two programs wrote the same bytes:"
     yield ""
     yield from timed.table()
+    yield from by_arrays_too(timed, plain, inputs, lines, nanoseconds, "nanoseconds a line")
     yield ""
     yield from timed.goals()
     if not has_valgrind():
@@ -134,5 +146,6 @@ def report(program, plain, others, inputs, lines):
     yield f"Instructions a line, counted by valgrind over {count:,} lines, or a tenth of them for those in C++:"
     yield ""
     yield from counted.table()
+    yield from by_arrays_too(counted, plain, inputs, count, instructions, "instructions a line")
     yield ""
     yield from counted.goals()

@@ -12,7 +12,9 @@ mod tables;
 
 use crate::canonical::{Rules, read_value};
 use crate::likely::{Favor, Likely};
-use crate::names::Names;
+use crate::names::arrays::Arrays;
+use crate::names::chains::chain;
+use crate::names::one_list::OneList;
 use crate::negotiation::{Negotiator, read_list};
 use crate::rows::Fault;
 use crate::subtags::{Identifier, Refusal};
@@ -30,7 +32,8 @@ enum Work<'t> {
     Canonicalize(&'t Likely, &'t Rules),
     Direction(&'t Likely, &'t Directions),
     Negotiate(Negotiator<'t>),
-    Name(&'t Names, Vec<u8>),
+    Name(&'t OneList, Vec<u8>),
+    NameByArrays(&'t Arrays, Vec<u8>),
 }
 
 impl Work<'_> {
@@ -63,7 +66,12 @@ impl Work<'_> {
                 }
                 None => output.extend_from_slice(b"none\n"),
             },
-            Work::Name(names, scratch) => names.write(&Identifier::read(line)?, scratch, output)?,
+            Work::Name(list, scratch) => {
+                names::write(*list, &Identifier::read(line)?, scratch, output)?;
+            }
+            Work::NameByArrays(arrays, scratch) => {
+                names::write(*arrays, &Identifier::read(line)?, scratch, output)?;
+            }
         }
         Ok(())
     }
@@ -131,11 +139,17 @@ fn run(words: &[&str], input: &[u8]) -> Result<bool, String> {
         Fault::Json => "tables: Json".to_string(),
         Fault::Shape => "tables: Shape".to_string(),
     })?;
-    if let ["name", chain, preferences] = words {
-        let chain = names::chain(chain).ok_or("usage: plain COMMAND json")?;
-        let locale = Identifier::read(preferences.as_bytes()).map_err(|refusal| refusal.name())?;
-        let names = Names::new(tables.names, &chain, &locale.base).map_err(|_| "tables: Shape")?;
-        return write_answers(Work::Name(&names, Vec::new()), text).map_err(|_| "write failed".into());
+    if let [command @ ("name" | "name-by-arrays"), word, preferences] = words {
+        let chain = chain(word).ok_or("usage: plain COMMAND json")?;
+        let locale = Identifier::read(preferences.as_bytes()).map_err(|refusal| refusal.name())?.base;
+        let written = if *command == "name" {
+            let list = OneList::new(tables.names, chain, locale).map_err(|_| "tables: Shape")?;
+            write_answers(Work::Name(&list, Vec::new()), text)
+        } else {
+            let arrays = Arrays::new(tables.names, &chain, &locale).map_err(|_| "tables: Shape")?;
+            write_answers(Work::NameByArrays(&arrays, Vec::new()), text)
+        };
+        return written.map_err(|_| "write failed".into());
     }
     let likely = tables.likely.as_ref().ok_or(NOT_FOUND)?;
     let mut lines = text;
