@@ -23,14 +23,17 @@ fn take_blocks(alloc: Global, held: &mut Vec<Vec<u8>>, size: usize) {
     }
 }
 
-/// Blocks that together leave no memory: ever smaller ones.
+/// Blocks that together leave no memory: ever smaller ones, and at last of each size by which free blocks may be kept,
+/// since a block that is kept so is given for no other size.
 pub fn take_all(alloc: Global) -> Result<Vec<Vec<u8>>, AllocError> {
     let mut held = Vec::with_capacity(alloc, MOST_BLOCKS)?;
     let mut size: usize = 1 << 44;
-    for _ in 0..41 {
+    for _ in 0..98 {
         take_blocks(alloc, &mut held, size);
-        if size > 16 {
+        if size > 1_024 {
             size /= 2;
+        } else {
+            size = size.saturating_sub(16);
         }
     }
     Ok(held)
