@@ -1,9 +1,7 @@
 //! A fixed sequence of numbers, and what is drawn from it.
-ghost use Rattle.std.specs.Prelude.{◌<◌};
-
 use crate::subtags::Subtags;
 use icu_locale_core::{Language, Region, Script, Subtag};
-use rand_core::Rng;
+use rand::RngExt;
 use rand_pcg::Pcg32;
 use std::alloc::{AllocError, Global};
 
@@ -21,25 +19,19 @@ impl Numbers {
         }
     }
 
-    /// One of three places.
-    pub fn place(&mut self) -> usize
-        ensures { result < 3 }
-    {
-        match self.generator.next_u32() % 3 {
-            0 => 0,
-            1 => 1,
-            _ => 2,
-        }
+    /// Nought, one or two.
+    pub fn place(&mut self) -> usize {
+        self.generator.random_range(0..3)
     }
 
     /// Whether something that comes one time in three comes now.
     pub fn is_chosen(&mut self) -> bool {
-        self.place() == 0
+        self.generator.random_ratio(1, 3)
     }
 
     /// One of three.
     pub fn one_of<T: Copy>(&mut self, three: &[T; 3]) -> T {
-        three[self.place()]
+        three[self.generator.random_range(0..3)]
     }
 }
 
