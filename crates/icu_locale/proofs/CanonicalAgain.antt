@@ -1,5 +1,5 @@
 -- A canonical locale is kept, and a locale that changes is one to which something is applied.
-use Rattle.std.proofs.Common.{◌≡◌, ◌≢◌, Bool, true, false, ◌||◌, Option, Some, None, is_some, option_and_then, IfSome, ◌⊎◌, inl, inr, refl, ap, sym, ◌∙◌, subst}
+use Rattle.std.proofs.Common.{◌≡◌, ◌≢◌, Bool, true, false, ◌||◌, [], Option, Some, None, is_some, option_and_then, inl, inr, refl, ap, sym, ◌∙◌, subst}
 use Rattle.std.proofs.lemmas.Bool.{false≢true, cases_Bool, or_parts}
 use Rattle.icu_locale_core.specs.TextSet.{text_cmp, empty}
 use Rattle.icu_locale_core.specs.Keywords.{KeywordRows}
@@ -13,7 +13,7 @@ use Rattle.icu_locale.specs.Cost.{NeedsNoMemory}
 use Rattle.icu_locale.specs.Refusals.{RulesEnd, EndsInPlace}
 use Rattle.icu_locale.specs.declared.canonicalizer.rules.Rules.{Rules}
 use Rattle.icu_locale.proofs.Keywords.{canonical_at_rg, canonical_at_sd}
-use Rattle.icu_locale.proofs.LaterEnds.{alone, stands_alone, in_place, kept, no_later_end, later_end_none, same_where_none, none_behind, EndsIfAny-later_end, EndsIfAny-becomes}
+use Rattle.icu_locale.proofs.LaterEnds.{none_stands_behind, none_behind_any, alone, stands_alone, in_place, kept, no_later_end, later_end_none, same_where_none, none_behind, EndsIfAny-later_end, EndsIfAny-becomes}
 
 all_off : (a b c d : Bool) → a ≡ false → b ≡ false → c ≡ false → d ≡ false → (a || (b || (c || d))) ≡ false
 all_off a b c d p q r s = λ i. p i || (q i || (r i || s i))
@@ -65,15 +65,11 @@ module _ (likely : LikelySubtags) (rules : Rules) (old new : Locale) (canonical 
 
   pub canonical_free : NeedsNoMemory likely rules new
   canonical_free = record {
-    id = inl canonical.id.last;
-    transform = by new.extensions.transform.lang new_transform;
-    region_override = new_rg;
-    subdivision = new_sd;
+    id = none_stands_behind (next likely rules) (λ z. z.variants ≡ empty) new.id canonical.id.last;
+    transform = none_behind_any (by_language_alias rules) (λ z. z.variants ≡ empty) new.extensions.transform.lang new_transform;
+    region_override = none_behind_any (next_value rules) (λ w. w ≡ []) (value_at text_cmp new_keywords rg) new_rg;
+    subdivision = none_behind_any (next_value rules) (λ w. w ≡ []) (value_at text_cmp new_keywords sd) new_sd;
   }
-    where
-      by : (o : Option LanguageIdentifier) → option_and_then (by_language_alias rules) o ≡ None → IfSome o (λ l. (by_language_alias rules l ≡ None) ⊎ (l.variants ≡ empty))
-      by None h = tt
-      by (Some l) h = inl h
 
 -- the rules end on a locale that has a canonical form
 pub rules_end : (likely : LikelySubtags) (rules : Rules) (old new : Locale) → IsCanonical likely rules old new → RulesEnd likely rules old

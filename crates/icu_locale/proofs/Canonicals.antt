@@ -1,8 +1,9 @@
 -- Canonical locales from the ends of their runs, and refusals from runs without an end.
-use Rattle.std.proofs.Common.{◌≡◌, ◌≢◌, ◌+◌, ◌*◌, ◌≤◌, ℕ, Bool, true, false, List, Option, Some, None, IfSome, unwrap_or, Result, Ok, Err, ◌⊎◌, inl, inr, refl, ap, sym, ◌∙◌, arith}
+use Rattle.std.proofs.Common.{◌≡◌, ◌≢◌, ◌+◌, ◌*◌, ◌≤◌, ℕ, Bool, true, false, List, [], Option, Some, None, IfSome, unwrap_or, Result, Ok, Err, ◌⊎◌, inl, inr, refl, ap, sym, ◌∙◌, arith}
 use Rattle.std.specs.Option.{MatchOption}
 use Rattle.std.proofs.lemmas.Bool.{cases_Bool, false≢true}
-use Rattle.icu_locale_core.specs.TextSet.{empty}
+use Rattle.icu_locale_core.specs.Maps.{value_at}
+use Rattle.icu_locale_core.specs.TextSet.{text_cmp, empty}
 use Rattle.icu_locale_core.specs.declared.langid.LanguageIdentifier.{LanguageIdentifier}
 use Rattle.icu_locale_core.specs.declared.locale.Locale.{Locale}
 use Rattle.icu_locale_core.specs.laws.Identifiers.{identifiers_decide}
@@ -11,17 +12,17 @@ use Rattle.icu_locale.specs.Kinds.{next, by_language_alias, next_of}
 use Rattle.icu_locale.specs.Run.{EndsAt, IsLaterEnd, IsRepeat, HasDistinct, EndsOrRepeats}
 use Rattle.icu_locale.specs.inner.Walk.{IsFullFront}
 use Rattle.icu_locale.specs.inner.Universe.{universe}
-use Rattle.icu_locale.specs.Canonical.{IsCanonical}
+use Rattle.icu_locale.specs.Canonical.{rg, sd, next_value, IsCanonical}
 use Rattle.icu_locale.specs.Refusals.{IdentifiersEnd, RulesEnd, ComesAgainFirst, ValueComesAgainFirst, IsRefusal, IsMemory, IsOutOfMemory}
-use Rattle.icu_locale.specs.Cost.{HasIdentifiers, CountsSearches, NeedsNoMemory}
-use Rattle.icu_locale.specs.inner.CanonicalParts.{IsRunRefusal, IsRunRefusalOf, IsIdentifierRefusal, IsValuesRefusal, IsFree, CountsSearchesOf, AreLaterEnds, AreChanges, with_changes}
+use Rattle.icu_locale.specs.Cost.{HasIdentifiers, CountsSearches, AddsNoVariants, NeedsNoMemory, HasNothingToCopy}
+use Rattle.icu_locale.specs.inner.CanonicalParts.{IsRunRefusal, IsRunRefusalOf, IsIdentifierRefusal, IsValuesRefusal, CountsSearchesOf, AreLaterEnds, AreChanges, with_changes}
 use Rattle.icu_locale.specs.declared.canonicalizer.rules.Rules.{Rules}
 use Rattle.icu_locale.specs.declared.canonicalizer.changes.Changes.{Changes}
 use Rattle.icu_locale.specs.declared.canonicalizer.CanonicalizeError.{CanonicalizeError}
 use Rattle.icu_locale.specs.declared.canonicalizer.CanonicalizeError.TheVariants.{Memory, NoFixedPoint, NoSubdivisionFixedPoint}
-use Rattle.icu_locale.proofs.WithoutVariants.{free_alone, free_bare, bare_next, bare_alias}
+use Rattle.icu_locale.proofs.WithoutVariants.{free_bare, bare_next, bare_alias}
 use Rattle.icu_locale.proofs.Counts.{has_count, HasDistinct-from_count}
-use Rattle.icu_locale.proofs.LaterEnds.{EndsAt-later_end, EndsIfAny-later_end, BecomesEnd-later_end, not_both, same_repeat}
+use Rattle.icu_locale.proofs.LaterEnds.{none_stands_behind, none_behind_any, EndsAt-later_end, EndsIfAny-later_end, BecomesEnd-later_end, not_both, same_repeat}
 use Rattle.icu_locale.proofs.Runs.{ends_with_no_repeat, repeat_is_unique, EndsOrRepeats-from_count}
 use Rattle.icu_locale.proofs.Values.{ValuesEnd-later, no_value_repeats, same_value_repeats}
 use Rattle.icu_locale.proofs.Universes.{IsUniverse-universe}
@@ -126,19 +127,20 @@ module _ (likely : LikelySubtags) (rules : Rules) (old : Locale) where
 
   -- ---- memory
 
-  pub free_id : NeedsNoMemory likely rules old → IsFree (next likely rules) old.id
-  free_id needs =
-      elim needs.id [
-        | inl none ↦ free_alone (next likely rules) old.id none
-        | inr (bare, adds) ↦ free_bare (next likely rules) old.id (λ y z none goes. bare_next likely rules y z adds none goes) bare
-      ]
-
-  pub free_transform : NeedsNoMemory likely rules old → IfSome lang (IsFree (by_language_alias rules))
-  free_transform needs = by lang needs.transform
+  pub nothing_to_copy : HasNothingToCopy likely rules old → NeedsNoMemory likely rules old
+  nothing_to_copy has = record {
+    id = elim has.id [
+      | inl none ↦ none_stands_behind (next likely rules) (λ z. z.variants ≡ empty) old.id none
+      | inr (bare, adds) ↦ free_bare (next likely rules) old.id (λ y z none goes. bare_next likely rules y z adds none goes) bare
+    ];
+    transform = by lang has.transform;
+    region_override = none_behind_any (next_value rules) (λ w. w ≡ []) (value_at text_cmp old.extensions.unicode.keywords rg) has.region_override;
+    subdivision = none_behind_any (next_value rules) (λ w. w ≡ []) (value_at text_cmp old.extensions.unicode.keywords sd) has.subdivision;
+  }
     where
-      by : (o : Option LanguageIdentifier) → IfSome o (λ l. (by_language_alias rules l ≡ None) ⊎ (l.variants ≡ empty)) → IfSome o (IsFree (by_language_alias rules))
+      by : (o : Option LanguageIdentifier) → IfSome o (λ l. (by_language_alias rules l ≡ None) ⊎ (l.variants ≡ empty)) → IfSome o (AddsNoVariants (by_language_alias rules))
       by None h = tt
-      by (Some l) (inl none) = free_alone (by_language_alias rules) l none
+      by (Some l) (inl none) = none_stands_behind (by_language_alias rules) (λ z. z.variants ≡ empty) l none
       by (Some l) (inr bare) = free_bare (by_language_alias rules) l (λ y z none goes. bare_alias likely rules y z none goes) bare
 
   -- ---- counts

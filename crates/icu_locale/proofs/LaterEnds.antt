@@ -3,7 +3,7 @@ use Rattle.std.proofs.Common.{◌≡◌, zero, suc, ℕ, Option, Some, None, opt
 use Rattle.std.specs.Option.{IsSome, IsSomeAnd, option_or}
 use Rattle.std.proofs.lemmas.Bool.{false≢true}
 use Rattle.std.proofs.lemmas.Option.{none-some, same_Some}
-use Rattle.icu_locale.specs.Run.{at, StandsIn, EndsAt, IsLaterEnd, IsLaterEndOf, EndsIfAny, BecomesEnd, IsRepeat}
+use Rattle.icu_locale.specs.Run.{at, StandsIn, EndsAt, IsLaterEnd, IsLaterEndOf, EndsIfAny, BecomesEnd, IsRepeat, AllBehind}
 use Rattle.icu_locale.proofs.Runs.{ends_with_no_repeat, repeat_is_unique}
 
 module _ {X : Type 0} (next : X → Option X) where
@@ -21,6 +21,14 @@ module _ {X : Type 0} (next : X → Option X) where
   -- and is the end
   pub alone : (x : X) → next x ≡ None → EndsAt next x x
   alone x none = record { stands = (0, refl); last = none }
+
+  -- so nothing stands behind it
+  pub none_stands_behind : (P : X → Type 0) (x : X) → next x ≡ None → AllBehind P next x
+  none_stands_behind P x none y stands = subst (λ w. IfSome (next w) P) (sym (stands_alone x y none stands)) (subst (λ o. IfSome o P) (sym none) tt)
+
+  pub none_behind_any : (P : X → Type 0) (o : Option X) → option_and_then next o ≡ None → IfSome o (AllBehind P next)
+  none_behind_any P None none = tt
+  none_behind_any P (Some x) none = none_stands_behind P x none
 
   pub in_place : (o : Option X) → option_and_then next o ≡ None → IfSome o (λ x. EndsAt next x x)
   in_place None none = tt

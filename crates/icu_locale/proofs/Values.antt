@@ -1,5 +1,5 @@
 -- Runs of the values at `rg` and `sd`.
-use Rattle.std.proofs.Common.{◌≡◌, ◌≢◌, ℕ, List, Option, None, ◌⊎◌, inl, inr, map, ap, sym, ◌∙◌}
+use Rattle.std.proofs.Common.{◌≡◌, ◌≢◌, ℕ, List, Option, ◌⊎◌, inl, inr, map, sym, ◌∙◌}
 use Rattle.std.proofs.lemmas.Bool.{cases_Bool, false≢true}
 use Rattle.std.proofs.lemmas.Option.{option_and_then_some}
 use Rattle.icu_locale_core.specs.Keywords.{KeywordRows}
@@ -9,7 +9,7 @@ use Rattle.icu_locale_core.specs.Value.{only_piece}
 use Rattle.icu_locale_core.specs.laws.Values.{values_decide}
 use Rattle.icu_locale.specs.Canonical.{rg, sd, next_value}
 use Rattle.icu_locale.specs.Refusals.{ValuesEnd, ValueRepeats}
-use Rattle.icu_locale.specs.Run.{StandsIn, IsLaterEndOf, EndsOrRepeats}
+use Rattle.icu_locale.specs.Run.{IsLaterEndOf, EndsOrRepeats}
 use Rattle.icu_locale.specs.inner.CanonicalParts.{IsValueRefusal, IsValuesRefusal, AreLaterValues}
 use Rattle.icu_locale.specs.inner.Universe.{values}
 use Rattle.icu_locale.specs.inner.Walk.{IsUniverse}
@@ -17,7 +17,7 @@ use Rattle.icu_locale.specs.declared.canonicalizer.rules.Rules.{Rules}
 use Rattle.icu_locale.specs.declared.canonicalizer.CanonicalizeError.{CanonicalizeError}
 use Rattle.icu_locale.specs.declared.canonicalizer.CanonicalizeError.TheVariants.{Memory, NoFixedPoint, NoSubdivisionFixedPoint}
 use Rattle.icu_locale.proofs.Counts.{has_count}
-use Rattle.icu_locale.proofs.LaterEnds.{stands_alone, EndsIfAny-later_end, not_both, same_repeat}
+use Rattle.icu_locale.proofs.LaterEnds.{EndsIfAny-later_end, not_both, same_repeat}
 use Rattle.icu_locale.proofs.Lists.{Contains-here, Contains-there, Contains-map}
 use Rattle.icu_locale.proofs.Runs.{EndsOrRepeats-from_count}
 use Rattle.icu_locale.proofs.Universes.{has_row}
@@ -41,10 +41,6 @@ module _ (rules : Rules) where
   value_end_or_repeat v =
       let counted = has_count (next_value rules) v same_value (values rules v) (IsUniverse-values v) in
       EndsOrRepeats-from_count (next_value rules) v counted.0 counted.2
-
-  -- where nothing follows a value, nothing follows any of its run
-  pub no_needs : (v : List (List ℕ)) → next_value rules v ≡ None → (y : List (List ℕ)) → StandsIn (next_value rules) v y → next_value rules y ≡ None
-  no_needs v none y stands = ap (next_value rules) (stands_alone (next_value rules) v y none stands) ∙ none
 
   module _ (keywords : KeywordRows) where
     pub ValuesEnd-later : (ends : Option (List (List ℕ)) × Option (List (List ℕ))) → AreLaterValues rules keywords ends → ValuesEnd rules keywords

@@ -1,6 +1,6 @@
 -- Identifiers without variants stay so, where no replacement adds variants.
 use Rattle.std.proofs.Common.{◌≡◌, ◌==◌, ◌&&◌, ◌||◌, not, ℕ, zero, suc, Bool, true, false, cond, List, length, Option, Some, None, IfSome, is_some, option_and_then, unwrap_or, inl, inr, codes, refl, ap, sym, ◌∙◌, subst}
-use Rattle.std.specs.List.{find, list_any}
+use Rattle.std.specs.List.{All, find, list_any}
 use Rattle.std.specs.Option.{option_map, option_or}
 use Rattle.std.proofs.lemmas.Bool.{false≢true}
 use Rattle.std.proofs.lemmas.List.Elements.{All-contains}
@@ -14,10 +14,8 @@ use Rattle.icu_locale.specs.Replacement.{matches, replaced, of_language}
 use Rattle.icu_locale.specs.Kinds.{by_rule, sign_language, by_sign_region, language_alias, by_language_alias, by_script, region_alias, by_region, complex_region, by_complex_region, variant_alias, by_variant, next}
 use Rattle.icu_locale.specs.Run.{at}
 use Rattle.icu_locale.specs.Cost.{AddsNoVariants}
-use Rattle.icu_locale.specs.inner.CanonicalParts.{IsFree}
 use Rattle.icu_locale.specs.declared.canonicalizer.rules.Rule.{Rule}
 use Rattle.icu_locale.specs.declared.canonicalizer.rules.Rules.{Rules}
-use Rattle.icu_locale.proofs.LaterEnds.{none_later}
 use Rattle.icu_locale.proofs.Lists.{Contains-find}
 use Rattle.icu_locale.proofs.VariantImages.{image-empty}
 use Rattle.icu_locale.proofs.Options.{some_map, some_or}
@@ -40,7 +38,7 @@ none_replaced s a b no_s no_b =
     none_of false = refl
 
 module _ (likely : LikelySubtags) (rules : Rules) where
-  plain_rule : (test : Bool) (y z : LanguageIdentifier) → test ≡ true → AddsNoVariants rules → y.variants ≡ empty → option_map (λ r. replaced y r.source r.replacement) (find (λ r. matches y r.source) (cond test rules.language rules.language_variants)) ≡ Some z → z.variants ≡ empty
+  plain_rule : (test : Bool) (y z : LanguageIdentifier) → test ≡ true → All (λ (r : Rule). r.replacement.variants ≡ empty) rules.language → y.variants ≡ empty → option_map (λ r. replaced y r.source r.replacement) (find (λ r. matches y r.source) (cond test rules.language rules.language_variants)) ≡ Some z → z.variants ≡ empty
   plain_rule false y z is adds bare e = absurd (false≢true is)
   plain_rule true y z is adds bare e =
       let found = some_map (λ r. replaced y r.source r.replacement) (find (λ r. matches y r.source) rules.language) z e in
@@ -65,7 +63,7 @@ module _ (likely : LikelySubtags) (rules : Rules) where
       ∙ image-empty (λ v. unwrap_or (variant_alias rules v) v)
   bare_variant y z false bare e = absurd (none-some z e)
 
-  pub bare_next : (y z : LanguageIdentifier) → AddsNoVariants rules → y.variants ≡ empty → next likely rules y ≡ Some z → z.variants ≡ empty
+  pub bare_next : (y z : LanguageIdentifier) → All (λ (r : Rule). r.replacement.variants ≡ empty) rules.language → y.variants ≡ empty → next likely rules y ≡ Some z → z.variants ≡ empty
   bare_next y z adds bare e =
       by (by_rule rules y) _ e (plain_rule (len y.variants == 0) y z (ap (λ s. length (rising s) == 0) bare ∙ ap (λ n. n == 0) length-rising_empty) adds bare) (λ e.
       by (by_sign_region rules y) _ e (λ e. sign e) (λ e.
@@ -86,16 +84,11 @@ module _ (likely : LikelySubtags) (rules : Rules) where
 -- ---- along a run
 
 module _ (turn : LanguageIdentifier → Option LanguageIdentifier) (x : LanguageIdentifier) where
-  pub free_alone : turn x ≡ None → IsFree turn x
-  free_alone none y (zero, here) =
-      subst (λ w. IfSome (turn w) (λ z. z.variants ≡ empty)) (same_Some x y here) (subst (λ o. IfSome o (λ z. z.variants ≡ empty)) (sym none) tt)
-  free_alone none y (suc place, here) = absurd (none-some y (sym (none_later turn x none place) ∙ here))
-
   bare_at : ((y z : LanguageIdentifier) → y.variants ≡ empty → turn y ≡ Some z → z.variants ≡ empty) → x.variants ≡ empty → (place : ℕ) (y : LanguageIdentifier) → at turn x place ≡ Some y → y.variants ≡ empty
   bare_at keeps bare zero y here = ap (λ w. w.variants) (sym (same_Some x y here)) ∙ bare
   bare_at keeps bare (suc place) y here =
       option_and_then_some turn (at turn x place) y here (λ w was goes. keeps w y (bare_at keeps bare place w was) goes)
 
-  pub free_bare : ((y z : LanguageIdentifier) → y.variants ≡ empty → turn y ≡ Some z → z.variants ≡ empty) → x.variants ≡ empty → IsFree turn x
+  pub free_bare : ((y z : LanguageIdentifier) → y.variants ≡ empty → turn y ≡ Some z → z.variants ≡ empty) → x.variants ≡ empty → AddsNoVariants turn x
   free_bare keeps bare y (place, here) =
       IfSome-from (turn y) (λ z. z.variants ≡ empty) (λ z goes. keeps y z (bare_at keeps bare place y here) goes)

@@ -1,17 +1,18 @@
 -- How many searches a canonicalization takes, and when it takes no memory.
 use Rattle.std.specs.Prelude.{◌≡◌, ◌⊎◌, ◌+◌, ◌*◌, ◌≤◌, ℕ}
-use Rattle.std.specs.Prelude.{None, Result, IfSome}
+use Rattle.std.specs.Prelude.{None, Option, List, [], Result, IfSome}
 use Rattle.std.specs.Prelude.{MatchOption}
 use Rattle.std.specs.List.{All}
-use Rattle.icu_locale_core.specs.TextSet.{empty}
+use Rattle.icu_locale_core.specs.Maps.{value_at}
+use Rattle.icu_locale_core.specs.TextSet.{text_cmp, empty}
 use Rattle.icu_locale_core.specs.declared.langid.LanguageIdentifier.{LanguageIdentifier}
 use Rattle.icu_locale_core.specs.declared.locale.Locale.{Locale}
 use Rattle.icu_locale.specs.LikelySubtags.{LikelySubtags}
 use Rattle.icu_locale.specs.Kinds.{next, by_language_alias}
-use Rattle.icu_locale.specs.Run.{EndsAt, IsRepeat, HasDistinct}
+use Rattle.icu_locale.specs.Run.{EndsAt, IsRepeat, HasDistinct, AllBehind}
 use Rattle.icu_locale.specs.declared.canonicalizer.rules.Rules.{Rules}
 use Rattle.icu_locale.specs.declared.canonicalizer.CanonicalizeError.{CanonicalizeError}
-use Rattle.icu_locale.specs.Canonical.{rg, sd, subdivision_alias}
+use Rattle.icu_locale.specs.Canonical.{rg, sd, next_value, subdivision_alias}
 use Rattle.icu_locale.specs.Refusals.{IsOutOfMemory}
 
 -- the searches from before to after never fall, are at most six for each of n identifiers and, unless memory was refused,
@@ -40,13 +41,29 @@ abbrev pub CountsRuns : {T : Type 0} → LikelySubtags → Rules → Locale
 CountsRuns likely rules old result before after =
     (n : ℕ) × HasIdentifiers likely rules old n × CountsSearches result before after n
 
--- no replacement of the rules for identifiers without variants has variants
-abbrev pub AddsNoVariants : Rules → Type 0
-AddsNoVariants rules = All (λ r. r.replacement.variants ≡ empty) rules.language
+-- no identifier of the run behind its start has variants
+abbrev pub AddsNoVariants : (LanguageIdentifier → Option LanguageIdentifier)
+    → LanguageIdentifier → Type 0
+AddsNoVariants next start = AllBehind (λ z. z.variants ≡ empty) next start
 
--- in each run nothing matches, or there are no variants and none are added; and no subdivision is replaced
+-- no value of the run behind its start has pieces
+abbrev pub AddsNoPieces : Rules → List (List ℕ) → Type 0
+AddsNoPieces rules start = AllBehind (λ w. w ≡ []) (next_value rules) start
+
+-- the runs of a locale add neither variants nor pieces
 pub record NeedsNoMemory (likely : LikelySubtags) (rules : Rules) (old : Locale) : Type 0 where
-  pub id : (next likely rules old.id ≡ None) ⊎ ((old.id.variants ≡ empty) × AddsNoVariants rules)
+  pub id : AddsNoVariants (next likely rules) old.id
+  pub transform : IfSome old.extensions.transform.lang (AddsNoVariants (by_language_alias rules))
+  pub region_override : IfSome (value_at text_cmp old.extensions.unicode.keywords rg)
+      (AddsNoPieces rules)
+  pub subdivision : IfSome (value_at text_cmp old.extensions.unicode.keywords sd)
+      (AddsNoPieces rules)
+
+-- in each run nothing matches, or there are no variants and no rule adds any; and no subdivision is replaced
+pub record HasNothingToCopy (likely : LikelySubtags) (rules : Rules) (old : Locale)
+    : Type 0 where
+  pub id : (next likely rules old.id ≡ None)
+      ⊎ ((old.id.variants ≡ empty) × All (λ r. r.replacement.variants ≡ empty) rules.language)
   pub transform : IfSome old.extensions.transform.lang
       (λ l. (by_language_alias rules l ≡ None) ⊎ (l.variants ≡ empty))
   pub region_override : subdivision_alias rules old.extensions.unicode.keywords rg ≡ None

@@ -41,6 +41,10 @@ abbrev pub BecomesEnd : {X : Type 0} → (X → Option X) → Option X → Optio
 BecomesEnd next None new = new ≡ None
 BecomesEnd next (Some start) new = IsSomeAnd new (EndsAt next start)
 
+-- what follows a state of the run always has P
+abbrev pub AllBehind : {X : Type 0} → (X → Type 0) → (X → Option X) → X → Type 0
+AllBehind {X} P next start = (y : X) → StandsIn next start y → IfSome (next y) P
+
 -- y stands at two places of the run
 abbrev pub ComesAgain : {X : Type 0} → (X → Option X) → X → X → Type 0
 ComesAgain next start y =

@@ -3,10 +3,10 @@ ghost use Rattle.std.specs.Prelude.{◌≡◌, Some, IfOk, IfErr, IfSome};
 ghost use Rattle.icu_locale.specs.Kinds.{by_language_alias};
 ghost use Rattle.icu_locale.specs.Canonicalization.{Canonicalizes};
 ghost use Rattle.icu_locale.specs.Refusals.{IsRefusal, IsOutOfMemory, error_name};
-ghost use Rattle.icu_locale.specs.Cost.{CountsRuns, NeedsNoMemory};
+ghost use Rattle.icu_locale.specs.Cost.{CountsRuns, NeedsNoMemory, AddsNoVariants};
 ghost use Rattle.icu_locale.specs.Run.{IsLaterEndOf};
 ghost use Rattle.icu_locale.specs.inner.CanonicalParts.{IsRunRefusalOf, IsIdentifierRefusal};
-ghost use Rattle.icu_locale.specs.inner.CanonicalParts.{CountsSearchesOf, IsFree};
+ghost use Rattle.icu_locale.specs.inner.CanonicalParts.{CountsSearchesOf};
 ghost use Rattle.icu_locale.specs.inner.CanonicalParts.{AreLaterEnds, AreChanges};
 
 use crate::{AsExpander, LocaleExpander, TransformResult, Turns};
@@ -82,8 +82,10 @@ impl<'d, E: AsExpander<'d>> LocaleCanonicalizer<'d, E> {
     ///   the identifier, or, where that ends, in the run of the transform language.
     /// - `NoSubdivisionFixedPoint` exactly where these runs end, and that of the value at `rg` or at `sd` has no end: it
     ///   names the first value that comes again in the run at `rg`, or, where that ends, in the run at `sd`.
-    /// - `Memory` where memory was asked for and refused: never where nothing matches, nor where neither the identifier,
-    ///   the transform language nor a replacement has variants, and no row replaces a value at `rg` or `sd`.
+    /// - `Memory` where memory was asked for and refused: never where no identifier behind the start of its run has
+    ///   variants and no value behind the start of its run has pieces. So never where nothing matches, nor where neither
+    ///   the identifier, the transform language nor a replacement has variants, and no row replaces a value at `rg` or
+    ///   `sd` (`laws::nothing_to_copy`).
     ///
     /// The locale is unchanged then.
     pub fn canonicalize(&self, locale: &mut Locale) -> Result<TransformResult, CanonicalizeError>
@@ -172,7 +174,7 @@ impl<'d, E: AsExpander<'d>> LocaleCanonicalizer<'d, E> {
         ensures end { IfOk result (IsLaterEndOf (by_language_alias self.now.rules) lang.now) }
         ensures refused { IfErr result
             (IsRunRefusalOf (by_language_alias self.now.rules) lang.now) }
-        ensures free { IfSome lang.now (IsFree (by_language_alias self.now.rules))
+        ensures free { IfSome lang.now (AddsNoVariants (by_language_alias self.now.rules))
             → ¬ (IsOutOfMemory result) }
         ensures count { CountsSearchesOf (by_language_alias self.now.rules) lang.now result
             turns.old turns.new }

@@ -25,7 +25,7 @@ mod canonicalization;
 pub use crate::canonicalizer::identifiers::search;
 pub use crate::canonicalizer::replacing::{replacement, rule_matches};
 pub use canonicalization::{
-    applied_where_changed, canonical_keywords_by_key, canonical_stays_canonical,
+    applied_where_changed, canonical_keywords_by_key, canonical_stays_canonical, nothing_to_copy,
     runs_end_or_repeat, value_runs_end_or_repeat,
 };
 

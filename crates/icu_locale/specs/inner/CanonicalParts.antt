@@ -1,15 +1,15 @@
 -- What the parts of a canonicalization find: what only private functions cite.
-use Rattle.std.specs.Prelude.{◌≡◌, ℕ, List, Bool, ◌||◌, Option, is_some, IfSome, IsSomeAnd}
+use Rattle.std.specs.Prelude.{◌≡◌, ℕ, List, Bool, ◌||◌, Option, is_some, IsSomeAnd}
 use Rattle.std.specs.Prelude.{MatchOption, Result, unwrap_or}
 use Rattle.std.specs.Option.{option_or}
 use Rattle.icu_locale_core.specs.Keywords.{KeywordRows}
 use Rattle.icu_locale_core.specs.Maps.{value_at}
-use Rattle.icu_locale_core.specs.TextSet.{text_cmp, empty}
+use Rattle.icu_locale_core.specs.TextSet.{text_cmp}
 use Rattle.icu_locale_core.specs.declared.langid.LanguageIdentifier.{LanguageIdentifier}
 use Rattle.icu_locale_core.specs.declared.locale.Locale.{Locale}
 use Rattle.icu_locale.specs.LikelySubtags.{LikelySubtags}
 use Rattle.icu_locale.specs.Kinds.{next, by_language_alias}
-use Rattle.icu_locale.specs.Run.{StandsIn, IsLaterEnd, IsLaterEndOf, IsRepeat, HasDistinct}
+use Rattle.icu_locale.specs.Run.{IsLaterEnd, IsLaterEndOf, IsRepeat, HasDistinct}
 use Rattle.icu_locale.specs.Cost.{CountsSearches}
 use Rattle.icu_locale.specs.Canonical.{rg, sd, put, next_value}
 use Rattle.icu_locale.specs.Refusals.{ComesAgainFirst, ValueRepeats}
@@ -26,11 +26,6 @@ abbrev pub IsRunRefusal : (LanguageIdentifier → Option LanguageIdentifier) →
 IsRunRefusal next x Memory = Unit {0}
 IsRunRefusal next x (NoFixedPoint z) = IsRepeat next x z
 IsRunRefusal next x (NoSubdivisionFixedPoint v) = ⊥
-
--- what each identifier of a run becomes has no variants
-abbrev pub IsFree : (LanguageIdentifier → Option LanguageIdentifier) → LanguageIdentifier → Type 0
-IsFree next x =
-    (y : LanguageIdentifier) → StandsIn next x y → IfSome (next y) (λ z. z.variants ≡ empty)
 
 -- the turns along a run that there may be
 abbrev pub CountsSearchesOf : {T : Type 0} → (LanguageIdentifier → Option LanguageIdentifier)

@@ -5,8 +5,8 @@ ghost use Rattle.icu_locale.specs.Kinds.{variant_alias, next_of};
 ghost use Rattle.icu_locale.specs.inner.Rewrite.{rewritten};
 ghost use Rattle.icu_locale.specs.Refusals.{IsOutOfMemory};
 ghost use Rattle.icu_locale.specs.Run.{IsLaterEnd};
-ghost use Rattle.icu_locale.specs.inner.CanonicalParts.{IsRunRefusal, IsFree};
-ghost use Rattle.icu_locale.specs.inner.CanonicalParts.{CountsSearchesOf};
+ghost use Rattle.icu_locale.specs.Cost.{AddsNoVariants};
+ghost use Rattle.icu_locale.specs.inner.CanonicalParts.{IsRunRefusal, CountsSearchesOf};
 ghost use Rattle.icu_locale_core.specs.laws.Identifiers.{identifiers_decide};
 ghost use Rattle.icu_locale.specs.inner.Universe.{universe};
 ghost use Rattle.icu_locale.specs.declared.canonicalizer.CanonicalizeError.TheVariants.{Memory};
@@ -157,8 +157,8 @@ pub fn later_end<'d, E: AsExpander<'d>>(
     ensures refused { IfErr result
         (IsRunRefusal (next_of (E.table canonicalizer.now.expander) canonicalizer.now.rules
         transform) id.now) }
-    ensures free { IsFree (next_of (E.table canonicalizer.now.expander) canonicalizer.now.rules
-        transform) id.now → ¬ (IsOutOfMemory result) }
+    ensures free { AddsNoVariants (next_of (E.table canonicalizer.now.expander)
+        canonicalizer.now.rules transform) id.now → ¬ (IsOutOfMemory result) }
     ensures count { CountsSearchesOf
         (next_of (E.table canonicalizer.now.expander) canonicalizer.now.rules transform)
         (Some id.now) result turns.old turns.new }

@@ -1,9 +1,11 @@
 // Runs of the values at `rg` and `sd`.
-ghost use Rattle.std.specs.Prelude.{◌≡◌, ◌⊎◌, None, IfOk, IfErr, option_copied};
-ghost use Rattle.std.specs.Option.{option_and_then};
+ghost use Rattle.std.specs.Prelude.{◌≡◌, ◌⊎◌, [], IfOk, IfErr, IfSome, option_copied};
+ghost use Rattle.icu_locale_core.specs.Maps.{value_at};
+ghost use Rattle.icu_locale_core.specs.TextSet.{text_cmp};
 ghost use Rattle.icu_locale_core.specs.laws.Values.{values_decide};
 ghost use Rattle.icu_locale_core.specs.declared.parse_error.ParseError.TheVariants.{Memory};
-ghost use Rattle.icu_locale.specs.Canonical.{rg, sd, next_value, subdivision_alias};
+ghost use Rattle.icu_locale.specs.Canonical.{rg, sd, next_value};
+ghost use Rattle.icu_locale.specs.Cost.{AddsNoPieces};
 ghost use Rattle.icu_locale.specs.Refusals.{IsOutOfMemory};
 ghost use Rattle.icu_locale.specs.Run.{IsLaterEndOf};
 ghost use Rattle.icu_locale.specs.inner.CanonicalParts.{IsValueRefusal, IsValuesRefusal};
@@ -32,7 +34,7 @@ impl Rewriting for Values<'_, '_> {
 
     ghost refuses = { λ e. e ≡ Memory };
 
-    ghost needs_none = { λ r v. next_value r.rules.now v ≡ None };
+    ghost needs_none = { λ r v. IfSome (next_value r.rules.now v) (λ w. w ≡ []) };
 
     fn search(&self, state: &Value, turns: &mut Turns) -> Result<Option<Value>, ParseError> {
         turns.take();
@@ -62,8 +64,9 @@ pub fn later_values(
 ) -> Result<(Option<Value>, Option<Value>), CanonicalizeError>
     ensures ends { IfOk result (AreLaterValues rules.now keywords.now) }
     ensures refused { IfErr result (IsValuesRefusal rules.now keywords.now) }
-    ensures free { subdivision_alias rules.now keywords.now rg ≡ None
-        → subdivision_alias rules.now keywords.now sd ≡ None → ¬ (IsOutOfMemory result) }
+    ensures free { IfSome (value_at text_cmp keywords.now rg) (AddsNoPieces rules.now)
+        → IfSome (value_at text_cmp keywords.now sd) (AddsNoPieces rules.now)
+        → ¬ (IsOutOfMemory result) }
 {
     let region_override = later_value(rules, keywords.get(region_override_key()), apart)?;
     let subdivision = later_value(rules, keywords.get(subdivision_key()), apart)?;
@@ -79,7 +82,7 @@ fn later_value(
 ) -> Result<Option<Value>, CanonicalizeError>
     ensures end { IfOk result (IsLaterEndOf (next_value rules.now) (option_copied value.entry)) }
     ensures refused { IfErr result (IsValueRefusal rules.now (option_copied value.entry)) }
-    ensures free { option_and_then (next_value rules.now) (option_copied value.entry) ≡ None
+    ensures free { IfSome (option_copied value.entry) (AddsNoPieces rules.now)
         → ¬ (IsOutOfMemory result) }
 {
     let Some(value) = value else {

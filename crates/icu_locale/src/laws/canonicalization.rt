@@ -11,7 +11,7 @@ ghost use Rattle.icu_locale.specs.Run.{EndsOrRepeats, EndsWithNoRepeat, HasOneEn
 ghost use Rattle.icu_locale.specs.Run.{HasOneRepeat, BecomesEnd};
 ghost use Rattle.icu_locale.specs.Canonical.{rg, sd, next_value, AreCanonicalKeywords};
 ghost use Rattle.icu_locale.specs.Canonical.{IsCanonical, is_applied};
-ghost use Rattle.icu_locale.specs.Cost.{NeedsNoMemory};
+ghost use Rattle.icu_locale.specs.Cost.{NeedsNoMemory, HasNothingToCopy};
 ghost use Rattle.icu_locale.specs.Refusals.{RulesEnd, EndsInPlace};
 ghost use Rattle.icu_locale.specs.declared.canonicalizer.rules.Rules.{Rules};
 
@@ -69,6 +69,13 @@ pub fn canonical_stays_canonical()
         → IsCanonical likely rules old new → EndsInPlace likely rules new }
     ensures free { (likely : LikelySubtags) (rules : Rules) (old new : Locale)
         → IsCanonical likely rules old new → NeedsNoMemory likely rules new }
+{}
+
+/// No memory is needed for a locale where in each run nothing matches, or there are no variants and no rule adds any, and
+/// where no row replaces a value at `rg` or `sd`.
+pub fn nothing_to_copy()
+    ensures { (likely : LikelySubtags) (rules : Rules) (old : Locale)
+        → HasNothingToCopy likely rules old → NeedsNoMemory likely rules old }
 {}
 
 /// Something is applied to a locale exactly where its canonical form differs.

@@ -1,6 +1,6 @@
 use Rattle.std.proofs.Common.{Ok, Err}
 use Rattle.std.proofs.lemmas.Result.{err_from_is_err_and}
-use Rattle.icu_locale.proofs.Canonicals.{refused_id, refused_transform, free_id, free_transform, counted_refusal, counted_both}
+use Rattle.icu_locale.proofs.Canonicals.{refused_id, refused_transform, counted_refusal, counted_both}
 use Rattle.icu_locale.proofs.canonicalizer.LocaleCanonicalizer.find_ends.Goals as goal
 
 pub returns-in_err-id-clause-refusal : goal.returns-in_err-id-clause-refusal
@@ -11,7 +11,7 @@ returns-in_err-id-clause-refusal g c =
 pub returns-in_err-id-clause-free : goal.returns-in_err-id-clause-free
 returns-in_err-id-clause-free g c =
     let p = err_from_is_err_and c.from_residual.result c.from_residual.ensures.1 in
-    rw (p.1, p.2) (λ needs. c.in_err-id.ensures.free (free_id (g.E.AsExpander.table c.args.self.now.expander) c.args.self.now.rules c.args.locale.now needs))
+    rw (p.1, p.2) (λ needs. c.in_err-id.ensures.free needs.id)
 
 pub returns-in_err-id-clause-count : goal.returns-in_err-id-clause-count
 returns-in_err-id-clause-count g c =
@@ -26,7 +26,7 @@ returns-in_err-transform-clause-refusal g c =
 pub returns-in_err-transform-clause-free : goal.returns-in_err-transform-clause-free
 returns-in_err-transform-clause-free g c =
     let p = err_from_is_err_and c.from_residual-in_err-transform.result c.from_residual-in_err-transform.ensures.1 in
-    rw (p.1, p.2) (λ needs. c.in_err-transform.ensures.free (free_transform (g.E.AsExpander.table c.args.self.now.expander) c.args.self.now.rules c.args.locale.now needs))
+    rw (p.1, p.2) (λ needs. c.in_err-transform.ensures.free needs.transform)
 
 pub returns-in_err-transform-clause-count : goal.returns-in_err-transform-clause-count
 returns-in_err-transform-clause-count g c =

@@ -1,9 +1,10 @@
-use Rattle.std.proofs.Common.{◌≡◌, ap, subst, ◌∙◌, rules}
-use Rattle.std.specs.Option.{option_copied, option_and_then}
+use Rattle.std.proofs.Common.{◌≡◌, IfSome, sym, subst, rules}
+use Rattle.std.specs.Option.{option_copied}
 use Rattle.std.proofs.lemmas.Result.{err_from_is_err_and}
 use Rattle.icu_locale_core.specs.Maps.{value_at}
 use Rattle.icu_locale_core.specs.TextSet.{text_cmp}
 use Rattle.icu_locale.specs.Canonical.{rg, sd, next_value}
+use Rattle.icu_locale.specs.Cost.{AddsNoPieces}
 use Rattle.icu_locale.specs.Run.{IsLaterEndOf}
 use Rattle.icu_locale.specs.inner.CanonicalParts.{IsValueRefusal}
 use Rattle.icu_locale.proofs.Values.{refused_first, refused_second}
@@ -21,7 +22,7 @@ pub returns-in_err-region_override-clause-free : goal.returns-in_err-region_over
 returns-in_err-region_override-clause-free c = λ no_rg no_sd.
     let p = err_from_is_err_and c.from_residual.result c.from_residual.ensures.1 in
     let at_rg : option_copied c.get.result ≡ value_at text_cmp c.args.keywords.now rg = search rules in
-    rw (p.1, p.2) (c.in_err-region_override.ensures.free (ap (option_and_then (next_value c.args.rules.now)) at_rg ∙ no_rg))
+    rw (p.1, p.2) (c.in_err-region_override.ensures.free (subst (λ o. IfSome o (AddsNoPieces c.args.rules.now)) (sym at_rg) no_rg))
 
 -- a refusal at `sd`
 pub returns-in_err-subdivision-clause-refused : goal.returns-in_err-subdivision-clause-refused
@@ -37,4 +38,4 @@ pub returns-in_err-subdivision-clause-free : goal.returns-in_err-subdivision-cla
 returns-in_err-subdivision-clause-free c = λ no_rg no_sd.
     let p = err_from_is_err_and c.from_residual-in_err-subdivision.result c.from_residual-in_err-subdivision.ensures.1 in
     let at_sd : option_copied c.get-2.result ≡ value_at text_cmp c.args.keywords.now sd = search rules in
-    rw (p.1, p.2) (c.in_err-subdivision.ensures.free (ap (option_and_then (next_value c.args.rules.now)) at_sd ∙ no_sd))
+    rw (p.1, p.2) (c.in_err-subdivision.ensures.free (subst (λ o. IfSome o (AddsNoPieces c.args.rules.now)) (sym at_sd) no_sd))
