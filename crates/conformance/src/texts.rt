@@ -43,11 +43,8 @@ fn shown<T: fmt::Display + Drop>(
 /// What a text is read as, and written.
 pub fn read(alloc: Global, kind: Kind, text: &[u8]) -> Result<String, Fault> {
     match kind {
-        Kind::Identifier => shown(
-            alloc,
-            copied(LanguageIdentifier::try_from_utf8(alloc, text)),
-        ),
-        Kind::Value => shown(alloc, Value::try_from_utf8(alloc, text)),
+        Kind::Identifier => identifier(alloc, LanguageIdentifier::try_from_utf8(alloc, text)),
+        Kind::Value => value(alloc, Value::try_from_utf8(alloc, text)),
         _ => match str::from_utf8(text) {
             Ok(text) => read_str(alloc, kind, text),
             Err(_) => Err(Fault::Row),
@@ -57,22 +54,42 @@ pub fn read(alloc: Global, kind: Kind, text: &[u8]) -> Result<String, Fault> {
 
 fn read_str(alloc: Global, kind: Kind, text: &str) -> Result<String, Fault> {
     match kind {
-        Kind::Identifier => shown(alloc, LanguageIdentifier::try_from_str(alloc, text)),
+        Kind::Identifier => identifier(alloc, LanguageIdentifier::try_from_str(alloc, text)),
         Kind::Language => shown(alloc, Language::try_from_str(text)),
         Kind::Script => shown(alloc, Script::try_from_str(text)),
         Kind::Region => shown(alloc, Region::try_from_str(text)),
         Kind::Variant => shown(alloc, Variant::try_from_str(text)),
         Kind::Key => shown(alloc, Key::try_from_str(text)),
         Kind::Subtag => shown(alloc, Subtag::try_from_str(text)),
-        Kind::Value => shown(alloc, Value::try_from_str(alloc, text)),
+        Kind::Value => value(alloc, Value::try_from_str(alloc, text)),
     }
 }
 
-// A copy in place of what was read, where the two are equal.
-fn copied(read: Result<LanguageIdentifier, ParseError>) -> Result<LanguageIdentifier, ParseError> {
-    let id = read?;
-    let copy = id.try_clone()?;
-    if copy == id { Ok(copy) } else { Ok(id) }
+// An identifier, whose copy has to be equal.
+fn identifier(
+    alloc: Global,
+    read: Result<LanguageIdentifier, ParseError>,
+) -> Result<String, Fault> {
+    if let Ok(id) = &read {
+        compare(id, id.try_clone()?)?;
+    }
+    shown(alloc, read)
+}
+
+// A value, whose copy has to be equal.
+fn value(alloc: Global, read: Result<Value, ParseError>) -> Result<String, Fault> {
+    if let Ok(value) = &read {
+        compare(value, value.try_clone()?)?;
+    }
+    shown(alloc, read)
+}
+
+fn compare<T: PartialEq + Drop>(original: &T, copy: T) -> Result<(), Fault> {
+    if copy == *original {
+        Ok(())
+    } else {
+        Err(Fault::Row)
+    }
 }
 
 /// The set of the words, which are variants.
@@ -82,12 +99,9 @@ pub fn variants(alloc: Global, text: &str) -> Result<String, Fault> {
         list.push(Variant::try_from_str(word)?)?;
     }
     let set = Variants::try_from_list(list)?;
-    let copy = set.try_clone()?;
-    if copy != set {
-        return Err(Fault::Row);
-    }
+    compare(&set, set.try_clone()?)?;
     let mut answer = format!(in alloc; "{}", set.len())?;
-    for variant in copy.iter() {
+    for variant in set.iter() {
         write!(answer, " {variant}")?;
     }
     Ok(answer)
@@ -112,11 +126,8 @@ pub fn keywords(alloc: Global, text: &str) -> Result<String, Fault> {
     for word in text.split_whitespace() {
         keyword(alloc, &mut map, word, &mut answer)?;
     }
-    if map.try_clone()? == map {
-        Ok(answer)
-    } else {
-        Err(Fault::Row)
-    }
+    compare(&map, map.try_clone()?)?;
+    Ok(answer)
 }
 
 fn keyword(

@@ -1,5 +1,8 @@
-//! Calls under refused memory. All memory is taken first, and then a budget of bytes is handed back, step by step.
+//! Calls under refused memory: all memory is taken first, and then a budget of bytes is handed back, step by step. What they
+//! write goes where memory is held already.
 use std::alloc::{AllocError, Global};
+use std::io;
+use std::io::Write;
 
 // How many blocks are taken at the most.
 const MOST_BLOCKS: usize = 65_536;
@@ -37,6 +40,53 @@ pub fn take_all(alloc: Global) -> Result<Vec<Vec<u8>>, AllocError> {
         }
     }
     Ok(held)
+}
+
+/// A writer over memory that it holds already: it takes so many bytes, and then fails.
+#[derive(Drop)]
+pub struct HeldWriter {
+    bytes: [u8; 128],
+    len: usize,
+    room: usize,
+}
+
+impl HeldWriter {
+    pub fn new(room: usize) -> HeldWriter {
+        HeldWriter {
+            bytes: [0; 128],
+            len: 0,
+            room,
+        }
+    }
+
+    /// What it has taken.
+    pub fn written(&self) -> &[u8] {
+        self.bytes.get(..self.len).unwrap_or(&[])
+    }
+}
+
+impl Write for HeldWriter {
+    fn write(&mut self, buf: &[u8]) -> io::Result<usize> {
+        let room = self.room.min(self.bytes.len()).saturating_sub(self.len);
+        let count = buf.len().min(room);
+        if count == 0 {
+            return Err(io::Error::from(io::ErrorKind::Other));
+        }
+        for place in 0..count {
+            if let (Some(from), Some(to)) = (
+                buf.get(place),
+                self.bytes.get_mut(self.len.saturating_add(place)),
+            ) {
+                *to = *from;
+            }
+        }
+        self.len = self.len.saturating_add(count);
+        Ok(count)
+    }
+
+    fn flush(&mut self) -> io::Result<()> {
+        Ok(())
+    }
 }
 
 /// What a call answered: as it should with memory, as it should without, or otherwise.

@@ -1,5 +1,5 @@
 //! The names of refusals.
-use icu_locale::CanonicalizeError;
+use icu_locale::{CanonicalizeError, NegotiatorError};
 use icu_locale_core::{LanguageIdentifier, ParseError, Value};
 use icu_locale_names::{LanguageIdentifierNameFallbackError, NameWriteError};
 use icu_provider::{DataError, DataErrorKind};
@@ -64,6 +64,17 @@ fn refusals_of_canonicalizing(rt: HostRuntime) -> Result<(), Fail> {
         "NoSubdivisionFixedPoint",
     )?;
     is_named(&rt, rt.alloc(), CanonicalizeError::Memory, "Memory")
+}
+
+#[test]
+fn refusals_of_negotiators(rt: HostRuntime) -> Result<(), Fail> {
+    for (refusal, name) in [
+        (NegotiatorError::NotSettled, "NotSettled"),
+        (NegotiatorError::Memory, "Memory"),
+    ] {
+        is_named(&rt, rt.alloc(), refusal, name)?;
+    }
+    Ok(())
 }
 
 #[test]

@@ -5,7 +5,8 @@ ghost use Rattle.icu_provider.specs.Requests.{exemplar_cmp, locale_cmp, menu_cmp
 ghost use Rattle.icu_provider.specs.contracts.names.NameMarkerPartialEq.TheImpl as name_marker;
 ghost use Rattle.icu_tables.specs.Tables.{held, name_in};
 
-use crate::tests::budget::{Answered, Call, by_budget, take_all};
+use crate::sample::sample;
+use crate::tests::budget::{Answered, Call, HeldWriter, by_budget, take_all};
 use crate::tests::providers::{KINDS, refusal, willing};
 use icu_locale_core::{Language, LanguageIdentifier};
 use icu_locale_names::{
@@ -19,8 +20,6 @@ use icu_provider::{
 };
 use icu_tables::Tables;
 use std::alloc::Global;
-use std::io;
-use std::io::Write;
 use std::process::Abort;
 use std::test::Fail;
 
@@ -315,42 +314,43 @@ fn memory_is_taken_behind_the_region_and_before_the_variants(rt: HostRuntime) ->
     Ok(())
 }
 
-// A sink that takes so many bytes, and keeps none.
-#[derive(Drop)]
-struct ShortSink {
-    taken: usize,
-    room: usize,
-}
+// Names with raw subtags, by the second constructor over the sample: the text, and the spans of what is raw.
+const RAW: [(&str, &str, &[(usize, usize)]); 3] = [
+    ("it-Qabc-150", "Italian (Qabc, Europe)", &[(9, 13)]),
+    ("tlh-Qabc-150", "tlh (Qabc, Europe)", &[(0, 3), (5, 9)]),
+    (
+        "it-Latn-fonipa-posix",
+        "Italian (Latin, IPA Phonetics, posix)",
+        &[(31, 36)],
+    ),
+];
 
-impl Write for ShortSink {
-    fn write(&mut self, buf: &[u8]) -> io::Result<usize> {
-        let count = buf.len().min(self.room);
-        if count == 0 {
-            return Err(io::Error::from(io::ErrorKind::Other));
-        }
-        self.room = self.room.saturating_sub(count);
-        self.taken = self.taken.saturating_add(count);
-        Ok(count)
+// A name that is written to sinks of every length but its own.
+fn failed_writes(
+    rt: &impl Abort,
+    alloc: Global,
+    name: LanguageIdentifierDisplayNameBorrowed<'_>,
+    text: &[u8],
+) -> Result<(), Fail> {
+    for room in 0..text.len() {
+        let mut sink = HeldWriter::new(room);
+        let mut parts = Vec::new(alloc);
+        parts.push((1, 2))?;
+        let written = name.try_write_to_parts(&mut sink, &mut parts);
+        assert!(rt; written.err() == Some(NameWriteError::Sink));
+        assert_eq!(rt; sink.written(), &text[..room]);
+        assert!(rt; parts.len() == 1 && parts.as_slice().first().copied() == Some((1, 2)));
     }
-
-    fn flush(&mut self) -> io::Result<()> {
-        Ok(())
-    }
+    Ok(())
 }
 
 #[test]
 fn a_failed_write_leaves_the_spans(rt: HostRuntime) -> Result<(), Fail> {
-    let tables = patterns(rt.alloc())?;
-    let subject = LanguageIdentifier::try_from_str(rt.alloc(), "tlh-Qabc-150")?;
-    let name = named(rt.alloc(), &tables, english()?, &subject, 1)?;
-    for room in 0..18 {
-        let mut sink = ShortSink { taken: 0, room };
-        let mut parts = Vec::new(rt.alloc());
-        parts.push((1, 2))?;
-        let written = name.as_borrowed().try_write_to_parts(&mut sink, &mut parts);
-        assert!(rt; written.err() == Some(NameWriteError::Sink));
-        assert!(rt; sink.taken == room);
-        assert!(rt; parts.len() == 1 && parts.as_slice().first().copied() == Some((1, 2)));
+    let tables = sample(rt.alloc())?;
+    for (subject, text, _) in &RAW {
+        let subject = LanguageIdentifier::try_from_str(rt.alloc(), subject)?;
+        let name = named(rt.alloc(), &tables, english()?, &subject, 1)?;
+        failed_writes(&rt, rt.alloc(), name.as_borrowed(), text.as_bytes())?;
     }
     Ok(())
 }
@@ -359,12 +359,12 @@ fn written_without_memory(
     alloc: Global,
     name: LanguageIdentifierDisplayNameBorrowed<'_>,
 ) -> Result<(Option<NameWriteError>, usize, usize), Fail> {
-    let mut sink = ShortSink { taken: 0, room: 64 };
+    let mut sink = HeldWriter::new(64);
     let mut parts = Vec::new(alloc);
     let held = take_all(alloc)?;
     let refused = name.try_write_to_parts(&mut sink, &mut parts).err();
     drop(held);
-    Ok((refused, sink.taken, parts.len()))
+    Ok((refused, sink.written().len(), parts.len()))
 }
 
 #[test]
@@ -377,53 +377,71 @@ fn spans_that_find_no_room(rt: HostRuntime) -> Result<(), Fail> {
     Ok(())
 }
 
-// A name with two variants, over all names and patterns there are.
+// Writing a name, with the spans of its raw subtags.
+#[derive(Drop)]
+struct WriteName<'n> {
+    name: LanguageIdentifierDisplayNameBorrowed<'n>,
+    text: &'n str,
+    spans: &'n [(usize, usize)],
+}
+
+impl Call for WriteName<'_> {
+    // Where no room is found for the spans, nothing is written.
+    fn answer(&self, alloc: Global) -> Answered {
+        let mut sink = HeldWriter::new(64);
+        let mut parts = Vec::new(alloc);
+        let written = self.name.try_write_to_parts(&mut sink, &mut parts);
+        let is_text = sink.written() == self.text.as_bytes();
+        match written {
+            Ok(Err(_)) if is_text && parts.as_slice() == self.spans => Answered::Whole,
+            Err(NameWriteError::Memory) if parts.is_empty() && sink.written().is_empty() => {
+                Answered::Refused
+            }
+            _ => Answered::Wrong,
+        }
+    }
+}
+
+// Making a name, and writing it.
 #[derive(Drop)]
 struct MakeName<'t> {
     tables: &'t Tables,
     subject: &'t LanguageIdentifier,
     of: DisplayNamesPreferences,
+    text: &'t str,
+    spans: &'t [(usize, usize)],
 }
 
 impl Call for MakeName<'_> {
     fn answer(&self, alloc: Global) -> Answered {
         match named(alloc, self.tables, self.of, self.subject, 1) {
-            Ok(_) => Answered::Whole,
+            Ok(name) => {
+                let call = WriteName {
+                    name: name.as_borrowed(),
+                    text: self.text,
+                    spans: self.spans,
+                };
+                call.answer(alloc)
+            }
             Err(refusal) if refusal.kind == DataErrorKind::Memory => Answered::Refused,
             Err(_) => Answered::Wrong,
         }
     }
 }
 
-// Writing a name, with the spans of its raw subtags.
-#[derive(Drop)]
-struct WriteName<'n>(LanguageIdentifierDisplayNameBorrowed<'n>);
-
-impl Call for WriteName<'_> {
-    // Where no room is found for the spans, nothing is written.
-    fn answer(&self, alloc: Global) -> Answered {
-        let mut sink = ShortSink { taken: 0, room: 64 };
-        let mut parts = Vec::new(alloc);
-        match self.0.try_write_to_parts(&mut sink, &mut parts) {
-            Ok(_) if parts.as_slice() == [(0, 3), (5, 9)].as_slice() => Answered::Whole,
-            Err(NameWriteError::Memory) if parts.is_empty() && sink.taken == 0 => Answered::Refused,
-            _ => Answered::Wrong,
-        }
-    }
-}
-
 #[test]
 fn names_at_every_budget(rt: HostRuntime) -> Result<(), Fail> {
-    let tables = patterns(rt.alloc())?;
-    let two = LanguageIdentifier::try_from_str(rt.alloc(), "it-Latn-fonipa-posix")?;
-    let make = MakeName {
-        tables: &tables,
-        subject: &two,
-        of: english()?,
-    };
-    assert!(rt; by_budget(rt.alloc(), &make, 16)?.is_good());
-    let raw = LanguageIdentifier::try_from_str(rt.alloc(), "tlh-Qabc-150")?;
-    let name = named(rt.alloc(), &tables, english()?, &raw, 1)?;
-    assert!(rt; by_budget(rt.alloc(), &WriteName(name.as_borrowed()), 16)?.is_good());
+    let tables = sample(rt.alloc())?;
+    for (subject, text, spans) in &RAW {
+        let subject = LanguageIdentifier::try_from_str(rt.alloc(), subject)?;
+        let call = MakeName {
+            tables: &tables,
+            subject: &subject,
+            of: english()?,
+            text,
+            spans,
+        };
+        assert!(rt; by_budget(rt.alloc(), &call, 16)?.is_good());
+    }
     Ok(())
 }

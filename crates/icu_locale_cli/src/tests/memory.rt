@@ -4,18 +4,18 @@ use crate::error::CliError;
 use crate::run::{run, run_json};
 use crate::sample::{SAMPLE, sample};
 use crate::status::Status;
-use crate::tests::budget::{Answered, Call, by_budget, take_all};
+use crate::tests::budget::{Answered, Call, HeldWriter, by_budget, take_all};
 use icu_locale::{
     CanonicalizeError, LocaleCanonicalizer, LocaleExpander, Negotiator, NegotiatorError,
     TransformResult,
 };
-use icu_locale_core::{Key, LanguageIdentifier, Locale, ParseError, Value};
-use icu_provider::{Aliases, DataErrorKind, DataProvider, SortedMap};
+use icu_locale_core::{Key, Language, LanguageIdentifier, Locale, ParseError, Value};
+use icu_locale_names::DisplayNamesPreferences;
+use icu_provider::{Aliases, DataErrorKind, DataLocale, DataProvider, SortedMap};
 use icu_tables::{TableError, Tables};
 use std::alloc::{AllocError, Global};
-use std::io;
-use std::io::Write;
 use std::process::Abort;
+use std::slice;
 use std::test::Fail;
 
 // Reading and copying an identifier with variants.
@@ -60,45 +60,13 @@ fn identifiers(rt: HostRuntime) -> Result<(), Fail> {
     Ok(())
 }
 
-// A writer over memory that it holds already.
-#[derive(Drop)]
-struct HeldWriter {
-    bytes: [u8; 128],
-    len: usize,
-}
-
-impl HeldWriter {
-    fn new() -> HeldWriter {
-        HeldWriter {
-            bytes: [0; 128],
-            len: 0,
-        }
-    }
-}
-
-impl Write for HeldWriter {
-    fn write(&mut self, buf: &[u8]) -> io::Result<usize> {
-        let room = self.bytes.len().saturating_sub(self.len);
-        let count = buf.len().min(room);
-        for place in 0..count {
-            if let (Some(from), Some(to)) = (
-                buf.get(place),
-                self.bytes.get_mut(self.len.saturating_add(place)),
-            ) {
-                *to = *from;
-            }
-        }
-        self.len = self.len.saturating_add(count);
-        Ok(count)
-    }
-
-    fn flush(&mut self) -> io::Result<()> {
-        Ok(())
-    }
-}
-
 // Commands, inputs, and what is written where there is memory.
-const RUNS: [(Command, &str, &str); 3] = [
+const RUNS: [(Command, &str, &str); 4] = [
+    (
+        Command::Maximize,
+        "zh-CN\nEN_us\n\n",
+        "zh-Hans-CN\tM\nen-Latn-US\tM\n?\tInvalidLanguage\n",
+    ),
     (
         Command::Maximize,
         "zh-CN\nEN_us-posix\n\n",
@@ -118,7 +86,7 @@ const RUNS: [(Command, &str, &str); 3] = [
 
 // How a run ended: whole, or with whole lines alone.
 fn ended(ended: Result<Status, CliError>, writer: &HeldWriter, answers: &str) -> Answered {
-    let written = writer.bytes.get(..writer.len).unwrap_or(&[]);
+    let written = writer.written();
     let whole_lines = written.last().copied().unwrap_or(b'\n') == b'\n';
     match ended {
         Ok(Status::Refused) if written == answers.as_bytes() => Answered::Whole,
@@ -139,7 +107,7 @@ struct Run<'r> {
 impl Call for Run<'_> {
     fn answer(&self, alloc: Global) -> Answered {
         let (command, input, answers) = self.row;
-        let mut writer = HeldWriter::new();
+        let mut writer = HeldWriter::new(128);
         let mut reader = input.as_bytes();
         let status = run(alloc, command, self.tables, &mut reader, &mut writer);
         ended(status, &writer, answers)
@@ -156,7 +124,7 @@ struct RunJson<'r> {
 
 impl Call for RunJson<'_> {
     fn answer(&self, alloc: Global) -> Answered {
-        let mut writer = HeldWriter::new();
+        let mut writer = HeldWriter::new(128);
         let mut reader = self.text.as_bytes();
         let status = run_json(alloc, self.command, &mut reader, &mut writer);
         ended(status, &writer, self.answers)
@@ -320,29 +288,57 @@ fn values_without_memory(rt: HostRuntime) -> Result<(), Fail> {
     Ok(())
 }
 
+// Texts of tables: how many languages of two letters are replaced, and whether there are patterns of English names.
+const TEXTS: [(&str, (usize, bool)); 4] = [
+    (ENDING, (3, false)),
+    (CIRCLING, (6, false)),
+    (PATTERNS, (0, true)),
+    (SAMPLE, (1, true)),
+];
+
 // Reading tables.
 #[derive(Drop)]
-struct ReadTables<'t>(&'t str);
+struct ReadTables<'t> {
+    text: &'t str,
+    english: DataLocale,
+    told: (usize, bool),
+}
 
 impl Call for ReadTables<'_> {
     fn answer(&self, alloc: Global) -> Answered {
-        match Tables::from_json(alloc, self.0.as_bytes()) {
-            Ok(_) => Answered::Whole,
+        match Tables::from_json(alloc, self.text.as_bytes()) {
+            Ok(tables) if told(&tables, self.english) == self.told => Answered::Whole,
+            Ok(_) => Answered::Wrong,
             Err(TableError::Memory) => Answered::Refused,
             Err(_) => Answered::Wrong,
         }
     }
 }
 
+fn told(tables: &Tables, english: DataLocale) -> (usize, bool) {
+    let replaced = match tables.load_aliases() {
+        Ok(aliases) => aliases.language_len2.len(),
+        Err(_) => 0,
+    };
+    (replaced, tables.load_essentials(english).is_ok())
+}
+
 #[test]
 fn tables_from_json(rt: HostRuntime) -> Result<(), Fail> {
-    for text in [ENDING, CIRCLING, PATTERNS, SAMPLE] {
-        assert!(rt; by_budget(rt.alloc(), &ReadTables(text), 64)?.is_good());
+    let english = Language::try_from_str("en")?;
+    let english = DisplayNamesPreferences::new(english, None, None).locale;
+    for (text, told) in TEXTS {
+        let call = ReadTables {
+            text,
+            english,
+            told,
+        };
+        assert!(rt; by_budget(rt.alloc(), &call, 64)?.is_good());
     }
     Ok(())
 }
 
-// Making a canonicalizer.
+// Making a canonicalizer, which then replaces a language.
 #[derive(Drop)]
 struct MakeCanonicalizer<'d> {
     aliases: &'d Aliases,
@@ -352,14 +348,21 @@ struct MakeCanonicalizer<'d> {
 impl Call for MakeCanonicalizer<'_> {
     fn answer(&self, alloc: Global) -> Answered {
         match LocaleCanonicalizer::new_with_expander(alloc, self.aliases, self.expander) {
-            Ok(_) => Answered::Whole,
+            Ok(canonicalizer) => {
+                let call = Canonicalize {
+                    canonicalizer: &canonicalizer,
+                    from: "sh",
+                    to: "sr-Latn",
+                };
+                call.answer(alloc)
+            }
             Err(refusal) if refusal.kind == DataErrorKind::Memory => Answered::Refused,
             Err(_) => Answered::Wrong,
         }
     }
 }
 
-// Canonicalizing a locale with variants.
+// Canonicalizing a locale.
 #[derive(Drop)]
 struct Canonicalize<'c, 'd> {
     canonicalizer: &'c LocaleCanonicalizer<'d>,
@@ -416,11 +419,12 @@ impl Call for MakeNegotiator<'_> {
     fn answer(&self, alloc: Global) -> Answered {
         match available(alloc) {
             Ok(list) => match Negotiator::try_new(alloc, self.0, list) {
-                Ok(_) => Answered::Whole,
+                Ok(negotiator) => second_is_found(alloc, &negotiator),
                 Err(NegotiatorError::Memory) => Answered::Refused,
                 Err(_) => Answered::Wrong,
             },
-            Err(_) => Answered::Refused,
+            Err(ParseError::Memory) => Answered::Refused,
+            Err(_) => Answered::Wrong,
         }
     }
 }
@@ -431,6 +435,15 @@ fn available(alloc: Global) -> Result<Vec<LanguageIdentifier>, ParseError> {
         list.push(LanguageIdentifier::try_from_str(alloc, text)?)?;
     }
     Ok(list)
+}
+
+// Whether a request without variants, which asks for no memory, finds the second of the list.
+fn second_is_found(alloc: Global, negotiator: &Negotiator<'_>) -> Answered {
+    match LanguageIdentifier::try_from_str(alloc, "zh-TW") {
+        Ok(request) if negotiator.negotiate(slice::from_ref(&request)) == Some((0, 1)) =>
+            Answered::Whole,
+        _ => Answered::Wrong,
+    }
 }
 
 #[test]

@@ -190,29 +190,63 @@ pub fn refusal(kind: DataErrorKind) -> Option<DataError> {
     Some(DataError { kind })
 }
 
-fn refused_language(rt: &impl Abort, tables: &Tables, want: Option<DataError>) {
+fn refused_language(rt: &impl Abort, alloc: Global, tables: &Tables, want: Option<DataError>) {
     let mut provider = willing(tables);
     provider.language = want;
     assert!(rt; LocaleExpander::try_new_common_unstable(&provider).err() == want);
     assert!(rt; LocaleExpander::try_new_extended_unstable(&provider).err() == want);
     assert!(rt; LocaleDirectionality::try_new_common_unstable(&provider).err() == want);
+    assert!(rt; LocaleDirectionality::try_new_extended_unstable(&provider).err() == want);
+    canonicalizers_answer(rt, alloc, &provider, want, want);
 }
 
-fn refused_script_region(rt: &impl Abort, tables: &Tables, want: Option<DataError>) {
+fn refused_script_region(rt: &impl Abort, alloc: Global, tables: &Tables, want: Option<DataError>) {
     let mut provider = willing(tables);
     provider.script_region = want;
     assert!(rt; LocaleExpander::try_new_common_unstable(&provider).err() == want);
     assert!(rt; LocaleExpander::try_new_extended_unstable(&provider).err() == want);
+    assert!(rt; LocaleDirectionality::try_new_common_unstable(&provider).err() == want);
     assert!(rt; LocaleDirectionality::try_new_extended_unstable(&provider).err() == want);
+    canonicalizers_answer(rt, alloc, &provider, want, want);
 }
 
-fn refused_extended(rt: &impl Abort, tables: &Tables, want: Option<DataError>) {
+fn refused_extended(rt: &impl Abort, alloc: Global, tables: &Tables, want: Option<DataError>) {
     let mut provider = willing(tables);
     provider.extended = want;
     assert!(rt; LocaleExpander::try_new_common_unstable(&provider).is_ok());
     assert!(rt; LocaleExpander::try_new_extended_unstable(&provider).err() == want);
     assert!(rt; LocaleDirectionality::try_new_common_unstable(&provider).is_ok());
     assert!(rt; LocaleDirectionality::try_new_extended_unstable(&provider).err() == want);
+    canonicalizers_answer(rt, alloc, &provider, None, want);
+}
+
+// What refuses a canonicalizer over the common tables, and one over the extended ones.
+fn canonicalizers_answer(
+    rt: &impl Abort,
+    alloc: Global,
+    provider: &Refusing<'_>,
+    common: Option<DataError>,
+    extended: Option<DataError>,
+) {
+    assert!(rt; LocaleCanonicalizer::try_new_common_unstable(alloc, provider).err() == common);
+    assert!(rt; LocaleCanonicalizer::try_new_extended_unstable(alloc, provider).err() == extended);
+}
+
+fn refused_aliases(
+    rt: &impl Abort,
+    alloc: Global,
+    tables: &Tables,
+    want: Option<DataError>,
+) -> Result<(), Fail> {
+    let mut provider = willing(tables);
+    provider.aliases = want;
+    canonicalizers_answer(rt, alloc, &provider, want, want);
+    let expander = LocaleExpander::try_new_common_unstable(tables)?;
+    let with = LocaleCanonicalizer::try_new_with_expander_unstable(
+        alloc, &provider, expander,
+    ).err();
+    assert!(rt; with == want);
+    Ok(())
 }
 
 fn refused_directions(
@@ -239,9 +273,10 @@ fn each_refusal_at_each_load(rt: HostRuntime) -> Result<(), Fail> {
     let mut tables = sample(rt.alloc())?;
     tables.set_likely_extended(LikelySubtagsExtended::new(rt.alloc()));
     for kind in KINDS {
-        refused_language(&rt, &tables, refusal(kind));
-        refused_script_region(&rt, &tables, refusal(kind));
-        refused_extended(&rt, &tables, refusal(kind));
+        refused_language(&rt, rt.alloc(), &tables, refusal(kind));
+        refused_script_region(&rt, rt.alloc(), &tables, refusal(kind));
+        refused_extended(&rt, rt.alloc(), &tables, refusal(kind));
+        refused_aliases(&rt, rt.alloc(), &tables, refusal(kind))?;
         refused_directions(&rt, &tables, refusal(kind))?;
     }
     Ok(())

@@ -4,7 +4,7 @@ use crate::error::CliError;
 use crate::input::read_all;
 use crate::run::{run, run_json};
 use crate::run_buffered;
-use crate::sample::sample;
+use crate::sample::{SAMPLE, sample};
 use crate::status::Status;
 use crate::tests::program::command;
 use icu_tables::Tables;
@@ -42,16 +42,28 @@ impl Read for EndlessReader {
     }
 }
 
-// A writer that takes a few bytes at a time, and so many in all.
+// A writer that takes a few bytes at a time, and so many in all; then it takes no more, or fails.
 #[derive(Drop)]
 struct SlowWriter {
     bytes: Vec<u8>,
     at_once: usize,
     room: usize,
+    fails: bool,
+}
+
+impl SlowWriter {
+    // Whether the writer fails now.
+    fn state(&self) -> io::Result<()> {
+        if self.fails && self.room == 0 {
+            return Err(io::Error::from(io::ErrorKind::Other));
+        }
+        Ok(())
+    }
 }
 
 impl Write for SlowWriter {
     fn write(&mut self, buf: &[u8]) -> io::Result<usize> {
+        self.state()?;
         let count = buf.len().min(self.at_once).min(self.room);
         self.bytes.extend_from_slice(&buf[..count])?;
         self.room -= count;
@@ -59,12 +71,12 @@ impl Write for SlowWriter {
     }
 
     fn flush(&mut self) -> io::Result<()> {
-        Ok(())
+        self.state()
     }
 }
 
-// Commands that read, inputs and outputs.
-const RUNS: [(&str, &str, &str); 7] = [
+// Commands, inputs and outputs.
+const RUNS: [(&str, &str, &str); 8] = [
     ("maximize", "zh-CN\nde\n", "zh-Hans-CN\tM\nde-Latn-DE\tM\n"),
     ("minimize", "zh-Hans-CN\n\n", "zh\tM\n?\tInvalidLanguage\n"),
     ("minimize-script", "zh-TW\n", "zh-Hant\tM\n"),
@@ -76,6 +88,7 @@ const RUNS: [(&str, &str, &str); 7] = [
     ("direction", "ar\nen\n", "rtl\nltr\n"),
     ("negotiate", "en-US zh-Hant\nfr zh-TW\n", "1\tzh-Hant\n"),
     ("name light en", "it\n", "Italian\tN\n"),
+    ("settled", "en\n", "yes\n"),
 ];
 
 // How a run ends, of tables that are there or of those of its first line.
@@ -120,8 +133,11 @@ fn failed_reads(
 ) -> Result<(), Fail> {
     for count in 0..=input.len() {
         let (bytes, _) = input.as_bytes().split_at(count);
-        failed_read(rt, alloc, Some(tables), words, bytes)?;
         failed_read(rt, alloc, None, words, bytes)?;
+        // (without tables to read, `settled` reads nothing)
+        if words != "settled" {
+            failed_read(rt, alloc, Some(tables), words, bytes)?;
+        }
     }
     Ok(())
 }
@@ -135,13 +151,12 @@ fn a_failed_read_after_every_byte(rt: HostRuntime) -> Result<(), Fail> {
     Ok(())
 }
 
-// What the writer has taken, and how the run ended.
+// How a run ended, and what a writer has taken that takes so many bytes at once and so many in all, and then may fail.
 fn written(
     alloc: Global,
-    tables: &Tables,
-    words: &str,
-    input: &str,
-    (at_once, room): (usize, usize),
+    tables: Option<&Tables>,
+    (words, input): (&str, &str),
+    (at_once, room, fails): (usize, usize, bool),
 ) -> Result<(Result<Status, CliError>, Vec<u8>), Fail> {
     let mut reader = SlowReader {
         bytes: input.as_bytes(),
@@ -151,31 +166,34 @@ fn written(
         bytes: Vec::new(alloc),
         at_once,
         room,
+        fails,
     };
-    let ended = ended(alloc, Some(tables), words, &mut reader, &mut writer)?;
+    let ended = ended(alloc, tables, words, &mut reader, &mut writer)?;
     let SlowWriter {
         bytes,
         at_once: _,
         room: _,
+        fails: _,
     } = writer;
     Ok((ended, bytes))
 }
 
-// A writer that takes a byte at a time takes all; one that is full takes what it can.
+// A writer that takes a byte at a time takes all; one that is full, or fails, takes what it can.
 fn slow_and_full(
     rt: &impl Abort,
     alloc: Global,
-    tables: &Tables,
-    row: &(&str, &str, &str),
+    tables: Option<&Tables>,
+    call: (&str, &str),
+    whole: &[u8],
 ) -> Result<(), Fail> {
-    let (words, input, output) = row;
-    let whole = output.as_bytes();
-    let (ended, bytes) = written(alloc, tables, words, input, (1, whole.len()))?;
+    let (ended, bytes) = written(alloc, tables, call, (1, whole.len(), false))?;
     assert!(rt; ended.is_ok() && bytes.as_slice() == whole);
     for room in 0..whole.len() {
-        let (ended, bytes) = written(alloc, tables, words, input, (7, room))?;
-        assert!(rt; ended == Err(CliError::Write));
-        assert_eq!(rt; bytes.as_slice(), &whole[..room]);
+        for fails in [false, true] {
+            let (ended, bytes) = written(alloc, tables, call, (7, room, fails))?;
+            assert!(rt; ended == Err(CliError::Write));
+            assert_eq!(rt; bytes.as_slice(), &whole[..room]);
+        }
     }
     Ok(())
 }
@@ -183,14 +201,22 @@ fn slow_and_full(
 #[test]
 fn a_byte_at_a_time_and_a_full_writer(rt: HostRuntime) -> Result<(), Fail> {
     let tables = sample(rt.alloc())?;
-    for row in &RUNS {
-        slow_and_full(&rt, rt.alloc(), &tables, row)?;
+    for (words, input, output) in &RUNS {
+        let whole = output.as_bytes();
+        slow_and_full(&rt, rt.alloc(), Some(&tables), (words, input), whole)?;
+        let of_text = format!(in rt.alloc(); "{SAMPLE}\n{input}")?;
+        slow_and_full(&rt, rt.alloc(), None, (words, of_text.as_str()), whole)?;
     }
     Ok(())
 }
 
-// How a run ends whose output is written out at its end, to a writer with so much room.
-fn written_at_the_end(alloc: Global, json: bool, room: usize) -> Result<Status, CliError> {
+// How a run ends whose output is written out at its end, to a writer with so much room, which then may fail.
+fn written_at_the_end(
+    alloc: Global,
+    json: bool,
+    room: usize,
+    fails: bool,
+) -> Result<Status, CliError> {
     let mut reader = b"{\"likely_language\":{\"und\":[\"en\",\"Latn\",\"US\"]},\
         \"likely_script_region\":{}}\nen\n"
         .as_slice();
@@ -198,17 +224,20 @@ fn written_at_the_end(alloc: Global, json: bool, room: usize) -> Result<Status, 
         bytes: Vec::new(alloc),
         at_once: 64,
         room,
+        fails,
     };
     run_buffered(alloc, &Command::Settled, json, &mut reader, writer)
 }
 
 #[test]
-fn a_failed_write_at_the_end(rt: HostRuntime) -> Result<(), Fail> {
+fn a_failed_write_or_flush_at_the_end(rt: HostRuntime) -> Result<(), Fail> {
     for json in [false, true] {
-        let ended = written_at_the_end(rt.alloc(), json, 3);
-        assert!(rt; ended == Err(CliError::Write));
-        let ended = written_at_the_end(rt.alloc(), json, 4);
-        assert!(rt; ended == Ok(Status::Accepted));
+        let full = written_at_the_end(rt.alloc(), json, 3, false);
+        assert!(rt; full == Err(CliError::Write));
+        let whole = written_at_the_end(rt.alloc(), json, 4, false);
+        assert!(rt; whole == Ok(Status::Accepted));
+        let not_flushed = written_at_the_end(rt.alloc(), json, 4, true);
+        assert!(rt; not_flushed == Err(CliError::Write));
     }
     Ok(())
 }
