@@ -1,4 +1,4 @@
-# `make` proves the crates, builds the program and leaves it here; `make test` checks everything; `make compare`
+# `make` proves the program and what it stands on, and leaves it here; `make test` checks every crate; `make compare`
 # measures the program beside others, once it is built.
 PROGRAM = icu_locale_cli
 

@@ -1,4 +1,4 @@
-//! Worked rows as data: each line of the input is a call of a public function and the answer that is wanted of it. What
+//! Rows as data: each line of the input is a call of a public function and the answer that is wanted of it. What
 //! differs is printed, and at last how many rows were run.
 #![tactic(auto)]
 

@@ -28,7 +28,7 @@ use identifiers::later_end;
 use rules::Rules;
 use values::later_values;
 
-/// Canonicalizes locales by the rules of a table of aliases.
+/// Canonicalizes locales by the rules of a table of aliases (UTS #35 Part 1, Annex C, "LocaleId Canonicalization").
 #[derive(Debug)]
 pub struct LocaleCanonicalizer<'d, E = LocaleExpander<'d>> {
     /// The rules.

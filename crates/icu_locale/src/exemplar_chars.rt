@@ -6,7 +6,7 @@ ghost use Rattle.icu_provider.specs.InversionList.{has_character};
 use icu_provider::{DataError, DataLocale, DataProvider, ExemplarCharactersData, ExemplarMarker};
 use std::marker::Model;
 
-/// A set of exemplar characters that a provider lent. No call takes memory.
+/// A set of exemplar characters that a provider lent (UTS #35 Part 2, "Exemplars"). No call takes memory.
 #[derive(Debug, Drop)]
 pub struct ExemplarCharacters<'d> {
     set: &'d ExemplarCharactersData,

@@ -2,7 +2,7 @@
 
 use crate::{Keywords, LanguageIdentifier};
 
-/// The extensions of a locale.
+/// The extensions of a locale (UTS #35, section 3).
 #[derive(PartialEq, Eq, Debug, Drop)]
 pub struct Extensions {
     /// The Unicode extension (unicode_locale_extensions).
@@ -11,14 +11,14 @@ pub struct Extensions {
     pub transform: Transform,
 }
 
-/// The Unicode extension of a locale.
+/// The Unicode extension of a locale (UTS #35, section 3.6).
 #[derive(PartialEq, Eq, Debug, Drop)]
 pub struct Unicode {
     /// The keywords.
     pub keywords: Keywords,
 }
 
-/// The transform extension of a locale.
+/// The transform extension of a locale (UTS #35, section 3.7).
 #[derive(PartialEq, Eq, Debug, Drop)]
 pub struct Transform {
     /// The language that was transformed, if any.

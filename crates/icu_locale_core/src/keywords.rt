@@ -47,7 +47,7 @@ impl Keywords {
         self.map.is_empty()
     }
 
-    /// The value at a key. It takes no memory.
+    /// The value at a key, if any. It takes no memory.
     pub fn get(&self, key: Key) -> Option<&Value>
         ensures { option_copied result ≡ value_at text_cmp self.now key }
     {
@@ -70,7 +70,7 @@ impl Keywords {
         Ok(self.map.insert(key, value)?)
     }
 
-    /// Takes a key and its value out. It takes no memory.
+    /// Takes a key out, and gives the value that was there, if any. It takes no memory.
     pub fn remove(&mut self, key: Key) -> Option<Value>
         ensures value { result ≡ value_at text_cmp self.old key }
         ensures rows { self.new ≡ without_key self.old key }

@@ -1,4 +1,4 @@
--- The chains of kinds of names, as the documentation's table has them.
+-- The chains of kinds of names.
 use Rattle.std.specs.Prelude.{List, [], ◌∷◌}
 use Rattle.icu_provider.specs.declared.names.NameMarker.{NameMarker}
 use Rattle.icu_provider.specs.declared.names.NameMarker.TheVariants.{RegionMediumTiny, RegionShortTiny, RegionMediumLight, RegionShortLight}

@@ -1,4 +1,4 @@
--- The chains that names of languages are made by, as the documentation's table has them.
+-- The chains that names of languages are made by.
 use Rattle.std.specs.Prelude.{List, [], ◌∷◌}
 use Rattle.icu_provider.specs.declared.menus.MenuMarker.{MenuMarker}
 use Rattle.icu_provider.specs.declared.menus.MenuMarker.TheVariants.{MediumLight, MediumHeavy}

@@ -43,8 +43,8 @@ use std::alloc::Global;
 use std::marker::Model;
 use std::{fmt, io};
 
-/// The name of an identifier, in the language of a locale. It holds what the provider lent and copies no text; a
-/// contract sees its pieces, each a text with a mark whether it is a raw subtag.
+/// The name of an identifier, in the language of a locale (UTS #35 Part 2, "Locale Display Name Algorithm"). It holds what
+/// the provider lent and copies no text; a contract sees its pieces, each a text with a mark whether it is a raw subtag.
 #[derive(Debug, Drop)]
 pub struct LanguageIdentifierDisplayName<'d> {
     parts: Parts<'d>,

@@ -53,7 +53,7 @@ impl DoublePlaceholderPattern {
     }
 }
 
-/// How the parts of a locale's name are put together.
+/// How the parts of a locale's name are put together (UTS #35 Part 2, "Locale Display Name Algorithm").
 #[derive(Debug)]
 pub struct LocaleNamesEssentials {
     /// A name and what stands behind it: the first argument is the name, and the second the qualifiers.

@@ -28,7 +28,7 @@ pub enum ExemplarMarker {
     Index,
 }
 
-/// The exemplar characters of a language: characters, and texts of several characters.
+/// The exemplar characters of a language (UTS #35 Part 2, "Exemplars"): characters, and texts of several characters.
 #[derive(Debug)]
 pub struct ExemplarCharactersData {
     /// The characters.

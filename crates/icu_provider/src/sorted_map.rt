@@ -82,7 +82,7 @@ impl<K: Ord, V> SortedMap<K, V> {
     ///
     /// # Errors
     ///
-    /// `Memory`, only where the list had to grow and could not: the map stays as it was then, and the row is dropped.
+    /// `Memory`, only where a row with a new key found no room: the map stays as it was then, and the row is dropped.
     pub fn insert(&mut self, key: K, value: V) -> Result<(), DataError>
     where
         K: Drop,

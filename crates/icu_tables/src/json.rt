@@ -46,7 +46,8 @@ impl Tables {
     /// # Errors
     ///
     /// `Json` where the text is no JSON value, and `Shape` where the value has not the shape of a
-    /// file of tables. `Memory` may stand in the place of any answer.
+    /// file of tables, as one with any other member has not. The value and the tables take memory:
+    /// `Memory` may stand in the place of any answer.
     pub fn from_json(alloc: Global, text: &[u8]) -> Result<Tables, TableError>
         ensures rows { IfOk result (λ tables. rows_in text.now ≡ Ok (rows_of tables)) }
         ensures refused { IfErr result (λ e. e ≢ TableError.Memory

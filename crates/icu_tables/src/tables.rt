@@ -123,7 +123,7 @@ impl Tables {
     ///
     /// # Errors
     ///
-    /// `Memory`, only where the list of sets had to grow and could not: the tables are unchanged
+    /// `Memory`, only where a row with a new key found no room: the tables are unchanged
     /// then.
     pub fn insert_exemplars(
         &mut self,
@@ -143,7 +143,7 @@ impl Tables {
     ///
     /// # Errors
     ///
-    /// `Memory`, only where the list of names had to grow and could not: the tables are unchanged
+    /// `Memory`, only where a row with a new key found no room: the tables are unchanged
     /// then.
     pub fn insert_name(
         &mut self,
@@ -164,7 +164,7 @@ impl Tables {
     ///
     /// # Errors
     ///
-    /// `Memory`, only where the list of names in menus had to grow and could not: the tables are
+    /// `Memory`, only where a row with a new key found no room: the tables are
     /// unchanged then.
     pub fn insert_menu(
         &mut self,
@@ -185,7 +185,7 @@ impl Tables {
     ///
     /// # Errors
     ///
-    /// `Memory`, only where the list of locales had to grow and could not: the tables are unchanged
+    /// `Memory`, only where a row with a new key found no room: the tables are unchanged
     /// then.
     pub fn insert_essentials(
         &mut self,

@@ -15,7 +15,8 @@ use icu_provider::{
 use std::alloc::Global;
 
 impl<'d, E> LocaleCanonicalizer<'d, E> {
-    /// Over a table of aliases, whose texts are read here, and an expander. A row that cannot be read is left out.
+    /// Over a table of aliases, whose texts are read here, and an expander. A row that cannot be read is left out. The
+    /// rules that are read take memory.
     ///
     /// # Errors
     ///
@@ -35,7 +36,7 @@ impl<'d, E> LocaleCanonicalizer<'d, E> {
         Ok(LocaleCanonicalizer { rules, expander })
     }
 
-    /// Over the aliases of a provider and an expander.
+    /// Over the aliases of a provider, whose texts are read here into memory, and an expander.
     ///
     /// # Errors
     ///
@@ -57,7 +58,8 @@ impl<'d, E> LocaleCanonicalizer<'d, E> {
 }
 
 impl<'d> LocaleCanonicalizer<'d, LocaleExpander<'d>> {
-    /// Over the common tables of likely subtags and a table of aliases, whose texts are read here.
+    /// Over the common tables of likely subtags and a table of aliases, whose texts are read here
+    /// into memory.
     ///
     /// # Errors
     ///
@@ -75,7 +77,8 @@ impl<'d> LocaleCanonicalizer<'d, LocaleExpander<'d>> {
         LocaleCanonicalizer::new_with_expander(alloc, aliases, expander)
     }
 
-    /// Over the common tables of likely subtags, the extended one, and a table of aliases, whose texts are read here.
+    /// Over the common tables of likely subtags, the extended one, and a table of aliases, whose texts are read here
+    /// into memory.
     ///
     /// # Errors
     ///
@@ -94,7 +97,8 @@ impl<'d> LocaleCanonicalizer<'d, LocaleExpander<'d>> {
         LocaleCanonicalizer::new_with_expander(alloc, aliases, expander)
     }
 
-    /// Over the common tables of likely subtags of a provider, which are loaded first, and its aliases.
+    /// Over the common tables of likely subtags of a provider, which are loaded first, and its aliases, whose
+    /// texts are read here into memory.
     ///
     /// # Errors
     ///
@@ -111,7 +115,8 @@ impl<'d> LocaleCanonicalizer<'d, LocaleExpander<'d>> {
         LocaleCanonicalizer::try_new_with_expander_unstable(alloc, provider, expander)
     }
 
-    /// Over all tables of likely subtags of a provider, which are loaded first, and its aliases.
+    /// Over all tables of likely subtags of a provider, which are loaded first, and its aliases, whose
+    /// texts are read here into memory.
     ///
     /// # Errors
     ///

@@ -4,7 +4,7 @@ use icu_locale_core::{Language, LanguageIdentifier, Subtag, Value};
 use icu_provider::{Aliases, RowList, SortedMap};
 use std::alloc::Global;
 
-/// A rule: what it matches, and what it replaces that by.
+/// A rule: what it matches, and what it replaces that by (UTS #35 Part 1, Annex C).
 #[derive(Debug, Drop)]
 pub struct Rule {
     /// What the rule matches.
