@@ -105,7 +105,22 @@ fn compare_direction(
     Ok(())
 }
 
-/// The calls of a directionality at everyone without variants, which directions do not look at.
+fn compare_everyone(
+    alloc: Global,
+    report: &mut Report,
+    directionality: &LocaleDirectionality<'_>,
+    (rows, subtags): (&[Row], &Subtags),
+    ways: Ways,
+    variants: u8,
+) -> Result<(), Fault> {
+    for x in everyone(subtags, variants, alloc)? {
+        let runs = ways.of(subtags, maximal(rows, subtags, &x).script);
+        compare_direction(alloc, report, directionality, subtags, &x, runs)?;
+    }
+    Ok(())
+}
+
+/// The calls of a directionality at everyone.
 pub fn compare_directions(
     alloc: Global,
     report: &mut Report,
@@ -114,9 +129,15 @@ pub fn compare_directions(
     subtags: &Subtags,
     ways: Ways,
 ) -> Result<(), Fault> {
-    for x in everyone(subtags, 0, alloc)? {
-        let runs = ways.of(subtags, maximal(rows, subtags, &x).script);
-        compare_direction(alloc, report, directionality, subtags, &x, runs)?;
+    for variants in 0..8 {
+        compare_everyone(
+            alloc,
+            report,
+            directionality,
+            (rows, subtags),
+            ways,
+            variants,
+        )?;
     }
     Ok(())
 }

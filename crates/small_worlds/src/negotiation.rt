@@ -21,6 +21,16 @@ fn held(
     Ok(all)
 }
 
+// Whether a negotiator shows the list that was handed in.
+fn shows(negotiator: &Negotiator<'_>, available: &[Plain], subtags: &Subtags) -> bool {
+    let shown = negotiator.available();
+    shown.len() == available.len()
+        && shown
+            .iter()
+            .zip(available)
+            .all(|(id, x)| x.is_held_as(id, subtags))
+}
+
 // The first request that some available identifier has the maximal form of, and the first such identifier.
 fn wanted(
     rows: &[Row],
@@ -75,6 +85,8 @@ pub fn compare_negotiations(
     match Negotiator::try_new(alloc, *expander, held(alloc, &available, subtags)?) {
         Ok(negotiator) => {
             report.see(settled, "Negotiator::try_new", &und)?;
+            let is_shown = shows(&negotiator, &available, subtags);
+            report.see(is_shown, "available", &und)?;
             let table = (rows, subtags);
             compare_requests(alloc, report, &negotiator, table, numbers, &available)
         }

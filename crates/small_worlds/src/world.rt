@@ -1,7 +1,7 @@
 //! The worlds, one after another.
 use crate::canonical::{World, compare_canonical};
 use crate::directions::{Ways, compare_directions};
-use crate::exemplars::{Exemplars, compare_exemplars};
+use crate::exemplars::{Exemplars, compare_exemplars, draw_exemplars};
 use crate::fault::Fault;
 use crate::forms::compare_forms;
 use crate::likely::Likely;
@@ -26,7 +26,7 @@ struct Parts {
     rules: Rules,
     values: Vec<ValueRow>,
     ways: Ways,
-    exemplars: Exemplars,
+    exemplars: Vec<Exemplars>,
 }
 
 impl Parts {
@@ -36,7 +36,7 @@ impl Parts {
             rules: Rules::new(alloc, numbers, subtags)?,
             values: draw_list(alloc, numbers, subtags, 4)?,
             ways: Ways::draw(numbers, subtags),
-            exemplars: Exemplars::new(alloc, numbers)?,
+            exemplars: draw_exemplars(alloc, numbers)?,
         })
     }
 
