@@ -95,8 +95,9 @@ impl<'d, E: AsExpander<'d>> LocaleCanonicalizer<'d, E> {
         self.canonicalize_counted(locale, &mut Turns::new())
     }
 
-    /// The same as `canonicalize`, with a count of the searches for a rule that matches. They are at most six for each
-    /// different identifier of the runs and, unless `Memory` is answered, at least one.
+    /// The same as `canonicalize`, with a count of the searches for a rule that matches. For each different identifier of
+    /// the identifier's run and, where that ends, of the transform language's, they are at most six and, unless `Memory` is
+    /// answered, at least one.
     ///
     /// # Errors
     ///
