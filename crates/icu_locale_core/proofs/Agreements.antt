@@ -17,6 +17,7 @@ use Rattle.icu_locale_core.specs.TextSet.{text_cmp}
 use Rattle.icu_locale_core.specs.declared.langid.LanguageIdentifier.{LanguageIdentifier}
 use Rattle.icu_locale_core.specs.declared.locale.Locale.{Locale}
 use Rattle.icu_locale_core.specs.laws.Identifiers.{Tells, same_text, same_parts, options_tell, identifiers_decide}
+use Rattle.icu_locale_core.specs.laws.Values.{values_decide}
 use Rattle.icu_locale_core.proofs.Hashes.{same_subtag}
 
 -- a test that tells equality agrees with an order that ties where it passes, and a hash that tells values apart
@@ -46,15 +47,12 @@ identifiers_tie x y =
 
 -- ---- values and keywords
 
-pub values_tell : (v w : List (List ℕ)) → Tells (pointwise same_text v w) (v ≡ w)
-values_tell v w = slice_eq-Decides bytes_eq-Decides v w (pointwise same_text v w) refl
-
 rows_tell : (p q : List ℕ × List (List ℕ)) → Tells (row_eq p q) (p ≡ q)
 rows_tell p q = (
   λ e.
       let parts = and_parts (same_text p.0 q.0) _ e in
-      λ i. ((bytes_eq-Decides p.0 q.0).0 parts.0 i, (values_tell p.1 q.1).0 parts.1 i),
-  λ e. λ i. (bytes_eq-Decides p.0 q.0).1 (ap (λ (r : List ℕ × List (List ℕ)). r.0) e) i && (values_tell p.1 q.1).1 (ap (λ (r : List ℕ × List (List ℕ)). r.1) e) i,
+      λ i. ((bytes_eq-Decides p.0 q.0).0 parts.0 i, (values_decide p.1 q.1).0 parts.1 i),
+  λ e. λ i. (bytes_eq-Decides p.0 q.0).1 (ap (λ (r : List ℕ × List (List ℕ)). r.0) e) i && (values_decide p.1 q.1).1 (ap (λ (r : List ℕ × List (List ℕ)). r.1) e) i,
 )
 
 pub keywords_tell : (k l : KeywordRows) → Tells (pointwise row_eq k l) (k ≡ l)
