@@ -139,8 +139,9 @@ impl<'d> LocaleExpander<'d> {
     }
 
     /// Removes the subtags that likely subtags give back: the identifier becomes its minimal form, the shortest with
-    /// the same maximal form, or the maximal form where there is none such. Of two that are equally short it takes the one with the region. The answer is `Modified`
-    /// exactly where the identifier changed.
+    /// the language of the maximal form and the same maximal form, or the maximal form where there is none such. Of two
+    /// that are equally short it takes the one with the region. The answer is `Modified` exactly where the identifier
+    /// changed.
     pub fn minimize(&self, id: &mut LanguageIdentifier) -> TransformResult
         ensures minimal { IsMinimalForm RegionFirst (likely self.now) id.old id.new }
         ensures modified { (result ≡ TransformResult.Modified) ↔ (id.new ≢ id.old) }

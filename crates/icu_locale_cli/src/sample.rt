@@ -1,4 +1,4 @@
-//! The tables that the program keeps: a few rows of each kind, as a user would hand them in.
+//! The tables that the program keeps: a few rows of most kinds, as a user would hand them in.
 ghost use Rattle.std.specs.Prelude.{◌≡◌, IfErr};
 
 use crate::error::CliError;

@@ -43,8 +43,9 @@ use std::alloc::Global;
 use std::marker::Model;
 use std::{fmt, io};
 
-/// The name of an identifier, in the language of a locale (UTS #35 Part 2, "Locale Display Name Algorithm"). It holds what
-/// the provider lent and copies no text; a contract sees its pieces, each a text with a mark whether it is a raw subtag.
+/// The name of an identifier, in the language of a locale (UTS #35 Part 2, "Locale Display Name Algorithm"). It holds
+/// what the provider lent and copies no text; a contract sees its pieces, each a text with a mark whether it is a raw
+/// subtag.
 #[derive(Debug, Drop)]
 pub struct LanguageIdentifierDisplayName<'d> {
     parts: Parts<'d>,
@@ -461,7 +462,8 @@ fn separator_text(items: &[PatternItem]) -> &str
     ", "
 }
 
-/// The name of an identifier that is lent: `Display` writes its text. No call but `try_write_to_parts` takes memory.
+/// The name of an identifier that is lent (UTS #35 Part 2, "Locale Display Name Algorithm"): `Display` writes its text. No
+/// call but `try_write_to_parts` takes memory.
 #[derive(Clone, Copy, Debug)]
 pub struct LanguageIdentifierDisplayNameBorrowed<'a> {
     parts: &'a Parts<'a>,

@@ -56,7 +56,8 @@ impl<'d> RegionDisplayName<'d> {
         Self::first(provider, &TINY, preferences, region)
     }
 
-    /// The name of a region: of medium length, among the most asked ones; and the subtag itself on any error.
+    /// The name of a region by the chain `tiny`: of medium length, among the most asked ones; and the subtag itself on
+    /// any error.
     pub fn new_tiny_with_fallback<P: DataProvider>(
         provider: &'d P,
         preferences: DisplayNamesPreferences,
@@ -84,7 +85,8 @@ impl<'d> RegionDisplayName<'d> {
         Self::first(provider, &SHORT_TINY, preferences, region)
     }
 
-    /// The name of a region: short, or else of medium length, among the most asked ones; and the subtag itself on any error.
+    /// The name of a region by the chain `short_tiny`: short, or else of medium length, among the most asked ones; and
+    /// the subtag itself on any error.
     pub fn new_short_tiny_with_fallback<P: DataProvider>(
         provider: &'d P,
         preferences: DisplayNamesPreferences,
@@ -112,7 +114,7 @@ impl<'d> RegionDisplayName<'d> {
         Self::first(provider, &LIGHT, preferences, region)
     }
 
-    /// The name of a region: of medium length; and the subtag itself on any error.
+    /// The name of a region by the chain `light`: of medium length; and the subtag itself on any error.
     pub fn new_light_with_fallback<P: DataProvider>(
         provider: &'d P,
         preferences: DisplayNamesPreferences,
@@ -140,7 +142,8 @@ impl<'d> RegionDisplayName<'d> {
         Self::first(provider, &SHORT_LIGHT, preferences, region)
     }
 
-    /// The name of a region: short, or else of medium length; and the subtag itself on any error.
+    /// The name of a region by the chain `short_light`: short, or else of medium length; and the subtag itself on any
+    /// error.
     pub fn new_short_light_with_fallback<P: DataProvider>(
         provider: &'d P,
         preferences: DisplayNamesPreferences,

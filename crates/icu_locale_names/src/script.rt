@@ -60,7 +60,8 @@ impl<'d> ScriptDisplayName<'d> {
         Self::first(provider, &TINY, preferences, script)
     }
 
-    /// The name of a script: of medium length, among the most asked ones; and the subtag itself on any error.
+    /// The name of a script by the chain `tiny`: of medium length, among the most asked ones; and the subtag itself on
+    /// any error.
     pub fn new_tiny_with_fallback<P: DataProvider>(
         provider: &'d P,
         preferences: DisplayNamesPreferences,
@@ -88,7 +89,7 @@ impl<'d> ScriptDisplayName<'d> {
         Self::first(provider, &LIGHT, preferences, script)
     }
 
-    /// The name of a script: of medium length; and the subtag itself on any error.
+    /// The name of a script by the chain `light`: of medium length; and the subtag itself on any error.
     pub fn new_light_with_fallback<P: DataProvider>(
         provider: &'d P,
         preferences: DisplayNamesPreferences,
@@ -116,7 +117,8 @@ impl<'d> ScriptDisplayName<'d> {
         Self::first(provider, &HEAVY, preferences, script)
     }
 
-    /// The name of a script: of medium length, the rare ones too; and the subtag itself on any error.
+    /// The name of a script by the chain `heavy`: of medium length, the rare ones too; and the subtag itself on any
+    /// error.
     pub fn new_heavy_with_fallback<P: DataProvider>(
         provider: &'d P,
         preferences: DisplayNamesPreferences,
@@ -144,7 +146,8 @@ impl<'d> ScriptDisplayName<'d> {
         Self::first(provider, &SHORT_HEAVY, preferences, script)
     }
 
-    /// The name of a script: short, or else of medium length, the rare ones too; and the subtag itself on any error.
+    /// The name of a script by the chain `short_heavy`: short, or else of medium length, the rare ones too; and the
+    /// subtag itself on any error.
     pub fn new_short_heavy_with_fallback<P: DataProvider>(
         provider: &'d P,
         preferences: DisplayNamesPreferences,

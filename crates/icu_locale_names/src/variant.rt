@@ -45,7 +45,8 @@ impl<'d> VariantDisplayName<'d> {
         Self::first(provider, &HEAVY, preferences, variant)
     }
 
-    /// The name of a variant: of medium length, the rare ones too; and the subtag itself on any error.
+    /// The name of a variant by the chain `heavy`: of medium length, the rare ones too; and the subtag itself on any
+    /// error.
     pub fn new_heavy_with_fallback<P: DataProvider>(
         provider: &'d P,
         preferences: DisplayNamesPreferences,

@@ -19,7 +19,8 @@ pub struct StrStrPair(pub String, pub String);
 #[derive(Debug, Drop)]
 pub struct LanguageStrStrPair(pub Language, pub String, pub String);
 
-/// The rules of canonicalization (UTS #35 Part 1, Annex C). Texts are of any content: who reads them skips those that cannot be read.
+/// The rules of canonicalization (UTS #35 Part 1, Annex C). Texts are of any content: who reads them skips those that
+/// cannot be read.
 #[derive(Debug)]
 pub struct Aliases {
     /// Rules with variants, asked in order: a language, a text of variants and a replacement text.
@@ -100,7 +101,7 @@ impl Aliases {
     ///
     /// # Errors
     ///
-    /// `Memory`, only where the row found no room: the table is unchanged then.
+    /// `Memory`, only where memory for the row was refused: the table is unchanged then.
     pub fn push_language_variants(&mut self, row: LanguageStrStrPair) -> Result<(), DataError>
         ensures table { self.new ≡ record self.old {
           language_variants = self.new.language_variants;
@@ -121,7 +122,7 @@ impl Aliases {
     ///
     /// # Errors
     ///
-    /// `Memory`, only where the row found no room: the table is unchanged then.
+    /// `Memory`, only where memory for the row was refused: the table is unchanged then.
     pub fn push_language(&mut self, row: StrStrPair) -> Result<(), DataError>
         ensures table { self.new ≡ record self.old { language = self.new.language } }
         ensures push { Pushes self.old.language self.new.language row result }
@@ -140,7 +141,7 @@ impl Aliases {
     ///
     /// # Errors
     ///
-    /// `Memory`, only where a row with a new key found no room: the table is unchanged then.
+    /// `Memory`, only for a key that is not there yet, where memory for the row was refused: the table is unchanged then.
     pub fn insert_sgn_region(&mut self, region: Region, value: Language) -> Result<(), DataError>
         ensures table { self.new ≡ record self.old { sgn_region = self.new.sgn_region } }
         ensures insert { Inserts text_cmp self.old.sgn_region self.new.sgn_region
@@ -168,7 +169,7 @@ impl Aliases {
     ///
     /// # Errors
     ///
-    /// `Memory`, only where a row with a new key found no room: the table is unchanged then.
+    /// `Memory`, only for a key that is not there yet, where memory for the row was refused: the table is unchanged then.
     pub fn insert_language_len2(
         &mut self,
         language: Language,
@@ -200,7 +201,7 @@ impl Aliases {
     ///
     /// # Errors
     ///
-    /// `Memory`, only where a row with a new key found no room: the table is unchanged then.
+    /// `Memory`, only for a key that is not there yet, where memory for the row was refused: the table is unchanged then.
     pub fn insert_language_len3(
         &mut self,
         language: Language,
@@ -232,7 +233,7 @@ impl Aliases {
     ///
     /// # Errors
     ///
-    /// `Memory`, only where a row with a new key found no room: the table is unchanged then.
+    /// `Memory`, only for a key that is not there yet, where memory for the row was refused: the table is unchanged then.
     pub fn insert_script(&mut self, script: Script, value: Script) -> Result<(), DataError>
         ensures table { self.new ≡ record self.old { script = self.new.script } }
         ensures insert { Inserts text_cmp self.old.script self.new.script script value result }
@@ -259,7 +260,7 @@ impl Aliases {
     ///
     /// # Errors
     ///
-    /// `Memory`, only where a row with a new key found no room: the table is unchanged then.
+    /// `Memory`, only for a key that is not there yet, where memory for the row was refused: the table is unchanged then.
     pub fn insert_region_alpha(&mut self, region: Region, value: Region) -> Result<(), DataError>
         ensures table { self.new ≡ record self.old { region_alpha = self.new.region_alpha } }
         ensures insert { Inserts text_cmp self.old.region_alpha self.new.region_alpha
@@ -287,7 +288,7 @@ impl Aliases {
     ///
     /// # Errors
     ///
-    /// `Memory`, only where a row with a new key found no room: the table is unchanged then.
+    /// `Memory`, only for a key that is not there yet, where memory for the row was refused: the table is unchanged then.
     pub fn insert_region_num(&mut self, region: Region, value: Region) -> Result<(), DataError>
         ensures table { self.new ≡ record self.old { region_num = self.new.region_num } }
         ensures insert { Inserts text_cmp self.old.region_num self.new.region_num
@@ -315,7 +316,7 @@ impl Aliases {
     ///
     /// # Errors
     ///
-    /// `Memory`, only where a row with a new key found no room: the table is unchanged then.
+    /// `Memory`, only for a key that is not there yet, where memory for the row was refused: the table is unchanged then.
     pub fn insert_complex_region(
         &mut self,
         region: Region,
@@ -347,7 +348,7 @@ impl Aliases {
     ///
     /// # Errors
     ///
-    /// `Memory`, only where a row with a new key found no room: the table is unchanged then.
+    /// `Memory`, only for a key that is not there yet, where memory for the row was refused: the table is unchanged then.
     pub fn insert_variant(&mut self, variant: Variant, value: Variant) -> Result<(), DataError>
         ensures table { self.new ≡ record self.old { variant = self.new.variant } }
         ensures insert { Inserts text_cmp self.old.variant self.new.variant variant value result }
@@ -374,7 +375,7 @@ impl Aliases {
     ///
     /// # Errors
     ///
-    /// `Memory`, only where a row with a new key found no room: the table is unchanged then.
+    /// `Memory`, only for a key that is not there yet, where memory for the row was refused: the table is unchanged then.
     pub fn insert_subdivision(&mut self, subtag: Subtag, value: String) -> Result<(), DataError>
         ensures table { self.new ≡ record self.old { subdivision = self.new.subdivision } }
         ensures insert { Inserts text_cmp self.old.subdivision self.new.subdivision

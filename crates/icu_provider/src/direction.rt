@@ -39,7 +39,7 @@ impl ScriptDirection {
     ///
     /// # Errors
     ///
-    /// `Memory`, only where a script that is not there found no room: both sets are unchanged then.
+    /// `Memory`, only for a script that is not there yet, where memory for it was refused: both sets are unchanged then.
     pub fn insert_rtl(&mut self, script: Script) -> Result<(), DataError>
         ensures table { self.new ≡ record self.old { rtl = self.new.rtl } }
         ensures insert { Inserts text_cmp self.old.rtl self.new.rtl script tt result }
@@ -51,7 +51,7 @@ impl ScriptDirection {
     ///
     /// # Errors
     ///
-    /// `Memory`, only where a script that is not there found no room: both sets are unchanged then.
+    /// `Memory`, only for a script that is not there yet, where memory for it was refused: both sets are unchanged then.
     pub fn insert_ltr(&mut self, script: Script) -> Result<(), DataError>
         ensures table { self.new ≡ record self.old { ltr = self.new.ltr } }
         ensures insert { Inserts text_cmp self.old.ltr self.new.ltr script tt result }

@@ -15,7 +15,8 @@ pub enum PatternItem {
     Second,
 }
 
-/// A pattern of two placeholders: any list of items. A contract sees what the items hold, in their order.
+/// A pattern of two placeholders, as those that put a name together (UTS #35 Part 2, "Locale Display Name Algorithm"):
+/// any list of items. A contract sees what the items hold, in their order.
 #[derive(Debug)]
 pub struct DoublePlaceholderPattern {
     items: Vec<PatternItem>,

@@ -12,7 +12,8 @@ pub enum MenuMarker {
     MediumHeavy,
 }
 
-/// The name of a language in a menu, in two parts (UTS #35 Part 2, "Locale Display Names"). A contract sees their texts.
+/// The name of a language in a menu, in two parts (UTS #35 Part 2, "Display Name Elements"). A contract sees
+/// their texts.
 #[derive(Debug)]
 pub struct MenuNameParts {
     /// The name that the language shares with those like it.

@@ -39,7 +39,7 @@ impl<T> RowList<T> {
     ///
     /// # Errors
     ///
-    /// `Memory`, only where the row found no room: it is unchanged then, and the row is dropped.
+    /// `Memory`, only where memory for the row was refused: the list is unchanged then, and the row is dropped.
     pub fn push(&mut self, row: T) -> Result<(), DataError>
     where
         T: Drop,

@@ -82,7 +82,8 @@ impl<K: Ord, V> SortedMap<K, V> {
     ///
     /// # Errors
     ///
-    /// `Memory`, only where a row with a new key found no room: the map stays as it was then, and the row is dropped.
+    /// `Memory`, only for a key that is not there yet, where memory for the row was refused: the map stays as it was then,
+    /// and the row is dropped.
     pub fn insert(&mut self, key: K, value: V) -> Result<(), DataError>
     where
         K: Drop,

@@ -41,13 +41,13 @@ impl Tables {
     ///
     /// Values are read in any case. A key is one subtag in its written form, or two with one `-`
     /// between them, or a locale: a language, with a script if any and a region if any. A row whose
-    /// key is not of this form is skipped.
+    /// key is not of this form is skipped. It takes memory for the JSON value and for the tables.
     ///
     /// # Errors
     ///
     /// `Json` where the text is no JSON value, and `Shape` where the value has not the shape of a
-    /// file of tables, as one with any other member has not. The value and the tables take memory:
-    /// `Memory` may stand in the place of any answer.
+    /// file of tables: any other member is `Shape` too. `Memory` may stand in the place of any
+    /// answer.
     pub fn from_json(alloc: Global, text: &[u8]) -> Result<Tables, TableError>
         ensures rows { IfOk result (λ tables. rows_in text.now ≡ Ok (rows_of tables)) }
         ensures refused { IfErr result (λ e. e ≢ TableError.Memory

@@ -123,8 +123,8 @@ impl Tables {
     ///
     /// # Errors
     ///
-    /// `Memory`, only where a row with a new key found no room: the tables are unchanged
-    /// then.
+    /// `Memory`, only for a key that is not there yet, where memory for the row was refused: the
+    /// tables are unchanged then.
     pub fn insert_exemplars(
         &mut self,
         marker: ExemplarMarker,
@@ -143,8 +143,8 @@ impl Tables {
     ///
     /// # Errors
     ///
-    /// `Memory`, only where a row with a new key found no room: the tables are unchanged
-    /// then.
+    /// `Memory`, only for a key that is not there yet, where memory for the row was refused: the
+    /// tables are unchanged then.
     pub fn insert_name(
         &mut self,
         marker: NameMarker,
@@ -164,8 +164,8 @@ impl Tables {
     ///
     /// # Errors
     ///
-    /// `Memory`, only where a row with a new key found no room: the tables are
-    /// unchanged then.
+    /// `Memory`, only for a key that is not there yet, where memory for the row was refused: the
+    /// tables are unchanged then.
     pub fn insert_menu(
         &mut self,
         marker: MenuMarker,
@@ -185,8 +185,8 @@ impl Tables {
     ///
     /// # Errors
     ///
-    /// `Memory`, only where a row with a new key found no room: the tables are unchanged
-    /// then.
+    /// `Memory`, only for a key that is not there yet, where memory for the row was refused: the
+    /// tables are unchanged then.
     pub fn insert_essentials(
         &mut self,
         locale: DataLocale,

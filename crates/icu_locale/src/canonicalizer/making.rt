@@ -15,8 +15,8 @@ use icu_provider::{
 use std::alloc::Global;
 
 impl<'d, E> LocaleCanonicalizer<'d, E> {
-    /// Over a table of aliases, whose texts are read here, and an expander. A row that cannot be read is left out. The
-    /// rules that are read take memory.
+    /// Over a table of aliases, whose texts are read here, and an expander. A row that cannot be read is left out. It
+    /// takes memory for the rules that are read.
     ///
     /// # Errors
     ///
@@ -36,7 +36,8 @@ impl<'d, E> LocaleCanonicalizer<'d, E> {
         Ok(LocaleCanonicalizer { rules, expander })
     }
 
-    /// Over the aliases of a provider, whose texts are read here into memory, and an expander.
+    /// Over the aliases of a provider, whose texts are read here, and an expander. It takes memory for the rules that
+    /// are read.
     ///
     /// # Errors
     ///
@@ -58,8 +59,8 @@ impl<'d, E> LocaleCanonicalizer<'d, E> {
 }
 
 impl<'d> LocaleCanonicalizer<'d, LocaleExpander<'d>> {
-    /// Over the common tables of likely subtags and a table of aliases, whose texts are read here
-    /// into memory.
+    /// Over the common tables of likely subtags and a table of aliases, whose texts are read here. It takes memory for
+    /// the rules that are read.
     ///
     /// # Errors
     ///
@@ -77,8 +78,8 @@ impl<'d> LocaleCanonicalizer<'d, LocaleExpander<'d>> {
         LocaleCanonicalizer::new_with_expander(alloc, aliases, expander)
     }
 
-    /// Over the common tables of likely subtags, the extended one, and a table of aliases, whose texts are read here
-    /// into memory.
+    /// Over the common tables of likely subtags, the extended one, and a table of aliases, whose texts are read here.
+    /// It takes memory for the rules that are read.
     ///
     /// # Errors
     ///
@@ -97,8 +98,8 @@ impl<'d> LocaleCanonicalizer<'d, LocaleExpander<'d>> {
         LocaleCanonicalizer::new_with_expander(alloc, aliases, expander)
     }
 
-    /// Over the common tables of likely subtags of a provider, which are loaded first, and its aliases, whose
-    /// texts are read here into memory.
+    /// Over the common tables of likely subtags of a provider, which are loaded first, and its aliases. It takes memory
+    /// for the rules that are read.
     ///
     /// # Errors
     ///
@@ -115,8 +116,8 @@ impl<'d> LocaleCanonicalizer<'d, LocaleExpander<'d>> {
         LocaleCanonicalizer::try_new_with_expander_unstable(alloc, provider, expander)
     }
 
-    /// Over all tables of likely subtags of a provider, which are loaded first, and its aliases, whose
-    /// texts are read here into memory.
+    /// Over all tables of likely subtags of a provider, which are loaded first, and its aliases. It takes memory for the
+    /// rules that are read.
     ///
     /// # Errors
     ///

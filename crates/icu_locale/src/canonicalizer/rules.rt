@@ -13,7 +13,7 @@ pub struct Rule {
     pub replacement: LanguageIdentifier,
 }
 
-/// The rules of a table of aliases. Texts are read once: a row that cannot be read is left out.
+/// The rules of a table of aliases (UTS #35 Part 1, Annex C). Texts are read once: a row that cannot be read is left out.
 #[derive(Debug)]
 pub struct Rules<'d> {
     /// The rules for identifiers without variants, in order.

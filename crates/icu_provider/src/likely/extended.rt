@@ -65,7 +65,7 @@ impl LikelySubtagsExtended {
     ///
     /// # Errors
     ///
-    /// `Memory`, only where a row with a new key found no room: the table is unchanged then.
+    /// `Memory`, only for a key that is not there yet, where memory for the row was refused: the table is unchanged then.
     pub fn insert_language(
         &mut self,
         language: Language,
@@ -98,7 +98,7 @@ impl LikelySubtagsExtended {
     ///
     /// # Errors
     ///
-    /// `Memory`, only where a row with a new key found no room: the table is unchanged then.
+    /// `Memory`, only for a key that is not there yet, where memory for the row was refused: the table is unchanged then.
     pub fn insert_language_script(
         &mut self,
         language: Language,
@@ -132,7 +132,7 @@ impl LikelySubtagsExtended {
     ///
     /// # Errors
     ///
-    /// `Memory`, only where a row with a new key found no room: the table is unchanged then.
+    /// `Memory`, only for a key that is not there yet, where memory for the row was refused: the table is unchanged then.
     pub fn insert_language_region(
         &mut self,
         language: Language,
@@ -166,7 +166,7 @@ impl LikelySubtagsExtended {
     ///
     /// # Errors
     ///
-    /// `Memory`, only where a row with a new key found no room: the table is unchanged then.
+    /// `Memory`, only for a key that is not there yet, where memory for the row was refused: the table is unchanged then.
     pub fn insert_script_region(
         &mut self,
         script: Script,
@@ -199,7 +199,7 @@ impl LikelySubtagsExtended {
     ///
     /// # Errors
     ///
-    /// `Memory`, only where a row with a new key found no room: the table is unchanged then.
+    /// `Memory`, only for a key that is not there yet, where memory for the row was refused: the table is unchanged then.
     pub fn insert_script(
         &mut self,
         script: Script,
@@ -232,7 +232,7 @@ impl LikelySubtagsExtended {
     ///
     /// # Errors
     ///
-    /// `Memory`, only where a row with a new key found no room: the table is unchanged then.
+    /// `Memory`, only for a key that is not there yet, where memory for the row was refused: the table is unchanged then.
     pub fn insert_region(
         &mut self,
         region: Region,

@@ -62,7 +62,7 @@ impl LikelySubtagsForLanguage {
     ///
     /// # Errors
     ///
-    /// `Memory`, only where a row with a new key found no room: the table is unchanged then.
+    /// `Memory`, only for a key that is not there yet, where memory for the row was refused: the table is unchanged then.
     pub fn insert_language(
         &mut self,
         language: Language,
@@ -95,7 +95,7 @@ impl LikelySubtagsForLanguage {
     ///
     /// # Errors
     ///
-    /// `Memory`, only where a row with a new key found no room: the table is unchanged then.
+    /// `Memory`, only for a key that is not there yet, where memory for the row was refused: the table is unchanged then.
     pub fn insert_language_script(
         &mut self,
         language: Language,
@@ -129,7 +129,7 @@ impl LikelySubtagsForLanguage {
     ///
     /// # Errors
     ///
-    /// `Memory`, only where a row with a new key found no room: the table is unchanged then.
+    /// `Memory`, only for a key that is not there yet, where memory for the row was refused: the table is unchanged then.
     pub fn insert_language_region(
         &mut self,
         language: Language,

@@ -46,7 +46,7 @@ impl LikelySubtagsForScriptRegion {
     ///
     /// # Errors
     ///
-    /// `Memory`, only where a row with a new key found no room: the table is unchanged then.
+    /// `Memory`, only for a key that is not there yet, where memory for the row was refused: the table is unchanged then.
     pub fn insert_script_region(
         &mut self,
         script: Script,
@@ -79,7 +79,7 @@ impl LikelySubtagsForScriptRegion {
     ///
     /// # Errors
     ///
-    /// `Memory`, only where a row with a new key found no room: the table is unchanged then.
+    /// `Memory`, only for a key that is not there yet, where memory for the row was refused: the table is unchanged then.
     pub fn insert_script(
         &mut self,
         script: Script,
@@ -112,7 +112,7 @@ impl LikelySubtagsForScriptRegion {
     ///
     /// # Errors
     ///
-    /// `Memory`, only where a row with a new key found no room: the table is unchanged then.
+    /// `Memory`, only for a key that is not there yet, where memory for the row was refused: the table is unchanged then.
     pub fn insert_region(
         &mut self,
         region: Region,
