@@ -1,5 +1,5 @@
 -- Identifiers without variants stay so, where no replacement adds variants.
-use Rattle.std.proofs.Common.{◌≡◌, ◌==◌, ◌&&◌, ◌||◌, not, ℕ, zero, suc, Bool, true, false, cond, List, length, Option, Some, None, IfSome, is_some, option_and_then, unwrap_or, inl, inr, codes, refl, ap, sym, ◌∙◌, subst}
+use Rattle.std.proofs.Common.{◌≡◌, ◌==◌, ◌&&◌, ◌||◌, not, ℕ, zero, suc, Bool, true, false, cond, List, length, Option, Some, None, IfSome, is_some, option_and_then, unwrap_or, inl, inr, codes, refl, ap, sym, ◌∙◌}
 use Rattle.std.specs.List.{All, find, list_any}
 use Rattle.std.specs.Option.{option_map, option_or}
 use Rattle.std.proofs.lemmas.Bool.{false≢true}

@@ -1,4 +1,4 @@
-use Rattle.std.proofs.Common.{◌≡◌, IfSome, option_copied, subst, rules}
+use Rattle.std.proofs.Common.{IfSome, option_copied, subst, rules}
 use Rattle.icu_locale.specs.Cost.{AddsNoPieces}
 use Rattle.icu_locale.proofs.Values.{IsUniverse-values}
 use Rattle.icu_locale.proofs.canonicalizer.values.later_value.Goals as goal
