@@ -59,14 +59,32 @@ fn write_value(text: &mut String, locale: &Locale, key: &str) -> Result<(), Faul
 pub fn canonicalize(alloc: Global, world: &World, text: &str) -> Result<String, Fault> {
     let canonicalizer = world.canonicalizer(alloc)?;
     let before = locale(alloc, text)?;
-    let mut counted = before.try_clone()?;
+    canonicalized(alloc, &canonicalizer, &before)
+}
+
+fn canonicalized(
+    alloc: Global,
+    canonicalizer: &LocaleCanonicalizer<'_>,
+    before: &Locale,
+) -> Result<String, Fault> {
     let mut after = before.try_clone()?;
     let answer = canonicalizer.canonicalize(&mut after);
-    let again = canonicalizer.canonicalize_counted(&mut counted, &mut Turns::new());
-    if after != counted || answer.is_ok() != again.is_ok() {
+    if !counts_alike(canonicalizer, before, &after, answer.is_ok())? {
         return Ok(String::from_str(alloc, "the counted call differs")?);
     }
-    told(alloc, answer, &before, &after)
+    told(alloc, answer, before, &after)
+}
+
+// Whether the counted call makes of a locale what the other has made of it, and succeeds where that did.
+fn counts_alike(
+    canonicalizer: &LocaleCanonicalizer<'_>,
+    before: &Locale,
+    after: &Locale,
+    is_ok: bool,
+) -> Result<bool, Fault> {
+    let mut counted = before.try_clone()?;
+    let again = canonicalizer.canonicalize_counted(&mut counted, &mut Turns::new());
+    Ok(counted == *after && again.is_ok() == is_ok)
 }
 
 fn told(
