@@ -1,14 +1,15 @@
 -- A canonical locale is kept, and a locale that changes is one to which something is applied.
-use Rattle.std.proofs.Common.{◌≡◌, ◌≢◌, Bool, true, false, ◌||◌, [], Option, Some, None, is_some, option_and_then, inl, inr, refl, ap, sym, ◌∙◌, subst}
+use Rattle.std.proofs.Common.{◌≡◌, ◌≢◌, Bool, true, false, ◌||◌, [], Option, Some, None, is_some, option_and_then, IfSome, ◌⊎◌, inl, inr, refl, ap, sym, ◌∙◌, subst}
 use Rattle.std.proofs.lemmas.Bool.{false≢true, cases_Bool, or_parts}
 use Rattle.icu_locale_core.specs.TextSet.{text_cmp, empty}
 use Rattle.icu_locale_core.specs.Keywords.{KeywordRows}
+use Rattle.icu_locale_core.specs.declared.langid.LanguageIdentifier.{LanguageIdentifier}
 use Rattle.icu_locale_core.specs.declared.locale.Locale.{Locale}
 use Rattle.icu_locale_core.specs.Maps.{value_at}
 use Rattle.icu_locale.specs.LikelySubtags.{LikelySubtags}
 use Rattle.icu_locale.specs.Kinds.{next, by_language_alias}
 use Rattle.icu_locale.specs.Canonical.{rg, sd, next_value, subdivision_alias, put, AreCanonicalKeywords, IsCanonical, is_applied}
-use Rattle.icu_locale.specs.Cost.{NeedsNoMemory}
+use Rattle.icu_locale.specs.Cost.{NeedsNoMemory, HasNothingToCopy}
 use Rattle.icu_locale.specs.Refusals.{RulesEnd, EndsInPlace}
 use Rattle.icu_locale.specs.declared.canonicalizer.rules.Rules.{Rules}
 use Rattle.icu_locale.proofs.Keywords.{canonical_at_rg, canonical_at_sd}
@@ -69,6 +70,18 @@ module _ (likely : LikelySubtags) (rules : Rules) (old new : Locale) (canonical 
     region_override = none_behind_any (next_value rules) (λ w. w ≡ []) (value_at text_cmp new_keywords rg) new_rg;
     subdivision = none_behind_any (next_value rules) (λ w. w ≡ []) (value_at text_cmp new_keywords sd) new_sd;
   }
+
+  pub canonical_copies : HasNothingToCopy likely rules new
+  canonical_copies = record {
+    id = inl canonical.id.last;
+    transform = by new.extensions.transform.lang new_transform;
+    region_override = new_rg;
+    subdivision = new_sd;
+  }
+    where
+      by : (o : Option LanguageIdentifier) → option_and_then (by_language_alias rules) o ≡ None → IfSome o (λ l. (by_language_alias rules l ≡ None) ⊎ (l.variants ≡ empty))
+      by None h = tt
+      by (Some l) h = inl h
 
 -- the rules end on a locale that has a canonical form
 pub rules_end : (likely : LikelySubtags) (rules : Rules) (old new : Locale) → IsCanonical likely rules old new → RulesEnd likely rules old

@@ -69,6 +69,8 @@ pub fn canonical_stays_canonical()
         → IsCanonical likely rules old new → EndsInPlace likely rules new }
     ensures free { (likely : LikelySubtags) (rules : Rules) (old new : Locale)
         → IsCanonical likely rules old new → NeedsNoMemory likely rules new }
+    ensures copies { (likely : LikelySubtags) (rules : Rules) (old new : Locale)
+        → IsCanonical likely rules old new → HasNothingToCopy likely rules new }
 {}
 
 /// No memory is needed for a locale where in each run nothing matches, or there are no variants and no rule adds any, and
