@@ -1,6 +1,5 @@
 -- Canonical locales (UTS #35 Part 1, Annex C "LocaleId Canonicalization").
-use Rattle.std.specs.Prelude.{◌≡◌, ℕ, Bool, true, false, ◌||◌, List, codes}
-use Rattle.std.specs.Prelude.{Option, Some, None, is_some}
+use Rattle.std.specs.Prelude.{◌≡◌, ℕ, Bool, true, false, ◌||◌, List, codes, Option, Some, None, is_some}
 use Rattle.std.specs.Option.{option_and_then}
 use Rattle.icu_locale_core.specs.TextSet.{text_cmp}
 use Rattle.icu_locale_core.specs.Value.{only_piece}

@@ -4,14 +4,12 @@ use Rattle.icu_locale_core.specs.declared.langid.LanguageIdentifier.{LanguageIde
 use Rattle.icu_locale_core.specs.declared.locale.Locale.{Locale}
 use Rattle.icu_locale.specs.LikelySubtags.{LikelySubtags}
 use Rattle.icu_locale.specs.Canonical.{IsCanonical, is_applied, answer_of}
-use Rattle.icu_locale.specs.Refusals.{RulesEnd, ComesAgainFirst, ValueComesAgainFirst}
-use Rattle.icu_locale.specs.Refusals.{IsRefusal, IsOutOfMemory}
+use Rattle.icu_locale.specs.Refusals.{RulesEnd, ComesAgainFirst, ValueComesAgainFirst, IsRefusal, IsOutOfMemory}
 use Rattle.icu_locale.specs.Cost.{NeedsNoMemory}
 use Rattle.icu_locale.specs.declared.expander.TransformResult.{TransformResult}
 use Rattle.icu_locale.specs.declared.canonicalizer.rules.Rules.{Rules}
 use Rattle.icu_locale.specs.declared.canonicalizer.CanonicalizeError.{CanonicalizeError}
-use Rattle.icu_locale.specs.declared.canonicalizer.CanonicalizeError.TheVariants.{NoFixedPoint}
-use Rattle.icu_locale.specs.declared.canonicalizer.CanonicalizeError.TheVariants.{NoSubdivisionFixedPoint}
+use Rattle.icu_locale.specs.declared.canonicalizer.CanonicalizeError.TheVariants.{NoFixedPoint, NoSubdivisionFixedPoint}
 
 -- the locale becomes canonical, or a refusal says why not and it stays as it was; memory aside it succeeds exactly where
 -- the rules come to an end

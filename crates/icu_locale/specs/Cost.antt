@@ -1,7 +1,5 @@
 -- How many searches a canonicalization takes, and when it takes no memory.
-use Rattle.std.specs.Prelude.{◌≡◌, ◌⊎◌, ◌+◌, ◌*◌, ◌≤◌, ℕ}
-use Rattle.std.specs.Prelude.{None, Option, List, [], Result, IfSome}
-use Rattle.std.specs.Prelude.{MatchOption}
+use Rattle.std.specs.Prelude.{◌≡◌, ◌⊎◌, ◌+◌, ◌*◌, ◌≤◌, ℕ, None, Option, List, [], Result, IfSome, MatchOption}
 use Rattle.std.specs.List.{All}
 use Rattle.icu_locale_core.specs.Maps.{value_at}
 use Rattle.icu_locale_core.specs.TextSet.{text_cmp, empty}

@@ -1,15 +1,19 @@
 -- Likely subtags and maximal forms (UTS #35 Part 1, section 4.3, Likely Subtags).
-use Rattle.std.specs.Prelude.{◌≡◌, ◌≢◌, ◌⊎◌, ℕ, List, [], ◌∷◌, codes, Option, Some, None}
-use Rattle.std.specs.Prelude.{if◌then◌else◌}
+use Rattle.std.specs.Prelude.{◌≡◌, ◌≢◌, ◌⊎◌, ℕ, List, [], ◌∷◌, codes, Option, Some, None, if◌then◌else◌}
 use Rattle.std.specs.Option.{option_or, unwrap_or}
 use Rattle.std.specs.Str.{bytes_eq}
 use Rattle.icu_locale_core.specs.Subtag.{und}
 use Rattle.icu_locale_core.specs.declared.langid.LanguageIdentifier.{LanguageIdentifier}
 use Rattle.icu_provider.specs.declared.data_locale.DataLocale.{DataLocale}
 use Rattle.icu_locale.specs.declared.expander.looks.Key.{Key}
-use Rattle.icu_locale.specs.declared.expander.looks.Key.TheVariants.{LanguageRegion, LanguageScript}
-use Rattle.icu_locale.specs.declared.expander.looks.Key.TheVariants.{LanguageAlone, ScriptRegion}
-use Rattle.icu_locale.specs.declared.expander.looks.Key.TheVariants.{ScriptAlone, RegionAlone}
+use Rattle.icu_locale.specs.declared.expander.looks.Key.TheVariants.{
+  LanguageRegion,
+  LanguageScript,
+  LanguageAlone,
+  ScriptRegion,
+  ScriptAlone,
+  RegionAlone,
+}
 
 -- a language, a script and a region
 abbrev pub Triple : Type 0

@@ -1,6 +1,5 @@
 -- The one likely table that an expander looks up in (UTS #35 Part 1, section 4.3).
-use Rattle.std.specs.Prelude.{ℕ, List, Option, Some, None}
-use Rattle.std.specs.Prelude.{◌&&◌, if◌then◌else◌}
+use Rattle.std.specs.Prelude.{ℕ, List, Option, Some, None, ◌&&◌, if◌then◌else◌}
 use Rattle.std.specs.Borrow.{Bor}
 use Rattle.std.specs.Option.{option_or, option_map}
 use Rattle.std.specs.Str.{bytes_eq}
@@ -10,9 +9,14 @@ use Rattle.icu_provider.specs.SortedMaps.{pair_cmp}
 use Rattle.icu_provider.specs.declared.likely.language.LikelySubtagsForLanguage.{LikelySubtagsForLanguage}
 use Rattle.icu_provider.specs.declared.likely.script_region.LikelySubtagsForScriptRegion.{LikelySubtagsForScriptRegion}
 use Rattle.icu_provider.specs.declared.likely.extended.LikelySubtagsExtended.{LikelySubtagsExtended}
-use Rattle.icu_locale.specs.declared.expander.looks.Key.TheVariants.{LanguageRegion, LanguageScript}
-use Rattle.icu_locale.specs.declared.expander.looks.Key.TheVariants.{LanguageAlone, ScriptRegion}
-use Rattle.icu_locale.specs.declared.expander.looks.Key.TheVariants.{ScriptAlone, RegionAlone}
+use Rattle.icu_locale.specs.declared.expander.looks.Key.TheVariants.{
+  LanguageRegion,
+  LanguageScript,
+  LanguageAlone,
+  ScriptRegion,
+  ScriptAlone,
+  RegionAlone,
+}
 use Rattle.icu_locale.specs.LikelySubtags.{Triple, LikelySubtags}
 use Rattle.icu_locale.specs.declared.expander.LocaleExpander.{LocaleExpander}
 

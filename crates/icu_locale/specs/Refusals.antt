@@ -11,9 +11,11 @@ use Rattle.icu_locale.specs.LikelySubtags.{LikelySubtags}
 use Rattle.icu_locale.specs.Run.{EndsAt, EndsIfAny, IsRepeat}
 use Rattle.icu_locale.specs.declared.canonicalizer.rules.Rules.{Rules}
 use Rattle.icu_locale.specs.declared.canonicalizer.CanonicalizeError.{CanonicalizeError}
-use Rattle.icu_locale.specs.declared.canonicalizer.CanonicalizeError.TheVariants.{Memory}
-use Rattle.icu_locale.specs.declared.canonicalizer.CanonicalizeError.TheVariants.{NoFixedPoint}
-use Rattle.icu_locale.specs.declared.canonicalizer.CanonicalizeError.TheVariants.{NoSubdivisionFixedPoint}
+use Rattle.icu_locale.specs.declared.canonicalizer.CanonicalizeError.TheVariants.{
+  Memory,
+  NoFixedPoint,
+  NoSubdivisionFixedPoint,
+}
 
 -- the runs of the identifier and of the transform language, if any, end
 pub record IdentifiersEnd (likely : LikelySubtags) (rules : Rules) (old : Locale) : Type 0 where

@@ -1,6 +1,5 @@
 -- When a rule matches an identifier, and what it makes of it (UTS #35 Part 1, Annex C "LocaleId Canonicalization").
-use Rattle.std.specs.Prelude.{ℕ, Bool, true, false, not, ◌&&◌, ◌||◌, List, Option, Some, None}
-use Rattle.std.specs.Prelude.{if◌then◌else◌}
+use Rattle.std.specs.Prelude.{ℕ, Bool, true, false, not, ◌&&◌, ◌||◌, List, Option, Some, None, if◌then◌else◌}
 use Rattle.std.specs.Str.{bytes_eq}
 use Rattle.icu_locale_core.specs.Subtag.{und}
 use Rattle.icu_locale_core.specs.TextSet.{empty, is_subset, union, difference}

@@ -3,9 +3,14 @@ use Rattle.std.specs.Prelude.{◌≡◌, List, [], ◌∷◌, ◌++◌, map, Opt
 use Rattle.std.specs.Borrow.{Bor}
 use Rattle.icu_provider.specs.declared.likely.extended.LikelySubtagsExtended.{LikelySubtagsExtended}
 use Rattle.icu_locale.specs.declared.expander.looks.Key.{Key}
-use Rattle.icu_locale.specs.declared.expander.looks.Key.TheVariants.{LanguageRegion, LanguageScript}
-use Rattle.icu_locale.specs.declared.expander.looks.Key.TheVariants.{LanguageAlone, ScriptRegion}
-use Rattle.icu_locale.specs.declared.expander.looks.Key.TheVariants.{ScriptAlone, RegionAlone}
+use Rattle.icu_locale.specs.declared.expander.looks.Key.TheVariants.{
+  LanguageRegion,
+  LanguageScript,
+  LanguageAlone,
+  ScriptRegion,
+  ScriptAlone,
+  RegionAlone,
+}
 use Rattle.icu_locale.specs.LikelySubtags.{Triple}
 use Rattle.icu_locale.specs.declared.expander.LocaleExpander.{LocaleExpander}
 use Rattle.icu_locale.specs.LikelyTable.{LikelyRows, common_rows, extended_rows}

@@ -1,7 +1,6 @@
 //! Which way the script of an identifier runs.
 ghost use Rattle.std.specs.Prelude.{◌≡◌, None, Some};
-ghost use Rattle.icu_locale.specs.Construction.{both, loaded_common, loaded_extended, DirectsOver};
-ghost use Rattle.icu_locale.specs.Construction.{IsMade};
+ghost use Rattle.icu_locale.specs.Construction.{both, loaded_common, loaded_extended, DirectsOver, IsMade};
 ghost use Rattle.icu_locale.specs.LikelySubtags.{likely_script};
 ghost use Rattle.icu_locale.specs.Direction.{is_script_in, direction_of};
 

@@ -8,8 +8,7 @@ ghost use Rattle.icu_locale_core.specs.TextSet.{text_set_code};
 ghost use Rattle.icu_locale.specs.LikelyTable.{likely};
 ghost use Rattle.icu_locale.specs.Settled.{AreSettled};
 ghost use Rattle.icu_locale.specs.Negotiation.{Negotiation, IsNegotiated, error_name};
-ghost use Rattle.icu_locale.specs.inner.Index.{IsPlainForm, row_cmp, IsIndex, IsPartOf};
-ghost use Rattle.icu_locale.specs.inner.Index.{IsFirstRow, IsFirstPlace};
+ghost use Rattle.icu_locale.specs.inner.Index.{IsPlainForm, row_cmp, IsIndex, IsPartOf, IsFirstRow, IsFirstPlace};
 ghost use Rattle.icu_locale.specs.declared.negotiator.NegotiatorError.TheVariants.{Memory};
 
 use crate::expander::locale_of;

@@ -2,21 +2,31 @@
 ghost use Rattle.std.specs.Prelude.{◌≡◌, ◌↔◌, true, IsTrue, MatchBool};
 ghost use Rattle.icu_locale_core.specs.Subtag.{und};
 ghost use Rattle.icu_locale.specs.declared.expander.looks.Key.{Key};
-ghost use Rattle.icu_locale.specs.declared.expander.looks.Key.TheVariants.{LanguageRegion};
-ghost use Rattle.icu_locale.specs.declared.expander.looks.Key.TheVariants.{LanguageScript};
-ghost use Rattle.icu_locale.specs.declared.expander.looks.Key.TheVariants.{LanguageAlone};
-ghost use Rattle.icu_locale.specs.declared.expander.looks.Key.TheVariants.{ScriptRegion};
-ghost use Rattle.icu_locale.specs.declared.expander.looks.Key.TheVariants.{ScriptAlone};
-ghost use Rattle.icu_locale.specs.declared.expander.looks.Key.TheVariants.{RegionAlone};
+ghost use Rattle.icu_locale.specs.declared.expander.looks.Key.TheVariants.{
+  LanguageRegion,
+  LanguageScript,
+  LanguageAlone,
+  ScriptRegion,
+  ScriptAlone,
+  RegionAlone,
+};
 ghost use Rattle.icu_locale.specs.LikelySubtags.{bare_locale};
 ghost use Rattle.icu_locale.specs.LikelyTable.{likely};
 ghost use Rattle.icu_locale.specs.Settled.{AreSettled};
 ghost use Rattle.icu_locale.specs.inner.LikelyMaps.{rows_of};
 ghost use Rattle.icu_locale.specs.inner.Trials.{same_locale};
-ghost use Rattle.icu_locale.specs.inner.SettledRows.{key_locale, IsLocale, is_settled_locale};
-ghost use Rattle.icu_locale.specs.inner.SettledRows.{settles, AllSettle, IsUnsettled, RowsSettle};
-ghost use Rattle.icu_locale.specs.inner.SettledRows.{ExtendedRowsSettle, UndRowsSettle};
-ghost use Rattle.icu_locale.specs.inner.SettledRows.{AllRowsSettle};
+ghost use Rattle.icu_locale.specs.inner.SettledRows.{
+  key_locale,
+  IsLocale,
+  is_settled_locale,
+  settles,
+  AllSettle,
+  IsUnsettled,
+  RowsSettle,
+  ExtendedRowsSettle,
+  UndRowsSettle,
+  AllRowsSettle,
+};
 
 use crate::LocaleExpander;
 use crate::expander::looks::{Key, LikelyMaps, bare_locale, extended_maps};

@@ -20,8 +20,20 @@ use Rattle.icu_locale_cli.specs.Runs.{ReadsAll, WritesAll, WritesWholeLines, Wri
 use Rattle.icu_locale_cli.specs.Works.{has_tables, text_answered, IsTaskOf, IsWorkOf, IsUnsettled}
 use Rattle.icu_locale_cli.specs.inner.Causes.{IsRefusedList}
 use Rattle.icu_locale_cli.specs.Output.{Stream}
-use Rattle.icu_locale_cli.specs.WholeRuns.{WritesLines, WritesSettled, WritesOutput, StopsAmongLines, IsRefusedLines, IsRefusedSettled, IsRefusedOutput, IsRun, IsRefusedLineRun, IsRefusedRun}
-use Rattle.icu_locale_cli.specs.WholeRuns.{ReadsTables, IsRefusedJsonRun}
+use Rattle.icu_locale_cli.specs.WholeRuns.{
+  WritesLines,
+  WritesSettled,
+  WritesOutput,
+  StopsAmongLines,
+  IsRefusedLines,
+  IsRefusedSettled,
+  IsRefusedOutput,
+  IsRun,
+  IsRefusedLineRun,
+  IsRefusedRun,
+  ReadsTables,
+  IsRefusedJsonRun,
+}
 
 -- every command but one works on lines
 lines_only : (P : Command → Type 0) → P command.Maximize → P command.Minimize → P command.MinimizeScript → P command.Canonicalize → P command.Direction → P command.Negotiate → ((chain : NameChain) (preferences : DisplayNamesPreferences) → P (command.Name chain preferences)) → (c : Command) → (c ≡ command.Settled → ⊥) → P c

@@ -17,16 +17,14 @@ use Rattle.icu_locale.specs.declared.canonicalizer.rules.Rules.{Rules}
 use Rattle.icu_locale.specs.declared.expander.TransformResult.{TransformResult}
 use Rattle.icu_locale.specs.declared.expander.TransformResult.TheVariants.{Modified}
 use Rattle.icu_locale_cli.specs.declared.task.Task.{Task}
-use Rattle.icu_locale_cli.specs.declared.task.Task.TheVariants.{Maximize, Minimize, MinimizeScript}
-use Rattle.icu_locale_cli.specs.declared.task.Task.TheVariants.{Direction, Name}
+use Rattle.icu_locale_cli.specs.declared.task.Task.TheVariants.{Maximize, Minimize, MinimizeScript, Direction, Name}
 use Rattle.icu_locale_cli.specs.declared.work.Work.{Work}
 use Rattle.icu_locale_cli.specs.declared.work.Work.TheVariants.{Identifiers, Locales, Requests}
 use Rattle.icu_locale_cli.specs.Lists.{listed, SpellsAll, IsRefusal, IsFirstFault}
 use Rattle.icu_locale_cli.specs.Locales.{SpellsLocale, IsLocaleFault}
 use Rattle.icu_locale_cli.specs.Names.{name_by, IsNamedLine}
 use Rattle.icu_locale_cli.specs.Negotiations.{IsNegotiatedLine}
-use Rattle.icu_locale_cli.specs.Texts.{transformed_line, canonical_line, refused_line}
-use Rattle.icu_locale_cli.specs.Texts.{direction_line}
+use Rattle.icu_locale_cli.specs.Texts.{transformed_line, canonical_line, refused_line, direction_line}
 
 -- some identifier and answer that fit, in one line that is accepted
 abbrev pub IsTransformed : (LanguageIdentifier → TransformResult → Type 0) → List ℕ → Bool → Type 0

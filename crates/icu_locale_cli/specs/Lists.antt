@@ -4,8 +4,7 @@ use Rattle.std.specs.List.{AllZip, slice_split}
 use Rattle.icu_locale_core.specs.Identifier.{IsIdentifier, Spells, starts_with_language}
 use Rattle.icu_locale_core.specs.declared.langid.LanguageIdentifier.{LanguageIdentifier}
 use Rattle.icu_locale_core.specs.declared.parse_error.ParseError.{ParseError}
-use Rattle.icu_locale_core.specs.declared.parse_error.ParseError.TheVariants.{InvalidLanguage}
-use Rattle.icu_locale_core.specs.declared.parse_error.ParseError.TheVariants.{InvalidSubtag, Memory}
+use Rattle.icu_locale_core.specs.declared.parse_error.ParseError.TheVariants.{InvalidLanguage, InvalidSubtag, Memory}
 
 -- a space
 abbrev pub is_space : ℕ → Bool

@@ -1,6 +1,5 @@
 -- Lines that are locales: an identifier, or an identifier, a tab and a value for `rg`.
-use Rattle.std.specs.Prelude.{◌≡◌, ◌⊎◌, ℕ, ◌+◌, Bool, ◌==◌, true, false, List, [], ◌∷◌, drop}
-use Rattle.std.specs.Prelude.{Option, Some, None}
+use Rattle.std.specs.Prelude.{◌≡◌, ◌⊎◌, ℕ, ◌+◌, Bool, ◌==◌, true, false, List, [], ◌∷◌, drop, Option, Some, None}
 use Rattle.std.specs.List.{position, before_first}
 use Rattle.std.specs.Option.{option_map}
 use Rattle.icu_locale_core.specs.Identifier.{IsIdentifier, Spells}

@@ -2,12 +2,20 @@
 use Rattle.std.specs.Prelude.{◌≡◌, ℕ, Bool, true, false, List, codes, Result, Ok, Err}
 use Rattle.icu_locale_core.specs.Maps.{value_at}
 use Rattle.icu_locale_core.specs.declared.langid.LanguageIdentifier.{LanguageIdentifier}
-use Rattle.icu_locale_names.specs.LanguageChains.{LanguageChain, language_tiny, language_light}
-use Rattle.icu_locale_names.specs.LanguageChains.{language_short_light, language_long_light}
-use Rattle.icu_locale_names.specs.LanguageChains.{language_menu_light, language_short_menu_light}
-use Rattle.icu_locale_names.specs.LanguageChains.{language_heavy, language_short_heavy}
-use Rattle.icu_locale_names.specs.LanguageChains.{language_long_heavy, language_menu_heavy}
-use Rattle.icu_locale_names.specs.LanguageChains.{language_short_menu_heavy}
+use Rattle.icu_locale_names.specs.LanguageChains.{
+  LanguageChain,
+  language_tiny,
+  language_light,
+  language_short_light,
+  language_long_light,
+  language_menu_light,
+  language_short_menu_light,
+  language_heavy,
+  language_short_heavy,
+  language_long_heavy,
+  language_menu_heavy,
+  language_short_menu_heavy,
+}
 use Rattle.icu_locale_names.specs.LanguageNames.{LocaleAnswers, in_locale, name_of}
 use Rattle.icu_locale_names.specs.Pieces.{Piece}
 use Rattle.icu_locale_names.specs.declared.options.LanguageDisplay.TheVariants.{Dialect}
@@ -18,11 +26,19 @@ use Rattle.icu_provider.specs.declared.error.DataError.{DataError}
 use Rattle.icu_tables.specs.Tables.{held, name_in}
 use Rattle.icu_tables.specs.declared.tables.Tables.{Tables}
 use Rattle.icu_locale_cli.specs.declared.naming.NameChain.{NameChain}
-use Rattle.icu_locale_cli.specs.declared.naming.NameChain.TheVariants.{Tiny, Light, ShortLight}
-use Rattle.icu_locale_cli.specs.declared.naming.NameChain.TheVariants.{LongLight, MenuLight}
-use Rattle.icu_locale_cli.specs.declared.naming.NameChain.TheVariants.{ShortMenuLight, Heavy}
-use Rattle.icu_locale_cli.specs.declared.naming.NameChain.TheVariants.{ShortHeavy, LongHeavy}
-use Rattle.icu_locale_cli.specs.declared.naming.NameChain.TheVariants.{MenuHeavy, ShortMenuHeavy}
+use Rattle.icu_locale_cli.specs.declared.naming.NameChain.TheVariants.{
+  Tiny,
+  Light,
+  ShortLight,
+  LongLight,
+  MenuLight,
+  ShortMenuLight,
+  Heavy,
+  ShortHeavy,
+  LongHeavy,
+  MenuHeavy,
+  ShortMenuHeavy,
+}
 use Rattle.icu_locale_cli.specs.declared.naming.Naming.{Naming}
 use Rattle.icu_locale_cli.specs.Texts.{named_line, refused_line}
 

@@ -1,6 +1,5 @@
 //! The answer to a line.
-ghost use Rattle.std.specs.Prelude.{◌≡◌, [], IfOk, IfErr, IfSome, true, false};
-ghost use Rattle.std.specs.Prelude.{string_bytes};
+ghost use Rattle.std.specs.Prelude.{◌≡◌, [], IfOk, IfErr, IfSome, true, false, string_bytes};
 ghost use Rattle.icu_locale_cli.specs.Texts.{refused_line};
 
 use crate::error::CliError;

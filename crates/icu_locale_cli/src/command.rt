@@ -1,8 +1,7 @@
 //! What the program is asked to do.
 ghost use Rattle.std.specs.Prelude.{◌≡◌, Bool, Ok, IfOk, IfErr, map, [], ◌∷◌, codes};
 ghost use Rattle.std.specs.String.{string_bytes};
-ghost use Rattle.icu_locale_cli.specs.Commands.{AreArguments, AreCommandWords, AreWords};
-ghost use Rattle.icu_locale_cli.specs.Commands.{command_word};
+ghost use Rattle.icu_locale_cli.specs.Commands.{AreArguments, AreCommandWords, AreWords, command_word};
 
 use crate::error::CliError;
 use crate::naming::{NameChain, read_preferences};

@@ -1,6 +1,5 @@
 //! The tables that a command needs, before the input is read.
-ghost use Rattle.std.specs.Prelude.{◌≡◌, ◌≢◌, ◌↔◌, Err, IfOk, IfErr, IsSomeAnd, is_ok, is_some};
-ghost use Rattle.std.specs.Prelude.{false};
+ghost use Rattle.std.specs.Prelude.{◌≡◌, ◌≢◌, ◌↔◌, Err, IfOk, IfErr, IsSomeAnd, is_ok, is_some, false};
 ghost use Rattle.icu_locale.specs.LikelyTable.{likely};
 ghost use Rattle.icu_locale.specs.Rules.{AreRules};
 ghost use Rattle.icu_locale_cli.specs.Lists.{listed, SpellsAll};

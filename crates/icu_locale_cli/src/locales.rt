@@ -5,8 +5,7 @@ ghost use Rattle.std.specs.Option.{option_copied};
 ghost use Rattle.icu_locale_core.specs.Keywords.{with_value};
 ghost use Rattle.icu_locale_core.specs.Subtag.{is_key, lowercase};
 ghost use Rattle.icu_locale.specs.Canonical.{rg};
-ghost use Rattle.icu_locale_cli.specs.Locales.{is_tab, identifier_text, value_text, SpellsLocale};
-ghost use Rattle.icu_locale_cli.specs.Locales.{IsLocaleFault};
+ghost use Rattle.icu_locale_cli.specs.Locales.{is_tab, identifier_text, value_text, SpellsLocale, IsLocaleFault};
 ghost use Rattle.icu_locale_cli.specs.inner.LocaleParts.{IsLocaleOf, IsRefusedValue};
 
 use icu_locale_core::{Key, LanguageIdentifier, Locale, ParseError, Value};

@@ -5,9 +5,16 @@ ghost use Rattle.icu_tables.specs.Text.{rows_in};
 ghost use Rattle.icu_locale_cli.specs.Loads.{not_found};
 ghost use Rattle.icu_locale_cli.specs.Texts.{settled_line};
 ghost use Rattle.icu_locale_cli.specs.Works.{IsUnsettled, has_tables};
-ghost use Rattle.icu_locale_cli.specs.WholeRuns.{IsRun, IsRefusedRun, WritesSettled};
-ghost use Rattle.icu_locale_cli.specs.WholeRuns.{IsRefusedSettled, WritesOutput, IsRefusedOutput};
-ghost use Rattle.icu_locale_cli.specs.WholeRuns.{IsJsonRun, IsRefusedJsonRun};
+ghost use Rattle.icu_locale_cli.specs.WholeRuns.{
+  IsRun,
+  IsRefusedRun,
+  WritesSettled,
+  IsRefusedSettled,
+  WritesOutput,
+  IsRefusedOutput,
+  IsJsonRun,
+  IsRefusedJsonRun,
+};
 ghost use Rattle.icu_locale_cli.specs.inner.Causes.{IsRefusedReading};
 
 use crate::command::Command;

@@ -1,8 +1,7 @@
 //! What a command works with, and what it makes of one line.
 ghost use Rattle.std.specs.Prelude.{◌≡◌, ◌⊎◌, IfOk, IfErr, true};
 ghost use Rattle.icu_locale.specs.LikelyTable.{likely};
-ghost use Rattle.icu_locale_cli.specs.Answers.{IsAnswer, IsIdentifierAnswer, IsLocaleAnswer};
-ghost use Rattle.icu_locale_cli.specs.Answers.{IsListAnswer};
+ghost use Rattle.icu_locale_cli.specs.Answers.{IsAnswer, IsIdentifierAnswer, IsLocaleAnswer, IsListAnswer};
 ghost use Rattle.icu_locale_cli.specs.Negotiations.{IsNegotiatedLine};
 ghost use Rattle.icu_locale_cli.specs.Texts.{matched_line};
 

@@ -1,16 +1,36 @@
 -- Identifiers and their texts (UTS #35 Part 1, section 3.1, unicode_language_id).
-use Rattle.std.specs.Prelude.{◌≡◌, ◌⊎◌, ◌↔◌, ℕ, Bool, ◌||◌, ◌==◌, true, false, IsTrue, codes}
-use Rattle.std.specs.Prelude.{List, [], ◌∷◌, ◌++◌, length, slice_index_or, map}
-use Rattle.std.specs.Prelude.{IfSome, Result, Ok, Err, IfOk}
+use Rattle.std.specs.Prelude.{
+  ◌≡◌,
+  ◌⊎◌,
+  ◌↔◌,
+  ℕ,
+  Bool,
+  ◌||◌,
+  ◌==◌,
+  true,
+  false,
+  IsTrue,
+  codes,
+  List,
+  [],
+  ◌∷◌,
+  ◌++◌,
+  length,
+  slice_index_or,
+  map,
+  IfSome,
+  Result,
+  Ok,
+  Err,
+  IfOk,
+}
 use Rattle.std.specs.Option.{option_to_list}
 use Rattle.std.specs.List.{slice_split, list_any, join_by}
-use Rattle.icu_locale_core.specs.Subtag.{is_language, is_variant, lowercase}
-use Rattle.icu_locale_core.specs.Subtag.{IsLanguage, IsScript, IsRegion, IsVariant}
+use Rattle.icu_locale_core.specs.Subtag.{is_language, is_variant, lowercase, IsLanguage, IsScript, IsRegion, IsVariant}
 use Rattle.icu_locale_core.specs.TextSet.{TextSet, from_list, contains, rising, len}
 use Rattle.icu_locale_core.specs.declared.langid.LanguageIdentifier.{LanguageIdentifier}
 use Rattle.icu_locale_core.specs.declared.parse_error.ParseError.{ParseError}
-use Rattle.icu_locale_core.specs.declared.parse_error.ParseError.TheVariants.{InvalidLanguage}
-use Rattle.icu_locale_core.specs.declared.parse_error.ParseError.TheVariants.{InvalidSubtag, Memory}
+use Rattle.icu_locale_core.specs.declared.parse_error.ParseError.TheVariants.{InvalidLanguage, InvalidSubtag, Memory}
 
 -- `-`, which is 45, and `_`, which is 95
 abbrev pub is_separator : ℕ → Bool

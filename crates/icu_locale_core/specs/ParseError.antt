@@ -1,9 +1,7 @@
 -- The refusals of reading by name.
 use Rattle.std.specs.Prelude.{ℕ, List, codes}
 use Rattle.icu_locale_core.specs.declared.parse_error.ParseError.{ParseError}
-use Rattle.icu_locale_core.specs.declared.parse_error.ParseError.TheVariants.{InvalidLanguage}
-use Rattle.icu_locale_core.specs.declared.parse_error.ParseError.TheVariants.{InvalidSubtag}
-use Rattle.icu_locale_core.specs.declared.parse_error.ParseError.TheVariants.{Memory}
+use Rattle.icu_locale_core.specs.declared.parse_error.ParseError.TheVariants.{InvalidLanguage, InvalidSubtag, Memory}
 
 -- what Display writes
 abbrev pub error_name : ParseError → List ℕ

@@ -1,10 +1,14 @@
 -- The subtags of UTS #35 Part 1 (section 3.1, unicode_language_id): classes of ASCII texts, told in
 -- any case, and the case that each is written in.
-use Rattle.std.specs.Prelude.{◌≡◌, ℕ, Bool, false, ◌&&◌, ◌||◌, List}
-use Rattle.std.specs.Prelude.{[], ◌∷◌, length, map, IsTrue, codes, nat_le}
+use Rattle.std.specs.Prelude.{◌≡◌, ℕ, Bool, false, ◌&&◌, ◌||◌, List, [], ◌∷◌, length, map, IsTrue, codes, nat_le}
 use Rattle.std.specs.List.{list_all}
-use Rattle.std.specs.Char.{is_ascii_alphabetic, is_ascii_digit, is_ascii_alphanumeric}
-use Rattle.std.specs.Char.{to_ascii_lowercase, to_ascii_uppercase}
+use Rattle.std.specs.Char.{
+  is_ascii_alphabetic,
+  is_ascii_digit,
+  is_ascii_alphanumeric,
+  to_ascii_lowercase,
+  to_ascii_uppercase,
+}
 
 -- from low to high characters
 abbrev pub has_length : ℕ → ℕ → List ℕ → Bool

@@ -1,7 +1,6 @@
 // The classes of subtags: which texts belong to each, and how each is written.
 ghost use Rattle.std.specs.Prelude.{◌≡◌, ◌≤◌, length, IfSome};
-ghost use Rattle.icu_locale_core.specs.inner.Class.{is_member, written_byte, longest};
-ghost use Rattle.icu_locale_core.specs.inner.Class.{is_character, consists_of};
+ghost use Rattle.icu_locale_core.specs.inner.Class.{is_member, written_byte, longest, is_character, consists_of};
 
 #[derive(Clone, Copy)]
 pub enum Class {

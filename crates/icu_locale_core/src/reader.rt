@@ -1,10 +1,8 @@
 // The reader of identifiers, piece by piece from the left.
 ghost use Rattle.std.specs.Prelude.{◌≡◌, ◌⊎◌, true, [], slice_index_or, Err};
 ghost use Rattle.std.specs.List.{list_any};
-ghost use Rattle.icu_locale_core.specs.Subtag.{is_language, is_script, is_region};
-ghost use Rattle.icu_locale_core.specs.Subtag.{is_variant, titlecase, uppercase};
-ghost use Rattle.icu_locale_core.specs.inner.Reading.{optional, after_optional};
-ghost use Rattle.icu_locale_core.specs.inner.Reading.{read_variants, read_pieces};
+ghost use Rattle.icu_locale_core.specs.Subtag.{is_language, is_script, is_region, is_variant, titlecase, uppercase};
+ghost use Rattle.icu_locale_core.specs.inner.Reading.{optional, after_optional, read_variants, read_pieces};
 
 use crate::pieces::Pieces;
 use crate::{Language, LanguageIdentifier, ParseError, Region, Script, Variant, Variants};

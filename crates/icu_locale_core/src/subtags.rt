@@ -1,10 +1,24 @@
 //! Subtags: language, script, region and variant of an identifier, and key and piece of a keyword.
-ghost use Rattle.std.specs.Prelude.{◌≡◌, ◌↔◌, IsTrue, IsOk, IfOk, IfErr};
-ghost use Rattle.std.specs.Prelude.{IfSome, is_some, Some, List, ℕ};
-ghost use Rattle.icu_locale_core.specs.Subtag.{is_language, is_script, is_region, is_variant};
-ghost use Rattle.icu_locale_core.specs.Subtag.{is_key, is_subtag, is_alphabetic, und};
-ghost use Rattle.icu_locale_core.specs.Subtag.{lowercase, titlecase, uppercase, IsLanguage};
-ghost use Rattle.icu_locale_core.specs.Subtag.{IsScript, IsRegion, IsVariant, IsKey, IsSubtag};
+ghost use Rattle.std.specs.Prelude.{◌≡◌, ◌↔◌, IsTrue, IsOk, IfOk, IfErr, IfSome, is_some, Some, List, ℕ};
+ghost use Rattle.icu_locale_core.specs.Subtag.{
+  is_language,
+  is_script,
+  is_region,
+  is_variant,
+  is_key,
+  is_subtag,
+  is_alphabetic,
+  und,
+  lowercase,
+  titlecase,
+  uppercase,
+  IsLanguage,
+  IsScript,
+  IsRegion,
+  IsVariant,
+  IsKey,
+  IsSubtag,
+};
 
 use crate::ParseError;
 use crate::classes::Class;

@@ -1,14 +1,29 @@
 //! Values of keywords.
-ghost use Rattle.std.specs.Prelude.{◌≡◌, ◌≢◌, ◌↔◌, ◌++◌, [], false, codes, ◌==◌};
-ghost use Rattle.std.specs.Prelude.{Some, Err, IsOk, IfOk, IfErr, nat_eq, List, ℕ};
+ghost use Rattle.std.specs.Prelude.{
+  ◌≡◌,
+  ◌≢◌,
+  ◌↔◌,
+  ◌++◌,
+  [],
+  false,
+  codes,
+  ◌==◌,
+  Some,
+  Err,
+  IsOk,
+  IfOk,
+  IfErr,
+  nat_eq,
+  List,
+  ℕ,
+};
 ghost use Rattle.std.proofs.Common.{rules};
 ghost use Rattle.std.specs.Cmp.Lexicographic.{pointwise};
 ghost use Rattle.std.specs.Cmp.Rules.{comparing};
 ghost use Rattle.std.specs.Fmt.{WritesOnOk};
 ghost use Rattle.std.specs.List.{list_all, flat_map};
 ghost use Rattle.icu_locale_core.specs.Subtag.{is_subtag};
-ghost use Rattle.icu_locale_core.specs.Value.{IsValue, is_value, read_value};
-ghost use Rattle.icu_locale_core.specs.Value.{read_subtags, only_piece, written_value};
+ghost use Rattle.icu_locale_core.specs.Value.{IsValue, is_value, read_value, read_subtags, only_piece, written_value};
 
 use crate::langid::write_after_dash;
 use crate::pieces::Pieces;

@@ -1,6 +1,5 @@
 //! The variants of an identifier: a set.
-ghost use Rattle.std.specs.Prelude.{◌≡◌, ◌↔◌, IsTrue, IsOk, IfOk, IfErr};
-ghost use Rattle.std.specs.Prelude.{true, ℕ, List, ◌++◌, nat_eq};
+ghost use Rattle.std.specs.Prelude.{◌≡◌, ◌↔◌, IsTrue, IsOk, IfOk, IfErr, true, ℕ, List, ◌++◌, nat_eq};
 ghost use Rattle.std.proofs.Common.{rules};
 ghost use Rattle.std.proofs.lemmas.Slice.Eq.{bytes_eq-Decides};
 ghost use Rattle.std.specs.Cmp.{partial_order_from_own_ties};
@@ -11,9 +10,19 @@ ghost use Rattle.std.specs.List.{All};
 ghost use Rattle.std.specs.List.Sorted.{IsStrictlySortedBy};
 ghost use Rattle.std.specs.Ordering.{as_partial_cmp, on};
 ghost use Rattle.icu_locale_core.specs.Subtag.{IsVariant};
-ghost use Rattle.icu_locale_core.specs.TextSet.{text_cmp, empty, contains, from_list};
-ghost use Rattle.icu_locale_core.specs.TextSet.{rising, len, is_subset, union};
-ghost use Rattle.icu_locale_core.specs.TextSet.{difference, TextSet, text_set_code};
+ghost use Rattle.icu_locale_core.specs.TextSet.{
+  text_cmp,
+  empty,
+  contains,
+  from_list,
+  rising,
+  len,
+  is_subset,
+  union,
+  difference,
+  TextSet,
+  text_set_code,
+};
 ghost use Rattle.icu_locale_core.specs.inner.Merging.{HasAllAbove, least, behind};
 ghost use Rattle.icu_locale_core.specs.inner.VariantList.{IsVariantList};
 ghost use Rattle.icu_locale_core.specs.laws.TextSets.{is_among, text_lists_ties};

@@ -1,9 +1,17 @@
 -- The chains of kinds of names.
 use Rattle.std.specs.Prelude.{List, [], ◌∷◌}
 use Rattle.icu_provider.specs.declared.names.NameMarker.{NameMarker}
-use Rattle.icu_provider.specs.declared.names.NameMarker.TheVariants.{RegionMediumTiny, RegionShortTiny, RegionMediumLight, RegionShortLight}
-use Rattle.icu_provider.specs.declared.names.NameMarker.TheVariants.{ScriptMediumTiny, ScriptMediumLight, ScriptMediumHeavy, ScriptShortHeavy}
-use Rattle.icu_provider.specs.declared.names.NameMarker.TheVariants.{VariantMediumHeavy}
+use Rattle.icu_provider.specs.declared.names.NameMarker.TheVariants.{
+  RegionMediumTiny,
+  RegionShortTiny,
+  RegionMediumLight,
+  RegionShortLight,
+  ScriptMediumTiny,
+  ScriptMediumLight,
+  ScriptMediumHeavy,
+  ScriptShortHeavy,
+  VariantMediumHeavy,
+}
 
 -- names of regions
 abbrev pub region_tiny : List NameMarker

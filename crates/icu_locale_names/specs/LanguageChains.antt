@@ -3,11 +3,24 @@ use Rattle.std.specs.Prelude.{List, [], ◌∷◌}
 use Rattle.icu_provider.specs.declared.menus.MenuMarker.{MenuMarker}
 use Rattle.icu_provider.specs.declared.menus.MenuMarker.TheVariants.{MediumLight, MediumHeavy}
 use Rattle.icu_provider.specs.declared.names.NameMarker.{NameMarker}
-use Rattle.icu_provider.specs.declared.names.NameMarker.TheVariants.{LanguageMediumTiny, LanguageMediumLight, LanguageMediumHeavy}
-use Rattle.icu_provider.specs.declared.names.NameMarker.TheVariants.{LanguageShortLight, LanguageShortHeavy}
-use Rattle.icu_provider.specs.declared.names.NameMarker.TheVariants.{LanguageLongLight, LanguageLongHeavy}
-use Rattle.icu_locale_names.specs.Chains.{region_tiny, region_light, region_short_light}
-use Rattle.icu_locale_names.specs.Chains.{script_tiny, script_light, script_heavy, script_short_heavy}
+use Rattle.icu_provider.specs.declared.names.NameMarker.TheVariants.{
+  LanguageMediumTiny,
+  LanguageMediumLight,
+  LanguageMediumHeavy,
+  LanguageShortLight,
+  LanguageShortHeavy,
+  LanguageLongLight,
+  LanguageLongHeavy,
+}
+use Rattle.icu_locale_names.specs.Chains.{
+  region_tiny,
+  region_light,
+  region_short_light,
+  script_tiny,
+  script_light,
+  script_heavy,
+  script_short_heavy,
+}
 
 -- the kinds of names that are asked for: of the language in menus and in texts, and of its script
 -- and its region as qualifiers

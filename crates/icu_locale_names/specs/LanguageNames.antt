@@ -1,8 +1,31 @@
 -- The name of an identifier: a base, and qualifiers behind it (UTS #35 Part 2, "Locale Display Name
 -- Algorithm"). It is a function of what the provider answers.
-use Rattle.std.specs.Prelude.{◌≡◌, ◌⊎◌, ℕ, Bool, true, false, ◌&&◌, ◌==◌, IsTrue, codes}
-use Rattle.std.specs.Prelude.{if◌then◌else◌, List, [], ◌∷◌, ◌++◌, length, map}
-use Rattle.std.specs.Prelude.{Option, Some, None, unwrap_or, Result, Err, IsOk}
+use Rattle.std.specs.Prelude.{
+  ◌≡◌,
+  ◌⊎◌,
+  ℕ,
+  Bool,
+  true,
+  false,
+  ◌&&◌,
+  ◌==◌,
+  IsTrue,
+  codes,
+  if◌then◌else◌,
+  List,
+  [],
+  ◌∷◌,
+  ◌++◌,
+  length,
+  map,
+  Option,
+  Some,
+  None,
+  unwrap_or,
+  Result,
+  Err,
+  IsOk,
+}
 use Rattle.std.specs.List.{flat_map, join_by}
 use Rattle.std.specs.Option.{option_to_list, option_xor}
 use Rattle.icu_locale_core.specs.TextSet.{rising}

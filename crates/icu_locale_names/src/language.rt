@@ -1,16 +1,40 @@
 //! Names of identifiers: a language, and qualifiers behind it.
-ghost use Rattle.std.specs.Prelude.{◌≡◌, ◌≢◌, ◌⊎◌, ◌↔◌, ◌^◌, ◌<◌, ◌≤◌, ◌++◌, length, map, false};
-ghost use Rattle.std.specs.Prelude.{Some, Err, OnOk, OnErr, IfOk, IfErr, IsErr, IsTrue};
+ghost use Rattle.std.specs.Prelude.{
+  ◌≡◌,
+  ◌≢◌,
+  ◌⊎◌,
+  ◌↔◌,
+  ◌^◌,
+  ◌<◌,
+  ◌≤◌,
+  ◌++◌,
+  length,
+  map,
+  false,
+  Some,
+  Err,
+  OnOk,
+  OnErr,
+  IfOk,
+  IfErr,
+  IsErr,
+  IsTrue,
+};
 ghost use Rattle.std.specs.Io.KnownBytes.{Appends};
-ghost use Rattle.icu_locale_names.specs.LanguageChains.{language_tiny, language_light};
-ghost use Rattle.icu_locale_names.specs.LanguageChains.{language_short_light, language_long_light};
-ghost use Rattle.icu_locale_names.specs.LanguageChains.{language_menu_light};
-ghost use Rattle.icu_locale_names.specs.LanguageChains.{language_short_menu_light, language_heavy};
-ghost use Rattle.icu_locale_names.specs.LanguageChains.{language_short_heavy, language_long_heavy};
-ghost use Rattle.icu_locale_names.specs.LanguageChains.{language_menu_heavy};
-ghost use Rattle.icu_locale_names.specs.LanguageChains.{language_short_menu_heavy};
-ghost use Rattle.icu_locale_names.specs.LanguageNames.{GivesName, in_locale, display_of};
-ghost use Rattle.icu_locale_names.specs.LanguageNames.{separator_text};
+ghost use Rattle.icu_locale_names.specs.LanguageChains.{
+  language_tiny,
+  language_light,
+  language_short_light,
+  language_long_light,
+  language_menu_light,
+  language_short_menu_light,
+  language_heavy,
+  language_short_heavy,
+  language_long_heavy,
+  language_menu_heavy,
+  language_short_menu_heavy,
+};
+ghost use Rattle.icu_locale_names.specs.LanguageNames.{GivesName, in_locale, display_of, separator_text};
 ghost use Rattle.icu_locale_names.specs.LentNames.{pieces_of};
 ghost use Rattle.icu_locale_names.specs.Pieces.{text_of, spans, has_raw};
 ghost use Rattle.icu_locale_names.specs.Writing.{AppendsPart};

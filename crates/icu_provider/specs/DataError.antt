@@ -1,12 +1,14 @@
 -- The names of refusals.
 use Rattle.std.specs.Prelude.{ℕ, List, codes}
 use Rattle.icu_provider.specs.declared.error.DataErrorKind.{DataErrorKind}
-use Rattle.icu_provider.specs.declared.error.DataErrorKind.TheVariants.{IdentifierNotFound}
-use Rattle.icu_provider.specs.declared.error.DataErrorKind.TheVariants.{MarkerNotFound}
-use Rattle.icu_provider.specs.declared.error.DataErrorKind.TheVariants.{InvalidRequest}
-use Rattle.icu_provider.specs.declared.error.DataErrorKind.TheVariants.{Deserialize}
-use Rattle.icu_provider.specs.declared.error.DataErrorKind.TheVariants.{Custom}
-use Rattle.icu_provider.specs.declared.error.DataErrorKind.TheVariants.{Memory}
+use Rattle.icu_provider.specs.declared.error.DataErrorKind.TheVariants.{
+  IdentifierNotFound,
+  MarkerNotFound,
+  InvalidRequest,
+  Deserialize,
+  Custom,
+  Memory,
+}
 
 -- what Display writes
 abbrev pub kind_name : DataErrorKind → List ℕ

@@ -1,6 +1,5 @@
 -- What putting a row into a table does, and what it answers.
-use Rattle.std.specs.Prelude.{◌≡◌, List, [], ◌∷◌, ◌++◌, Some}
-use Rattle.std.specs.Prelude.{Result, IsOk, IfErr, IsSome, OnOk, OnErr}
+use Rattle.std.specs.Prelude.{◌≡◌, List, [], ◌∷◌, ◌++◌, Some, Result, IsOk, IfErr, IsSome, OnOk, OnErr}
 use Rattle.std.specs.declared.cmp.Ordering.{Ordering}
 use Rattle.std.specs.BTreeMap.{insert_entry}
 use Rattle.icu_locale_core.specs.Maps.{value_at, SetsOnly}

@@ -1,7 +1,5 @@
 -- Inversion lists: sets of characters as bounds.
-use Rattle.std.specs.Prelude.{◌≡◌, ℕ, ◌+◌, ◌≤◌, ◌%◌, ◌==◌, Bool, true}
-use Rattle.std.specs.Prelude.{◌&&◌, nat_le, nat_lt, length}
-use Rattle.std.specs.Prelude.{List, [], ◌∷◌}
+use Rattle.std.specs.Prelude.{◌≡◌, ℕ, ◌+◌, ◌≤◌, ◌%◌, ◌==◌, Bool, true, ◌&&◌, nat_le, nat_lt, length, List, [], ◌∷◌}
 use Rattle.std.specs.List.{All, list_any}
 use Rattle.std.specs.List.Sorted.{IsStrictlyIncreasing}
 

@@ -1,6 +1,5 @@
 //! A map in a sorted list: look-ups by binary search, and walks in the keys' order.
-ghost use Rattle.std.specs.Prelude.{◌≡◌, ◌==◌, [], length, Some};
-ghost use Rattle.std.specs.Prelude.{MatchResult, is_some, option_copied, List, ⊤};
+ghost use Rattle.std.specs.Prelude.{◌≡◌, ◌==◌, [], length, Some, MatchResult, is_some, option_copied, List, ⊤};
 ghost use Rattle.std.specs.Iterator.{YieldsFirstBy, item_count};
 ghost use Rattle.std.specs.List.{All};
 ghost use Rattle.std.specs.Map.Iter.{deref_pair};

@@ -6,8 +6,7 @@ use Rattle.std.specs.List.Sorted.{IsStrictlySortedBy, IsSorted, IsPermutation}
 use Rattle.std.proofs.lemmas.List.Kept.{IsStrictlySortedBy-dedup}
 use Rattle.icu_locale_core.specs.TextSet.{text_cmp, from_list, rising}
 use Rattle.icu_locale_core.specs.laws.TextSets.{text_total}
-use Rattle.icu_locale_core.specs.laws.RisingLists.{rising-from_list}
-use Rattle.icu_locale_core.specs.laws.RisingLists.{from_list-dedup}
+use Rattle.icu_locale_core.specs.laws.RisingLists.{rising-from_list, from_list-dedup}
 
 -- what is left rises
 pub unique_rises : (sorted left : List (List ℕ)) → left ≡ dedup (pointwise nat_eq) sorted → IsSorted text_cmp sorted → IsStrictlySortedBy text_cmp left

@@ -1,6 +1,5 @@
 -- Patterns in JSON: arrays of texts and of the numbers of places.
-use Rattle.std.specs.Prelude.{ℕ, ◌==◌, if◌then◌else◌, codes}
-use Rattle.std.specs.Prelude.{List, Option, Some, None, option_map, option_and_then}
+use Rattle.std.specs.Prelude.{ℕ, ◌==◌, if◌then◌else◌, codes, List, Option, Some, None, option_map, option_and_then}
 use Rattle.std.specs.Option.{option_or}
 use Rattle.serde_json.specs.Find.{as_number, as_str, as_u64}
 use Rattle.icu_provider.specs.Patterns.{PatternPart, fixed_text, first_place, second_place}

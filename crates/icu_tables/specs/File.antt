@@ -5,14 +5,22 @@ use Rattle.icu_provider.specs.declared.likely.language.LikelySubtagsForLanguage.
 use Rattle.icu_provider.specs.declared.likely.script_region.LikelySubtagsForScriptRegion.{LikelySubtagsForScriptRegion}
 use Rattle.icu_provider.specs.Requests.{exemplar_cmp, locale_cmp, menu_cmp, name_cmp}
 use Rattle.icu_tables.specs.Fields.{fields, ◌and◌, required, rows, optional, object_of}
-use Rattle.icu_tables.specs.NamedRows.{marked_exemplars, marked_names, marked_menus}
-use Rattle.icu_tables.specs.NamedRows.{locale_essentials}
+use Rattle.icu_tables.specs.NamedRows.{marked_exemplars, marked_names, marked_menus, locale_essentials}
 use Rattle.icu_tables.specs.Puts.{map_by}
 use Rattle.icu_tables.specs.Rows.{AliasRows, DirectionRows, FileRows}
 use Rattle.icu_tables.specs.Shape.{Shape, text, pair_of, triple_of, array_of, set_of, map_of}
-use Rattle.icu_tables.specs.Subtags.{language, script, region, variant}
-use Rattle.icu_tables.specs.Subtags.{language_key, script_key, region_key, variant_key, subtag_key}
-use Rattle.icu_tables.specs.Subtags.{key_pair}
+use Rattle.icu_tables.specs.Subtags.{
+  language,
+  script,
+  region,
+  variant,
+  language_key,
+  script_key,
+  region_key,
+  variant_key,
+  subtag_key,
+  key_pair,
+}
 
 -- likely subtags by language
 abbrev pub likely_language : Shape LikelySubtagsForLanguage

@@ -1,6 +1,5 @@
 -- Rows of exemplar sets, names and patterns: objects from markers to locales to what is held.
-use Rattle.std.specs.Prelude.{ℕ, List, [], Option, option_map, option_and_then}
-use Rattle.std.specs.Prelude.{if◌then◌else◌, codes, None, Some}
+use Rattle.std.specs.Prelude.{ℕ, List, [], Option, option_map, option_and_then, if◌then◌else◌, codes, None, Some}
 use Rattle.icu_locale_core.specs.TextSet.{from_list}
 use Rattle.icu_provider.specs.InversionList.{is_inversion_list}
 use Rattle.icu_provider.specs.declared.data_locale.DataLocale.{DataLocale}
@@ -13,8 +12,7 @@ use Rattle.icu_provider.specs.declared.names.NameKey.{NameKey}
 use Rattle.icu_provider.specs.declared.names.NameMarker.{NameMarker}
 use Rattle.icu_tables.specs.Essentials.{name_patterns}
 use Rattle.icu_tables.specs.Fields.{fields, ◌and◌, required, object_of}
-use Rattle.icu_tables.specs.Names.{named_in, exemplar_markers, name_markers, menu_markers}
-use Rattle.icu_tables.specs.Names.{locale_key, name_key}
+use Rattle.icu_tables.specs.Names.{named_in, exemplar_markers, name_markers, menu_markers, locale_key, name_key}
 use Rattle.icu_tables.specs.Numbers.{bound}
 use Rattle.icu_tables.specs.Puts.{rows_by}
 use Rattle.icu_tables.specs.Shape.{Shape, both, array_of, pair_of, text, with_row}

@@ -1,38 +1,42 @@
 -- Markers, locales and keys of names, as members of a JSON object name them.
-use Rattle.std.specs.Prelude.{ℕ, List, [], ◌∷◌, codes, nat_eq, if◌then◌else◌}
-use Rattle.std.specs.Prelude.{Option, Some, None, option_map}
+use Rattle.std.specs.Prelude.{ℕ, List, [], ◌∷◌, codes, nat_eq, if◌then◌else◌, Option, Some, None, option_map}
 use Rattle.std.specs.Cmp.Lexicographic.{pointwise}
 use Rattle.std.specs.Map.{lookup}
 use Rattle.std.specs.Option.{option_or}
 use Rattle.icu_provider.specs.declared.data_locale.DataLocale.{DataLocale}
 use Rattle.icu_provider.specs.declared.exemplars.ExemplarMarker.{ExemplarMarker}
-use Rattle.icu_provider.specs.declared.exemplars.ExemplarMarker.TheVariants.{Main, Auxiliary}
-use Rattle.icu_provider.specs.declared.exemplars.ExemplarMarker.TheVariants.{Punctuation, Numbers}
-use Rattle.icu_provider.specs.declared.exemplars.ExemplarMarker.TheVariants.{Index}
+use Rattle.icu_provider.specs.declared.exemplars.ExemplarMarker.TheVariants.{
+  Main,
+  Auxiliary,
+  Punctuation,
+  Numbers,
+  Index,
+}
 use Rattle.icu_provider.specs.declared.menus.MenuMarker.{MenuMarker}
 use Rattle.icu_provider.specs.declared.menus.MenuMarker.TheVariants.{MediumLight, MediumHeavy}
 use Rattle.icu_provider.specs.declared.names.NameKey.{NameKey}
 use Rattle.icu_provider.specs.declared.names.NameKey.TheVariants.{Language, Script, Region, Variant}
 use Rattle.icu_provider.specs.declared.names.NameMarker.{NameMarker}
-use Rattle.icu_provider.specs.declared.names.NameMarker.TheVariants.{RegionMediumTiny}
-use Rattle.icu_provider.specs.declared.names.NameMarker.TheVariants.{RegionMediumLight}
-use Rattle.icu_provider.specs.declared.names.NameMarker.TheVariants.{RegionShortTiny}
-use Rattle.icu_provider.specs.declared.names.NameMarker.TheVariants.{RegionShortLight}
-use Rattle.icu_provider.specs.declared.names.NameMarker.TheVariants.{LanguageMediumTiny}
-use Rattle.icu_provider.specs.declared.names.NameMarker.TheVariants.{LanguageMediumLight}
-use Rattle.icu_provider.specs.declared.names.NameMarker.TheVariants.{LanguageMediumHeavy}
-use Rattle.icu_provider.specs.declared.names.NameMarker.TheVariants.{LanguageShortLight}
-use Rattle.icu_provider.specs.declared.names.NameMarker.TheVariants.{LanguageShortHeavy}
-use Rattle.icu_provider.specs.declared.names.NameMarker.TheVariants.{LanguageLongLight}
-use Rattle.icu_provider.specs.declared.names.NameMarker.TheVariants.{LanguageLongHeavy}
-use Rattle.icu_provider.specs.declared.names.NameMarker.TheVariants.{ScriptMediumTiny}
-use Rattle.icu_provider.specs.declared.names.NameMarker.TheVariants.{ScriptMediumLight}
-use Rattle.icu_provider.specs.declared.names.NameMarker.TheVariants.{ScriptMediumHeavy}
-use Rattle.icu_provider.specs.declared.names.NameMarker.TheVariants.{ScriptShortHeavy}
-use Rattle.icu_provider.specs.declared.names.NameMarker.TheVariants.{VariantMediumHeavy}
+use Rattle.icu_provider.specs.declared.names.NameMarker.TheVariants.{
+  RegionMediumTiny,
+  RegionMediumLight,
+  RegionShortTiny,
+  RegionShortLight,
+  LanguageMediumTiny,
+  LanguageMediumLight,
+  LanguageMediumHeavy,
+  LanguageShortLight,
+  LanguageShortHeavy,
+  LanguageLongLight,
+  LanguageLongHeavy,
+  ScriptMediumTiny,
+  ScriptMediumLight,
+  ScriptMediumHeavy,
+  ScriptShortHeavy,
+  VariantMediumHeavy,
+}
 use Rattle.icu_tables.specs.Shape.{both}
-use Rattle.icu_tables.specs.Subtags.{language_key, script_key, region_key, variant_key, key_pair}
-use Rattle.icu_tables.specs.Subtags.{cut_at_dash}
+use Rattle.icu_tables.specs.Subtags.{language_key, script_key, region_key, variant_key, key_pair, cut_at_dash}
 use Rattle.icu_tables.specs.Tables.{names_languages, names_scripts, names_regions}
 
 -- what a name stands for in a table of names

@@ -1,7 +1,21 @@
 -- What tables in memory answer.
-use Rattle.std.specs.Prelude.{ℕ, Bool, true, false, List, String, if◌then◌else◌}
-use Rattle.std.specs.Prelude.{string_bytes}
-use Rattle.std.specs.Prelude.{Option, Some, None, option_map, Result, Ok, Err}
+use Rattle.std.specs.Prelude.{
+  ℕ,
+  Bool,
+  true,
+  false,
+  List,
+  String,
+  if◌then◌else◌,
+  string_bytes,
+  Option,
+  Some,
+  None,
+  option_map,
+  Result,
+  Ok,
+  Err,
+}
 use Rattle.std.specs.Global.{Global}
 use Rattle.icu_locale_core.specs.Maps.{value_at}
 use Rattle.icu_provider.specs.Requests.{name_cmp}
@@ -11,22 +25,24 @@ use Rattle.icu_provider.specs.declared.error.DataErrorKind.TheVariants.{Identifi
 use Rattle.icu_provider.specs.declared.names.NameKey.{NameKey}
 use Rattle.icu_provider.specs.declared.names.NameKey.TheVariants.{Language, Script, Region, Variant}
 use Rattle.icu_provider.specs.declared.names.NameMarker.{NameMarker}
-use Rattle.icu_provider.specs.declared.names.NameMarker.TheVariants.{RegionMediumTiny}
-use Rattle.icu_provider.specs.declared.names.NameMarker.TheVariants.{RegionMediumLight}
-use Rattle.icu_provider.specs.declared.names.NameMarker.TheVariants.{RegionShortTiny}
-use Rattle.icu_provider.specs.declared.names.NameMarker.TheVariants.{RegionShortLight}
-use Rattle.icu_provider.specs.declared.names.NameMarker.TheVariants.{LanguageMediumTiny}
-use Rattle.icu_provider.specs.declared.names.NameMarker.TheVariants.{LanguageMediumLight}
-use Rattle.icu_provider.specs.declared.names.NameMarker.TheVariants.{LanguageMediumHeavy}
-use Rattle.icu_provider.specs.declared.names.NameMarker.TheVariants.{LanguageShortLight}
-use Rattle.icu_provider.specs.declared.names.NameMarker.TheVariants.{LanguageShortHeavy}
-use Rattle.icu_provider.specs.declared.names.NameMarker.TheVariants.{LanguageLongLight}
-use Rattle.icu_provider.specs.declared.names.NameMarker.TheVariants.{LanguageLongHeavy}
-use Rattle.icu_provider.specs.declared.names.NameMarker.TheVariants.{ScriptMediumTiny}
-use Rattle.icu_provider.specs.declared.names.NameMarker.TheVariants.{ScriptMediumLight}
-use Rattle.icu_provider.specs.declared.names.NameMarker.TheVariants.{ScriptMediumHeavy}
-use Rattle.icu_provider.specs.declared.names.NameMarker.TheVariants.{ScriptShortHeavy}
-use Rattle.icu_provider.specs.declared.names.NameMarker.TheVariants.{VariantMediumHeavy}
+use Rattle.icu_provider.specs.declared.names.NameMarker.TheVariants.{
+  RegionMediumTiny,
+  RegionMediumLight,
+  RegionShortTiny,
+  RegionShortLight,
+  LanguageMediumTiny,
+  LanguageMediumLight,
+  LanguageMediumHeavy,
+  LanguageShortLight,
+  LanguageShortHeavy,
+  LanguageLongLight,
+  LanguageLongHeavy,
+  ScriptMediumTiny,
+  ScriptMediumLight,
+  ScriptMediumHeavy,
+  ScriptShortHeavy,
+  VariantMediumHeavy,
+}
 
 -- what is held, and IdentifierNotFound for what is not
 abbrev pub held : {T : Type 0} → Option T → Result T DataError

@@ -1,7 +1,6 @@
 //! Which keys belong to which markers.
 ghost use Rattle.std.specs.Prelude.{◌≡◌};
-ghost use Rattle.icu_tables.specs.Tables.{is_of_kind, names_languages, names_regions};
-ghost use Rattle.icu_tables.specs.Tables.{names_scripts, names_variants};
+ghost use Rattle.icu_tables.specs.Tables.{is_of_kind, names_languages, names_regions, names_scripts, names_variants};
 
 use icu_provider::{NameKey, NameMarker};
 

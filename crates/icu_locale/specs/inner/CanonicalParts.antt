@@ -1,6 +1,5 @@
 -- What the parts of a canonicalization find: what only private functions cite.
-use Rattle.std.specs.Prelude.{◌≡◌, ℕ, List, Bool, ◌||◌, Option, is_some, IsSomeAnd}
-use Rattle.std.specs.Prelude.{MatchOption, Result, unwrap_or}
+use Rattle.std.specs.Prelude.{◌≡◌, ℕ, List, Bool, ◌||◌, Option, is_some, IsSomeAnd, MatchOption, Result, unwrap_or}
 use Rattle.std.specs.Option.{option_or}
 use Rattle.icu_locale_core.specs.Keywords.{KeywordRows}
 use Rattle.icu_locale_core.specs.Maps.{value_at}
@@ -16,9 +15,11 @@ use Rattle.icu_locale.specs.Refusals.{ComesAgainFirst, ValueRepeats}
 use Rattle.icu_locale.specs.declared.canonicalizer.rules.Rules.{Rules}
 use Rattle.icu_locale.specs.declared.canonicalizer.changes.Changes.{Changes}
 use Rattle.icu_locale.specs.declared.canonicalizer.CanonicalizeError.{CanonicalizeError}
-use Rattle.icu_locale.specs.declared.canonicalizer.CanonicalizeError.TheVariants.{Memory}
-use Rattle.icu_locale.specs.declared.canonicalizer.CanonicalizeError.TheVariants.{NoFixedPoint}
-use Rattle.icu_locale.specs.declared.canonicalizer.CanonicalizeError.TheVariants.{NoSubdivisionFixedPoint}
+use Rattle.icu_locale.specs.declared.canonicalizer.CanonicalizeError.TheVariants.{
+  Memory,
+  NoFixedPoint,
+  NoSubdivisionFixedPoint,
+}
 
 -- a refusal of a run names its first repeat
 abbrev pub IsRunRefusal : (LanguageIdentifier → Option LanguageIdentifier) → LanguageIdentifier

@@ -6,8 +6,7 @@ use Rattle.icu_locale.specs.Replacement.{replaced}
 use Rattle.icu_locale.specs.Kinds.{variant_alias}
 use Rattle.icu_locale.specs.declared.canonicalizer.rules.Rules.{Rules}
 use Rattle.icu_locale.specs.declared.canonicalizer.kinds.Rewrite.{Rewrite}
-use Rattle.icu_locale.specs.declared.canonicalizer.kinds.Rewrite.TheVariants.{Rule, Subtags}
-use Rattle.icu_locale.specs.declared.canonicalizer.kinds.Rewrite.TheVariants.{Variants}
+use Rattle.icu_locale.specs.declared.canonicalizer.kinds.Rewrite.TheVariants.{Rule, Subtags, Variants}
 
 -- the identifier that a rewrite makes of x
 abbrev pub rewritten : Rules → LanguageIdentifier → Rewrite → LanguageIdentifier

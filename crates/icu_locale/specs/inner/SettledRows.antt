@@ -6,11 +6,15 @@ use Rattle.icu_locale_core.specs.Identifier.{IsIdentifier}
 use Rattle.icu_locale_core.specs.declared.langid.LanguageIdentifier.{LanguageIdentifier}
 use Rattle.icu_provider.specs.declared.data_locale.DataLocale.{DataLocale}
 use Rattle.icu_locale.specs.declared.expander.looks.Key.{Key}
-use Rattle.icu_locale.specs.declared.expander.looks.Key.TheVariants.{LanguageRegion, LanguageScript}
-use Rattle.icu_locale.specs.declared.expander.looks.Key.TheVariants.{LanguageAlone, ScriptRegion}
-use Rattle.icu_locale.specs.declared.expander.looks.Key.TheVariants.{ScriptAlone, RegionAlone}
-use Rattle.icu_locale.specs.LikelySubtags.{LikelySubtags, Triple, bare_locale, maximal_locale}
-use Rattle.icu_locale.specs.LikelySubtags.{maximal}
+use Rattle.icu_locale.specs.declared.expander.looks.Key.TheVariants.{
+  LanguageRegion,
+  LanguageScript,
+  LanguageAlone,
+  ScriptRegion,
+  ScriptAlone,
+  RegionAlone,
+}
+use Rattle.icu_locale.specs.LikelySubtags.{LikelySubtags, Triple, bare_locale, maximal_locale, maximal}
 use Rattle.icu_locale.specs.declared.expander.LocaleExpander.{LocaleExpander}
 use Rattle.icu_locale.specs.LikelyTable.{LikelyRows, common_rows, extended_rows, likely}
 use Rattle.icu_locale.specs.Settled.{IsSettled}

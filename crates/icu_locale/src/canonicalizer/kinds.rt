@@ -5,11 +5,24 @@ ghost use Rattle.std.specs.List.{find, list_any};
 ghost use Rattle.icu_locale_core.specs.TextSet.{rising};
 ghost use Rattle.icu_locale.specs.LikelyTable.{likely};
 ghost use Rattle.icu_locale.specs.Replacement.{matches};
-ghost use Rattle.icu_locale.specs.Kinds.{rules_for, by_rule, sign_language, by_sign_region};
-ghost use Rattle.icu_locale.specs.Kinds.{language_alias, by_language_alias, by_script};
-ghost use Rattle.icu_locale.specs.Kinds.{region_alias, by_region, chosen, likely_region};
-ghost use Rattle.icu_locale.specs.Kinds.{complex_region, by_complex_region, variant_alias};
-ghost use Rattle.icu_locale.specs.Kinds.{by_variant, next};
+ghost use Rattle.icu_locale.specs.Kinds.{
+  rules_for,
+  by_rule,
+  sign_language,
+  by_sign_region,
+  language_alias,
+  by_language_alias,
+  by_script,
+  region_alias,
+  by_region,
+  chosen,
+  likely_region,
+  complex_region,
+  by_complex_region,
+  variant_alias,
+  by_variant,
+  next,
+};
 ghost use Rattle.icu_locale.specs.inner.Rewrite.{rewritten};
 
 use super::replacing::{is_known, rule_matches};

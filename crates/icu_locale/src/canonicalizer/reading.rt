@@ -3,9 +3,17 @@ ghost use Rattle.std.specs.Prelude.{◌≡◌, ◌++◌, IfOk, IfErr, OnOk, Matc
 ghost use Rattle.std.specs.Option.{option_to_list};
 ghost use Rattle.std.specs.List.{list_all};
 ghost use Rattle.icu_locale_core.specs.TextSet.{from_list};
-ghost use Rattle.icu_locale.specs.Rules.{Reads, ReadsRule, ReadsVariantRule, ReadsLanguage};
-ghost use Rattle.icu_locale.specs.Rules.{ReadsSubdivision, is_lower_variant, variant_pieces};
-ghost use Rattle.icu_locale.specs.Rules.{are_lower_variants, AreRead};
+ghost use Rattle.icu_locale.specs.Rules.{
+  Reads,
+  ReadsRule,
+  ReadsVariantRule,
+  ReadsLanguage,
+  ReadsSubdivision,
+  is_lower_variant,
+  variant_pieces,
+  are_lower_variants,
+  AreRead,
+};
 
 use super::rules::Rule;
 use icu_locale_core::{Language, LanguageIdentifier, ParseError, Subtag, Value, Variant, Variants};

@@ -8,8 +8,7 @@ ghost use Rattle.icu_locale.specs.Canonical.{rg, sd, next_value};
 ghost use Rattle.icu_locale.specs.Cost.{AddsNoPieces};
 ghost use Rattle.icu_locale.specs.Refusals.{IsOutOfMemory};
 ghost use Rattle.icu_locale.specs.Run.{IsLaterEndOf};
-ghost use Rattle.icu_locale.specs.inner.CanonicalParts.{IsValueRefusal, IsValuesRefusal};
-ghost use Rattle.icu_locale.specs.inner.CanonicalParts.{AreLaterValues};
+ghost use Rattle.icu_locale.specs.inner.CanonicalParts.{IsValueRefusal, IsValuesRefusal, AreLaterValues};
 ghost use Rattle.icu_locale.specs.inner.Universe.{values};
 
 use super::changes::{region_override_key, subdivision_key};

@@ -2,11 +2,18 @@
 ghost use Rattle.std.specs.Prelude.{◌≡◌, not, Some, is_some};
 ghost use Rattle.std.specs.Option.{unwrap_or};
 ghost use Rattle.icu_locale_core.specs.Maps.{value_at};
-ghost use Rattle.icu_locale.specs.LikelySubtags.{known_subtag, unknown_script, unknown_region};
-ghost use Rattle.icu_locale.specs.LikelySubtags.{bare_locale, filled, first_found};
-ghost use Rattle.icu_locale.specs.LikelySubtags.{known_keys, und_keys, maximal_of_bare};
-ghost use Rattle.icu_locale.specs.LikelyTable.{row_at, common_rows, extended_rows, extension_row};
-ghost use Rattle.icu_locale.specs.LikelyTable.{und_row, likely};
+ghost use Rattle.icu_locale.specs.LikelySubtags.{
+  known_subtag,
+  unknown_script,
+  unknown_region,
+  bare_locale,
+  filled,
+  first_found,
+  known_keys,
+  und_keys,
+  maximal_of_bare,
+};
+ghost use Rattle.icu_locale.specs.LikelyTable.{row_at, common_rows, extended_rows, extension_row, und_row, likely};
 ghost use Rattle.icu_locale.specs.inner.Filling.{locale_with, is_unknown, loses, gains};
 ghost use Rattle.icu_locale.specs.inner.LikelyMaps.{rows_of};
 

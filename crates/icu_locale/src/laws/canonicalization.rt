@@ -7,10 +7,8 @@ ghost use Rattle.icu_locale_core.specs.declared.langid.LanguageIdentifier.{Langu
 ghost use Rattle.icu_locale_core.specs.declared.locale.Locale.{Locale};
 ghost use Rattle.icu_locale.specs.LikelySubtags.{LikelySubtags};
 ghost use Rattle.icu_locale.specs.Kinds.{next_of};
-ghost use Rattle.icu_locale.specs.Run.{EndsOrRepeats, EndsWithNoRepeat, HasOneEnd, KeepsEnd};
-ghost use Rattle.icu_locale.specs.Run.{HasOneRepeat, BecomesEnd};
-ghost use Rattle.icu_locale.specs.Canonical.{rg, sd, next_value, AreCanonicalKeywords};
-ghost use Rattle.icu_locale.specs.Canonical.{IsCanonical, is_applied};
+ghost use Rattle.icu_locale.specs.Run.{EndsOrRepeats, EndsWithNoRepeat, HasOneEnd, KeepsEnd, HasOneRepeat, BecomesEnd};
+ghost use Rattle.icu_locale.specs.Canonical.{rg, sd, next_value, AreCanonicalKeywords, IsCanonical, is_applied};
 ghost use Rattle.icu_locale.specs.Cost.{NeedsNoMemory, HasNothingToCopy};
 ghost use Rattle.icu_locale.specs.Refusals.{RulesEnd, EndsInPlace};
 ghost use Rattle.icu_locale.specs.declared.canonicalizer.rules.Rules.{Rules};

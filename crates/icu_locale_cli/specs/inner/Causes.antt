@@ -4,8 +4,7 @@ use Rattle.icu_locale.specs.LikelySubtags.{LikelySubtags}
 use Rattle.icu_locale.specs.Settled.{AreSettled}
 use Rattle.icu_tables.specs.Text.{rows_in}
 use Rattle.icu_locale_cli.specs.declared.error.CliError.{CliError}
-use Rattle.icu_locale_cli.specs.declared.error.CliError.TheVariants.{Tables, Data, Memory}
-use Rattle.icu_locale_cli.specs.declared.error.CliError.TheVariants.{Available, NotSettled}
+use Rattle.icu_locale_cli.specs.declared.error.CliError.TheVariants.{Tables, Data, Memory, Available, NotSettled}
 use Rattle.icu_locale_cli.specs.Lists.{listed, IsFirstFault}
 use Rattle.icu_locale_cli.specs.Loads.{not_found}
 

@@ -8,8 +8,7 @@ use Rattle.icu_locale_cli.specs.Works.{IsTaskOf, IsCanonicalizerOf}
 use Rattle.icu_locale_cli.specs.declared.command.Command.{Command}
 use Rattle.icu_locale_cli.specs.declared.command.Command.TheVariants as command
 use Rattle.icu_locale_cli.specs.declared.loads.Loaded.{Loaded}
-use Rattle.icu_locale_cli.specs.declared.loads.Loaded.TheVariants.{Task, Canonicalize}
-use Rattle.icu_locale_cli.specs.declared.loads.Loaded.TheVariants.{Negotiate}
+use Rattle.icu_locale_cli.specs.declared.loads.Loaded.TheVariants.{Task, Canonicalize, Negotiate}
 
 -- the task of a command over tables, a canonicalizer over them, or an expander over settled ones
 abbrev pub IsLoaded : Command → Tables → Loaded → Type 0

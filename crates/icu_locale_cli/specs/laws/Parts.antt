@@ -1,7 +1,6 @@
 -- A text that is cut behind a line feed, its parts answered apart: what they give, joined in order,
 -- is an output of the whole. So runs over parts may go side by side.
-use Rattle.std.specs.Prelude.{◌≡◌, ◌↔◌, ℕ, Bool, true, false, ◌&&◌, cond}
-use Rattle.std.specs.Prelude.{List, [], ◌∷◌, ◌++◌, Some}
+use Rattle.std.specs.Prelude.{◌≡◌, ◌↔◌, ℕ, Bool, true, false, ◌&&◌, cond, List, [], ◌∷◌, ◌++◌, Some}
 use Rattle.std.specs.List.{AllZip, slice_split, onto_first}
 use Rattle.std.proofs.Common.{refl, ap, sym, subst, ◌∙◌, append-nil}
 use Rattle.std.proofs.lemmas.Bool.{false≢true}

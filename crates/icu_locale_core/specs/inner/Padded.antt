@@ -1,6 +1,5 @@
 -- A short text in an array: its bytes, and zeros behind them.
-use Rattle.std.specs.Prelude.{◌≡◌, ℕ, ◌-◌, ◌≤◌, List, [], ◌∷◌}
-use Rattle.std.specs.Prelude.{◌++◌, length, replicate, IsTrue, nat_lt, if◌then◌else◌}
+use Rattle.std.specs.Prelude.{◌≡◌, ℕ, ◌-◌, ◌≤◌, List, [], ◌∷◌, ◌++◌, length, replicate, IsTrue, nat_lt, if◌then◌else◌}
 use Rattle.icu_locale_core.specs.Subtag.{is_alphanumeric}
 
 -- the bytes before the first zero

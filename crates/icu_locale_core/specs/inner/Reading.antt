@@ -1,14 +1,28 @@
 -- Identifiers read piece by piece from the left: what only the reader's own functions cite.
-use Rattle.std.specs.Prelude.{ℕ, Bool, ◌&&◌, ◌==◌, List, [], ◌∷◌, length}
-use Rattle.std.specs.Prelude.{map, Option, Some, None, Result, Ok, Err, if◌then◌else◌}
+use Rattle.std.specs.Prelude.{
+  ℕ,
+  Bool,
+  ◌&&◌,
+  ◌==◌,
+  List,
+  [],
+  ◌∷◌,
+  length,
+  map,
+  Option,
+  Some,
+  None,
+  Result,
+  Ok,
+  Err,
+  if◌then◌else◌,
+}
 use Rattle.std.specs.List.{list_all}
-use Rattle.icu_locale_core.specs.Subtag.{is_language, is_script, is_region, is_variant}
-use Rattle.icu_locale_core.specs.Subtag.{lowercase, titlecase, uppercase}
+use Rattle.icu_locale_core.specs.Subtag.{is_language, is_script, is_region, is_variant, lowercase, titlecase, uppercase}
 use Rattle.icu_locale_core.specs.TextSet.{TextSet, from_list, len}
 use Rattle.icu_locale_core.specs.declared.langid.LanguageIdentifier.{LanguageIdentifier}
 use Rattle.icu_locale_core.specs.declared.parse_error.ParseError.{ParseError}
-use Rattle.icu_locale_core.specs.declared.parse_error.ParseError.TheVariants.{InvalidLanguage}
-use Rattle.icu_locale_core.specs.declared.parse_error.ParseError.TheVariants.{InvalidSubtag}
+use Rattle.icu_locale_core.specs.declared.parse_error.ParseError.TheVariants.{InvalidLanguage, InvalidSubtag}
 
 -- the first piece in written case, where it is of the class
 abbrev pub optional : (List ℕ → Bool) → (List ℕ → List ℕ) → List (List ℕ) → Option (List ℕ)

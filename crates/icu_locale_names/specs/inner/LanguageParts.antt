@@ -1,6 +1,5 @@
 -- The parts of a name of an identifier, as the code has them.
-use Rattle.std.specs.Prelude.{◌≡◌, ◌⊎◌, ℕ, IsTrue, List, [], ◌∷◌, ◌++◌, map}
-use Rattle.std.specs.Prelude.{Option, Some, None, Result, Err}
+use Rattle.std.specs.Prelude.{◌≡◌, ◌⊎◌, ℕ, IsTrue, List, [], ◌∷◌, ◌++◌, map, Option, Some, None, Result, Err}
 use Rattle.icu_locale_core.specs.declared.langid.LanguageIdentifier.{LanguageIdentifier}
 use Rattle.icu_provider.specs.Patterns.{part_of}
 use Rattle.icu_provider.specs.declared.data_locale.DataLocale.{DataLocale}
@@ -12,8 +11,7 @@ use Rattle.icu_provider.specs.declared.names.NameKey.TheVariants.{Language, Scri
 use Rattle.icu_provider.specs.declared.names.NameMarker.{NameMarker}
 use Rattle.icu_locale_names.specs.FirstHit.{or_next, first_hit, made_of, if_missing}
 use Rattle.icu_locale_names.specs.LanguageChains.{LanguageChain}
-use Rattle.icu_locale_names.specs.LanguageNames.{Base, Head, KeyParts, glued}
-use Rattle.icu_locale_names.specs.LanguageNames.{menu_base, text_base, raw_base, are_many}
+use Rattle.icu_locale_names.specs.LanguageNames.{Base, Head, KeyParts, glued, menu_base, text_base, raw_base, are_many}
 use Rattle.icu_locale_names.specs.Names.{Answers, MenuAnswers, name_by, menu_by}
 use Rattle.icu_locale_names.specs.Pieces.{Piece}
 use Rattle.icu_locale_names.specs.declared.language.base.Base as code

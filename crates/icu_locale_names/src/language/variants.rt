@@ -5,8 +5,7 @@ ghost use Rattle.icu_provider.specs.declared.error.DataErrorKind.TheVariants.{Me
 ghost use Rattle.icu_locale_names.specs.Chains.{variant_heavy};
 ghost use Rattle.icu_locale_names.specs.FirstHit.{made_of};
 ghost use Rattle.icu_locale_names.specs.LanguageNames.{qualifier, variants_of};
-ghost use Rattle.icu_locale_names.specs.inner.LanguageParts.{variant_list, variant_pieces};
-ghost use Rattle.icu_locale_names.specs.inner.LanguageParts.{IsThisOrMemory};
+ghost use Rattle.icu_locale_names.specs.inner.LanguageParts.{variant_list, variant_pieces, IsThisOrMemory};
 ghost use Rattle.icu_locale_names.specs.inner.Shown.{piece_of};
 
 use crate::language::named::name_or_raw;

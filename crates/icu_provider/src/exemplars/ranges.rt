@@ -1,7 +1,6 @@
 //! Sets of characters, as inversion lists.
 ghost use Rattle.std.specs.Prelude.{◌≡◌, ◌↔◌, ◌%◌, length, nat_le, IsOk, IfOk, IfErr};
-ghost use Rattle.icu_provider.specs.InversionList.{IsInversionList, has_character};
-ghost use Rattle.icu_provider.specs.InversionList.{is_inversion_list};
+ghost use Rattle.icu_provider.specs.InversionList.{IsInversionList, has_character, is_inversion_list};
 ghost use Rattle.icu_provider.specs.declared.error.DataErrorKind.TheVariants.{InvalidRequest};
 ghost use Rattle.icu_provider.specs.inner.Bounds.{IsPlace};
 

@@ -1,6 +1,23 @@
 -- Why subtags meet the laws of keys, and pairs of them too.
-use Rattle.std.specs.Prelude.{◌≡◌, ℕ, ◌<◌, Bool, true, nat_eq, nat_lt, refl}
-use Rattle.std.specs.Prelude.{length, get_or, List, [], ◌∷◌, ◌++◌, Option, Some, None}
+use Rattle.std.specs.Prelude.{
+  ◌≡◌,
+  ℕ,
+  ◌<◌,
+  Bool,
+  true,
+  nat_eq,
+  nat_lt,
+  refl,
+  length,
+  get_or,
+  List,
+  [],
+  ◌∷◌,
+  ◌++◌,
+  Option,
+  Some,
+  None,
+}
 use Rattle.std.specs.declared.cmp.Ordering.{Ordering}
 use Rattle.std.specs.declared.cmp.Ordering.TheVariants.{Less, Equal, Greater}
 use Rattle.std.specs.Char.{is_ascii_alphabetic, is_ascii_digit, is_ascii_alphanumeric}
@@ -15,16 +32,36 @@ use Rattle.std.proofs.lemmas.Bool.Decides.{nat_tests}
 use Rattle.std.proofs.lemmas.List.Sums.{split_at_first, passes_at_first}
 use Rattle.std.proofs.lemmas.Option.{cond_some, option_and_then_some, none-some, same_Some}
 use Rattle.std.proofs.lemmas.Slice.Eq.{bytes_eq-Decides}
-use Rattle.icu_locale_core.specs.Subtag.{is_language, is_script, is_region, is_variant, is_subtag}
-use Rattle.icu_locale_core.specs.Subtag.{lowercase, titlecase, uppercase}
-use Rattle.icu_locale_core.specs.Subtag.{is_alphabetic, is_numeric, is_alphanumeric}
+use Rattle.icu_locale_core.specs.Subtag.{
+  is_language,
+  is_script,
+  is_region,
+  is_variant,
+  is_subtag,
+  lowercase,
+  titlecase,
+  uppercase,
+  is_alphabetic,
+  is_numeric,
+  is_alphanumeric,
+}
 use Rattle.icu_locale_core.specs.TextSet.{text_cmp}
 use Rattle.icu_tables.specs.inner.Keys.{ComparesTexts, ComparesNames, is_above_dash, ReadsAboveDash}
 use Rattle.icu_tables.specs.Shape.{both}
-use Rattle.icu_tables.specs.Subtags.{in_class, if_written, key_of, key_pair}
-use Rattle.icu_tables.specs.Subtags.{is_dash, has_dash, cut_at_dash}
-use Rattle.icu_tables.specs.Subtags.{read_language, read_script, read_region, read_variant}
-use Rattle.icu_tables.specs.Subtags.{read_subtag}
+use Rattle.icu_tables.specs.Subtags.{
+  in_class,
+  if_written,
+  key_of,
+  key_pair,
+  is_dash,
+  has_dash,
+  cut_at_dash,
+  read_language,
+  read_script,
+  read_region,
+  read_variant,
+  read_subtag,
+}
 
 -- ---- letters and digits come after `-`
 

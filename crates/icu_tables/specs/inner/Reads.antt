@@ -1,6 +1,21 @@
 -- What a reader answers beside what a value says: what only the readers' own functions cite.
-use Rattle.std.specs.Prelude.{◌≡◌, ℕ, Bool, true, false, List, map, string_bytes}
-use Rattle.std.specs.Prelude.{Option, Some, None, option_map, Result, Ok, Err}
+use Rattle.std.specs.Prelude.{
+  ◌≡◌,
+  ℕ,
+  Bool,
+  true,
+  false,
+  List,
+  map,
+  string_bytes,
+  Option,
+  Some,
+  None,
+  option_map,
+  Result,
+  Ok,
+  Err,
+}
 use Rattle.std.specs.Borrow.{Bor}
 use Rattle.icu_provider.specs.declared.aliases.Aliases.{Aliases}
 use Rattle.icu_provider.specs.declared.likely.extended.LikelySubtagsExtended.{LikelySubtagsExtended}
@@ -8,8 +23,7 @@ use Rattle.icu_provider.specs.declared.likely.language.LikelySubtagsForLanguage.
 use Rattle.icu_provider.specs.declared.likely.script_region.LikelySubtagsForScriptRegion.{LikelySubtagsForScriptRegion}
 use Rattle.std.specs.declared.cmp.Ordering.{Ordering}
 use Rattle.icu_tables.specs.Puts.{put_all}
-use Rattle.icu_tables.specs.Rows.{AliasRows, FileRows, seen_rows}
-use Rattle.icu_tables.specs.Rows.{rule, variants_rule, direction_rows}
+use Rattle.icu_tables.specs.Rows.{AliasRows, FileRows, seen_rows, rule, variants_rule, direction_rows}
 use Rattle.icu_tables.specs.declared.error.TableError.{TableError}
 use Rattle.icu_tables.specs.declared.error.TableError.TheVariants.{Json, Shape, Memory}
 use Rattle.icu_tables.specs.declared.tables.Tables.{Tables}
