@@ -9,8 +9,8 @@ use Rattle.icu_locale_core.specs.TextSet.{text_cmp, empty}
 use Rattle.icu_locale_core.specs.Identifier.{IsIdentifier}
 use Rattle.icu_locale_core.specs.declared.langid.LanguageIdentifier.{LanguageIdentifier}
 use Rattle.icu_provider.specs.declared.data_locale.DataLocale.{DataLocale}
-use Rattle.icu_locale.specs.declared.expander.looks.Key.{Key}
-use Rattle.icu_locale.specs.declared.expander.looks.Key.TheVariants.{LanguageRegion, LanguageScript, LanguageAlone, ScriptAlone, RegionAlone}
+use Rattle.icu_locale.specs.declared.expander.looks.LikelyKey.{LikelyKey}
+use Rattle.icu_locale.specs.declared.expander.looks.LikelyKey.TheVariants.{LanguageRegion, LanguageScript, LanguageAlone, ScriptAlone, RegionAlone}
 use Rattle.icu_locale.specs.LikelySubtags.{LikelySubtags, Triple, known_subtag, unknown_script, unknown_region, bare_locale, known_keys, und_keys, first_found, maximal_of_bare, maximal_locale, locale_of, with_locale}
 use Rattle.icu_locale.specs.Settled.{AreSettled}
 use Rattle.icu_locale.specs.inner.SettledRows.{key_locale, IsLocale, is_settled_locale, settles, IsUnsettled}
@@ -52,7 +52,7 @@ unsettled likely x known fails = record {
 }
 
 -- what the test of a key's maximal form tells
-pub told : (likely : LikelySubtags) (k : Key) (m : DataLocale) → IsLocale (key_locale k) → m ≡ maximal_locale likely (key_locale k) → (b : Bool) → b ≡ is_settled_locale likely m → MatchBool b (settles likely k ≡ true) (IsUnsettled likely)
+pub told : (likely : LikelySubtags) (k : LikelyKey) (m : DataLocale) → IsLocale (key_locale k) → m ≡ maximal_locale likely (key_locale k) → (b : Bool) → b ≡ is_settled_locale likely m → MatchBool b (settles likely k ≡ true) (IsUnsettled likely)
 unfolding settles
 told likely k m known is true e = ap (is_settled_locale likely) (sym is) ∙ sym e
 told likely k m known is false e = unsettled likely (key_locale k) known (ap (is_settled_locale likely) (sym is) ∙ sym e)
@@ -89,9 +89,9 @@ module _ (likely : LikelySubtags) where
   full : (l s r : List ℕ) → bytes_eq l und ≡ false → bare_locale (locale l (Some s) (Some r)) ≡ locale l (Some s) (Some r) → Stays likely (locale l (Some s) (Some r))
   full l s r known bare = stays _ bare (maximal-told likely false l (Some s) (Some r) known ∙ fill-full l s r _)
 
-  module _ (rows : (k : Key) (t : Triple) → likely k ≡ Some t → settles likely k ≡ true) where
+  module _ (rows : (k : LikelyKey) (t : Triple) → likely k ≡ Some t → settles likely k ≡ true) where
     -- a bare locale with the subtags of a key that the table has
-    own : (k : Key) (t : Triple) (x : DataLocale) → likely k ≡ Some t → key_locale k ≡ x → bare_locale x ≡ x → Stays likely (maximal_of_bare likely x)
+    own : (k : LikelyKey) (t : Triple) (x : DataLocale) → likely k ≡ Some t → key_locale k ≡ x → bare_locale x ≡ x → Stays likely (maximal_of_bare likely x)
     unfolding settles
     own k t x found is bare =
         let kept : Stays likely (maximal_locale likely (key_locale k)) = Stays-from_test likely _ (rows k t found) in

@@ -10,8 +10,8 @@ use Rattle.icu_locale_core.specs.TextSet.{text_cmp}
 use Rattle.icu_locale_core.specs.Maps.{value_at}
 use Rattle.icu_provider.specs.SortedMaps.{pair_cmp}
 use Rattle.icu_provider.specs.declared.likely.extended.LikelySubtagsExtended.{LikelySubtagsExtended}
-use Rattle.icu_locale.specs.declared.expander.looks.Key.{Key}
-use Rattle.icu_locale.specs.declared.expander.looks.Key.TheVariants.{LanguageRegion, LanguageScript, LanguageAlone, ScriptRegion, ScriptAlone, RegionAlone}
+use Rattle.icu_locale.specs.declared.expander.looks.LikelyKey.{LikelyKey}
+use Rattle.icu_locale.specs.declared.expander.looks.LikelyKey.TheVariants.{LanguageRegion, LanguageScript, LanguageAlone, ScriptRegion, ScriptAlone, RegionAlone}
 use Rattle.icu_locale.specs.LikelySubtags.{Triple}
 use Rattle.icu_locale.specs.LikelyTable.{LikelyRows, common_rows, extended_rows, row_at, common_row, extension_row, und_row, likely}
 use Rattle.icu_locale.specs.TableKeys.{HasKey, keys_by, row_keys, extension_keys, und_row_keys, table_keys}
@@ -23,7 +23,7 @@ use Rattle.icu_locale.proofs.TableRows.{row_found, key_among, test_of, pair_same
 
 -- ---- the triple at a key has the subtags of the key
 
-row_has_key : (rows : LikelyRows) (k : Key) (t : Triple) → row_at rows k ≡ Some t → HasKey t k
+row_has_key : (rows : LikelyRows) (k : LikelyKey) (t : Triple) → row_at rows k ≡ Some t → HasKey t k
 row_has_key rows (LanguageRegion l r) t e = let v = some_map _ (value_at pair_cmp rows.language_region (l, r)) t e in (ap (λ (w : Triple). w.0) (sym v.2), ap (λ (w : Triple). w.2) (sym v.2))
 row_has_key rows (LanguageScript l s) t e = let v = some_map _ (value_at pair_cmp rows.language_script (l, s)) t e in (ap (λ (w : Triple). w.0) (sym v.2), ap (λ (w : Triple). w.1) (sym v.2))
 row_has_key rows (LanguageAlone l) t e = let v = some_map _ (value_at text_cmp rows.language l) t e in ap (λ (w : Triple). w.0) (sym v.2)
@@ -31,7 +31,7 @@ row_has_key rows (ScriptRegion s r) t e = let v = some_map _ (value_at pair_cmp 
 row_has_key rows (ScriptAlone s) t e = let v = some_map _ (value_at text_cmp rows.script s) t e in ap (λ (w : Triple). w.1) (sym v.2)
 row_has_key rows (RegionAlone r) t e = let v = some_map _ (value_at text_cmp rows.region r) t e in ap (λ (w : Triple). w.2) (sym v.2)
 
-extension_has_key : (extended : Option (Bor LikelySubtagsExtended)) (k : Key) (t : Triple) → extension_row extended k ≡ Some t → HasKey t k
+extension_has_key : (extended : Option (Bor LikelySubtagsExtended)) (k : LikelyKey) (t : Triple) → extension_row extended k ≡ Some t → HasKey t k
 extension_has_key None k t e = absurd (cc)
 extension_has_key (Some a) k t e = row_has_key (extended_rows a.now) k t e
 
@@ -39,7 +39,7 @@ some_of : {A : Type 0} (b : Bool) (x y : A) → (if b then Some x else None) ≡
 some_of true x y e = cc
 some_of false x y e = absurd (cc)
 
-und_has_key : (u : Triple) (k : Key) (t : Triple) → und_row u k ≡ Some t → HasKey t k
+und_has_key : (u : Triple) (k : LikelyKey) (t : Triple) → und_row u k ≡ Some t → HasKey t k
 und_has_key u (LanguageRegion l r) t e = absurd (cc)
 und_has_key u (LanguageScript l s) t e = absurd (cc)
 und_has_key u (LanguageAlone l) t e = absurd (cc)
@@ -50,7 +50,7 @@ und_has_key u (ScriptRegion s r) t e =
 und_has_key u (ScriptAlone s) t e = sym (same_text s u.1 (test_of (bytes_eq s u.1) u t e) ∙ ap (λ (w : Triple). w.1) (some_of (bytes_eq s u.1) u t e))
 und_has_key u (RegionAlone r) t e = sym (same_text r u.2 (test_of (bytes_eq r u.2) u t e) ∙ ap (λ (w : Triple). w.2) (some_of (bytes_eq r u.2) u t e))
 
-pub table_has_key : (e : LocaleExpander) (k : Key) (t : Triple) → likely e k ≡ Some t → HasKey t k
+pub table_has_key : (e : LocaleExpander) (k : LikelyKey) (t : Triple) → likely e k ≡ Some t → HasKey t k
 table_has_key e k t f =
     let extended = extension_row e.extended k in
     let served = und_row e.language.now.und k in
@@ -58,7 +58,7 @@ table_has_key e k t f =
 
 -- ---- a key with a triple is that of a row
 
-row_key_among : (rows : LikelyRows) (k : Key) (t : Triple) → row_at rows k ≡ Some t → Contains (row_keys rows) k
+row_key_among : (rows : LikelyRows) (k : LikelyKey) (t : Triple) → row_at rows k ≡ Some t → Contains (row_keys rows) k
 row_key_among rows (LanguageAlone l) t e =
     let v = some_map _ (value_at text_cmp rows.language l) t e in
     Contains-append_left (keys_by LanguageAlone rows.language) _ _ (key_among LanguageAlone rows.language l (row_found text_cmp text_same _ l v.0 v.1))
@@ -78,11 +78,11 @@ row_key_among rows (RegionAlone r) t e =
     let v = some_map _ (value_at text_cmp rows.region r) t e in
     Contains-append_right (keys_by LanguageAlone rows.language) _ _ (Contains-append_right (keys_by (λ q. LanguageScript q.0 q.1) rows.language_script) _ _ (Contains-append_right (keys_by (λ q. LanguageRegion q.0 q.1) rows.language_region) _ _ (Contains-append_right (keys_by (λ q. ScriptRegion q.0 q.1) rows.script_region) _ _ (Contains-append_right (keys_by ScriptAlone rows.script) _ _ (key_among RegionAlone rows.region r (row_found text_cmp text_same _ r v.0 v.1))))))
 
-extension_key_among : (extended : Option (Bor LikelySubtagsExtended)) (k : Key) (t : Triple) → extension_row extended k ≡ Some t → Contains (extension_keys extended) k
+extension_key_among : (extended : Option (Bor LikelySubtagsExtended)) (k : LikelyKey) (t : Triple) → extension_row extended k ≡ Some t → Contains (extension_keys extended) k
 extension_key_among None k t e = absurd (cc)
 extension_key_among (Some a) k t e = row_key_among (extended_rows a.now) k t e
 
-und_key_among : (u : Triple) (k : Key) (t : Triple) → und_row u k ≡ Some t → Contains (und_row_keys u) k
+und_key_among : (u : Triple) (k : LikelyKey) (t : Triple) → und_row u k ≡ Some t → Contains (und_row_keys u) k
 und_key_among u (LanguageRegion l r) t e = absurd (cc)
 und_key_among u (LanguageScript l s) t e = absurd (cc)
 und_key_among u (LanguageAlone l) t e = absurd (cc)
@@ -94,7 +94,7 @@ und_key_among u (ScriptRegion s r) t e =
 und_key_among u (ScriptAlone s) t e = (1, omega arith, ap ScriptAlone (sym (same_text s u.1 (test_of (bytes_eq s u.1) u t e))))
 und_key_among u (RegionAlone r) t e = (2, omega arith, ap RegionAlone (sym (same_text r u.2 (test_of (bytes_eq r u.2) u t e))))
 
-pub table_key_among : (e : LocaleExpander) (k : Key) (t : Triple) → likely e k ≡ Some t → Contains (table_keys e) k
+pub table_key_among : (e : LocaleExpander) (k : LikelyKey) (t : Triple) → likely e k ≡ Some t → Contains (table_keys e) k
 table_key_among e k t f =
     let extended = extension_row e.extended k in
     let served = und_row e.language.now.und k in
@@ -111,16 +111,16 @@ table_key_among e k t f =
 
 -- ---- which row covers which
 
-pub common_row_covers : (e : LocaleExpander) (k : Key) (t : Triple) → common_row e k ≡ Some t → likely e k ≡ Some t
+pub common_row_covers : (e : LocaleExpander) (k : LikelyKey) (t : Triple) → common_row e k ≡ Some t → likely e k ≡ Some t
 common_row_covers e k t f = ap (λ o. option_or o (option_or (extension_row e.extended k) (und_row e.language.now.und k))) f
 
-pub extended_row_covers : (e : LocaleExpander) (k : Key) (t : Triple) → common_row e k ≡ None → extension_row e.extended k ≡ Some t → likely e k ≡ Some t
+pub extended_row_covers : (e : LocaleExpander) (k : LikelyKey) (t : Triple) → common_row e k ≡ None → extension_row e.extended k ≡ Some t → likely e k ≡ Some t
 extended_row_covers e k t none f = λ i. option_or (none i) (option_or (f i) (und_row e.language.now.und k))
 
-pub und_row_serves : (e : LocaleExpander) (k : Key) → common_row e k ≡ None → extension_row e.extended k ≡ None → likely e k ≡ und_row e.language.now.und k
+pub und_row_serves : (e : LocaleExpander) (k : LikelyKey) → common_row e k ≡ None → extension_row e.extended k ≡ None → likely e k ≡ und_row e.language.now.und k
 und_row_serves e k none none_extended = λ i. option_or (none i) (option_or (none_extended i) (und_row e.language.now.und k))
 
-pub one_triple : (e : LocaleExpander) (k : Key) (t u : Triple) → likely e k ≡ Some t → likely e k ≡ Some u → t ≡ u
+pub one_triple : (e : LocaleExpander) (k : LikelyKey) (t u : Triple) → likely e k ≡ Some t → likely e k ≡ Some u → t ≡ u
 one_triple e k t u is_t is_u = some_same t u (sym is_t ∙ is_u)
   where
     some_same : (t u : Triple) → Some t ≡ Some u → t ≡ u

@@ -15,8 +15,8 @@ use Rattle.icu_locale_core.specs.TextSet.{text_cmp}
 use Rattle.icu_locale_core.specs.Maps.{value_at}
 use Rattle.icu_provider.specs.SortedMaps.{pair_cmp}
 use Rattle.icu_provider.specs.declared.likely.extended.LikelySubtagsExtended.{LikelySubtagsExtended}
-use Rattle.icu_locale.specs.declared.expander.looks.Key.{Key}
-use Rattle.icu_locale.specs.declared.expander.looks.Key.TheVariants.{LanguageRegion, LanguageScript, LanguageAlone, ScriptRegion, ScriptAlone, RegionAlone}
+use Rattle.icu_locale.specs.declared.expander.looks.LikelyKey.{LikelyKey}
+use Rattle.icu_locale.specs.declared.expander.looks.LikelyKey.TheVariants.{LanguageRegion, LanguageScript, LanguageAlone, ScriptRegion, ScriptAlone, RegionAlone}
 use Rattle.icu_locale.specs.LikelySubtags.{LikelySubtags, Triple}
 use Rattle.icu_locale.specs.LikelyTable.{LikelyRows, common_rows, extended_rows, row_at, common_row, extension_row, und_row, likely}
 use Rattle.icu_locale.specs.TableKeys.{keys_by}
@@ -48,11 +48,11 @@ row_found compare same rows q v found =
     ((q, v), Contains-from_lookup (λ x y tied. same x y ((Equal-is (compare x y)).0 tied)) q v rows found, refl)
 
 -- so it is looked at
-settled_at : {K V : Type 0} (table : LikelySubtags) (key : K → Key) (rows : List (K × V)) (q : K) → AllSettle table key rows → (row : K × V) × Contains rows row × (row.0 ≡ q) → settles table (key q) ≡ true
+settled_at : {K V : Type 0} (table : LikelySubtags) (key : K → LikelyKey) (rows : List (K × V)) (q : K) → AllSettle table key rows → (row : K × V) × Contains rows row × (row.0 ≡ q) → settles table (key q) ≡ true
 settled_at table key rows q all (row, among, is) = subst (λ w. settles table (key w) ≡ true) is (subst (λ w. settles table (key w.0) ≡ true) among.2 (all among.0 row among.1))
 
 -- and stands among the keys
-pub key_among : {K V : Type 0} (key : K → Key) (rows : List (K × V)) (q : K) → (row : K × V) × Contains rows row × (row.0 ≡ q) → Contains (keys_by key rows) (key q)
+pub key_among : {K V : Type 0} (key : K → LikelyKey) (rows : List (K × V)) (q : K) → (row : K × V) × Contains rows row × (row.0 ≡ q) → Contains (keys_by key rows) (key q)
 key_among key rows q (row, among, is) = subst (λ w. Contains (keys_by key rows) (key w)) is (Contains-map (λ r. key r.0) rows row among)
 
 -- a value that was mapped was there
@@ -61,7 +61,7 @@ test_of true x y e = refl
 test_of false x y e = absurd (cc)
 
 module _ (table : LikelySubtags) where
-  row_settles : (rows : LikelyRows) → RowsSettle table rows → (k : Key) (t : Triple) → row_at rows k ≡ Some t → settles table k ≡ true
+  row_settles : (rows : LikelyRows) → RowsSettle table rows → (k : LikelyKey) (t : Triple) → row_at rows k ≡ Some t → settles table k ≡ true
   row_settles rows all (LanguageRegion l r) t e = let v = some_map _ (value_at pair_cmp rows.language_region (l, r)) t e in settled_at table (λ k. LanguageRegion k.0 k.1) rows.language_region (l, r) all.language_region (row_found pair_cmp pair_same _ (l, r) v.0 v.1)
   row_settles rows all (LanguageScript l s) t e = let v = some_map _ (value_at pair_cmp rows.language_script (l, s)) t e in settled_at table (λ k. LanguageScript k.0 k.1) rows.language_script (l, s) all.language_script (row_found pair_cmp pair_same _ (l, s) v.0 v.1)
   row_settles rows all (LanguageAlone l) t e = let v = some_map _ (value_at text_cmp rows.language l) t e in settled_at table LanguageAlone rows.language l all.language (row_found text_cmp text_same _ l v.0 v.1)
@@ -69,12 +69,12 @@ module _ (table : LikelySubtags) where
   row_settles rows all (ScriptAlone s) t e = let v = some_map _ (value_at text_cmp rows.script s) t e in settled_at table ScriptAlone rows.script s all.script (row_found text_cmp text_same _ s v.0 v.1)
   row_settles rows all (RegionAlone r) t e = let v = some_map _ (value_at text_cmp rows.region r) t e in settled_at table RegionAlone rows.region r all.region (row_found text_cmp text_same _ r v.0 v.1)
 
-  extension_settles : (extended : Option (Bor LikelySubtagsExtended)) → IfSome extended (λ x. RowsSettle table (extended_rows x.now)) → (k : Key) (t : Triple) → extension_row extended k ≡ Some t → settles table k ≡ true
+  extension_settles : (extended : Option (Bor LikelySubtagsExtended)) → IfSome extended (λ x. RowsSettle table (extended_rows x.now)) → (k : LikelyKey) (t : Triple) → extension_row extended k ≡ Some t → settles table k ≡ true
   extension_settles None all k t e = absurd (cc)
   extension_settles (Some a) all k t e = row_settles (extended_rows a.now) all k t e
 
   -- a row that the triple of `und` serves as
-  und_settles : (u : Triple) → UndRowsSettle table u → (k : Key) (t : Triple) → und_row u k ≡ Some t → settles table k ≡ true
+  und_settles : (u : Triple) → UndRowsSettle table u → (k : LikelyKey) (t : Triple) → und_row u k ≡ Some t → settles table k ≡ true
   und_settles u all (LanguageRegion l r) t e = absurd (cc)
   und_settles u all (LanguageScript l s) t e = absurd (cc)
   und_settles u all (LanguageAlone l) t e = absurd (cc)
@@ -87,7 +87,7 @@ module _ (table : LikelySubtags) where
   und_settles u all (RegionAlone r) t e = ap (λ w. settles table (RegionAlone w)) (same_text r u.2 (test_of (bytes_eq r u.2) u t e)) ∙ all.region
 
 -- each key that the table has settles
-every_row : (e : LocaleExpander) → AllRowsSettle e → (k : Key) (t : Triple) → likely e k ≡ Some t → settles (likely e) k ≡ true
+every_row : (e : LocaleExpander) → AllRowsSettle e → (k : LikelyKey) (t : Triple) → likely e k ≡ Some t → settles (likely e) k ≡ true
 every_row e all k t f =
     let common = common_row e k in
     let extended = extension_row e.extended k in

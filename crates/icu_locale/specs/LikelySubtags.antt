@@ -5,8 +5,8 @@ use Rattle.std.specs.Str.{bytes_eq}
 use Rattle.icu_locale_core.specs.Subtag.{und}
 use Rattle.icu_locale_core.specs.declared.langid.LanguageIdentifier.{LanguageIdentifier}
 use Rattle.icu_provider.specs.declared.data_locale.DataLocale.{DataLocale}
-use Rattle.icu_locale.specs.declared.expander.looks.Key.{Key}
-use Rattle.icu_locale.specs.declared.expander.looks.Key.TheVariants.{
+use Rattle.icu_locale.specs.declared.expander.looks.LikelyKey.{LikelyKey}
+use Rattle.icu_locale.specs.declared.expander.looks.LikelyKey.TheVariants.{
   LanguageRegion,
   LanguageScript,
   LanguageAlone,
@@ -21,7 +21,7 @@ Triple = List ℕ × List ℕ × List ℕ
 
 -- a likely table: each key has at most one triple
 abbrev pub LikelySubtags : Type 0
-LikelySubtags = Key → Option Triple
+LikelySubtags = LikelyKey → Option Triple
 
 -- the script that stands for none
 abbrev pub unknown_script : List ℕ
@@ -45,27 +45,27 @@ bare_locale x = record {
 }
 
 -- the keys of a known language: with the region, with the script, alone
-abbrev pub known_keys : List ℕ → Option (List ℕ) → Option (List ℕ) → List Key
+abbrev pub known_keys : List ℕ → Option (List ℕ) → Option (List ℕ) → List LikelyKey
 known_keys l None None = LanguageAlone l ∷ []
 known_keys l None (Some r) = LanguageRegion l r ∷ LanguageAlone l ∷ []
 known_keys l (Some s) None = LanguageScript l s ∷ LanguageAlone l ∷ []
 known_keys l (Some s) (Some r) = LanguageRegion l r ∷ LanguageScript l s ∷ LanguageAlone l ∷ []
 
 -- the keys of the language `und`: script and region, the script alone, the region alone
-abbrev pub und_keys : Option (List ℕ) → Option (List ℕ) → List Key
+abbrev pub und_keys : Option (List ℕ) → Option (List ℕ) → List LikelyKey
 und_keys None None = []
 und_keys None (Some r) = RegionAlone r ∷ []
 und_keys (Some s) None = ScriptAlone s ∷ []
 und_keys (Some s) (Some r) = ScriptRegion s r ∷ ScriptAlone s ∷ RegionAlone r ∷ []
 
 -- the keys that are looked up, in their order (section 4.3, the look-up step)
-abbrev pub keys : DataLocale → List Key
+abbrev pub keys : DataLocale → List LikelyKey
 keys x =
     if bytes_eq x.language und then und_keys x.script x.region
     else known_keys x.language x.script x.region
 
 -- the triple of the first key that the table has
-abbrev pub first_found : LikelySubtags → List Key → Option Triple
+abbrev pub first_found : LikelySubtags → List LikelyKey → Option Triple
 first_found likely [] = None
 first_found likely (k ∷ ks) = option_or (likely k) (first_found likely ks)
 

@@ -9,7 +9,7 @@ use Rattle.icu_provider.specs.SortedMaps.{pair_cmp}
 use Rattle.icu_provider.specs.declared.likely.language.LikelySubtagsForLanguage.{LikelySubtagsForLanguage}
 use Rattle.icu_provider.specs.declared.likely.script_region.LikelySubtagsForScriptRegion.{LikelySubtagsForScriptRegion}
 use Rattle.icu_provider.specs.declared.likely.extended.LikelySubtagsExtended.{LikelySubtagsExtended}
-use Rattle.icu_locale.specs.declared.expander.looks.Key.TheVariants.{
+use Rattle.icu_locale.specs.declared.expander.looks.LikelyKey.TheVariants.{
   LanguageRegion,
   LanguageScript,
   LanguageAlone,

@@ -16,7 +16,7 @@ ghost use Rattle.icu_locale.specs.LikelySubtags.{
   IsModified,
   HaveSameMaximalParts,
 };
-ghost use Rattle.icu_locale.specs.declared.expander.looks.Key.{Key};
+ghost use Rattle.icu_locale.specs.declared.expander.looks.LikelyKey.{LikelyKey};
 ghost use Rattle.icu_locale.specs.LikelyTable.{likely, common_row, extension_row, und_row};
 ghost use Rattle.icu_locale.specs.TableKeys.{HasKey, table_keys};
 ghost use Rattle.icu_locale.specs.declared.expander.Favor.{Favor};
@@ -40,17 +40,17 @@ pub use canonicalization::{
 /// those that the triple of `und` serves as.
 #[tactic(auto, using(crate::proofs::TableLaws::one_triple, crate::proofs::TableLaws::table_has_key, crate::proofs::TableLaws::table_key_among, crate::proofs::TableLaws::common_row_covers, crate::proofs::TableLaws::extended_row_covers, crate::proofs::TableLaws::und_row_serves))]
 pub fn the_likely_table_is_one_map()
-    ensures one { (e : LocaleExpander) (k : Key) (t u : Triple) → likely e k ≡ Some t
+    ensures one { (e : LocaleExpander) (k : LikelyKey) (t u : Triple) → likely e k ≡ Some t
         → likely e k ≡ Some u → t ≡ u }
-    ensures own_subtags { (e : LocaleExpander) (k : Key) (t : Triple) → likely e k ≡ Some t
+    ensures own_subtags { (e : LocaleExpander) (k : LikelyKey) (t : Triple) → likely e k ≡ Some t
         → HasKey t k }
-    ensures finite { (e : LocaleExpander) (k : Key) (t : Triple) → likely e k ≡ Some t
+    ensures finite { (e : LocaleExpander) (k : LikelyKey) (t : Triple) → likely e k ≡ Some t
         → Contains (table_keys e) k }
-    ensures common { (e : LocaleExpander) (k : Key) (t : Triple) → common_row e k ≡ Some t
+    ensures common { (e : LocaleExpander) (k : LikelyKey) (t : Triple) → common_row e k ≡ Some t
         → likely e k ≡ Some t }
-    ensures extended { (e : LocaleExpander) (k : Key) (t : Triple) → common_row e k ≡ None
+    ensures extended { (e : LocaleExpander) (k : LikelyKey) (t : Triple) → common_row e k ≡ None
         → extension_row e.extended k ≡ Some t → likely e k ≡ Some t }
-    ensures und { (e : LocaleExpander) (k : Key) →
+    ensures und { (e : LocaleExpander) (k : LikelyKey) →
         common_row e k ≡ None → extension_row e.extended k ≡ None
         → likely e k ≡ und_row e.language.now.und k }
 {}

@@ -1,8 +1,8 @@
 //! Whether the maximal form of every identifier is settled: each row's key is looked at once.
 ghost use Rattle.std.specs.Prelude.{◌≡◌, ◌↔◌, true, IsTrue, MatchBool};
 ghost use Rattle.icu_locale_core.specs.Subtag.{und};
-ghost use Rattle.icu_locale.specs.declared.expander.looks.Key.{Key};
-ghost use Rattle.icu_locale.specs.declared.expander.looks.Key.TheVariants.{
+ghost use Rattle.icu_locale.specs.declared.expander.looks.LikelyKey.{LikelyKey};
+ghost use Rattle.icu_locale.specs.declared.expander.looks.LikelyKey.TheVariants.{
   LanguageRegion,
   LanguageScript,
   LanguageAlone,
@@ -29,16 +29,16 @@ ghost use Rattle.icu_locale.specs.inner.SettledRows.{
 };
 
 use crate::LocaleExpander;
-use crate::expander::looks::{Key, LikelyMaps, bare_locale, extended_maps};
+use crate::expander::looks::{LikelyKey, LikelyMaps, bare_locale, extended_maps};
 use icu_locale_core::{Language, Region, Script};
 use icu_provider::{DataLocale, SortedMap};
 
 // The key of a row: what stands in it of an identifier.
 trait RowKey: Ord {
-    ghost key: { Self → Key };
+    ghost key: { Self → LikelyKey };
 
     // The key in the one table.
-    fn key(&self) -> Key
+    fn key(&self) -> LikelyKey
         ensures value { result ≡ key self.now }
         ensures known { IsLocale (key_locale (key self.now)) };
 }
@@ -46,71 +46,71 @@ trait RowKey: Ord {
 impl RowKey for Language {
     ghost key = { LanguageAlone };
 
-    fn key(&self) -> Key {
+    fn key(&self) -> LikelyKey {
         let _ = self.as_str();
-        Key::LanguageAlone(*self)
+        LikelyKey::LanguageAlone(*self)
     }
 }
 
 impl RowKey for (Language, Script) {
     ghost key = { λ k. LanguageScript k.0 k.1 };
 
-    fn key(&self) -> Key {
+    fn key(&self) -> LikelyKey {
         let _ = self.0.as_str();
         let _ = self.1.as_str();
-        Key::LanguageScript(self.0, self.1)
+        LikelyKey::LanguageScript(self.0, self.1)
     }
 }
 
 impl RowKey for (Language, Region) {
     ghost key = { λ k. LanguageRegion k.0 k.1 };
 
-    fn key(&self) -> Key {
+    fn key(&self) -> LikelyKey {
         let _ = self.0.as_str();
         let _ = self.1.as_str();
-        Key::LanguageRegion(self.0, self.1)
+        LikelyKey::LanguageRegion(self.0, self.1)
     }
 }
 
 impl RowKey for (Script, Region) {
     ghost key = { λ k. ScriptRegion k.0 k.1 };
 
-    fn key(&self) -> Key {
+    fn key(&self) -> LikelyKey {
         let _ = self.0.as_str();
         let _ = self.1.as_str();
-        Key::ScriptRegion(self.0, self.1)
+        LikelyKey::ScriptRegion(self.0, self.1)
     }
 }
 
 impl RowKey for Script {
     ghost key = { ScriptAlone };
 
-    fn key(&self) -> Key {
+    fn key(&self) -> LikelyKey {
         let _ = self.as_str();
-        Key::ScriptAlone(*self)
+        LikelyKey::ScriptAlone(*self)
     }
 }
 
 impl RowKey for Region {
     ghost key = { RegionAlone };
 
-    fn key(&self) -> Key {
+    fn key(&self) -> LikelyKey {
         let _ = self.as_str();
-        Key::RegionAlone(*self)
+        LikelyKey::RegionAlone(*self)
     }
 }
 
 // The key's own subtags, with the language `und` where the key has none.
-fn key_locale(key: &Key) -> DataLocale
+fn key_locale(key: &LikelyKey) -> DataLocale
     ensures { result ≡ key_locale key.now }
 {
     let (language, script, region) = match *key {
-        Key::LanguageRegion(language, region) => (language, None, Some(region)),
-        Key::LanguageScript(language, script) => (language, Some(script), None),
-        Key::LanguageAlone(language) => (language, None, None),
-        Key::ScriptRegion(script, region) => (unknown_language(), Some(script), Some(region)),
-        Key::ScriptAlone(script) => (unknown_language(), Some(script), None),
-        Key::RegionAlone(region) => (unknown_language(), None, Some(region)),
+        LikelyKey::LanguageRegion(language, region) => (language, None, Some(region)),
+        LikelyKey::LanguageScript(language, script) => (language, Some(script), None),
+        LikelyKey::LanguageAlone(language) => (language, None, None),
+        LikelyKey::ScriptRegion(script, region) => (unknown_language(), Some(script), Some(region)),
+        LikelyKey::ScriptAlone(script) => (unknown_language(), Some(script), None),
+        LikelyKey::RegionAlone(region) => (unknown_language(), None, Some(region)),
     };
     DataLocale {
         language,

@@ -9,21 +9,21 @@ use Rattle.std.proofs.lemmas.Str.Ascii.{IsAscii-nil, IsAscii-cons}
 use Rattle.std.proofs.lemmas.Bool.Decides.{nat_tests}
 use Rattle.std.proofs.lemmas.List.{set_at, length-take, take_more}
 use Rattle.icu_locale_core.specs.Subtag.{is_alphanumeric}
-use Rattle.icu_locale_core.specs.inner.Padded.{text_of, padded, IsPadded}
+use Rattle.icu_locale_core.specs.inner.Padded.{unpadded, padded, IsPadded}
 
 -- behind a text of letters and digits the zeros are not seen
-pub text_of-zeros : (t : List ℕ) (n : ℕ) → is_alphanumeric t ≡ true → text_of (t ++ replicate n 0) ≡ t
-text_of-zeros [] zero h = refl
-text_of-zeros [] (suc n) h = refl
-text_of-zeros (c ∷ t) n h =
+pub unpadded-zeros : (t : List ℕ) (n : ℕ) → is_alphanumeric t ≡ true → unpadded (t ++ replicate n 0) ≡ t
+unpadded-zeros [] zero h = refl
+unpadded-zeros [] (suc n) h = refl
+unpadded-zeros (c ∷ t) n h =
     let positive : nat_lt 0 c ≡ true = grind (arith, nat_tests) in
     let rest : is_alphanumeric t ≡ true = grind (arith, nat_tests) in
-    rw positive (ap (λ r. c ∷ r) (text_of-zeros t n rest))
+    rw positive (ap (λ r. c ∷ r) (unpadded-zeros t n rest))
 
 -- so a text with zeros behind it is as the invariant asks
 pub IsPadded-padded : (n : ℕ) (t : List ℕ) → is_alphanumeric t ≡ true → length t ≤ n → IsPadded n (padded n t)
 IsPadded-padded n t plain short =
-    let seen = text_of-zeros t (n - length t) plain in
+    let seen = unpadded-zeros t (n - length t) plain in
     record { short = rw seen short; zeros = ap (padded n) seen; plain = rw seen plain }
 
 -- the next character goes in place of the first zero
@@ -92,14 +92,14 @@ IsUtf8-plain t h = IsUtf8-from_ascii t (IsAscii-plain t h)
         IsAscii-cons c t small (IsAscii-plain t rest)
 
 -- the front of the array is the text
-pub take-text_of : (bs : List ℕ) → take (length (text_of bs)) bs ≡ text_of bs
-take-text_of [] = refl
-take-text_of (c ∷ bs) =
-    elim (nat_lt 0 c) as (λ b. take (length (if b then c ∷ text_of bs else [])) (c ∷ bs) ≡ (if b then c ∷ text_of bs else [])) [ true ↦ ap (λ r. c ∷ r) (take-text_of bs) | false ↦ refl ]
+pub take-unpadded : (bs : List ℕ) → take (length (unpadded bs)) bs ≡ unpadded bs
+take-unpadded [] = refl
+take-unpadded (c ∷ bs) =
+    elim (nat_lt 0 c) as (λ b. take (length (if b then c ∷ unpadded bs else [])) (c ∷ bs) ≡ (if b then c ∷ unpadded bs else [])) [ true ↦ ap (λ r. c ∷ r) (take-unpadded bs) | false ↦ refl ]
 
 -- with its zeros too
 pub IsUtf8-padded : (n : ℕ) (bs : List ℕ) → IsPadded n bs → IsUtf8 bs
-IsUtf8-padded n bs p = subst IsUtf8 p.zeros (IsUtf8-append (text_of bs) (replicate (n - length (text_of bs)) 0) (IsUtf8-plain (text_of bs) p.plain) (IsUtf8-from_ascii _ (zeros_ascii (n - length (text_of bs)))))
+IsUtf8-padded n bs p = subst IsUtf8 p.zeros (IsUtf8-append (unpadded bs) (replicate (n - length (unpadded bs)) 0) (IsUtf8-plain (unpadded bs) p.plain) (IsUtf8-from_ascii _ (zeros_ascii (n - length (unpadded bs)))))
   where
     zeros_ascii : (k : ℕ) → IsAscii (replicate k 0)
     zeros_ascii zero = IsAscii-nil

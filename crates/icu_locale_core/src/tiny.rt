@@ -7,7 +7,7 @@ ghost use Rattle.std.specs.Cmp.Rules.{comparing, hashing};
 ghost use Rattle.std.specs.Ordering.{nat_cmp, as_partial_cmp};
 ghost use Rattle.icu_locale_core.specs.Subtag.{is_alphanumeric, IsWritten};
 ghost use Rattle.icu_locale_core.specs.inner.Class.{is_member, written_case, longest};
-ghost use Rattle.icu_locale_core.specs.inner.Padded.{text_of, padded, IsPadded};
+ghost use Rattle.icu_locale_core.specs.inner.Padded.{unpadded, padded, IsPadded};
 ghost use Rattle.std.specs.Hash as fed;
 
 use crate::classes::Class;
@@ -26,7 +26,7 @@ pub struct TinyText<const N: usize> {
 impl<const N: usize> Model for TinyText<N> {
     ghost Value = { List ℕ };
 
-    ghost view = { λ a. text_of a.bytes };
+    ghost view = { λ a. unpadded a.bytes };
 
     ghost invariant = { λ a. IsPadded N a.bytes };
 

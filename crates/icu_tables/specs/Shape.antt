@@ -22,8 +22,8 @@ abbrev pub text : Shape (List ℕ)
 text value = as_str value
 
 -- a text that says something
-abbrev pub text_of : {A : Type 0} → (List ℕ → Option A) → Shape A
-text_of says value = option_and_then says (as_str value)
+abbrev pub text_as : {A : Type 0} → (List ℕ → Option A) → Shape A
+text_as says value = option_and_then says (as_str value)
 
 -- exactly two items
 abbrev pub two_items : {A B : Type 0} → Shape A → Shape B → Items → Option (A × B)

@@ -25,7 +25,7 @@ use Rattle.icu_locale_core.specs.Subtag.{
   titlecase,
   uppercase,
 }
-use Rattle.icu_tables.specs.Shape.{Shape, both, text_of}
+use Rattle.icu_tables.specs.Shape.{Shape, both, text_as}
 
 -- the written form of a text of a class, in any case
 abbrev pub in_class : (List ℕ → Bool) → (List ℕ → List ℕ) → List ℕ → Option (List ℕ)
@@ -53,19 +53,19 @@ read_subtag t = in_class is_subtag lowercase t
 
 -- a language as a value
 abbrev pub language : Shape (List ℕ)
-language = text_of read_language
+language = text_as read_language
 
 -- a script as a value
 abbrev pub script : Shape (List ℕ)
-script = text_of read_script
+script = text_as read_script
 
 -- a region as a value
 abbrev pub region : Shape (List ℕ)
-region = text_of read_region
+region = text_as read_region
 
 -- a variant as a value
 abbrev pub variant : Shape (List ℕ)
-variant = text_of read_variant
+variant = text_as read_variant
 
 -- x, where t is its written form
 abbrev pub if_written : {A : Type 0} → (A → List ℕ) → List ℕ → A → Option A

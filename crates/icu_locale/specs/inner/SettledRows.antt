@@ -5,8 +5,8 @@ use Rattle.icu_locale_core.specs.Subtag.{und, IsLanguage, IsScript, IsRegion}
 use Rattle.icu_locale_core.specs.Identifier.{IsIdentifier}
 use Rattle.icu_locale_core.specs.declared.langid.LanguageIdentifier.{LanguageIdentifier}
 use Rattle.icu_provider.specs.declared.data_locale.DataLocale.{DataLocale}
-use Rattle.icu_locale.specs.declared.expander.looks.Key.{Key}
-use Rattle.icu_locale.specs.declared.expander.looks.Key.TheVariants.{
+use Rattle.icu_locale.specs.declared.expander.looks.LikelyKey.{LikelyKey}
+use Rattle.icu_locale.specs.declared.expander.looks.LikelyKey.TheVariants.{
   LanguageRegion,
   LanguageScript,
   LanguageAlone,
@@ -21,7 +21,7 @@ use Rattle.icu_locale.specs.Settled.{IsSettled}
 use Rattle.icu_locale.specs.inner.Trials.{same_locale}
 
 -- the key's own subtags
-abbrev pub key_locale : Key → DataLocale
+abbrev pub key_locale : LikelyKey → DataLocale
 key_locale (LanguageRegion l r) = record { language = l; script = None; region = Some r }
 key_locale (LanguageScript l s) = record { language = l; script = Some s; region = None }
 key_locale (LanguageAlone l) = record { language = l; script = None; region = None }
@@ -40,11 +40,11 @@ abbrev pub is_settled_locale : LikelySubtags → DataLocale → Bool
 is_settled_locale table y = same_locale (bare_locale y) y && same_locale (maximal_locale table y) y
 
 -- whether the maximal form of a key's own subtags is settled
-unfoldable pub settles : LikelySubtags → Key → Bool
+unfoldable pub settles : LikelySubtags → LikelyKey → Bool
 settles table k = is_settled_locale table (maximal_locale table (key_locale k))
 
 -- each row's key settles
-abbrev pub AllSettle : {K V : Type 0} → LikelySubtags → (K → Key) → List (K × V) → Type 0
+abbrev pub AllSettle : {K V : Type 0} → LikelySubtags → (K → LikelyKey) → List (K × V) → Type 0
 AllSettle table key rows = All (λ row. settles table (key row.0) ≡ true) rows
 
 -- some identifier's maximal form is not settled

@@ -26,7 +26,7 @@ pub(crate) type Triple = (Language, Script, Region);
 
 /// The subtags by which a row of the likely table is looked up.
 #[derive(Clone, Copy)]
-pub enum Key {
+pub enum LikelyKey {
     LanguageRegion(Language, Region),
     LanguageScript(Language, Script),
     LanguageAlone(Language),
@@ -49,31 +49,31 @@ pub(crate) struct LikelyMaps<'d> {
 impl<'d> LikelyMaps<'d> {
     // The triple at a key: the key's own subtags, and the values of the row.
     #[inline(always)]
-    fn row_at(&self, key: &Key) -> Option<Triple>
+    fn row_at(&self, key: &LikelyKey) -> Option<Triple>
         ensures { result ≡ row_at (rows_of self.now) key.now }
     {
         match *key {
-            Key::LanguageRegion(language, region) => {
+            LikelyKey::LanguageRegion(language, region) => {
                 let script = value_at(self.language_region, (language, region))?;
                 Some((language, script, region))
             }
-            Key::LanguageScript(language, script) => {
+            LikelyKey::LanguageScript(language, script) => {
                 let region = value_at(self.language_script, (language, script))?;
                 Some((language, script, region))
             }
-            Key::LanguageAlone(language) => {
+            LikelyKey::LanguageAlone(language) => {
                 let (script, region) = value_at(self.language, language)?;
                 Some((language, script, region))
             }
-            Key::ScriptRegion(script, region) => {
+            LikelyKey::ScriptRegion(script, region) => {
                 let language = value_at(self.script_region, (script, region))?;
                 Some((language, script, region))
             }
-            Key::ScriptAlone(script) => {
+            LikelyKey::ScriptAlone(script) => {
                 let (language, region) = value_at(self.script, script)?;
                 Some((language, script, region))
             }
-            Key::RegionAlone(region) => {
+            LikelyKey::RegionAlone(region) => {
                 let (language, script) = value_at(self.region, region)?;
                 Some((language, script, region))
             }
@@ -103,13 +103,13 @@ pub(crate) fn extended_maps(extended: &LikelySubtagsExtended) -> LikelyMaps<'_>
 }
 
 // The triple of `und` as a row for its script and region, for its script and for its region.
-fn und_row(und: Triple, key: &Key) -> Option<Triple>
+fn und_row(und: Triple, key: &LikelyKey) -> Option<Triple>
     ensures { result ≡ und_row und key.now }
 {
     let serves = match *key {
-        Key::ScriptRegion(script, region) => script == und.1 && region == und.2,
-        Key::ScriptAlone(script) => script == und.1,
-        Key::RegionAlone(region) => region == und.2,
+        LikelyKey::ScriptRegion(script, region) => script == und.1 && region == und.2,
+        LikelyKey::ScriptAlone(script) => script == und.1,
+        LikelyKey::RegionAlone(region) => region == und.2,
         _ => false,
     };
     if serves { Some(und) } else { None }
@@ -161,18 +161,18 @@ impl<'d> LocaleExpander<'d> {
         ensures { result ≡ first_found (likely self.now) (known_keys language script region) }
     {
         if let Some(region) = region {
-            let found = self.row_at(&Key::LanguageRegion(language, region));
+            let found = self.row_at(&LikelyKey::LanguageRegion(language, region));
             if found.is_some() {
                 return found;
             }
         }
         if let Some(script) = script {
-            let found = self.row_at(&Key::LanguageScript(language, script));
+            let found = self.row_at(&LikelyKey::LanguageScript(language, script));
             if found.is_some() {
                 return found;
             }
         }
-        self.row_at(&Key::LanguageAlone(language))
+        self.row_at(&LikelyKey::LanguageAlone(language))
     }
 
     // With no known language: script and region, the script alone, the region alone.
@@ -182,26 +182,26 @@ impl<'d> LocaleExpander<'d> {
         if let Some(script) = script
             && let Some(region) = region
         {
-            let found = self.row_at(&Key::ScriptRegion(script, region));
+            let found = self.row_at(&LikelyKey::ScriptRegion(script, region));
             if found.is_some() {
                 return found;
             }
         }
         if let Some(script) = script {
-            let found = self.row_at(&Key::ScriptAlone(script));
+            let found = self.row_at(&LikelyKey::ScriptAlone(script));
             if found.is_some() {
                 return found;
             }
         }
         match region {
-            Some(region) => self.row_at(&Key::RegionAlone(region)),
+            Some(region) => self.row_at(&LikelyKey::RegionAlone(region)),
             None => None,
         }
     }
 
     // The triple at a key: the common tables cover the extended one, and the triple of `und` serves last.
     #[inline(always)]
-    fn row_at(&self, key: &Key) -> Option<Triple>
+    fn row_at(&self, key: &LikelyKey) -> Option<Triple>
         ensures { result ≡ likely self.now key.now }
     {
         if let Some(row) = self.common_maps().row_at(key) {
@@ -214,7 +214,7 @@ impl<'d> LocaleExpander<'d> {
     }
 
     // The triple of the extended table at a key, if there is such a table.
-    fn extended_row(&self, key: &Key) -> Option<Triple>
+    fn extended_row(&self, key: &LikelyKey) -> Option<Triple>
         ensures { result ≡ extension_row self.now.extended key.now }
     {
         extended_maps(self.extended?).row_at(key)

@@ -3,9 +3,9 @@ use Rattle.std.specs.Prelude.{◌≡◌, ℕ, ◌-◌, ◌≤◌, List, [], ◌�
 use Rattle.icu_locale_core.specs.Subtag.{is_alphanumeric}
 
 -- the bytes before the first zero
-abbrev pub text_of : List ℕ → List ℕ
-text_of [] = []
-text_of (b ∷ bs) = if nat_lt 0 b then b ∷ text_of bs else []
+abbrev pub unpadded : List ℕ → List ℕ
+unpadded [] = []
+unpadded (b ∷ bs) = if nat_lt 0 b then b ∷ unpadded bs else []
 
 -- a text with zeros behind it, up to n bytes
 abbrev pub padded : ℕ → List ℕ → List ℕ
@@ -13,6 +13,6 @@ padded n t = t ++ replicate (n - length t) 0
 
 -- letters and digits, and then zeros alone
 pub record IsPadded (n : ℕ) (bs : List ℕ) : Type 0 where
-  pub short : length (text_of bs) ≤ n
-  pub zeros : padded n (text_of bs) ≡ bs
-  pub plain : IsTrue (is_alphanumeric (text_of bs))
+  pub short : length (unpadded bs) ≤ n
+  pub zeros : padded n (unpadded bs) ≡ bs
+  pub plain : IsTrue (is_alphanumeric (unpadded bs))

@@ -1,6 +1,6 @@
 //! Subtags in a JSON text.
 ghost use Rattle.std.specs.Prelude.{refl};
-ghost use Rattle.icu_tables.specs.Shape.{text_of};
+ghost use Rattle.icu_tables.specs.Shape.{text_as};
 
 use crate::TableError;
 use crate::json::values::FromValue;
@@ -141,7 +141,7 @@ impl<T: FromText> FromValue for T {
 
     ghost seen = { λ x. x };
 
-    ghost shape = { text_of T.reads };
+    ghost shape = { text_as T.reads };
 
     fn from_value(_alloc: Global, value: &Value) -> Result<Self, TableError> {
         match value.as_str() {

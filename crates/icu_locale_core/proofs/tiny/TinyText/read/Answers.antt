@@ -3,9 +3,9 @@ use Rattle.std.specs.List.{list_all}
 use Rattle.std.proofs.lemmas.List.{take_all}
 use Rattle.icu_locale_core.specs.inner.Class.{is_member, is_character, written_case}
 use Rattle.icu_locale_core.specs.Subtag.{IsWritten}
-use Rattle.icu_locale_core.specs.inner.Padded.{padded, IsPadded, text_of}
+use Rattle.icu_locale_core.specs.inner.Padded.{padded, IsPadded, unpadded}
 use Rattle.icu_locale_core.proofs.Cases.{length-written_case, get_or-written_case, written_plain, written_written}
-use Rattle.icu_locale_core.proofs.Padding.{set-next, IsPadded-padded, text_of-zeros}
+use Rattle.icu_locale_core.proofs.Padding.{set-next, IsPadded-padded, unpadded-zeros}
 use Rattle.icu_locale_core.proofs.tiny.TinyText.read.Given.{Over}
 use Rattle.icu_locale_core.proofs.tiny.TinyText.read.Goals as goal
 
@@ -51,10 +51,10 @@ module _ (g : Over) (c : goal.After-loop-place g) where
   member : is_member c.args.class c.args.text.now ≡ true
   member = c.in_ok-kind.ensures.member ∙ c.loop-place.invariant.whole ∙ past_all (is_character c.in_ok-kind.kind) c.args.text.now c.loop-place.place c.loop-place-test.false
 
-  text_read : text_of c.loop-place.bytes ≡ written_case c.args.class c.args.text.now
+  text_read : unpadded c.loop-place.bytes ≡ written_case c.args.class c.args.text.now
   text_read =
       let w = written_case c.args.class c.args.text.now in
-      ap text_of array_of_text ∙ text_of-zeros w (g.row.N - length w) (written_plain c.args.class c.args.text.now member)
+      ap unpadded array_of_text ∙ unpadded-zeros w (g.row.N - length w) (written_plain c.args.class c.args.text.now member)
 
 pub invariant_of-result : goal.invariant_of-result
 invariant_of-result g c =
