@@ -5,7 +5,7 @@ use Rattle.std.specs.Option.{option_copied, option_or}
 use Rattle.std.proofs.lemmas.Option.{same_Some, none-some}
 use Rattle.icu_provider.specs.declared.likely.extended.LikelySubtagsExtended.{LikelySubtagsExtended}
 use Rattle.icu_locale.specs.LikelyTable.{likely, row_at, common_rows, extended_rows, extension_row, und_row}
-use Rattle.icu_locale.specs.declared.expander.looks.Key.{Key}
+use Rattle.icu_locale.specs.declared.expander.looks.LikelyKey.{LikelyKey}
 use Rattle.icu_locale.specs.Settled.{AreSettled}
 use Rattle.icu_locale.specs.declared.expander.LocaleExpander.{LocaleExpander}
 use Rattle.icu_tables.specs.declared.tables.Tables.{Tables}
@@ -14,7 +14,7 @@ use Rattle.icu_locale_cli.specs.Works.{IsUnsettled}
 use Rattle.icu_locale_cli.specs.declared.command.Command.{Command}
 use Rattle.icu_locale_cli.specs.declared.command.Command.TheVariants as command
 
-same_extension : (x y : Option (Bor LikelySubtagsExtended)) → option_copied x ≡ option_copied y → (k : Key) → extension_row x k ≡ extension_row y k
+same_extension : (x y : Option (Bor LikelySubtagsExtended)) → option_copied x ≡ option_copied y → (k : LikelyKey) → extension_row x k ≡ extension_row y k
 same_extension None None same k = refl
 same_extension None (Some y) same k = absurd (none-some _ same)
 same_extension (Some x) None same k = absurd (none-some _ (sym same))
