@@ -1,21 +1,6 @@
 -- The seven kinds of rules, and the one turn that they make (UTS #35 Part 1, Annex C "LocaleId Canonicalization").
 use Rattle.std.specs.Str.{bytes_eq}
-use Rattle.std.specs.Prelude.{
-  ◌==◌,
-  ℕ,
-  Bool,
-  List,
-  [],
-  ◌∷◌,
-  length,
-  codes,
-  Option,
-  Some,
-  None,
-  is_some,
-  unwrap_or,
-  if◌then◌else◌,
-}
+use Rattle.std.specs.Prelude.{◌==◌, ℕ, Bool, List, [], ◌∷◌, length, codes, Option, Some, None, is_some, unwrap_or, if◌then◌else◌}
 use Rattle.std.specs.Option.{option_map, option_and_then, option_or}
 use Rattle.std.specs.List.{find, list_any}
 use Rattle.icu_locale_core.specs.Subtag.{is_alphabetic}

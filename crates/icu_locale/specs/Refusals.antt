@@ -11,11 +11,7 @@ use Rattle.icu_locale.specs.LikelySubtags.{LikelySubtags}
 use Rattle.icu_locale.specs.Run.{EndsAt, EndsIfAny, IsRepeat}
 use Rattle.icu_locale.specs.declared.canonicalizer.rules.Rules.{Rules}
 use Rattle.icu_locale.specs.declared.canonicalizer.CanonicalizeError.{CanonicalizeError}
-use Rattle.icu_locale.specs.declared.canonicalizer.CanonicalizeError.TheVariants.{
-  Memory,
-  NoFixedPoint,
-  NoSubdivisionFixedPoint,
-}
+use Rattle.icu_locale.specs.declared.canonicalizer.CanonicalizeError.TheVariants.{Memory, NoFixedPoint, NoSubdivisionFixedPoint}
 
 -- the runs of the identifier and of the transform language, if any, end
 pub record IdentifiersEnd (likely : LikelySubtags) (rules : Rules) (old : Locale) : Type 0 where

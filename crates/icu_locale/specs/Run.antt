@@ -1,23 +1,6 @@
 -- A run is a start and whatever follows it, one state after another, until nothing follows. UTS #35 Part 1,
 -- Annex C "LocaleId Canonicalization", has such runs: there a state is an identifier, and `next` one replacement.
-use Rattle.std.specs.Prelude.{
-  ◌≡◌,
-  ◌≢◌,
-  ℕ,
-  zero,
-  suc,
-  ◌<◌,
-  ◌⊎◌,
-  List,
-  length,
-  Option,
-  Some,
-  None,
-  option_and_then,
-  IsSome,
-  IfSome,
-  IsSomeAnd,
-}
+use Rattle.std.specs.Prelude.{◌≡◌, ◌≢◌, ℕ, zero, suc, ◌<◌, ◌⊎◌, List, length, Option, Some, None, option_and_then, IsSome, IfSome, IsSomeAnd}
 use Rattle.std.specs.List.{AllPairs, Contains}
 
 -- the state at a place of the run, where the start has place 0; none past the end

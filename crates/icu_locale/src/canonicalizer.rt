@@ -5,13 +5,7 @@ ghost use Rattle.icu_locale.specs.Canonicalization.{Canonicalizes};
 ghost use Rattle.icu_locale.specs.Refusals.{IsRefusal, IsOutOfMemory, error_name};
 ghost use Rattle.icu_locale.specs.Cost.{CountsRuns, NeedsNoMemory, AddsNoVariants};
 ghost use Rattle.icu_locale.specs.Run.{IsLaterEndOf};
-ghost use Rattle.icu_locale.specs.inner.CanonicalParts.{
-  IsRunRefusalOf,
-  IsIdentifierRefusal,
-  CountsSearchesOf,
-  AreLaterEnds,
-  AreChanges,
-};
+ghost use Rattle.icu_locale.specs.inner.CanonicalParts.{IsRunRefusalOf, IsIdentifierRefusal, CountsSearchesOf, AreLaterEnds, AreChanges};
 
 use crate::{AsExpander, LocaleExpander, TransformResult, Turns};
 use icu_locale_core::{LanguageIdentifier, Locale, Value};

@@ -1,16 +1,7 @@
 //! Likely subtags: maximal and minimal forms of identifiers.
 
 ghost use Rattle.std.specs.Prelude.{◌≡◌, ◌≢◌, ◌↔◌, false, Some, None};
-ghost use Rattle.icu_locale.specs.LikelySubtags.{
-  bare_locale,
-  locale_of,
-  with_locale,
-  maximal_of_bare,
-  maximal_locale,
-  maximal,
-  likely_script,
-  IsModified,
-};
+ghost use Rattle.icu_locale.specs.LikelySubtags.{bare_locale, locale_of, with_locale, maximal_of_bare, maximal_locale, maximal, likely_script, IsModified};
 ghost use Rattle.icu_locale.specs.inner.Trials.{alone, with_favored, with_other, trials, first_trial, same_locale};
 ghost use Rattle.icu_locale.specs.LikelyTable.{likely};
 ghost use Rattle.icu_locale.specs.Construction.{loaded_common, loaded_extended, StandsOn, IsMade};

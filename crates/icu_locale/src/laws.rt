@@ -7,15 +7,7 @@ ghost use Rattle.icu_locale_core.specs.Identifier.{IsIdentifier};
 ghost use Rattle.icu_locale_core.specs.Subtag.{und};
 ghost use Rattle.icu_locale_core.specs.declared.langid.LanguageIdentifier.{LanguageIdentifier};
 ghost use Rattle.icu_locale.specs.declared.expander.LocaleExpander.{LocaleExpander};
-ghost use Rattle.icu_locale.specs.LikelySubtags.{
-  LikelySubtags,
-  Triple,
-  unknown_script,
-  unknown_region,
-  maximal,
-  IsModified,
-  HaveSameMaximalParts,
-};
+ghost use Rattle.icu_locale.specs.LikelySubtags.{LikelySubtags, Triple, unknown_script, unknown_region, maximal, IsModified, HaveSameMaximalParts};
 ghost use Rattle.icu_locale.specs.declared.expander.looks.LikelyKey.{LikelyKey};
 ghost use Rattle.icu_locale.specs.LikelyTable.{likely, common_row, extension_row, und_row};
 ghost use Rattle.icu_locale.specs.TableKeys.{HasKey, table_keys};

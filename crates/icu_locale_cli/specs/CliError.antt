@@ -6,16 +6,7 @@ use Rattle.icu_tables.specs.declared.error.TableError.{TableError}
 use Rattle.icu_tables.specs.declared.error.TableError.TheVariants.{Json, Shape}
 use Rattle.icu_tables.specs.declared.error.TableError.TheVariants as tables
 use Rattle.icu_locale_cli.specs.declared.error.CliError.{CliError}
-use Rattle.icu_locale_cli.specs.declared.error.CliError.TheVariants.{
-  Usage,
-  Tables,
-  Data,
-  Read,
-  Write,
-  Memory,
-  Available,
-  NotSettled,
-}
+use Rattle.icu_locale_cli.specs.declared.error.CliError.TheVariants.{Usage, Tables, Data, Read, Write, Memory, Available, NotSettled}
 
 -- the name of a refusal of tables
 abbrev pub table_error_name : TableError → List ℕ

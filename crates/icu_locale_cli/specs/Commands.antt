@@ -5,16 +5,7 @@ use Rattle.icu_locale_core.specs.TextSet.{empty}
 use Rattle.icu_locale_core.specs.declared.langid.LanguageIdentifier.{LanguageIdentifier}
 use Rattle.icu_locale_names.specs.declared.preferences.DisplayNamesPreferences.{DisplayNamesPreferences}
 use Rattle.icu_locale_cli.specs.declared.command.Command.{Command}
-use Rattle.icu_locale_cli.specs.declared.command.Command.TheVariants.{
-  Maximize,
-  Minimize,
-  MinimizeScript,
-  Canonicalize,
-  Direction,
-  Settled,
-  Negotiate,
-  Name,
-}
+use Rattle.icu_locale_cli.specs.declared.command.Command.TheVariants.{Maximize, Minimize, MinimizeScript, Canonicalize, Direction, Settled, Negotiate, Name}
 use Rattle.icu_locale_cli.specs.Names.{chain_word}
 
 -- the word of each command

@@ -2,13 +2,7 @@
 -- any case, and the case that each is written in.
 use Rattle.std.specs.Prelude.{◌≡◌, ℕ, Bool, false, ◌&&◌, ◌||◌, List, [], ◌∷◌, length, map, IsTrue, codes, nat_le}
 use Rattle.std.specs.List.{list_all}
-use Rattle.std.specs.Char.{
-  is_ascii_alphabetic,
-  is_ascii_digit,
-  is_ascii_alphanumeric,
-  to_ascii_lowercase,
-  to_ascii_uppercase,
-}
+use Rattle.std.specs.Char.{is_ascii_alphabetic, is_ascii_digit, is_ascii_alphanumeric, to_ascii_lowercase, to_ascii_uppercase}
 
 -- from low to high characters
 abbrev pub has_length : ℕ → ℕ → List ℕ → Bool

@@ -1,25 +1,5 @@
 -- Values of keywords and their texts (UTS #35 Part 1, section 3.6.1, type).
-use Rattle.std.specs.Prelude.{
-  ◌≡◌,
-  ℕ,
-  Bool,
-  true,
-  ◌||◌,
-  ◌==◌,
-  not,
-  List,
-  [],
-  ◌∷◌,
-  length,
-  map,
-  filter,
-  codes,
-  nat_eq,
-  Option,
-  Some,
-  None,
-  if◌then◌else◌,
-}
+use Rattle.std.specs.Prelude.{◌≡◌, ℕ, Bool, true, ◌||◌, ◌==◌, not, List, [], ◌∷◌, length, map, filter, codes, nat_eq, Option, Some, None, if◌then◌else◌}
 use Rattle.std.specs.List.{All, list_all, join_by}
 use Rattle.std.specs.Cmp.Lexicographic.{pointwise}
 use Rattle.icu_locale_core.specs.Identifier.{pieces}

@@ -1,19 +1,5 @@
 //! The keywords of a locale: a map from keys to values.
-ghost use Rattle.std.specs.Prelude.{
-  ◌≡◌,
-  ◌↔◌,
-  [],
-  IsTrue,
-  IsSome,
-  IsOk,
-  IfOk,
-  IfErr,
-  OnOk,
-  OnErr,
-  Some,
-  None,
-  option_copied,
-};
+ghost use Rattle.std.specs.Prelude.{◌≡◌, ◌↔◌, [], IsTrue, IsSome, IsOk, IfOk, IfErr, OnOk, OnErr, Some, None, option_copied};
 ghost use Rattle.std.specs.Cmp.{partial_equiv_from_equiv};
 ghost use Rattle.std.specs.Cmp.Lexicographic.{pointwise, lists_equiv};
 ghost use Rattle.icu_locale_core.specs.Keywords.{with_value, without_key, row_eq, KeywordRows};

@@ -12,15 +12,7 @@ use Rattle.icu_provider.specs.declared.names.NameMarker.TheVariants.{
   LanguageLongLight,
   LanguageLongHeavy,
 }
-use Rattle.icu_locale_names.specs.Chains.{
-  region_tiny,
-  region_light,
-  region_short_light,
-  script_tiny,
-  script_light,
-  script_heavy,
-  script_short_heavy,
-}
+use Rattle.icu_locale_names.specs.Chains.{region_tiny, region_light, region_short_light, script_tiny, script_light, script_heavy, script_short_heavy}
 
 -- the kinds of names that are asked for: of the language in menus and in texts, and of its script
 -- and its region as qualifiers

@@ -1,25 +1,5 @@
 //! Names of identifiers: a language, and qualifiers behind it.
-ghost use Rattle.std.specs.Prelude.{
-  ◌≡◌,
-  ◌≢◌,
-  ◌⊎◌,
-  ◌↔◌,
-  ◌^◌,
-  ◌<◌,
-  ◌≤◌,
-  ◌++◌,
-  length,
-  map,
-  false,
-  Some,
-  Err,
-  OnOk,
-  OnErr,
-  IfOk,
-  IfErr,
-  IsErr,
-  IsTrue,
-};
+ghost use Rattle.std.specs.Prelude.{◌≡◌, ◌≢◌, ◌⊎◌, ◌↔◌, ◌^◌, ◌<◌, ◌≤◌, ◌++◌, length, map, false, Some, Err, OnOk, OnErr, IfOk, IfErr, IsErr, IsTrue};
 ghost use Rattle.std.specs.Io.KnownBytes.{Appends};
 ghost use Rattle.icu_locale_names.specs.LanguageChains.{
   language_tiny,

@@ -1,14 +1,7 @@
 -- The names of refusals.
 use Rattle.std.specs.Prelude.{ℕ, List, codes}
 use Rattle.icu_provider.specs.declared.error.DataErrorKind.{DataErrorKind}
-use Rattle.icu_provider.specs.declared.error.DataErrorKind.TheVariants.{
-  IdentifierNotFound,
-  MarkerNotFound,
-  InvalidRequest,
-  Deserialize,
-  Custom,
-  Memory,
-}
+use Rattle.icu_provider.specs.declared.error.DataErrorKind.TheVariants.{IdentifierNotFound, MarkerNotFound, InvalidRequest, Deserialize, Custom, Memory}
 
 -- what Display writes
 abbrev pub kind_name : DataErrorKind → List ℕ

@@ -9,18 +9,7 @@ use Rattle.icu_tables.specs.NamedRows.{marked_exemplars, marked_names, marked_me
 use Rattle.icu_tables.specs.Puts.{map_by}
 use Rattle.icu_tables.specs.Rows.{AliasRows, DirectionRows, FileRows}
 use Rattle.icu_tables.specs.Shape.{Shape, text, pair_of, triple_of, array_of, set_of, map_of}
-use Rattle.icu_tables.specs.Subtags.{
-  language,
-  script,
-  region,
-  variant,
-  language_key,
-  script_key,
-  region_key,
-  variant_key,
-  subtag_key,
-  key_pair,
-}
+use Rattle.icu_tables.specs.Subtags.{language, script, region, variant, language_key, script_key, region_key, variant_key, subtag_key, key_pair}
 
 -- likely subtags by language
 abbrev pub likely_language : Shape LikelySubtagsForLanguage

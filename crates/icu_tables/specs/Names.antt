@@ -5,13 +5,7 @@ use Rattle.std.specs.Map.{lookup}
 use Rattle.std.specs.Option.{option_or}
 use Rattle.icu_provider.specs.declared.data_locale.DataLocale.{DataLocale}
 use Rattle.icu_provider.specs.declared.exemplars.ExemplarMarker.{ExemplarMarker}
-use Rattle.icu_provider.specs.declared.exemplars.ExemplarMarker.TheVariants.{
-  Main,
-  Auxiliary,
-  Punctuation,
-  Numbers,
-  Index,
-}
+use Rattle.icu_provider.specs.declared.exemplars.ExemplarMarker.TheVariants.{Main, Auxiliary, Punctuation, Numbers, Index}
 use Rattle.icu_provider.specs.declared.menus.MenuMarker.{MenuMarker}
 use Rattle.icu_provider.specs.declared.menus.MenuMarker.TheVariants.{MediumLight, MediumHeavy}
 use Rattle.icu_provider.specs.declared.names.NameKey.{NameKey}

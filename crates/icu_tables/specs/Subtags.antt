@@ -1,30 +1,8 @@
 -- Subtags in JSON: as values in any case, as keys in written form alone.
-use Rattle.std.specs.Prelude.{
-  ℕ,
-  Bool,
-  ◌==◌,
-  List,
-  length,
-  nat_eq,
-  nat_lt,
-  if◌then◌else◌,
-  Option,
-  Some,
-  None,
-  option_and_then,
-}
+use Rattle.std.specs.Prelude.{ℕ, Bool, ◌==◌, List, length, nat_eq, nat_lt, if◌then◌else◌, Option, Some, None, option_and_then}
 use Rattle.std.specs.Cmp.Lexicographic.{pointwise}
 use Rattle.std.specs.List.{position_or_len, before_first, after_first}
-use Rattle.icu_locale_core.specs.Subtag.{
-  is_language,
-  is_script,
-  is_region,
-  is_variant,
-  is_subtag,
-  lowercase,
-  titlecase,
-  uppercase,
-}
+use Rattle.icu_locale_core.specs.Subtag.{is_language, is_script, is_region, is_variant, is_subtag, lowercase, titlecase, uppercase}
 use Rattle.icu_tables.specs.Shape.{Shape, both, text_as}
 
 -- the written form of a text of a class, in any case

@@ -1,21 +1,5 @@
 -- What tables in memory answer.
-use Rattle.std.specs.Prelude.{
-  ℕ,
-  Bool,
-  true,
-  false,
-  List,
-  String,
-  if◌then◌else◌,
-  string_bytes,
-  Option,
-  Some,
-  None,
-  option_map,
-  Result,
-  Ok,
-  Err,
-}
+use Rattle.std.specs.Prelude.{ℕ, Bool, true, false, List, String, if◌then◌else◌, string_bytes, Option, Some, None, option_map, Result, Ok, Err}
 use Rattle.std.specs.Global.{Global}
 use Rattle.icu_locale_core.specs.Maps.{value_at}
 use Rattle.icu_provider.specs.Requests.{name_cmp}

@@ -15,11 +15,7 @@ use Rattle.icu_locale.specs.Refusals.{ComesAgainFirst, ValueRepeats}
 use Rattle.icu_locale.specs.declared.canonicalizer.rules.Rules.{Rules}
 use Rattle.icu_locale.specs.declared.canonicalizer.changes.Changes.{Changes}
 use Rattle.icu_locale.specs.declared.canonicalizer.CanonicalizeError.{CanonicalizeError}
-use Rattle.icu_locale.specs.declared.canonicalizer.CanonicalizeError.TheVariants.{
-  Memory,
-  NoFixedPoint,
-  NoSubdivisionFixedPoint,
-}
+use Rattle.icu_locale.specs.declared.canonicalizer.CanonicalizeError.TheVariants.{Memory, NoFixedPoint, NoSubdivisionFixedPoint}
 
 -- a refusal of a run names its first repeat
 abbrev pub IsRunRefusal : (LanguageIdentifier → Option LanguageIdentifier) → LanguageIdentifier

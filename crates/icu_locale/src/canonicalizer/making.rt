@@ -1,14 +1,6 @@
 //! Canonicalizers over tables or a provider.
 ghost use Rattle.std.specs.Prelude.{◌≡◌, Ok, IfOk, IfErr};
-ghost use Rattle.icu_locale.specs.Construction.{
-  common,
-  with_extended,
-  both,
-  loaded_common,
-  loaded_extended,
-  RewritesOver,
-  IsMadeInMemory,
-};
+ghost use Rattle.icu_locale.specs.Construction.{common, with_extended, both, loaded_common, loaded_extended, RewritesOver, IsMadeInMemory};
 ghost use Rattle.icu_locale.specs.Rules.{AreRules};
 
 use super::LocaleCanonicalizer;

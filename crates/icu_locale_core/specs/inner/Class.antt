@@ -1,24 +1,8 @@
 -- The classes of subtags behind one name each.
 use Rattle.std.specs.Prelude.{ℕ, Bool, false, List, zero, Option, Some, None}
-use Rattle.std.specs.Char.{
-  is_ascii_alphabetic,
-  is_ascii_digit,
-  is_ascii_alphanumeric,
-  to_ascii_lowercase,
-  to_ascii_uppercase,
-}
+use Rattle.std.specs.Char.{is_ascii_alphabetic, is_ascii_digit, is_ascii_alphanumeric, to_ascii_lowercase, to_ascii_uppercase}
 use Rattle.std.specs.List.{list_all}
-use Rattle.icu_locale_core.specs.Subtag.{
-  is_language,
-  is_script,
-  is_region,
-  is_variant,
-  is_key,
-  is_subtag,
-  lowercase,
-  titlecase,
-  uppercase,
-}
+use Rattle.icu_locale_core.specs.Subtag.{is_language, is_script, is_region, is_variant, is_key, is_subtag, lowercase, titlecase, uppercase}
 use Rattle.icu_locale_core.specs.declared.classes.Class.{Class}
 use Rattle.icu_locale_core.specs.declared.classes.Class.TheVariants.{Language, Script, Region, Variant, Key, Subtag}
 use Rattle.icu_locale_core.specs.declared.classes.Characters.{Characters}

@@ -1,22 +1,5 @@
 -- Identifiers read piece by piece from the left: what only the reader's own functions cite.
-use Rattle.std.specs.Prelude.{
-  ℕ,
-  Bool,
-  ◌&&◌,
-  ◌==◌,
-  List,
-  [],
-  ◌∷◌,
-  length,
-  map,
-  Option,
-  Some,
-  None,
-  Result,
-  Ok,
-  Err,
-  if◌then◌else◌,
-}
+use Rattle.std.specs.Prelude.{ℕ, Bool, ◌&&◌, ◌==◌, List, [], ◌∷◌, length, map, Option, Some, None, Result, Ok, Err, if◌then◌else◌}
 use Rattle.std.specs.List.{list_all}
 use Rattle.icu_locale_core.specs.Subtag.{is_language, is_script, is_region, is_variant, lowercase, titlecase, uppercase}
 use Rattle.icu_locale_core.specs.TextSet.{TextSet, from_list, len}

@@ -14,13 +14,7 @@ use Rattle.std.proofs.lemmas.List.Kept.{Contains-dedup, Contains-from_dedup}
 use Rattle.std.proofs.lemmas.List.Sorted.{Contains-permutation, IsPermutation-sym}
 use Rattle.std.proofs.lemmas.Slice.Eq.{bytes_eq-Decides}
 use Rattle.icu_locale_core.specs.TextSet.{text_cmp, from_list, rising}
-use Rattle.icu_locale_core.specs.laws.TextSets.{
-  is_among,
-  contains-from_list,
-  same_set,
-  Contains-is_among,
-  is_among-Contains,
-}
+use Rattle.icu_locale_core.specs.laws.TextSets.{is_among, contains-from_list, same_set, Contains-is_among, is_among-Contains}
 
 abbrev with_units : List (List ℕ) → List (List ℕ × Unit {0})
 with_units ts = map (λ t. (t, tt)) ts

@@ -3,23 +3,8 @@ ghost use Rattle.std.specs.Prelude.{◌≡◌};
 ghost use Rattle.std.specs.List.{flat_map};
 ghost use Rattle.std.specs.Option.{option_to_list};
 ghost use Rattle.icu_locale_names.specs.FirstHit.{made_of};
-ghost use Rattle.icu_locale_names.specs.LanguageNames.{
-  in_locale,
-  base_of,
-  keys_of,
-  asks_dialects,
-  menu_base,
-  raw_base,
-  unless_empty,
-};
-ghost use Rattle.icu_locale_names.specs.inner.LanguageParts.{
-  chains_of,
-  shown_base,
-  key_asked,
-  keys_asked,
-  first_asked,
-  base_asked,
-};
+ghost use Rattle.icu_locale_names.specs.LanguageNames.{in_locale, base_of, keys_of, asks_dialects, menu_base, raw_base, unless_empty};
+ghost use Rattle.icu_locale_names.specs.inner.LanguageParts.{chains_of, shown_base, key_asked, keys_asked, first_asked, base_asked};
 ghost use Rattle.icu_locale_names.specs.inner.Shown.{shown_pieces};
 
 use crate::LanguageDisplay;

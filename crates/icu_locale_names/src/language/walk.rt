@@ -3,14 +3,7 @@ ghost use Rattle.std.specs.Prelude.{◌≡◌, ◌∷◌, [], map, MatchOption};
 ghost use Rattle.std.specs.Iterator.{YieldsFirstBy, item_count};
 ghost use Rattle.icu_locale_names.specs.inner.LanguageParts.{pieces_by};
 ghost use Rattle.icu_locale_names.specs.inner.Shown.{piece_of, shown_pieces, lent_piece, lent_pieces};
-ghost use Rattle.icu_locale_names.specs.inner.Walk.{
-  qualifier_pieces,
-  pieces_from_script,
-  pieces_from_region,
-  pieces_of_items,
-  pieces_left,
-  pieces_not_ready,
-};
+ghost use Rattle.icu_locale_names.specs.inner.Walk.{qualifier_pieces, pieces_from_script, pieces_from_region, pieces_of_items, pieces_left, pieces_not_ready};
 
 use crate::language::parts::Parts;
 use crate::shown::{LentPiece, Shown};

@@ -1,27 +1,5 @@
 -- The test of an inversion list says exactly that it is one.
-use Rattle.std.proofs.Common.{
-  ◌≡◌,
-  ℕ,
-  zero,
-  suc,
-  ◌+◌,
-  ◌≤◌,
-  ◌<◌,
-  ◌%◌,
-  ◌==◌,
-  ◌&&◌,
-  Bool,
-  true,
-  false,
-  List,
-  [],
-  ◌∷◌,
-  length,
-  get_or,
-  refl,
-  sym,
-  arith,
-}
+use Rattle.std.proofs.Common.{◌≡◌, ℕ, zero, suc, ◌+◌, ◌≤◌, ◌<◌, ◌%◌, ◌==◌, ◌&&◌, Bool, true, false, List, [], ◌∷◌, length, get_or, refl, sym, arith}
 use Rattle.std.proofs.lemmas.Bool.{and_parts, eqb-true}
 use Rattle.std.proofs.lemmas.Bool.Decides.{nat_tests}
 use native.Mathlib.Numerals.{unary_clauses}

@@ -1,21 +1,5 @@
 -- What a reader answers beside what a value says: what only the readers' own functions cite.
-use Rattle.std.specs.Prelude.{
-  ◌≡◌,
-  ℕ,
-  Bool,
-  true,
-  false,
-  List,
-  map,
-  string_bytes,
-  Option,
-  Some,
-  None,
-  option_map,
-  Result,
-  Ok,
-  Err,
-}
+use Rattle.std.specs.Prelude.{◌≡◌, ℕ, Bool, true, false, List, map, string_bytes, Option, Some, None, option_map, Result, Ok, Err}
 use Rattle.std.specs.Borrow.{Bor}
 use Rattle.icu_provider.specs.declared.aliases.Aliases.{Aliases}
 use Rattle.icu_provider.specs.declared.likely.extended.LikelySubtagsExtended.{LikelySubtagsExtended}
