@@ -1,9 +1,11 @@
 -- Values of keywords and their texts (UTS #35 Part 1, section 3.6.1, type).
-use Rattle.std.specs.Prelude.{◌≡◌, ℕ, Bool, true, ◌||◌, ◌==◌, not, List, [], ◌∷◌, length, map, filter, codes, nat_eq, Option, Some, None, if◌then◌else◌}
+use Rattle.std.specs.Prelude.{◌≡◌, ◌↔◌, ℕ, Bool, true, false, ◌||◌, ◌==◌, not, List, [], ◌∷◌, length, map, filter, codes, nat_eq, Option, Some, None, Result, Err, IfOk, if◌then◌else◌}
 use Rattle.std.specs.List.{All, list_all, join_by}
 use Rattle.std.specs.Cmp.Lexicographic.{pointwise}
 use Rattle.icu_locale_core.specs.Identifier.{pieces}
 use Rattle.icu_locale_core.specs.Subtag.{is_subtag, lowercase, IsSubtag}
+use Rattle.icu_locale_core.specs.declared.parse_error.ParseError.{ParseError}
+use Rattle.icu_locale_core.specs.declared.parse_error.ParseError.TheVariants.{InvalidLanguage, InvalidSubtag, Memory}
 
 -- the piece that is not kept
 abbrev pub is_true : List ℕ → Bool
@@ -35,3 +37,11 @@ only_piece (p ∷ q ∷ ps) = None
 -- a value is written with `-` between its pieces
 abbrev pub written_value : List (List ℕ) → List ℕ
 written_value v = join_by (λ t. t) (codes "-") v
+
+-- reading t gives the value that it reads as, and a text that reads as none is refused for a piece; memory is asked for
+-- pieces that are kept alone
+pub record ReadsValue (t : List ℕ) (result : Result (List (List ℕ)) ParseError) : Type 0 where
+  pub read : IfOk result (λ v. v ≡ read_value t)
+  pub refused : (result ≡ Err InvalidSubtag) ↔ (is_value t ≡ false)
+  pub language : ¬ (result ≡ Err InvalidLanguage)
+  pub free : read_value t ≡ [] → ¬ (result ≡ Err Memory)

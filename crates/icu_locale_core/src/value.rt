@@ -6,7 +6,7 @@ ghost use Rattle.std.specs.Cmp.Rules.{comparing};
 ghost use Rattle.std.specs.Fmt.{WritesOnOk};
 ghost use Rattle.std.specs.List.{list_all, flat_map};
 ghost use Rattle.icu_locale_core.specs.Subtag.{is_subtag};
-ghost use Rattle.icu_locale_core.specs.Value.{IsValue, is_value, read_value, read_subtags, only_piece, written_value};
+ghost use Rattle.icu_locale_core.specs.Value.{IsValue, ReadsValue, read_subtags, only_piece, written_value};
 
 use crate::langid::write_after_dash;
 use crate::pieces::Pieces;
@@ -38,11 +38,7 @@ impl Value {
     /// - `InvalidSubtag` exactly where the text is not empty and some piece is not of 3 to 8 letters or digits.
     /// - `Memory` where the list of pieces could not grow, and never for a value without pieces.
     pub fn try_from_str(alloc: Global, text: &str) -> Result<Self, ParseError>
-        ensures read { IfOk result (λ v. v ≡ read_value text.now) }
-        ensures refused { (result ≡ Err ParseError.InvalidSubtag)
-            ↔ (is_value text.now ≡ false) }
-        ensures language { result ≡ Err ParseError.InvalidLanguage → ⊥ }
-        ensures free { read_value text.now ≡ [] → result ≢ Err ParseError.Memory }
+        ensures { ReadsValue text.now result }
     {
         Value::try_from_utf8(alloc, text.as_bytes())
     }
@@ -53,11 +49,7 @@ impl Value {
     ///
     /// Those of `try_from_str`.
     pub fn try_from_utf8(alloc: Global, text: &[u8]) -> Result<Self, ParseError>
-        ensures read { IfOk result (λ v. v ≡ read_value text.now) }
-        ensures refused { (result ≡ Err ParseError.InvalidSubtag)
-            ↔ (is_value text.now ≡ false) }
-        ensures language { result ≡ Err ParseError.InvalidLanguage → ⊥ }
-        ensures free { read_value text.now ≡ [] → result ≢ Err ParseError.Memory }
+        ensures { ReadsValue text.now result }
     {
         if text.is_empty() {
             return Ok(Value {
