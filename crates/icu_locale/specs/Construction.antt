@@ -9,7 +9,7 @@ use Rattle.icu_provider.specs.declared.direction.ScriptDirection.{ScriptDirectio
 use Rattle.icu_provider.specs.declared.likely.language.LikelySubtagsForLanguage.{LikelySubtagsForLanguage}
 use Rattle.icu_provider.specs.declared.likely.script_region.LikelySubtagsForScriptRegion.{LikelySubtagsForScriptRegion}
 use Rattle.icu_provider.specs.declared.likely.extended.LikelySubtagsExtended.{LikelySubtagsExtended}
-use Rattle.icu_locale.specs.Rules.{AreRules}
+use Rattle.icu_locale.specs.Rules.{AreRules, HasNoTexts}
 use Rattle.icu_locale.specs.declared.expander.LocaleExpander.{LocaleExpander}
 use Rattle.icu_locale.specs.declared.directionality.LocaleDirectionality.{LocaleDirectionality}
 use Rattle.icu_locale.specs.declared.canonicalizer.LocaleCanonicalizer.{LocaleCanonicalizer}
@@ -70,14 +70,19 @@ pub record RewritesOver (over : LikelyTables × Aliases)
   pub expander : StandsOn over.0 c.expander
   pub rules : AreRules over.1 c.rules
 
+-- no text of the aliases is read, so that no rule takes memory
+abbrev pub ReadsNoTexts : LikelyTables × Aliases → Type 0
+ReadsNoTexts over = HasNoTexts over.1
+
 -- what is made stands on what was loaded, and a refused load is given unchanged
 abbrev pub IsMade : {T A : Type 0} → (T → A → Type 0) → Result T DataError → Result A DataError
     → Type 0
 IsMade Stands (Ok loaded) made = IsOkAnd made (Stands loaded)
 IsMade Stands (Err refusal) made = made ≡ Err refusal
 
--- the same, but what is made may find no memory
-abbrev pub IsMadeInMemory : {T A : Type 0} → (T → A → Type 0) → Result T DataError
-    → Result A DataError → Type 0
-IsMadeInMemory Stands (Ok loaded) made = MatchResult made (Stands loaded) (λ e. e.kind ≡ Memory)
-IsMadeInMemory Stands (Err refusal) made = made ≡ Err refusal
+-- the same, but what is made may find no memory, where it takes any
+abbrev pub IsMadeInMemory : {T A : Type 0} → (T → A → Type 0) → (T → Type 0)
+    → Result T DataError → Result A DataError → Type 0
+IsMadeInMemory Stands TakesNone (Ok loaded) made =
+    MatchResult made (Stands loaded) (λ e. (e.kind ≡ Memory) × ¬ (TakesNone loaded))
+IsMadeInMemory Stands TakesNone (Err refusal) made = made ≡ Err refusal

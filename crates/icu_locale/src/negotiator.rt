@@ -1,5 +1,5 @@
 //! Which of the identifiers that are available means what a request means.
-ghost use Rattle.std.specs.Prelude.{◌≡◌, ◌↔◌, ◌<◌, length, Some, Err, IfOk};
+ghost use Rattle.std.specs.Prelude.{◌≡◌, ◌≢◌, ◌↔◌, ◌<◌, [], length, Some, Err, IsOk, IfOk};
 ghost use Rattle.std.specs.Coded.{codes};
 ghost use Rattle.std.specs.List.{All};
 ghost use Rattle.std.specs.List.Sorted.{IsSorted};
@@ -100,7 +100,7 @@ impl<'d> Negotiator<'d> {
     /// # Errors
     ///
     /// - `NotSettled` exactly where `LocaleExpander::is_settled` answers false. This is asked first.
-    /// - `Memory` where the list of minimal forms could not be made.
+    /// - `Memory` where the list of minimal forms could not be made: never where nothing is available.
     ///
     /// The available identifiers are dropped then.
     pub fn try_new(
@@ -113,6 +113,7 @@ impl<'d> Negotiator<'d> {
         ensures settled { IfOk result (λ n. AreSettled (likely n.expander)) }
         ensures refused { (result ≡ Err NegotiatorError.NotSettled)
             ↔ (AreSettled (likely expander.entry) → ⊥) }
+        ensures free { available.items ≡ [] → result ≢ Err NegotiatorError.Memory }
     {
         let rows = settled_rows(alloc, &expander, &available)?;
         Ok(Negotiator {
@@ -166,6 +167,7 @@ fn settled_rows(
     ensures rows { IfOk result (λ rows. IsIndex (likely expander.now) available.now rows.items) }
     ensures refused { (result ≡ Err NegotiatorError.NotSettled)
         ↔ (AreSettled (likely expander.now) → ⊥) }
+    ensures free { available.now ≡ [] → result ≢ Err NegotiatorError.Memory }
 {
     if !expander.is_settled() {
         return Err(NegotiatorError::NotSettled);
@@ -179,7 +181,8 @@ fn sorted_rows(
     expander: &LocaleExpander<'_>,
     available: &[LanguageIdentifier],
 ) -> Result<Vec<Row>, AllocError>
-    ensures { IfOk result (λ rows. IsIndex (likely expander.now) available.now rows.items) }
+    ensures rows { IfOk result (λ rows. IsIndex (likely expander.now) available.now rows.items) }
+    ensures free { available.now ≡ [] → IsOk result }
 {
     let mut rows = Vec::with_capacity(alloc, available.len())?;
     for (place, id) in available.iter().enumerate() {

@@ -1,7 +1,7 @@
 //! Canonicalizers over tables or a provider.
-ghost use Rattle.std.specs.Prelude.{◌≡◌, Ok, IfOk, IfErr};
-ghost use Rattle.icu_locale.specs.Construction.{common, with_extended, both, loaded_common, loaded_extended, RewritesOver, IsMadeInMemory};
-ghost use Rattle.icu_locale.specs.Rules.{AreRules};
+ghost use Rattle.std.specs.Prelude.{◌≡◌, Ok, IsOk, IfOk, IfErr};
+ghost use Rattle.icu_locale.specs.Construction.{common, with_extended, both, loaded_common, loaded_extended, RewritesOver, ReadsNoTexts, IsMadeInMemory};
+ghost use Rattle.icu_locale.specs.Rules.{AreRules, HasNoTexts};
 
 use super::LocaleCanonicalizer;
 use super::reading::read_all;
@@ -19,7 +19,7 @@ impl<'d, E> LocaleCanonicalizer<'d, E> {
     ///
     /// # Errors
     ///
-    /// `Memory` where the rules that were read found no room.
+    /// `Memory` where the rules that were read found no room: never where the table has no text.
     pub fn new_with_expander(
         alloc: Global,
         aliases: &'d Aliases,
@@ -30,6 +30,7 @@ impl<'d, E> LocaleCanonicalizer<'d, E> {
         ensures rules { IfOk result (λ c. AreRules aliases.now c.rules) }
         ensures expander { IfOk result (λ c. c.expander ≡ expander) }
         ensures refused { IfErr result (λ e. e.kind ≡ DataErrorKind.Memory) }
+        ensures free { HasNoTexts aliases.now → IsOk result }
     {
         let rules = read_rules(alloc, aliases)?;
         Ok(LocaleCanonicalizer { rules, expander })
@@ -40,7 +41,7 @@ impl<'d, E> LocaleCanonicalizer<'d, E> {
     ///
     /// # Errors
     ///
-    /// The refusal of the provider, unchanged, and then `Memory` where the rules that were read found no room.
+    /// The refusal of the provider, unchanged, and then `Memory` where the rules that were read found no room: never where the table has no text.
     pub fn try_new_with_expander_unstable<P: DataProvider>(
         alloc: Global,
         provider: &'d P,
@@ -48,8 +49,8 @@ impl<'d, E> LocaleCanonicalizer<'d, E> {
     ) -> Result<Self, DataError>
     where
         E: Drop,
-        ensures made { IsMadeInMemory (λ table c. AreRules table c.rules) (P.aliases provider.now)
-            result }
+        ensures made { IsMadeInMemory (λ table c. AreRules table c.rules) HasNoTexts
+            (P.aliases provider.now) result }
         ensures expander { IfOk result (λ c. c.expander ≡ expander) }
     {
         let aliases = provider.load_aliases()?;
@@ -63,14 +64,14 @@ impl<'d> LocaleCanonicalizer<'d, LocaleExpander<'d>> {
     ///
     /// # Errors
     ///
-    /// `Memory` where the rules that were read found no room.
+    /// `Memory` where the rules that were read found no room: never where the table has no text.
     pub fn new_common(
         alloc: Global,
         language: &'d LikelySubtagsForLanguage,
         script_region: &'d LikelySubtagsForScriptRegion,
         aliases: &'d Aliases,
     ) -> Result<Self, DataError>
-        ensures made { IsMadeInMemory RewritesOver
+        ensures made { IsMadeInMemory RewritesOver ReadsNoTexts
             (Ok (common language.now script_region.now, aliases.now)) result }
     {
         let expander = LocaleExpander::new_common(language, script_region);
@@ -82,7 +83,7 @@ impl<'d> LocaleCanonicalizer<'d, LocaleExpander<'d>> {
     ///
     /// # Errors
     ///
-    /// `Memory` where the rules that were read found no room.
+    /// `Memory` where the rules that were read found no room: never where the table has no text.
     pub fn new_extended(
         alloc: Global,
         language: &'d LikelySubtagsForLanguage,
@@ -90,7 +91,7 @@ impl<'d> LocaleCanonicalizer<'d, LocaleExpander<'d>> {
         extended: &'d LikelySubtagsExtended,
         aliases: &'d Aliases,
     ) -> Result<Self, DataError>
-        ensures made { IsMadeInMemory RewritesOver
+        ensures made { IsMadeInMemory RewritesOver ReadsNoTexts
             (Ok (with_extended language.now script_region.now extended.now, aliases.now)) result }
     {
         let expander = LocaleExpander::new_extended(language, script_region, extended);
@@ -102,12 +103,12 @@ impl<'d> LocaleCanonicalizer<'d, LocaleExpander<'d>> {
     ///
     /// # Errors
     ///
-    /// The first refusal of the provider, unchanged, and then `Memory` where the rules that were read found no room.
+    /// The first refusal of the provider, unchanged, and then `Memory` where the rules that were read found no room: never where the table has no text.
     pub fn try_new_common_unstable<P: DataProvider>(
         alloc: Global,
         provider: &'d P,
     ) -> Result<Self, DataError>
-        ensures { IsMadeInMemory RewritesOver
+        ensures { IsMadeInMemory RewritesOver ReadsNoTexts
             (both (loaded_common (P.likely_language provider.now)
             (P.likely_script_region provider.now)) (P.aliases provider.now)) result }
     {
@@ -120,12 +121,12 @@ impl<'d> LocaleCanonicalizer<'d, LocaleExpander<'d>> {
     ///
     /// # Errors
     ///
-    /// The first refusal of the provider, unchanged, and then `Memory` where the rules that were read found no room.
+    /// The first refusal of the provider, unchanged, and then `Memory` where the rules that were read found no room: never where the table has no text.
     pub fn try_new_extended_unstable<P: DataProvider>(
         alloc: Global,
         provider: &'d P,
     ) -> Result<Self, DataError>
-        ensures { IsMadeInMemory RewritesOver
+        ensures { IsMadeInMemory RewritesOver ReadsNoTexts
             (both (loaded_extended (P.likely_language provider.now)
             (P.likely_script_region provider.now) (P.likely_extended provider.now))
             (P.aliases provider.now)) result }
@@ -139,6 +140,7 @@ impl<'d> LocaleCanonicalizer<'d, LocaleExpander<'d>> {
 fn read_rules<'d>(alloc: Global, aliases: &'d Aliases) -> Result<Rules<'d>, DataError>
     ensures rules { IfOk result (AreRules aliases.now) }
     ensures refused { IfErr result (λ e. e.kind ≡ DataErrorKind.Memory) }
+    ensures free { HasNoTexts aliases.now → IsOk result }
 {
     let language = read_all(alloc, aliases.language.as_slice())?;
     let language_variants = read_all(alloc, aliases.language_variants.as_slice())?;

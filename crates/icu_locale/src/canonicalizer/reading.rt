@@ -1,5 +1,5 @@
 // Rules are read of the texts of a table, each text once.
-ghost use Rattle.std.specs.Prelude.{◌≡◌, ◌++◌, IfOk, IfErr, OnOk, MatchOption, true, false, map};
+ghost use Rattle.std.specs.Prelude.{◌≡◌, ◌++◌, [], IsOk, IfOk, IfErr, OnOk, MatchOption, true, false, map};
 ghost use Rattle.std.specs.Option.{option_to_list};
 ghost use Rattle.std.specs.List.{list_all};
 ghost use Rattle.icu_locale_core.specs.TextSet.{from_list};
@@ -40,6 +40,7 @@ pub trait Readable {
 pub fn read_all<R: Readable>(alloc: Global, rows: &[R]) -> Result<Vec<R::Kept>, DataError>
     ensures read { IfOk result (λ kept. AreRead R.reads rows.now kept.items) }
     ensures refused { IfErr result (λ e. e.kind ≡ DataErrorKind.Memory) }
+    ensures free { rows.now ≡ [] → IsOk result }
 {
     let mut list = Vec::new(alloc);
     for row in rows {
