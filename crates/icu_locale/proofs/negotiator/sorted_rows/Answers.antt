@@ -13,8 +13,8 @@ loop-place-preserved c =
     rw c.in_ok-push.ensures.items (AreListed-push _ _ c.loop-place.place _ (record { minimal = c.plain_form-minimal.result; place = c.loop-place.place }) c.loop-place.invariant (record { identifier = id; stands = stands; known = c.plain_form-minimal.ensures.known; form = c.plain_form-minimal.ensures.form }) refl)
 
 -- all of them, sorted
-pub returns : goal.returns
-returns c =
+pub returns-clause-rows : goal.returns-clause-rows
+returns-clause-rows c =
     let all : c.loop-place.place ≡ length c.args.available.now = omega arith in
     let listed = subst (λ n. AreListed (likely c.args.expander.now) c.args.available.now n c.loop-place.rows.items) all c.loop-place.invariant in
     IsIndex-sorted _ _ _ _ listed c.sort_unstable.ensures.permutation c.sort_unstable.ensures.sorted
