@@ -12,3 +12,12 @@ returns-in-Err-clause-free c = λ adds out.
     let behind : AddsNoPieces c.args.rules.now c.in-Some.value.now = subst (λ o. IfSome (option_copied o) (AddsNoPieces c.args.rules.now)) c.in-Some.is adds in
     let fine = c.end_of_run.ensures.free behind in
     absurd (search rules)
+
+pub returns-in-Ok-Ends-clause-end : goal.returns-in-Ok-Ends-clause-end
+returns-in-Ok-Ends-clause-end c = search rules
+
+pub returns-in-Ok-Ends-clause-refused : goal.returns-in-Ok-Ends-clause-refused
+returns-in-Ok-Ends-clause-refused c = search rules
+
+pub returns-in-Ok-Repeats-clause-refused : goal.returns-in-Ok-Repeats-clause-refused
+returns-in-Ok-Repeats-clause-refused c = search rules
