@@ -6,8 +6,7 @@ PROGRAM = icu_locale_cli
 .SILENT: test
 
 all:
-	cd crates/$(PROGRAM) && rt run -- settled < /dev/null > /dev/null
-	cp crates/$(PROGRAM)/out/$(PROGRAM) $(PROGRAM)
+	tools/build $(PROGRAM)
 
 test:
 	.ci/layout/run
