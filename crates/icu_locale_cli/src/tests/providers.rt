@@ -190,46 +190,37 @@ pub fn refusal(kind: DataErrorKind) -> Option<DataError> {
     Some(DataError { kind })
 }
 
-fn refused_language(rt: &impl Abort, alloc: Global, tables: &Tables, want: Option<DataError>) {
+// What refuses an expander, a directionality and a canonicalizer over the common tables.
+fn common_refusals(alloc: Global, provider: &Refusing<'_>) -> [Option<DataError>; 3] {
+    [
+        LocaleExpander::try_new_common_unstable(provider).err(),
+        LocaleDirectionality::try_new_common_unstable(provider).err(),
+        LocaleCanonicalizer::try_new_common_unstable(alloc, provider).err(),
+    ]
+}
+
+// What refuses them over the extended tables too.
+fn extended_refusals(alloc: Global, provider: &Refusing<'_>) -> [Option<DataError>; 3] {
+    [
+        LocaleExpander::try_new_extended_unstable(provider).err(),
+        LocaleDirectionality::try_new_extended_unstable(provider).err(),
+        LocaleCanonicalizer::try_new_extended_unstable(alloc, provider).err(),
+    ]
+}
+
+fn refused_likely_tables(rt: &impl Abort, alloc: Global, tables: &Tables, want: Option<DataError>) {
     let mut provider = willing(tables);
     provider.language = want;
-    assert!(rt; LocaleExpander::try_new_common_unstable(&provider).err() == want);
-    assert!(rt; LocaleExpander::try_new_extended_unstable(&provider).err() == want);
-    assert!(rt; LocaleDirectionality::try_new_common_unstable(&provider).err() == want);
-    assert!(rt; LocaleDirectionality::try_new_extended_unstable(&provider).err() == want);
-    canonicalizers_answer(rt, alloc, &provider, want, want);
-}
-
-fn refused_script_region(rt: &impl Abort, alloc: Global, tables: &Tables, want: Option<DataError>) {
+    assert!(rt; common_refusals(alloc, &provider) == [want; 3]);
+    assert!(rt; extended_refusals(alloc, &provider) == [want; 3]);
     let mut provider = willing(tables);
     provider.script_region = want;
-    assert!(rt; LocaleExpander::try_new_common_unstable(&provider).err() == want);
-    assert!(rt; LocaleExpander::try_new_extended_unstable(&provider).err() == want);
-    assert!(rt; LocaleDirectionality::try_new_common_unstable(&provider).err() == want);
-    assert!(rt; LocaleDirectionality::try_new_extended_unstable(&provider).err() == want);
-    canonicalizers_answer(rt, alloc, &provider, want, want);
-}
-
-fn refused_extended(rt: &impl Abort, alloc: Global, tables: &Tables, want: Option<DataError>) {
+    assert!(rt; common_refusals(alloc, &provider) == [want; 3]);
+    assert!(rt; extended_refusals(alloc, &provider) == [want; 3]);
     let mut provider = willing(tables);
     provider.extended = want;
-    assert!(rt; LocaleExpander::try_new_common_unstable(&provider).is_ok());
-    assert!(rt; LocaleExpander::try_new_extended_unstable(&provider).err() == want);
-    assert!(rt; LocaleDirectionality::try_new_common_unstable(&provider).is_ok());
-    assert!(rt; LocaleDirectionality::try_new_extended_unstable(&provider).err() == want);
-    canonicalizers_answer(rt, alloc, &provider, None, want);
-}
-
-// What refuses a canonicalizer over the common tables, and one over the extended ones.
-fn canonicalizers_answer(
-    rt: &impl Abort,
-    alloc: Global,
-    provider: &Refusing<'_>,
-    common: Option<DataError>,
-    extended: Option<DataError>,
-) {
-    assert!(rt; LocaleCanonicalizer::try_new_common_unstable(alloc, provider).err() == common);
-    assert!(rt; LocaleCanonicalizer::try_new_extended_unstable(alloc, provider).err() == extended);
+    assert!(rt; common_refusals(alloc, &provider) == [None; 3]);
+    assert!(rt; extended_refusals(alloc, &provider) == [want; 3]);
 }
 
 fn refused_aliases(
@@ -240,12 +231,13 @@ fn refused_aliases(
 ) -> Result<(), Fail> {
     let mut provider = willing(tables);
     provider.aliases = want;
-    canonicalizers_answer(rt, alloc, &provider, want, want);
     let expander = LocaleExpander::try_new_common_unstable(tables)?;
-    let with = LocaleCanonicalizer::try_new_with_expander_unstable(
-        alloc, &provider, expander,
-    ).err();
-    assert!(rt; with == want);
+    let refusals = [
+        LocaleCanonicalizer::try_new_common_unstable(alloc, &provider).err(),
+        LocaleCanonicalizer::try_new_extended_unstable(alloc, &provider).err(),
+        LocaleCanonicalizer::try_new_with_expander_unstable(alloc, &provider, expander).err(),
+    ];
+    assert!(rt; refusals == [want; 3]);
     Ok(())
 }
 
@@ -257,14 +249,13 @@ fn refused_directions(
     let mut provider = willing(tables);
     provider.directions = want;
     let expander = LocaleExpander::try_new_extended_unstable(&provider)?;
-    assert!(rt; LocaleDirectionality::try_new_common_unstable(&provider).err() == want);
-    assert!(rt; LocaleDirectionality::try_new_extended_unstable(&provider).err() == want);
-    assert!(rt;
-        LocaleDirectionality::try_new_with_expander_unstable(&provider, expander).err() == want
-    );
-    assert!(rt;
-        LocaleDirectionality::try_new_with_expander_unstable(&provider, &expander).err() == want
-    );
+    let refusals = [
+        LocaleDirectionality::try_new_common_unstable(&provider).err(),
+        LocaleDirectionality::try_new_extended_unstable(&provider).err(),
+        LocaleDirectionality::try_new_with_expander_unstable(&provider, expander).err(),
+        LocaleDirectionality::try_new_with_expander_unstable(&provider, &expander).err(),
+    ];
+    assert!(rt; refusals == [want; 4]);
     Ok(())
 }
 
@@ -273,9 +264,7 @@ fn each_refusal_at_each_load(rt: HostRuntime) -> Result<(), Fail> {
     let mut tables = sample(rt.alloc())?;
     tables.set_likely_extended(LikelySubtagsExtended::new(rt.alloc()));
     for kind in KINDS {
-        refused_language(&rt, rt.alloc(), &tables, refusal(kind));
-        refused_script_region(&rt, rt.alloc(), &tables, refusal(kind));
-        refused_extended(&rt, rt.alloc(), &tables, refusal(kind));
+        refused_likely_tables(&rt, rt.alloc(), &tables, refusal(kind));
         refused_aliases(&rt, rt.alloc(), &tables, refusal(kind))?;
         refused_directions(&rt, &tables, refusal(kind))?;
     }

@@ -2,10 +2,11 @@
 use icu_locale_core::{Language, Region, Script};
 use icu_provider::{
     DataError, DataErrorKind, DataLocale, DataProvider, DoublePlaceholderPattern,
-    LocaleNamesEssentials, MenuMarker, MenuNameParts, PatternItem,
+    LikelySubtagsForLanguage, LocaleNamesEssentials, MenuMarker, MenuNameParts, PatternItem,
 };
 use icu_tables::Tables;
 use std::alloc::Global;
+use std::process::Abort;
 use std::test::Fail;
 
 const NOT_FOUND: DataError = DataError {
@@ -81,11 +82,14 @@ fn read(alloc: Global, text: &str) -> Result<Tables, Fail> {
 #[test]
 fn an_object_without_members_is_no_table(rt: HostRuntime) -> Result<(), Fail> {
     let tables = read(rt.alloc(), "{}")?;
-    assert!(rt; tables.load_likely_language().is_err());
-    assert!(rt; tables.load_likely_script_region().is_err());
-    assert!(rt; tables.load_likely_extended().is_err());
-    assert!(rt; tables.load_aliases().is_err());
-    assert!(rt; tables.load_script_direction().is_err());
+    let refusals = [
+        tables.load_likely_language().err(),
+        tables.load_likely_script_region().err(),
+        tables.load_likely_extended().err(),
+        tables.load_aliases().err(),
+        tables.load_script_direction().err(),
+    ];
+    assert!(rt; refusals == [Some(NOT_FOUND); 5]);
     Ok(())
 }
 
@@ -96,15 +100,16 @@ fn values_are_read_in_any_case_and_keys_in_their_own(rt: HostRuntime) -> Result<
         "language": {"AR": ["Arab", "EG"], "zh": ["HANS", "cn"]}
     }}"#;
     let tables = read(rt.alloc(), text)?;
-    let table = tables.load_likely_language()?;
+    values_of_languages(&rt, tables.load_likely_language()?)
+}
+
+// A row has its values in written case, and none is at a key that is not.
+fn values_of_languages(rt: &impl Abort, table: &LikelySubtagsForLanguage) -> Result<(), Fail> {
     let (language, script, region) = table.und();
-    assert_eq!(rt; language.as_str(), "en");
-    assert_eq!(rt; script.as_str(), "Latn");
-    assert_eq!(rt; region.as_str(), "US");
-    assert!(rt; table.get_language(Language::try_from_str("ar")?).is_none());
-    assert_eq!(rt;
-        table.get_language(Language::try_from_str("zh")?),
-        Some((Script::try_from_str("Hans")?, Region::try_from_str("CN")?))
-    );
+    let und = [language.as_str(), script.as_str(), region.as_str()];
+    assert!(rt; und == ["en", "Latn", "US"]);
+    let chinese = (Script::try_from_str("Hans")?, Region::try_from_str("CN")?);
+    assert!(rt; table.get_language(Language::try_from_str("zh")?) == Some(chinese));
+    assert!(rt; table.get_language(Language::try_from_str("ar")?) == None);
     Ok(())
 }
