@@ -12,11 +12,11 @@ fn filled(alloc: Global, keys: &[u16]) -> Result<SortedMap<u16, u16>, DataError>
     Ok(map)
 }
 
-// A map with 200 rows, put in so many keys apart, round and round; the value of each is its key.
-fn filled_in_steps(alloc: Global, step: u16) -> Result<SortedMap<u16, u16>, DataError> {
+// A map with 200 rows, put in from a key on, so many keys apart, round and round; the value of each is its key.
+fn filled_in_steps(alloc: Global, first: u16, step: u16) -> Result<SortedMap<u16, u16>, DataError> {
     let mut map = SortedMap::new(alloc);
     for place in 0..200_u16 {
-        let key = place.wrapping_mul(step) % 200;
+        let key = place.wrapping_mul(step).wrapping_add(first) % 200;
         map.insert(key, key)?;
     }
     Ok(map)
@@ -25,11 +25,15 @@ fn filled_in_steps(alloc: Global, step: u16) -> Result<SortedMap<u16, u16>, Data
 #[test]
 fn each_order_of_inserts_gives_the_same_walk(rt: HostRuntime) -> Result<(), Fail> {
     // rising, falling and mixed
-    for step in [1, 199, 77] {
-        let map = filled_in_steps(rt.alloc(), step)?;
+    for (first, step) in [(0, 1), (199, 199), (0, 77)] {
+        let map = filled_in_steps(rt.alloc(), first, step)?;
         assert!(rt; map.len() == 200, "in steps of {step}");
         assert!(rt;
             map.iter().map(|(key, _)| *key).eq(0..200),
+            "in steps of {step}"
+        );
+        assert!(rt;
+            map.iter().map(|(_, value)| *value).eq(0..200),
             "in steps of {step}"
         );
     }
