@@ -41,7 +41,8 @@ impl<'d, E> LocaleCanonicalizer<'d, E> {
     ///
     /// # Errors
     ///
-    /// The refusal of the provider, unchanged, and then `Memory` where the rules that were read found no room: never where the table has no text.
+    /// The refusal of the provider, unchanged, and then `Memory` where the rules that were read found no room: never
+    /// where the table has no text.
     pub fn try_new_with_expander_unstable<P: DataProvider>(
         alloc: Global,
         provider: &'d P,
@@ -103,7 +104,8 @@ impl<'d> LocaleCanonicalizer<'d, LocaleExpander<'d>> {
     ///
     /// # Errors
     ///
-    /// The first refusal of the provider, unchanged, and then `Memory` where the rules that were read found no room: never where the table has no text.
+    /// The first refusal of the provider, unchanged, and then `Memory` where the rules that were read found no room:
+    /// never where the table has no text.
     pub fn try_new_common_unstable<P: DataProvider>(
         alloc: Global,
         provider: &'d P,
@@ -121,7 +123,8 @@ impl<'d> LocaleCanonicalizer<'d, LocaleExpander<'d>> {
     ///
     /// # Errors
     ///
-    /// The first refusal of the provider, unchanged, and then `Memory` where the rules that were read found no room: never where the table has no text.
+    /// The first refusal of the provider, unchanged, and then `Memory` where the rules that were read found no room:
+    /// never where the table has no text.
     pub fn try_new_extended_unstable<P: DataProvider>(
         alloc: Global,
         provider: &'d P,

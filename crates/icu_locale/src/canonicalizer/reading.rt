@@ -2,7 +2,10 @@
 ghost use Rattle.std.specs.Prelude.{◌≡◌, ◌++◌, [], IsOk, IfOk, IfErr, OnOk, MatchOption, true, false, map};
 ghost use Rattle.std.specs.Option.{option_to_list};
 ghost use Rattle.std.specs.List.{list_all};
+ghost use Rattle.std.specs.String.{string_bytes};
+ghost use Rattle.icu_locale_core.specs.Identifier.{has_variant};
 ghost use Rattle.icu_locale_core.specs.TextSet.{from_list};
+ghost use Rattle.icu_locale_core.specs.Value.{read_value};
 ghost use Rattle.icu_locale.specs.Rules.{
   Reads,
   ReadsRule,
@@ -30,10 +33,14 @@ pub trait Readable {
 
     ghost reads: { Self → Self.Kept → Type 0 };
 
+    // Reading it asks for no memory.
+    ghost is_free: { Self → Type 0 };
+
     fn read(&self, alloc: Global) -> Result<Option<Self::Kept>, DataError>
         ensures read { IfOk result (λ kept. MatchOption kept
             ((k : Self.Kept) → ¬ (reads self.now k)) (reads self.now)) }
-        ensures refused { IfErr result (λ e. e.kind ≡ DataErrorKind.Memory) };
+        ensures refused { IfErr result (λ e. e.kind ≡ DataErrorKind.Memory) }
+        ensures free { is_free self.now → IsOk result };
 }
 
 // What the rows are read as, in order, without those that cannot be read.
@@ -65,6 +72,9 @@ impl Readable for StrStrPair {
 
     ghost reads = { ReadsRule };
 
+    ghost is_free = { λ row. (has_variant (string_bytes row.0) ≡ false)
+        × (has_variant (string_bytes row.1) ≡ false) };
+
     fn read(&self, alloc: Global) -> Result<Option<Rule>, DataError> {
         let Some(source) = read_identifier(alloc, self.0.as_str())? else {
             return Ok(None);
@@ -83,6 +93,8 @@ impl Readable for LanguageStrStrPair {
     type Kept = Rule;
 
     ghost reads = { ReadsVariantRule };
+
+    ghost is_free = { λ _. ⊥ };
 
     fn read(&self, alloc: Global) -> Result<Option<Rule>, DataError> {
         let Some(variants) = read_variants(alloc, self.1.as_str())? else {
@@ -108,6 +120,8 @@ impl Readable for (Language, String) {
 
     ghost reads = { ReadsLanguage };
 
+    ghost is_free = { λ row. has_variant (string_bytes row.1) ≡ false };
+
     fn read(&self, alloc: Global) -> Result<Option<(Language, LanguageIdentifier)>, DataError> {
         let Some(replacement) = read_identifier(alloc, self.1.as_str())? else {
             return Ok(None);
@@ -120,6 +134,8 @@ impl Readable for (Subtag, String) {
     type Kept = (Subtag, Value);
 
     ghost reads = { ReadsSubdivision };
+
+    ghost is_free = { λ row. read_value (string_bytes row.1) ≡ [] };
 
     fn read(&self, alloc: Global) -> Result<Option<(Subtag, Value)>, DataError> {
         match Value::try_from_str(alloc, self.1.as_str()) {
@@ -134,6 +150,7 @@ fn read_identifier(alloc: Global, text: &str) -> Result<Option<LanguageIdentifie
     ensures read { IfOk result (λ x. MatchOption x
         ((y : LanguageIdentifier) → ¬ (Reads text.now y)) (Reads text.now)) }
     ensures refused { IfErr result (λ e. e.kind ≡ DataErrorKind.Memory) }
+    ensures free { has_variant text.now ≡ false → IsOk result }
 {
     match LanguageIdentifier::try_from_str(alloc, text) {
         Ok(x) => Ok(Some(x)),
@@ -164,6 +181,7 @@ fn read_pieces(alloc: Global, pieces: &[&str]) -> Result<Option<Variants>, DataE
         (λ s. (list_all is_lower_variant (map (λ p. p.now) pieces.now) ≡ true)
         × (s ≡ from_list (map (λ p. p.now) pieces.now)))) }
     ensures refused { IfErr result (λ e. e.kind ≡ DataErrorKind.Memory) }
+    ensures free { pieces.now ≡ [] → IsOk result }
 {
     let mut list = Vec::new(alloc);
     for piece in pieces {
