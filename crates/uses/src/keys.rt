@@ -1,10 +1,11 @@
 //! Canonical keys for a store.
-ghost use Rattle.std.specs.Prelude.{◌≡◌, ◌⊎◌, ◌↔◌, IsTrue, IfOk, IfErr, string_bytes};
+ghost use Rattle.std.specs.Prelude.{◌≡◌, ◌↔◌, IsTrue, IfOk, IfErr, string_bytes};
 ghost use Rattle.icu_locale_core.specs.Identifier.{IsIdentifier, written};
 ghost use Rattle.icu_locale_core.specs.declared.locale.Locale.{Locale};
 ghost use Rattle.icu_locale.specs.Canonical.{IsCanonical};
 ghost use Rattle.icu_locale.specs.LikelyTable.{likely};
 ghost use Rattle.icu_locale.specs.Refusals.{IsRefusal};
+ghost use Rattle.uses.specs.Keys.{IsFirstRefusal};
 
 use icu_locale::{CanonicalizeError, LocaleCanonicalizer, laws};
 use icu_locale_core::{Locale, laws as texts};
@@ -39,7 +40,7 @@ pub fn store_key(
 ///
 /// # Errors
 ///
-/// The first refusal of the rules, or `Memory`.
+/// The refusal of the rules of the first locale, or else of the second, or `Memory`.
 pub fn have_one_key(
     alloc: Global,
     canonicalizer: &LocaleCanonicalizer<'_>,
@@ -50,9 +51,8 @@ pub fn have_one_key(
         → IsCanonical (likely canonicalizer.now.expander) canonicalizer.now.rules one x
         → IsCanonical (likely canonicalizer.now.expander) canonicalizer.now.rules other y
         → IsTrue told ↔ (x.id ≡ y.id)) }
-    ensures refused { IfErr result (λ e.
-        IsRefusal (likely canonicalizer.now.expander) canonicalizer.now.rules one e
-        ⊎ IsRefusal (likely canonicalizer.now.expander) canonicalizer.now.rules other e) }
+    ensures refused { IfErr result (IsFirstRefusal (likely canonicalizer.now.expander)
+        canonicalizer.now.rules one other) }
 {
     texts::written_once();
     laws::runs_end_or_repeat();

@@ -1,4 +1,5 @@
-use Rattle.std.proofs.Common.{sym, ◌∙◌, false, string_bytes}
+use Rattle.std.proofs.Common.{sym, ◌∙◌, false, string_bytes, inr}
+use Rattle.std.proofs.lemmas.Result.{err_from_is_err_and}
 use Rattle.std.proofs.lemmas.Slice.Eq.{bytes_eq-Decides}
 use Rattle.icu_locale.specs.LikelyTable.{likely}
 use Rattle.uses.proofs.keys.have_one_key.Goals as goal
@@ -18,3 +19,10 @@ returns-clause-told c x y canonical_x canonical_y =
       λ told. is_one ∙ law.0 (sym one.3 ∙ decides.0 (sym c.eq.ensures ∙ told) ∙ other.3) ∙ sym is_other,
       λ same. c.eq.ensures ∙ decides.1 (one.3 ∙ law.1 (sym is_one ∙ same ∙ is_other) ∙ sym other.3),
     )
+
+-- the first locale has a canonical form by then
+pub returns-in_err-other-clause-refused : goal.returns-in_err-other-clause-refused
+returns-in_err-other-clause-refused c =
+    let passed_on = err_from_is_err_and c.from_residual-in_err-other.result c.from_residual-in_err-other.ensures.1 in
+    let one = c.in_ok-one.ensures.key in
+    rw (passed_on.1, passed_on.2) (inr ((one.0, one.1), c.in_err-other.ensures.refused))
