@@ -34,8 +34,8 @@ pub use canonicalization::{
 pub fn the_likely_table_is_one_map()
     ensures one { (e : LocaleExpander) (k : LikelyKey) (t u : Triple) → likely e k ≡ Some t
         → likely e k ≡ Some u → t ≡ u }
-    ensures own_subtags { (e : LocaleExpander) (k : LikelyKey) (t : Triple) → likely e k ≡ Some t
-        → HasKey t k }
+    ensures own_subtags { (e : LocaleExpander) (k : LikelyKey) (t : Triple)
+        → likely e k ≡ Some t → HasKey t k }
     ensures finite { (e : LocaleExpander) (k : LikelyKey) (t : Triple) → likely e k ≡ Some t
         → Contains (table_keys e) k }
     ensures common { (e : LocaleExpander) (k : LikelyKey) (t : Triple) → common_row e k ≡ Some t
