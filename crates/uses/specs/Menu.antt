@@ -1,5 +1,5 @@
 -- The line of a menu.
-use Rattle.std.specs.Prelude.{◌≡◌, ◌≤◌, ◌^◌, List, length, Result, Ok, Err}
+use Rattle.std.specs.Prelude.{◌≡◌, ◌⊎◌, ◌≤◌, ◌^◌, List, [], ◌∷◌, length, Result, Ok, Err}
 use Rattle.icu_provider.specs.declared.error.DataError.{DataError}
 use Rattle.icu_locale_core.specs.declared.langid.LanguageIdentifier.{LanguageIdentifier}
 use Rattle.icu_locale_names.specs.LanguageChains.{language_light}
@@ -32,3 +32,10 @@ abbrev pub IsLineFor : LocaleAnswers → LanguageIdentifier → Result MenuLine 
 IsLineFor answers x result =
     (name : Result (List Piece) DataError) × IsLineOf name result
     × GivesName answers language_light Dialect x name
+
+-- the refusal of the first identifier that has no line
+abbrev pub IsFirstRefusal : LocaleAnswers → List LanguageIdentifier → MenuError → Type 0
+IsFirstRefusal answers [] refusal = ⊥
+IsFirstRefusal answers (x ∷ xs) refusal =
+    IsLineFor answers x (Err refusal)
+    ⊎ (((line : MenuLine) × IsLineFor answers x (Ok line)) × IsFirstRefusal answers xs refusal)

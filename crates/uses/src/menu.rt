@@ -1,8 +1,8 @@
 //! A settings menu of names, with raw parts marked.
-ghost use Rattle.std.specs.Prelude.{◌≡◌, ◌⊎◌, ◌++◌, ◌∷◌, [], Ok, Err, IfOk, IfErr, OnOk};
-ghost use Rattle.std.specs.List.{Any, AllZip};
+ghost use Rattle.std.specs.Prelude.{◌≡◌, ◌⊎◌, ◌++◌, ◌∷◌, [], Ok, IfOk, IfErr, OnOk};
+ghost use Rattle.std.specs.List.{AllZip};
 ghost use Rattle.icu_locale_names.specs.LanguageNames.{in_locale};
-ghost use Rattle.uses.specs.Menu.{IsLineFor, Shows};
+ghost use Rattle.uses.specs.Menu.{IsLineFor, IsFirstRefusal, Shows};
 
 use icu_locale_core::LanguageIdentifier;
 use icu_locale_names::{
@@ -34,7 +34,7 @@ pub enum MenuError {
 ///
 /// # Errors
 ///
-/// The error of a line, or `Unwritten` where there was no room for the lines.
+/// The error of the first identifier that has no line, or `Unwritten` where there was no room for the lines.
 pub fn menu_lines<P: DataProvider>(
     alloc: Global,
     provider: &P,
@@ -46,8 +46,8 @@ pub fn menu_lines<P: DataProvider>(
         (P.essentials provider.now) preferences.now.locale) x (Ok line))
         subjects.now lines.items) }
     ensures refused { IfErr result (λ e. (e ≡ MenuError.Unwritten NameWriteError.Memory)
-        ⊎ Any (λ x. IsLineFor (in_locale (P.name provider.now) (P.menu provider.now)
-        (P.essentials provider.now) preferences.now.locale) x (Err e)) subjects.now) }
+        ⊎ IsFirstRefusal (in_locale (P.name provider.now) (P.menu provider.now)
+        (P.essentials provider.now) preferences.now.locale) subjects.now e) }
 {
     let mut lines = Vec::new(alloc);
     for subject in subjects {

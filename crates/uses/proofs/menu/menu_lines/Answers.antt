@@ -1,12 +1,16 @@
-use Rattle.std.proofs.Common.{Ok, inr, sym}
+use Rattle.std.proofs.Common.{Ok, inr}
 use Rattle.icu_locale_names.specs.LanguageNames.{in_locale}
 use Rattle.uses.specs.Menu.{IsLineFor}
-use Rattle.uses.proofs.Lines.{all_zip_further}
+use Rattle.uses.proofs.Lines.{all_zip_further, first_refusal}
 use Rattle.uses.proofs.menu.menu_lines.Goals as goal
 
--- the line that there is none of
+-- the first that there is no line of
 pub returns-in-Err-clause-refused : goal.returns-in-Err-clause-refused
-returns-in-Err-clause-refused g c = inr (c.loop-subject.subject-index, c.subject-item.result, c.loop-subject-test.true, sym c.subject-item.is, c.in-Err.ensures)
+returns-in-Err-clause-refused g c =
+    let provider = c.args.provider.now in
+    let answers = in_locale (g.P.DataProvider.name provider) (g.P.DataProvider.menu provider) (g.P.DataProvider.essentials provider) c.args.preferences.now.locale in
+    inr (first_refusal answers c.args.subjects.now c.loop-subject.lines.items c.loop-subject.subject-index c.subject-item.result c.in-Err.refusal
+    c.loop-subject-test.true c.subject-item.is c.loop-subject.invariant c.in-Err.ensures)
 
 -- one line more
 pub loop-subject-preserved : goal.loop-subject-preserved
