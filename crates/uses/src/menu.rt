@@ -51,10 +51,8 @@ pub fn menu_lines<P: DataProvider>(
 {
     let mut lines = Vec::new(alloc);
     for subject in subjects {
-        match menu_line(alloc, provider, *preferences, subject) {
-            Ok(line) => push_line(&mut lines, line)?,
-            Err(refusal) => return Err(refusal),
-        }
+        let line = menu_line(alloc, provider, *preferences, subject)?;
+        push_line(&mut lines, line)?;
     }
     Ok(lines)
 }
