@@ -3,7 +3,7 @@ ghost use Rattle.std.specs.Prelude.{◌≡◌, ◌↔◌, [], IsTrue, IsSome, Is
 ghost use Rattle.std.specs.Cmp.{partial_equiv_from_equiv};
 ghost use Rattle.std.specs.Cmp.Lexicographic.{pointwise, lists_equiv};
 ghost use Rattle.icu_locale_core.specs.Keywords.{with_value, without_key, row_eq, KeywordRows};
-ghost use Rattle.icu_locale_core.specs.Maps.{value_at, SetsOnly};
+ghost use Rattle.icu_locale_core.specs.Maps.{IsSortedMap, value_at, SetsOnly};
 ghost use Rattle.icu_locale_core.specs.laws.Rows.{rows_equiv};
 ghost use Rattle.icu_locale_core.specs.TextSet.{text_cmp};
 
@@ -44,6 +44,13 @@ impl Keywords {
         ensures { IsTrue result ↔ (self.now ≡ []) }
     {
         self.map.is_empty()
+    }
+
+    /// Nothing, but that the keys rise, so that no key comes twice.
+    pub fn known(&self)
+        ensures { IsSortedMap text_cmp self.now }
+    {
+        let _ = self.map.len();
     }
 
     /// The value at a key, if any. It takes no memory.

@@ -1,10 +1,14 @@
 //! Laws of texts and identifiers. Each function here takes nothing, answers nothing and carries a proved fact.
-ghost use Rattle.std.specs.Prelude.{◌≡◌, ◌↔◌, List, ℕ, true, false};
+ghost use Rattle.std.specs.Prelude.{◌≡◌, ◌↔◌, ◌<◌, ◌&&◌, ◌||◌, not, List, ℕ, Some, true, false};
+ghost use Rattle.std.specs.List.{Contains};
+ghost use Rattle.std.specs.List.Sorted.{IsStrictlySortedBy};
 ghost use Rattle.icu_locale_core.specs.Agreement.{Agree, TellsEquality};
 ghost use Rattle.icu_locale_core.specs.Hash.{fed_subtag, fed_variants, fed_identifier};
 ghost use Rattle.icu_locale_core.specs.Identifier.{IsIdentifier, Spells, has_variant, written};
+ghost use Rattle.icu_locale_core.specs.Keywords.{KeywordRows, with_value, without_key};
+ghost use Rattle.icu_locale_core.specs.Maps.{IsSortedMap, value_at};
 ghost use Rattle.icu_locale_core.specs.Order.{identifier_cmp};
-ghost use Rattle.icu_locale_core.specs.TextSet.{TextSet, empty};
+ghost use Rattle.icu_locale_core.specs.TextSet.{TextSet, empty, contains, difference, from_list, is_subset, len, rising, text_cmp, union};
 ghost use Rattle.icu_locale_core.specs.Value.{IsValue, is_value, read_value, written_value};
 
 use crate::{
@@ -100,4 +104,38 @@ pub fn equality_is_told()
 pub fn written_values_read_back()
     ensures accepted { (v : List (List ℕ)) → IsValue v → is_value (written_value v) ≡ true }
     ensures same { (v : List (List ℕ)) → IsValue v → read_value (written_value v) ≡ v }
+{}
+
+/// Of sets of variants: the walk rises, so that no member comes twice, and it goes through the members alone.
+pub fn sets_rise()
+    ensures rises { (s : TextSet) → IsStrictlySortedBy text_cmp (rising s) }
+    ensures members { (s : TextSet) (t : List ℕ) → (contains s t ≡ true) ↔ Contains (rising s) t }
+{}
+
+/// Which variants are members of a list's set, of a union and of what is left where some are taken out.
+pub fn members_of_sets()
+    ensures list { (ts : List (List ℕ)) (t : List ℕ)
+        → (contains (from_list ts) t ≡ true) ↔ Contains ts t }
+    ensures union { (s u : TextSet) (t : List ℕ)
+        → contains (union s u) t ≡ (contains s t || contains u t) }
+    ensures difference { (s u : TextSet) (t : List ℕ)
+        → contains (difference s u) t ≡ (contains s t && not (contains u t)) }
+{}
+
+/// Sets with the same members are equal. A set that lacks a member of another, and has none that the other lacks, has
+/// fewer members.
+pub fn sets_are_their_members()
+    ensures same { (s u : TextSet) → ((t : List ℕ) → contains s t ≡ contains u t) → s ≡ u }
+    ensures fewer { (s u : TextSet) (t : List ℕ) → is_subset s u ≡ true
+        → contains u t ≡ true → contains s t ≡ false → len s < len u }
+{}
+
+/// Keywords are a map: those with the same value at every key are equal, and a value that is taken out and put back
+/// leaves what was there.
+pub fn keywords_are_a_map()
+    ensures same { (k l : KeywordRows) → IsSortedMap text_cmp k → IsSortedMap text_cmp l
+        → ((key : List ℕ) → value_at text_cmp k key ≡ value_at text_cmp l key) → k ≡ l }
+    ensures put_back { (k : KeywordRows) (key : List ℕ) (value : List (List ℕ))
+        → IsSortedMap text_cmp k → value_at text_cmp k key ≡ Some value
+        → with_value (without_key k key) key value ≡ k }
 {}

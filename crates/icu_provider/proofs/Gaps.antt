@@ -1,8 +1,8 @@
 -- What a search finds among the rows of a sorted map, and what an edit at that place does.
-use Rattle.std.proofs.Common.{◌≡◌, ℕ, zero, suc, ◌+◌, ◌<◌, List, [], ◌∷◌, length, get_or, set, Some, None, Result, Ok, Err, MatchResult, refl, sym, ap, ◌∙◌, arith}
+use Rattle.std.proofs.Common.{◌≡◌, ◌≢◌, Bool, false, if◌then◌else◌, ℕ, zero, suc, ◌+◌, ◌<◌, List, [], ◌∷◌, length, get_or, set, Some, None, Result, Ok, Err, MatchResult, refl, sym, ap, ◌∙◌, arith}
 use Rattle.std.specs.declared.cmp.Ordering.{Ordering}
 use Rattle.std.specs.declared.cmp.Ordering.TheVariants.{Less, Equal, Greater}
-use Rattle.std.specs.Ordering.{is_lt, ordering_reverse}
+use Rattle.std.specs.Ordering.{is_eq, is_lt, ordering_reverse}
 use Rattle.std.specs.Cmp.{IsTotalOrder}
 use Rattle.std.specs.List.{AllWithin, insert}
 use Rattle.std.specs.List.Sorted.{IsSearchInRange, IsBinarySearchResult}
@@ -13,17 +13,17 @@ use Rattle.std.proofs.lemmas.List.{get_or-map}
 use Rattle.std.proofs.lemmas.List.Sorted.{searchable_from_sorted}
 use Rattle.std.proofs.lemmas.Map.Keys.{sorted_tail, Less-from_sorted}
 use Rattle.std.proofs.lemmas.Map.Entries.{length-keys_of}
-use Rattle.icu_locale_core.specs.Maps.{SetsOnly}
+use Rattle.icu_locale_core.specs.Maps.{SetsOnly, value_at}
+use Rattle.icu_provider.specs.Inserts.{Holds}
 use Rattle.icu_provider.specs.SortedMaps.{IsSortedMap}
 use Rattle.icu_provider.specs.inner.Gaps.{IsAt, IsGapFor}
-use Rattle.icu_locale_core.specs.laws.Maps.{SetsOnly-insert_entry}
+use Rattle.icu_locale_core.specs.laws.Maps.{SetsOnly-insert_entry, found_at_key, stands_where_found}
 use Rattle.icu_provider.proofs.SortedMaps.{insert_entry-step, IsSortedMap-insert_entry}
 
--- new has the rows of old with the value inserted at the key, and stays in order
-pub record InsertedRows {K V : Type 0} (compare : K → K → Ordering) (old new : List (K × V)) (key : K) (value : V) : Type 0 where
-  pub rows : new ≡ insert_entry compare old key value
-  pub sets : SetsOnly compare old new key (Some value)
-  pub sorted : IsSortedMap compare new
+not_tied : (o : Ordering) → o ≢ Equal → is_eq o ≡ false
+not_tied Less apart = refl
+not_tied Equal apart = absurd (apart refl)
+not_tied Greater apart = refl
 
 module _ {K V : Type 0} {compare : K → K → Ordering} (total : IsTotalOrder compare) where
   -- each row's key is below that of a later row
@@ -99,17 +99,23 @@ module _ {K V : Type 0} {compare : K → K → Ordering} (total : IsTotalOrder c
       ap (λ rest. row ∷ rest) (insert_entry-in_gap rows key value at (gap_tail row rows key at gap)) ∙ sym step
 
   -- rows with the value inserted stay in order, and find it
-  inserts_from_rows : (old new : List (K × V)) (key : K) (value : V) → IsSortedMap compare old → new ≡ insert_entry compare old key value → InsertedRows compare old new key value
-  inserts_from_rows old new key value sorted rows = record {
-    rows = rows;
-    sets = λ q. rw rows (SetsOnly-insert_entry total old key value q);
-    sorted = rw rows (IsSortedMap-insert_entry total old key value sorted);
-  }
+  inserts_from_rows : (old new : List (K × V)) (key : K) (value : V) → IsSortedMap compare old → new ≡ insert_entry compare old key value → Holds compare old new key value
+  inserts_from_rows old new key value sorted rows =
+      let sets : SetsOnly compare old new key (Some value) = λ q. rw rows (SetsOnly-insert_entry total old key value q) in
+      let found : value_at compare new key ≡ Some value = rw rows (found_at_key total old key value) in
+      record {
+        rows = rows;
+        sets = sets;
+        sorted = rw rows (IsSortedMap-insert_entry total old key value sorted);
+        found = found;
+        others = λ other apart. sets other ∙ ap (λ tied. if tied then Some value else value_at compare old other) (not_tied (compare key other) apart);
+        stands = λ ties. stands_where_found total (λ x y tied. (ties x y).0 tied) new key value found;
+      }
 
   -- a value that is written over the key's row
-  pub inserts_at : (rows : List (K × V)) (key : K) (value : V) (at : ℕ) (row : K × V) → IsSortedMap compare rows → IsAt compare rows key at → row ≡ get_or rows at row → InsertedRows compare rows (set rows at (row.0, value)) key value
+  pub inserts_at : (rows : List (K × V)) (key : K) (value : V) (at : ℕ) (row : K × V) → IsSortedMap compare rows → IsAt compare rows key at → row ≡ get_or rows at row → Holds compare rows (set rows at (row.0, value)) key value
   inserts_at rows key value at row sorted is here = inserts_from_rows rows _ key value sorted (insert_entry-at rows key value at row sorted is here)
 
   -- a new row in the gap
-  pub inserts_in_gap : (rows : List (K × V)) (key : K) (value : V) (at : ℕ) → IsSortedMap compare rows → IsGapFor compare rows key at → InsertedRows compare rows (insert rows at (key, value)) key value
+  pub inserts_in_gap : (rows : List (K × V)) (key : K) (value : V) (at : ℕ) → IsSortedMap compare rows → IsGapFor compare rows key at → Holds compare rows (insert rows at (key, value)) key value
   inserts_in_gap rows key value at sorted gap = inserts_from_rows rows _ key value sorted (insert_entry-in_gap rows key value at gap)

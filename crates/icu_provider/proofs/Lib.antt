@@ -1,5 +1,6 @@
 mod Bounds
 mod Gaps
 mod OneCharacter
+mod Requests
 mod SortedMaps
 mod StringSets

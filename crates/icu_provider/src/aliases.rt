@@ -5,7 +5,7 @@ ghost use Rattle.icu_locale_core.specs.Maps.{value_at};
 ghost use Rattle.icu_locale_core.specs.TextSet.{text_cmp};
 ghost use Rattle.icu_provider.specs.Aliases.{text_at, regions_at};
 ghost use Rattle.icu_provider.specs.Inserts.{Inserts, Pushes};
-ghost use Rattle.icu_provider.specs.SortedMaps.{IsSortedMap};
+ghost use Rattle.icu_provider.specs.SortedMaps.{IsFoundEach, IsSortedMap};
 
 use crate::{DataError, RowList, Rows, SortedMap};
 use icu_locale_core::{Language, Region, Script, Subtag, Variant};
@@ -161,6 +161,7 @@ impl Aliases {
     pub fn iter_sgn_region(&self) -> Rows<'_, Region, Language>
         ensures rows { result ≡ self.now.sgn_region }
         ensures sorted { IsSortedMap text_cmp self.now.sgn_region }
+        ensures found { IsFoundEach text_cmp self.now.sgn_region }
     {
         self.sgn_region.iter()
     }
@@ -193,6 +194,7 @@ impl Aliases {
     pub fn iter_language_len2(&self) -> Rows<'_, Language, String>
         ensures rows { result ≡ self.now.language_len2 }
         ensures sorted { IsSortedMap text_cmp self.now.language_len2 }
+        ensures found { IsFoundEach text_cmp self.now.language_len2 }
     {
         self.language_len2.iter()
     }
@@ -225,6 +227,7 @@ impl Aliases {
     pub fn iter_language_len3(&self) -> Rows<'_, Language, String>
         ensures rows { result ≡ self.now.language_len3 }
         ensures sorted { IsSortedMap text_cmp self.now.language_len3 }
+        ensures found { IsFoundEach text_cmp self.now.language_len3 }
     {
         self.language_len3.iter()
     }
@@ -252,6 +255,7 @@ impl Aliases {
     pub fn iter_script(&self) -> Rows<'_, Script, Script>
         ensures rows { result ≡ self.now.script }
         ensures sorted { IsSortedMap text_cmp self.now.script }
+        ensures found { IsFoundEach text_cmp self.now.script }
     {
         self.script.iter()
     }
@@ -280,6 +284,7 @@ impl Aliases {
     pub fn iter_region_alpha(&self) -> Rows<'_, Region, Region>
         ensures rows { result ≡ self.now.region_alpha }
         ensures sorted { IsSortedMap text_cmp self.now.region_alpha }
+        ensures found { IsFoundEach text_cmp self.now.region_alpha }
     {
         self.region_alpha.iter()
     }
@@ -308,6 +313,7 @@ impl Aliases {
     pub fn iter_region_num(&self) -> Rows<'_, Region, Region>
         ensures rows { result ≡ self.now.region_num }
         ensures sorted { IsSortedMap text_cmp self.now.region_num }
+        ensures found { IsFoundEach text_cmp self.now.region_num }
     {
         self.region_num.iter()
     }
@@ -340,6 +346,7 @@ impl Aliases {
     pub fn iter_complex_region(&self) -> Rows<'_, Region, Vec<Region>>
         ensures rows { result ≡ self.now.complex_region }
         ensures sorted { IsSortedMap text_cmp self.now.complex_region }
+        ensures found { IsFoundEach text_cmp self.now.complex_region }
     {
         self.complex_region.iter()
     }
@@ -367,6 +374,7 @@ impl Aliases {
     pub fn iter_variant(&self) -> Rows<'_, Variant, Variant>
         ensures rows { result ≡ self.now.variant }
         ensures sorted { IsSortedMap text_cmp self.now.variant }
+        ensures found { IsFoundEach text_cmp self.now.variant }
     {
         self.variant.iter()
     }
@@ -395,6 +403,7 @@ impl Aliases {
     pub fn iter_subdivision(&self) -> Rows<'_, Subtag, String>
         ensures rows { result ≡ self.now.subdivision }
         ensures sorted { IsSortedMap text_cmp self.now.subdivision }
+        ensures found { IsFoundEach text_cmp self.now.subdivision }
     {
         self.subdivision.iter()
     }

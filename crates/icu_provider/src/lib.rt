@@ -8,6 +8,7 @@ mod direction;
 mod error;
 mod essentials;
 mod exemplars;
+pub mod laws;
 mod likely;
 mod menus;
 mod names;

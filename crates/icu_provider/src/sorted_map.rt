@@ -1,11 +1,10 @@
 //! A map in a sorted list: look-ups by binary search, and walks in the keys' order.
 ghost use Rattle.std.specs.Prelude.{◌≡◌, ◌==◌, [], length, Some, MatchResult, is_some, option_copied, List, ⊤};
 ghost use Rattle.std.specs.Iterator.{YieldsFirstBy, item_count};
-ghost use Rattle.std.specs.List.{All};
 ghost use Rattle.std.specs.Map.Iter.{deref_pair};
 ghost use Rattle.icu_locale_core.specs.Maps.{value_at};
 ghost use Rattle.icu_provider.specs.Inserts.{Inserts};
-ghost use Rattle.icu_provider.specs.SortedMaps.{IsSortedMap};
+ghost use Rattle.icu_provider.specs.SortedMaps.{IsFoundEach, IsSortedMap};
 ghost use Rattle.icu_provider.specs.inner.Gaps.{IsAt, IsGapFor};
 
 use crate::DataError;
@@ -110,7 +109,7 @@ impl<K: Ord, V> SortedMap<K, V> {
     pub fn iter(&self) -> Rows<'_, K, V>
         ensures rows { result ≡ self.now }
         ensures sorted { IsSortedMap K.cmp self.now }
-        ensures found { All (λ row. value_at K.cmp self.now row.0 ≡ Some row.1) self.now }
+        ensures found { IsFoundEach K.cmp self.now }
     {
         Rows {
             rows: &self.entries,

@@ -3,7 +3,7 @@ ghost use Rattle.std.specs.Prelude.{◌≡◌, []};
 ghost use Rattle.icu_locale_core.specs.Maps.{value_at};
 ghost use Rattle.icu_locale_core.specs.TextSet.{text_cmp};
 ghost use Rattle.icu_provider.specs.Inserts.{Inserts};
-ghost use Rattle.icu_provider.specs.SortedMaps.{IsSortedMap, pair_cmp};
+ghost use Rattle.icu_provider.specs.SortedMaps.{IsFoundEach, IsSortedMap, pair_cmp};
 
 use crate::{DataError, Rows, SortedMap};
 use icu_locale_core::{Language, Region, Script};
@@ -90,6 +90,7 @@ impl LikelySubtagsExtended {
     pub fn iter_language(&self) -> Rows<'_, Language, (Script, Region)>
         ensures rows { result ≡ self.now.language }
         ensures sorted { IsSortedMap text_cmp self.now.language }
+        ensures found { IsFoundEach text_cmp self.now.language }
     {
         self.language.iter()
     }
@@ -124,6 +125,7 @@ impl LikelySubtagsExtended {
     pub fn iter_language_script(&self) -> Rows<'_, (Language, Script), Region>
         ensures rows { result ≡ self.now.language_script }
         ensures sorted { IsSortedMap pair_cmp self.now.language_script }
+        ensures found { IsFoundEach pair_cmp self.now.language_script }
     {
         self.language_script.iter()
     }
@@ -158,6 +160,7 @@ impl LikelySubtagsExtended {
     pub fn iter_language_region(&self) -> Rows<'_, (Language, Region), Script>
         ensures rows { result ≡ self.now.language_region }
         ensures sorted { IsSortedMap pair_cmp self.now.language_region }
+        ensures found { IsFoundEach pair_cmp self.now.language_region }
     {
         self.language_region.iter()
     }
@@ -191,6 +194,7 @@ impl LikelySubtagsExtended {
     pub fn iter_script_region(&self) -> Rows<'_, (Script, Region), Language>
         ensures rows { result ≡ self.now.script_region }
         ensures sorted { IsSortedMap pair_cmp self.now.script_region }
+        ensures found { IsFoundEach pair_cmp self.now.script_region }
     {
         self.script_region.iter()
     }
@@ -224,6 +228,7 @@ impl LikelySubtagsExtended {
     pub fn iter_script(&self) -> Rows<'_, Script, (Language, Region)>
         ensures rows { result ≡ self.now.script }
         ensures sorted { IsSortedMap text_cmp self.now.script }
+        ensures found { IsFoundEach text_cmp self.now.script }
     {
         self.script.iter()
     }
@@ -257,6 +262,7 @@ impl LikelySubtagsExtended {
     pub fn iter_region(&self) -> Rows<'_, Region, (Language, Script)>
         ensures rows { result ≡ self.now.region }
         ensures sorted { IsSortedMap text_cmp self.now.region }
+        ensures found { IsFoundEach text_cmp self.now.region }
     {
         self.region.iter()
     }

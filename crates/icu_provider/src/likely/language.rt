@@ -3,7 +3,7 @@ ghost use Rattle.std.specs.Prelude.{◌≡◌, []};
 ghost use Rattle.icu_locale_core.specs.Maps.{value_at};
 ghost use Rattle.icu_locale_core.specs.TextSet.{text_cmp};
 ghost use Rattle.icu_provider.specs.Inserts.{Inserts};
-ghost use Rattle.icu_provider.specs.SortedMaps.{IsSortedMap, pair_cmp};
+ghost use Rattle.icu_provider.specs.SortedMaps.{IsFoundEach, IsSortedMap, pair_cmp};
 
 use crate::{DataError, Rows, SortedMap};
 use icu_locale_core::{Language, Region, Script};
@@ -87,6 +87,7 @@ impl LikelySubtagsForLanguage {
     pub fn iter_language(&self) -> Rows<'_, Language, (Script, Region)>
         ensures rows { result ≡ self.now.language }
         ensures sorted { IsSortedMap text_cmp self.now.language }
+        ensures found { IsFoundEach text_cmp self.now.language }
     {
         self.language.iter()
     }
@@ -121,6 +122,7 @@ impl LikelySubtagsForLanguage {
     pub fn iter_language_script(&self) -> Rows<'_, (Language, Script), Region>
         ensures rows { result ≡ self.now.language_script }
         ensures sorted { IsSortedMap pair_cmp self.now.language_script }
+        ensures found { IsFoundEach pair_cmp self.now.language_script }
     {
         self.language_script.iter()
     }
@@ -155,6 +157,7 @@ impl LikelySubtagsForLanguage {
     pub fn iter_language_region(&self) -> Rows<'_, (Language, Region), Script>
         ensures rows { result ≡ self.now.language_region }
         ensures sorted { IsSortedMap pair_cmp self.now.language_region }
+        ensures found { IsFoundEach pair_cmp self.now.language_region }
     {
         self.language_region.iter()
     }

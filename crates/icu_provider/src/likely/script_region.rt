@@ -3,7 +3,7 @@ ghost use Rattle.std.specs.Prelude.{◌≡◌, []};
 ghost use Rattle.icu_locale_core.specs.Maps.{value_at};
 ghost use Rattle.icu_locale_core.specs.TextSet.{text_cmp};
 ghost use Rattle.icu_provider.specs.Inserts.{Inserts};
-ghost use Rattle.icu_provider.specs.SortedMaps.{IsSortedMap, pair_cmp};
+ghost use Rattle.icu_provider.specs.SortedMaps.{IsFoundEach, IsSortedMap, pair_cmp};
 
 use crate::{DataError, Rows, SortedMap};
 use icu_locale_core::{Language, Region, Script};
@@ -71,6 +71,7 @@ impl LikelySubtagsForScriptRegion {
     pub fn iter_script_region(&self) -> Rows<'_, (Script, Region), Language>
         ensures rows { result ≡ self.now.script_region }
         ensures sorted { IsSortedMap pair_cmp self.now.script_region }
+        ensures found { IsFoundEach pair_cmp self.now.script_region }
     {
         self.script_region.iter()
     }
@@ -104,6 +105,7 @@ impl LikelySubtagsForScriptRegion {
     pub fn iter_script(&self) -> Rows<'_, Script, (Language, Region)>
         ensures rows { result ≡ self.now.script }
         ensures sorted { IsSortedMap text_cmp self.now.script }
+        ensures found { IsFoundEach text_cmp self.now.script }
     {
         self.script.iter()
     }
@@ -137,6 +139,7 @@ impl LikelySubtagsForScriptRegion {
     pub fn iter_region(&self) -> Rows<'_, Region, (Language, Script)>
         ensures rows { result ≡ self.now.region }
         ensures sorted { IsSortedMap text_cmp self.now.region }
+        ensures found { IsFoundEach text_cmp self.now.region }
     {
         self.region.iter()
     }

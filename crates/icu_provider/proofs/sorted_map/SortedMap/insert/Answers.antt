@@ -10,8 +10,7 @@ pub returns-in-Ok : goal.returns-in-Ok
 returns-in-Ok g c =
     let inserted = inserts_at g.met.K.Ord.total _ c.args.key _ _ _ c.self.invariant (rw c.self.view_is c.in-Ok.ensures) c.index_mut.ensures.value in
     record {
-      rows = rw (← c.self.view_is) inserted.rows;
-      sets = rw (← c.self.view_is) inserted.sets;
+      holds = rw (← c.self.view_is) inserted;
       refuses = record { memory = tt; unchanged = tt };
       present = λ found. refl;
     }
@@ -24,8 +23,7 @@ pub returns-in_ok-insert-in-Err : goal.returns-in_ok-insert-in-Err
 returns-in_ok-insert-in-Err g c =
     let inserted = inserts_in_gap g.met.K.Ord.total _ c.args.key c.args.value c.in-Err.at c.self.invariant (rw c.self.view_is c.in-Err.ensures) in
     record {
-      rows = rw (c.in_ok-insert-in-Err.ensures.items, ← c.self.view_is) inserted.rows;
-      sets = rw (c.in_ok-insert-in-Err.ensures.items, ← c.self.view_is) inserted.sets;
+      holds = rw (c.in_ok-insert-in-Err.ensures.items, ← c.self.view_is) inserted;
       refuses = record { memory = tt; unchanged = tt };
       present = λ found. refl;
     }
@@ -33,8 +31,7 @@ returns-in_ok-insert-in-Err g c =
 -- memory is refused only to a new row
 pub returns-in_err-insert-in-Err : goal.returns-in_err-insert-in-Err
 returns-in_err-insert-in-Err g c = record {
-  rows = search rules;
-  sets = search rules;
+  holds = search rules;
   refuses = search rules;
   present = λ found. grind (arith, lookup_in_gap g.met.K.Ord.total _ _ _ c.in-Err.ensures);
 }
