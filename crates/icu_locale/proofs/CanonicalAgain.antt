@@ -1,5 +1,5 @@
 -- A canonical locale is kept, and a locale that changes is one to which something is applied.
-use Rattle.std.proofs.Common.{◌≡◌, ◌≢◌, Bool, true, false, ◌||◌, [], Option, Some, None, is_some, option_and_then, IfSome, ◌⊎◌, inl, inr, refl, ap, sym, ◌∙◌, subst}
+use Rattle.std.proofs.Common.{◌≡◌, ◌≢◌, ◌↔◌, IsSome, Bool, true, false, ◌||◌, [], Option, Some, None, is_some, option_and_then, IfSome, ◌⊎◌, inl, inr, refl, ap, sym, ◌∙◌, subst}
 use Rattle.std.proofs.lemmas.Bool.{false≢true, cases_Bool, or_parts}
 use Rattle.icu_locale_core.specs.TextSet.{text_cmp, empty}
 use Rattle.icu_locale_core.specs.Keywords.{KeywordRows}
@@ -8,11 +8,16 @@ use Rattle.icu_locale_core.specs.declared.locale.Locale.{Locale}
 use Rattle.icu_locale_core.specs.Maps.{value_at}
 use Rattle.icu_locale.specs.LikelySubtags.{LikelySubtags}
 use Rattle.icu_locale.specs.Kinds.{next, by_language_alias}
-use Rattle.icu_locale.specs.Canonical.{rg, sd, next_value, subdivision_alias, put, AreCanonicalKeywords, IsCanonical, is_applied}
+use Rattle.icu_locale.specs.Canonical.{rg, sd, next_value, subdivision_alias, put, AreCanonicalKeywords, IsCanonical, answer_of, is_applied}
 use Rattle.icu_locale.specs.Cost.{NeedsNoMemory, HasNothingToCopy}
-use Rattle.icu_locale.specs.Refusals.{RulesEnd, EndsInPlace}
+use Rattle.icu_locale.specs.Refusals.{RulesEnd, EndsInPlace, IsMemory, IsRefusal}
+use Rattle.icu_locale.specs.Run.{BecomesEnd, IsLaterEndOf}
+use Rattle.icu_locale.specs.declared.canonicalizer.CanonicalizeError.{CanonicalizeError}
+use Rattle.icu_locale.specs.declared.expander.TransformResult.TheVariants.{Unmodified}
 use Rattle.icu_locale.specs.declared.canonicalizer.rules.Rules.{Rules}
+use Rattle.icu_locale.proofs.Canonicals.{memory_from_end}
 use Rattle.icu_locale.proofs.Keywords.{canonical_at_rg, canonical_at_sd}
+use Rattle.icu_locale.proofs.Runs.{end_is_unique}
 use Rattle.icu_locale.proofs.LaterEnds.{none_stands_behind, none_behind_any, alone, stands_alone, in_place, kept, no_later_end, later_end_none, same_where_none, none_behind, EndsIfAny-later_end, EndsIfAny-becomes}
 
 all_off : (a b c d : Bool) → a ≡ false → b ≡ false → c ≡ false → d ≡ false → (a || (b || (c || d))) ≡ false
@@ -126,3 +131,45 @@ applied_exactly likely rules old new canonical = (
     | inr off ↦ absurd (differ (unapplied_same likely rules old new off canonical))
   ],
 )
+
+by_answer : (applied : Bool) (P : Type 0) → (applied ≡ false → P) → (P → applied ≡ false) → (answer_of applied ≡ Unmodified) ↔ P
+by_answer true P same off = (λ is. absurd (cc), λ p. absurd (false≢true (sym (off p))))
+by_answer false P same off = (λ is. same refl, λ p. refl)
+
+-- `Unmodified` is answered exactly where the canonical form is the locale itself
+pub unmodified_exactly : (likely : LikelySubtags) (rules : Rules) (old new : Locale) → IsCanonical likely rules old new → (answer_of (is_applied likely rules old) ≡ Unmodified) ↔ (new ≡ old)
+unmodified_exactly likely rules old new canonical =
+    by_answer (is_applied likely rules old) (new ≡ old)
+    (λ off. sym (unapplied_same likely rules old new off canonical))
+    (λ same. subst (λ l. is_applied likely rules l ≡ false) same (canonical_unapplied likely rules old new canonical))
+
+-- ---- one canonical form
+
+module _ {X : Type 0} (next : X → Option X) where
+  one_becomes : (old new other : Option X) → BecomesEnd next old new → BecomesEnd next old other → new ≡ other
+  one_becomes None new other is other_is = is ∙ sym other_is
+  one_becomes (Some start) None other is other_is = absurd is
+  one_becomes (Some start) (Some y) None is other_is = absurd other_is
+  one_becomes (Some start) (Some y) (Some z) is other_is = ap (λ x. Some x) (end_is_unique next start y z is other_is)
+
+  one_later : (old : Option X) (y z : Option X) → IsLaterEndOf next old y → IsLaterEndOf next old z → y ≡ z
+  one_later None y z is other_is = is ∙ sym other_is
+  one_later (Some start) None None is other_is = refl
+  one_later (Some start) None (Some z) is other_is = absurd (false≢true (subst IsSome is other_is.0))
+  one_later (Some start) (Some y) None is other_is = absurd (false≢true (subst IsSome other_is is.0))
+  one_later (Some start) (Some y) (Some z) is other_is = ap (λ x. Some x) (end_is_unique next start y z is.1 other_is.1)
+
+-- a locale has one canonical form
+pub one_canonical_form : (likely : LikelySubtags) (rules : Rules) (old new other : Locale) → IsCanonical likely rules old new → IsCanonical likely rules old other → new ≡ other
+one_canonical_form likely rules old new other is other_is =
+    let id = end_is_unique (next likely rules) old.id new.id other.id is.id other_is.id in
+    let lang = one_becomes (by_language_alias rules) old.extensions.transform.lang new.extensions.transform.lang other.extensions.transform.lang is.transform other_is.transform in
+    let held = old.extensions.unicode.keywords in
+    let region_override = one_later (next_value rules) (value_at text_cmp held rg) is.keywords.region_override other_is.keywords.region_override is.keywords.region_override_end other_is.keywords.region_override_end in
+    let subdivision = one_later (next_value rules) (value_at text_cmp held sd) is.keywords.subdivision other_is.keywords.subdivision is.keywords.subdivision_end other_is.keywords.subdivision_end in
+    let keywords = is.keywords.whole ∙ (λ i. put (put held rg (region_override i)) sd (subdivision i)) ∙ sym other_is.keywords.whole in
+    λ i. record { id = id i; extensions = record { unicode = record { keywords = keywords i }; transform = record { lang = lang i } } }
+
+-- the rules end on it, so only memory is refused
+pub memory_alone : (likely : LikelySubtags) (rules : Rules) (old new : Locale) (e : CanonicalizeError) → IsCanonical likely rules old new → IsRefusal likely rules old e → IsMemory e
+memory_alone likely rules old new e canonical refusal = memory_from_end likely rules old e refusal (rules_end likely rules old new canonical)

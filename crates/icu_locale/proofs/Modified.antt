@@ -1,8 +1,10 @@
 -- Whether an identifier is changed, told by its language, script and region.
-use Rattle.std.proofs.Common.{◌≡◌, ◌≢◌, true, false, ap, sym, ◌∙◌}
+use Rattle.std.proofs.Common.{◌≡◌, ◌≢◌, true, false, inl, inr, ap, sym, ◌∙◌}
+use Rattle.std.proofs.lemmas.Bool.{false≢true, cases_Bool}
+use Rattle.icu_locale_core.specs.laws.Identifiers.{identifiers_decide, same_parts}
 use Rattle.icu_locale_core.specs.declared.langid.LanguageIdentifier.{LanguageIdentifier}
 use Rattle.icu_provider.specs.declared.data_locale.DataLocale.{DataLocale}
-use Rattle.icu_locale.specs.LikelySubtags.{locale_of, with_locale}
+use Rattle.icu_locale.specs.LikelySubtags.{LikelySubtags, IsModified, locale_of, maximal, with_locale}
 use Rattle.icu_locale.specs.inner.Trials.{same_locale}
 use Rattle.icu_locale.proofs.Locales.{same_from_test, other_from_test}
 
@@ -21,3 +23,18 @@ unchanged x given y is e = same_with_locale x y (same_from_test y given (sym e) 
 -- another one changes it
 pub changed : (x : LanguageIdentifier) (given y : DataLocale) → given ≡ locale_of x → false ≡ same_locale y given → with_locale x y ≢ x
 changed x given y is e same = other_from_test y given (sym e) (locale_from_same x y same ∙ sym is)
+
+-- identifiers that cannot differ are equal
+pub same_from_not_other : (x y : LanguageIdentifier) → (x ≢ y → ⊥) → x ≡ y
+same_from_not_other x y not_other =
+    let tells = identifiers_decide x y in
+    elim (cases_Bool (same_parts x y)) [
+      | inl same ↦ tells.0 same
+      | inr off ↦ absurd (not_other (λ is. false≢true (sym off ∙ tells.1 is)))
+    ]
+
+-- what is not modified is its own maximal form
+pub same_where_unmodified : (likely : LikelySubtags) (x : LanguageIdentifier)
+    → (IsModified likely x → ⊥) → maximal likely x ≡ x
+same_where_unmodified likely x unmodified =
+    same_from_not_other (maximal likely x) x (λ other. unmodified (inr other))

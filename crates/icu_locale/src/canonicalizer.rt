@@ -72,7 +72,8 @@ impl Error for CanonicalizeError {}
 impl<'d, E: AsExpander<'d>> LocaleCanonicalizer<'d, E> {
     /// Brings a locale to its canonical form (UTS #35 Part 1, Annex C): its identifier to the end of its run, its
     /// transform language to the end of its run by language aliases alone, and the values at `rg` and `sd` to the ends
-    /// of theirs by the rows of subdivisions. The answer is `Modified` exactly where a rule or a row was applied.
+    /// of theirs by the rows of subdivisions. The answer is `Modified` exactly where a rule or a row was applied, and
+    /// `Unmodified` exactly where the locale is as it was.
     ///
     /// # Errors
     ///

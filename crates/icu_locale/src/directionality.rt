@@ -1,14 +1,16 @@
 //! Which way the script of an identifier runs.
-ghost use Rattle.std.specs.Prelude.{◌≡◌, None, Some};
+ghost use Rattle.std.specs.Prelude.{◌≡◌, ◌↔◌, not, IsTrue, None, Some};
+ghost use Rattle.std.specs.List.{list_all};
+ghost use Rattle.icu_provider.specs.ScriptDirection.{is_listed};
 ghost use Rattle.icu_locale.specs.Construction.{both, loaded_common, loaded_extended, DirectsOver, IsMade};
 ghost use Rattle.icu_locale.specs.LikelySubtags.{likely_script};
-ghost use Rattle.icu_locale.specs.Direction.{is_script_in, direction_of};
+ghost use Rattle.icu_locale.specs.Direction.{AreDisjoint, is_script_in, direction_of};
 
 use crate::{AsExpander, LocaleExpander};
 use icu_locale_core::{LanguageIdentifier, Script};
 use icu_provider::{
     DataError, DataProvider, LikelySubtagsExtended, LikelySubtagsForLanguage,
-    LikelySubtagsForScriptRegion, ScriptDirection,
+    LikelySubtagsForScriptRegion, Rows, ScriptDirection, SortedMap,
 };
 
 /// Which way a script runs.
@@ -167,9 +169,29 @@ impl<'d, E: AsExpander<'d>> LocaleDirectionality<'d, E> {
         }
     }
 
+    /// Whether no script stands in both lists, so that `is_right_to_left` tells what `get` answers
+    /// (`laws::right_to_left_is_a_direction`).
+    pub fn is_disjoint(&self) -> bool
+        ensures { IsTrue result ↔ AreDisjoint self.now.script_direction.now }
+    {
+        shares_none(self.script_direction.ltr.iter(), &self.script_direction.rtl)
+    }
+
     fn likely_script(&self, id: &LanguageIdentifier) -> Option<Script>
         ensures { result ≡ likely_script (E.table self.now.expander) id.now }
     {
         self.expander.as_expander().get_likely_script(id)
     }
+}
+
+// Whether none of the scripts is among the others.
+fn shares_none(scripts: Rows<'_, Script, ()>, others: &SortedMap<Script, ()>) -> bool
+    ensures { result ≡ list_all (λ row. not (is_listed others.now row.0)) scripts.entry }
+{
+    for (script, _) in scripts {
+        if others.contains_key(script) {
+            return false;
+        }
+    }
+    true
 }

@@ -117,11 +117,12 @@ impl<'d> LocaleExpander<'d> {
     }
 
     /// Adds the likely subtags: the identifier becomes its maximal form. The answer is `Modified` exactly where a
-    /// subtag was removed or filled in, also where both leave it as it was.
+    /// subtag was removed or filled in, also where both leave it as it was; after `Unmodified` it is as it was.
     pub fn maximize(&self, id: &mut LanguageIdentifier) -> TransformResult
         ensures maximal { id.new ≡ maximal (likely self.now) id.old }
         ensures modified { (result ≡ TransformResult.Modified)
             ↔ IsModified (likely self.now) id.old }
+        ensures unmodified { result ≡ TransformResult.Unmodified → id.new ≡ id.old }
     {
         let removed = remove_unknown(&mut id.script, &mut id.region);
         let added = match self.added(id.language, id.script, id.region) {
@@ -138,10 +139,11 @@ impl<'d> LocaleExpander<'d> {
     /// Removes the subtags that likely subtags give back: the identifier becomes its minimal form, the shortest with
     /// the language of the maximal form and the same maximal form, or the maximal form where there is none such. Of two
     /// that are equally short it takes the one with the region. The answer is `Modified` exactly where the identifier
-    /// changed.
+    /// changed, and `Unmodified` exactly where it did not.
     pub fn minimize(&self, id: &mut LanguageIdentifier) -> TransformResult
         ensures minimal { IsMinimalForm RegionFirst (likely self.now) id.old id.new }
         ensures modified { (result ≡ TransformResult.Modified) ↔ (id.new ≢ id.old) }
+        ensures unmodified { (result ≡ TransformResult.Unmodified) ↔ (id.new ≡ id.old) }
     {
         self.minimize_favoring(Favor::RegionFirst, id)
     }
@@ -150,6 +152,7 @@ impl<'d> LocaleExpander<'d> {
     pub fn minimize_favor_script(&self, id: &mut LanguageIdentifier) -> TransformResult
         ensures minimal { IsMinimalForm ScriptFirst (likely self.now) id.old id.new }
         ensures modified { (result ≡ TransformResult.Modified) ↔ (id.new ≢ id.old) }
+        ensures unmodified { (result ≡ TransformResult.Unmodified) ↔ (id.new ≡ id.old) }
     {
         self.minimize_favoring(Favor::ScriptFirst, id)
     }
@@ -164,6 +167,7 @@ impl<'d> LocaleExpander<'d> {
     fn minimize_favoring(&self, favor: Favor, id: &mut LanguageIdentifier) -> TransformResult
         ensures minimal { IsMinimalForm favor (likely self.now) id.old id.new }
         ensures modified { (result ≡ TransformResult.Modified) ↔ (id.new ≢ id.old) }
+        ensures unmodified { (result ≡ TransformResult.Unmodified) ↔ (id.new ≡ id.old) }
     {
         let given = locale_of(id);
         let minimal = self.minimal_locale(favor, given);
@@ -273,6 +277,7 @@ fn with_one(favor: Favor, maximal: &DataLocale) -> (DataLocale, DataLocale)
 fn set_locale(id: &mut LanguageIdentifier, locale: DataLocale) -> TransformResult
     ensures value { id.new ≡ with_locale id.old locale }
     ensures modified { (result ≡ TransformResult.Modified) ↔ (id.new ≢ id.old) }
+    ensures unmodified { (result ≡ TransformResult.Unmodified) ↔ (id.new ≡ id.old) }
 {
     let given = locale_of(id);
     id.language = locale.language;

@@ -23,7 +23,7 @@ mod canonicalization;
 pub use crate::canonicalizer::identifiers::search;
 pub use crate::canonicalizer::replacing::{replacement, rule_matches};
 pub use canonicalization::{
-    applied_where_changed, canonical_keywords_by_key, canonical_stays_canonical, nothing_to_copy,
+    applied_where_changed, canonical_form_is_one, canonical_keywords_by_key, canonical_stays_canonical, nothing_to_copy,
     runs_end_or_repeat, value_runs_end_or_repeat,
 };
 
@@ -91,11 +91,14 @@ pub fn minimal_forms_are_stable()
         IsMinimalForm favor table x y → IsMinimalForm favor table y y }
 {}
 
-/// Over a settled table, `maximize` answers `Modified` exactly where the identifier changed.
+/// Over a settled table, `maximize` answers `Modified` exactly where the identifier changed. Over every table an
+/// identifier for which it does not answer that is its own maximal form.
 pub fn maximizing_tells_a_change()
-    ensures { (table : LikelySubtags)
+    ensures modified { (table : LikelySubtags)
         → AreSettled table → (x : LanguageIdentifier) → IsIdentifier x →
         IsModified table x ↔ (maximal table x ≢ x) }
+    ensures unmodified { (table : LikelySubtags) (x : LanguageIdentifier) →
+        (IsModified table x → ⊥) → maximal table x ≡ x }
 {}
 
 /// Over every table, maximizing replaces no language but `und`, no script but `Zzzz`, no region but `ZZ`, and no

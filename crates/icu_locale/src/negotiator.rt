@@ -124,6 +124,14 @@ impl<'d> Negotiator<'d> {
         })
     }
 
+    /// The expander, whose likely table is settled. It takes no memory.
+    pub fn expander(&self) -> &LocaleExpander<'d>
+        ensures expander { result.now ≡ self.now.expander }
+        ensures settled { AreSettled (likely self.now.expander) }
+    {
+        &self.expander
+    }
+
     /// The available identifiers, as they were handed in. It takes no memory.
     pub fn available(&self) -> &[LanguageIdentifier]
         ensures { result.now ≡ self.now.available }

@@ -9,7 +9,12 @@ use Rattle.std.specs.declared.cmp.Ordering.TheVariants.{Less, Equal, Greater}
 use Rattle.std.proofs.lemmas.Cmp.{tied_itself, nat_cmp_total}
 use Rattle.icu_locale_core.specs.TextSet.{text_cmp}
 use Rattle.icu_locale_core.specs.laws.TextSets.{text_same, text_total}
-use Rattle.icu_provider.specs.Requests.{exemplar_cmp, exemplar_place, key_cmp, locale_cmp, menu_cmp, menu_place, name_cmp, name_place}
+use Rattle.icu_provider.specs.Order.{exemplar_order, exemplar_place, key_order, locale_order, menu_order, menu_place, name_order, name_place}
+use Rattle.icu_provider.specs.Requests.{exemplar_cmp, locale_cmp, menu_cmp, name_cmp}
+use Rattle.icu_provider.specs.contracts.exemplars.ExemplarMarkerOrd.TheImpl as exemplar_marker
+use Rattle.icu_provider.specs.contracts.menus.MenuMarkerOrd.TheImpl as menu_marker
+use Rattle.icu_provider.specs.contracts.names.NameKeyOrd.TheImpl as name_key
+use Rattle.icu_provider.specs.contracts.names.NameMarkerOrd.TheImpl as name_marker
 use Rattle.icu_provider.specs.SortedMaps.{TiesEqualAlone, pair_cmp}
 use Rattle.icu_provider.specs.declared.data_locale.DataLocale.{DataLocale}
 use Rattle.icu_provider.specs.declared.exemplars.ExemplarMarker.{ExemplarMarker}
@@ -67,7 +72,7 @@ pairs_tie = ties pair_cmp
     λ i. (text_same x.0 y.0 both.0 i, text_same x.1 y.1 both.1 i))
     (λ x. then_tied (text_cmp x.0 x.0) (text_cmp x.1 x.1) (text_itself x.0) (text_itself x.1))
 
-same_locale : (a b : DataLocale) → locale_cmp a b ≡ Equal → a ≡ b
+same_locale : (a b : DataLocale) → locale_order a b ≡ Equal → a ≡ b
 same_locale a b tied =
     let first = both_tied (text_cmp a.language b.language) _ tied in
     let rest = both_tied (option_cmp text_cmp a.script b.script) (option_cmp text_cmp a.region b.region) first.1 in
@@ -77,14 +82,14 @@ same_locale a b tied =
       region = same_part a.region b.region rest.1 i;
     }
 
-locale_itself : (a : DataLocale) → locale_cmp a a ≡ Equal
+locale_itself : (a : DataLocale) → locale_order a a ≡ Equal
 locale_itself a =
     then_tied (text_cmp a.language a.language) _ (text_itself a.language)
     (then_tied (option_cmp text_cmp a.script a.script) (option_cmp text_cmp a.region a.region)
     (part_itself a.script) (part_itself a.region))
 
 pub locales_tie : TiesEqualAlone locale_cmp
-locales_tie = ties locale_cmp same_locale locale_itself
+locales_tie = ties locale_order same_locale locale_itself
 
 -- the kind at each place
 abbrev all_exemplars : List ExemplarMarker
@@ -152,7 +157,7 @@ same_name a b tied =
     ∙ ap (λ n. get_or all_names n names.LanguageLongHeavy) (nat_cmp-IsAntisymmetric (name_place a) (name_place b) tied)
     ∙ name_at_place b
 
-same_key : (a b : NameKey) → key_cmp a b ≡ Equal → a ≡ b
+same_key : (a b : NameKey) → key_order a b ≡ Equal → a ≡ b
 same_key (Language l s r) (Language m t u) tied =
     let first = both_tied (text_cmp l m) _ tied in
     let rest = both_tied (option_cmp text_cmp s t) (option_cmp text_cmp r u) first.1 in
@@ -173,7 +178,7 @@ same_key (Variant s) (Script t) tied = absurd (not_greater tied)
 same_key (Variant s) (Region t) tied = absurd (not_greater tied)
 same_key (Variant s) (Variant t) tied = ap (λ x. Variant x) (text_same s t tied)
 
-key_itself : (a : NameKey) → key_cmp a a ≡ Equal
+key_itself : (a : NameKey) → key_order a a ≡ Equal
 key_itself (Language l s r) =
     then_tied (text_cmp l l) _ (text_itself l)
     (then_tied (option_cmp text_cmp s s) (option_cmp text_cmp r r) (part_itself s) (part_itself r))
@@ -181,28 +186,58 @@ key_itself (Script s) = text_itself s
 key_itself (Region s) = text_itself s
 key_itself (Variant s) = text_itself s
 
-pub exemplars_tie : TiesEqualAlone exemplar_cmp
-exemplars_tie = ties exemplar_cmp
-    (λ x y tied. let both = both_tied (nat_cmp (exemplar_place x.0) (exemplar_place y.0)) (locale_cmp x.1 y.1) tied in
+exemplars_told : TiesEqualAlone exemplar_order
+exemplars_told = ties exemplar_order
+    (λ x y tied. let both = both_tied (nat_cmp (exemplar_place x.0) (exemplar_place y.0)) (locale_order x.1 y.1) tied in
     λ i. (same_exemplar x.0 y.0 both.0 i, same_locale x.1 y.1 both.1 i))
-    (λ x. then_tied _ (locale_cmp x.1 x.1) (place_itself (exemplar_place x.0)) (locale_itself x.1))
+    (λ x. then_tied _ (locale_order x.1 x.1) (place_itself (exemplar_place x.0)) (locale_itself x.1))
 
-pub names_tie : TiesEqualAlone name_cmp
-names_tie = ties name_cmp
+names_told : TiesEqualAlone name_order
+names_told = ties name_order
     (λ x y tied.
-    let both = both_tied _ (key_cmp x.2 y.2) tied in
-    let first = both_tied (nat_cmp (name_place x.0) (name_place y.0)) (locale_cmp x.1 y.1) both.0 in
+    let both = both_tied _ (key_order x.2 y.2) tied in
+    let first = both_tied (nat_cmp (name_place x.0) (name_place y.0)) (locale_order x.1 y.1) both.0 in
     λ i. (same_name x.0 y.0 first.0 i, same_locale x.1 y.1 first.1 i, same_key x.2 y.2 both.1 i))
-    (λ x. then_tied _ (key_cmp x.2 x.2)
-    (then_tied _ (locale_cmp x.1 x.1) (place_itself (name_place x.0)) (locale_itself x.1))
+    (λ x. then_tied _ (key_order x.2 x.2)
+    (then_tied _ (locale_order x.1 x.1) (place_itself (name_place x.0)) (locale_itself x.1))
     (key_itself x.2))
 
-pub menus_tie : TiesEqualAlone menu_cmp
-menus_tie = ties menu_cmp
+menus_told : TiesEqualAlone menu_order
+menus_told = ties menu_order
     (λ x y tied.
     let both = both_tied _ (text_cmp x.2 y.2) tied in
-    let first = both_tied (nat_cmp (menu_place x.0) (menu_place y.0)) (locale_cmp x.1 y.1) both.0 in
+    let first = both_tied (nat_cmp (menu_place x.0) (menu_place y.0)) (locale_order x.1 y.1) both.0 in
     λ i. (same_menu x.0 y.0 first.0 i, same_locale x.1 y.1 first.1 i, text_same x.2 y.2 both.1 i))
     (λ x. then_tied _ (text_cmp x.2 x.2)
-    (then_tied _ (locale_cmp x.1 x.1) (place_itself (menu_place x.0)) (locale_itself x.1))
+    (then_tied _ (locale_order x.1 x.1) (place_itself (menu_place x.0)) (locale_itself x.1))
     (text_itself x.2))
+
+-- what ties in one order ties in the same order
+by_order : {K : Type 0} (compare order : K → K → Ordering)
+    → ((x y : K) → compare x y ≡ order x y) → TiesEqualAlone order → TiesEqualAlone compare
+by_order compare order same told x y = (
+  λ tied. (told x y).0 (sym (same x y) ∙ tied),
+  λ is. same x y ∙ (told x y).1 is,
+)
+
+module _
+    (exemplars_in_order : (a b : ExemplarMarker) → exemplar_marker.ghosts.cmp a b ≡ nat_cmp (exemplar_place a) (exemplar_place b))
+    where
+  pub exemplars_tie : TiesEqualAlone exemplar_cmp
+  exemplars_tie = by_order exemplar_cmp exemplar_order
+      (λ x y i. ordering_then (exemplars_in_order x.0 y.0 i) (locale_order x.1 y.1)) exemplars_told
+
+module _
+    (names_in_order : (a b : NameMarker) → name_marker.ghosts.cmp a b ≡ nat_cmp (name_place a) (name_place b))
+    (keys_in_order : (a b : NameKey) → name_key.ghosts.cmp a b ≡ key_order a b)
+    where
+  pub names_tie : TiesEqualAlone name_cmp
+  names_tie = by_order name_cmp name_order
+      (λ x y i. ordering_then (ordering_then (names_in_order x.0 y.0 i) (locale_order x.1 y.1)) (keys_in_order x.2 y.2 i)) names_told
+
+module _
+    (menus_in_order : (a b : MenuMarker) → menu_marker.ghosts.cmp a b ≡ nat_cmp (menu_place a) (menu_place b))
+    where
+  pub menus_tie : TiesEqualAlone menu_cmp
+  menus_tie = by_order menu_cmp menu_order
+      (λ x y i. ordering_then (ordering_then (menus_in_order x.0 y.0 i) (locale_order x.1 y.1)) (text_cmp x.2 y.2)) menus_told

@@ -4,6 +4,7 @@ pub mod Exemplars
 pub mod Inserts
 pub mod InversionList
 pub mod Menus
+pub mod Order
 pub mod Patterns
 pub mod Provider
 pub mod Requests

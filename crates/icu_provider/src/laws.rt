@@ -8,7 +8,8 @@ ghost use Rattle.icu_provider.specs.declared.exemplars.ExemplarMarker.{ExemplarM
 ghost use Rattle.icu_provider.specs.declared.menus.MenuMarker.{MenuMarker};
 ghost use Rattle.icu_provider.specs.declared.names.NameKey.{NameKey};
 ghost use Rattle.icu_provider.specs.declared.names.NameMarker.{NameMarker};
-ghost use Rattle.icu_provider.specs.Requests.{exemplar_cmp, exemplar_place, key_cmp, locale_cmp, menu_cmp, menu_place, name_cmp, name_place};
+ghost use Rattle.icu_provider.specs.Order.{exemplar_place, key_order, locale_order, menu_place, name_place};
+ghost use Rattle.icu_provider.specs.Requests.{exemplar_cmp, locale_cmp, menu_cmp, name_cmp};
 ghost use Rattle.icu_provider.specs.SortedMaps.{TiesEqualAlone, pair_cmp};
 
 use crate::{DataLocale, ExemplarMarker, MenuMarker, NameKey, NameMarker};
@@ -17,14 +18,14 @@ use std::cmp::{Ord, PartialEq};
 /// Requests are in order by their parts: locales by language, script and region, kinds by their places, and keys of one
 /// kind by their texts.
 pub fn requests_in_order()
-    ensures locales { (a b : DataLocale) → ⟦<DataLocale as Ord>⟧.cmp a b ≡ locale_cmp a b }
+    ensures locales { (a b : DataLocale) → ⟦<DataLocale as Ord>⟧.cmp a b ≡ locale_order a b }
     ensures exemplars { (a b : ExemplarMarker) → ⟦<ExemplarMarker as Ord>⟧.cmp a b
         ≡ nat_cmp (exemplar_place a) (exemplar_place b) }
     ensures menus { (a b : MenuMarker) → ⟦<MenuMarker as Ord>⟧.cmp a b
         ≡ nat_cmp (menu_place a) (menu_place b) }
     ensures names { (a b : NameMarker) → ⟦<NameMarker as Ord>⟧.cmp a b
         ≡ nat_cmp (name_place a) (name_place b) }
-    ensures keys { (a b : NameKey) → ⟦<NameKey as Ord>⟧.cmp a b ≡ key_cmp a b }
+    ensures keys { (a b : NameKey) → ⟦<NameKey as Ord>⟧.cmp a b ≡ key_order a b }
 {}
 
 /// The orders of the tables' keys tie equal keys alone, so that no row stands for two requests.
@@ -35,7 +36,9 @@ pub fn keys_are_told_apart()
     ensures exemplars { TiesEqualAlone exemplar_cmp }
     ensures names { TiesEqualAlone name_cmp }
     ensures menus { TiesEqualAlone menu_cmp }
-{}
+{
+    requests_in_order();
+}
 
 /// `==` of the parts of requests passes exactly where they are equal.
 pub fn equality_is_told()

@@ -1,6 +1,5 @@
 -- Rows that members put into a map, one after another.
-use Rattle.std.proofs.Common.{◌≡◌, ℕ, List, [], ◌∷◌, ◌++◌, Option, Some, None, option_map, Result, Ok, Err, IfErr, is_ok, refl, sym, ap, ◌∙◌, subst, string_bytes}
-use mathlib.Core.Bool.{true≢false}
+use Rattle.std.proofs.Common.{◌≡◌, ℕ, List, [], ◌∷◌, ◌++◌, Option, Some, None, option_map, Ok, refl, sym, ap, ◌∙◌, string_bytes}
 use Rattle.std.proofs.lemmas.Option.{none-some, same_Some}
 use Rattle.std.specs.declared.cmp.Ordering.{Ordering}
 use Rattle.std.specs.declared.cmp.Ordering.TheVariants.{Less, Equal, Greater}
@@ -9,8 +8,6 @@ use Rattle.std.specs.BTreeMap.{insert_entry}
 use Rattle.serde_json.specs.View.{view, members_view}
 use Rattle.serde_json.proofs.Views.{Entry}
 use Rattle.icu_tables.specs.Puts.{put_all, each_put}
-use Rattle.icu_provider.specs.Inserts.{Inserts}
-use Rattle.icu_provider.specs.declared.error.DataError.{DataError}
 use Rattle.icu_tables.specs.inner.Reads.{Refuses, Puts}
 use Rattle.icu_tables.specs.Rows.{seen_rows}
 use Rattle.icu_tables.specs.Shape.{Shape, applied}
@@ -56,12 +53,9 @@ module _ {K V W : Type 0} (compare : K → K → Ordering) (seen : V → W) wher
       by Equal later = refl
       by Greater later = ap (λ rest. (row.0, seen row.1) ∷ rest) later
 
-  -- one row is put, or memory was refused
-  pub row_put : (old new : List (K × V)) (key : K) (value : V) (inserted : Result (Unit {0}) DataError) (result : Result (Unit {0}) TableError) (said : Option (List (K × W))) → Inserts compare old new key value inserted → is_ok result ≡ is_ok inserted → IfErr result (λ e. e ≡ Memory) → said ≡ Some ((key, seen value) ∷ []) → Puts compare result (seen_rows seen old) (seen_rows seen new) said
-  row_put old new key value (Ok done) (Ok told) said inserts same refused is =
+  -- one row is put
+  pub row_put : (old new : List (K × V)) (key : K) (value : V) (said : Option (List (K × W))) → new ≡ insert_entry compare old key value → said ≡ Some ((key, seen value) ∷ []) → Puts compare (Ok tt) (seen_rows seen old) (seen_rows seen new) said
+  row_put old new key value said inserts is =
       ap (option_map (put_all compare (seen_rows seen old))) is
       ∙ ap (λ rows. Some rows) (sym (seen_rows-insert_entry old key value))
-      ∙ ap (λ rows. Some (seen_rows seen rows)) (sym inserts.rows)
-  row_put old new key value (Err e) (Ok told) said inserts same refused is = absurd (true≢false same)
-  row_put old new key value inserted (Err e) said inserts same refused is =
-      subst (λ refusal. Refuses refusal (option_map (put_all compare (seen_rows seen old)) said)) (sym refused) tt
+      ∙ ap (λ rows. Some (seen_rows seen rows)) (sym inserts)

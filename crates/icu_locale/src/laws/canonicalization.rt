@@ -10,7 +10,8 @@ ghost use Rattle.icu_locale.specs.Kinds.{next_of};
 ghost use Rattle.icu_locale.specs.Run.{EndsOrRepeats, EndsWithNoRepeat, HasOneEnd, KeepsEnd, HasOneRepeat, BecomesEnd};
 ghost use Rattle.icu_locale.specs.Canonical.{rg, sd, next_value, AreCanonicalKeywords, IsCanonical, is_applied};
 ghost use Rattle.icu_locale.specs.Cost.{NeedsNoMemory, HasNothingToCopy};
-ghost use Rattle.icu_locale.specs.Refusals.{RulesEnd, EndsInPlace};
+ghost use Rattle.icu_locale.specs.Refusals.{RulesEnd, EndsInPlace, IsMemory, IsRefusal};
+ghost use Rattle.icu_locale.specs.declared.canonicalizer.CanonicalizeError.{CanonicalizeError};
 ghost use Rattle.icu_locale.specs.declared.canonicalizer.rules.Rules.{Rules};
 
 /// Of each run of an identifier, by all rules or by language aliases alone, exactly one holds: it ends, or it has a
@@ -76,6 +77,15 @@ pub fn canonical_stays_canonical()
 pub fn nothing_to_copy()
     ensures { (likely : LikelySubtags) (rules : Rules) (old : Locale)
         → HasNothingToCopy likely rules old → NeedsNoMemory likely rules old }
+{}
+
+/// A locale has one canonical form, and where it has one no refusal comes but want of memory.
+pub fn canonical_form_is_one()
+    ensures one { (likely : LikelySubtags) (rules : Rules) (old new other : Locale)
+        → IsCanonical likely rules old new → IsCanonical likely rules old other → new ≡ other }
+    ensures refused { (likely : LikelySubtags) (rules : Rules) (old new : Locale)
+        (e : CanonicalizeError) → IsCanonical likely rules old new
+        → IsRefusal likely rules old e → IsMemory e }
 {}
 
 /// Something is applied to a locale exactly where its canonical form differs.

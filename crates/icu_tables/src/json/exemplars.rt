@@ -9,9 +9,10 @@ use crate::json::marked::Marker;
 use crate::json::members::{NamesKeys, PutsRows, RowByRow, put_members};
 use crate::json::objects::{only_members, required};
 use crate::json::values::FromValue;
-use icu_provider::{DataLocale, ExemplarCharactersData, ExemplarMarker, SortedMap};
+use icu_provider::{DataLocale, ExemplarCharactersData, ExemplarMarker};
 use serde_json::Value;
 use std::alloc::Global;
+use std::collections::BTreeMap;
 
 // A bound of characters.
 impl FromValue for u32 {
@@ -70,7 +71,7 @@ impl PutsRows<(ExemplarMarker, DataLocale), ExemplarCharactersData> for MarkedEx
         alloc: Global,
         name: &str,
         value: &Value,
-        map: &mut SortedMap<(ExemplarMarker, DataLocale), ExemplarCharactersData>,
+        map: &mut BTreeMap<(ExemplarMarker, DataLocale), ExemplarCharactersData>,
     ) -> Result<(), TableError> {
         match ExemplarMarker::marker_named(name) {
             Some(marker) => {

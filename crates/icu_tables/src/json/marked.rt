@@ -5,10 +5,11 @@ use crate::TableError;
 use crate::json::locales::locale_named;
 use crate::json::members::{NamesKeys, PutsRows, RowByRow, put_members};
 use crate::json::values::FromValue;
-use icu_provider::{DataLocale, SortedMap};
+use icu_provider::DataLocale;
 use serde_json::Value;
 use std::alloc::Global;
 use std::cmp::Ord;
+use std::collections::BTreeMap;
 
 // A marker that a member is named by.
 pub(crate) trait Marker: Copy + Ord + Drop {
@@ -50,7 +51,7 @@ impl<M: Marker, K: MarkedKey<M>, V: FromValue> PutsRows<(M, DataLocale, K), V> f
         alloc: Global,
         name: &str,
         value: &Value,
-        map: &mut SortedMap<(M, DataLocale, K), V>,
+        map: &mut BTreeMap<(M, DataLocale, K), V>,
     ) -> Result<(), TableError> {
         match M::marker_named(name) {
             Some(marker) => put_members(alloc, value, &RowsOf { marker }, map),
@@ -79,7 +80,7 @@ impl<M: Marker, K: MarkedKey<M>, V: FromValue> PutsRows<(M, DataLocale, K), V> f
         alloc: Global,
         name: &str,
         value: &Value,
-        map: &mut SortedMap<(M, DataLocale, K), V>,
+        map: &mut BTreeMap<(M, DataLocale, K), V>,
     ) -> Result<(), TableError> {
         let rows = RowByRow {
             keys: KeysIn {

@@ -1,5 +1,5 @@
-//! Objects whose members put rows into a map, one after another.
-ghost use Rattle.std.specs.Prelude.{◌≡◌, [], Some, IfErr, is_ok};
+//! Objects whose members put rows into a map.
+ghost use Rattle.std.specs.Prelude.{◌≡◌, [], Some, IfOk, IfErr};
 ghost use Rattle.serde_json.specs.Find.{get};
 ghost use Rattle.serde_json.specs.View.{view};
 ghost use Rattle.icu_tables.specs.Fields.{said_or};
@@ -10,10 +10,11 @@ ghost use Rattle.icu_tables.specs.Rows.{seen_rows};
 
 use crate::TableError;
 use crate::json::values::FromValue;
-use icu_provider::{DataError, SortedMap};
+use icu_provider::SortedMap;
 use serde_json::Value;
-use std::alloc::Global;
+use std::alloc::{AllocError, Global};
 use std::cmp::Ord;
+use std::collections::BTreeMap;
 
 // How a member puts its rows into a map.
 pub(crate) trait PutsRows<K: Ord, V> {
@@ -36,9 +37,10 @@ pub(crate) trait PutsRows<K: Ord, V> {
         alloc: Global,
         name: &str,
         value: &Value,
-        map: &mut SortedMap<K, V>,
+        map: &mut BTreeMap<K, V>,
     ) -> Result<(), TableError>
-        ensures { Puts K.cmp result (seen_rows Self.seen map.old) (seen_rows Self.seen map.new)
+        ensures { Puts K.cmp result
+            (seen_rows Self.seen map.old.entries) (seen_rows Self.seen map.new.entries)
             (Self.says self.now name.now (view value.now)) };
 }
 
@@ -47,9 +49,10 @@ pub(crate) fn put_members<K: Ord, V, P: PutsRows<K, V>>(
     alloc: Global,
     value: &Value,
     how: &P,
-    map: &mut SortedMap<K, V>,
+    map: &mut BTreeMap<K, V>,
 ) -> Result<(), TableError>
-    ensures { Puts K.cmp result (seen_rows P.seen map.old) (seen_rows P.seen map.new)
+    ensures { Puts K.cmp result
+        (seen_rows P.seen map.old.entries) (seen_rows P.seen map.new.entries)
         (rows_by (P.says how.now) (view value.now)) }
 {
     let Some(members) = value.as_object() else {
@@ -61,8 +64,8 @@ pub(crate) fn put_members<K: Ord, V, P: PutsRows<K, V>>(
     Ok(())
 }
 
-// Puts what a member says, if it is there, into a map without rows.
-pub(crate) fn fill_by<K: Ord, V, P: PutsRows<K, V>>(
+// Puts what a member says, if it is there, into a map without rows. No order of the members costs more than a sort.
+pub(crate) fn fill_by<K: Ord + Drop, V: Drop, P: PutsRows<K, V>>(
     alloc: Global,
     object: &Value,
     name: &str,
@@ -75,9 +78,28 @@ pub(crate) fn fill_by<K: Ord, V, P: PutsRows<K, V>>(
         (said_or (Some []) (map_by K.cmp (P.says how.now)) found) }
 {
     match object.get(name) {
-        Some(value) => put_members(alloc, value, how, map),
+        Some(value) => {
+            let mut rows = BTreeMap::new(alloc);
+            put_members(alloc, value, how, &mut rows)?;
+            *map = in_one_list(alloc, rows)?;
+            Ok(())
+        }
         None => Ok(()),
     }
+}
+
+// The rows of a map in one list.
+fn in_one_list<K: Ord + Drop, V: Drop>(
+    alloc: Global,
+    map: BTreeMap<K, V>,
+) -> Result<SortedMap<K, V>, AllocError>
+    ensures { IfOk result (λ rows. rows ≡ map.entries) }
+{
+    let mut rows = Vec::with_capacity(alloc, map.len())?;
+    for row in map {
+        rows.push(row)?;
+    }
+    Ok(SortedMap::from_sorted(rows))
 }
 
 // How the names of members are read as keys.
@@ -108,23 +130,12 @@ impl<K: Ord + Drop, V: FromValue, R: NamesKeys<K>> PutsRows<K, V> for RowByRow<R
         alloc: Global,
         name: &str,
         value: &Value,
-        map: &mut SortedMap<K, V>,
+        map: &mut BTreeMap<K, V>,
     ) -> Result<(), TableError> {
         let held = V::from_value(alloc, value)?;
-        match self.keys.key_named(name) {
-            Some(key) => in_memory(map.insert(key, held)),
-            None => Ok(()),
+        if let Some(key) = self.keys.key_named(name) {
+            let _ = map.insert(key, held)?;
         }
-    }
-}
-
-// An insert is refused by want of memory alone.
-fn in_memory(inserted: Result<(), DataError>) -> Result<(), TableError>
-    ensures done { is_ok result ≡ is_ok inserted }
-    ensures refused { IfErr result (λ e. e ≡ TableError.Memory) }
-{
-    match inserted {
-        Ok(()) => Ok(()),
-        Err(_) => Err(TableError::Memory),
+        Ok(())
     }
 }

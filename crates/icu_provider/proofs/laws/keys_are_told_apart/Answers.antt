@@ -11,10 +11,10 @@ pub returns-clause-locales : goal.returns-clause-locales
 returns-clause-locales c = locales_tie
 
 pub returns-clause-exemplars : goal.returns-clause-exemplars
-returns-clause-exemplars c = exemplars_tie
+returns-clause-exemplars c = exemplars_tie c.requests_in_order.ensures.exemplars
 
 pub returns-clause-names : goal.returns-clause-names
-returns-clause-names c = names_tie
+returns-clause-names c = names_tie c.requests_in_order.ensures.names c.requests_in_order.ensures.keys
 
 pub returns-clause-menus : goal.returns-clause-menus
-returns-clause-menus c = menus_tie
+returns-clause-menus c = menus_tie c.requests_in_order.ensures.menus

@@ -1,6 +1,8 @@
-use Rattle.std.proofs.Common.{subst, sym, inl, inr, refl, rules}
+use Rattle.std.proofs.Common.{◌≡◌, ◌↔◌, subst, sym, inl, inr, refl, rules}
 use Rattle.std.proofs.lemmas.Result.{err_from_is_err_and}
-use Rattle.icu_locale.specs.Canonical.{IsCanonical}
+use Rattle.icu_locale.specs.Canonical.{IsCanonical, answer_of, is_applied}
+use Rattle.icu_locale.specs.declared.expander.TransformResult.TheVariants.{Unmodified}
+use Rattle.icu_locale.proofs.CanonicalAgain.{unmodified_exactly}
 use Rattle.icu_locale.proofs.Canonicals.{IsCanonical-with_changes, memory_from_end, no_repeat, no_value_repeat, named, named_value}
 use Rattle.icu_locale.proofs.canonicalizer.LocaleCanonicalizer.canonicalize_counted.Goals as goal
 
@@ -11,6 +13,7 @@ returns-in_err-changes-clause-outcome g c =
     rw (p.1, p.2) record {
       canonical = tt;
       answer = tt;
+      unmodified = tt;
       refusal = c.in_err-changes.ensures.refusal;
       unchanged = refl;
       ends = λ ends. inr (memory_from_end (g.E.AsExpander.table c.args.self.now.expander) c.args.self.now.rules c.args.locale.now refusal c.in_err-changes.ensures.refusal ends);
@@ -24,9 +27,12 @@ returns-clause-outcome g c =
     let kept = c.args.self.now.rules in
     let known = g.E.AsExpander.table c.args.self.now.expander in
     let changes = c.in_ok-changes.changes in
+    let said : c.write.result ≡ answer_of (is_applied known kept c.args.locale.now) = search rules in
+    let canonical = subst (IsCanonical known kept c.args.locale.now) (sym c.write.ensures.changed) (IsCanonical-with_changes known kept c.args.locale.now changes c.in_ok-changes.ensures.found) in
     record {
-      canonical = subst (IsCanonical known kept c.args.locale.now) (sym c.write.ensures.changed) (IsCanonical-with_changes known kept c.args.locale.now changes c.in_ok-changes.ensures.found);
-      answer = search rules;
+      canonical = canonical;
+      answer = said;
+      unmodified = subst (λ answer. (answer ≡ Unmodified) ↔ (c.write.new.locale ≡ c.args.locale.now)) (sym said) (unmodified_exactly known kept c.args.locale.now c.write.new.locale canonical);
       refusal = tt;
       unchanged = tt;
       ends = λ ends. inl refl;

@@ -6,3 +6,6 @@ returns-clause-minimal c = search rules
 
 pub returns-clause-modified : goal.returns-clause-modified
 returns-clause-modified c = search rules
+
+pub returns-clause-unmodified : goal.returns-clause-unmodified
+returns-clause-unmodified c = search rules

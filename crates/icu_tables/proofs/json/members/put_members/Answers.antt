@@ -10,8 +10,8 @@ use Rattle.icu_tables.proofs.json.members.put_members.Goals as goal
 pub loop-name-preserved : goal.loop-name-preserved
 loop-name-preserved g c =
     let says = g.P.PutsRows.says c.args.how.now in
-    let now = seen_rows g.P.PutsRows.seen c.loop-name.map in
-    let next = seen_rows g.P.PutsRows.seen c.put.new.map in
+    let now = seen_rows g.P.PutsRows.seen c.loop-name.map.entries in
+    let next = seen_rows g.P.PutsRows.seen c.put.new.map.entries in
     let e : Entry = (c.in-Some-2.name.now, c.in-Some-2.member.now) in
     let put : option_map (put_all g.K.Ord.cmp now) (says (string_bytes e.0) (view e.1)) ≡ Some next = rw (← c.as_str.ensures.value) c.in_ok-put.ensures in
     c.loop-name.invariant

@@ -8,4 +8,4 @@ abbrev pub invariant-loop-name : goal.invariant-loop-name
 invariant-loop-name g l =
     let says = g.P.PutsRows.says l.how in
     let seen = seen_rows g.P.PutsRows.seen in
-    becomes g.K.Ord.cmp says (seen l.initial.map) l.initial.name-iterator ≡ becomes g.K.Ord.cmp says (seen l.map) l.name-iterator
+    becomes g.K.Ord.cmp says (seen l.initial.map.entries) l.initial.name-iterator ≡ becomes g.K.Ord.cmp says (seen l.map.entries) l.name-iterator
