@@ -10,12 +10,12 @@ use Rattle.icu_locale.specs.LikelySubtags.{LikelySubtags}
 use Rattle.icu_locale.specs.Kinds.{next, by_language_alias}
 use Rattle.icu_locale.specs.Canonical.{rg, sd, next_value, subdivision_alias, put, AreCanonicalKeywords, IsCanonical, answer_of, is_applied}
 use Rattle.icu_locale.specs.Cost.{NeedsNoMemory, HasNothingToCopy}
-use Rattle.icu_locale.specs.Refusals.{RulesEnd, EndsInPlace, IsMemory, IsRefusal}
+use Rattle.icu_locale.specs.Refusals.{ComesAgainFirst, RulesEnd, EndsInPlace, IsMemory, IsRefusal, ValueComesAgainFirst}
 use Rattle.icu_locale.specs.Run.{BecomesEnd, IsLaterEndOf}
 use Rattle.icu_locale.specs.declared.canonicalizer.CanonicalizeError.{CanonicalizeError}
 use Rattle.icu_locale.specs.declared.expander.TransformResult.TheVariants.{Unmodified}
 use Rattle.icu_locale.specs.declared.canonicalizer.rules.Rules.{Rules}
-use Rattle.icu_locale.proofs.Canonicals.{memory_from_end}
+use Rattle.icu_locale.proofs.Canonicals.{memory_from_end, none_first}
 use Rattle.icu_locale.proofs.Keywords.{canonical_at_rg, canonical_at_sd}
 use Rattle.icu_locale.proofs.Runs.{end_is_unique}
 use Rattle.icu_locale.proofs.LaterEnds.{none_stands_behind, none_behind_any, alone, stands_alone, in_place, kept, no_later_end, later_end_none, same_where_none, none_behind, EndsIfAny-later_end, EndsIfAny-becomes}
@@ -173,3 +173,7 @@ one_canonical_form likely rules old new other is other_is =
 -- the rules end on it, so only memory is refused
 pub memory_alone : (likely : LikelySubtags) (rules : Rules) (old new : Locale) (e : CanonicalizeError) → IsCanonical likely rules old new → IsRefusal likely rules old e → IsMemory e
 memory_alone likely rules old new e canonical refusal = memory_from_end likely rules old e refusal (rules_end likely rules old new canonical)
+
+-- a value is asked for where the runs of identifiers end
+pub not_both_refused : (likely : LikelySubtags) (rules : Rules) (old : Locale) (z : LanguageIdentifier) (v : List (List ℕ)) → ComesAgainFirst likely rules old z → ValueComesAgainFirst likely rules old v → ⊥
+not_both_refused likely rules old z v first value = none_first likely rules old value.0 z first

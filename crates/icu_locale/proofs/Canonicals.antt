@@ -70,7 +70,7 @@ module _ (likely : LikelySubtags) (rules : Rules) (old : Locale) where
   }
 
   -- where the runs of identifiers end, none comes again
-  none_first : IdentifiersEnd likely rules old → (z : LanguageIdentifier) → ComesAgainFirst likely rules old z → ⊥
+  pub none_first : IdentifiersEnd likely rules old → (z : LanguageIdentifier) → ComesAgainFirst likely rules old z → ⊥
   none_first ends z (inl repeats) = ends_with_no_repeat (next likely rules) old.id ends.id.0 z ends.id.1 repeats.again
   none_first ends z (inr (ended, repeats)) = not_both (by_language_alias rules) lang z ends.transform repeats
 

@@ -1,5 +1,5 @@
 -- A line has one answer at most.
-use Rattle.std.proofs.Common.{◌≡◌, ◌≢◌, ◌↔◌, ◌⊎◌, ℕ, ◌<◌, ◌≤◌, Bool, true, false, ◌&&◌, List, [], ◌∷◌, ◌++◌, map, Option, Some, None, Result, Ok, Err, IsSomeAnd, refl, ap, sym, subst, ◌∙◌, inl, inr, arith}
+use Rattle.std.proofs.Common.{◌≡◌, ◌≢◌, ◌↔◌, ◌⊎◌, ℕ, ◌<◌, ◌≤◌, Bool, true, false, ◌&&◌, List, [], ◌∷◌, ◌++◌, map, Option, Some, None, Result, Ok, Err, refl, ap, sym, subst, ◌∙◌, inl, inr, arith}
 use Rattle.std.specs.Prelude.{slice_index_or, nat_le}
 use Rattle.std.specs.List.{list_all, slice_get}
 use Rattle.std.specs.Char.{is_ascii_alphabetic, to_ascii_lowercase}
@@ -21,16 +21,13 @@ use Rattle.icu_locale.specs.declared.expander.Favor.{Favor}
 use Rattle.icu_locale.specs.declared.expander.Favor.TheVariants.{RegionFirst, ScriptFirst}
 use Rattle.icu_locale.specs.declared.expander.TransformResult.{TransformResult}
 use Rattle.icu_locale.specs.declared.expander.TransformResult.TheVariants.{Modified, Unmodified}
-use Rattle.icu_locale.specs.Canonical.{IsCanonical, AreCanonicalKeywords, rg, sd, next_value}
-use Rattle.icu_locale.specs.Kinds.{next_of, by_language_alias}
+use Rattle.icu_locale.specs.Canonical.{IsCanonical}
 use Rattle.icu_locale.specs.Negotiation.{Negotiation, IsNegotiated}
-use Rattle.icu_locale.specs.Refusals.{ComesAgainFirst, ValueComesAgainFirst, ValueRepeats}
-use Rattle.icu_locale.specs.Run.{EndsIfAny, BecomesEnd, IsRepeat, HasOneEnd, EndsWithNoRepeat}
+use Rattle.icu_locale.specs.Refusals.{ComesAgainFirst, ValueComesAgainFirst, IsMemory, IsRefusal as IsRefusedBy}
+use Rattle.icu_locale.specs.declared.canonicalizer.CanonicalizeError.{CanonicalizeError}
+use Rattle.icu_locale.specs.declared.canonicalizer.CanonicalizeError.TheVariants.{NoFixedPoint, NoSubdivisionFixedPoint}
 use Rattle.icu_locale.specs.declared.canonicalizer.rules.Rules.{Rules}
-use Rattle.icu_locale_core.specs.Keywords.{KeywordRows}
-use Rattle.icu_locale_core.specs.Maps.{value_at}
 use Rattle.icu_locale_core.specs.ParseError.{error_name}
-use Rattle.icu_locale_core.specs.TextSet.{text_cmp}
 use Rattle.icu_locale_core.specs.declared.locale.Locale.{Locale}
 use Rattle.icu_locale_cli.specs.declared.work.Work.{Work}
 use Rattle.icu_locale_cli.specs.declared.work.Work.TheVariants.{Identifiers, Locales, Requests}
@@ -147,63 +144,25 @@ module _ (one two : List ℕ) (a b : Bool) where
     identifier_one spelled_once task line (inr h) (inr k) =
         same h.2 k.2 (ap (λ e. refused_line (error_name e)) (refusal_one line h.0 k.0 h.1 k.1)) h.3 k.3
 
--- what a run that there may be becomes is one, and not both that and a repeat
-module _ {X : Type 0} (next : X → Option X) where
-  becomes_one : ((s : X) → HasOneEnd next s) → (start u v : Option X) → BecomesEnd next start u → BecomesEnd next start v → u ≡ v
-  becomes_one one None u v p q = p ∙ sym q
-  becomes_one one (Some s) None v p q = absurd p
-  becomes_one one (Some s) (Some y) None p q = absurd q
-  becomes_one one (Some s) (Some y) (Some z) p q = ap Some (one s y z p q)
-
-  becomes_no_repeat : ((s : X) → EndsWithNoRepeat next s) → (start u : Option X) (z : X) → BecomesEnd next start u → IsSomeAnd start (λ s. IsRepeat next s z) → ⊥
-  becomes_no_repeat not_both None u z p q = q
-  becomes_no_repeat not_both (Some s) None z p q = p
-  becomes_no_repeat not_both (Some s) (Some y) z p q = not_both s y z p q.again
-
-  ends_no_repeat : ((s : X) → EndsWithNoRepeat next s) → (start : Option X) (z : X) → EndsIfAny next start → IsSomeAnd start (λ s. IsRepeat next s z) → ⊥
-  ends_no_repeat not_both None z p q = q
-  ends_no_repeat not_both (Some s) z p q = not_both s p.0 z p.1 q.again
-
 -- the facts of canonicalization that are cited
 pub record CanonicalFacts (likely : LikelySubtags) (rules : Rules) : Type 0 where
-  pub one_end : (transform : Bool) (x : LanguageIdentifier) → HasOneEnd (next_of likely rules transform) x
-  pub not_both : (transform : Bool) (x : LanguageIdentifier) → EndsWithNoRepeat (next_of likely rules transform) x
-  pub value_one_end : (v : List (List ℕ)) → HasOneEnd (next_value rules) v
-  pub value_not_both : (v : List (List ℕ)) → EndsWithNoRepeat (next_value rules) v
-  pub region_override : (old new : KeywordRows) → AreCanonicalKeywords rules old new → BecomesEnd (next_value rules) (value_at text_cmp old rg) (value_at text_cmp new rg)
-  pub subdivision : (old new : KeywordRows) → AreCanonicalKeywords rules old new → BecomesEnd (next_value rules) (value_at text_cmp old sd) (value_at text_cmp new sd)
+  pub one : (old new other : Locale) → IsCanonical likely rules old new → IsCanonical likely rules old other → new ≡ other
+  pub refused : (old new : Locale) (e : CanonicalizeError) → IsCanonical likely rules old new → IsRefusedBy likely rules old e → IsMemory e
+  pub apart : (old : Locale) (z : LanguageIdentifier) (v : List (List ℕ)) → ComesAgainFirst likely rules old z → ValueComesAgainFirst likely rules old v → ⊥
 
 module _ (likely : LikelySubtags) (rules : Rules) (facts : CanonicalFacts likely rules) (old : Locale) where
   canonical_line_one : (m : TransformResult) (new other : Locale) → IsCanonical likely rules old new → IsCanonical likely rules old other → canonical_line new m ≡ canonical_line other m
-  canonical_line_one m new other c d =
-      let ids = facts.one_end false old.id new.id other.id c.id d.id in
-      let values = becomes_one (next_value rules) facts.value_one_end (value_at text_cmp old.extensions.unicode.keywords rg) _ _ (facts.region_override _ _ c.keywords) (facts.region_override _ _ d.keywords) in
-      λ i. override_line (ids i) (values i) m
-
-  canonical_no_repeat : (new : Locale) (z : LanguageIdentifier) → IsCanonical likely rules old new → ComesAgainFirst likely rules old z → ⊥
-  canonical_no_repeat new z c (inl r) = facts.not_both false old.id new.id z c.id r.again
-  canonical_no_repeat new z c (inr r) = becomes_no_repeat (by_language_alias rules) (facts.not_both true) old.extensions.transform.lang new.extensions.transform.lang z c.transform r.1
-
-  canonical_no_value : (new : Locale) (v : List (List ℕ)) → IsCanonical likely rules old new → ValueComesAgainFirst likely rules old v → ⊥
-  canonical_no_value new v c h = by h.1
-    where
-      by : ValueRepeats rules old.extensions.unicode.keywords v → ⊥
-      by (inl r) = becomes_no_repeat (next_value rules) facts.value_not_both _ _ v (facts.region_override _ _ c.keywords) r
-      by (inr r) = becomes_no_repeat (next_value rules) facts.value_not_both _ _ v (facts.subdivision _ _ c.keywords) r.1
-
-  not_identifier_and_value : (z : LanguageIdentifier) (v : List (List ℕ)) → ComesAgainFirst likely rules old z → ValueComesAgainFirst likely rules old v → ⊥
-  not_identifier_and_value z v (inl r) h = facts.not_both false old.id h.0.id.0 z h.0.id.1 r.again
-  not_identifier_and_value z v (inr r) h = ends_no_repeat (by_language_alias rules) (facts.not_both true) old.extensions.transform.lang z h.0.transform r.1
+  canonical_line_one m new other c d = ap (λ l. canonical_line l m) (facts.one old new other c d)
 
   canonicalized_one : (one two : List ℕ) (a b : Bool) → IsCanonicalized likely rules old one a → IsCanonicalized likely rules old two b → SameAnswer one two a b
   canonicalized_one one two a b (inl h) (inl k) = same h.2 k.2 (canonical_line_one _ h.0 k.0 h.1 k.1) h.3 k.3
-  canonicalized_one one two a b (inl h) (inr (inl k)) = absurd (canonical_no_repeat h.0 k.0 h.1 k.1)
-  canonicalized_one one two a b (inl h) (inr (inr k)) = absurd (canonical_no_value h.0 k.0 h.1 k.1)
-  canonicalized_one one two a b (inr (inl h)) (inl k) = absurd (canonical_no_repeat k.0 h.0 k.1 h.1)
-  canonicalized_one one two a b (inr (inr h)) (inl k) = absurd (canonical_no_value k.0 h.0 k.1 h.1)
+  canonicalized_one one two a b (inl h) (inr (inl k)) = absurd (facts.refused old h.0 (NoFixedPoint k.0) h.1 k.1)
+  canonicalized_one one two a b (inl h) (inr (inr k)) = absurd (facts.refused old h.0 (NoSubdivisionFixedPoint k.0) h.1 k.1)
+  canonicalized_one one two a b (inr (inl h)) (inl k) = absurd (facts.refused old k.0 (NoFixedPoint h.0) k.1 h.1)
+  canonicalized_one one two a b (inr (inr h)) (inl k) = absurd (facts.refused old k.0 (NoSubdivisionFixedPoint h.0) k.1 h.1)
   canonicalized_one one two a b (inr (inl h)) (inr (inl k)) = same h.2 k.2 refl h.3 k.3
-  canonicalized_one one two a b (inr (inl h)) (inr (inr k)) = absurd (not_identifier_and_value h.0 k.0 h.1 k.1)
-  canonicalized_one one two a b (inr (inr h)) (inr (inl k)) = absurd (not_identifier_and_value k.0 h.0 k.1 h.1)
+  canonicalized_one one two a b (inr (inl h)) (inr (inr k)) = absurd (facts.apart old h.0 k.0 h.1 k.1)
+  canonicalized_one one two a b (inr (inr h)) (inr (inl k)) = absurd (facts.apart old k.0 h.0 k.1 h.1)
   canonicalized_one one two a b (inr (inr h)) (inr (inr k)) = same h.2 k.2 refl h.3 k.3
 
 first_one : (i j k l : ℕ) → (i < k) ⊎ ((i ≡ k) × (j ≤ l)) → (k < i) ⊎ ((k ≡ i) × (l ≤ j)) → (i ≡ k) × (j ≡ l)

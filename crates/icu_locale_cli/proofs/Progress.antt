@@ -80,6 +80,7 @@ module _ (work : Work) (input : List ℕ) (old mid : Option (List ℕ)) (status 
       part = part.written;
       left = part.left;
       cut = part.parted;
+      short = part.short;
       earlier = record {
         answered = before.answered;
         parted = before.parted;

@@ -1,5 +1,5 @@
 -- What a run reads and writes.
-use Rattle.std.specs.Prelude.{◌≡◌, ◌↔◌, ℕ, Bool, true, List, [], ◌∷◌, ◌++◌}
+use Rattle.std.specs.Prelude.{◌≡◌, ◌≢◌, ◌↔◌, ℕ, Bool, true, List, [], ◌∷◌, ◌++◌}
 use Rattle.std.specs.List.{AllZip, flat_map, list_all}
 use Rattle.std.specs.Io.KnownBytes.{Appends, Consumes, IsAtEnd}
 use Rattle.icu_locale_cli.specs.declared.status.Status.{Status}
@@ -47,7 +47,7 @@ pub record WritesUpTo (work : Work) (input : List ℕ) (old new : Stream) (part 
 abbrev pub WritesWholeLines : Work → List ℕ → Stream → Stream → Type 0
 WritesWholeLines work input old new = (rest : List (List ℕ)) × WritesUpTo work input old new [] rest
 
--- the earlier lines are written whole, and a beginning of the next
+-- the earlier lines are written whole, and of the next a beginning that is not the whole
 pub record WritesPart (work : Work) (input : List ℕ) (old new : Stream) : Type 0 where
   pub line : List ℕ
   pub rest : List (List ℕ)
@@ -57,4 +57,5 @@ pub record WritesPart (work : Work) (input : List ℕ) (old new : Stream) : Type
   pub part : List ℕ
   pub left : List ℕ
   pub cut : text ≡ part ++ left
+  pub short : left ≢ []
   pub earlier : WritesUpTo work input old new part (line ∷ rest)

@@ -5,9 +5,7 @@ ghost use Rattle.icu_locale_cli.specs.declared.work.Work.{Work};
 ghost use Rattle.icu_locale_cli.specs.Answers.{IsAnswer};
 ghost use Rattle.icu_locale_cli.specs.Runs.{WritesAll};
 
-use icu_locale::laws::{
-    canonical_keywords_by_key, minimal_form_is_one, runs_end_or_repeat, value_runs_end_or_repeat,
-};
+use icu_locale::laws::{canonical_form_is_one, minimal_form_is_one};
 use icu_locale_core::laws::spelled_once;
 
 /// A line has one answer at most: what is written for it is told by the line and the work alone.
@@ -17,9 +15,7 @@ pub fn a_line_has_one_answer()
 {
     spelled_once();
     minimal_form_is_one();
-    runs_end_or_repeat();
-    value_runs_end_or_repeat();
-    canonical_keywords_by_key();
+    canonical_form_is_one();
 }
 
 /// Behind a line feed, which is 10, an input may be cut: what runs over its parts write, the one behind the other, is

@@ -10,7 +10,7 @@ ghost use Rattle.icu_locale.specs.Kinds.{next_of};
 ghost use Rattle.icu_locale.specs.Run.{EndsOrRepeats, EndsWithNoRepeat, HasOneEnd, KeepsEnd, HasOneRepeat, BecomesEnd};
 ghost use Rattle.icu_locale.specs.Canonical.{rg, sd, next_value, AreCanonicalKeywords, IsCanonical, is_applied};
 ghost use Rattle.icu_locale.specs.Cost.{NeedsNoMemory, HasNothingToCopy};
-ghost use Rattle.icu_locale.specs.Refusals.{RulesEnd, EndsInPlace, IsMemory, IsRefusal};
+ghost use Rattle.icu_locale.specs.Refusals.{ComesAgainFirst, RulesEnd, EndsInPlace, IsMemory, IsRefusal, ValueComesAgainFirst};
 ghost use Rattle.icu_locale.specs.declared.canonicalizer.CanonicalizeError.{CanonicalizeError};
 ghost use Rattle.icu_locale.specs.declared.canonicalizer.rules.Rules.{Rules};
 
@@ -79,13 +79,17 @@ pub fn nothing_to_copy()
         → HasNothingToCopy likely rules old → NeedsNoMemory likely rules old }
 {}
 
-/// A locale has one canonical form, and where it has one no refusal comes but want of memory.
+/// A locale has one canonical form, and where it has one no refusal comes but want of memory. No locale is refused for
+/// an identifier and for a value.
 pub fn canonical_form_is_one()
     ensures one { (likely : LikelySubtags) (rules : Rules) (old new other : Locale)
         → IsCanonical likely rules old new → IsCanonical likely rules old other → new ≡ other }
     ensures refused { (likely : LikelySubtags) (rules : Rules) (old new : Locale)
         (e : CanonicalizeError) → IsCanonical likely rules old new
         → IsRefusal likely rules old e → IsMemory e }
+    ensures apart { (likely : LikelySubtags) (rules : Rules) (old : Locale)
+        (z : LanguageIdentifier) (v : List (List ℕ)) → ComesAgainFirst likely rules old z
+        → ValueComesAgainFirst likely rules old v → ⊥ }
 {}
 
 /// Something is applied to a locale exactly where its canonical form differs.
