@@ -23,8 +23,8 @@ mod canonicalization;
 pub use crate::canonicalizer::identifiers::search;
 pub use crate::canonicalizer::replacing::{replacement, rule_matches};
 pub use canonicalization::{
-    applied_where_changed, canonical_form_is_one, canonical_keywords_by_key, canonical_stays_canonical, nothing_to_copy,
-    runs_end_or_repeat, value_runs_end_or_repeat,
+    applied_where_changed, canonical_form_is_one, canonical_keywords_by_key,
+    canonical_stays_canonical, nothing_to_copy, runs_end_or_repeat, value_runs_end_or_repeat,
 };
 
 /// The likely table of an expander is one map from finitely many keys: a key has at most one triple, which has the

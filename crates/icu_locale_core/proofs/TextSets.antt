@@ -68,15 +68,17 @@ turned false true = refl
 turned false false = refl
 
 pub members_of_walk : (s : TextSet) (t : List ℕ) → (contains s t ≡ true) ↔ Contains (rising s) t
-members_of_walk s t =
-    (λ here. Contains-is_among t (rising s) (sym (contains-rising s t) ∙ here),
-    λ here. contains-rising s t ∙ is_among-Contains t (rising s) here)
+members_of_walk s t = (
+  λ here. Contains-is_among t (rising s) (sym (contains-rising s t) ∙ here),
+  λ here. contains-rising s t ∙ is_among-Contains t (rising s) here,
+)
 
 pub members_of_list : (ts : List (List ℕ)) (t : List ℕ)
     → (contains (from_list ts) t ≡ true) ↔ Contains ts t
-members_of_list ts t =
-    (λ here. Contains-is_among t ts (sym (contains-from_list ts t) ∙ here),
-    λ here. contains-from_list ts t ∙ is_among-Contains t ts here)
+members_of_list ts t = (
+  λ here. Contains-is_among t ts (sym (contains-from_list ts t) ∙ here),
+  λ here. contains-from_list ts t ∙ is_among-Contains t ts here,
+)
 
 both_false : (a b : Bool) → (a || b) ≡ false → (a ≡ false) × (b ≡ false)
 both_false true b e = absurd (false≢true (sym e))

@@ -222,22 +222,22 @@ by_order compare order same told x y = (
 
 module _
     (exemplars_in_order : (a b : ExemplarMarker) → exemplar_marker.ghosts.cmp a b ≡ nat_cmp (exemplar_place a) (exemplar_place b))
-    where
-  pub exemplars_tie : TiesEqualAlone exemplar_cmp
-  exemplars_tie = by_order exemplar_cmp exemplar_order
-      (λ x y i. ordering_then (exemplars_in_order x.0 y.0 i) (locale_order x.1 y.1)) exemplars_told
+  where
+    pub exemplars_tie : TiesEqualAlone exemplar_cmp
+    exemplars_tie = by_order exemplar_cmp exemplar_order
+        (λ x y i. ordering_then (exemplars_in_order x.0 y.0 i) (locale_order x.1 y.1)) exemplars_told
 
 module _
     (names_in_order : (a b : NameMarker) → name_marker.ghosts.cmp a b ≡ nat_cmp (name_place a) (name_place b))
     (keys_in_order : (a b : NameKey) → name_key.ghosts.cmp a b ≡ key_order a b)
-    where
-  pub names_tie : TiesEqualAlone name_cmp
-  names_tie = by_order name_cmp name_order
-      (λ x y i. ordering_then (ordering_then (names_in_order x.0 y.0 i) (locale_order x.1 y.1)) (keys_in_order x.2 y.2 i)) names_told
+  where
+    pub names_tie : TiesEqualAlone name_cmp
+    names_tie = by_order name_cmp name_order
+        (λ x y i. ordering_then (ordering_then (names_in_order x.0 y.0 i) (locale_order x.1 y.1)) (keys_in_order x.2 y.2 i)) names_told
 
 module _
     (menus_in_order : (a b : MenuMarker) → menu_marker.ghosts.cmp a b ≡ nat_cmp (menu_place a) (menu_place b))
-    where
-  pub menus_tie : TiesEqualAlone menu_cmp
-  menus_tie = by_order menu_cmp menu_order
-      (λ x y i. ordering_then (ordering_then (menus_in_order x.0 y.0 i) (locale_order x.1 y.1)) (text_cmp x.2 y.2)) menus_told
+  where
+    pub menus_tie : TiesEqualAlone menu_cmp
+    menus_tie = by_order menu_cmp menu_order
+        (λ x y i. ordering_then (ordering_then (menus_in_order x.0 y.0 i) (locale_order x.1 y.1)) (text_cmp x.2 y.2)) menus_told

@@ -1,7 +1,12 @@
+mod FileLookups
 mod Files
 mod Items
+mod KeyNames
+mod Lookups
+mod MarkedLookups
 mod Members
 mod Names
+mod Once
 mod Puts
 mod Refusals
 mod Sets

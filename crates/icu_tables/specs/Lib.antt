@@ -1,6 +1,7 @@
 pub mod Essentials
 pub mod Fields
 pub mod File
+pub mod Lookups
 pub mod NamedRows
 pub mod Names
 pub mod Numbers

@@ -2,8 +2,9 @@
 #![tactic(auto)]
 
 mod error;
-mod json;
+mod file;
 mod kinds;
+pub mod laws;
 mod tables;
 
 pub use error::TableError;

@@ -3,6 +3,7 @@ ghost use Rattle.std.specs.Prelude.{◌≡◌, [], Some, None, option_copied};
 ghost use Rattle.icu_locale_core.specs.Maps.{value_at};
 ghost use Rattle.icu_provider.specs.Inserts.{Inserts};
 ghost use Rattle.icu_provider.specs.Requests.{exemplar_cmp, locale_cmp, menu_cmp, name_cmp};
+ghost use Rattle.icu_provider.specs.SortedMaps.{IsSortedMap};
 ghost use Rattle.icu_tables.specs.Tables.{held, name_in};
 
 use crate::kinds::is_of_kind;
@@ -197,6 +198,19 @@ impl Tables {
             locale patterns result }
     {
         self.essentials.insert(locale, patterns)
+    }
+
+    /// Nothing, but that in each of these maps the keys rise, so that no key comes twice.
+    pub fn known(&self)
+        ensures exemplars { IsSortedMap exemplar_cmp self.now.exemplars }
+        ensures names { IsSortedMap name_cmp self.now.names }
+        ensures menus { IsSortedMap menu_cmp self.now.menus }
+        ensures essentials { IsSortedMap locale_cmp self.now.essentials }
+    {
+        let _ = self.exemplars.as_slice();
+        let _ = self.names.as_slice();
+        let _ = self.menus.as_slice();
+        let _ = self.essentials.as_slice();
     }
 
     // The name of a request, of any kind.

@@ -163,6 +163,6 @@ module _ {K V : Type 0} {compare : K → K → Ordering} (total : IsTotalOrder c
             let removed : remove_entry (is_at (compare key)) (row ∷ rows) ≡ row ∷ rest =
             rw greater in
             let step : insert_entry compare (row ∷ rest) key value
-                ≡ row ∷ insert_entry compare rest key value = rw greater in
+            ≡ row ∷ insert_entry compare rest key value = rw greater in
             ap (λ r. insert_entry compare r key value) removed ∙ step
             ∙ ap (λ r. row ∷ r) (behind later)

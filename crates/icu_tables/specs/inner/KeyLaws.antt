@@ -90,7 +90,7 @@ subtag_above_dash t x read =
 
 module _ {A : Type 0} (written : A → List ℕ) (reads : List ℕ → Option A) where
   -- a key is read from its name, and its own text is the name
-  named : (t : List ℕ) (x : A) → key_of written reads t ≡ Some x
+  pub named : (t : List ℕ) (x : A) → key_of written reads t ≡ Some x
       → (reads t ≡ Some x) × (written x ≡ t)
   named t x is = option_and_then_some (if_written written t) (reads t) x is (λ y read kept.
       let same = cond_some (pointwise nat_eq (written y) t) y x kept in
@@ -115,7 +115,7 @@ abbrev pub pair_cmp : {A B : Type 0} → (A → A → Ordering) → (B → B →
 pair_cmp first second x y = ordering_then (first x.0 y.0) (second x.1 y.1)
 
 -- a text is its two parts with the `-` between them
-cut_joins : (t : List ℕ) (cut : List ℕ × List ℕ) → cut_at_dash t ≡ Some cut
+pub cut_joins : (t : List ℕ) (cut : List ℕ × List ℕ) → cut_at_dash t ≡ Some cut
     → t ≡ cut.0 ++ 45 ∷ cut.1
 cut_joins t cut is =
     let front = before_first is_dash t in
@@ -165,13 +165,13 @@ both_there (Some a) (Some b) x is =
 
 module _ {A B : Type 0} (first : List ℕ → Option A) (second : List ℕ → Option B) where
   -- the name of a key of two subtags, and the names of both
-  record Names (t : List ℕ) (x : A × B) : Type 0 where
-    cut : List ℕ × List ℕ
-    joins : t ≡ cut.0 ++ 45 ∷ cut.1
-    first_is : first cut.0 ≡ Some x.0
-    second_is : second cut.1 ≡ Some x.1
+  pub record Names (t : List ℕ) (x : A × B) : Type 0 where
+    pub cut : List ℕ × List ℕ
+    pub joins : t ≡ cut.0 ++ 45 ∷ cut.1
+    pub first_is : first cut.0 ≡ Some x.0
+    pub second_is : second cut.1 ≡ Some x.1
 
-  names : (t : List ℕ) (x : A × B) → key_pair first second t ≡ Some x → Names t x
+  pub names : (t : List ℕ) (x : A × B) → key_pair first second t ≡ Some x → Names t x
   names t x is = option_and_then_some _ (cut_at_dash t) x is (λ cut cuts there.
       let parts = both_there (first cut.0) (second cut.1) x there in
       record {

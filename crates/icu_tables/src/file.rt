@@ -1,0 +1,132 @@
+//! Tables from a JSON text.
+ghost use Rattle.std.specs.Prelude.{◌≡◌, ◌≢◌, Some, None, Ok, Err, IfOk, IfErr};
+ghost use Rattle.icu_tables.specs.inner.Reads.{file_seen};
+ghost use Rattle.icu_tables.specs.Rows.{rows_of};
+ghost use Rattle.icu_tables.specs.Text.{json_of, rows_in};
+ghost use Rattle.serde_json.specs.View.{view};
+
+mod aliases;
+mod arrays;
+mod direction;
+mod essentials;
+mod exemplars;
+mod keys;
+mod likely;
+mod locales;
+mod maps;
+mod marked;
+mod members;
+mod menus;
+mod names;
+mod objects;
+mod subtags;
+mod texts;
+mod values;
+
+use crate::file::exemplars::MarkedExemplars;
+use crate::file::locales::Locales;
+use crate::file::marked::Marked;
+use crate::file::members::{RowByRow, fill_by};
+use crate::file::objects::{fill, only_members};
+use crate::file::values::FromValue;
+use crate::{TableError, Tables};
+use serde_json::Value;
+use std::alloc::Global;
+
+impl Tables {
+    /// The tables of a JSON text: an object with the members `likely_language`,
+    /// `likely_script_region`, `likely_extended`, `aliases`, `direction`, `exemplars`, `names`,
+    /// `menus` and `essentials`, any of which may be left out. A table that is left out is not held,
+    /// and a map that is left out has no rows. `specs/File.antt` says what stands in each.
+    ///
+    /// Values are read in any case. A key is one subtag in its written form, or two with one `-`
+    /// between them, or a locale: a language, with a script if any and a region if any. A row whose
+    /// key is not of this form is skipped. It takes memory for the JSON value and for the tables.
+    ///
+    /// # Errors
+    ///
+    /// `Json` where the text is no JSON value, and `Shape` where the value has not the shape of a
+    /// file of tables: any other member is `Shape` too. `Memory` may stand in the place of any
+    /// answer.
+    pub fn from_json(alloc: Global, text: &[u8]) -> Result<Tables, TableError>
+        ensures rows { IfOk result (λ tables. rows_in text.now ≡ Ok (rows_of tables)) }
+        ensures refused { IfErr result (λ e. e ≢ TableError.Memory
+            → rows_in text.now ≡ Err e) }
+    {
+        let value = parse(alloc, text)?;
+        Tables::from_value(alloc, &value)
+    }
+}
+
+// The JSON value that a text is.
+fn parse(alloc: Global, text: &[u8]) -> Result<Value, TableError>
+    ensures value { IfOk result (λ value. json_of text.now ≡ Some (view value)) }
+    ensures none { IfErr result (λ e. e ≢ TableError.Memory → json_of text.now ≡ None) }
+    ensures refused { IfErr result (λ e. e ≢ TableError.Memory → e ≡ TableError.Json) }
+{
+    match Value::from_slice(alloc, text) {
+        Ok(value) => Ok(value),
+        Err(e) => {
+            if e.is_memory() {
+                Err(TableError::Memory)
+            } else {
+                Err(TableError::Json)
+            }
+        }
+    }
+}
+
+const MEMBERS: [&str; 9] = [
+    "likely_language",
+    "likely_script_region",
+    "likely_extended",
+    "aliases",
+    "direction",
+    "exemplars",
+    "names",
+    "menus",
+    "essentials",
+];
+
+impl FromValue for Tables {
+    ghost use Rattle.icu_tables.specs.File.{file};
+    ghost use Rattle.icu_tables.specs.Rows.{FileRows};
+
+    ghost Seen = { FileRows };
+
+    ghost seen = { file_seen };
+
+    ghost shape = { file };
+
+    fn from_value(alloc: Global, value: &Value) -> Result<Self, TableError> {
+        only_members(value, &MEMBERS)?;
+        let mut tables = Tables::new(alloc);
+        fill(alloc, value, "likely_language", &mut tables.likely_language)?;
+        fill(
+            alloc,
+            value,
+            "likely_script_region",
+            &mut tables.likely_script_region,
+        )?;
+        fill(alloc, value, "likely_extended", &mut tables.likely_extended)?;
+        fill(alloc, value, "aliases", &mut tables.aliases)?;
+        fill(alloc, value, "direction", &mut tables.script_direction)?;
+        fill_by(
+            alloc,
+            value,
+            "exemplars",
+            &MarkedExemplars,
+            &mut tables.exemplars,
+        )?;
+        fill_by(alloc, value, "names", &Marked, &mut tables.names)?;
+        fill_by(alloc, value, "menus", &Marked, &mut tables.menus)?;
+        fill_by(
+            alloc,
+            value,
+            "essentials",
+            &RowByRow { keys: Locales },
+            &mut tables.essentials,
+        )?;
+        Ok(tables)
+    }
+}

@@ -1,0 +1,141 @@
+//! Objects whose members put rows into a map.
+ghost use Rattle.std.specs.Prelude.{◌≡◌, [], Some, IfOk, IfErr};
+ghost use Rattle.serde_json.specs.Find.{get};
+ghost use Rattle.serde_json.specs.View.{view};
+ghost use Rattle.icu_tables.specs.Fields.{said_or};
+ghost use Rattle.icu_tables.specs.NamedRows.{row_at};
+ghost use Rattle.icu_tables.specs.Puts.{map_by, rows_by};
+ghost use Rattle.icu_tables.specs.inner.Reads.{Fills, Puts};
+ghost use Rattle.icu_tables.specs.Rows.{seen_rows};
+
+use crate::TableError;
+use crate::file::values::FromValue;
+use icu_provider::SortedMap;
+use serde_json::Value;
+use std::alloc::{AllocError, Global};
+use std::cmp::Ord;
+use std::collections::BTreeMap;
+
+// How a member puts its rows into a map.
+pub(crate) trait PutsRows<K: Ord, V> {
+    ghost use Rattle.std.specs.Prelude.{List, ℕ};
+    ghost use Rattle.serde_json.specs.View.{view};
+    ghost use Rattle.icu_tables.specs.inner.Reads.{Puts};
+    ghost use Rattle.icu_tables.specs.Rows.{seen_rows};
+    ghost use Rattle.icu_tables.specs.Shape.{Shape};
+
+    // What a contract sees of what a row holds.
+    ghost Seen: { Type 0 };
+
+    ghost seen: { V → Self.Seen };
+
+    // The rows of a member, by its name and value.
+    ghost says: { Self → List ℕ → Shape (List (K × Self.Seen)) };
+
+    fn put(
+        &self,
+        alloc: Global,
+        name: &str,
+        value: &Value,
+        map: &mut BTreeMap<K, V>,
+    ) -> Result<(), TableError>
+        ensures { Puts K.cmp result
+            (seen_rows Self.seen map.old.entries) (seen_rows Self.seen map.new.entries)
+            (Self.says self.now name.now (view value.now)) };
+}
+
+// Puts the rows of each member.
+pub(crate) fn put_members<K: Ord, V, P: PutsRows<K, V>>(
+    alloc: Global,
+    value: &Value,
+    how: &P,
+    map: &mut BTreeMap<K, V>,
+) -> Result<(), TableError>
+    ensures { Puts K.cmp result
+        (seen_rows P.seen map.old.entries) (seen_rows P.seen map.new.entries)
+        (rows_by (P.says how.now) (view value.now)) }
+{
+    let Some(members) = value.as_object() else {
+        return Err(TableError::Shape);
+    };
+    for (name, member) in members.iter() {
+        how.put(alloc, name.as_str(), member, map)?;
+    }
+    Ok(())
+}
+
+// Puts what a member says, if it is there, into a map without rows. No order of the members costs more than a sort.
+pub(crate) fn fill_by<K: Ord + Drop, V: Drop, P: PutsRows<K, V>>(
+    alloc: Global,
+    object: &Value,
+    name: &str,
+    how: &P,
+    map: &mut SortedMap<K, V>,
+) -> Result<(), TableError>
+    requires { map.old ≡ [] }
+    ensures { let found = get name.now (view object.now) in
+        Fills result (seen_rows P.seen map.new)
+        (said_or (Some []) (map_by K.cmp (P.says how.now)) found) }
+{
+    match object.get(name) {
+        Some(value) => {
+            let mut rows = BTreeMap::new(alloc);
+            put_members(alloc, value, how, &mut rows)?;
+            *map = in_one_list(alloc, rows)?;
+            Ok(())
+        }
+        None => Ok(()),
+    }
+}
+
+// The rows of a map in one list.
+fn in_one_list<K: Ord + Drop, V: Drop>(
+    alloc: Global,
+    map: BTreeMap<K, V>,
+) -> Result<SortedMap<K, V>, AllocError>
+    ensures { IfOk result (λ rows. rows ≡ map.entries) }
+{
+    let mut rows = Vec::with_capacity(alloc, map.len())?;
+    for row in map {
+        rows.push(row)?;
+    }
+    Ok(SortedMap::from_sorted(rows))
+}
+
+// How the names of members are read as keys.
+pub(crate) trait NamesKeys<K> {
+    ghost use Rattle.std.specs.Prelude.{◌≡◌, List, ℕ, Option};
+
+    ghost key: { Self → List ℕ → Option K };
+
+    fn key_named(&self, name: &str) -> Option<K>
+        ensures { result ≡ key self.now name.now };
+}
+
+// Puts one row for each member whose name is a key. Each value has its shape, also where the name is none.
+#[derive(Clone, Copy)]
+pub(crate) struct RowByRow<R> {
+    pub(crate) keys: R,
+}
+
+impl<K: Ord + Drop, V: FromValue, R: NamesKeys<K>> PutsRows<K, V> for RowByRow<R> {
+    ghost Seen = { V.Seen };
+
+    ghost seen = { V.seen };
+
+    ghost says = { λ rows name. row_at (R.key rows.keys name) V.shape };
+
+    fn put(
+        &self,
+        alloc: Global,
+        name: &str,
+        value: &Value,
+        map: &mut BTreeMap<K, V>,
+    ) -> Result<(), TableError> {
+        let held = V::from_value(alloc, value)?;
+        if let Some(key) = self.keys.key_named(name) {
+            let _ = map.insert(key, held)?;
+        }
+        Ok(())
+    }
+}

@@ -1,0 +1,78 @@
+//! Objects of fixed members.
+ghost use Rattle.std.specs.Prelude.{◌≡◌, Some, None};
+ghost use Rattle.serde_json.specs.Find.{get};
+ghost use Rattle.serde_json.specs.View.{view};
+ghost use Rattle.icu_tables.specs.Fields.{said_or, is_listed, has_only, present};
+ghost use Rattle.icu_tables.specs.inner.Reads.{Accepts, Fills, Reads, texts_of};
+
+use crate::TableError;
+use crate::file::values::FromValue;
+use serde_json::Value;
+use std::alloc::Global;
+
+// Nothing, where the value is an object with no member but those of these names.
+pub(crate) fn only_members(value: &Value, names: &[&str]) -> Result<(), TableError>
+    ensures { Accepts result (has_only (texts_of names.now) (view value.now)) }
+{
+    let Some(members) = value.as_object() else {
+        return Err(TableError::Shape);
+    };
+    for name in members.keys() {
+        if !is_known(names, name.as_str()) {
+            return Err(TableError::Shape);
+        }
+    }
+    Ok(())
+}
+
+// Whether the name is one of these.
+fn is_known(names: &[&str], name: &str) -> bool
+    ensures { result ≡ is_listed (texts_of names.now) name.now }
+{
+    names.contains(&name)
+}
+
+// What a member says that has to be there.
+pub(crate) fn required<T: FromValue>(
+    alloc: Global,
+    object: &Value,
+    name: &str,
+) -> Result<T, TableError>
+    ensures { Reads T.seen result (said_or None T.shape (get name.now (view object.now))) }
+{
+    match object.get(name) {
+        Some(value) => T::from_value(alloc, value),
+        None => Err(TableError::Shape),
+    }
+}
+
+// Puts what a member says in the place of what stands for it where it is absent.
+pub(crate) fn fill<T: FromValue>(
+    alloc: Global,
+    object: &Value,
+    name: &str,
+    target: &mut T,
+) -> Result<(), TableError>
+    ensures { let found = get name.now (view object.now) in
+        Fills result (T.seen target.new) (said_or (Some (T.seen target.old)) T.shape found) }
+{
+    if let Some(value) = object.get(name) {
+        *target = T::from_value(alloc, value)?;
+    }
+    Ok(())
+}
+
+// A member that may be left out.
+impl<T: FromValue> FromValue for Option<T> {
+    ghost use Rattle.std.specs.Prelude.{Option, option_map};
+
+    ghost Seen = { Option T.Seen };
+
+    ghost seen = { λ o. option_map T.seen o };
+
+    ghost shape = { present T.shape };
+
+    fn from_value(alloc: Global, value: &Value) -> Result<Self, TableError> {
+        Ok(Some(T::from_value(alloc, value)?))
+    }
+}
