@@ -8,13 +8,43 @@ use crate::fault::Fault;
 use crate::world::World;
 use icu_tables::Tables;
 use std::alloc::Global;
+use std::process::ExitCode;
 
-/// What the rows of a text give: each difference, and at last how many rows there are.
-pub fn run_all(alloc: Global, text: &str) -> Result<String, Fault> {
+/// What rows give.
+#[derive(Drop)]
+pub struct Report {
+    /// Each difference, and at last how many rows there are.
+    pub text: String,
+    rows: u64,
+    wrong: u64,
+}
+
+impl Report {
+    fn new(alloc: Global) -> Report {
+        Report {
+            text: String::new(alloc),
+            rows: 0,
+            wrong: 0,
+        }
+    }
+
+    /// 0 where each row gives what is wanted of it, and 3 where some row is wrong. (A fault has a status of its own, 1.)
+    pub fn status(&self) -> ExitCode {
+        if self.wrong == 0 {
+            ExitCode::SUCCESS
+        } else {
+            ExitCode::from(3)
+        }
+    }
+}
+
+/// What the rows of a text give.
+pub fn run_all(alloc: Global, text: &str) -> Result<Report, Fault> {
     let mut world = World::new(alloc);
-    let mut report = String::new(alloc);
-    let rows = run_lines(alloc, &mut world, text, &mut report)?;
-    write!(report, "{rows} rows\n")?;
+    let mut report = Report::new(alloc);
+    run_lines(alloc, &mut world, text, &mut report)?;
+    let rows = report.rows;
+    write!(report.text, "{rows} rows\n")?;
     Ok(report)
 }
 
@@ -22,51 +52,52 @@ fn run_lines(
     alloc: Global,
     world: &mut World,
     text: &str,
-    report: &mut String,
-) -> Result<u64, Fault> {
-    let mut rows: u64 = 0;
+    report: &mut Report,
+) -> Result<(), Fault> {
     for line in text.lines() {
-        if run_line(alloc, world, line, report)? {
-            rows = rows.saturating_add(1);
-        }
+        run_line(alloc, world, line, report)?;
     }
-    Ok(rows)
+    Ok(())
 }
 
-// Whether a line is a row. What differs is put behind the report.
+// A line that is a row is run and counted.
 fn run_line(
     alloc: Global,
     world: &mut World,
     line: &str,
-    report: &mut String,
-) -> Result<bool, Fault> {
+    report: &mut Report,
+) -> Result<(), Fault> {
     if line.is_empty() || line.starts_with('#') {
-        return Ok(false);
+        return Ok(());
     }
     if let Some(json) = line.strip_prefix("sample ") {
         world.sample = Tables::from_json(alloc, json.as_bytes())?;
-        return Ok(false);
+        return Ok(());
     }
     if let Some(json) = line.strip_prefix("tables ") {
         world.own = Tables::from_json(alloc, json.as_bytes())?;
-        return Ok(false);
+        return Ok(());
     }
-    run_row(alloc, world, line, report)?;
-    Ok(true)
+    report.rows = report.rows.saturating_add(1);
+    if !is_right(alloc, world, line, &mut report.text)? {
+        report.wrong = report.wrong.saturating_add(1);
+    }
+    Ok(())
 }
 
-fn run_row(alloc: Global, world: &World, line: &str, report: &mut String) -> Result<(), Fault> {
+// Whether a row gives what is wanted of it. What differs is put behind the text.
+fn is_right(alloc: Global, world: &World, line: &str, text: &mut String) -> Result<bool, Fault> {
     let Some((row, wanted)) = line.split_once(" -> ") else {
-        write!(report, "no row: {line}\n")?;
-        return Ok(());
+        write!(text, "no row: {line}\n")?;
+        return Ok(false);
     };
     let (name, input) = row.split_once(' ').unwrap_or((row, ""));
     match one_answer(alloc, world, name, input) {
-        Ok(given) if given.as_str() == wanted => {}
-        Ok(given) => write!(report, "{row} gives {given}, and not {wanted}\n")?,
-        Err(fault) => write!(report, "{row} is not run: {fault:?}\n")?,
+        Ok(given) if given.as_str() == wanted => return Ok(true),
+        Ok(given) => write!(text, "{row} gives {given}, and not {wanted}\n")?,
+        Err(fault) => write!(text, "{row} is not run: {fault:?}\n")?,
     }
-    Ok(())
+    Ok(false)
 }
 
 fn one_answer(alloc: Global, world: &World, name: &str, input: &str) -> Result<String, Fault> {
