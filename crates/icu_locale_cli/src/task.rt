@@ -10,7 +10,7 @@ use icu_locale::{Direction, LocaleDirectionality, LocaleExpander, TransformResul
 use icu_locale_core::LanguageIdentifier;
 
 /// What is done with the identifier of each line, over tables that it borrows.
-#[derive(Drop)]
+#[derive(Debug, Drop)]
 pub enum Task<'d> {
     /// Maximal forms.
     Maximize(LocaleExpander<'d>),

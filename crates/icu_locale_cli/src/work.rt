@@ -15,7 +15,7 @@ use icu_locale::{LocaleCanonicalizer, Negotiator};
 use icu_locale_core::{LanguageIdentifier, ParseError};
 
 /// What a command works with, over tables that it borrows.
-#[derive(Drop)]
+#[derive(Debug, Drop)]
 pub enum Work<'d> {
     /// Each line is an identifier.
     Identifiers(Task<'d>),

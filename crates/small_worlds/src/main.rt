@@ -9,6 +9,7 @@ mod exemplars;
 mod fault;
 mod forms;
 mod likely;
+mod making;
 mod negotiation;
 mod numbers;
 mod plain;

@@ -5,6 +5,7 @@ use crate::exemplars::{Exemplars, compare_exemplars, draw_exemplars};
 use crate::fault::Fault;
 use crate::forms::compare_forms;
 use crate::likely::Likely;
+use crate::making::{Maker, Making};
 use crate::negotiation::compare_negotiations;
 use crate::numbers::{Drawn, Numbers, draw_list};
 use crate::report::Report;
@@ -12,11 +13,8 @@ use crate::rules::Rules;
 use crate::subtags::Subtags;
 use crate::tables::put_all;
 use crate::values::ValueRow;
-use icu_locale::{LocaleCanonicalizer, LocaleDirectionality, LocaleExpander};
-use icu_provider::{
-    Aliases, LikelySubtagsExtended, LikelySubtagsForLanguage, LikelySubtagsForScriptRegion,
-    ScriptDirection,
-};
+use icu_provider::Aliases;
+use icu_tables::Tables;
 use std::alloc::Global;
 
 // What one world is made of, plainly.
@@ -40,63 +38,44 @@ impl Parts {
         })
     }
 
-    // Puts the rows into the tables, which hold nothing yet.
+    // The rules and the rows of values as the crates hold them.
+    fn aliases(&self, alloc: Global, subtags: &Subtags) -> Result<Aliases, Fault> {
+        let mut aliases = Aliases::new(alloc);
+        put_all(alloc, &mut aliases, &self.rules, &self.values, subtags)?;
+        Ok(aliases)
+    }
+
+    // The same as the crates hold it.
     fn tables(&self, alloc: Global, subtags: &Subtags) -> Result<Tables, Fault> {
         let (language, script_region) = self.likely.common(alloc)?;
-        let mut tables = Tables {
-            language,
-            script_region,
-            extended: self.likely.extended(alloc)?,
-            aliases: Aliases::new(alloc),
-            directions: self.ways.held(alloc, subtags)?,
-        };
-        put_all(
-            alloc,
-            &mut tables.aliases,
-            &self.rules,
-            &self.values,
-            subtags,
-        )?;
+        let extended = self.likely.extended(alloc)?;
+        let directions = self.ways.held(alloc, subtags)?;
+        let aliases = self.aliases(alloc, subtags)?;
+        let mut tables = Tables::new(alloc);
+        tables.set_likely_language(language);
+        tables.set_likely_script_region(script_region);
+        tables.set_likely_extended(extended);
+        tables.set_script_direction(directions);
+        tables.set_aliases(aliases);
         Ok(tables)
     }
 }
 
-// The same as the crates hold it.
-struct Tables {
-    language: LikelySubtagsForLanguage,
-    script_region: LikelySubtagsForScriptRegion,
-    extended: LikelySubtagsExtended,
-    aliases: Aliases,
-    directions: ScriptDirection,
-}
-
-impl Drop for Tables {
-    fn drop(self) {
-        let Tables {
-            language: _,
-            script_region: _,
-            extended: _,
-            aliases: _,
-            directions: _,
-        } = self;
-    }
-}
-
 // The calls over one table of likely subtags.
-fn compare_over<'w>(
+fn compare_over(
     alloc: Global,
     report: &mut Report,
-    expander: LocaleExpander<'w>,
-    tables: &'w Tables,
+    maker: Maker<'_>,
     world: World<'_>,
     (ways, numbers): (Ways, &mut Numbers),
 ) -> Result<(), Fault> {
     let (rows, subtags) = (world.rows, world.subtags);
+    let expander = maker.expander()?;
     compare_forms(alloc, report, &expander, rows, subtags)?;
-    let directionality = LocaleDirectionality::new_with_expander(&tables.directions, expander);
+    let directionality = maker.directionality(expander)?;
     compare_directions(alloc, report, &directionality, rows, subtags, ways)?;
     compare_negotiations(alloc, report, &expander, rows, subtags, numbers)?;
-    let canonicalizer = LocaleCanonicalizer::new_with_expander(alloc, &tables.aliases, expander)?;
+    let canonicalizer = maker.canonicalizer(alloc, expander)?;
     compare_canonical(alloc, report, &canonicalizer, world, numbers)
 }
 
@@ -109,6 +88,7 @@ fn compare_parts(
     subtags: &Subtags,
     numbers: &mut Numbers,
 ) -> Result<(), Fault> {
+    let making = Making::of_world(report.world);
     for with_extended in [false, true] {
         let rows = parts.likely.rows(alloc, with_extended)?;
         let world = World {
@@ -117,20 +97,12 @@ fn compare_parts(
             values: &parts.values,
             subtags,
         };
-        let expander = if with_extended {
-            let extended = &tables.extended;
-            LocaleExpander::new_extended(&tables.language, &tables.script_region, extended)
-        } else {
-            LocaleExpander::new_common(&tables.language, &tables.script_region)
-        };
-        compare_over(
-            alloc,
-            report,
-            expander,
+        let maker = Maker {
+            making,
             tables,
-            world,
-            (parts.ways, numbers),
-        )?;
+            with_extended,
+        };
+        compare_over(alloc, report, maker, world, (parts.ways, numbers))?;
     }
     compare_exemplars(alloc, report, subtags, &parts.exemplars)
 }

@@ -1,4 +1,4 @@
-//! Names of identifiers over providers that refuse a load, under refused memory, and into sinks that fail.
+//! Names of identifiers over providers that refuse a load, and into sinks that fail.
 ghost use Rattle.std.specs.Prelude.{Err, if◌then◌else◌};
 ghost use Rattle.icu_locale_core.specs.Maps.{value_at};
 ghost use Rattle.icu_provider.specs.Requests.{exemplar_cmp, locale_cmp, menu_cmp};
@@ -6,8 +6,8 @@ ghost use Rattle.icu_provider.specs.contracts.names.NameMarkerPartialEq.TheImpl 
 ghost use Rattle.icu_tables.specs.Tables.{held, name_in};
 
 use crate::sample::sample;
-use crate::tests::budget::{Answered, Call, HeldWriter, by_budget, take_all};
-use crate::tests::providers::{KINDS, refusal, willing};
+use crate::tests::memory::budget::HeldWriter;
+use crate::tests::refusing::{KINDS, refusal, willing};
 use icu_locale_core::{Language, LanguageIdentifier};
 use icu_locale_names::{
     DisplayNamesPreferences, LanguageIdentifierDisplayName, LanguageIdentifierDisplayNameBorrowed,
@@ -26,19 +26,21 @@ use std::test::Fail;
 const PATTERNS: &str =
     "{\"names\":{\"region/medium/light\":{\"en\":{\"150\":\"Europe\"}}},\"essentials\":{\"en\":{\"pattern\":[0,\" (\",1,\")\"],\"separator\":[0,\", \",1]}}}";
 
-fn patterns(alloc: Global) -> Result<Tables, Fail> {
+/// Patterns, and the name of one region.
+pub fn patterns(alloc: Global) -> Result<Tables, Fail> {
     match Tables::from_json(alloc, PATTERNS.as_bytes()) {
         Ok(tables) => Ok(tables),
         Err(_) => Err(Fail::new("the names cannot be read")),
     }
 }
 
-fn english() -> Result<DisplayNamesPreferences, Fail> {
+/// The preferences of English.
+pub fn english() -> Result<DisplayNamesPreferences, Fail> {
     Ok(DisplayNamesPreferences::new(Language::try_from_str("en")?, None, None))
 }
 
-// The name by one of the eleven constructors.
-fn named<'t, P: DataProvider>(
+/// The name by one of the eleven constructors.
+pub fn named<'t, P: DataProvider>(
     alloc: Global,
     provider: &'t P,
     of: DisplayNamesPreferences,
@@ -156,14 +158,23 @@ fn refused_at_the_menus(
 #[test]
 fn each_refusal_at_each_load_of_a_name(rt: HostRuntime) -> Result<(), Fail> {
     let tables = patterns(rt.alloc())?;
-    let subject = LanguageIdentifier::try_from_str(rt.alloc(), "it-Latn-US-fonipa")?;
-    for kind in KINDS {
-        refused_at_a_name(&rt, rt.alloc(), &tables, &subject, kind)?;
-        refused_at_the_patterns(&rt, rt.alloc(), &tables, &subject, kind)?;
-        refused_at_the_menus(&rt, rt.alloc(), &tables, &subject, kind)?;
+    for subject in SUBJECTS {
+        let subject = LanguageIdentifier::try_from_str(rt.alloc(), subject)?;
+        for kind in KINDS {
+            refused_at_a_name(&rt, rt.alloc(), &tables, &subject, kind)?;
+            refused_at_the_patterns(&rt, rt.alloc(), &tables, &subject, kind)?;
+            refused_at_the_menus(&rt, rt.alloc(), &tables, &subject, kind)?;
+        }
     }
     Ok(())
 }
+
+// One variant, two, and many.
+const SUBJECTS: [&str; 3] = [
+    "it-Latn-US-fonipa",
+    "it-Latn-US-fonipa-posix",
+    "it-Latn-US-1901-1994-1996-abl1943-alalc97-aluku-ao1990-arevela-arevmda-baku1926-biske-fonipa",
+];
 
 // Tables behind a provider that refuses the names of two markers.
 #[derive(Drop)]
@@ -276,46 +287,8 @@ fn the_script_is_asked_for_before_the_region(rt: HostRuntime) -> Result<(), Fail
     Ok(())
 }
 
-// What a name of two variants answers where no memory is left and names of one marker are refused.
-fn without_memory(
-    alloc: Global,
-    tables: &Tables,
-    subject: &LanguageIdentifier,
-    marker: NameMarker,
-) -> Result<Option<DataError>, Fail> {
-    let mut provider = willing(tables);
-    provider.names = refusal(DataErrorKind::Custom);
-    provider.names_at = Some(marker);
-    let of = english()?;
-    let held = take_all(alloc)?;
-    let refused = named(alloc, &provider, of, subject, 1).err();
-    drop(held);
-    Ok(refused)
-}
-
-#[test]
-fn memory_is_taken_behind_the_region_and_before_the_variants(rt: HostRuntime) -> Result<(), Fail> {
-    let tables = patterns(rt.alloc())?;
-    let two = LanguageIdentifier::try_from_str(rt.alloc(), "it-Latn-US-fonipa-posix")?;
-    let one = LanguageIdentifier::try_from_str(rt.alloc(), "it-Latn-US-fonipa")?;
-    let region = NameMarker::RegionMediumLight;
-    let variant = NameMarker::VariantMediumHeavy;
-    let short = NameMarker::RegionShortTiny;
-    assert!(rt;
-        without_memory(rt.alloc(), &tables, &two, region)? == refusal(DataErrorKind::Custom)
-    );
-    assert!(rt;
-        without_memory(rt.alloc(), &tables, &two, variant)? == refusal(DataErrorKind::Memory)
-    );
-    assert!(rt;
-        without_memory(rt.alloc(), &tables, &two, short)? == refusal(DataErrorKind::Memory)
-    );
-    assert!(rt; without_memory(rt.alloc(), &tables, &one, short)?.is_none());
-    Ok(())
-}
-
-// Names with raw subtags, by the second constructor over the sample: the text, and the spans of what is raw.
-const RAW: [(&str, &str, &[(usize, usize)]); 3] = [
+/// Names with raw subtags, by the second constructor over the sample: the text, and the spans of what is raw.
+pub const RAW: [(&str, &str, &[(usize, usize)]); 3] = [
     ("it-Qabc-150", "Italian (Qabc, Europe)", &[(9, 13)]),
     ("tlh-Qabc-150", "tlh (Qabc, Europe)", &[(0, 3), (5, 9)]),
     (
@@ -351,97 +324,6 @@ fn a_failed_write_leaves_the_spans(rt: HostRuntime) -> Result<(), Fail> {
         let subject = LanguageIdentifier::try_from_str(rt.alloc(), subject)?;
         let name = named(rt.alloc(), &tables, english()?, &subject, 1)?;
         failed_writes(&rt, rt.alloc(), name.as_borrowed(), text.as_bytes())?;
-    }
-    Ok(())
-}
-
-fn written_without_memory(
-    alloc: Global,
-    name: LanguageIdentifierDisplayNameBorrowed<'_>,
-) -> Result<(Option<NameWriteError>, usize, usize), Fail> {
-    let mut sink = HeldWriter::new(64);
-    let mut parts = Vec::new(alloc);
-    let held = take_all(alloc)?;
-    let refused = name.try_write_to_parts(&mut sink, &mut parts).err();
-    drop(held);
-    Ok((refused, sink.written().len(), parts.len()))
-}
-
-#[test]
-fn spans_that_find_no_room(rt: HostRuntime) -> Result<(), Fail> {
-    let tables = patterns(rt.alloc())?;
-    let subject = LanguageIdentifier::try_from_str(rt.alloc(), "tlh-Qabc-150")?;
-    let name = named(rt.alloc(), &tables, english()?, &subject, 1)?;
-    let (refused, taken, spans) = written_without_memory(rt.alloc(), name.as_borrowed())?;
-    assert!(rt; refused == Some(NameWriteError::Memory) && taken == 0 && spans == 0);
-    Ok(())
-}
-
-// Writing a name, with the spans of its raw subtags.
-#[derive(Drop)]
-struct WriteName<'n> {
-    name: LanguageIdentifierDisplayNameBorrowed<'n>,
-    text: &'n str,
-    spans: &'n [(usize, usize)],
-}
-
-impl Call for WriteName<'_> {
-    // Where no room is found for the spans, nothing is written.
-    fn answer(&self, alloc: Global) -> Answered {
-        let mut sink = HeldWriter::new(64);
-        let mut parts = Vec::new(alloc);
-        let written = self.name.try_write_to_parts(&mut sink, &mut parts);
-        let is_text = sink.written() == self.text.as_bytes();
-        match written {
-            Ok(Err(_)) if is_text && parts.as_slice() == self.spans => Answered::Whole,
-            Err(NameWriteError::Memory) if parts.is_empty() && sink.written().is_empty() => {
-                Answered::Refused
-            }
-            _ => Answered::Wrong,
-        }
-    }
-}
-
-// Making a name, and writing it.
-#[derive(Drop)]
-struct MakeName<'t> {
-    tables: &'t Tables,
-    subject: &'t LanguageIdentifier,
-    of: DisplayNamesPreferences,
-    text: &'t str,
-    spans: &'t [(usize, usize)],
-}
-
-impl Call for MakeName<'_> {
-    fn answer(&self, alloc: Global) -> Answered {
-        match named(alloc, self.tables, self.of, self.subject, 1) {
-            Ok(name) => {
-                let call = WriteName {
-                    name: name.as_borrowed(),
-                    text: self.text,
-                    spans: self.spans,
-                };
-                call.answer(alloc)
-            }
-            Err(refusal) if refusal.kind == DataErrorKind::Memory => Answered::Refused,
-            Err(_) => Answered::Wrong,
-        }
-    }
-}
-
-#[test]
-fn names_at_every_budget(rt: HostRuntime) -> Result<(), Fail> {
-    let tables = sample(rt.alloc())?;
-    for (subject, text, spans) in &RAW {
-        let subject = LanguageIdentifier::try_from_str(rt.alloc(), subject)?;
-        let call = MakeName {
-            tables: &tables,
-            subject: &subject,
-            of: english()?,
-            text,
-            spans,
-        };
-        assert!(rt; by_budget(rt.alloc(), &call, 16)?.is_good());
     }
     Ok(())
 }

@@ -29,6 +29,7 @@ minimize-script | yue-Hans\nzh-TW\n | yue-Hans\tU\nzh-Hant\tM\n | 0
 canonicalize | sgn-DD\nsh\nja\n | gsg\tM\nsr-Latn\tM\nja\tU\n | 0
 canonicalize | sh\tabcdefg\nja\t\nja\tab\n | sr-Latn\txyz\tM\nja\t\tU\n?\tInvalidSubtag\n | 1
 canonicalize | en\tABCDEFG_uvw\nen\ttrue\nja\tXYZ | en\tabcdefg-uvw\tU\nen\t\tU\nja\txyz\tU\n | 0
+canonicalize | en\tPIECE000_PIECE001_PIECE002_PIECE003_PIECE004_PIECE005_PIECE006_PIECE007_PIECE008_PIECE009_PIECE010_PIECE011_PIECE012_PIECE013_PIECE014_PIECE015_PIECE016_PIECE017_PIECE018_PIECE019\n | en\tpiece000-piece001-piece002-piece003-piece004-piece005-piece006-piece007-piece008-piece009-piece010-piece011-piece012-piece013-piece014-piece015-piece016-piece017-piece018-piece019\tU\n | 0
 canonicalize | e\tab\n\tabc\nen-\tabc\nen\tabc\tabc\nen\t\t\n | ?\tInvalidLanguage\n?\tInvalidLanguage\n?\tInvalidSubtag\n?\tInvalidSubtag\n?\tInvalidSubtag\n | 1
 maximize | en\tabc\nen-US\tabc\n | ?\tInvalidLanguage\n?\tInvalidSubtag\n | 1
 direction | en-US\t\n | ?\tInvalidSubtag\n | 1

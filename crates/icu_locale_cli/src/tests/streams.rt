@@ -255,23 +255,31 @@ fn an_input_without_an_end(rt: HostRuntime) -> Result<(), Fail> {
     Ok(())
 }
 
-// So many lines of one identifier with many variants.
-fn long_input(alloc: Global, lines: usize) -> Result<String, Fail> {
-    let mut text = String::new(alloc);
-    for _ in 0..lines {
-        text.push_str("en-Latn-US")?;
-        for variant in 1000..1100u16 {
-            write!(text, "-{variant}")?;
-        }
-        text.push('\n')?;
+// A line of ten thousand bytes: a language, and two thousand variants.
+fn long_line(alloc: Global, language: &str, end: &str) -> Result<String, Fail> {
+    let mut text = String::from_str(alloc, language)?;
+    for variant in 1_000..3_000_u16 {
+        write!(text, "-{variant}")?;
+    }
+    text.push_str(end)?;
+    Ok(text)
+}
+
+// So many times a line.
+fn repeated(line: &String, count: usize) -> Result<String, Fail> {
+    let mut text = String::new(*line.allocator());
+    for _ in 0..count {
+        text.push_str(line.as_str())?;
     }
     Ok(text)
 }
 
 #[test]
-fn long_lines_and_a_long_input(rt: HostRuntime) -> Result<(), Fail> {
+fn five_megabytes_of_long_lines(rt: HostRuntime) -> Result<(), Fail> {
     let tables = sample(rt.alloc())?;
-    let input = long_input(rt.alloc(), 20)?;
+    let input = repeated(&long_line(rt.alloc(), "en-Latn-US", "\n")?, 525)?;
+    let output = repeated(&long_line(rt.alloc(), "en", "\tM\n")?, 525)?;
+    assert!(rt; input.len() > 5 * 1_048_576);
     let mut written = Vec::new(rt.alloc());
     let mut reader = input.as_bytes();
     let ended = run(
@@ -282,6 +290,24 @@ fn long_lines_and_a_long_input(rt: HostRuntime) -> Result<(), Fail> {
         &mut written,
     );
     assert!(rt; ended == Ok(Status::Accepted));
-    assert_eq!(rt; written.len() + 20 * 6, input.len());
+    assert!(rt; written.as_slice() == output.as_bytes());
+    Ok(())
+}
+
+#[test]
+fn long_lines_through_a_buffer(rt: HostRuntime) -> Result<(), Fail> {
+    let input = repeated(&long_line(rt.alloc(), "zh", "\n")?, 3)?;
+    let output = repeated(&long_line(rt.alloc(), "zh-Hans-CN", "\tM\n")?, 3)?;
+    let mut written = Vec::new(rt.alloc());
+    let mut reader = input.as_bytes();
+    let ended = run_buffered(
+        rt.alloc(),
+        &Command::Maximize,
+        false,
+        &mut reader,
+        &mut written,
+    );
+    assert!(rt; ended == Ok(Status::Accepted));
+    assert!(rt; written.as_slice() == output.as_bytes());
     Ok(())
 }

@@ -1,8 +1,9 @@
 //! Tables that rows are put into, and tables of texts.
 use icu_locale_core::{Language, Region, Script};
 use icu_provider::{
-    DataError, DataErrorKind, DataLocale, DataProvider, DoublePlaceholderPattern,
-    LikelySubtagsForLanguage, LocaleNamesEssentials, MenuMarker, MenuNameParts, PatternItem,
+    DataError, DataErrorKind, DataLocale, DataProvider, DoublePlaceholderPattern, ExemplarMarker,
+    LikelySubtagsForLanguage, LocaleNamesEssentials, MenuMarker, MenuNameParts, NameKey,
+    NameMarker, PatternItem,
 };
 use icu_tables::Tables;
 use std::alloc::Global;
@@ -90,6 +91,35 @@ fn an_object_without_members_is_no_table(rt: HostRuntime) -> Result<(), Fail> {
         tables.load_script_direction().err(),
     ];
     assert!(rt; refusals == [Some(NOT_FOUND); 5]);
+    no_table_of_names(&rt, &tables)
+}
+
+fn no_table_of_names(rt: &impl Abort, tables: &Tables) -> Result<(), Fail> {
+    let language = Language::try_from_str("en")?;
+    let key = NameKey::Language(language, None, None);
+    let refusals = [
+        tables
+            .load_exemplars(ExemplarMarker::Main, english()?)
+            .err(),
+        tables
+            .load_name(NameMarker::LanguageMediumTiny, english()?, key)
+            .err(),
+        tables
+            .load_menu(MenuMarker::MediumLight, english()?, language)
+            .err(),
+        tables.load_essentials(english()?).err(),
+    ];
+    assert!(rt; refusals == [Some(NOT_FOUND); 4]);
+    Ok(())
+}
+
+#[test]
+fn a_row_whose_key_is_not_as_written_is_skipped(rt: HostRuntime) -> Result<(), Fail> {
+    let text = r#"{"likely_language":{"und":["en","Latn","US"],"language":{"EN":["Latn","US"]}}}"#;
+    let tables = read(rt.alloc(), text)?;
+    let table = tables.load_likely_language()?;
+    assert!(rt; table.get_language(Language::try_from_str("en")?) == None);
+    assert_eq!(rt; table.iter_language().count(), 0);
     Ok(())
 }
 

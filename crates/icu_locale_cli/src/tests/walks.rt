@@ -1,7 +1,11 @@
 //! Walks over the tables of the sample.
 use crate::sample::sample;
-use icu_locale_core::{Language, Region, Subtag, Variant};
-use icu_provider::{Aliases, DataProvider};
+use crate::tests::languages::english;
+use icu_locale_core::{Language, Region, Script, Subtag, Variant};
+use icu_provider::{
+    Aliases, DataProvider, ExemplarCharactersData, ExemplarMarker, ScriptDirection,
+};
+use icu_tables::Tables;
 use std::process::Abort;
 use std::test::Fail;
 
@@ -75,4 +79,45 @@ fn aliases_of_the_sample(rt: HostRuntime) -> Result<(), Fail> {
     let tables = sample(rt.alloc())?;
     let held = tables.load_aliases()?;
     are_aliases_of_the_sample(&rt, held)
+}
+
+// Which scripts run which way: none both ways.
+fn are_directions_of_the_sample(rt: &impl Abort, held: &ScriptDirection) -> Result<(), Fail> {
+    for script in ["Latn", "Hans", "Hant", "Armn"] {
+        let script = Script::try_from_str(script)?;
+        assert!(rt; held.is_ltr(script) && !held.is_rtl(script));
+    }
+    for script in ["Arab", "Hebr"] {
+        let script = Script::try_from_str(script)?;
+        assert!(rt; held.is_rtl(script) && !held.is_ltr(script));
+    }
+    let other = Script::try_from_str("Grek")?;
+    assert!(rt; !held.is_rtl(other) && !held.is_ltr(other));
+    Ok(())
+}
+
+fn are_exemplars_of_the_sample(rt: &impl Abort, held: &ExemplarCharactersData) {
+    assert!(rt; ('a'..='z').all(|character| held.contains(character)));
+    assert!(rt; !held.contains('`') && !held.contains('{') && !held.contains('A'));
+    assert!(rt; held.contains_str("ng") && !held.contains_str("") && !held.contains_str("gn"));
+}
+
+// How many rows there are of exemplar sets, names, names in menus and patterns.
+fn counts_of_names(held: &Tables) -> [usize; 4] {
+    [
+        held.exemplars.len(),
+        held.names.len(),
+        held.menus.len(),
+        held.essentials.len(),
+    ]
+}
+
+#[test]
+fn directions_and_exemplars_of_the_sample(rt: HostRuntime) -> Result<(), Fail> {
+    let tables = sample(rt.alloc())?;
+    are_directions_of_the_sample(&rt, tables.load_script_direction()?)?;
+    let set = tables.load_exemplars(ExemplarMarker::Main, english()?.locale)?;
+    are_exemplars_of_the_sample(&rt, set);
+    assert!(rt; counts_of_names(&tables) == [1, 9, 1, 1]);
+    Ok(())
 }

@@ -1,5 +1,5 @@
-//! Calls under refused memory: all memory is taken first, and then a budget of bytes is handed back, step by step. What they
-//! write goes where memory is held already.
+//! Calls under refused memory: all memory is taken first, and then a budget of bytes is handed back, 16 bytes more each
+//! time. What they write goes where memory is held already.
 use std::alloc::{AllocError, Global};
 use std::io;
 use std::io::Write;
@@ -7,10 +7,12 @@ use std::io::Write;
 // How many blocks are taken at the most.
 const MOST_BLOCKS: usize = 65_536;
 
-// The largest budget, and how many are tried.
+// What is handed back at the most, in steps of so many bytes.
 const MOST_BYTES: usize = 65_536;
 
-const BUDGETS: usize = 1_000;
+const STEP: usize = 16;
+
+const BUDGETS: usize = 4_096;
 
 // Blocks of one size, until one is refused.
 fn take_blocks(alloc: Global, held: &mut Vec<Vec<u8>>, size: usize) {
@@ -89,11 +91,12 @@ impl Write for HeldWriter {
     }
 }
 
-/// What a call answered: as it should with memory, as it should without, or otherwise.
+/// What a call answered: as it should with memory, as it should without, so behind a part of its output, or otherwise.
 #[derive(Clone, Copy, PartialEq, Eq)]
 pub enum Answered {
     Whole,
     Refused,
+    Partly,
     Wrong,
 }
 
@@ -107,6 +110,7 @@ pub trait Call {
 pub struct Tally {
     whole: bool,
     refused: bool,
+    partly: bool,
     wrong: bool,
 }
 
@@ -115,6 +119,7 @@ impl Tally {
         Tally {
             whole: false,
             refused: false,
+            partly: false,
             wrong: false,
         }
     }
@@ -123,26 +128,32 @@ impl Tally {
         match answered {
             Answered::Whole => self.whole = true,
             Answered::Refused => self.refused = true,
+            Answered::Partly => self.partly = true,
             Answered::Wrong => self.wrong = true,
         }
     }
 
-    /// Some answers of either kind, and none other.
+    /// Some whole answers, some refused, and none wrong.
     pub fn is_good(&self) -> bool {
         self.whole && self.refused && !self.wrong
     }
 
+    /// Some refused behind a part of the output too.
+    pub fn is_good_in_part(&self) -> bool {
+        self.is_good() && self.partly
+    }
+
     /// Whole answers alone: the call asks for no memory.
     pub fn is_whole(&self) -> bool {
-        self.whole && !self.refused && !self.wrong
+        self.whole && !self.refused && !self.partly && !self.wrong
     }
 }
 
-// Each budget in turn: what the filler leaves of the memory that is there. A step is a number of bytes.
-fn at_each_budget<C: Call>(alloc: Global, call: &C, step: usize) -> Tally {
+// Each budget in turn: what the filler leaves of the memory that is there.
+fn at_each_budget<C: Call>(alloc: Global, call: &C) -> Tally {
     let mut tally = Tally::new();
     for number in 0..BUDGETS {
-        let taken = MOST_BYTES.saturating_sub(number.saturating_mul(step));
+        let taken = MOST_BYTES.saturating_sub(number.saturating_mul(STEP));
         if let Ok(filler) = Vec::<u8>::with_capacity(alloc, taken) {
             tally.count(call.answer(alloc));
             drop(filler);
@@ -151,12 +162,12 @@ fn at_each_budget<C: Call>(alloc: Global, call: &C, step: usize) -> Tally {
     tally
 }
 
-/// How a call answers at every budget, each of so many bytes more.
-pub fn by_budget<C: Call>(alloc: Global, call: &C, step: usize) -> Result<Tally, AllocError> {
+/// How a call answers at every budget.
+pub fn by_budget<C: Call>(alloc: Global, call: &C) -> Result<Tally, AllocError> {
     let spare = Vec::<u8>::with_capacity(alloc, MOST_BYTES)?;
     let held = take_all(alloc)?;
     drop(spare);
-    let tally = at_each_budget(alloc, call, step);
+    let tally = at_each_budget(alloc, call);
     drop(held);
     Ok(tally)
 }
