@@ -274,22 +274,29 @@ fn repeated(line: &String, count: usize) -> Result<String, Fail> {
     Ok(text)
 }
 
+// A text of ten thousand letters, which is no language, as a line.
+fn no_language(alloc: Global) -> Result<String, Fail> {
+    let mut text = String::new(alloc);
+    for _ in 0..1_000 {
+        text.push_str("engenglish")?;
+    }
+    text.push('\n')?;
+    Ok(text)
+}
+
 #[test]
-fn five_megabytes_of_long_lines(rt: HostRuntime) -> Result<(), Fail> {
+fn an_input_of_five_megabytes(rt: HostRuntime) -> Result<(), Fail> {
     let tables = sample(rt.alloc())?;
-    let input = repeated(&long_line(rt.alloc(), "en-Latn-US", "\n")?, 525)?;
-    let output = repeated(&long_line(rt.alloc(), "en", "\tM\n")?, 525)?;
+    let mut input = repeated(&no_language(rt.alloc())?, 525)?;
+    input.push_str("en\n")?;
+    let mut output = repeated(&String::from_str(rt.alloc(), "?\tInvalidLanguage\n")?, 525)?;
+    output.push_str("en-Latn-US\tM\n")?;
     assert!(rt; input.len() > 5 * 1_048_576);
     let mut written = Vec::new(rt.alloc());
     let mut reader = input.as_bytes();
-    let ended = run(
-        rt.alloc(),
-        &Command::Minimize,
-        &tables,
-        &mut reader,
-        &mut written,
-    );
-    assert!(rt; ended == Ok(Status::Accepted));
+    let command = Command::Maximize;
+    let ended = run(rt.alloc(), &command, &tables, &mut reader, &mut written);
+    assert!(rt; ended == Ok(Status::Refused));
     assert!(rt; written.as_slice() == output.as_bytes());
     Ok(())
 }
