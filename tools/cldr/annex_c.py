@@ -9,6 +9,7 @@ from .subtags import UNKNOWN_LANGUAGE, Identifier, read_identifier
 
 SINGLE = (("L", "language"), ("S", "script"), ("R", "region"))
 SIGN_LANGUAGE = "sgn"
+REGION_VARIANT = "aaland"
 
 
 def fields(identifier):
@@ -80,10 +81,14 @@ class AnnexC:
         return identifier
 
     def samples(self, count):
-        """Identifiers of subtags that rules speak of: each language with each variant, and a fixed random sequence."""
+        """Identifiers of subtags that rules speak of: each language and each sign language by region with each variant,
+        and a fixed random sequence."""
         named = {letter: sorted({subtag for rule, _ in self.rules for field, subtag in fields(rule) if field == letter})
                  for letter in "LSRV"}
         found = [Identifier(language, variants=(variant,)) for language in named["L"] for variant in named["V"]]
+        signed = sorted(rule.region for rule, _ in self.rules if rule.language == SIGN_LANGUAGE and rule.region)
+        found += [Identifier(SIGN_LANGUAGE, region=region, variants=(variant,))
+                  for region in signed for variant in named["V"]]
         sequence = random.Random(35)
         for _ in range(count):
             variants = sequence.sample(named["V"], sequence.randrange(4))
@@ -97,5 +102,7 @@ class AnnexC:
 
 
 def is_out_of_reach(identifier):
-    """A sign language by region, with variants: the program asks rules of variants before it (docs/CLDR.md)."""
-    return identifier.language == SIGN_LANGUAGE and identifier.region is not None and identifier.variants != ()
+    """A sign language by region, with a variant that becomes a region: the program asks rules of variants before it
+    (docs/CLDR.md)."""
+    return (identifier.language == SIGN_LANGUAGE and identifier.region is not None
+            and REGION_VARIANT in identifier.variants)

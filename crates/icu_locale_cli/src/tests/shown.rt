@@ -203,21 +203,26 @@ fn answers_of_identifiers(rt: HostRuntime) -> Result<(), Fail> {
     )
 }
 
-// Names, which show what was lent or the subtag.
-fn names(rt: &impl Abort, alloc: Global, tables: &Tables) -> Result<(), Fail> {
-    let of = english()?;
+// Names show what was lent, or the subtag.
+fn regions(rt: &impl Abort, alloc: Global, tables: &Tables) -> Result<(), Fail> {
     let region = Region::try_from_str("DE")?;
-    let region = RegionDisplayName::new_light_with_fallback(tables, of, region);
-    shows(rt, alloc, &region, "DE")?;
-    shows(rt, alloc, &region.as_borrowed(), "DE")?;
+    let name = RegionDisplayName::new_light_with_fallback(tables, english()?, region);
+    shows(rt, alloc, &name, "DE")?;
+    shows(rt, alloc, &name.as_borrowed(), "DE")
+}
+
+fn scripts(rt: &impl Abort, alloc: Global, tables: &Tables) -> Result<(), Fail> {
     let script = Script::try_from_str("Latn")?;
-    let script = ScriptDisplayName::new_light_with_fallback(tables, of, script);
-    shows(rt, alloc, &script, "Latin")?;
-    shows(rt, alloc, &script.as_borrowed(), "Latin")?;
+    let name = ScriptDisplayName::new_light_with_fallback(tables, english()?, script);
+    shows(rt, alloc, &name, "Latin")?;
+    shows(rt, alloc, &name.as_borrowed(), "Latin")
+}
+
+fn variants(rt: &impl Abort, alloc: Global, tables: &Tables) -> Result<(), Fail> {
     let variant = Variant::try_from_str("posix")?;
-    let variant = VariantDisplayName::new_heavy_with_fallback(tables, of, variant);
-    shows(rt, alloc, &variant, "posix")?;
-    shows(rt, alloc, &variant.as_borrowed(), "posix")
+    let name = VariantDisplayName::new_heavy_with_fallback(tables, english()?, variant);
+    shows(rt, alloc, &name, "posix")?;
+    shows(rt, alloc, &name.as_borrowed(), "posix")
 }
 
 // The name of an identifier, and what gives it to a line.
@@ -245,7 +250,9 @@ fn names_of_identifiers(rt: &impl Abort, alloc: Global, tables: &Tables) -> Resu
 #[test]
 fn names_over_tables(rt: HostRuntime) -> Result<(), Fail> {
     let tables = sample(rt.alloc())?;
-    names(&rt, rt.alloc(), &tables)?;
+    regions(&rt, rt.alloc(), &tables)?;
+    scripts(&rt, rt.alloc(), &tables)?;
+    variants(&rt, rt.alloc(), &tables)?;
     names_of_identifiers(&rt, rt.alloc(), &tables)
 }
 
