@@ -67,6 +67,19 @@ pub fn named<'t, P: DataProvider>(
         5 => LanguageIdentifierDisplayName::try_new_short_menu_light_unstable(
             alloc, provider, of, subject, options,
         ),
+        _ => named_heavy(alloc, provider, of, subject, constructor),
+    }
+}
+
+fn named_heavy<'t, P: DataProvider>(
+    alloc: Global,
+    provider: &'t P,
+    of: DisplayNamesPreferences,
+    subject: &LanguageIdentifier,
+    constructor: usize,
+) -> Result<LanguageIdentifierDisplayName<'t>, DataError> {
+    let options = LanguageIdentifierDisplayNameOptions::default();
+    match constructor {
         6 => LanguageIdentifierDisplayName::try_new_heavy_unstable(
             alloc, provider, of, subject, options,
         ),

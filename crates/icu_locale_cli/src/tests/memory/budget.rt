@@ -110,7 +110,6 @@ pub trait Call {
 pub struct Tally {
     whole: bool,
     refused: bool,
-    partly: bool,
     wrong: bool,
 }
 
@@ -119,7 +118,6 @@ impl Tally {
         Tally {
             whole: false,
             refused: false,
-            partly: false,
             wrong: false,
         }
     }
@@ -128,8 +126,7 @@ impl Tally {
         match answered {
             Answered::Whole => self.whole = true,
             Answered::Refused => self.refused = true,
-            Answered::Partly => self.partly = true,
-            Answered::Wrong => self.wrong = true,
+            Answered::Partly | Answered::Wrong => self.wrong = true,
         }
     }
 
@@ -138,14 +135,9 @@ impl Tally {
         self.whole && self.refused && !self.wrong
     }
 
-    /// Some refused behind a part of the output too.
-    pub fn is_good_in_part(&self) -> bool {
-        self.is_good() && self.partly
-    }
-
     /// Whole answers alone: the call asks for no memory.
     pub fn is_whole(&self) -> bool {
-        self.whole && !self.refused && !self.partly && !self.wrong
+        self.whole && !self.refused && !self.wrong
     }
 }
 
@@ -170,4 +162,14 @@ pub fn by_budget<C: Call>(alloc: Global, call: &C) -> Result<Tally, AllocError> 
     let tally = at_each_budget(alloc, call);
     drop(held);
     Ok(tally)
+}
+
+/// What a call answers at one budget.
+pub fn at_budget<C: Call>(alloc: Global, call: &C, bytes: usize) -> Result<Answered, AllocError> {
+    let spare = Vec::<u8>::with_capacity(alloc, bytes)?;
+    let held = take_all(alloc)?;
+    drop(spare);
+    let answered = call.answer(alloc);
+    drop(held);
+    Ok(answered)
 }

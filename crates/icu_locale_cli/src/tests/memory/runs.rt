@@ -5,7 +5,7 @@ use crate::run::{run, run_json};
 use crate::run_buffered;
 use crate::sample::{SAMPLE, sample};
 use crate::status::Status;
-use crate::tests::memory::budget::{Answered, Call, HeldWriter, by_budget};
+use crate::tests::memory::budget::{Answered, Call, HeldWriter, at_budget, by_budget};
 use icu_tables::Tables;
 use std::alloc::Global;
 use std::test::Fail;
@@ -100,22 +100,24 @@ fn a_run_writes_whole_lines(rt: HostRuntime) -> Result<(), Fail> {
     Ok(())
 }
 
-// A run whose output is kept in a buffer, and of whose lines the second takes more memory than the first.
+// A run whose output is kept in a buffer, and of whose lines the last takes more memory than anything before it.
 #[derive(Drop)]
-struct BufferedRun;
+struct BufferedRun<'r> {
+    input: &'r str,
+}
 
 const FIRST: &str = "en-Latn-US\tM\n";
 
-const BOTH: &str = "en-Latn-US\tM\nen-Latn-US-1901-1994-1996-fonipa-posix\tM\n";
+const BOTH: &str = "en-Latn-US\tM\n?\tInvalidSubtag\n";
 
-impl Call for BufferedRun {
-    // Where the second line finds no memory, the first is written out.
+impl Call for BufferedRun<'_> {
+    // Where the last line finds no memory, the one before is written out.
     fn answer(&self, alloc: Global) -> Answered {
         let mut writer = HeldWriter::new(128);
-        let mut reader = "en\nen-posix-fonipa-1996-1994-1901\n".as_bytes();
-        let ended = run_buffered(alloc, &Command::Maximize, false, &mut reader, &mut writer);
+        let mut reader = self.input.as_bytes();
+        let ended = run_buffered(alloc, &Command::Maximize, true, &mut reader, &mut writer);
         match ended {
-            Ok(Status::Accepted) if writer.written() == BOTH.as_bytes() => Answered::Whole,
+            Ok(Status::Refused) if writer.written() == BOTH.as_bytes() => Answered::Whole,
             Err(CliError::Memory) if writer.written() == FIRST.as_bytes() => Answered::Partly,
             Err(CliError::Memory) if writer.written().is_empty() => Answered::Refused,
             _ => Answered::Wrong,
@@ -123,8 +125,29 @@ impl Call for BufferedRun {
     }
 }
 
+// Small tables and two lines, of which the last has variants, and at its end a piece that is none.
+fn two_lines(alloc: Global) -> Result<String, Fail> {
+    let mut text = String::from_str(
+        alloc,
+        "{\"likely_language\":{\"und\":[\"en\",\"Latn\",\"US\"],\"language\":{\"en\":[\"Latn\",\"US\"]}},\
+        \"likely_script_region\":{}}\nen\nen",
+    )?;
+    for variant in 1_000..2_500_u16 {
+        write!(text, "-{variant}")?;
+    }
+    text.push_str("-x\n")?;
+    Ok(text)
+}
+
 #[test]
 fn a_run_that_ends_early_writes_out_its_lines(rt: HostRuntime) -> Result<(), Fail> {
-    assert!(rt; by_budget(rt.alloc(), &BufferedRun)?.is_good_in_part());
+    let input = two_lines(rt.alloc())?;
+    let call = BufferedRun {
+        input: input.as_str(),
+    };
+    // all but the list of the last line's variants has room
+    assert!(rt; at_budget(rt.alloc(), &call, 32_768)? == Answered::Partly);
+    assert!(rt; at_budget(rt.alloc(), &call, 16)? == Answered::Refused);
+    assert!(rt; call.answer(rt.alloc()) == Answered::Whole);
     Ok(())
 }
