@@ -79,7 +79,7 @@ impl<'d> LanguageIdentifierDisplayName<'d> {
     ///
     /// The first refusal of the provider other than `IdentifierNotFound`, unchanged, in the order language, script,
     /// region, variants, patterns; for the patterns `IdentifierNotFound` too, also where none is used. `Memory` where
-    /// the list of variants could not be made.
+    /// the list of variants could not be made: behind a refusal of a variant, and before one of the patterns.
     pub fn try_new_tiny_unstable<P: DataProvider>(
         alloc: Global,
         provider: &'d P,
@@ -109,7 +109,7 @@ impl<'d> LanguageIdentifierDisplayName<'d> {
     ///
     /// The first refusal of the provider other than `IdentifierNotFound`, unchanged, in the order language, script,
     /// region, variants, patterns; for the patterns `IdentifierNotFound` too, also where none is used. `Memory` where
-    /// the list of variants could not be made.
+    /// the list of variants could not be made: behind a refusal of a variant, and before one of the patterns.
     pub fn try_new_light_unstable<P: DataProvider>(
         alloc: Global,
         provider: &'d P,
@@ -139,7 +139,7 @@ impl<'d> LanguageIdentifierDisplayName<'d> {
     ///
     /// The first refusal of the provider other than `IdentifierNotFound`, unchanged, in the order language, script,
     /// region, variants, patterns; for the patterns `IdentifierNotFound` too, also where none is used. `Memory` where
-    /// the list of variants could not be made.
+    /// the list of variants could not be made: behind a refusal of a variant, and before one of the patterns.
     pub fn try_new_short_light_unstable<P: DataProvider>(
         alloc: Global,
         provider: &'d P,
@@ -169,7 +169,7 @@ impl<'d> LanguageIdentifierDisplayName<'d> {
     ///
     /// The first refusal of the provider other than `IdentifierNotFound`, unchanged, in the order language, script,
     /// region, variants, patterns; for the patterns `IdentifierNotFound` too, also where none is used. `Memory` where
-    /// the list of variants could not be made.
+    /// the list of variants could not be made: behind a refusal of a variant, and before one of the patterns.
     pub fn try_new_long_light_unstable<P: DataProvider>(
         alloc: Global,
         provider: &'d P,
@@ -200,7 +200,7 @@ impl<'d> LanguageIdentifierDisplayName<'d> {
     ///
     /// The first refusal of the provider other than `IdentifierNotFound`, unchanged, in the order language, script,
     /// region, variants, patterns; for the patterns `IdentifierNotFound` too, also where none is used. `Memory` where
-    /// the list of variants could not be made.
+    /// the list of variants could not be made: behind a refusal of a variant, and before one of the patterns.
     pub fn try_new_menu_light_unstable<P: DataProvider>(
         alloc: Global,
         provider: &'d P,
@@ -231,7 +231,7 @@ impl<'d> LanguageIdentifierDisplayName<'d> {
     ///
     /// The first refusal of the provider other than `IdentifierNotFound`, unchanged, in the order language, script,
     /// region, variants, patterns; for the patterns `IdentifierNotFound` too, also where none is used. `Memory` where
-    /// the list of variants could not be made.
+    /// the list of variants could not be made: behind a refusal of a variant, and before one of the patterns.
     pub fn try_new_short_menu_light_unstable<P: DataProvider>(
         alloc: Global,
         provider: &'d P,
@@ -261,7 +261,7 @@ impl<'d> LanguageIdentifierDisplayName<'d> {
     ///
     /// The first refusal of the provider other than `IdentifierNotFound`, unchanged, in the order language, script,
     /// region, variants, patterns; for the patterns `IdentifierNotFound` too, also where none is used. `Memory` where
-    /// the list of variants could not be made.
+    /// the list of variants could not be made: behind a refusal of a variant, and before one of the patterns.
     pub fn try_new_heavy_unstable<P: DataProvider>(
         alloc: Global,
         provider: &'d P,
@@ -291,7 +291,7 @@ impl<'d> LanguageIdentifierDisplayName<'d> {
     ///
     /// The first refusal of the provider other than `IdentifierNotFound`, unchanged, in the order language, script,
     /// region, variants, patterns; for the patterns `IdentifierNotFound` too, also where none is used. `Memory` where
-    /// the list of variants could not be made.
+    /// the list of variants could not be made: behind a refusal of a variant, and before one of the patterns.
     pub fn try_new_short_heavy_unstable<P: DataProvider>(
         alloc: Global,
         provider: &'d P,
@@ -321,7 +321,7 @@ impl<'d> LanguageIdentifierDisplayName<'d> {
     ///
     /// The first refusal of the provider other than `IdentifierNotFound`, unchanged, in the order language, script,
     /// region, variants, patterns; for the patterns `IdentifierNotFound` too, also where none is used. `Memory` where
-    /// the list of variants could not be made.
+    /// the list of variants could not be made: behind a refusal of a variant, and before one of the patterns.
     pub fn try_new_long_heavy_unstable<P: DataProvider>(
         alloc: Global,
         provider: &'d P,
@@ -352,7 +352,7 @@ impl<'d> LanguageIdentifierDisplayName<'d> {
     ///
     /// The first refusal of the provider other than `IdentifierNotFound`, unchanged, in the order language, script,
     /// region, variants, patterns; for the patterns `IdentifierNotFound` too, also where none is used. `Memory` where
-    /// the list of variants could not be made.
+    /// the list of variants could not be made: behind a refusal of a variant, and before one of the patterns.
     pub fn try_new_menu_heavy_unstable<P: DataProvider>(
         alloc: Global,
         provider: &'d P,
@@ -383,7 +383,7 @@ impl<'d> LanguageIdentifierDisplayName<'d> {
     ///
     /// The first refusal of the provider other than `IdentifierNotFound`, unchanged, in the order language, script,
     /// region, variants, patterns; for the patterns `IdentifierNotFound` too, also where none is used. `Memory` where
-    /// the list of variants could not be made.
+    /// the list of variants could not be made: behind a refusal of a variant, and before one of the patterns.
     pub fn try_new_short_menu_heavy_unstable<P: DataProvider>(
         alloc: Global,
         provider: &'d P,

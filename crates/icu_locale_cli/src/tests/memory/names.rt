@@ -30,7 +30,7 @@ fn without_memory(
 }
 
 #[test]
-fn memory_is_taken_behind_the_region_and_before_the_variants(rt: HostRuntime) -> Result<(), Fail> {
+fn memory_lacks_only_where_no_part_is_refused(rt: HostRuntime) -> Result<(), Fail> {
     let tables = patterns(rt.alloc())?;
     let two = LanguageIdentifier::try_from_str(rt.alloc(), "it-Latn-US-fonipa-posix")?;
     let one = LanguageIdentifier::try_from_str(rt.alloc(), "it-Latn-US-fonipa")?;
@@ -41,7 +41,7 @@ fn memory_is_taken_behind_the_region_and_before_the_variants(rt: HostRuntime) ->
         without_memory(rt.alloc(), &tables, &two, region)? == refusal(DataErrorKind::Custom)
     );
     assert!(rt;
-        without_memory(rt.alloc(), &tables, &two, variant)? == refusal(DataErrorKind::Memory)
+        without_memory(rt.alloc(), &tables, &two, variant)? == refusal(DataErrorKind::Custom)
     );
     assert!(rt;
         without_memory(rt.alloc(), &tables, &two, short)? == refusal(DataErrorKind::Memory)

@@ -1,0 +1,17 @@
+use Rattle.std.proofs.Common.{◌≡◌, List, []}
+use Rattle.icu_locale_core.specs.TextSet.{rising}
+use Rattle.icu_provider.specs.declared.names.NameKey.TheVariants.{Variant}
+use Rattle.icu_locale_names.specs.Chains.{variant_heavy}
+use Rattle.icu_locale_names.specs.FirstHit.{answers_behind}
+use Rattle.icu_locale_names.specs.LanguageNames.{qualifier}
+use Rattle.icu_locale_names.specs.Pieces.{Piece}
+use Rattle.icu_locale_names.proofs.language.variants.refusal_or_memory.Given as goal
+
+-- some pieces so far, and the answers to the variants that are left behind them
+abbrev pub invariant-loop-variant : goal.invariant-loop-variant
+invariant-loop-variant g l =
+    let ask = qualifier (λ marker key. g.P.DataProvider.name l.provider marker l.locale key) variant_heavy (λ v. Variant v) in
+    record {
+      earlier : List Piece;
+      same : answers_behind ask earlier l.variant-iterator ≡ answers_behind ask [] (rising l.fn.variants);
+    }
