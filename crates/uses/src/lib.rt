@@ -1,6 +1,7 @@
 //! What callers do with the crates of locales: each caller is short, and its contract says what it may rest on.
 #![tactic(auto)]
 
+mod canonical;
 mod fallback;
 mod files;
 mod keys;
@@ -10,6 +11,7 @@ mod negotiation;
 mod rows;
 mod spelling;
 
+pub use canonical::canonicalize_twice;
 pub use fallback::{find_form, minimal_form};
 pub use files::likely_row;
 pub use keys::{have_one_key, store_key};
