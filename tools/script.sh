@@ -50,3 +50,14 @@ needs() {
 needs_rattle() {
     command -v rt > /dev/null || stop 'there is no rt, the command of the Rattle kit'
 }
+
+# a_command WORD..: stops where the words are no command of the program
+a_command() {
+    local given="$*"
+    [ "${!#}" != json ] || set -- "${@:1:$#-1}"
+    case "${1:-} $#" in
+        'maximize 1' | 'minimize 1' | 'minimize-script 1' | 'canonicalize 1' | 'direction 1' | 'settled 1' | 'negotiate 1') ;;
+        'name 3') ;;
+        *) stop "'$given' is no command of icu_locale_cli" ;;
+    esac
+}

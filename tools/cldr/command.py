@@ -1,7 +1,8 @@
 """The command `cldr-tables`."""
-import argparse
 import json
 import sys
+
+from script import Words
 
 from .account import Account
 from .aliases import read_aliases
@@ -22,13 +23,13 @@ says what is left out and why: a reason, how many there are, and their names.
 The program looks up what it is asked and falls back from no locale to another. So what a locale inherits in CLDR,
 from its parents up to `root`, is written as its own."""
 EPILOG = """\
-status: 0, or 2 where the folder or a locale is not there
+status: 0, or 2 where the words are wrong, or where the folder or a locale is not there
 example: (tools/cldr-tables /usr/share/unicode/cldr/common en; echo zh-TW) | ./icu_locale_cli name light en json"""
 
 
 def arguments(words):
-    parser = argparse.ArgumentParser(prog="cldr-tables", description=DESCRIPTION, epilog=EPILOG,
-                                     formatter_class=argparse.RawDescriptionHelpFormatter)
+    parser = Words("cldr-tables", DESCRIPTION)
+    parser.epilog = EPILOG
     parser.add_argument("--settled", action="store_true",
                         help="leave out the likely subtags that keep the table from being settled")
     parser.add_argument("common", metavar="COMMON",

@@ -7,6 +7,8 @@ import sys
 from dataclasses import dataclass
 from pathlib import Path
 
+from script import says_its_usage
+
 HERE = Path(__file__).resolve().parent.parent
 ROOT = HERE.parent.parent
 COMMON = Path(os.environ.get("CLDR", "/usr/share/unicode/cldr/common"))
@@ -79,6 +81,8 @@ def this_program():
     path = Path(os.environ.get("PROGRAM", ROOT / "icu_locale_cli")).resolve()
     if not path.exists():
         raise Stop(f"missing: {path}, which `make` builds (or PROGRAM=PATH)")
+    if not says_its_usage(path):
+        raise Stop(f"{path} is not icu_locale_cli")
     return Program("this program", [str(path)], COMMANDS, takes_tables=True)
 
 
