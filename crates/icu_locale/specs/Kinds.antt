@@ -95,7 +95,8 @@ by_variant rules x =
     then Some (record x { variants = image (λ v. unwrap_or (variant_alias rules v) v) x.variants })
     else None
 
--- one turn: what the first kind that matches makes of x
+-- one turn: what the first kind that matches makes of x. The order of kinds is this project's. Annex C tries all rules in
+-- one order, by how many parts they name; so `sgn-DE-aaland`, which comes to `gsg-AX` there, comes to `gsg` here
 abbrev pub next : LikelySubtags → Rules → LanguageIdentifier → Option LanguageIdentifier
 next likely rules x =
     option_or (by_rule rules x) (option_or (by_sign_region rules x)

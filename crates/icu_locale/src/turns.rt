@@ -1,4 +1,4 @@
-// A count of turns, which only contracts see.
+// A count of searches for a rule, which only contracts see.
 ghost use Rattle.std.specs.Prelude.{◌≡◌, ◌+◌, ℕ};
 ghost use Rattle.icu_locale.specs.inner.Tally.{strokes};
 
@@ -31,7 +31,7 @@ impl fmt::Debug for Turns {
 }
 
 impl Turns {
-    /// No turn yet.
+    /// No search yet.
     pub fn new() -> Turns
         ensures { result ≡ 0 }
     {
@@ -40,7 +40,7 @@ impl Turns {
         }
     }
 
-    /// One turn more: `search` alone takes it.
+    /// One search more. `search` in `canonicalizer/identifiers.rt` takes it, and nothing else does.
     pub(crate) fn take(&mut self)
         ensures { self.new ≡ self.old + 1 }
     {

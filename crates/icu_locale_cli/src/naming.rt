@@ -31,17 +31,17 @@ pub enum NameChain {
     LongLight,
     /// As in a menu, or else of medium length.
     MenuLight,
-    /// As in a menu, or else short.
+    /// As in a menu, or else short, or else of medium length.
     ShortMenuLight,
     /// Of medium length, of every language.
     Heavy,
-    /// Short, of every language.
+    /// Short, or else of medium length, of every language.
     ShortHeavy,
-    /// Long, of every language.
+    /// Long, or else of medium length, of every language.
     LongHeavy,
-    /// As in a menu, of every language.
+    /// As in a menu, or else of medium length, of every language.
     MenuHeavy,
-    /// As in a menu, or else short, of every language.
+    /// As in a menu, or else short, or else of medium length, of every language.
     ShortMenuHeavy,
 }
 
