@@ -4,29 +4,28 @@ use crate::names::preferences;
 use crate::world::World;
 use icu_locale_core::LanguageIdentifier;
 use icu_locale_names::{
-    DisplayNamesPreferences, LanguageDisplay, LanguageIdentifierDisplayName,
-    LanguageIdentifierDisplayNameOptions,
+    LanguageDisplay, LanguageIdentifierDisplayName, LanguageIdentifierDisplayNameOptions, NameChain,
 };
-use icu_provider::DataError;
-use icu_tables::Tables;
 use std::alloc::Global;
 
-/// The name that a constructor makes of preferences, an identifier and, if there is one, a display. The answer is the
+/// The name that a chain gives for preferences, an identifier and, if there is one, a display. The answer is the
 /// text, then `Ok` or `Err`, and then the spans of raw subtags.
 pub fn language_name(alloc: Global, world: &World, text: &str) -> Result<String, Fault> {
     let mut words = text.split(' ');
-    let constructor = words.next().unwrap_or("");
+    let Some(chain) = NameChain::from_word(words.next().unwrap_or("")) else {
+        return Err(Fault::Row);
+    };
     let preferences = preferences(alloc, words.next().unwrap_or(""))?;
     let subject = LanguageIdentifier::try_from_str(alloc, words.next().unwrap_or(""))?;
     let options = options(words.next())?;
-    match made(
+    match LanguageIdentifierDisplayName::try_new_unstable(
         alloc,
         world.names(),
-        constructor,
+        chain,
         preferences,
         &subject,
         options,
-    )? {
+    ) {
         Ok(name) => written(alloc, &name),
         Err(refusal) => Ok(format!(in alloc; "{refusal}")?),
     }
@@ -62,71 +61,4 @@ fn written(alloc: Global, name: &LanguageIdentifierDisplayName<'_>) -> Result<St
         write!(answer, " ({start}, {end})")?;
     }
     Ok(answer)
-}
-
-fn made<'t>(
-    alloc: Global,
-    tables: &'t Tables,
-    constructor: &str,
-    p: DisplayNamesPreferences,
-    subject: &LanguageIdentifier,
-    o: LanguageIdentifierDisplayNameOptions,
-) -> Result<Result<LanguageIdentifierDisplayName<'t>, DataError>, Fault> {
-    Ok(match constructor {
-        "try_new_tiny_unstable" => {
-            LanguageIdentifierDisplayName::try_new_tiny_unstable(alloc, tables, p, subject, o)
-        }
-        "try_new_light_unstable" => {
-            LanguageIdentifierDisplayName::try_new_light_unstable(alloc, tables, p, subject, o)
-        }
-        "try_new_short_light_unstable" => {
-            LanguageIdentifierDisplayName::try_new_short_light_unstable(
-                alloc, tables, p, subject, o,
-            )
-        }
-        "try_new_long_light_unstable" => {
-            LanguageIdentifierDisplayName::try_new_long_light_unstable(alloc, tables, p, subject, o)
-        }
-        "try_new_menu_light_unstable" => {
-            LanguageIdentifierDisplayName::try_new_menu_light_unstable(alloc, tables, p, subject, o)
-        }
-        "try_new_short_menu_light_unstable" => {
-            LanguageIdentifierDisplayName::try_new_short_menu_light_unstable(
-                alloc, tables, p, subject, o,
-            )
-        }
-        _ => return made_heavy(alloc, tables, constructor, p, subject, o),
-    })
-}
-
-fn made_heavy<'t>(
-    alloc: Global,
-    tables: &'t Tables,
-    constructor: &str,
-    p: DisplayNamesPreferences,
-    subject: &LanguageIdentifier,
-    o: LanguageIdentifierDisplayNameOptions,
-) -> Result<Result<LanguageIdentifierDisplayName<'t>, DataError>, Fault> {
-    Ok(match constructor {
-        "try_new_heavy_unstable" => {
-            LanguageIdentifierDisplayName::try_new_heavy_unstable(alloc, tables, p, subject, o)
-        }
-        "try_new_short_heavy_unstable" => {
-            LanguageIdentifierDisplayName::try_new_short_heavy_unstable(
-                alloc, tables, p, subject, o,
-            )
-        }
-        "try_new_long_heavy_unstable" => {
-            LanguageIdentifierDisplayName::try_new_long_heavy_unstable(alloc, tables, p, subject, o)
-        }
-        "try_new_menu_heavy_unstable" => {
-            LanguageIdentifierDisplayName::try_new_menu_heavy_unstable(alloc, tables, p, subject, o)
-        }
-        "try_new_short_menu_heavy_unstable" => {
-            LanguageIdentifierDisplayName::try_new_short_menu_heavy_unstable(
-                alloc, tables, p, subject, o,
-            )
-        }
-        _ => return Err(Fault::Row),
-    })
 }

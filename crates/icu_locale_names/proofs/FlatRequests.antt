@@ -1,7 +1,6 @@
 -- The first hit of one flat list of requests is the first hit of chains within a chain.
-use Rattle.std.proofs.Common.{◌≡◌, ◌∙◌, refl, sym, ap, true, false, if◌then◌else◌, List, [], ◌∷◌, ◌++◌, map, Option, Some, None, Result, Ok, Err}
+use Rattle.std.proofs.Common.{◌≡◌, ◌∙◌, refl, sym, ap, Bool, true, false, if◌then◌else◌, List, [], ◌∷◌, ◌++◌, map, Result, Ok, Err}
 use Rattle.std.specs.List.{flat_map}
-use Rattle.std.specs.Option.{option_to_list}
 use Rattle.icu_locale_core.specs.declared.langid.LanguageIdentifier.{LanguageIdentifier}
 use Rattle.icu_provider.specs.declared.data_locale.DataLocale.{DataLocale}
 use Rattle.icu_provider.specs.declared.error.DataError.{DataError}
@@ -12,7 +11,7 @@ use Rattle.icu_locale_names.specs.LanguageChains.{LanguageChain}
 use Rattle.icu_locale_names.specs.LanguageNames.{KeyParts, in_menu, in_text, in_locale, texts_for, keys_of, menu_base, text_base, raw_base, base_by, base_of}
 use Rattle.icu_locale_names.specs.Names.{Answers, MenuAnswers, menu_by}
 use Rattle.icu_locale_names.specs.declared.options.LanguageDisplay.{LanguageDisplay}
-use Rattle.icu_locale_names.specs.inner.LanguageParts.{key_asked, keys_asked, base_asked}
+use Rattle.icu_locale_names.specs.inner.LanguageParts.{key_with, key_asked, keys_asked, base_asked}
 
 -- by whether a refusal is IdentifierNotFound
 by_missing : (e : DataError) (C : Type 0) → (is_missing e.kind ≡ true → C) → (is_missing e.kind ≡ false → C) → C
@@ -58,12 +57,6 @@ first_hit-same : {Q A : Type 0} (ask other : Q → Result A DataError) → ((x :
 first_hit-same ask other same [] = refl
 first_hit-same ask other same (x ∷ xs) = ap (λ r. or_next r (first_hit ask xs)) (same x) ∙ ap (or_next (other x)) (first_hit-same ask other same xs)
 
--- keys that are not there are passed over
-keys_asked-present : (name : Answers) (locale : DataLocale) (chain : LanguageChain) (x : LanguageIdentifier) (keys : List (Option KeyParts)) → keys_asked name locale chain.text x keys ≡ first_hit (λ key. key_asked name locale chain.text x (Some key)) (flat_map option_to_list keys)
-keys_asked-present name locale chain x [] = refl
-keys_asked-present name locale chain x (None ∷ keys) = keys_asked-present name locale chain x keys
-keys_asked-present name locale chain x (Some key ∷ keys) = ap (or_next (key_asked name locale chain.text x (Some key))) (keys_asked-present name locale chain x keys)
-
 module _ (name : Answers) (menu : MenuAnswers) (essentials : DataLocale → Result LocaleNamesEssentials DataError) (locale : DataLocale) (chain : LanguageChain) (x : LanguageIdentifier) where
   -- the menus in a flat list
   menus_flat : first_hit (base_by (in_locale name menu essentials locale) x) (map (λ marker. in_menu marker) chain.menu) ≡ made_of (menu_base x) (menu_by menu locale x.language chain.menu)
@@ -72,24 +65,24 @@ module _ (name : Answers) (menu : MenuAnswers) (essentials : DataLocale → Resu
       ∙ first_hit-made_of (menu_base x) (λ marker. menu marker locale x.language) chain.menu
 
   -- one key's chain in a flat list
-  key_flat : (key : KeyParts) → first_hit (base_by (in_locale name menu essentials locale) x) (texts_for chain key) ≡ key_asked name locale chain.text x (Some key)
+  key_flat : (key : KeyParts) → first_hit (base_by (in_locale name menu essentials locale) x) (texts_for chain key) ≡ key_asked name locale chain.text x key
   key_flat key =
       first_hit-map (base_by (in_locale name menu essentials locale) x) (λ marker. in_text marker key) chain.text
       ∙ first_hit-made_of (text_base x key) (λ marker. name marker locale (Language x.language key.0 key.1)) chain.text
 
   -- all keys' chains in a flat list
-  keys_flat : (keys : List KeyParts) → first_hit (base_by (in_locale name menu essentials locale) x) (flat_map (texts_for chain) keys) ≡ first_hit (λ key. key_asked name locale chain.text x (Some key)) keys
+  keys_flat : (keys : List KeyParts) → first_hit (base_by (in_locale name menu essentials locale) x) (flat_map (texts_for chain) keys) ≡ first_hit (key_asked name locale chain.text x) keys
   keys_flat keys =
       first_hit-flat_map (base_by (in_locale name menu essentials locale) x) (texts_for chain) keys
-      ∙ first_hit-same (λ key. first_hit (base_by (in_locale name menu essentials locale) x) (texts_for chain key)) (λ key. key_asked name locale chain.text x (Some key)) key_flat keys
+      ∙ first_hit-same (λ key. first_hit (base_by (in_locale name menu essentials locale) x) (texts_for chain key)) (key_asked name locale chain.text x) key_flat keys
 
   -- what is asked step by step is the base
-  pub base_asked_is_base : (display : LanguageDisplay) (keys : List (Option KeyParts)) → flat_map option_to_list keys ≡ keys_of chain display x → base_asked name menu locale chain x keys ≡ base_of (in_locale name menu essentials locale) chain display x
+  pub base_asked_is_base : (display : LanguageDisplay) (keys : List (Bool × Bool)) → map (key_with x) keys ≡ keys_of chain display x → base_asked name menu locale chain x keys ≡ base_of (in_locale name menu essentials locale) chain display x
   base_asked_is_base display keys are =
       let ask = base_by (in_locale name menu essentials locale) x in
-      let by_text = first_hit (λ key. key_asked name locale chain.text x (Some key)) in
+      let by_text = first_hit (key_asked name locale chain.text x) in
       let texts : keys_asked name locale chain.text x keys ≡ first_hit ask (flat_map (texts_for chain) (keys_of chain display x)) =
-      keys_asked-present name locale chain x keys ∙ ap by_text are ∙ sym (keys_flat (keys_of chain display x)) in
+      sym (first_hit-map (key_asked name locale chain.text x) (key_with x) keys) ∙ ap by_text are ∙ sym (keys_flat (keys_of chain display x)) in
       let menus : made_of (menu_base x) (menu_by menu locale x.language chain.menu) ≡ first_hit ask (map (λ marker. in_menu marker) chain.menu) = sym menus_flat in
       ap (if_missing (raw_base x))
       ((λ i. or_next (menus i) (texts i))

@@ -1,7 +1,7 @@
 -- The pieces of a name that is lent.
 use Rattle.std.specs.Prelude.{List}
 use Rattle.icu_locale_names.specs.Pieces.{Piece}
-use Rattle.icu_locale_names.specs.declared.language.LanguageIdentifierDisplayNameBorrowed.{LanguageIdentifierDisplayNameBorrowed}
+use Rattle.icu_locale_names.specs.declared.language.borrowed.LanguageIdentifierDisplayNameBorrowed.{LanguageIdentifierDisplayNameBorrowed}
 use Rattle.icu_locale_names.specs.inner.LanguageParts.{pieces_by}
 
 -- its pieces in order

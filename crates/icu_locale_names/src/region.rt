@@ -11,13 +11,13 @@ use icu_provider::{DataError, DataProvider, NameKey, NameMarker};
 use std::fmt;
 use std::marker::Model;
 
-const TINY: [NameMarker; 1] = [NameMarker::RegionMediumTiny];
+pub const TINY: [NameMarker; 1] = [NameMarker::RegionMediumTiny];
 
-const SHORT_TINY: [NameMarker; 2] = [NameMarker::RegionShortTiny, NameMarker::RegionMediumTiny];
+pub const SHORT_TINY: [NameMarker; 2] = [NameMarker::RegionShortTiny, NameMarker::RegionMediumTiny];
 
-const LIGHT: [NameMarker; 2] = [NameMarker::RegionMediumLight, NameMarker::RegionMediumTiny];
+pub const LIGHT: [NameMarker; 2] = [NameMarker::RegionMediumLight, NameMarker::RegionMediumTiny];
 
-const SHORT_LIGHT: [NameMarker; 4] = [
+pub const SHORT_LIGHT: [NameMarker; 4] = [
     NameMarker::RegionShortLight,
     NameMarker::RegionShortTiny,
     NameMarker::RegionMediumLight,
@@ -174,17 +174,11 @@ impl<'d> RegionDisplayName<'d> {
         ensures { result ≡ name_by (P.name provider.now) preferences.locale
             (NameKey.Region region) chain.now }
     {
-        match first_name(
-            provider,
-            chain,
-            &preferences.locale,
-            &NameKey::Region(region),
-        ) {
-            Ok(name) => Ok(RegionDisplayName {
-                shown: Shown::Name(name),
-            }),
-            Err(refusal) => Err(refusal),
-        }
+        let key = NameKey::Region(region);
+        let name = first_name(provider, chain, &preferences.locale, &key)?;
+        Ok(RegionDisplayName {
+            shown: Shown::Name(name),
+        })
     }
 
     // The first name of a chain, or the subtag.

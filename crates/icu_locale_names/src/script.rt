@@ -11,17 +11,17 @@ use icu_provider::{DataError, DataProvider, NameKey, NameMarker};
 use std::fmt;
 use std::marker::Model;
 
-const TINY: [NameMarker; 1] = [NameMarker::ScriptMediumTiny];
+pub const TINY: [NameMarker; 1] = [NameMarker::ScriptMediumTiny];
 
-const LIGHT: [NameMarker; 2] = [NameMarker::ScriptMediumLight, NameMarker::ScriptMediumTiny];
+pub const LIGHT: [NameMarker; 2] = [NameMarker::ScriptMediumLight, NameMarker::ScriptMediumTiny];
 
-const HEAVY: [NameMarker; 3] = [
+pub const HEAVY: [NameMarker; 3] = [
     NameMarker::ScriptMediumHeavy,
     NameMarker::ScriptMediumLight,
     NameMarker::ScriptMediumTiny,
 ];
 
-const SHORT_HEAVY: [NameMarker; 4] = [
+pub const SHORT_HEAVY: [NameMarker; 4] = [
     NameMarker::ScriptShortHeavy,
     NameMarker::ScriptMediumHeavy,
     NameMarker::ScriptMediumLight,
@@ -178,17 +178,11 @@ impl<'d> ScriptDisplayName<'d> {
         ensures { result ≡ name_by (P.name provider.now) preferences.locale
             (NameKey.Script script) chain.now }
     {
-        match first_name(
-            provider,
-            chain,
-            &preferences.locale,
-            &NameKey::Script(script),
-        ) {
-            Ok(name) => Ok(ScriptDisplayName {
-                shown: Shown::Name(name),
-            }),
-            Err(refusal) => Err(refusal),
-        }
+        let key = NameKey::Script(script);
+        let name = first_name(provider, chain, &preferences.locale, &key)?;
+        Ok(ScriptDisplayName {
+            shown: Shown::Name(name),
+        })
     }
 
     // The first name of a chain, or the subtag.

@@ -77,17 +77,11 @@ impl<'d> VariantDisplayName<'d> {
         ensures { result ≡ name_by (P.name provider.now) preferences.locale
             (NameKey.Variant variant) chain.now }
     {
-        match first_name(
-            provider,
-            chain,
-            &preferences.locale,
-            &NameKey::Variant(variant),
-        ) {
-            Ok(name) => Ok(VariantDisplayName {
-                shown: Shown::Name(name),
-            }),
-            Err(refusal) => Err(refusal),
-        }
+        let key = NameKey::Variant(variant);
+        let name = first_name(provider, chain, &preferences.locale, &key)?;
+        Ok(VariantDisplayName {
+            shown: Shown::Name(name),
+        })
     }
 
     // The first name of a chain, or the subtag.

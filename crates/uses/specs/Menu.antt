@@ -2,7 +2,8 @@
 use Rattle.std.specs.Prelude.{◌≡◌, ◌⊎◌, ◌≤◌, ◌^◌, List, [], ◌∷◌, length, Result, Ok, Err}
 use Rattle.icu_provider.specs.declared.error.DataError.{DataError}
 use Rattle.icu_locale_core.specs.declared.langid.LanguageIdentifier.{LanguageIdentifier}
-use Rattle.icu_locale_names.specs.LanguageChains.{language_light}
+use Rattle.icu_locale_names.specs.LanguageChains.{chain_of}
+use Rattle.icu_locale_names.specs.declared.name_chain.NameChain.TheVariants.{Light}
 use Rattle.icu_locale_names.specs.LanguageNames.{LocaleAnswers, GivesName}
 use Rattle.icu_locale_names.specs.Pieces.{Piece, text_of, spans}
 use Rattle.icu_locale_names.specs.declared.options.LanguageDisplay.TheVariants.{Dialect}
@@ -31,7 +32,7 @@ IsLineOf (Err refusal) result = result ≡ Err (Refused refusal)
 abbrev pub IsLineFor : LocaleAnswers → LanguageIdentifier → Result MenuLine MenuError → Type 0
 IsLineFor answers x result =
     (name : Result (List Piece) DataError) × IsLineOf name result
-    × GivesName answers language_light Dialect x name
+    × GivesName answers (chain_of Light) Dialect x name
 
 -- the refusal of the first identifier that has no line
 abbrev pub IsFirstRefusal : LocaleAnswers → List LanguageIdentifier → MenuError → Type 0

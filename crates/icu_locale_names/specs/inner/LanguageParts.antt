@@ -1,10 +1,10 @@
 -- The parts of a name of an identifier, as the code has them.
-use Rattle.std.specs.Prelude.{◌≡◌, ◌⊎◌, ℕ, IsTrue, List, [], ◌∷◌, ◌++◌, map, Option, Some, None, Result, Err, IsOk}
+use Rattle.std.specs.Prelude.{◌≡◌, ◌⊎◌, ℕ, Bool, if◌then◌else◌, IsTrue, List, [], ◌∷◌, ◌++◌, map, None, Result, Err, IsOk}
 use Rattle.icu_locale_core.specs.declared.langid.LanguageIdentifier.{LanguageIdentifier}
 use Rattle.icu_provider.specs.Patterns.{part_of}
 use Rattle.icu_provider.specs.declared.data_locale.DataLocale.{DataLocale}
 use Rattle.icu_provider.specs.declared.error.DataError.{DataError}
-use Rattle.icu_provider.specs.declared.error.DataErrorKind.TheVariants.{IdentifierNotFound, Memory}
+use Rattle.icu_provider.specs.declared.error.DataErrorKind.TheVariants.{Memory}
 use Rattle.icu_provider.specs.declared.essentials.PatternItem.{PatternItem}
 use Rattle.icu_provider.specs.declared.names.NameKey.{NameKey}
 use Rattle.icu_provider.specs.declared.names.NameKey.TheVariants.{Language, Script, Region, Variant}
@@ -15,7 +15,7 @@ use Rattle.icu_locale_names.specs.LanguageNames.{Base, Head, KeyParts, glued, me
 use Rattle.icu_locale_names.specs.Names.{Answers, MenuAnswers, name_by, menu_by}
 use Rattle.icu_locale_names.specs.Pieces.{Piece}
 use Rattle.icu_locale_names.specs.declared.language.base.Base as code
-use Rattle.icu_locale_names.specs.declared.language.chains.Chains.{Chains}
+use Rattle.icu_locale_names.specs.declared.name_chain.Chains.{Chains}
 use Rattle.icu_locale_names.specs.declared.language.parts.Parts.{Parts}
 use Rattle.icu_locale_names.specs.declared.language.variants.VariantNames.{VariantNames}
 use Rattle.icu_locale_names.specs.declared.language.variants.VariantNames.TheVariants as variants
@@ -47,28 +47,33 @@ subtag_of (Script subtag) = subtag
 subtag_of (Region subtag) = subtag
 subtag_of (Variant subtag) = subtag
 
--- what a chain of texts answers to a key, if there is one
+-- a key with the script or without it, and with the region or without it
+abbrev pub key_with : LanguageIdentifier → Bool × Bool → KeyParts
+key_with x has =
+    (if has.0 then x.script else None, if has.1 then x.region else None)
+
+-- what a chain of texts answers to a key
 abbrev pub key_asked : Answers → DataLocale → List NameMarker → LanguageIdentifier
-    → Option KeyParts → Result Base DataError
-key_asked name locale chain x None = Err (record { kind = IdentifierNotFound })
-key_asked name locale chain x (Some key) =
+    → KeyParts → Result Base DataError
+key_asked name locale chain x key =
     made_of (text_base x key) (name_by name locale (Language x.language key.0 key.1) chain)
 
 -- what it answers to keys in their order
 abbrev pub keys_asked : Answers → DataLocale → List NameMarker → LanguageIdentifier
-    → List (Option KeyParts) → Result Base DataError
-keys_asked name locale chain x keys = first_hit (key_asked name locale chain x) keys
+    → List (Bool × Bool) → Result Base DataError
+keys_asked name locale chain x keys =
+    first_hit (λ has. key_asked name locale chain x (key_with x has)) keys
 
 -- what the menus answer, and then the texts
 abbrev pub first_asked : Answers → MenuAnswers → DataLocale → LanguageChain → LanguageIdentifier
-    → List (Option KeyParts) → Result Base DataError
+    → List (Bool × Bool) → Result Base DataError
 first_asked name menu locale chain x keys =
     or_next (made_of (menu_base x) (menu_by menu locale x.language chain.menu))
     (keys_asked name locale chain.text x keys)
 
 -- what they answer, or the raw language
 abbrev pub base_asked : Answers → MenuAnswers → DataLocale → LanguageChain → LanguageIdentifier
-    → List (Option KeyParts) → Result Base DataError
+    → List (Bool × Bool) → Result Base DataError
 base_asked name menu locale chain x keys =
     if_missing (raw_base x) (first_asked name menu locale chain x keys)
 

@@ -1,16 +1,14 @@
 //! The base of a name.
-ghost use Rattle.std.specs.Prelude.{◌≡◌};
-ghost use Rattle.std.specs.List.{flat_map};
-ghost use Rattle.std.specs.Option.{option_to_list};
+ghost use Rattle.std.specs.Prelude.{◌≡◌, map, if◌then◌else◌, None};
 ghost use Rattle.icu_locale_names.specs.FirstHit.{made_of};
 ghost use Rattle.icu_locale_names.specs.LanguageNames.{in_locale, base_of, keys_of, asks_dialects, menu_base, raw_base, unless_empty};
-ghost use Rattle.icu_locale_names.specs.inner.LanguageParts.{chains_of, shown_base, key_asked, keys_asked, first_asked, base_asked};
+ghost use Rattle.icu_locale_names.specs.inner.LanguageParts.{chains_of, shown_base, key_with, key_asked, keys_asked, first_asked, base_asked};
 ghost use Rattle.icu_locale_names.specs.inner.Shown.{shown_pieces};
 
 use crate::LanguageDisplay;
 use crate::chain::{first_name, is_missing};
-use crate::language::chains::Chains;
 use crate::language::menus::first_menu;
+use crate::name_chain::Chains;
 use crate::shown::Shown;
 use icu_locale_core::{LanguageIdentifier, Region, Script};
 use icu_provider::{
@@ -40,31 +38,26 @@ pub fn find_base<'d, P: DataProvider>(
         locale.now) (chains_of chains.now) display subject.now }
 {
     let keys = language_keys(chains, display, subject);
-    base_at(provider, chains, locale, subject, &keys)
+    base_at(provider, chains, locale, subject, keys)
 }
 
-// The keys of an identifier, in the order in which they are asked for.
+// The keys of an identifier, in the order in which they are asked for: whether each has the script, and the region.
 fn language_keys(
     chains: &Chains<'_>,
     display: LanguageDisplay,
     subject: &LanguageIdentifier,
-) -> [Option<(Option<Script>, Option<Region>)>; 4]
-    ensures { flat_map option_to_list result
+) -> &'static [(bool, bool)]
+    ensures { map (key_with subject.now) result.now
         ≡ keys_of (chains_of chains.now) display subject.now }
 {
     if !asks_dialects(chains.menu, display) {
-        return [None, None, None, Some((None, None))];
+        return &[(false, false)];
     }
     match (subject.script, subject.region) {
-        (Some(script), Some(region)) => [
-            Some((Some(script), Some(region))),
-            Some((Some(script), None)),
-            Some((None, Some(region))),
-            Some((None, None)),
-        ],
-        (Some(script), None) => [Some((Some(script), None)), None, None, Some((None, None))],
-        (None, Some(region)) => [Some((None, Some(region))), None, None, Some((None, None))],
-        (None, None) => [None, None, None, Some((None, None))],
+        (Some(_), Some(_)) => &[(true, true), (true, false), (false, true), (false, false)],
+        (Some(_), None) => &[(true, false), (false, false)],
+        (None, Some(_)) => &[(false, true), (false, false)],
+        (None, None) => &[(false, false)],
     }
 }
 
@@ -81,7 +74,7 @@ fn base_at<'d, P: DataProvider>(
     chains: &Chains<'_>,
     locale: &DataLocale,
     subject: &LanguageIdentifier,
-    keys: &[Option<(Option<Script>, Option<Region>)>],
+    keys: &[(bool, bool)],
 ) -> Result<Base<'d>, DataError>
     ensures { made_of shown_base result ≡ base_asked (P.name provider.now) (P.menu provider.now)
         locale.now (chains_of chains.now) subject.now keys.now }
@@ -103,7 +96,7 @@ fn first_base<'d, P: DataProvider>(
     chains: &Chains<'_>,
     locale: &DataLocale,
     subject: &LanguageIdentifier,
-    keys: &[Option<(Option<Script>, Option<Region>)>],
+    keys: &[(bool, bool)],
 ) -> Result<Base<'d>, DataError>
     ensures { made_of shown_base result ≡ first_asked (P.name provider.now) (P.menu provider.now)
         locale.now (chains_of chains.now) subject.now keys.now }
@@ -125,7 +118,7 @@ fn base_by_keys<'d, P: DataProvider>(
     chain: &[NameMarker],
     locale: &DataLocale,
     subject: &LanguageIdentifier,
-    keys: &[Option<(Option<Script>, Option<Region>)>],
+    keys: &[(bool, bool)],
 ) -> Result<Base<'d>, DataError>
     ensures { made_of shown_base result ≡ keys_asked (P.name provider.now) locale.now chain.now
         subject.now keys.now }
@@ -145,32 +138,34 @@ fn base_by_keys<'d, P: DataProvider>(
     })
 }
 
-// The base by a key that the chain names; where there is no key, `IdentifierNotFound`.
+// The base by a key that the chain names.
 fn base_by_key<'d, P: DataProvider>(
     provider: &'d P,
     chain: &[NameMarker],
     locale: &DataLocale,
     subject: &LanguageIdentifier,
-    key: &Option<(Option<Script>, Option<Region>)>,
+    key: &(bool, bool),
 ) -> Result<Base<'d>, DataError>
     ensures { made_of shown_base result ≡ key_asked (P.name provider.now) locale.now chain.now
-        subject.now key.now }
+        subject.now (key_with subject.now key.now) }
 {
-    let Some(parts) = key else {
-        return Err(DataError {
-            kind: DataErrorKind::IdentifierNotFound,
-        });
-    };
-    let key = NameKey::Language(subject.language, parts.0, parts.1);
-    match first_name(provider, chain, locale, &key) {
-        Ok(name) => Ok(Base {
-            shown: Shown::Name(name),
-            extension: None,
-            script: subject.script.xor(parts.0),
-            region: subject.region.xor(parts.1),
-        }),
-        Err(refusal) => Err(refusal),
-    }
+    let script = kept(subject.script, key.0);
+    let region = kept(subject.region, key.1);
+    let asked = NameKey::Language(subject.language, script, region);
+    let name = first_name(provider, chain, locale, &asked)?;
+    Ok(Base {
+        shown: Shown::Name(name),
+        extension: None,
+        script: kept(subject.script, !key.0),
+        region: kept(subject.region, !key.1),
+    })
+}
+
+// A subtag where a key has it.
+fn kept<T: Copy>(subtag: Option<T>, is_kept: bool) -> Option<T>
+    ensures { result ≡ if is_kept then subtag else None }
+{
+    if is_kept { subtag } else { None }
 }
 
 // A name in menus as a base.

@@ -6,8 +6,8 @@ ghost use Rattle.icu_locale_names.specs.inner.LanguageParts.{chains_of, shown_he
 
 use crate::LanguageDisplay;
 use crate::language::base::find_base;
-use crate::language::chains::Chains;
 use crate::language::named::{region_name, script_name};
+use crate::name_chain::Chains;
 use crate::shown::Shown;
 use icu_locale_core::LanguageIdentifier;
 use icu_provider::{DataError, DataLocale, DataProvider};

@@ -7,6 +7,7 @@ ghost use Rattle.icu_locale_names.specs.Pieces.{text_of, spans, has_raw};
 ghost use Rattle.icu_locale_names.specs.Writing.{AppendsPart};
 
 use crate::language::LanguageIdentifierDisplayNameBorrowed;
+use crate::sink::write_whole;
 use crate::write_error::NameWriteError;
 use std::alloc::Global;
 use std::{fmt, io};
@@ -63,28 +64,7 @@ pub fn write_pieces<W: io::Write>(
         (text_of (pieces_of name.now))) }
 {
     for piece in name.pieces() {
-        write_text(piece.text, sink)?;
-    }
-    Ok(())
-}
-
-// A text, written whole or refused. A write that takes no byte counts as a failure.
-#[tactic(auto, using(crate::proofs::PieceWrites::not_empty))]
-fn write_text<W: io::Write>(text: &str, sink: &mut W) -> Result<(), NameWriteError>
-    ensures whole { OnOk result (Appends (W.contents sink.old) (W.contents sink.new) text.now) }
-    ensures refused { IfErr result (λ e. e ≡ NameWriteError.Sink) }
-    ensures part { OnErr result
-        (AppendsPart (W.contents sink.old) (W.contents sink.new) text.now) }
-{
-    let mut rest = text.as_bytes();
-    while !rest.is_empty() {
-        match sink.write(rest) {
-            Ok(0) | Err(_) => return Err(NameWriteError::Sink),
-            Ok(count) => {
-                let (_, left) = rest.split_at(count);
-                rest = left;
-            }
-        }
+        write_whole(piece.text.as_bytes(), sink)?;
     }
     Ok(())
 }

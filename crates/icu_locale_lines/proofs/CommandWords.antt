@@ -1,0 +1,143 @@
+-- The words that name a command.
+use Rattle.std.proofs.Common.{◌≡◌, ◌≢◌, ◌⊎◌, ℕ, ◌≤◌, ◌<◌, Bool, true, false, List, [], ◌∷◌, ◌++◌, length, map, get_or, codes, inl, inr, refl, ap, sym, subst, ◌∙◌, arith}
+use Rattle.std.specs.Char.{to_ascii_lowercase}
+use Rattle.std.proofs.lemmas.Bool.{and_parts}
+use Rattle.std.proofs.lemmas.Bool.Decides.{nat_tests}
+use Rattle.std.proofs.lemmas.List.{length-map, append_cancel_right}
+use Rattle.icu_locale_core.specs.Identifier.{IsIdentifier, Spells, pieces, subtags}
+use Rattle.icu_locale_core.specs.Subtag.{has_length, is_alphabetic, lowercase}
+use Rattle.icu_locale_core.specs.declared.langid.LanguageIdentifier.{LanguageIdentifier}
+use Rattle.icu_locale_names.specs.declared.preferences.DisplayNamesPreferences.{DisplayNamesPreferences}
+use Rattle.icu_locale_lines.specs.Commands.{AreArguments, AreCommandWords, AreWords, SpellsPreferences, command_word}
+use Rattle.icu_locale_names.specs.LanguageChains.{chain_word}
+use Rattle.icu_locale_lines.specs.declared.command.Command.{Command}
+use Rattle.icu_locale_lines.specs.declared.command.Command.TheVariants.{Settled, Lines}
+use Rattle.icu_locale_lines.specs.declared.command.LineCommand.TheVariants as command
+use Rattle.icu_locale_lines.specs.declared.transform.Transform.TheVariants.{Maximize, Minimize, MinimizeScript}
+use Rattle.icu_locale_names.specs.declared.name_chain.NameChain.{NameChain}
+
+-- a list of three
+pub three : {X : Type 0} (xs : List X) (x y z : X) → 3 ≤ length xs → length xs < 4 → x ≡ get_or xs 0 x → y ≡ get_or xs 1 y → z ≡ get_or xs 2 z → xs ≡ x ∷ y ∷ z ∷ []
+three [] x y z low high first second third = absurd (omega arith)
+three (u ∷ []) x y z low high first second third = absurd (omega arith)
+three (u ∷ v ∷ []) x y z low high first second third = absurd (omega arith)
+three (u ∷ v ∷ w ∷ []) x y z low high first second third = λ i. sym first i ∷ sym second i ∷ sym third i ∷ []
+three (u ∷ v ∷ w ∷ t ∷ ts) x y z low high first second third = absurd (omega arith)
+
+-- two arguments are those of `name`
+pub record IsName (c : Command) (chain text : List ℕ) : Type 0 where
+  pub kind : NameChain
+  pub preferences : DisplayNamesPreferences
+  pub is : c ≡ Lines (command.Name kind preferences)
+  pub named : chain ≡ chain_word kind
+  pub spelled : SpellsPreferences text preferences
+
+nothing : (a b : List ℕ) → a ∷ b ∷ [] ≡ [] → ⊥
+nothing a b e = absurd (cc)
+
+pub name_only : (chain text : List ℕ) (c : Command) → AreArguments c (chain ∷ text ∷ []) → IsName c chain text
+name_only chain text (Lines (command.Transform Maximize)) e = absurd (nothing chain text e)
+name_only chain text (Lines (command.Transform Minimize)) e = absurd (nothing chain text e)
+name_only chain text (Lines (command.Transform MinimizeScript)) e = absurd (nothing chain text e)
+name_only chain text (Lines command.Canonicalize) e = absurd (nothing chain text e)
+name_only chain text (Lines command.Direction) e = absurd (nothing chain text e)
+name_only chain text Settled e = absurd (nothing chain text e)
+name_only chain text (Lines command.Negotiate) e = absurd (nothing chain text e)
+name_only chain text (Lines (command.Name k p)) (t, is, spells) =
+    let same : chain ≡ chain_word k = cc in
+    let text_same : text ≡ t = cc in
+    record { kind = k; preferences = p; is = refl; named = same; spelled = subst (λ u. SpellsPreferences u p) (sym text_same) spells }
+
+-- the words of a command are one, or three of which the first is `name`
+pub counted : (words : List (List ℕ)) (c : Command) → AreCommandWords words c → (length words ≡ 1) ⊎ ((chain : List ℕ) × (text : List ℕ) × (words ≡ codes "name" ∷ chain ∷ text ∷ []))
+counted words (Lines (command.Transform Maximize)) (arguments, none, is) = inl (ap length is ∙ ap (λ a. length (codes "maximize" ∷ a)) none)
+counted words (Lines (command.Transform Minimize)) (arguments, none, is) = inl (ap length is ∙ ap (λ a. length (codes "minimize" ∷ a)) none)
+counted words (Lines (command.Transform MinimizeScript)) (arguments, none, is) = inl (ap length is ∙ ap (λ a. length (codes "maximize" ∷ a)) none)
+counted words (Lines command.Canonicalize) (arguments, none, is) = inl (ap length is ∙ ap (λ a. length (codes "maximize" ∷ a)) none)
+counted words (Lines command.Direction) (arguments, none, is) = inl (ap length is ∙ ap (λ a. length (codes "maximize" ∷ a)) none)
+counted words Settled (arguments, none, is) = inl (ap length is ∙ ap (λ a. length (codes "maximize" ∷ a)) none)
+counted words (Lines command.Negotiate) (arguments, none, is) = inl (ap length is ∙ ap (λ a. length (codes "maximize" ∷ a)) none)
+counted words (Lines (command.Name k p)) (arguments, (text, are, spells), is) = inr (chain_word k, text, is ∙ ap (λ a. codes "name" ∷ a) are)
+
+-- the last of two lists that are one
+ends : {X : Type 0} (xs ys : List X) (x y : X) → xs ++ x ∷ [] ≡ ys ++ y ∷ [] → x ≡ y
+ends [] [] x y e = cc
+ends [] (v ∷ []) x y e = absurd (cc)
+ends [] (v ∷ w ∷ ws) x y e = absurd (cc)
+ends (u ∷ []) [] x y e = absurd (cc)
+ends (u ∷ t ∷ ts) [] x y e = absurd (cc)
+ends (u ∷ us) (v ∷ vs) x y e = ends us vs x y (cc)
+
+-- `json` spells no identifier, as its four letters are no language
+unspelled : (x : LanguageIdentifier) → IsIdentifier x → Spells (codes "json") x → ⊥
+unspelled x is spells =
+    let language : lowercase (codes "json") ≡ lowercase x.language = first spells.order spells.same in
+    let four : 4 ≡ length x.language = ap length language ∙ length-map x.language to_ascii_lowercase in
+    let short : has_length 2 3 x.language ≡ true = (and_parts (has_length 2 3 x.language) (is_alphabetic x.language) is.language.member).0 in
+    let most : length x.language ≤ 3 = grind (arith, nat_tests) in
+    omega (arith, four, most)
+  where
+    first : (order : List (List ℕ)) → map lowercase (pieces (codes "json")) ≡ map lowercase (subtags x order) → lowercase (codes "json") ≡ lowercase x.language
+    first order e = cc
+
+-- a word of a command alone is not `json`
+other_word : (c : Command) → AreArguments c [] → codes "json" ≡ command_word c → ⊥
+other_word (Lines (command.Transform Maximize)) none e = absurd (cc)
+other_word (Lines (command.Transform Minimize)) none e = absurd (cc)
+other_word (Lines (command.Transform MinimizeScript)) none e = absurd (cc)
+other_word (Lines command.Canonicalize) none e = absurd (cc)
+other_word (Lines command.Direction) none e = absurd (cc)
+other_word Settled none e = absurd (cc)
+other_word (Lines command.Negotiate) none e = absurd (cc)
+other_word (Lines (command.Name k p)) (text, none, spells) e = absurd (cc)
+
+-- three words of a command are those of a name
+pub three_named : (words : List (List ℕ)) (word chain text : List ℕ) → words ≡ word ∷ chain ∷ text ∷ [] → (c : Command) → AreCommandWords words c → (word ≡ codes "name") × AreArguments c (chain ∷ text ∷ [])
+three_named words word chain text is c (arguments, are, whole) =
+    let behind : arguments ≡ chain ∷ text ∷ [] = cc in
+    let first : word ≡ command_word c = cc in
+    let these = subst (AreArguments c) behind are in
+    (first ∙ ap command_word (name_only chain text c these).is, these)
+
+not_nil : {X : Type 0} (xs : List X) (x : X) → xs ++ x ∷ [] ≡ [] → ⊥
+not_nil [] x e = absurd (cc)
+not_nil (y ∷ ys) x e = absurd (cc)
+
+-- words that end with `json` are not those of a command without it
+never_json : (front : List (List ℕ)) (c : Command) → AreCommandWords (front ++ codes "json" ∷ []) c → ⊥
+never_json [] c (arguments, are, is) =
+    let none : arguments ≡ [] = cc in
+    let word : codes "json" ≡ command_word c = cc in
+    other_word c (subst (AreArguments c) none are) word
+never_json (w ∷ []) c are = by (counted (w ∷ codes "json" ∷ []) c are)
+  where
+    by : (length (w ∷ codes "json" ∷ []) ≡ 1) ⊎ ((chain : List ℕ) × (text : List ℕ) × (w ∷ codes "json" ∷ [] ≡ codes "name" ∷ chain ∷ text ∷ [])) → ⊥
+    by (inl one) = omega (arith, one)
+    by (inr (chain, text, is)) = let two : 2 ≡ 3 = ap length is in omega (arith, two)
+never_json (w ∷ v ∷ []) c are =
+    let spells = (name_only v (codes "json") c (three_named (w ∷ v ∷ codes "json" ∷ []) w v (codes "json") refl c are).1).spelled in
+    unspelled spells.0 spells.1 spells.2
+never_json (w ∷ v ∷ u ∷ us) c are = by (counted (w ∷ v ∷ u ∷ (us ++ codes "json" ∷ [])) c are)
+  where
+    by : (length (w ∷ v ∷ u ∷ (us ++ codes "json" ∷ [])) ≡ 1) ⊎ ((chain : List ℕ) × (text : List ℕ) × (w ∷ v ∷ u ∷ (us ++ codes "json" ∷ []) ≡ codes "name" ∷ chain ∷ text ∷ [])) → ⊥
+    by (inl one) = omega (arith, one)
+    by (inr (chain, text, is)) = not_nil us (codes "json") (cc)
+
+-- words with `json` behind them are those of a command with tables as JSON
+pub with_json : (front : List (List ℕ)) (c : Command × Bool) → AreWords (front ++ codes "json" ∷ []) c.0 c.1 → AreCommandWords front c.0 × (c.1 ≡ true)
+with_json front (c, false) are = absurd (never_json front c are)
+with_json front (c, true) (before, are, is) = (subst (λ words. AreCommandWords words c) (sym (append_cancel_right front before (codes "json" ∷ []) is)) are, refl)
+
+-- words without `json` behind them are those of a command over the sample
+pub without_json : (words : List (List ℕ)) → ((front : List (List ℕ)) → words ≡ front ++ codes "json" ∷ [] → ⊥) → (c : Command × Bool) → AreWords words c.0 c.1 → AreCommandWords words c.0 × (c.1 ≡ false)
+without_json words none (c, false) are = (are, refl)
+without_json words none (c, true) (front, are, is) = absurd (none front is)
+
+-- words that end with another word do not end with `json`
+pub ends_otherwise : (words before : List (List ℕ)) (word : List ℕ) → words ≡ before ++ word ∷ [] → word ≢ codes "json" → (front : List (List ℕ)) → words ≡ front ++ codes "json" ∷ [] → ⊥
+ends_otherwise words before word is other front json = other (ends before front word (codes "json") (sym is ∙ json))
+
+-- no words do not end with `json`
+pub no_words : {X : Type 0} (f : X → List ℕ) (words : List X) → length words ≡ 0 → (front : List (List ℕ)) → map f words ≡ front ++ codes "json" ∷ [] → ⊥
+no_words f [] none front e = not_nil front (codes "json") (sym e)
+no_words f (w ∷ ws) none front e = absurd (omega (arith, none))

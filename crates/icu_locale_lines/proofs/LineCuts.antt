@@ -1,0 +1,45 @@
+-- Where a text is cut: at its first line feed, and at any other separator.
+use Rattle.std.proofs.Common.{◌≡◌, ◌≢◌, ℕ, Bool, ◌+◌, ◌≤◌, nat_lt, length, arith, true, false, cond, List, [], ◌∷◌, take, drop, Some, None, refl, ap, sym, ◌∙◌}
+use Rattle.std.specs.List.{slice_split, position, position_or_len, before_first, after_first}
+use Rattle.std.proofs.lemmas.Option.{cond_some, none-some}
+use Rattle.std.proofs.lemmas.Bool.Decides.{nat_tests}
+use Rattle.std.proofs.lemmas.List.{take_all, drop_all}
+use Rattle.icu_locale_core.specs.laws.Cuts.{slice_split-position, slice_split-no_position}
+use Rattle.icu_locale_lines.specs.Lines.{is_line_feed, without_empty_last, lines}
+use Rattle.icu_locale_lines.specs.laws.Parts.{has_pieces, without_empty_last-more}
+
+pub lines-position : (t : List ℕ) (n : ℕ) → position is_line_feed t ≡ Some n → lines t ≡ take n t ∷ lines (drop (n + 1) t)
+lines-position t n at =
+    let rest = has_pieces (drop (n + 1) t) in
+    ap without_empty_last (slice_split-position is_line_feed t n at ∙ ap (λ ps. take n t ∷ ps) rest.are)
+    ∙ without_empty_last-more (take n t) rest.first rest.others
+    ∙ ap (λ ps. take n t ∷ without_empty_last ps) (sym rest.are)
+
+pub lines-no_position : (t : List ℕ) → t ≢ [] → position is_line_feed t ≡ None → lines t ≡ t ∷ []
+lines-no_position [] some none = absurd (some refl)
+lines-no_position (c ∷ t) some none = ap without_empty_last (slice_split-no_position is_line_feed (c ∷ t) none)
+
+-- what stands before and behind the first separator of a text
+module _ (p : ℕ → Bool) (t : List ℕ) where
+  -- where it stands
+  place : (n : ℕ) → position p t ≡ Some n → position_or_len p t ≡ n
+  place n at = (cond_some (nat_lt (position_or_len p t) (length t)) (position_or_len p t) n at).1
+
+  pub before_first-position : (n : ℕ) → position p t ≡ Some n → before_first p t ≡ take n t
+  before_first-position n at = ap (λ k. take k t) (place n at)
+
+  pub after_first-position : (n : ℕ) → position p t ≡ Some n → after_first p t ≡ drop (n + 1) t
+  after_first-position n at = ap (λ k. drop (k + 1) t) (place n at)
+
+  -- without one all stands before it
+  past_end : position p t ≡ None → length t ≤ position_or_len p t
+  past_end none = elim (nat_lt (position_or_len p t) (length t)) as (λ b. nat_lt (position_or_len p t) (length t) ≡ b → cond b (Some (position_or_len p t)) None ≡ None → length t ≤ position_or_len p t) [
+    | true ↦ λ is some. absurd (none-some _ (sym some))
+    | false ↦ λ is some. grind (arith, nat_tests)
+  ] refl none
+
+  pub before_first-no_position : position p t ≡ None → before_first p t ≡ t
+  before_first-no_position none = take_all (position_or_len p t) t (past_end none)
+
+  pub after_first-no_position : position p t ≡ None → after_first p t ≡ []
+  after_first-no_position none = drop_all (position_or_len p t + 1) t (let past = past_end none in omega arith)

@@ -1,0 +1,271 @@
+-- A line has one answer at most.
+use Rattle.std.proofs.Common.{◌≡◌, ◌≢◌, ◌↔◌, ◌⊎◌, ℕ, ◌<◌, ◌≤◌, Bool, true, false, ◌&&◌, List, [], ◌∷◌, ◌++◌, map, Option, Some, None, Result, Ok, Err, refl, ap, sym, subst, ◌∙◌, inl, inr, arith}
+use Rattle.std.specs.Prelude.{slice_index_or, nat_le}
+use Rattle.std.specs.List.{list_all, slice_get}
+use Rattle.std.specs.Char.{is_ascii_alphabetic, to_ascii_lowercase}
+use Rattle.std.proofs.lemmas.Bool.{false≢true}
+use Rattle.std.proofs.lemmas.Bool.Decides.{nat_tests}
+use Rattle.std.proofs.lemmas.List.{length-map}
+use Rattle.std.proofs.lemmas.Option.{same_Some}
+use Rattle.icu_locale_core.specs.Subtag.{has_length, is_language, lowercase}
+use Rattle.icu_locale_core.specs.Identifier.{IsIdentifier, Spells, pieces, subtags, starts_with_language}
+use Rattle.icu_locale_core.specs.declared.langid.LanguageIdentifier.{LanguageIdentifier}
+use Rattle.icu_locale_core.specs.declared.parse_error.ParseError.{ParseError}
+use Rattle.icu_locale_core.specs.declared.parse_error.ParseError.TheVariants.{InvalidLanguage, InvalidSubtag, Memory}
+use Rattle.icu_locale_names.specs.Pieces.{Piece}
+use Rattle.icu_provider.specs.declared.error.DataError.{DataError}
+use Rattle.icu_locale.specs.LikelySubtags.{LikelySubtags}
+use Rattle.icu_locale.specs.LikelyTable.{likely}
+use Rattle.icu_locale.specs.Minimal.{IsMinimalForm}
+use Rattle.icu_locale.specs.declared.expander.Favor.{Favor}
+use Rattle.icu_locale.specs.declared.expander.Favor.TheVariants.{RegionFirst, ScriptFirst}
+use Rattle.icu_locale.specs.declared.expander.TransformResult.{TransformResult}
+use Rattle.icu_locale.specs.declared.expander.TransformResult.TheVariants.{Modified, Unmodified}
+use Rattle.icu_locale.specs.Canonical.{IsCanonical}
+use Rattle.icu_locale.specs.Negotiation.{Negotiation, IsNegotiated}
+use Rattle.icu_locale.specs.Refusals.{ComesAgainFirst, ValueComesAgainFirst, IsMemory, IsRefusal as IsRefusedBy}
+use Rattle.icu_locale.specs.declared.canonicalizer.CanonicalizeError.{CanonicalizeError}
+use Rattle.icu_locale.specs.declared.canonicalizer.CanonicalizeError.TheVariants.{NoFixedPoint, NoSubdivisionFixedPoint}
+use Rattle.icu_locale.specs.declared.canonicalizer.rules.Rules.{Rules}
+use Rattle.icu_locale_core.specs.ParseError.{error_name}
+use Rattle.icu_locale_core.specs.declared.locale.Locale.{Locale}
+use Rattle.icu_locale_lines.specs.declared.work.Work.{Work}
+use Rattle.icu_locale_lines.specs.declared.work.Work.TheVariants as work
+use Rattle.icu_locale_lines.specs.Locales.{SpellsLocale, SpellsSome, IsLocaleFault, IsValueFault, identifier_text, value_text}
+use Rattle.icu_locale_lines.specs.Negotiations.{IsNegotiatedLine, TellsMatch}
+use Rattle.icu_locale_lines.specs.declared.transform.Transform.{Transform}
+use Rattle.icu_locale_lines.specs.declared.transform.Transform.TheVariants.{Maximize, Minimize, MinimizeScript}
+use Rattle.icu_locale_lines.specs.Answers.{IsAnswer, IsForm, IsTransformed, IsDirected, IsNamed, IsCanonicalized, IsIdentifierAnswer, IsLocaleAnswer, IsListAnswer}
+use Rattle.icu_locale_lines.specs.Lists.{listed, SpellsAll, IsRefusal}
+use Rattle.icu_locale_lines.specs.Names.{IsNamedLine, name_by}
+use Rattle.icu_locale_lines.specs.Texts.{transformed_line, canonical_line, override_line, refused_line, matched_line}
+
+-- two answers are the same
+pub record SameAnswer (one two : List ℕ) (a b : Bool) : Type 0 where
+  pub text : one ≡ two
+  pub accepted : a ≡ b
+
+-- they are where both are the same text
+same : {one two s t : List ℕ} {a b c : Bool} → one ≡ s → two ≡ t → s ≡ t → a ≡ c → b ≡ c → SameAnswer one two a b
+same is_s is_t e is_c is_c' = record { text = is_s ∙ e ∙ sym is_t; accepted = is_c ∙ sym is_c' }
+
+-- whether a text is a language does not depend on its case
+alphabetic_lower : (c : ℕ) → is_ascii_alphabetic (to_ascii_lowercase c) ≡ is_ascii_alphabetic c
+alphabetic_lower c = grind (arith, nat_tests)
+
+all_alphabetic_lower : (t : List ℕ) → list_all is_ascii_alphabetic (lowercase t) ≡ list_all is_ascii_alphabetic t
+all_alphabetic_lower [] = refl
+all_alphabetic_lower (c ∷ t) = λ i. alphabetic_lower c i && all_alphabetic_lower t i
+
+is_language_lower : (t : List ℕ) → is_language (lowercase t) ≡ is_language t
+is_language_lower t = λ i. has_long i && all_alphabetic_lower t i
+  where
+    has_long : has_length 2 3 (lowercase t) ≡ has_length 2 3 t
+    has_long = λ i. nat_le 2 (length-map t to_ascii_lowercase i) && nat_le (length-map t to_ascii_lowercase i) 3
+
+-- the first of some texts
+abbrev first_of : List (List ℕ) → List ℕ
+first_of [] = []
+first_of (p ∷ ps) = p
+
+abbrev others_of : List (List ℕ) → List (List ℕ)
+others_of [] = []
+others_of (p ∷ ps) = ps
+
+abbrev is_empty : List (List ℕ) → Type 0
+is_empty [] = Unit {0}
+is_empty (p ∷ ps) = ⊥
+
+-- a text that spells an identifier begins with a language
+begins : (t : List ℕ) (x : LanguageIdentifier) → IsIdentifier x → Spells t x → starts_with_language t ≡ true
+begins t x is_x spells = by (pieces t) spells.same
+  where
+    by : (ps : List (List ℕ)) → map lowercase ps ≡ map lowercase (subtags x spells.order) → is_language (slice_index_or ps 0 []) ≡ true
+    by [] is = absurd (subst is_empty is tt)
+    by (p ∷ ps) is =
+        sym (is_language_lower p) ∙ ap is_language (ap first_of is ∙ is_x.language.written) ∙ is_x.language.member
+
+-- why a text spells no identifier is told by the text
+refusal_one : (t : List ℕ) (e f : ParseError) → IsRefusal t e → IsRefusal t f → e ≡ f
+refusal_one t InvalidLanguage InvalidLanguage p q = refl
+refusal_one t InvalidLanguage InvalidSubtag p q = absurd (false≢true (sym p ∙ q.0))
+refusal_one t InvalidLanguage Memory p q = absurd q
+refusal_one t InvalidSubtag InvalidLanguage p q = absurd (false≢true (sym q ∙ p.0))
+refusal_one t InvalidSubtag InvalidSubtag p q = refl
+refusal_one t InvalidSubtag Memory p q = absurd q
+refusal_one t Memory f p q = absurd p
+
+-- a text that spells an identifier is not refused
+not_refused : (t : List ℕ) (x : LanguageIdentifier) (e : ParseError) → IsIdentifier x → Spells t x → IsRefusal t e → ⊥
+not_refused t x InvalidLanguage is_x spells why = false≢true (sym why ∙ begins t x is_x spells)
+not_refused t x InvalidSubtag is_x spells why = why.1 x is_x spells
+not_refused t x Memory is_x spells why = why
+
+-- whether something was changed is told by what that means
+result_one : {P : Type 0} (m n : TransformResult) → (m ≡ Modified) ↔ P → (n ≡ Modified) ↔ P → m ≡ n
+result_one Modified Modified p q = refl
+result_one Modified Unmodified p q = sym (q.1 (p.0 refl))
+result_one Unmodified Modified p q = p.1 (q.0 refl)
+result_one Unmodified Unmodified p q = refl
+
+module _ (one two : List ℕ) (a b : Bool) where
+  named_one : (r : Result (List Piece) DataError) → IsNamedLine r one a → IsNamedLine r two b → SameAnswer one two a b
+  named_one (Ok pieces) h k = same h.0 k.0 refl h.1 k.1
+  named_one (Err e) h k = same h.0 k.0 refl h.1 k.1
+
+  module _ (minimal_one : (favor : Favor) (table : LikelySubtags) (x y z : LanguageIdentifier) → IsMinimalForm favor table x y → IsMinimalForm favor table x z → y ≡ z) where
+    minimal_fits : (favor : Favor) (table : LikelySubtags) (x y z : LanguageIdentifier) (m n : TransformResult) → IsMinimalForm favor table x y × ((m ≡ Modified) ↔ (y ≢ x)) → IsMinimalForm favor table x z × ((n ≡ Modified) ↔ (z ≢ x)) → (y ≡ z) × (m ≡ n)
+    minimal_fits favor table x y z m n p q =
+        let e = minimal_one favor table x y z p.0 q.0 in
+        (e, result_one m n p.1 (subst (λ w. (n ≡ Modified) ↔ (w ≢ x)) (sym e) q.1))
+
+    form_one : (form : Transform) (table : LikelySubtags) (x y z : LanguageIdentifier) (m n : TransformResult) → IsForm form table x y m → IsForm form table x z n → (y ≡ z) × (m ≡ n)
+    form_one Maximize table x y z m n p q = (p.0 ∙ sym q.0, result_one m n p.1 q.1)
+    form_one Minimize table x y z m n p q = minimal_fits RegionFirst table x y z m n p q
+    form_one MinimizeScript table x y z m n p q = minimal_fits ScriptFirst table x y z m n p q
+
+    transformed_one : (form : Transform) (table : LikelySubtags) (x : LanguageIdentifier) → IsTransformed form table x one a → IsTransformed form table x two b → SameAnswer one two a b
+    transformed_one form table x h k =
+        let e = form_one form table x h.0 k.0 h.1 k.1 h.2 k.2 in
+        same h.3 k.3 (λ i. transformed_line (e.0 i) (e.1 i)) h.4 k.4
+
+  -- the answer to an identifier is one where its line is
+  identifier_one : (spelled_once : (t : List ℕ) (x y : LanguageIdentifier) → IsIdentifier x → IsIdentifier y → Spells t x → Spells t y → x ≡ y) (IsLine : LanguageIdentifier → List ℕ → Bool → Type 0) → ((x : LanguageIdentifier) → IsLine x one a → IsLine x two b → SameAnswer one two a b) → (line : List ℕ) → IsIdentifierAnswer IsLine line one a → IsIdentifierAnswer IsLine line two b → SameAnswer one two a b
+  identifier_one spelled_once IsLine line_one line (inl h) (inl k) =
+      let e = spelled_once line h.0 k.0 h.1 k.1 h.2 k.2 in
+      line_one k.0 (subst (λ x. IsLine x one a) e h.3) k.3
+  identifier_one spelled_once IsLine line_one line (inl h) (inr k) = absurd (not_refused line h.0 k.0 h.1 h.2 k.1)
+  identifier_one spelled_once IsLine line_one line (inr h) (inl k) = absurd (not_refused line k.0 h.0 k.1 k.2 h.1)
+  identifier_one spelled_once IsLine line_one line (inr h) (inr k) =
+      same h.2 k.2 (ap (λ e. refused_line (error_name e)) (refusal_one line h.0 k.0 h.1 k.1)) h.3 k.3
+
+-- the facts of canonicalization that are cited
+pub record CanonicalFacts (likely : LikelySubtags) (rules : Rules) : Type 0 where
+  pub one : (old new other : Locale) → IsCanonical likely rules old new → IsCanonical likely rules old other → new ≡ other
+  pub refused : (old new : Locale) (e : CanonicalizeError) → IsCanonical likely rules old new → IsRefusedBy likely rules old e → IsMemory e
+  pub apart : (old : Locale) (z : LanguageIdentifier) (v : List (List ℕ)) → ComesAgainFirst likely rules old z → ValueComesAgainFirst likely rules old v → ⊥
+
+module _ (likely : LikelySubtags) (rules : Rules) (facts : CanonicalFacts likely rules) (old : Locale) where
+  canonical_line_one : (m : TransformResult) (new other : Locale) → IsCanonical likely rules old new → IsCanonical likely rules old other → canonical_line new m ≡ canonical_line other m
+  canonical_line_one m new other c d = ap (λ l. canonical_line l m) (facts.one old new other c d)
+
+  canonicalized_one : (one two : List ℕ) (a b : Bool) → IsCanonicalized likely rules old one a → IsCanonicalized likely rules old two b → SameAnswer one two a b
+  canonicalized_one one two a b (inl h) (inl k) = same h.2 k.2 (canonical_line_one _ h.0 k.0 h.1 k.1) h.3 k.3
+  canonicalized_one one two a b (inl h) (inr (inl k)) = absurd (facts.refused old h.0 (NoFixedPoint k.0) h.1 k.1)
+  canonicalized_one one two a b (inl h) (inr (inr k)) = absurd (facts.refused old h.0 (NoSubdivisionFixedPoint k.0) h.1 k.1)
+  canonicalized_one one two a b (inr (inl h)) (inl k) = absurd (facts.refused old k.0 (NoFixedPoint h.0) k.1 h.1)
+  canonicalized_one one two a b (inr (inr h)) (inl k) = absurd (facts.refused old k.0 (NoSubdivisionFixedPoint h.0) k.1 h.1)
+  canonicalized_one one two a b (inr (inl h)) (inr (inl k)) = same h.2 k.2 refl h.3 k.3
+  canonicalized_one one two a b (inr (inl h)) (inr (inr k)) = absurd (facts.apart old h.0 k.0 h.1 k.1)
+  canonicalized_one one two a b (inr (inr h)) (inr (inl k)) = absurd (facts.apart old k.0 h.0 k.1 h.1)
+  canonicalized_one one two a b (inr (inr h)) (inr (inr k)) = same h.2 k.2 refl h.3 k.3
+
+first_one : (i j k l : ℕ) → (i < k) ⊎ ((i ≡ k) × (j ≤ l)) → (k < i) ⊎ ((k ≡ i) × (l ≤ j)) → (i ≡ k) × (j ≡ l)
+first_one i j k l (inl p) (inl q) = (omega (arith, p, q), omega (arith, p, q))
+first_one i j k l (inl p) (inr q) = (omega (arith, p, q.0), omega (arith, p, q.0))
+first_one i j k l (inr p) (inl q) = (omega (arith, p.0, q), omega (arith, p.0, q))
+first_one i j k l (inr p) (inr q) = (p.0, omega (arith, p.1, q.1))
+
+-- what is negotiated is one
+module _ (table : LikelySubtags) (requests available : List LanguageIdentifier) (one two : List ℕ) where
+  negotiated_one : (found other : Option (ℕ × ℕ)) → IsNegotiated table requests available found → IsNegotiated table requests available other → TellsMatch available found one → TellsMatch available other two → one ≡ two
+  negotiated_one None None p q h k = h ∙ sym k
+  negotiated_one None (Some n) p q h k = absurd (p n.0 n.1 q.matches)
+  negotiated_one (Some m) None p q h k = absurd (q m.0 m.1 p.matches)
+  negotiated_one (Some m) (Some n) p q h k =
+      let places = first_one m.0 m.1 n.0 n.1 (p.first n.0 n.1 q.matches) (q.first m.0 m.1 p.matches) in
+      let e = same_Some h.0 k.0 (sym h.1 ∙ ap (slice_get available) places.1 ∙ k.1) in
+      h.2 ∙ (λ i. matched_line (places.0 i) (e i)) ∙ sym k.2
+
+module _ (spelled_once : (t : List ℕ) (x y : LanguageIdentifier) → IsIdentifier x → IsIdentifier y → Spells t x → Spells t y → x ≡ y) where
+  -- the locale that a line spells is one
+  locale_one : (line : List ℕ) (old other : Locale) → SpellsLocale line old → SpellsLocale line other → old ≡ other
+  locale_one line old other p q =
+      let ids = spelled_once (identifier_text line) old.id other.id p.known q.known p.id q.id in
+      let keywords = p.keywords ∙ sym q.keywords in
+      let lang = p.transform ∙ sym q.transform in
+      λ i. record { id = ids i; extensions = record { unicode = record { keywords = keywords i }; transform = record { lang = lang i } } }
+
+  no_locale_fault : (line : List ℕ) (old : Locale) (e : ParseError) → SpellsLocale line old → IsLocaleFault line e → ⊥
+  no_locale_fault line old e p f = by f.fault
+    where
+      by : IsRefusal (identifier_text line) e ⊎ (SpellsSome (identifier_text line) × IsValueFault (value_text line) e) → ⊥
+      by (inl r) = not_refused (identifier_text line) old.id e p.known p.id r
+      by (inr r) = false≢true (sym r.1.0 ∙ p.readable)
+
+  locale_fault_one : (line : List ℕ) (e f : ParseError) → IsLocaleFault line e → IsLocaleFault line f → e ≡ f
+  locale_fault_one line e f p q = by p.fault q.fault
+    where
+      Fault : ParseError → Type 0
+      Fault e = IsRefusal (identifier_text line) e ⊎ (SpellsSome (identifier_text line) × IsValueFault (value_text line) e)
+
+      by : Fault e → Fault f → e ≡ f
+      by (inl r) (inl s) = refusal_one (identifier_text line) e f r s
+      by (inl r) (inr s) = absurd (not_refused (identifier_text line) s.0.0 e s.0.1 s.0.2 r)
+      by (inr r) (inl s) = absurd (not_refused (identifier_text line) r.0.0 f r.0.1 r.0.2 s)
+      by (inr r) (inr s) = r.1.1 ∙ sym s.1.1
+
+  module _ (one two : List ℕ) (a b : Bool) where
+    locale_answer_one : (likely : LikelySubtags) (rules : Rules) → CanonicalFacts likely rules → (line : List ℕ) → IsLocaleAnswer likely rules line one a → IsLocaleAnswer likely rules line two b → SameAnswer one two a b
+    locale_answer_one likely rules facts line (inl h) (inl k) =
+        canonicalized_one likely rules facts k.0 one two a b (subst (λ old. IsCanonicalized likely rules old one a) (locale_one line h.0 k.0 h.1 k.1) h.2) k.2
+    locale_answer_one likely rules facts line (inl h) (inr k) = absurd (no_locale_fault line h.0 k.0 h.1 k.1)
+    locale_answer_one likely rules facts line (inr h) (inl k) = absurd (no_locale_fault line k.0 h.0 k.1 h.1)
+    locale_answer_one likely rules facts line (inr h) (inr k) =
+        same h.2 k.2 (ap (λ e. refused_line (error_name e)) (locale_fault_one line h.0 k.0 h.1 k.1)) h.3 k.3
+
+  -- the identifiers that texts spell are one list
+  all_one : (texts : List (List ℕ)) (xs ys : List LanguageIdentifier) → SpellsAll texts xs → SpellsAll texts ys → xs ≡ ys
+  all_one [] [] [] p q = refl
+  all_one [] [] (y ∷ ys) p q = absurd q
+  all_one [] (x ∷ xs) ys p q = absurd p
+  all_one (t ∷ ts) [] ys p q = absurd p
+  all_one (t ∷ ts) (x ∷ xs) [] p q = absurd q
+  all_one (t ∷ ts) (x ∷ xs) (y ∷ ys) p q =
+      let e = spelled_once t x y p.0.0 q.0.0 p.0.1 q.0.1 in
+      let others = all_one ts xs ys p.1 q.1 in
+      λ i. e i ∷ others i
+
+  -- texts that all spell identifiers have no fault
+  no_fault : (earlier : List (List ℕ)) (text : List ℕ) (later : List (List ℕ)) (e : ParseError) (xs : List LanguageIdentifier) → SpellsAll (earlier ++ text ∷ later) xs → IsRefusal text e → ⊥
+  no_fault [] text later e [] p why = p
+  no_fault [] text later e (x ∷ xs) p why = not_refused text x e p.0.0 p.0.1 why
+  no_fault (t ∷ ts) text later e [] p why = p
+  no_fault (t ∷ ts) text later e (x ∷ xs) p why = no_fault ts text later e xs p.1 why
+
+  -- the first fault is one
+  fault_one : (ps : List (List ℕ)) (t : List ℕ) (bs cs : List (List ℕ)) (u : List ℕ) (ds : List (List ℕ)) (e f : ParseError) (xs ys : List LanguageIdentifier) → ps ++ t ∷ bs ≡ cs ++ u ∷ ds
+      → SpellsAll ps xs → SpellsAll cs ys → IsRefusal t e → IsRefusal u f → e ≡ f
+  fault_one [] t bs [] u ds e f xs ys is p q r s = refusal_one u e f (subst (λ w. IsRefusal w e) (ap first_of is) r) s
+  fault_one [] t bs (c ∷ cs) u ds e f xs [] is p q r s = absurd q
+  fault_one [] t bs (c ∷ cs) u ds e f xs (y ∷ ys) is p q r s = absurd (not_refused c y e q.0.0 q.0.1 (subst (λ w. IsRefusal w e) (ap first_of is) r))
+  fault_one (g ∷ ps) t bs [] u ds e f [] ys is p q r s = absurd p
+  fault_one (g ∷ ps) t bs [] u ds e f (x ∷ xs) ys is p q r s = absurd (not_refused g x f p.0.0 p.0.1 (subst (λ w. IsRefusal w f) (sym (ap first_of is)) s))
+  fault_one (g ∷ ps) t bs (c ∷ cs) u ds e f [] ys is p q r s = absurd p
+  fault_one (g ∷ ps) t bs (c ∷ cs) u ds e f (x ∷ xs) [] is p q r s = absurd q
+  fault_one (g ∷ ps) t bs (c ∷ cs) u ds e f (x ∷ xs) (y ∷ ys) is p q r s = fault_one ps t bs cs u ds e f xs ys (ap others_of is) p.1 q.1 r s
+
+  list_answer_one : (one two : List ℕ) (a b : Bool) (n : Negotiation) (line : List ℕ) → IsListAnswer n line one a → IsListAnswer n line two b → SameAnswer one two a b
+  list_answer_one one two a b n line (inl h) (inl k) =
+      let requests = all_one (listed line) h.0 k.0 h.1 k.1 in
+      let line : IsNegotiatedLine n k.0 one = subst (λ xs. IsNegotiatedLine n xs one) requests h.2 in
+      record { text = negotiated_one (likely n.expander) k.0 n.available one two line.0 k.2.0 line.1 k.2.1 line.2 k.2.2; accepted = h.3 ∙ sym k.3 }
+  list_answer_one one two a b n line (inl h) (inr k) =
+      let f = k.1 in
+      absurd (no_fault f.earlier f.text f.later k.0 h.0 (subst (λ ts. SpellsAll ts h.0) f.parted h.1) f.refused)
+  list_answer_one one two a b n line (inr h) (inl k) =
+      let f = h.1 in
+      absurd (no_fault f.earlier f.text f.later h.0 k.0 (subst (λ ts. SpellsAll ts k.0) f.parted k.1) f.refused)
+  list_answer_one one two a b n line (inr h) (inr k) =
+      let f = h.1 in
+      let g = k.1 in
+      let e = fault_one f.earlier f.text f.later g.earlier g.text g.later h.0 k.0 f.identifiers g.identifiers (sym f.parted ∙ g.parted) f.spelled g.spelled f.refused g.refused in
+      same h.2 k.2 (ap (λ e. refused_line (error_name e)) e) h.3 k.3
+
+  pub answer_one : ((favor : Favor) (table : LikelySubtags) (x y z : LanguageIdentifier) → IsMinimalForm favor table x y → IsMinimalForm favor table x z → y ≡ z) → ((likely : LikelySubtags) (rules : Rules) → CanonicalFacts likely rules)
+      → (work : Work) (line one two : List ℕ) (a b : Bool) → IsAnswer work line one a → IsAnswer work line two b → SameAnswer one two a b
+  answer_one minimal_one facts (work.Transform form e) line one two a b h k = identifier_one one two a b spelled_once (IsTransformed form (likely e)) (transformed_one one two a b minimal_one form (likely e)) line h k
+  answer_one minimal_one facts (work.Canonicalize c) line one two a b h k = locale_answer_one one two a b (likely c.expander) c.rules (facts (likely c.expander) c.rules) line h k
+  answer_one minimal_one facts (work.Direction d) line one two a b h k = identifier_one one two a b spelled_once (IsDirected d) (λ x p q. same p.0 q.0 refl p.1 q.1) line h k
+  answer_one minimal_one facts (work.Negotiate n) line one two a b h k = list_answer_one one two a b n line h k
+  answer_one minimal_one facts (work.Name n) line one two a b h k = identifier_one one two a b spelled_once (IsNamed n) (λ x p q. named_one one two a b (name_by n x) p q) line h k

@@ -1,0 +1,13 @@
+use Rattle.icu_locale.specs.LikelyTable.{likely}
+use Rattle.icu_locale_lines.proofs.LineAnswers.{canonicalized_from_line, refused_from_line}
+use Rattle.icu_locale_lines.proofs.canonical.canonicalized.Goals as goal
+
+pub returns-in-Ok-clause-answer : goal.returns-in-Ok-clause-answer
+returns-in-Ok-clause-answer c =
+    canonicalized_from_line (likely c.args.canonicalizer.now.expander) c.args.canonicalizer.now.rules c.args.locale.now c.canonicalize.new.locale c.in-Ok.changed
+    c.in-Ok.ensures.outcome.canonical c.in-Ok.ensures.outcome.answer c.canonical_answer.result c.canonical_answer.ensures.answer
+
+pub returns-in-Err-clause-answer : goal.returns-in-Err-clause-answer
+returns-in-Err-clause-answer c =
+    refused_from_line (likely c.args.canonicalizer.now.expander) c.args.canonicalizer.now.rules c.args.locale.now c.in-Err.refusal
+    c.in-Err.ensures.outcome.refusal c.uncanonical.result c.uncanonical.ensures.answer

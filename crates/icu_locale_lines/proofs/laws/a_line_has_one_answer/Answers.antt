@@ -1,0 +1,15 @@
+use Rattle.icu_locale.specs.LikelySubtags.{LikelySubtags}
+use Rattle.icu_locale.specs.declared.canonicalizer.rules.Rules.{Rules}
+use Rattle.icu_locale_lines.proofs.OneAnswer.{CanonicalFacts, answer_one}
+use Rattle.icu_locale_lines.proofs.laws.a_line_has_one_answer.Goals as goal
+
+pub returns : goal.returns
+returns c = λ work line one two a b h k.
+    let form = c.canonical_form_is_one.ensures in
+    let facts : (likely : LikelySubtags) (rules : Rules) → CanonicalFacts likely rules = λ likely rules. record {
+      one = form.one likely rules;
+      refused = form.refused likely rules;
+      apart = form.apart likely rules;
+    } in
+    let answers = answer_one c.spelled_once.ensures c.minimal_form_is_one.ensures.one facts work line one two a b h k in
+    (answers.text, answers.accepted)

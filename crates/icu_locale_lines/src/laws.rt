@@ -1,0 +1,31 @@
+//! Laws of lines. Each function here takes nothing, answers nothing and carries a proved fact.
+ghost use Rattle.std.specs.Prelude.{◌≡◌, ◌++◌, ◌∷◌, [], Some, ℕ, Bool, List};
+ghost use Rattle.icu_locale_lines.specs.declared.status.Status.{Status};
+ghost use Rattle.icu_locale_lines.specs.declared.work.Work.{Work};
+ghost use Rattle.icu_locale_lines.specs.Answers.{IsAnswer};
+ghost use Rattle.icu_locale_lines.specs.Runs.{WritesAll};
+
+use icu_locale::laws::{canonical_form_is_one, minimal_form_is_one};
+use icu_locale_core::laws::spelled_once;
+
+/// A line has one answer at most: what is written for it is told by the line and the work alone.
+pub fn a_line_has_one_answer()
+    ensures { (work : Work) (line one two : List ℕ) (a b : Bool)
+        → IsAnswer work line one a → IsAnswer work line two b → (one ≡ two) × (a ≡ b) }
+{
+    spelled_once();
+    minimal_form_is_one();
+    canonical_form_is_one();
+}
+
+/// Behind a line feed, which is 10, an input may be cut: what runs over its parts write, the one behind the other, is
+/// what a run over the whole writes.
+pub fn parts_make_the_whole()
+    ensures { (work : Work) (front rest one two all : List ℕ) (of_one of_two of_all : Status)
+        → WritesAll work (front ++ 10 ∷ []) (Some []) (Some one) of_one
+        → WritesAll work rest (Some []) (Some two) of_two
+        → WritesAll work (front ++ 10 ∷ rest) (Some []) (Some all) of_all
+        → all ≡ one ++ two }
+{
+    a_line_has_one_answer();
+}

@@ -1,0 +1,33 @@
+//! Lines of locale identifiers, and the answer to each: what the programs and the C interface stand on.
+#![tactic(auto)]
+
+mod answer;
+mod answers;
+mod canonical;
+mod command;
+mod error;
+mod input;
+pub mod laws;
+mod lines;
+mod lists;
+mod loads;
+mod locales;
+mod naming;
+mod output;
+mod program;
+mod runs;
+mod sample_tables;
+mod status;
+mod transform;
+mod work;
+
+pub use command::{Command, LineCommand};
+pub use error::CliError;
+pub use input::read_all;
+pub use naming::Naming;
+pub use program::{run_buffered, run_words};
+pub use runs::{run, run_json};
+pub use sample_tables::{SAMPLE, sample};
+pub use status::Status;
+pub use transform::Transform;
+pub use work::Work;

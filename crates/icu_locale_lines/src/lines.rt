@@ -1,0 +1,73 @@
+// The lines of a text.
+ghost use Rattle.std.specs.Prelude.{◌≡◌, ◌≢◌, ◌∷◌, [], List, ℕ};
+ghost use Rattle.std.specs.List.{position};
+ghost use Rattle.std.specs.Iterator.{YieldsFirstRef, item_count};
+ghost use Rattle.icu_locale_lines.specs.Lines.{is_line_feed, lines, first_line, after_first_line};
+
+use std::marker::Model;
+
+// The lines that are left of a text.
+#[derive(Drop)]
+pub struct Lines<'a> {
+    rest: &'a [u8],
+}
+
+impl<'a> Model for Lines<'a> {
+    ghost Value = { List (List ℕ) };
+
+    ghost view = { λ a. lines a.rest.now };
+}
+
+impl<'a> Lines<'a> {
+    pub fn new(text: &'a [u8]) -> Self
+        ensures { result ≡ lines text.now }
+    {
+        Lines { rest: text }
+    }
+}
+
+impl<'a> Iterator for Lines<'a> {
+    type Item = &'a [u8];
+
+    ghost next_gives = { YieldsFirstRef (λ s. s) };
+
+    ghost remaining = { item_count (λ s. s) };
+
+    fn next(&mut self) -> Option<&'a [u8]> {
+        if self.rest.is_empty() {
+            return None;
+        }
+        let (line, rest) = cut(self.rest);
+        self.rest = rest;
+        Some(line)
+    }
+}
+
+// The first line, and what follows its line feed.
+pub fn cut(text: &[u8]) -> (&[u8], &[u8])
+    ensures lines { text.now ≢ [] → lines text.now ≡ result.0.now ∷ lines result.1.now }
+    ensures first { result.0.now ≡ first_line text.now }
+    ensures rest { result.1.now ≡ after_first_line text.now }
+{
+    match line_feed(text) {
+        Some(place) => {
+            let (line, rest) = text.split_at(place);
+            let (_, rest) = rest.split_at(1);
+            (line, rest)
+        }
+        None => (text, &[]),
+    }
+}
+
+// Where the first line feed stands.
+fn line_feed(text: &[u8]) -> Option<usize>
+    ensures { result ≡ position is_line_feed text.now }
+{
+    text.iter().position(is_line_feed)
+}
+
+fn is_line_feed(byte: &u8) -> bool
+    ensures { result ≡ is_line_feed byte.now }
+{
+    *byte == b'\n'
+}

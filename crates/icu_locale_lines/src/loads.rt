@@ -1,0 +1,157 @@
+//! The tables that a command needs, before the input is read.
+ghost use Rattle.std.specs.Prelude.{◌≡◌, ◌↔◌, Err, IfOk, IfErr, IsSomeAnd, is_ok, is_some, false};
+ghost use Rattle.icu_locale.specs.LikelyTable.{likely};
+ghost use Rattle.icu_locale.specs.Rules.{AreRules};
+ghost use Rattle.icu_locale_lines.specs.Lists.{listed, SpellsAll};
+ghost use Rattle.icu_locale_lines.specs.Loads.{IsExpanderOf, has_likely, not_found};
+ghost use Rattle.icu_locale_lines.specs.WholeRuns.{WritesLines, IsRefusedLines};
+ghost use Rattle.icu_locale_lines.specs.Works.{IsUnsettled, has_tables};
+ghost use Rattle.icu_locale_lines.specs.inner.Causes.{IsRefusedLoad, IsRefusedTable, IsRefusedList};
+ghost use Rattle.icu_locale_lines.specs.inner.Loaded.{IsLoaded};
+ghost use Rattle.icu_locale_lines.specs.declared.command.LineCommand.{LineCommand};
+ghost use Rattle.icu_tables.specs.declared.tables.Tables.{Tables};
+
+use crate::answers::write_answers;
+use crate::command::{Command, LineCommand};
+use crate::error::CliError;
+use crate::lines::cut;
+use crate::lists::read_list;
+use crate::naming::Naming;
+use crate::status::Status;
+use crate::work::Work;
+use icu_locale::{
+    LocaleCanonicalizer, LocaleDirectionality, LocaleExpander, Negotiator, NegotiatorError,
+};
+use icu_locale_core::ParseError;
+use icu_provider::DataProvider;
+use icu_tables::Tables;
+use std::alloc::Global;
+use std::io::Write;
+
+// What a command has before its input is read.
+#[derive(Drop)]
+pub enum Loaded<'d> {
+    // What it works with.
+    Ready(Work<'d>),
+    // An expander over settled tables, which waits for the identifiers that are available.
+    Negotiate(LocaleExpander<'d>),
+}
+
+impl<'d> Loaded<'d> {
+    // What a command needs: its tables are loaded in their order, and then asked whether they are settled.
+    pub fn load(alloc: Global, command: &LineCommand, tables: &'d Tables) -> Result<Self, CliError>
+        ensures loaded { IfOk result (IsLoaded command.now tables.now) }
+        ensures data { (result ≡ Err (CliError.Data not_found))
+            ↔ (has_tables (Command.Lines command.now) tables.now ≡ false) }
+        ensures unsettled { (result ≡ Err CliError.NotSettled)
+            ↔ IsUnsettled (Command.Lines command.now) tables.now }
+        ensures refused { IfErr result IsRefusedLoad }
+    {
+        match command {
+            LineCommand::Transform(form) => {
+                let expander = load_expander(tables)?;
+                Ok(Loaded::Ready(Work::Transform(*form, expander)))
+            }
+            LineCommand::Canonicalize => {
+                let expander = load_expander(tables)?;
+                let canonicalizer = load_canonicalizer(alloc, tables, expander)?;
+                Ok(Loaded::Ready(Work::Canonicalize(canonicalizer)))
+            }
+            LineCommand::Direction => {
+                let expander = load_expander(tables)?;
+                let directionality = LocaleDirectionality::try_new_with_expander_unstable(
+                    tables, expander,
+                )?;
+                Ok(Loaded::Ready(Work::Direction(directionality)))
+            }
+            LineCommand::Negotiate => {
+                let expander = load_expander(tables)?;
+                if !expander.is_settled() {
+                    return Err(CliError::NotSettled);
+                }
+                Ok(Loaded::Negotiate(expander))
+            }
+            LineCommand::Name(chain, preferences) => Ok(Loaded::Ready(Work::Name(Naming {
+                tables,
+                chain: *chain,
+                preferences: *preferences,
+            }))),
+        }
+    }
+
+    // The answers to the lines of an input. `Negotiate` uses the first line for the identifiers that are available.
+    pub fn write<W: Write>(
+        self,
+        alloc: Global,
+        input: &[u8],
+        writer: &mut W,
+    ) -> Result<Status, CliError>
+        ensures output { (c : LineCommand) (t : Tables) → IsLoaded c t self.entry
+            → IfOk result (WritesLines c t input.now (W.contents writer.old)
+            (W.contents writer.new)) }
+        ensures left { (c : LineCommand) (t : Tables) → IsLoaded c t self.entry
+            → IfErr result (IsRefusedLines c t input.now (W.contents writer.old)
+            (W.contents writer.new)) }
+    {
+        match self {
+            Loaded::Ready(work) => write_answers(alloc, &work, input, writer),
+            Loaded::Negotiate(expander) => {
+                let (first, rest) = cut(input);
+                let negotiator = list_available(alloc, expander, first)?;
+                write_answers(alloc, &Work::Negotiate(negotiator), rest, writer)
+            }
+        }
+    }
+}
+
+// The expander over the tables, with the extended one where it is held.
+pub fn load_expander(tables: &Tables) -> Result<LocaleExpander<'_>, CliError>
+    ensures made { IfOk result (IsExpanderOf tables.entry.now) }
+    ensures loaded { is_ok result ≡ has_likely tables.entry.now }
+    ensures refused { IfErr result (λ e. e ≡ CliError.Data not_found) }
+{
+    if tables.likely_extended.is_some() {
+        Ok(LocaleExpander::try_new_extended_unstable(tables)?)
+    } else {
+        Ok(LocaleExpander::try_new_common_unstable(tables)?)
+    }
+}
+
+// The canonicalizer over the tables and the expander.
+fn load_canonicalizer<'d>(
+    alloc: Global,
+    tables: &'d Tables,
+    expander: LocaleExpander<'d>,
+) -> Result<LocaleCanonicalizer<'d>, CliError>
+    ensures expander { IfOk result (λ c. c.expander ≡ expander.entry) }
+    ensures rules { IfOk result (λ c. IsSomeAnd tables.now.aliases
+        (λ table. AreRules table c.rules)) }
+    ensures data { (result ≡ Err (CliError.Data not_found))
+        ↔ (is_some tables.now.aliases ≡ false) }
+    ensures refused { IfErr result IsRefusedTable }
+{
+    let aliases = tables.load_aliases()?;
+    LocaleCanonicalizer::new_with_expander(alloc, aliases, expander).map_err(|_| CliError::Memory)
+}
+
+// The negotiator over settled tables and the identifiers that a line lists.
+fn list_available<'d>(
+    alloc: Global,
+    expander: LocaleExpander<'d>,
+    line: &[u8],
+) -> Result<Negotiator<'d>, CliError>
+    ensures expander { IfOk result (λ n. n.expander ≡ expander.entry) }
+    ensures available { IfOk result (λ n. SpellsAll (listed line.now) n.available) }
+    ensures refused { IfErr result (IsRefusedList (likely expander.entry) line.now) }
+{
+    let available = match read_list(alloc, line) {
+        Ok(list) => list,
+        Err(ParseError::Memory) => return Err(CliError::Memory),
+        Err(refusal) => return Err(CliError::Available(refusal)),
+    };
+    match Negotiator::try_new(alloc, expander, available) {
+        Ok(negotiator) => Ok(negotiator),
+        Err(NegotiatorError::Memory) => Err(CliError::Memory),
+        Err(NegotiatorError::NotSettled) => Err(CliError::NotSettled),
+    }
+}

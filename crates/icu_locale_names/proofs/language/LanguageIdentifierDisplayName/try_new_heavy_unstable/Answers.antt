@@ -1,5 +1,0 @@
-use Rattle.std.proofs.Common.{rules}
-use Rattle.icu_locale_names.proofs.language.LanguageIdentifierDisplayName.try_new_heavy_unstable.Goals as goal
-
-pub returns : goal.returns
-returns g c = search rules

@@ -1,8 +1,0 @@
-use Rattle.std.proofs.Common.{◌∙◌, sym}
-use Rattle.icu_locale_names.specs.LentNames.{pieces_of}
-use Rattle.icu_locale_names.proofs.Reports.{nothing_marked}
-use Rattle.icu_locale_names.proofs.language.LanguageIdentifierDisplayNameBorrowed.try_write_to_parts.Goals as goal
-
--- no piece is raw
-pub returns-clause-marked : goal.returns-clause-marked
-returns-clause-marked g c = nothing_marked c.args.parts.now.items (pieces_of c.args.self.now) (sym c.in-Some.ensures.raw ∙ c.if-is_raw.false)

@@ -1,5 +1,0 @@
-use Rattle.std.proofs.Common.{rules}
-use Rattle.icu_locale_names.proofs.region.RegionDisplayName.try_new_short_tiny_unstable.Goals as goal
-
-pub returns : goal.returns
-returns g c = search rules

@@ -1,5 +1,0 @@
-use Rattle.std.proofs.Common.{rules}
-use Rattle.icu_locale_names.proofs.script.ScriptDisplayName.new_heavy_with_fallback.Goals as goal
-
-pub returns : goal.returns
-returns g c = search rules

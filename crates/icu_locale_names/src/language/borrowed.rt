@@ -1,0 +1,117 @@
+//! Names of identifiers that are lent, and how they are written.
+ghost use Rattle.std.specs.Prelude.{◌≡◌, ◌≢◌, ◌⊎◌, ◌↔◌, ◌^◌, ◌<◌, ◌≤◌, ◌++◌, length, false, Some, Err, OnOk, OnErr, IfOk, IfErr, IsErr, IsTrue};
+ghost use Rattle.std.specs.Io.KnownBytes.{Appends};
+ghost use Rattle.icu_locale_names.specs.LentNames.{pieces_of};
+ghost use Rattle.icu_locale_names.specs.Pieces.{text_of, spans, has_raw};
+ghost use Rattle.icu_locale_names.specs.Writing.{AppendsPart};
+ghost use Rattle.icu_locale_names.specs.inner.Walk.{pieces_left};
+
+use crate::fallback_error::LanguageIdentifierNameFallbackError;
+use crate::language::parts::Parts;
+use crate::language::walk::PieceWalk;
+use crate::language::writing::{format_pieces, measured, spans_of, write_pieces};
+use crate::shown::Shown;
+use crate::write_error::NameWriteError;
+use icu_provider::PatternItem;
+use std::{fmt, io};
+
+/// The name of an identifier that is lent (UTS #35 Part 2, "Locale Display Name Algorithm"): `Display` writes its text. No
+/// call but `try_write_to_parts` takes memory.
+#[derive(Clone, Copy, Debug)]
+pub struct LanguageIdentifierDisplayNameBorrowed<'a> {
+    pub(super) parts: &'a Parts<'a>,
+    pub(super) variants: &'a [Shown<'a>],
+    pub(super) pattern: &'a [PatternItem],
+    pub(super) separator: &'a str,
+}
+
+impl<'a> LanguageIdentifierDisplayNameBorrowed<'a> {
+    /// Writes the text, and puts the span of each raw subtag behind `parts`: where it begins and ends, in bytes from
+    /// the start of the text, in order. The report inside is `Err` exactly where there is a raw subtag. It takes memory
+    /// for the spans alone.
+    ///
+    /// # Errors
+    ///
+    /// `parts` is unchanged after each.
+    ///
+    /// - `TooLong` exactly where the text is longer than `usize::MAX` bytes. Nothing was written.
+    /// - `Memory` where the spans found no room, never where no raw subtag stands in the text. Nothing was written.
+    /// - `Sink` where a write failed or took no byte. A beginning of the text was written, and not the whole.
+    pub fn try_write_to_parts<W: io::Write>(
+        &self,
+        sink: &mut W,
+        parts: &mut Vec<(usize, usize)>,
+    ) -> Result<Result<(), LanguageIdentifierNameFallbackError>, NameWriteError>
+        ensures text { OnOk result (Appends (W.contents sink.old) (W.contents sink.new)
+            (text_of (pieces_of self.now))) }
+        ensures marked { OnOk result (parts.new.items
+            ≡ parts.old.items ++ spans (pieces_of self.now)) }
+        ensures report { IfOk result (λ report. IsErr report
+            ↔ IsTrue (has_raw (pieces_of self.now))) }
+        ensures too_long { (result ≡ Err NameWriteError.TooLong)
+            ↔ (2 ^ 64 ≤ length (text_of (pieces_of self.now))) }
+        ensures unwritten { IfErr result (λ e. (e ≡ NameWriteError.Sink)
+            ⊎ (sink.new ≡ sink.old)) }
+        ensures part { result ≡ Err NameWriteError.Sink → AppendsPart (W.contents sink.old)
+            (W.contents sink.new) (text_of (pieces_of self.now)) }
+        ensures unmarked { OnErr result (parts.new.items ≡ parts.old.items) }
+        ensures free { has_raw (pieces_of self.now) ≡ false
+            → result ≢ Err NameWriteError.Memory }
+    {
+        let Some(is_raw) = measured(self) else {
+            return Err(NameWriteError::TooLong);
+        };
+        if is_raw {
+            self.write_marked(sink, parts)?;
+            return Ok(Err(LanguageIdentifierNameFallbackError));
+        }
+        write_pieces(self, sink)?;
+        Ok(Ok(()))
+    }
+
+    // Writes the text, and puts the span of each raw subtag behind `parts`, which is unchanged after a refusal.
+    #[tactic(auto, using(crate::proofs::Measures::take_front))]
+    fn write_marked<W: io::Write>(
+        &self,
+        sink: &mut W,
+        parts: &mut Vec<(usize, usize)>,
+    ) -> Result<(), NameWriteError>
+        requires { length (text_of (pieces_of self.now)) < 2 ^ 64 }
+        ensures text { OnOk result (Appends (W.contents sink.old) (W.contents sink.new)
+            (text_of (pieces_of self.now))) }
+        ensures marked { OnOk result (parts.new.items
+            ≡ parts.old.items ++ spans (pieces_of self.now)) }
+        ensures refused { IfErr result
+            (λ e. (e ≡ NameWriteError.Memory) ⊎ (e ≡ NameWriteError.Sink)) }
+        ensures unwritten { result ≡ Err NameWriteError.Memory → sink.new ≡ sink.old }
+        ensures part { result ≡ Err NameWriteError.Sink → AppendsPart (W.contents sink.old)
+            (W.contents sink.new) (text_of (pieces_of self.now)) }
+        ensures unmarked { OnErr result (parts.new.items ≡ parts.old.items) }
+    {
+        let marks = spans_of(*parts.allocator(), self)?;
+        let before = parts.as_slice().len();
+        parts.extend_from_slice(marks.as_slice())?;
+        match write_pieces(self, sink) {
+            Ok(()) => Ok(()),
+            Err(refusal) => {
+                parts.truncate(before);
+                Err(refusal)
+            }
+        }
+    }
+
+    // The pieces in order.
+    pub(super) fn pieces(&self) -> PieceWalk<'a>
+        ensures { pieces_left result ≡ pieces_of self.now }
+    {
+        PieceWalk::new(self.parts, self.variants, self.pattern, self.separator)
+    }
+}
+
+impl fmt::Display for LanguageIdentifierDisplayNameBorrowed<'_> {
+    ghost output = { λ n. Some (text_of (pieces_of n)) };
+
+    fn fmt<W: fmt::Write>(&self, f: &mut fmt::Formatter<W>) -> fmt::Result {
+        format_pieces(self, f)
+    }
+}

@@ -1,0 +1,35 @@
+//! What rows of calls and answers cannot say: refused memory, readers and writers that fail, providers that refuse,
+//! borrowed walks, long texts and whole runs, of all crates. A crate that has tests is proved twice, so that they stand
+//! here and in no other.
+//!
+//! They are run by `rt test`, or by the gate; those in `memory` fail under `rt try --test`.
+#![tactic(auto)]
+
+#[cfg(test)]
+mod constructors;
+#[cfg(test)]
+mod faults;
+#[cfg(test)]
+mod languages;
+#[cfg(test)]
+mod maps;
+#[cfg(test)]
+mod memory;
+#[cfg(test)]
+mod program;
+#[cfg(test)]
+mod providers;
+#[cfg(test)]
+mod refusing;
+#[cfg(test)]
+mod shown;
+#[cfg(test)]
+mod sizes;
+#[cfg(test)]
+mod streams;
+#[cfg(test)]
+mod tables;
+#[cfg(test)]
+mod texts;
+#[cfg(test)]
+mod walks;

@@ -1,0 +1,142 @@
+//! Names of identifiers.
+use crate::languages::{RAW, english, named, patterns};
+use crate::memory::budget::{Answered, Call, HeldWriter, by_budget, take_all};
+use crate::refusing::{refusal, willing};
+use icu_locale_core::LanguageIdentifier;
+use icu_locale_lines::sample;
+use icu_locale_names::{
+    DisplayNamesPreferences, LanguageIdentifierDisplayNameBorrowed, NameChain, NameWriteError,
+};
+use icu_provider::{DataError, DataErrorKind, NameMarker};
+use icu_tables::Tables;
+use std::alloc::Global;
+use std::test::Fail;
+
+// What a name of two variants answers where no memory is left and names of one marker are refused.
+fn without_memory(
+    alloc: Global,
+    tables: &Tables,
+    subject: &LanguageIdentifier,
+    marker: NameMarker,
+) -> Result<Option<DataError>, Fail> {
+    let mut provider = willing(tables);
+    provider.names = refusal(DataErrorKind::Custom);
+    provider.names_at = Some(marker);
+    let of = english()?;
+    let held = take_all(alloc)?;
+    let refused = named(alloc, &provider, of, subject, NameChain::Light).err();
+    drop(held);
+    Ok(refused)
+}
+
+#[test]
+fn memory_lacks_only_where_no_part_is_refused(rt: HostRuntime) -> Result<(), Fail> {
+    let tables = patterns(rt.alloc())?;
+    let two = LanguageIdentifier::try_from_str(rt.alloc(), "it-Latn-US-fonipa-posix")?;
+    let one = LanguageIdentifier::try_from_str(rt.alloc(), "it-Latn-US-fonipa")?;
+    let region = NameMarker::RegionMediumLight;
+    let variant = NameMarker::VariantMediumHeavy;
+    let short = NameMarker::RegionShortTiny;
+    assert!(rt;
+        without_memory(rt.alloc(), &tables, &two, region)? == refusal(DataErrorKind::Custom)
+    );
+    assert!(rt;
+        without_memory(rt.alloc(), &tables, &two, variant)? == refusal(DataErrorKind::Custom)
+    );
+    assert!(rt;
+        without_memory(rt.alloc(), &tables, &two, short)? == refusal(DataErrorKind::Memory)
+    );
+    assert!(rt; without_memory(rt.alloc(), &tables, &one, short)?.is_none());
+    Ok(())
+}
+
+fn written_without_memory(
+    alloc: Global,
+    name: LanguageIdentifierDisplayNameBorrowed<'_>,
+) -> Result<(Option<NameWriteError>, usize, usize), Fail> {
+    let mut sink = HeldWriter::new(64);
+    let mut parts = Vec::new(alloc);
+    let held = take_all(alloc)?;
+    let refused = name.try_write_to_parts(&mut sink, &mut parts).err();
+    drop(held);
+    Ok((refused, sink.written().len(), parts.len()))
+}
+
+#[test]
+fn spans_that_find_no_room(rt: HostRuntime) -> Result<(), Fail> {
+    let tables = patterns(rt.alloc())?;
+    let subject = LanguageIdentifier::try_from_str(rt.alloc(), "tlh-Qabc-150")?;
+    let name = named(rt.alloc(), &tables, english()?, &subject, NameChain::Light)?;
+    let (refused, taken, spans) = written_without_memory(rt.alloc(), name.as_borrowed())?;
+    assert!(rt; refused == Some(NameWriteError::Memory) && taken == 0 && spans == 0);
+    Ok(())
+}
+
+// Writing a name, with the spans of its raw subtags.
+#[derive(Drop)]
+struct WriteName<'n> {
+    name: LanguageIdentifierDisplayNameBorrowed<'n>,
+    text: &'n str,
+    spans: &'n [(usize, usize)],
+}
+
+impl Call for WriteName<'_> {
+    // Where no room is found for the spans, nothing is written.
+    fn answer(&self, alloc: Global) -> Answered {
+        let mut sink = HeldWriter::new(64);
+        let mut parts = Vec::new(alloc);
+        let written = self.name.try_write_to_parts(&mut sink, &mut parts);
+        let is_text = sink.written() == self.text.as_bytes();
+        match written {
+            Ok(Err(_)) if is_text && parts.as_slice() == self.spans => Answered::Whole,
+            Err(NameWriteError::Memory) if parts.is_empty() && sink.written().is_empty() => {
+                Answered::Refused
+            }
+            _ => Answered::Wrong,
+        }
+    }
+}
+
+// Making a name, and writing it.
+#[derive(Drop)]
+struct MakeName<'t> {
+    tables: &'t Tables,
+    subject: &'t LanguageIdentifier,
+    of: DisplayNamesPreferences,
+    text: &'t str,
+    spans: &'t [(usize, usize)],
+}
+
+impl Call for MakeName<'_> {
+    fn answer(&self, alloc: Global) -> Answered {
+        match named(alloc, self.tables, self.of, self.subject, NameChain::Light) {
+            Ok(name) => {
+                let call = WriteName {
+                    name: name.as_borrowed(),
+                    text: self.text,
+                    spans: self.spans,
+                };
+                call.answer(alloc)
+            }
+            Err(refusal) if refusal.kind == DataErrorKind::Memory => Answered::Refused,
+            Err(_) => Answered::Wrong,
+        }
+    }
+}
+
+#[test]
+fn names_at_every_budget(rt: HostRuntime) -> Result<(), Fail> {
+    let tables = sample(rt.alloc())?;
+    for (subject, text, spans) in &RAW {
+        let subject = LanguageIdentifier::try_from_str(rt.alloc(), subject)?;
+        let call = MakeName {
+            tables: &tables,
+            subject: &subject,
+            of: english()?,
+            text,
+            spans,
+        };
+        assert!(rt; by_budget(rt.alloc(), &call)?.is_good());
+    }
+    Ok(())
+}

@@ -1,0 +1,156 @@
+//! Runs of the program: whole lines alone are written.
+use crate::memory::budget::{Answered, Call, HeldWriter, at_budget, by_budget};
+use icu_locale_lines::{
+    CliError, Command, LineCommand, SAMPLE, Status, Transform, run, run_buffered, run_json, sample,
+};
+use icu_tables::Tables;
+use std::alloc::Global;
+use std::test::Fail;
+
+// Commands, inputs, and what is written where there is memory.
+const RUNS: [(Command, &str, &str); 4] = [
+    (
+        Command::Lines(LineCommand::Transform(Transform::Maximize)),
+        "zh-CN\nEN_us\n\n",
+        "zh-Hans-CN\tM\nen-Latn-US\tM\n?\tInvalidLanguage\n",
+    ),
+    (
+        Command::Lines(LineCommand::Transform(Transform::Maximize)),
+        "zh-CN\nEN_us-posix\n\n",
+        "zh-Hans-CN\tM\nen-Latn-US-posix\tM\n?\tInvalidLanguage\n",
+    ),
+    (
+        Command::Lines(LineCommand::Canonicalize),
+        "sh-posix\tabcdefg\nja\nja\tab\n",
+        "sr-Latn-posix\txyz\tM\nja\tU\n?\tInvalidSubtag\n",
+    ),
+    (
+        Command::Lines(LineCommand::Negotiate),
+        "en-US-posix zh-Hant yue-CN\nfr zh-TW\nen-1abc en-posix\ne\n",
+        "1\tzh-Hant\n1\ten-US-posix\n?\tInvalidLanguage\n",
+    ),
+];
+
+// How a run ended: whole, or with whole lines alone.
+fn ended(ended: Result<Status, CliError>, writer: &HeldWriter, answers: &str) -> Answered {
+    let written = writer.written();
+    let whole_lines = written.last().copied().unwrap_or(b'\n') == b'\n';
+    match ended {
+        Ok(Status::Refused) if written == answers.as_bytes() => Answered::Whole,
+        Err(CliError::Memory) if whole_lines && answers.as_bytes().starts_with(written) => {
+            Answered::Refused
+        }
+        _ => Answered::Wrong,
+    }
+}
+
+// A run over tables.
+#[derive(Drop)]
+struct Run<'r> {
+    tables: &'r Tables,
+    row: &'r (Command, &'r str, &'r str),
+}
+
+impl Call for Run<'_> {
+    fn answer(&self, alloc: Global) -> Answered {
+        let (command, input, answers) = self.row;
+        let mut writer = HeldWriter::new(128);
+        let mut reader = input.as_bytes();
+        let status = run(alloc, command, self.tables, &mut reader, &mut writer);
+        ended(status, &writer, answers)
+    }
+}
+
+// A run over the tables of its first line.
+#[derive(Drop)]
+struct RunJson<'r> {
+    command: &'r Command,
+    text: &'r str,
+    answers: &'r str,
+}
+
+impl Call for RunJson<'_> {
+    fn answer(&self, alloc: Global) -> Answered {
+        let mut writer = HeldWriter::new(128);
+        let mut reader = self.text.as_bytes();
+        let status = run_json(alloc, self.command, &mut reader, &mut writer);
+        ended(status, &writer, self.answers)
+    }
+}
+
+#[test]
+fn a_run_writes_whole_lines(rt: HostRuntime) -> Result<(), Fail> {
+    let tables = sample(rt.alloc())?;
+    for row in &RUNS {
+        let (command, input, answers) = row;
+        let tables = &tables;
+        assert!(rt; by_budget(rt.alloc(), &Run { tables, row })?.is_good());
+        let text = format!(in rt.alloc(); "{SAMPLE}\n{input}")?;
+        let text = text.as_str();
+        let of_text = RunJson {
+            command,
+            text,
+            answers,
+        };
+        assert!(rt; by_budget(rt.alloc(), &of_text)?.is_good());
+    }
+    Ok(())
+}
+
+// A run whose output is kept in a buffer, and of whose lines the last takes more memory than anything before it.
+#[derive(Drop)]
+struct BufferedRun<'r> {
+    input: &'r str,
+}
+
+const FIRST: &str = "en-Latn-US\tM\n";
+
+const BOTH: &str = "en-Latn-US\tM\n?\tInvalidSubtag\n";
+
+impl Call for BufferedRun<'_> {
+    // Where the last line finds no memory, the one before is written out.
+    fn answer(&self, alloc: Global) -> Answered {
+        let mut writer = HeldWriter::new(128);
+        let mut reader = self.input.as_bytes();
+        let ended = run_buffered(
+            alloc,
+            &Command::Lines(LineCommand::Transform(Transform::Maximize)),
+            true,
+            &mut reader,
+            &mut writer,
+        );
+        match ended {
+            Ok(Status::Refused) if writer.written() == BOTH.as_bytes() => Answered::Whole,
+            Err(CliError::Memory) if writer.written() == FIRST.as_bytes() => Answered::Partly,
+            Err(CliError::Memory) if writer.written().is_empty() => Answered::Refused,
+            _ => Answered::Wrong,
+        }
+    }
+}
+
+// Small tables and two lines, of which the last has variants, and at its end a piece that is none.
+fn two_lines(alloc: Global) -> Result<String, Fail> {
+    let mut text = String::from_str(
+        alloc,
+        "{\"likely_language\":{\"und\":[\"en\",\"Latn\",\"US\"],\"language\":{\"en\":[\"Latn\",\"US\"]}},\
+        \"likely_script_region\":{}}\nen\nen",
+    )?;
+    for variant in 1_000..2_500_u16 {
+        write!(text, "-{variant}")?;
+    }
+    text.push_str("-x\n")?;
+    Ok(text)
+}
+
+#[test]
+fn a_run_that_ends_early_writes_out_its_lines(rt: HostRuntime) -> Result<(), Fail> {
+    let input = two_lines(rt.alloc())?;
+    let call = BufferedRun {
+        input: input.as_str(),
+    };
+    // all but the list of the last line's variants has room
+    assert!(rt; at_budget(rt.alloc(), &call, 32_768)? == Answered::Partly);
+    assert!(rt; at_budget(rt.alloc(), &call, 16)? == Answered::Refused);
+    assert!(rt; call.answer(rt.alloc()) == Answered::Whole);
+    Ok(())
+}

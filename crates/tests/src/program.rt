@@ -1,0 +1,276 @@
+//! Runs of the program: words, input, and what is written, with its status.
+use icu_locale_core::ParseError;
+use icu_locale_lines::{
+    CliError, Command, LineCommand, SAMPLE, Status, Transform, run, run_json, sample,
+};
+use icu_provider::{DataError, DataErrorKind};
+use icu_tables::{TableError, Tables};
+use std::alloc::Global;
+use std::process::Abort;
+use std::test::Fail;
+
+// A line a row: words, input, output, and 0, 1 or the words of the refusal. Spaces round a bar say nothing; `\n`, `\t` and
+// `\r` are what they are in a text of Rust, and `\s` is a space.
+const RUNS: &str = r#"
+maximize | zh-CN\nund-SA\n | zh-Hans-CN\tM\nar-Arab-SA\tM\n | 0
+maximize | zh-CN\nEN_us\n\n | zh-Hans-CN\tM\nen-Latn-US\tM\n?\tInvalidLanguage\n | 1
+maximize | ar\nde\nen\nhy\nyue\nzh\nyue-Hans\nzh-Hant\nyue-CN\nzh-TW\nund-Arab\nund-SA\nund-US\nund-Latn\nund-Latn-US\nund\n | ar-Arab-EG\tM\nde-Latn-DE\tM\nen-Latn-US\tM\nhy-Armn-AM\tM\nyue-Hant-HK\tM\nzh-Hans-CN\tM\nyue-Hans-CN\tM\nzh-Hant-TW\tM\nyue-Hans-CN\tM\nzh-Hant-TW\tM\nar-Arab-EG\tM\nar-Arab-SA\tM\nen-Latn-US\tM\nen-Latn-US\tM\nen-Latn-US\tM\nund\tU\n | 0
+maximize | zh-CN\r\n | ?\tInvalidSubtag\n | 1
+maximize | | | 0
+maximize | en-\nde | ?\tInvalidSubtag\nde-Latn-DE\tM\n | 1
+maximize | e\nengl\n-\nLatn-US\n | ?\tInvalidLanguage\n?\tInvalidLanguage\n?\tInvalidLanguage\n?\tInvalidLanguage\n | 1
+maximize | en--US\nen-US\s\nen-ab1\n | ?\tInvalidSubtag\n?\tInvalidSubtag\n?\tInvalidSubtag\n | 1
+maximize | en-abcdefghi\nen-abcde-abcd\nen-ABCDE-abcde\n | ?\tInvalidSubtag\n?\tInvalidSubtag\n?\tInvalidSubtag\n | 1
+maximize | en-1abc\nen-abcd\nDE_1996-1901\n | en-Latn-US-1abc\tM\nen-Abcd-US\tM\nde-Latn-DE-1901-1996\tM\n | 0
+minimize | zh-Hans-CN\nyue-Hans | zh\tM\nyue-CN\tM\n | 0
+minimize-script | yue-Hans\nzh-TW\n | yue-Hans\tU\nzh-Hant\tM\n | 0
+canonicalize | sgn-DD\nsh\nja\n | gsg\tM\nsr-Latn\tM\nja\tU\n | 0
+canonicalize | sh\tabcdefg\nja\t\nja\tab\n | sr-Latn\txyz\tM\nja\t\tU\n?\tInvalidSubtag\n | 1
+canonicalize | en\tABCDEFG_uvw\nen\ttrue\nja\tXYZ | en\tabcdefg-uvw\tU\nen\t\tU\nja\txyz\tU\n | 0
+canonicalize | en\tPIECE000_PIECE001_PIECE002_PIECE003_PIECE004_PIECE005_PIECE006_PIECE007_PIECE008_PIECE009_PIECE010_PIECE011_PIECE012_PIECE013_PIECE014_PIECE015_PIECE016_PIECE017_PIECE018_PIECE019\n | en\tpiece000-piece001-piece002-piece003-piece004-piece005-piece006-piece007-piece008-piece009-piece010-piece011-piece012-piece013-piece014-piece015-piece016-piece017-piece018-piece019\tU\n | 0
+canonicalize | e\tab\n\tabc\nen-\tabc\nen\tabc\tabc\nen\t\t\n | ?\tInvalidLanguage\n?\tInvalidLanguage\n?\tInvalidSubtag\n?\tInvalidSubtag\n?\tInvalidSubtag\n | 1
+maximize | en\tabc\nen-US\tabc\n | ?\tInvalidLanguage\n?\tInvalidSubtag\n | 1
+direction | en-US\t\n | ?\tInvalidSubtag\n | 1
+name light en | it-US\tabc\n | ?\tInvalidSubtag\n | 1
+negotiate | en\nen-US\tabc\n | ?\tInvalidSubtag\n | 1
+direction | en-Arab\nar\nund\n | rtl\nrtl\nnone\n | 0
+settled | never read | yes\n | 0
+negotiate | en-US zh-Hant yue-CN\nzh-TW\nfr yue-Hans\nund-US\n | 0\tzh-Hant\n1\tyue-CN\n0\ten-US\n | 0
+negotiate | en-US zh-Hant yue-CN\nen-fonipa\n\n | none\nnone\n | 0
+negotiate | en-US zh-Hant yue-CN\nen e\nen  de\nzh-TW de-DE-\nzh_tw | ?\tInvalidLanguage\n?\tInvalidLanguage\n?\tInvalidSubtag\n0\tzh-Hant\n | 1
+negotiate | en en-US en-Latn\nen-US\n | 0\ten\n | 0
+negotiate | de en\nen de\n | 0\ten\n | 0
+negotiate | en-\nen\n | | available: InvalidSubtag
+negotiate | en\s\nen\n | | available: InvalidLanguage
+negotiate | \nen\n | none\n | 0
+negotiate | | | 0
+maximize json | {} | | data: IdentifierNotFound
+canonicalize json | {"likely_language":{"und":["en","Latn","US"]},"likely_script_region":{}}\n | | data: IdentifierNotFound
+direction json | {"likely_language":{"und":["en","Latn","US"]},"likely_script_region":{}}\n | | data: IdentifierNotFound
+settled json | {}\n | | data: IdentifierNotFound
+maximize json | | | tables: Json
+maximize json | {"colour":1}\nen\n | | tables: Shape
+settled json | {"likely_language":{"und":["en","Latn","US"],"language":{"xx":["Zzzz","DE"]}},"likely_script_region":{}}\n | no\n | 0
+settled json | {"likely_language":{"und":["en","Latn","US"]},"likely_script_region":{}}\n | yes\n | 0
+negotiate json | {}\nen\n | | data: IdentifierNotFound
+negotiate json | {"likely_language":{"und":["en","Latn","US"],"language":{"xx":["Zzzz","DE"]}},"likely_script_region":{}}\n | | tables not settled
+negotiate json | {"likely_language":{"und":["en","Latn","US"]},"likely_script_region":{}}\nde en-Latn-US\nfr und-US\n | 1\ten-Latn-US\n | 0
+maximize json | {"likely_language":{"und":["en","Latn","US"]},"likely_script_region":{},"likely_extended":{"language":{"az":["Latn","AZ"]}},"aliases":{"language_len2":{"aa":"bb","bb":"aa"}},"direction":{"ltr":["Latn"]}}\naz\naa\n | az-Latn-AZ\tM\naa\tU\n | 0
+minimize json | {"likely_language":{"und":["en","Latn","US"]},"likely_script_region":{},"likely_extended":{"language":{"az":["Latn","AZ"]}},"aliases":{"language_len2":{"aa":"bb","bb":"aa"}},"direction":{"ltr":["Latn"]}}\naz\naa\n | az\tU\naa\tU\n | 0
+canonicalize json | {"likely_language":{"und":["en","Latn","US"]},"likely_script_region":{},"likely_extended":{"language":{"az":["Latn","AZ"]}},"aliases":{"language_len2":{"aa":"bb","bb":"aa"}},"direction":{"ltr":["Latn"]}}\naz\naa\n | az\tU\n?\tNoFixedPoint\n | 1
+canonicalize json | {"likely_language":{"und":["en","Latn","US"]},"likely_script_region":{},"aliases":{"language_len2":{"aa":"aa"},"subdivision":{"aaa":"bbb","bbb":"ccc","ccc":"bbb","ddd":"eee","eee":"fff"}}}\nen\taaa\nen\tddd\naa\taaa\naa\tab\nen\n | ?\tNoSubdivisionFixedPoint\nen\tfff\tM\n?\tNoFixedPoint\n?\tInvalidSubtag\nen\tU\n | 1
+direction json | {"likely_language":{"und":["en","Latn","US"]},"likely_script_region":{},"likely_extended":{"language":{"az":["Latn","AZ"]}},"aliases":{"language_len2":{"aa":"bb","bb":"aa"}},"direction":{"ltr":["Latn"]}}\naz\naa\n | ltr\nnone\n | 0
+| | | usage: icu_locale_cli COMMAND [json]
+Maximize | | | usage: icu_locale_cli COMMAND [json]
+maximize JSON | | | usage: icu_locale_cli COMMAND [json]
+name tiny en | en-US\n | English (US)\tR\n | 0
+name light en | it-Qabc-150\n | Italian (Qabc, Europe)\tR\n | 0
+name light EN | it\ne\nit-Latn-fonipa-posix\n | Italian\tN\n?\tInvalidLanguage\nItalian (Latin, IPA Phonetics, posix)\tR\n | 1
+name light zh | it\n | ?\tIdentifierNotFound\n | 1
+name short-light en | en-US\n | US English\tN\n | 0
+name long-light en | en-US | English (United States)\tN\n | 0
+name menu-light en | ku-Latn\n | Kurdish (Kurmanji, Latin)\tN\n | 0
+name short-menu-light en | en-US\n | English (US)\tN\n | 0
+name heavy en | ku-Latn\n | Kurdish (Latin)\tN\n | 0
+name short-heavy en | en-US\n | US English\tN\n | 0
+name long-heavy en | ku\n | Kurdish\tN\n | 0
+name menu-heavy en | ku\n | Kurdish (Kurmanji)\tN\n | 0
+name short-menu-heavy en | en-US\n | English (US)\tN\n | 0
+name light en json | {}\nit\n | ?\tIdentifierNotFound\n | 1
+name light en json | {"essentials":{"en":{"pattern":[0," (",1,")"],"separator":[0,", ",1]}}}\nit\n | it\tR\n | 0
+name light en-fonipa | | | usage: icu_locale_cli COMMAND [json]
+name light | | | usage: icu_locale_cli COMMAND [json]
+name lighter en | | | usage: icu_locale_cli COMMAND [json]
+name light json | | | usage: icu_locale_cli COMMAND [json]
+light en | | | usage: icu_locale_cli COMMAND [json]
+maximize json json | | | usage: icu_locale_cli COMMAND [json]
+"#;
+
+struct Row {
+    words: String,
+    input: String,
+    output: String,
+    status: String,
+}
+
+impl Drop for Row {
+    fn drop(self) {
+        let Row {
+            words: _,
+            input: _,
+            output: _,
+            status: _,
+        } = self;
+    }
+}
+
+fn read_row(alloc: Global, line: &str) -> Result<Row, Fail> {
+    let mut fields = line.split('|');
+    Ok(Row {
+        words: field(alloc, fields.next())?,
+        input: field(alloc, fields.next())?,
+        output: field(alloc, fields.next())?,
+        status: field(alloc, fields.next())?,
+    })
+}
+
+fn field(alloc: Global, text: Option<&str>) -> Result<String, Fail> {
+    let mut parts = text.unwrap_or("").trim().split('\\');
+    let mut field = String::from_str(alloc, parts.next().unwrap_or(""))?;
+    for part in parts {
+        unescape(&mut field, part)?;
+    }
+    Ok(field)
+}
+
+// What stands behind a backslash.
+fn unescape(field: &mut String, part: &str) -> Result<(), Fail> {
+    let Some((name, rest)) = part.split_at_checked(1) else {
+        return Err(Fail::new("nothing stands behind a backslash"));
+    };
+    let character = match name {
+        "n" => '\n',
+        "t" => '\t',
+        "r" => '\r',
+        "s" => ' ',
+        _ => return Err(Fail::new("no such escape")),
+    };
+    field.push(character)?;
+    field.push_str(rest)?;
+    Ok(())
+}
+
+/// The command of words.
+pub fn command(alloc: Global, words: &str) -> Result<Result<(Command, bool), CliError>, Fail> {
+    let mut list = Vec::new(alloc);
+    for word in words.split_whitespace() {
+        list.push(String::from_str(alloc, word)?)?;
+    }
+    Ok(Command::from_words(alloc, &list))
+}
+
+// The status of a run, or the words of its refusal.
+fn told(alloc: Global, ended: Result<Status, CliError>) -> Result<String, Fail> {
+    Ok(match ended {
+        Ok(Status::Accepted) => String::from_str(alloc, "0")?,
+        Ok(Status::Refused) => String::from_str(alloc, "1")?,
+        Err(refusal) => format!(in alloc; "{refusal}")?,
+    })
+}
+
+fn ended(
+    alloc: Global,
+    tables: &Tables,
+    words: &str,
+    input: &str,
+    written: &mut Vec<u8>,
+) -> Result<Result<Status, CliError>, Fail> {
+    let mut reader = input.as_bytes();
+    Ok(match command(alloc, words)? {
+        Ok((command, true)) => run_json(alloc, &command, &mut reader, written),
+        Ok((command, false)) => run(alloc, &command, tables, &mut reader, written),
+        Err(refusal) => Err(refusal),
+    })
+}
+
+fn one_run(rt: &impl Abort, alloc: Global, tables: &Tables, line: &str) -> Result<(), Fail> {
+    let row = read_row(alloc, line)?;
+    let mut written = Vec::new(alloc);
+    let ended = ended(alloc, tables, &row.words, &row.input, &mut written)?;
+    assert_eq!(rt; written.as_slice(), row.output.as_bytes(), "at {line}");
+    assert_eq!(rt; told(alloc, ended)?, row.status, "at {line}");
+    Ok(())
+}
+
+#[test]
+fn runs(rt: HostRuntime) -> Result<(), Fail> {
+    let tables = sample(rt.alloc())?;
+    for line in RUNS.lines() {
+        if !line.is_empty() {
+            one_run(&rt, rt.alloc(), &tables, line)?;
+        }
+    }
+    Ok(())
+}
+
+// What a run over the sample gives, a run over the sample's text gives too.
+fn one_run_by_text(rt: &impl Abort, alloc: Global, line: &str) -> Result<(), Fail> {
+    let row = read_row(alloc, line)?;
+    let Ok((command, false)) = command(alloc, &row.words)? else {
+        return Ok(());
+    };
+    let text = format!(in alloc; "{SAMPLE}\n{}", row.input)?;
+    let mut written = Vec::new(alloc);
+    let ended = run_json(alloc, &command, &mut text.as_bytes(), &mut written);
+    assert_eq!(rt; written.as_slice(), row.output.as_bytes(), "at {line}");
+    assert_eq!(rt; told(alloc, ended)?, row.status, "at {line}");
+    Ok(())
+}
+
+#[test]
+fn runs_over_the_text_of_the_sample(rt: HostRuntime) -> Result<(), Fail> {
+    for line in RUNS.lines() {
+        if !line.is_empty() {
+            one_run_by_text(&rt, rt.alloc(), line)?;
+        }
+    }
+    Ok(())
+}
+
+// A run over the sample, of whose lines some are refused.
+fn refused_run(
+    rt: &impl Abort,
+    alloc: Global,
+    command: &Command,
+    mut input: &[u8],
+    output: &[u8],
+) -> Result<(), Fail> {
+    let tables = sample(alloc)?;
+    let mut written = Vec::new(alloc);
+    let ended = run(alloc, command, &tables, &mut input, &mut written);
+    assert!(rt; ended == Ok(Status::Refused));
+    assert_eq!(rt; written.as_slice(), output);
+    Ok(())
+}
+
+#[test]
+fn bytes_past_ascii(rt: HostRuntime) -> Result<(), Fail> {
+    refused_run(
+        &rt,
+        rt.alloc(),
+        &Command::Lines(LineCommand::Transform(Transform::Maximize)),
+        b"en-\xff\n\xff",
+        b"?\tInvalidSubtag\n?\tInvalidLanguage\n",
+    )?;
+    refused_run(
+        &rt,
+        rt.alloc(),
+        &Command::Lines(LineCommand::Canonicalize),
+        b"en\tabc-\xff\n\xff\tabc",
+        b"?\tInvalidSubtag\n?\tInvalidLanguage\n",
+    )
+}
+
+#[test]
+fn words_of_refusals(rt: HostRuntime) -> Result<(), Fail> {
+    let custom = DataError {
+        kind: DataErrorKind::Custom,
+    };
+    for (refusal, want) in [
+        (CliError::Usage, "usage: icu_locale_cli COMMAND [json]"),
+        (CliError::Tables(TableError::Json), "tables: Json"),
+        (CliError::Tables(TableError::Shape), "tables: Shape"),
+        (CliError::Data(custom), "data: Custom"),
+        (CliError::Read, "read failed"),
+        (CliError::Write, "write failed"),
+        (CliError::Memory, "no memory"),
+        (
+            CliError::Available(ParseError::InvalidSubtag),
+            "available: InvalidSubtag",
+        ),
+        (CliError::NotSettled, "tables not settled"),
+    ] {
+        assert_eq!(rt; format!(in rt.alloc(); "{refusal}")?.as_str(), want);
+    }
+    Ok(())
+}

@@ -1,0 +1,123 @@
+//! Walks over the tables of the sample.
+use crate::languages::english;
+use icu_locale_core::{Language, Region, Script, Subtag, Variant};
+use icu_locale_lines::sample;
+use icu_provider::{
+    Aliases, DataProvider, ExemplarCharactersData, ExemplarMarker, ScriptDirection,
+};
+use icu_tables::Tables;
+use std::process::Abort;
+use std::test::Fail;
+
+fn lists_of_aliases(rt: &impl Abort, held: &Aliases) {
+    let [by_variants] = held.language_variants() else {
+        assert!(rt; false);
+        return;
+    };
+    assert!(rt; by_variants.0 == Language::UNKNOWN);
+    let texts = [by_variants.1.as_str(), by_variants.2.as_str()];
+    assert!(rt; texts == ["heploc-hepburn", "und-alalc97"]);
+    let [by_language] = held.language() else {
+        assert!(rt; false);
+        return;
+    };
+    assert!(rt; [by_language.0.as_str(), by_language.1.as_str()] == ["und-DD", "und-DE"]);
+}
+
+fn maps_of_aliases(rt: &impl Abort, held: &Aliases) -> Result<(), Fail> {
+    let germany = Region::try_from_str("DE")?;
+    let german_sign = Language::try_from_str("gsg")?;
+    assert!(rt; held.get_sgn_region(germany) == Some(german_sign));
+    let former = Region::try_from_str("SU")?;
+    let parts = [Region::try_from_str("RU")?, Region::try_from_str("AM")?];
+    assert!(rt; held.get_complex_region(former) == Some(parts.as_slice()));
+    let polytoni = Variant::try_from_str("polytoni")?;
+    let polyton = Variant::try_from_str("polyton")?;
+    assert!(rt; held.get_variant(polytoni) == Some(polyton));
+    Ok(())
+}
+
+fn texts_of_aliases(rt: &impl Abort, held: &Aliases) -> Result<(), Fail> {
+    let serbo_croatian = Language::try_from_str("sh")?;
+    assert!(rt; held.get_language_len2(serbo_croatian) == Some("sr-Latn"));
+    let subdivision = Subtag::try_from_str("abcdefg")?;
+    assert!(rt; held.get_subdivision(subdivision) == Some("xyz"));
+    Ok(())
+}
+
+// How many rows the maps of languages and scripts have.
+fn counts_of_languages(held: &Aliases) -> [usize; 4] {
+    [
+        held.iter_sgn_region().count(),
+        held.iter_language_len2().count(),
+        held.iter_language_len3().count(),
+        held.iter_script().count(),
+    ]
+}
+
+// How many rows the maps of regions have.
+fn counts_of_regions(held: &Aliases) -> [usize; 3] {
+    [
+        held.iter_region_alpha().count(),
+        held.iter_region_num().count(),
+        held.iter_complex_region().count(),
+    ]
+}
+
+fn are_aliases_of_the_sample(rt: &impl Abort, held: &Aliases) -> Result<(), Fail> {
+    lists_of_aliases(rt, held);
+    maps_of_aliases(rt, held)?;
+    texts_of_aliases(rt, held)?;
+    assert!(rt; counts_of_languages(held) == [1, 1, 0, 0]);
+    assert!(rt; counts_of_regions(held) == [0, 0, 1]);
+    assert!(rt; [held.iter_variant().count(), held.iter_subdivision().count()] == [1, 1]);
+    Ok(())
+}
+
+#[test]
+fn aliases_of_the_sample(rt: HostRuntime) -> Result<(), Fail> {
+    let tables = sample(rt.alloc())?;
+    let held = tables.load_aliases()?;
+    are_aliases_of_the_sample(&rt, held)
+}
+
+// Which scripts run which way: none both ways.
+fn are_directions_of_the_sample(rt: &impl Abort, held: &ScriptDirection) -> Result<(), Fail> {
+    for script in ["Latn", "Hans", "Hant", "Armn"] {
+        let script = Script::try_from_str(script)?;
+        assert!(rt; held.is_ltr(script) && !held.is_rtl(script));
+    }
+    for script in ["Arab", "Hebr"] {
+        let script = Script::try_from_str(script)?;
+        assert!(rt; held.is_rtl(script) && !held.is_ltr(script));
+    }
+    let other = Script::try_from_str("Grek")?;
+    assert!(rt; !held.is_rtl(other) && !held.is_ltr(other));
+    Ok(())
+}
+
+fn are_exemplars_of_the_sample(rt: &impl Abort, held: &ExemplarCharactersData) {
+    assert!(rt; ('a'..='z').all(|character| held.contains(character)));
+    assert!(rt; !held.contains('`') && !held.contains('{') && !held.contains('A'));
+    assert!(rt; held.contains_str("ng") && !held.contains_str("") && !held.contains_str("gn"));
+}
+
+// How many rows there are of exemplar sets, names, names in menus and patterns.
+fn counts_of_names(held: &Tables) -> [usize; 4] {
+    [
+        held.exemplars.len(),
+        held.names.len(),
+        held.menus.len(),
+        held.essentials.len(),
+    ]
+}
+
+#[test]
+fn directions_and_exemplars_of_the_sample(rt: HostRuntime) -> Result<(), Fail> {
+    let tables = sample(rt.alloc())?;
+    are_directions_of_the_sample(&rt, tables.load_script_direction()?)?;
+    let set = tables.load_exemplars(ExemplarMarker::Main, english()?.locale)?;
+    are_exemplars_of_the_sample(&rt, set);
+    assert!(rt; counts_of_names(&tables) == [1, 9, 1, 1]);
+    Ok(())
+}
