@@ -1,4 +1,5 @@
 mod CommandWords
+mod FirstLines
 mod LineAnswers
 mod LineCuts
 mod ListReading
@@ -7,3 +8,5 @@ mod LocaleLines
 mod OneAnswer
 mod Progress
 mod RunEnds
+mod StreamEnds
+mod Streaming

@@ -9,6 +9,7 @@ pub mod Names
 pub mod Negotiations
 pub mod Output
 pub mod Runs
+pub mod Streams
 pub mod Texts
 pub mod WholeRuns
 pub mod Works

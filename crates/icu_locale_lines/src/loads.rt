@@ -135,7 +135,7 @@ fn load_canonicalizer<'d>(
 }
 
 // The negotiator over settled tables and the identifiers that a line lists.
-fn list_available<'d>(
+pub fn list_available<'d>(
     alloc: Global,
     expander: LocaleExpander<'d>,
     line: &[u8],

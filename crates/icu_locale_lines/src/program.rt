@@ -1,12 +1,14 @@
-//! A run by the words of a command, over a sink that a buffer stands before.
+//! Runs and streams by the words of a command, over a sink that a buffer stands before.
 
 use crate::command::Command;
 use crate::error::CliError;
 use crate::runs::{run, run_json};
 use crate::sample_tables::sample;
 use crate::status::Status;
+use crate::streams::{stream, stream_json};
 use std::alloc::Global;
 use std::io::{BufWriter, Read, Write};
+use std::{env, io};
 
 /// Asks the words, and then does as `run_buffered`. Tests show what it does.
 ///
@@ -54,4 +56,59 @@ fn run_over_sample<R: Read, W: Write>(
 ) -> Result<Status, CliError> {
     let tables = sample(alloc)?;
     run(alloc, command, &tables, reader, writer)
+}
+
+/// Asks the words, and then streams a command: over the tables of the first line where `json` stands behind it, else over
+/// the sample. What a part of the input answers is kept until more is read, and then written out; so it is at the end,
+/// whatever that is. Tests show what it does.
+///
+/// # Errors
+///
+/// `Usage` where the words are those of no command, and those of `stream` and `stream_json`; `Memory` also where no room
+/// was found for what is kept.
+pub fn stream_words<R: Read, W: Write + Drop>(
+    alloc: Global,
+    words: &[String],
+    reader: &mut R,
+    writer: W,
+) -> Result<Status, CliError> {
+    let (command, json) = Command::from_words(alloc, words)?;
+    let mut writer = BufWriter::new(alloc, writer).map_err(|_| CliError::Memory)?;
+    let status = if json {
+        stream_json(alloc, &command, reader, &mut writer)
+    } else {
+        stream_over_sample(alloc, &command, reader, &mut writer)
+    };
+    writer.flush().map_err(|_| CliError::Write)?;
+    status
+}
+
+fn stream_over_sample<R: Read, W: Write>(
+    alloc: Global,
+    command: &Command,
+    reader: &mut R,
+    writer: &mut W,
+) -> Result<Status, CliError> {
+    let tables = sample(alloc)?;
+    stream(alloc, command, &tables, reader, writer)
+}
+
+/// The words behind a program's name. It takes memory for them.
+///
+/// # Errors
+///
+/// `Memory` where memory was refused, and `Usage` where a word is no text.
+pub fn program_words(rt: &HostRuntime) -> Result<Vec<String>, CliError> {
+    let args = match env::args(rt) {
+        Ok(args) => args,
+        Err(refusal) if refusal.kind() == io::ErrorKind::OutOfMemory => {
+            return Err(CliError::Memory);
+        }
+        Err(_) => return Err(CliError::Usage),
+    };
+    let mut words = Vec::new(rt.alloc());
+    for word in args.skip(1) {
+        words.push(word).map_err(|_| CliError::Memory)?;
+    }
+    Ok(words)
 }

@@ -117,7 +117,7 @@ pub fn run_json<R: Read, W: Write>(
 }
 
 // The tables of a JSON text.
-fn read_tables(alloc: Global, json: &[u8]) -> Result<Tables, CliError>
+pub fn read_tables(alloc: Global, json: &[u8]) -> Result<Tables, CliError>
     ensures rows { IfOk result (λ tables. rows_in json.now ≡ Ok (rows_of tables)) }
     ensures refused { IfErr result (IsRefusedReading json.now) }
 {
@@ -164,7 +164,7 @@ fn write_lines<W: Write>(
 }
 
 // One line, `yes` or `no`.
-fn write_settled<W: Write>(tables: &Tables, writer: &mut W) -> Result<Status, CliError>
+pub fn write_settled<W: Write>(tables: &Tables, writer: &mut W) -> Result<Status, CliError>
     ensures output { IfOk result (WritesSettled tables.now (W.contents writer.old)
         (W.contents writer.new)) }
     ensures data { (result ≡ Err (CliError.Data not_found))

@@ -18,4 +18,16 @@ impl Status {
     {
         if accepted { self } else { Status::Refused }
     }
+
+    // The status of two runs, the one behind the other.
+    pub(crate) fn and(self, later: Status) -> Status
+        ensures { (result ≡ Status.Accepted)
+            ↔ ((self ≡ Status.Accepted) × (later ≡ Status.Accepted)) }
+    {
+        if self == Status::Accepted {
+            later
+        } else {
+            self
+        }
+    }
 }

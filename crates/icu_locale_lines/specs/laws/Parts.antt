@@ -82,7 +82,7 @@ lines_of_parts a b =
     ∙ append-nil (of_a.first ∷ of_a.others)))
 
 -- pairs of two lists, and then those of two others
-AllZip-append : {A B : Type 0} (P : A → B → Type 0) (xs us : List A) (ys vs : List B)
+pub AllZip-append : {A B : Type 0} (P : A → B → Type 0) (xs us : List A) (ys vs : List B)
     → AllZip P xs ys → AllZip P us vs → AllZip P (xs ++ us) (ys ++ vs)
 AllZip-append P [] us [] vs none more = more
 AllZip-append P [] us (y ∷ ys) vs each more = absurd each
@@ -91,7 +91,7 @@ AllZip-append P (x ∷ xs) us (y ∷ ys) vs each more =
     (each.0, AllZip-append P xs us ys vs each.1 more)
 
 -- what the answers to both parts tell of all lines
-all_accepted_of_parts : (p q : Bool) → ((p && q) ≡ true) ↔ ((p ≡ true) × (q ≡ true))
+pub all_accepted_of_parts : (p q : Bool) → ((p && q) ≡ true) ↔ ((p ≡ true) × (q ≡ true))
 all_accepted_of_parts true q = (λ e. (refl, e), λ both. both.1)
 all_accepted_of_parts false q = (λ e. absurd (false≢true e), λ both. absurd (false≢true both.0))
 

@@ -1,0 +1,141 @@
+-- How the ends of a stream's parts make the ends of the stream.
+use Rattle.std.proofs.Common.{◌≡◌, ◌⊎◌, ℕ, Bool, true, false, List, [], ◌∷◌, ◌++◌, Option, Some, None, Result, Ok, Err, IfOk, IfErr, inl, inr, refl, ap, sym, subst, ◌∙◌, append_assoc, append-nil}
+use Rattle.std.specs.List.{list_any}
+use Rattle.std.specs.Io.KnownBytes.{Consumes, IsAtEnd, prepend_known}
+use Rattle.std.proofs.KnownBytes.{Consumes-nil, Consumes-trans}
+use Rattle.icu_locale.specs.LikelyTable.{likely}
+use Rattle.icu_locale.specs.Negotiation.{Negotiation}
+use Rattle.icu_locale.specs.Settled.{AreSettled}
+use Rattle.icu_tables.specs.declared.tables.Tables.{Tables}
+use Rattle.icu_locale_lines.specs.declared.command.Command.TheVariants as command
+use Rattle.icu_locale_lines.specs.declared.command.LineCommand.{LineCommand}
+use Rattle.icu_locale_lines.specs.declared.command.LineCommand.TheVariants.{Negotiate}
+use Rattle.icu_locale_lines.specs.declared.error.CliError.{CliError}
+use Rattle.icu_locale_lines.specs.declared.error.CliError.TheVariants.{Usage, Data, Read, Write, Memory, Available, NotSettled}
+use Rattle.icu_locale_lines.specs.declared.error.CliError.TheVariants as error
+use Rattle.icu_locale_lines.specs.declared.status.Status.{Status}
+use Rattle.icu_locale_lines.specs.declared.status.Status.TheVariants.{Accepted}
+use Rattle.icu_locale_lines.specs.declared.work.Work.{Work}
+use Rattle.icu_locale_lines.specs.declared.work.Work.TheVariants as work
+use Rattle.icu_locale_lines.specs.Lines.{is_line_feed, first_line, after_first_line}
+use Rattle.icu_locale_lines.specs.Lists.{listed, SpellsAll}
+use Rattle.icu_locale_lines.specs.Loads.{IsExpanderOf}
+use Rattle.icu_locale_lines.specs.Output.{Stream}
+use Rattle.icu_locale_lines.specs.Runs.{ReadsAll, WritesAll}
+use Rattle.icu_locale_lines.specs.Streams.{StopsStream, StopsAmong, IsStoppedLineStream, IsRefusedLineStream, ReadsLine, ReadsTablesLine, IsJsonStream, IsRefusedJsonStream, line_end}
+use Rattle.icu_locale_lines.specs.WholeRuns.{WritesLines, WritesSettled, IsRefusedSettled, IsLineRun}
+use Rattle.icu_locale_lines.specs.Works.{IsWorkOf, text_answered}
+use Rattle.icu_locale_lines.proofs.FirstLines.{place_of_end, alone}
+use Rattle.icu_locale_lines.proofs.Streaming.{WritesAll-none}
+
+-- nothing before a reader
+pub prepend_none : (read : Stream) → prepend_known [] read ≡ read
+prepend_none None = refl
+prepend_none (Some xs) = refl
+
+-- nothing is left where a reader is at its end with what was read of it before
+ended_alone : (rest : List ℕ) (read : Stream) → IsAtEnd (prepend_known rest read) → IsAtEnd read
+ended_alone rest None end = tt
+ended_alone [] (Some xs) end = end
+ended_alone (c ∷ rest) (Some xs) end = absurd (cc)
+
+consumed_alone : (rest : List ℕ) (read start : Stream) (bs : List ℕ) → IsAtEnd (prepend_known rest read) → Consumes start (prepend_known rest read) bs → Consumes start read bs
+consumed_alone rest None start bs end all = all
+consumed_alone [] (Some xs) start bs end all = all
+consumed_alone (c ∷ rest) (Some xs) start bs end all = absurd (cc)
+
+-- the work of a negotiation whose first line lists what is available, and what it answers
+module _ (line : List ℕ) (none : list_any is_line_feed line ≡ false) where
+  pub answered_behind : (text : List ℕ) → text_answered Negotiate ((line ++ 10 ∷ []) ++ text) ≡ text
+  answered_behind text = ap after_first_line (append_assoc line (10 ∷ []) text) ∙ (place_of_end line text none).1
+
+  pub listed_behind : (t : Tables) (n : Negotiation) → IsExpanderOf t n.expander → AreSettled (likely n.expander) → SpellsAll (listed line) n.available → (text : List ℕ) → IsWorkOf Negotiate t ((line ++ 10 ∷ []) ++ text) (work.Negotiate n)
+  listed_behind t n over settled spelled text =
+      let first = ap first_line (append_assoc line (10 ∷ []) text) ∙ (place_of_end line text none).0 in
+      (over, settled, subst (λ l. SpellsAll (listed l) n.available) (sym first) spelled)
+
+  -- where the input ended with that line, nothing is answered
+  pub ended_run : (t : Tables) (n : Negotiation) → IsExpanderOf t n.expander → AreSettled (likely n.expander) → SpellsAll (listed line) n.available → (start read wrote : Stream) (rest : List ℕ) → IsAtEnd (prepend_known rest read) → Consumes start (prepend_known rest read) (line ++ []) → IsLineRun Negotiate t start read wrote wrote Accepted
+  ended_run t n over settled spelled start read wrote rest end all =
+      let whole = alone line none in (
+        line,
+        record {
+          consumed = consumed_alone rest read start line end (subst (Consumes start (prepend_known rest read)) (append-nil line) all);
+          ended = ended_alone rest read end;
+        },
+        record {
+          work = work.Negotiate n;
+          work_of = (over, settled, subst (λ l. SpellsAll (listed l) n.available) (sym whole.0) spelled);
+          all_written = subst (λ x. WritesAll (work.Negotiate n) x wrote wrote Accepted) (sym whole.1) (WritesAll-none (work.Negotiate n) wrote);
+        },
+      )
+
+-- a command whose lines follow a head
+module _ (c : LineCommand) (t : Tables) (start mid : Stream) (head : List ℕ) (head_read : Consumes start mid head) (w : Work) (work_of : (text : List ℕ) → IsWorkOf c t (head ++ text) w) (answered : (text : List ℕ) → text_answered c (head ++ text) ≡ text) (read' wrote wrote' : Stream) where
+  pub run_behind : (r : Result Status CliError) → IfOk r (λ status. (input : List ℕ) × ReadsAll mid read' input × WritesAll w input wrote wrote' status) → IfOk r (IsLineRun c t start read' wrote wrote')
+  run_behind (Err e) h = tt
+  run_behind (Ok s) (input, all, writes) = (
+    head ++ input,
+    record { consumed = Consumes-trans start mid read' head input head_read all.consumed; ended = all.ended },
+    record { work = w; work_of = work_of input; all_written = subst (λ x. WritesAll w x wrote wrote' s) (sym (answered input)) writes },
+  )
+
+  stops : (e : CliError) → StopsStream w mid read' wrote wrote' e → StopsAmong c t start read' wrote wrote' e
+  stops e h = record { head = head; mid = mid; head_read = head_read; work = w; work_of = work_of; answered = answered; stops = h }
+
+  pub stopped_behind : (r : Result Status CliError) → IfErr r (StopsStream w mid read' wrote wrote') → IfErr r (IsStoppedLineStream c t start read' wrote wrote')
+  stopped_behind (Ok s) h = tt
+  stopped_behind (Err Usage) h = absurd h
+  stopped_behind (Err (error.Tables e)) h = absurd h
+  stopped_behind (Err (Data e)) h = absurd h
+  stopped_behind (Err Read) h = inr (stops Read h)
+  stopped_behind (Err Write) h = stops Write h
+  stopped_behind (Err Memory) h = inr (stops Memory h)
+  stopped_behind (Err (Available e)) h = absurd h
+  stopped_behind (Err NotSettled) h = absurd h
+
+module _ (c : LineCommand) (t : Tables) (start left read' wrote wrote' : Stream) where
+  -- what stops once tables are loaded is no refusal for tables
+  pub refused_from_stopped : (r : Result Status CliError) → IfErr r (IsStoppedLineStream c t start read' wrote wrote') → IfErr r (IsRefusedLineStream c t start left read' wrote wrote')
+  refused_from_stopped (Ok s) h = tt
+  refused_from_stopped (Err Usage) h = absurd h
+  refused_from_stopped (Err (error.Tables e)) h = absurd h
+  refused_from_stopped (Err (Data e)) h = absurd h
+  refused_from_stopped (Err Read) h = h
+  refused_from_stopped (Err Write) h = h
+  refused_from_stopped (Err Memory) h = h
+  refused_from_stopped (Err (Available e)) h = h
+  refused_from_stopped (Err NotSettled) h = absurd h
+
+-- ---- over the tables of the first line
+
+module _ (t : Tables) (read mid read' wrote wrote' : Stream) (reads : ReadsTablesLine read mid t) where
+  pub json_settled : (r : Result Status CliError) → IfOk r (WritesSettled t wrote wrote') → IfOk r (IsJsonStream command.Settled read read' wrote wrote')
+  json_settled (Ok s) h = (t, mid, reads, h)
+  json_settled (Err e) h = tt
+
+  pub json_settled_refused : (r : Result Status CliError) → IfErr r (IsRefusedSettled t wrote wrote') → IfErr r (IsRefusedJsonStream command.Settled read read' wrote wrote')
+  json_settled_refused (Ok s) h = tt
+  json_settled_refused (Err Usage) h = absurd h
+  json_settled_refused (Err (error.Tables e)) h = absurd h
+  json_settled_refused (Err (Data e)) h = (t, mid, reads, h)
+  json_settled_refused (Err Read) h = absurd h
+  json_settled_refused (Err Write) h = (t, mid, reads, h)
+  json_settled_refused (Err Memory) h = absurd h
+  json_settled_refused (Err (Available e)) h = absurd h
+  json_settled_refused (Err NotSettled) h = absurd h
+
+  pub json_lines : (c : LineCommand) (r : Result Status CliError) → IfOk r (IsLineRun c t mid read' wrote wrote') → IfOk r (IsJsonStream (command.Lines c) read read' wrote wrote')
+  json_lines c (Ok s) h = (t, mid, reads, h)
+  json_lines c (Err e) h = tt
+
+  pub json_lines_refused : (c : LineCommand) (left : Stream) (r : Result Status CliError) → IfErr r (IsRefusedLineStream c t mid left read' wrote wrote') → IfErr r (IsRefusedJsonStream (command.Lines c) read read' wrote wrote')
+  json_lines_refused c left (Ok s) h = tt
+  json_lines_refused c left (Err Usage) h = absurd h
+  json_lines_refused c left (Err (error.Tables e)) h = absurd h
+  json_lines_refused c left (Err (Data e)) h = (t, mid, reads, (left, h))
+  json_lines_refused c left (Err Read) h = inr (t, mid, reads, (left, h))
+  json_lines_refused c left (Err Write) h = (t, mid, reads, (left, h))
+  json_lines_refused c left (Err Memory) h = inr (t, mid, reads, (left, h))
+  json_lines_refused c left (Err (Available e)) h = (t, mid, reads, (left, h))
+  json_lines_refused c left (Err NotSettled) h = (t, mid, reads, (left, h))

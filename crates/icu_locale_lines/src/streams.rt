@@ -1,0 +1,145 @@
+//! A run that answers lines as they come.
+ghost use Rattle.std.specs.Prelude.{◌≡◌, ◌↔◌, Err, IfOk, IfErr, false};
+ghost use Rattle.std.specs.Io.KnownBytes.{prepend_known};
+ghost use Rattle.icu_locale.specs.LikelyTable.{likely};
+ghost use Rattle.icu_locale.specs.Settled.{AreSettled};
+ghost use Rattle.icu_tables.specs.declared.tables.Tables.{Tables};
+ghost use Rattle.icu_locale_lines.specs.Loads.{IsExpanderOf, not_found};
+ghost use Rattle.icu_locale_lines.specs.Streams.{
+  IsRefusedLineStream,
+  IsStoppedLineStream,
+  IsRefusedStream,
+  IsJsonStream,
+  IsRefusedJsonStream,
+};
+ghost use Rattle.icu_locale_lines.specs.WholeRuns.{IsLineRun, IsRun};
+ghost use Rattle.icu_locale_lines.specs.Works.{IsUnsettled, has_tables};
+ghost use Rattle.icu_locale_lines.specs.declared.command.LineCommand.TheVariants.{Negotiate};
+
+use crate::command::{Command, LineCommand};
+use crate::error::CliError;
+use crate::first_line::read_first_line;
+use crate::input::MOST_READS;
+use crate::line_stream::stream_lines;
+use crate::loads::{Loaded, list_available};
+use crate::runs::{read_tables, write_settled};
+use crate::status::Status;
+use crate::work::Work;
+use icu_locale::LocaleExpander;
+use icu_tables::Tables;
+use std::alloc::Global;
+use std::io::{Read, Write};
+
+/// Does as `run`, but reads by parts: each line is answered when it has come whole, and the answers are flushed before more
+/// is read. What follows the last line feed is answered at the end. It takes memory for the line in hand, its answer, and
+/// what `Negotiate` has available.
+///
+/// # Errors
+///
+/// - `Data`, `NotSettled` and `Available` as `run` answers them: nothing was written.
+/// - `Read` where a read failed or the input did not end: each line that had come whole was answered.
+/// - `Write` where a write or a flush failed, or a write took no byte: the earlier lines were answered, and a beginning of
+///   the answer in hand.
+/// - `Memory` where memory was refused: whole lines only were written.
+pub fn stream<R: Read, W: Write>(
+    alloc: Global,
+    command: &Command,
+    tables: &Tables,
+    reader: &mut R,
+    writer: &mut W,
+) -> Result<Status, CliError>
+    ensures output { IfOk result (IsRun command.now tables.now (R.remaining reader.old)
+        (R.remaining reader.new) (W.contents writer.old) (W.contents writer.new)) }
+    ensures data { (result ≡ Err (CliError.Data not_found))
+        ↔ (has_tables command.now tables.now ≡ false) }
+    ensures unsettled { (result ≡ Err CliError.NotSettled)
+        ↔ IsUnsettled command.now tables.now }
+    ensures refused { IfErr result (IsRefusedStream command.now tables.now
+        (R.remaining reader.old) (R.remaining reader.new) (W.contents writer.old)
+        (W.contents writer.new)) }
+{
+    match command {
+        Command::Settled => write_settled(tables, writer),
+        Command::Lines(command) => stream_command(alloc, command, tables, &[], reader, writer),
+    }
+}
+
+/// Takes the tables of the first line as JSON, as soon as it has come, and does as `stream` with what follows. `Settled`
+/// reads no further. It takes memory for the first line and the tables too.
+///
+/// # Errors
+///
+/// - `Tables` where the first line gives no tables: nothing was written.
+/// - The others as `stream` answers them over what follows the first line; `Read` and `Memory` also while that is read:
+///   nothing was written then.
+pub fn stream_json<R: Read, W: Write>(
+    alloc: Global,
+    command: &Command,
+    reader: &mut R,
+    writer: &mut W,
+) -> Result<Status, CliError>
+    ensures output { IfOk result (IsJsonStream command.now (R.remaining reader.old)
+        (R.remaining reader.new) (W.contents writer.old) (W.contents writer.new)) }
+    ensures refused { IfErr result (IsRefusedJsonStream command.now (R.remaining reader.old)
+        (R.remaining reader.new) (W.contents writer.old) (W.contents writer.new)) }
+{
+    let first = read_first_line(alloc, &[], reader, MOST_READS)?;
+    let tables = read_tables(alloc, &first.line)?;
+    match command {
+        Command::Settled => write_settled(&tables, writer),
+        Command::Lines(command) => {
+            stream_command(alloc, command, &tables, &first.rest, reader, writer)
+        }
+    }
+}
+
+// The answers of a command to what is left of a reader, behind what was read of it before.
+fn stream_command<R: Read, W: Write>(
+    alloc: Global,
+    command: &LineCommand,
+    tables: &Tables,
+    before: &[u8],
+    reader: &mut R,
+    writer: &mut W,
+) -> Result<Status, CliError>
+    ensures output { IfOk result (IsLineRun command.now tables.now
+        (prepend_known before.now (R.remaining reader.old)) (R.remaining reader.new)
+        (W.contents writer.old) (W.contents writer.new)) }
+    ensures data { (result ≡ Err (CliError.Data not_found))
+        ↔ (has_tables (Command.Lines command.now) tables.now ≡ false) }
+    ensures unsettled { (result ≡ Err CliError.NotSettled)
+        ↔ IsUnsettled (Command.Lines command.now) tables.now }
+    ensures refused { IfErr result (IsRefusedLineStream command.now tables.now
+        (prepend_known before.now (R.remaining reader.old)) (R.remaining reader.old)
+        (R.remaining reader.new) (W.contents writer.old) (W.contents writer.new)) }
+{
+    match Loaded::load(alloc, command, tables)? {
+        Loaded::Ready(work) => stream_lines(alloc, &work, before, reader, writer, MOST_READS),
+        Loaded::Negotiate(expander) => stream_requests(alloc, expander, before, reader, writer),
+    }
+}
+
+// The answers to lines of requests, behind a first line that lists what is available.
+fn stream_requests<R: Read, W: Write>(
+    alloc: Global,
+    expander: LocaleExpander<'_>,
+    before: &[u8],
+    reader: &mut R,
+    writer: &mut W,
+) -> Result<Status, CliError>
+    ensures output { (t : Tables) → IsExpanderOf t expander.entry
+        → AreSettled (likely expander.entry) → IfOk result (IsLineRun Negotiate t
+        (prepend_known before.now (R.remaining reader.old)) (R.remaining reader.new)
+        (W.contents writer.old) (W.contents writer.new)) }
+    ensures refused { (t : Tables) → IsExpanderOf t expander.entry
+        → AreSettled (likely expander.entry) → IfErr result (IsStoppedLineStream Negotiate t
+        (prepend_known before.now (R.remaining reader.old)) (R.remaining reader.new)
+        (W.contents writer.old) (W.contents writer.new)) }
+{
+    let first = read_first_line(alloc, before, reader, MOST_READS)?;
+    let work = Work::Negotiate(list_available(alloc, expander, &first.line)?);
+    if first.has_ended {
+        return Ok(Status::Accepted);
+    }
+    stream_lines(alloc, &work, &first.rest, reader, writer, MOST_READS)
+}
