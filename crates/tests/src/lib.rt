@@ -12,6 +12,8 @@ mod faults;
 #[cfg(test)]
 mod languages;
 #[cfg(test)]
+mod line_streams;
+#[cfg(test)]
 mod maps;
 #[cfg(test)]
 mod memory;

@@ -9,9 +9,9 @@ use std::alloc::Global;
 use std::process::Abort;
 use std::test::Fail;
 
-// A line a row: words, input, output, and 0, 1 or the words of the refusal. Spaces round a bar say nothing; `\n`, `\t` and
+/// A line a row: words, input, output, and 0, 1 or the words of the refusal. Spaces round a bar say nothing; `\n`, `\t` and
 // `\r` are what they are in a text of Rust, and `\s` is a space.
-const RUNS: &str = r#"
+pub const RUNS: &str = r#"
 maximize | zh-CN\nund-SA\n | zh-Hans-CN\tM\nar-Arab-SA\tM\n | 0
 maximize | zh-CN\nEN_us\n\n | zh-Hans-CN\tM\nen-Latn-US\tM\n?\tInvalidLanguage\n | 1
 maximize | ar\nde\nen\nhy\nyue\nzh\nyue-Hans\nzh-Hant\nyue-CN\nzh-TW\nund-Arab\nund-SA\nund-US\nund-Latn\nund-Latn-US\nund\n | ar-Arab-EG\tM\nde-Latn-DE\tM\nen-Latn-US\tM\nhy-Armn-AM\tM\nyue-Hant-HK\tM\nzh-Hans-CN\tM\nyue-Hans-CN\tM\nzh-Hant-TW\tM\nyue-Hans-CN\tM\nzh-Hant-TW\tM\nar-Arab-EG\tM\nar-Arab-SA\tM\nen-Latn-US\tM\nen-Latn-US\tM\nen-Latn-US\tM\nund\tU\n | 0
@@ -86,11 +86,11 @@ light en | | | usage: icu_locale_cli COMMAND [json]
 maximize json json | | | usage: icu_locale_cli COMMAND [json]
 "#;
 
-struct Row {
-    words: String,
-    input: String,
-    output: String,
-    status: String,
+pub struct Row {
+    pub words: String,
+    pub input: String,
+    pub output: String,
+    pub status: String,
 }
 
 impl Drop for Row {
@@ -104,7 +104,8 @@ impl Drop for Row {
     }
 }
 
-fn read_row(alloc: Global, line: &str) -> Result<Row, Fail> {
+/// The row of a line.
+pub fn read_row(alloc: Global, line: &str) -> Result<Row, Fail> {
     let mut fields = line.split('|');
     Ok(Row {
         words: field(alloc, fields.next())?,
@@ -149,8 +150,8 @@ pub fn command(alloc: Global, words: &str) -> Result<Result<(Command, bool), Cli
     Ok(Command::from_words(alloc, &list))
 }
 
-// The status of a run, or the words of its refusal.
-fn told(alloc: Global, ended: Result<Status, CliError>) -> Result<String, Fail> {
+/// The status of a run, or the words of its refusal.
+pub fn told(alloc: Global, ended: Result<Status, CliError>) -> Result<String, Fail> {
     Ok(match ended {
         Ok(Status::Accepted) => String::from_str(alloc, "0")?,
         Ok(Status::Refused) => String::from_str(alloc, "1")?,
