@@ -4,6 +4,7 @@ mod Least
 mod Locales
 mod Maximal
 mod Modified
+mod Rows
 mod Settling
 mod TableLaws
 mod TableRows

@@ -60,20 +60,20 @@ told likely k m known is false e = unsettled likely (key_locale k) known (ap (is
 -- ---- from the rows to every identifier
 
 -- what is missing filled in, with the test of the language told
-abbrev fill_by : Bool → DataLocale → Option Triple → DataLocale
+abbrev pub fill_by : Bool → DataLocale → Option Triple → DataLocale
 fill_by b x None = x
 fill_by b x (Some t) = record { language = (if b then t.0 else x.language); script = Some (unwrap_or x.script t.1); region = Some (unwrap_or x.region t.2) }
 
-abbrev locale : List ℕ → Option (List ℕ) → Option (List ℕ) → DataLocale
+abbrev pub locale : List ℕ → Option (List ℕ) → Option (List ℕ) → DataLocale
 locale l s r = record { language = l; script = s; region = r }
 
-abbrev maximal_by : LikelySubtags → Bool → List ℕ → Option (List ℕ) → Option (List ℕ) → DataLocale
+abbrev pub maximal_by : LikelySubtags → Bool → List ℕ → Option (List ℕ) → Option (List ℕ) → DataLocale
 maximal_by likely b l s r = fill_by b (locale l s r) (first_found likely (if b then und_keys s r else known_keys l s r))
 
-maximal-told : (likely : LikelySubtags) (b : Bool) (l : List ℕ) (s r : Option (List ℕ)) → bytes_eq l und ≡ b → maximal_of_bare likely (locale l s r) ≡ maximal_by likely b l s r
+pub maximal-told : (likely : LikelySubtags) (b : Bool) (l : List ℕ) (s r : Option (List ℕ)) → bytes_eq l und ≡ b → maximal_of_bare likely (locale l s r) ≡ maximal_by likely b l s r
 maximal-told likely b l s r e = ap (λ t. maximal_by likely t l s r) e
 
-fill-full : (l s r : List ℕ) (found : Option Triple) → fill_by false (locale l (Some s) (Some r)) found ≡ locale l (Some s) (Some r)
+pub fill-full : (l s r : List ℕ) (found : Option Triple) → fill_by false (locale l (Some s) (Some r)) found ≡ locale l (Some s) (Some r)
 fill-full l s r None = refl
 fill-full l s r (Some t) = refl
 

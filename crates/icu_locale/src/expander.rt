@@ -2,13 +2,14 @@
 
 ghost use Rattle.std.specs.Prelude.{◌≡◌, ◌≢◌, ◌↔◌, false, Some, None};
 ghost use Rattle.icu_locale.specs.LikelySubtags.{bare_locale, locale_of, with_locale, maximal_of_bare, maximal_locale, maximal, likely_script, IsModified};
-ghost use Rattle.icu_locale.specs.inner.Trials.{alone, with_favored, with_other, trials, first_trial, same_locale};
+ghost use Rattle.icu_locale.specs.inner.Trials.{alone, with_favored, with_other, IsTried, same_locale};
 ghost use Rattle.icu_locale.specs.LikelyTable.{likely};
 ghost use Rattle.icu_locale.specs.Construction.{loaded_common, loaded_extended, StandsOn, IsMade};
 ghost use Rattle.icu_locale.specs.declared.expander.Favor.TheVariants.{RegionFirst, ScriptFirst};
 ghost use Rattle.icu_locale.specs.Minimal.{IsMinimalForm};
 
 pub(crate) mod looks;
+mod minimal;
 
 use crate::expander::looks::{bare_locale, fill_in, remove_unknown};
 use icu_locale_core::{LanguageIdentifier, Script};
@@ -174,35 +175,22 @@ impl<'d> LocaleExpander<'d> {
         set_locale(id, minimal)
     }
 
-    // The first of the three trials that has the maximal form of the given subtags, or that form.
-    fn minimal_locale(&self, favor: Favor, given: DataLocale) -> DataLocale
-        ensures { let m = maximal_locale (likely self.now) given in result ≡ first_trial
-            (likely self.now) m (trials favor m) }
+    // The first of the three trials that has a maximal form, or that form.
+    fn first_trial(&self, favor: Favor, maximal: &DataLocale) -> DataLocale
+        ensures { IsTried (likely self.now) favor maximal.now result }
     {
-        let maximal = self.maximal_locale(given);
-        let alone = language_alone(&maximal);
-        if self.leads_to(&alone, &maximal) {
+        let alone = language_alone(maximal);
+        if self.leads_to(&alone, maximal) {
             return alone;
         }
-        let (second, third) = with_one(favor, &maximal);
-        if self.leads_further(&second, &alone, &maximal) {
+        let (second, third) = with_one(favor, maximal);
+        if self.leads_to(&second, maximal) {
             return second;
         }
-        if self.leads_further(&third, &alone, &maximal) {
+        if self.leads_to(&third, maximal) {
             return third;
         }
-        maximal
-    }
-
-    // Whether a trial has the maximal form, where the language alone has not: that one is not asked again.
-    fn leads_further(&self, trial: &DataLocale, alone: &DataLocale, maximal: &DataLocale) -> bool
-        requires { same_locale (maximal_locale (likely self.now) alone.now) maximal.now ≡ false }
-        ensures { result ≡ same_locale (maximal_locale (likely self.now) trial.now) maximal.now }
-    {
-        if trial == alone {
-            return false;
-        }
-        self.leads_to(trial, maximal)
+        *maximal
     }
 
     // Whether a trial has the maximal form.

@@ -11,7 +11,7 @@ ghost use Rattle.icu_locale.specs.Negotiation.{Negotiation, IsNegotiated, error_
 ghost use Rattle.icu_locale.specs.inner.Index.{IsPlainForm, row_cmp, IsIndex, IsPartOf, IsFirstRow, IsFirstPlace};
 ghost use Rattle.icu_locale.specs.declared.negotiator.NegotiatorError.TheVariants.{Memory};
 
-use crate::expander::locale_of;
+use crate::expander::{Favor, locale_of};
 use crate::{LocaleExpander, laws};
 use icu_locale_core::{LanguageIdentifier, Variants};
 use icu_provider::DataLocale;
@@ -68,7 +68,6 @@ pub struct Negotiator<'d> {
     expander: LocaleExpander<'d>,
     available: Vec<LanguageIdentifier>,
     rows: Vec<Row>,
-    alloc: Global,
 }
 
 impl<'d> Model for Negotiator<'d> {
@@ -88,7 +87,6 @@ impl<'d> Drop for Negotiator<'d> {
             expander: _,
             available: _,
             rows: _,
-            alloc: _,
         } = self;
     }
 }
@@ -120,7 +118,6 @@ impl<'d> Negotiator<'d> {
             expander,
             available,
             rows,
-            alloc,
         })
     }
 
@@ -159,7 +156,7 @@ impl<'d> Negotiator<'d> {
         // what equal minimal forms say: these do nothing
         laws::minimal_forms_are_canonical();
         laws::maximal_forms_by_parts();
-        let minimal = plain_form(self.alloc, &self.expander, request);
+        let minimal = plain_form(&self.expander, request);
         let part = rows_with(&self.rows, &minimal);
         first_row(part, &self.available, &request.variants)
     }
@@ -194,7 +191,7 @@ fn sorted_rows(
 {
     let mut rows = Vec::with_capacity(alloc, available.len())?;
     for (place, id) in available.iter().enumerate() {
-        let minimal = plain_form(alloc, expander, id);
+        let minimal = plain_form(expander, id);
         rows.push(Row { minimal, place })?;
     }
     rows.sort_unstable();
@@ -202,20 +199,12 @@ fn sorted_rows(
 }
 
 // The minimal form of an identifier, variants aside.
-fn plain_form(alloc: Global, expander: &LocaleExpander<'_>, id: &LanguageIdentifier) -> DataLocale
+fn plain_form(expander: &LocaleExpander<'_>, id: &LanguageIdentifier) -> DataLocale
     ensures form { IsPlainForm (likely expander.now) id.now result }
     ensures known { IsIdentifier id.now }
 {
     id.known();
-    laws::minimizing_keeps_variants();
-    let mut plain = LanguageIdentifier {
-        language: id.language,
-        script: id.script,
-        region: id.region,
-        variants: Variants::new(alloc),
-    };
-    let _ = expander.minimize(&mut plain);
-    locale_of(&plain)
+    expander.minimal_locale(Favor::RegionFirst, locale_of(id))
 }
 
 // The rows with a minimal form, which stand side by side.

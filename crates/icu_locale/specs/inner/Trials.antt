@@ -1,9 +1,9 @@
 -- How a minimal form is found: what only the expander's own functions cite.
-use Rattle.std.specs.Prelude.{Bool, ◌&&◌, List, [], ◌∷◌, None, if◌then◌else◌}
+use Rattle.std.specs.Prelude.{◌≡◌, ℕ, Bool, false, ◌&&◌, List, [], ◌∷◌, Option, Some, None, if◌then◌else◌}
 use Rattle.std.specs.Option.{option_eq}
 use Rattle.std.specs.Str.{bytes_eq}
 use Rattle.icu_provider.specs.declared.data_locale.DataLocale.{DataLocale}
-use Rattle.icu_locale.specs.LikelySubtags.{LikelySubtags, maximal_locale}
+use Rattle.icu_locale.specs.LikelySubtags.{LikelySubtags, Triple, maximal_locale}
 use Rattle.icu_locale.specs.declared.expander.Favor.{Favor}
 use Rattle.icu_locale.specs.declared.expander.Favor.TheVariants.{RegionFirst, ScriptFirst}
 
@@ -35,3 +35,35 @@ first_trial likely m (t ∷ ts) =
 -- the three trials over a maximal form
 abbrev pub trials : Favor → DataLocale → List DataLocale
 trials favor m = alone m ∷ with_favored favor m ∷ with_other favor m ∷ []
+
+-- y is the first of the three trials that leads to the maximal form m, or m
+abbrev pub IsTried : LikelySubtags → Favor → DataLocale → DataLocale → Type 0
+IsTried likely favor m y = y ≡ first_trial likely m (trials favor m)
+
+-- a row that there may be gives the script
+abbrev pub gives_script : Option Triple → List ℕ → Bool
+gives_script None s = false
+gives_script (Some t) s = bytes_eq t.1 s
+
+-- it gives the region
+abbrev pub gives_region : Option Triple → List ℕ → Bool
+gives_region None r = false
+gives_region (Some t) r = bytes_eq t.2 r
+
+-- it gives both
+abbrev pub gives : Option Triple → List ℕ → List ℕ → Bool
+gives None s r = false
+gives (Some t) s r = bytes_eq t.1 s && bytes_eq t.2 r
+
+-- the row of the language alone gives the region r and the script that comes with it: by the row of
+-- language and region, if there is one
+abbrev pub drops_region : Option Triple → Option Triple → List ℕ → Bool
+drops_region None own r = false
+drops_region (Some t) None r = bytes_eq t.2 r
+drops_region (Some t) (Some o) r = bytes_eq t.2 r && bytes_eq o.1 t.1
+
+-- it gives the script s and the region that comes with it
+abbrev pub drops_script : Option Triple → Option Triple → List ℕ → Bool
+drops_script None own s = false
+drops_script (Some t) None s = bytes_eq t.1 s
+drops_script (Some t) (Some o) s = bytes_eq t.1 s && bytes_eq o.2 t.2

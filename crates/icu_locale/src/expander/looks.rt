@@ -201,24 +201,26 @@ impl<'d> LocaleExpander<'d> {
 
     // The triple at a key: the common tables cover the extended one, and the triple of `und` serves last.
     #[inline(always)]
-    fn row_at(&self, key: &LikelyKey) -> Option<Triple>
+    pub(crate) fn row_at(&self, key: &LikelyKey) -> Option<Triple>
         ensures { result ≡ likely self.now key.now }
     {
         if let Some(row) = self.common_maps().row_at(key) {
             return Some(row);
         }
-        if let Some(row) = self.extended_row(key) {
+        if let Some(extended) = self.extended
+            && let Some(row) = extended_row(extended, key)
+        {
             return Some(row);
         }
         und_row(self.language.und(), key)
     }
+}
 
-    // The triple of the extended table at a key, if there is such a table.
-    fn extended_row(&self, key: &LikelyKey) -> Option<Triple>
-        ensures { result ≡ extension_row self.now.extended key.now }
-    {
-        extended_maps(self.extended?).row_at(key)
-    }
+// The triple of the extended table at a key.
+fn extended_row(extended: &LikelySubtagsExtended, key: &LikelyKey) -> Option<Triple>
+    ensures { result ≡ row_at (extended_rows extended.now) key.now }
+{
+    extended_maps(extended).row_at(key)
 }
 
 // Fills in what is missing from a triple, and tells whether that changed anything.
@@ -275,7 +277,7 @@ pub(crate) fn remove_unknown(script: &mut Option<Script>, region: &mut Option<Re
 
 // Whether a script is `Zzzz`.
 #[inline(always)]
-fn is_unknown_script(script: &Option<Script>) -> bool
+pub(crate) fn is_unknown_script(script: &Option<Script>) -> bool
     ensures { result ≡ is_unknown unknown_script script.now }
 {
     match script {
@@ -286,7 +288,7 @@ fn is_unknown_script(script: &Option<Script>) -> bool
 
 // Whether a region is `ZZ`.
 #[inline(always)]
-fn is_unknown_region(region: &Option<Region>) -> bool
+pub(crate) fn is_unknown_region(region: &Option<Region>) -> bool
     ensures { result ≡ is_unknown unknown_region region.now }
 {
     match region {

@@ -1,9 +1,10 @@
+use Rattle.std.proofs.Common.{refl}
 use Rattle.icu_locale.specs.declared.expander.Favor.TheVariants.{RegionFirst}
-use Rattle.icu_locale.proofs.Negotiating.{IsPlainForm-minimized}
+use Rattle.icu_locale.specs.LikelySubtags.{locale_of}
+use Rattle.icu_locale.specs.inner.Index.{plain}
+use Rattle.icu_locale.proofs.Least.{IsMinimalForm-trials}
 use Rattle.icu_locale.proofs.negotiator.plain_form.Goals as goal
 
--- minimizing an identifier without variants gives one without variants
+-- the first trial over the maximal form of an identifier without variants
 pub returns-clause-form : goal.returns-clause-form
-returns-clause-form c =
-    let form = c.minimize.ensures.minimal in
-    IsPlainForm-minimized _ c.args.id.now c.minimize.new.id c.new.result c.locale_of.result c.new.ensures form (c.minimizing_keeps_variants.ensures RegionFirst _ _ _ form) c.locale_of.ensures
+returns-clause-form c = IsMinimalForm-trials RegionFirst _ (plain (locale_of c.args.id.now)) (plain c.minimal_locale.result) c.locale_of.result c.minimal_locale.result c.locale_of.ensures c.minimal_locale.ensures refl
