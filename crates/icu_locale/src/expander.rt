@@ -119,6 +119,7 @@ impl<'d> LocaleExpander<'d> {
 
     /// Adds the likely subtags: the identifier becomes its maximal form. The answer is `Modified` exactly where a
     /// subtag was removed or filled in, also where both leave it as it was; after `Unmodified` it is as it was.
+    #[inline(never)]
     pub fn maximize(&self, id: &mut LanguageIdentifier) -> TransformResult
         ensures maximal { id.new ≡ maximal (likely self.now) id.old }
         ensures modified { (result ≡ TransformResult.Modified)
@@ -141,6 +142,7 @@ impl<'d> LocaleExpander<'d> {
     /// the language of the maximal form and the same maximal form, or the maximal form where there is none such. Of two
     /// that are equally short it takes the one with the region. The answer is `Modified` exactly where the identifier
     /// changed, and `Unmodified` exactly where it did not.
+    #[inline(never)]
     pub fn minimize(&self, id: &mut LanguageIdentifier) -> TransformResult
         ensures minimal { IsMinimalForm RegionFirst (likely self.now) id.old id.new }
         ensures modified { (result ≡ TransformResult.Modified) ↔ (id.new ≢ id.old) }
@@ -150,6 +152,7 @@ impl<'d> LocaleExpander<'d> {
     }
 
     /// As `minimize`, but of two that are equally short it takes the one with the script.
+    #[inline(never)]
     pub fn minimize_favor_script(&self, id: &mut LanguageIdentifier) -> TransformResult
         ensures minimal { IsMinimalForm ScriptFirst (likely self.now) id.old id.new }
         ensures modified { (result ≡ TransformResult.Modified) ↔ (id.new ≢ id.old) }
@@ -165,6 +168,7 @@ impl<'d> LocaleExpander<'d> {
         self.maximal_locale(locale_of(id)).script
     }
 
+    #[inline(always)]
     fn minimize_favoring(&self, favor: Favor, id: &mut LanguageIdentifier) -> TransformResult
         ensures minimal { IsMinimalForm favor (likely self.now) id.old id.new }
         ensures modified { (result ≡ TransformResult.Modified) ↔ (id.new ≢ id.old) }

@@ -82,6 +82,7 @@ impl<'d> LikelyMaps<'d> {
 }
 
 // The value at a key of a map, if any.
+#[inline(always)]
 fn value_at<K: Ord + Copy, V: Copy>(map: &SortedMap<K, V>, key: K) -> Option<V>
     ensures { result ≡ value_at K.cmp map.now key }
 {
@@ -152,6 +153,7 @@ impl<'d> LocaleExpander<'d> {
     }
 
     // A known language with the region, with the script, alone.
+    #[inline(always)]
     fn first_of_known(
         &self,
         language: Language,
@@ -207,10 +209,13 @@ impl<'d> LocaleExpander<'d> {
         if let Some(row) = self.common_maps().row_at(key) {
             return Some(row);
         }
-        if let Some(extended) = self.extended
-            && let Some(row) = extended_row(extended, key)
-        {
-            return Some(row);
+        if let Some(extended) = self.extended {
+            // a copy, so that the key stands in memory only where there is such a table
+            let key = *key;
+            let found = extended_row(extended, &key);
+            if found.is_some() {
+                return found;
+            }
         }
         und_row(self.language.und(), key)
     }
@@ -275,13 +280,35 @@ pub(crate) fn remove_unknown(script: &mut Option<Script>, region: &mut Option<Re
     is_script_unknown || is_region_unknown
 }
 
+// The script that stands for none.
+#[inline(always)]
+fn unknown_script() -> Script
+    ensures { result ≡ unknown_script }
+{
+    match Script::try_from_str("Zzzz") {
+        Ok(script) => script,
+        Err(_) => unreachable!(),
+    }
+}
+
+// The region that stands for none.
+#[inline(always)]
+fn unknown_region() -> Region
+    ensures { result ≡ unknown_region }
+{
+    match Region::try_from_str("ZZ") {
+        Ok(region) => region,
+        Err(_) => unreachable!(),
+    }
+}
+
 // Whether a script is `Zzzz`.
 #[inline(always)]
 pub(crate) fn is_unknown_script(script: &Option<Script>) -> bool
     ensures { result ≡ is_unknown unknown_script script.now }
 {
     match script {
-        Some(script) => script.as_str() == "Zzzz",
+        Some(script) => *script == unknown_script(),
         None => false,
     }
 }
@@ -292,7 +319,7 @@ pub(crate) fn is_unknown_region(region: &Option<Region>) -> bool
     ensures { result ≡ is_unknown unknown_region region.now }
 {
     match region {
-        Some(region) => region.as_str() == "ZZ",
+        Some(region) => *region == unknown_region(),
         None => false,
     }
 }

@@ -84,6 +84,7 @@ impl<'d> LocaleExpander<'d> {
     }
 
     // The minimal form of a known language with a script and a region that are bare: nothing is filled in.
+    #[inline(always)]
     fn minimal_of_full(
         &self,
         favor: Favor,
@@ -104,6 +105,7 @@ impl<'d> LocaleExpander<'d> {
     }
 
     // Of a language, a script and a region, the region favored.
+    #[inline(always)]
     fn region_first_of_full(
         &self,
         language: Language,
@@ -130,6 +132,7 @@ impl<'d> LocaleExpander<'d> {
     }
 
     // Of a language, a script and a region, the script favored.
+    #[inline(always)]
     fn script_first_of_full(
         &self,
         language: Language,
@@ -157,6 +160,7 @@ impl<'d> LocaleExpander<'d> {
 
     // The minimal form of a language and a region, the region favored: with the region, unless the row of the language
     // alone gives it back.
+    #[inline(always)]
     fn region_first_of_region(&self, language: Language, region: Region) -> DataLocale
         requires known { bytes_eq language und ≡ false }
         requires region { known_subtag unknown_region (Some region) ≡ Some region }
@@ -171,6 +175,7 @@ impl<'d> LocaleExpander<'d> {
 
     // The minimal form of a language and a script, the script favored: with the script, unless the row of the language
     // alone gives it back.
+    #[inline(always)]
     fn script_first_of_script(&self, language: Language, script: Script) -> DataLocale
         requires known { bytes_eq language und ≡ false }
         requires script { known_subtag unknown_script (Some script) ≡ Some script }
@@ -184,6 +189,7 @@ impl<'d> LocaleExpander<'d> {
     }
 
     // The minimal form of a language and a region, the script favored: the script that is filled in is tried first.
+    #[inline(always)]
     fn script_first_of_region(&self, language: Language, region: Region) -> DataLocale
         requires known { bytes_eq language und ≡ false }
         requires region { known_subtag unknown_region (Some region) ≡ Some region }
@@ -209,6 +215,7 @@ impl<'d> LocaleExpander<'d> {
     }
 
     // The minimal form of a language and a script, the region favored: the region that is filled in is tried first.
+    #[inline(always)]
     fn region_first_of_script(&self, language: Language, script: Script) -> DataLocale
         requires known { bytes_eq language und ≡ false }
         requires script { known_subtag unknown_script (Some script) ≡ Some script }
@@ -235,6 +242,7 @@ impl<'d> LocaleExpander<'d> {
 
     // Whether the language alone has the maximal form of the language with a region. The region's own row is asked for
     // only where the language's gives that region.
+    #[inline(always)]
     fn drops_region(&self, language: Language, region: Region) -> bool
         ensures { result ≡ drops_region (likely self.now (LanguageAlone language))
             (likely self.now (LanguageRegion language region)) region }
@@ -253,6 +261,7 @@ impl<'d> LocaleExpander<'d> {
 
     // Whether the language alone has the maximal form of the language with a script. The script's own row is asked for
     // only where the language's gives that script.
+    #[inline(always)]
     fn drops_script(&self, language: Language, script: Script) -> bool
         ensures { result ≡ drops_script (likely self.now (LanguageAlone language))
             (likely self.now (LanguageScript language script)) script }
@@ -271,6 +280,7 @@ impl<'d> LocaleExpander<'d> {
 
     // Whether the language with the region has a maximal form with the script: by the region's own row, or else by that
     // of the language alone.
+    #[inline(always)]
     fn region_leads(
         &self,
         language: Language,
@@ -292,6 +302,7 @@ impl<'d> LocaleExpander<'d> {
 
     // Whether the language with the script has a maximal form with the region: by the script's own row, or else by that
     // of the language alone.
+    #[inline(always)]
     fn script_leads(
         &self,
         language: Language,
