@@ -153,7 +153,7 @@ impl<'d> Negotiator<'d> {
     fn find(&self, request: &LanguageIdentifier) -> Option<usize>
         ensures { IsFirstPlace (likely self.now.expander) self.now.available request.now result }
     {
-        // what equal minimal forms say: these do nothing
+        // laws for the proof: no code runs
         laws::minimal_forms_are_canonical();
         laws::maximal_forms_by_parts();
         let minimal = plain_form(&self.expander, request);

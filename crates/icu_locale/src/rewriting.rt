@@ -1,5 +1,5 @@
-// Runs of replacements, of which UTS #35 Part 1, Annex C "LocaleId Canonicalization", has one for each identifier.
-// Two walkers go along a run, one twice as fast as the other, so no list of states is kept.
+//! Runs of replacements, of which UTS #35 Part 1, Annex C "LocaleId Canonicalization", has one for each identifier.
+//! Two walkers go along a run, one twice as fast as the other, so no list of states is kept.
 ghost use Rattle.std.specs.Prelude.{◌≡◌, ◌<◌, ◌≤◌, ◌+◌, ◌*◌, ℕ, List, Option, Some, true, IfOk, IfErr, IsOk, OnOk, IsSome};
 ghost use Rattle.icu_locale.specs.Run.{StandsIn, HasDistinct, IsRepeat};
 ghost use Rattle.icu_locale.specs.inner.Walk.{IsFullFront, IsMeeting, IsWalk, IsOutcome, IsUniverse};

@@ -1,4 +1,4 @@
-// A count of searches for a rule, which only contracts see.
+//! A count of searches for a rule, which only contracts see.
 ghost use Rattle.std.specs.Prelude.{◌≡◌, ◌+◌, ℕ};
 ghost use Rattle.icu_locale.specs.inner.Tally.{strokes};
 

@@ -1,4 +1,4 @@
-// What is to be changed of a locale.
+//! What is to be changed of a locale.
 ghost use Rattle.std.specs.Prelude.{◌≡◌, is_some, IsSome, IsTrue, unwrap_or};
 ghost use Rattle.icu_locale_core.specs.Subtag.{is_key, lowercase};
 ghost use Rattle.icu_locale_core.specs.Maps.{value_at};

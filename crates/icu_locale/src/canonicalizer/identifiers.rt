@@ -1,4 +1,4 @@
-// Runs of identifiers.
+//! Runs of identifiers.
 ghost use Rattle.std.specs.Prelude.{◌≡◌, ◌+◌, None, Some, IfOk, IfErr, IfSome, IsOk, unwrap_or};
 ghost use Rattle.icu_locale_core.specs.TextSet.{empty, image};
 ghost use Rattle.icu_locale.specs.Kinds.{variant_alias, next_of};

@@ -1,4 +1,4 @@
-// The seven kinds of rules. Each finds what is to be rewritten and takes no memory.
+//! The seven kinds of rules. Each finds what is to be rewritten and takes no memory.
 ghost use Rattle.std.specs.Prelude.{◌≡◌, option_copied, is_some};
 ghost use Rattle.std.specs.Option.{option_map};
 ghost use Rattle.std.specs.List.{find, list_any};
@@ -28,6 +28,7 @@ ghost use Rattle.icu_locale.specs.inner.Rewrite.{rewritten};
 use super::replacing::{is_known, rule_matches};
 use crate::{LocaleExpander, Rule, Rules};
 use icu_locale_core::{Language, LanguageIdentifier, Region, Script, Variant, Variants};
+use icu_provider::DataLocale;
 
 // What a turn rewrites.
 #[derive(Clone, Copy)]
@@ -178,25 +179,19 @@ fn complex_region(
     ensures { result ≡ complex_region (likely expander.now) rules.now x.now }
 {
     let regions = rules.aliases.get_complex_region(x.region?)?;
-    chosen(likely_region(rules, expander, x), regions)
+    chosen(likely_region(expander, x), regions)
 }
 
 // The region of the maximal form of language and script alone.
-fn likely_region(
-    rules: &Rules<'_>,
-    expander: &LocaleExpander<'_>,
-    x: &LanguageIdentifier,
-) -> Option<Region>
+fn likely_region(expander: &LocaleExpander<'_>, x: &LanguageIdentifier) -> Option<Region>
     ensures { result ≡ likely_region (likely expander.now) x.now }
 {
-    let mut maximal = LanguageIdentifier {
+    let given = DataLocale {
         language: x.language,
         script: x.script,
         region: None,
-        variants: Variants::new(rules.alloc),
     };
-    let _ = expander.maximize(&mut maximal);
-    maximal.region
+    expander.maximal_locale(given).region
 }
 
 fn chosen(likely: Option<Region>, regions: &[Region]) -> Option<Region>

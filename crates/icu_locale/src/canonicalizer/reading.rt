@@ -1,4 +1,4 @@
-// Rules are read of the texts of a table, each text once.
+//! Rules are read of the texts of a table, each text once.
 ghost use Rattle.std.specs.Prelude.{◌≡◌, ◌++◌, [], IsOk, IfOk, IfErr, OnOk, MatchOption, true, false, map};
 ghost use Rattle.std.specs.Option.{option_to_list};
 ghost use Rattle.std.specs.List.{list_all};

@@ -1,4 +1,4 @@
-// Matching and replacing.
+//! Matching and replacing.
 ghost use Rattle.std.specs.Prelude.{◌≡◌, ◌&&◌, ◌||◌, not, if◌then◌else◌, IfOk, IfErr, IsOk};
 ghost use Rattle.icu_locale_core.specs.TextSet.{empty};
 ghost use Rattle.icu_locale.specs.Replacement.{is_known, fits, matches, part, replaced};

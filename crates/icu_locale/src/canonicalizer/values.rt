@@ -1,4 +1,4 @@
-// Runs of the values at `rg` and `sd`.
+//! Runs of the values at `rg` and `sd`.
 ghost use Rattle.std.specs.Prelude.{◌≡◌, ◌⊎◌, [], IfOk, IfErr, IfSome, option_copied};
 ghost use Rattle.icu_locale_core.specs.Maps.{value_at};
 ghost use Rattle.icu_locale_core.specs.TextSet.{text_cmp};

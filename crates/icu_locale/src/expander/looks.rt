@@ -131,8 +131,7 @@ impl<'d> LocaleExpander<'d> {
         }
     }
 
-    // The triple that what is bare is filled from: that of the first key that the table has. Where nothing is missing
-    // no key is looked up.
+    // The row that fills in a bare identifier: its first key in the table. Where nothing is missing no key is looked up.
     #[inline(always)]
     pub(crate) fn added(
         &self,
