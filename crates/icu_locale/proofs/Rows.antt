@@ -1,6 +1,6 @@
 -- What the rows of a known language say of its three trials.
-use Rattle.std.proofs.Common.{◌≡◌, ℕ, List, [], ◌∷◌, Bool, true, false, ◌&&◌, Option, Some, None, if◌then◌else◌, refl, ap, sym, ◌∙◌}
-use Rattle.std.specs.Option.{option_or, option_eq}
+use Rattle.std.proofs.Common.{◌≡◌, ℕ, List, Bool, true, false, ◌&&◌, Option, Some, None, if◌then◌else◌, refl, ap, sym, ◌∙◌}
+use Rattle.std.specs.Option.{option_or}
 use Rattle.std.specs.Str.{bytes_eq}
 use Rattle.std.proofs.Math.Bool.{and-true}
 use Rattle.icu_locale_core.specs.Subtag.{und}
@@ -8,7 +8,7 @@ use Rattle.icu_provider.specs.declared.data_locale.DataLocale.{DataLocale}
 use Rattle.icu_locale.specs.declared.expander.Favor.{Favor}
 use Rattle.icu_locale.specs.declared.expander.Favor.TheVariants.{RegionFirst, ScriptFirst}
 use Rattle.icu_locale.specs.declared.expander.looks.LikelyKey.TheVariants.{LanguageRegion, LanguageScript, LanguageAlone}
-use Rattle.icu_locale.specs.LikelySubtags.{LikelySubtags, Triple, known_subtag, unknown_script, unknown_region, first_found, known_keys, maximal_of_bare, maximal_locale}
+use Rattle.icu_locale.specs.LikelySubtags.{LikelySubtags, Triple, known_subtag, unknown_script, unknown_region, maximal_of_bare, maximal_locale}
 use Rattle.icu_locale.specs.inner.Filling.{locale_with}
 use Rattle.icu_locale.specs.inner.Trials.{same_locale, alone, with_favored, with_other, trials, first_trial, IsTried, gives, gives_script, gives_region}
 use Rattle.icu_locale.proofs.Locales.{same_locale-Decides, text_itself}

@@ -1,5 +1,0 @@
-use Rattle.std.proofs.Common.{rules}
-use Rattle.icu_locale.proofs.expander.LocaleExpander.try_new_extended_unstable.Goals as goal
-
-pub returns : goal.returns
-returns g c = search rules
