@@ -101,7 +101,6 @@ impl<'d, E: AsExpander<'d>> LocaleCanonicalizer<'d, E> {
     /// # Errors
     ///
     /// Those of `canonicalize`.
-    #[inline(never)]
     pub fn canonicalize_counted(
         &self,
         locale: &mut Locale,

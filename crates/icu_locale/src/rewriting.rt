@@ -59,7 +59,6 @@ enum Walk<X> {
 }
 
 /// Where the run from `start` ends, or the first state of it that comes again.
-#[inline(always)]
 pub fn end_of_run<R: Rewriting>(
     rewriting: &R,
     start: &R::State,
@@ -85,7 +84,6 @@ pub fn end_of_run<R: Rewriting>(
 }
 
 // Sends one walker a step at a time and another two, until the second comes to an end or they meet.
-#[inline(always)]
 fn meet<R: Rewriting>(
     rewriting: &R,
     start: &R::State,

@@ -37,6 +37,7 @@ impl<'d> LocaleExpander<'d> {
     }
 
     // The minimal form of what is bare and has the language `und`: a row may give another language.
+    #[inline(never)]
     fn minimal_of_und(&self, favor: Favor, bare: DataLocale) -> DataLocale
         ensures { IsTried (likely self.now) favor (maximal_of_bare (likely self.now) bare) result }
     {
@@ -47,8 +48,7 @@ impl<'d> LocaleExpander<'d> {
             && !is_unknown_script(&maximal.script)
             && !is_unknown_region(&maximal.region)
         {
-            let plain = self.row_at(&LikelyKey::LanguageAlone(maximal.language));
-            return self.minimal_of_full(favor, maximal.language, script, region, &plain);
+            return self.minimal_of_full(favor, maximal.language, script, region);
         }
         self.first_trial(favor, &maximal)
     }
@@ -68,101 +68,84 @@ impl<'d> LocaleExpander<'d> {
         ensures { IsTried (likely self.now) favor
             (maximal_of_bare (likely self.now) (locale_with language script region)) result }
     {
-        if script.is_none() && region.is_none() {
-            return locale_with(language, None, None);
-        }
-        let plain = self.row_at(&LikelyKey::LanguageAlone(language));
         if let Some(script) = script {
             if let Some(region) = region {
-                return self.minimal_of_full(favor, language, script, region, &plain);
+                return self.minimal_of_full(favor, language, script, region);
             }
             return match favor {
-                Favor::RegionFirst => self.region_first_of_script(language, script, &plain),
-                Favor::ScriptFirst => self.script_first_of_script(language, script, &plain),
+                Favor::RegionFirst => self.region_first_of_script(language, script),
+                Favor::ScriptFirst => self.script_first_of_script(language, script),
             };
         }
         if let Some(region) = region {
             return match favor {
-                Favor::RegionFirst => self.region_first_of_region(language, region, &plain),
-                Favor::ScriptFirst => self.script_first_of_region(language, region, &plain),
+                Favor::RegionFirst => self.region_first_of_region(language, region),
+                Favor::ScriptFirst => self.script_first_of_region(language, region),
             };
         }
         locale_with(language, None, None)
     }
 
     // The minimal form of a known language with a script and a region that are bare: nothing is filled in.
+    #[inline(always)]
     fn minimal_of_full(
         &self,
         favor: Favor,
         language: Language,
         script: Script,
         region: Region,
-        plain: &Option<Triple>,
     ) -> DataLocale
         requires known { bytes_eq language und ≡ false }
-        requires plain { plain.now ≡ likely self.now (LanguageAlone language) }
         requires script { known_subtag unknown_script (Some script) ≡ Some script }
         requires region { known_subtag unknown_region (Some region) ≡ Some region }
         ensures { IsTried (likely self.now) favor
             (locale_with language (Some script) (Some region)) result }
     {
         match favor {
-            Favor::RegionFirst => self.region_first_of_full(language, script, region, plain),
-            Favor::ScriptFirst => self.script_first_of_full(language, script, region, plain),
+            Favor::RegionFirst => self.region_first_of_full(language, script, region),
+            Favor::ScriptFirst => self.script_first_of_full(language, script, region),
         }
     }
 
     // Of a language, a script and a region, the region favored.
-    #[inline(always)]
-    fn region_first_of_full(
-        &self,
-        language: Language,
-        script: Script,
-        region: Region,
-        plain: &Option<Triple>,
-    ) -> DataLocale
+    #[inline(never)]
+    fn region_first_of_full(&self, language: Language, script: Script, region: Region) -> DataLocale
         requires known { bytes_eq language und ≡ false }
-        requires plain { plain.now ≡ likely self.now (LanguageAlone language) }
         requires script { known_subtag unknown_script (Some script) ≡ Some script }
         requires region { known_subtag unknown_region (Some region) ≡ Some region }
         ensures { IsTried (likely self.now) RegionFirst
             (locale_with language (Some script) (Some region)) result }
     {
-        if gives(plain, script, region) {
+        let plain = self.row_at(&LikelyKey::LanguageAlone(language));
+        if gives(&plain, script, region) {
             return locale_with(language, None, None);
         }
-        if self.region_leads(language, script, region, plain) {
+        if self.region_leads(language, script, region, &plain) {
             return locale_with(language, None, Some(region));
         }
-        if self.script_leads(language, script, region, plain) {
+        if self.script_leads(language, script, region, &plain) {
             return locale_with(language, Some(script), None);
         }
         locale_with(language, Some(script), Some(region))
     }
 
     // Of a language, a script and a region, the script favored.
-    #[inline(always)]
-    fn script_first_of_full(
-        &self,
-        language: Language,
-        script: Script,
-        region: Region,
-        plain: &Option<Triple>,
-    ) -> DataLocale
+    #[inline(never)]
+    fn script_first_of_full(&self, language: Language, script: Script, region: Region) -> DataLocale
         requires known { bytes_eq language und ≡ false }
-        requires plain { plain.now ≡ likely self.now (LanguageAlone language) }
         requires script { known_subtag unknown_script (Some script) ≡ Some script }
         requires region { known_subtag unknown_region (Some region) ≡ Some region }
         ensures { IsTried (likely self.now) ScriptFirst
             (locale_with language (Some script) (Some region)) result }
     {
-        if gives(plain, script, region) {
+        let plain = self.row_at(&LikelyKey::LanguageAlone(language));
+        if gives(&plain, script, region) {
             return locale_with(language, None, None);
         }
-        if self.script_leads(language, script, region, plain) {
+        if self.script_leads(language, script, region, &plain) {
             return locale_with(language, Some(script), None);
         }
-        if self.region_leads(language, script, region, plain) {
+        if self.region_leads(language, script, region, &plain) {
             return locale_with(language, None, Some(region));
         }
         locale_with(language, Some(script), Some(region))
@@ -170,20 +153,14 @@ impl<'d> LocaleExpander<'d> {
 
     // The minimal form of a language and a region, the region favored: with the region, unless the row of the language
     // alone gives it back.
-    #[inline(always)]
-    fn region_first_of_region(
-        &self,
-        language: Language,
-        region: Region,
-        plain: &Option<Triple>,
-    ) -> DataLocale
+    #[inline(never)]
+    fn region_first_of_region(&self, language: Language, region: Region) -> DataLocale
         requires known { bytes_eq language und ≡ false }
-        requires plain { plain.now ≡ likely self.now (LanguageAlone language) }
         requires region { known_subtag unknown_region (Some region) ≡ Some region }
         ensures { IsTried (likely self.now) RegionFirst
             (maximal_of_bare (likely self.now) (locale_with language None (Some region))) result }
     {
-        if self.drops_region(language, region, plain) {
+        if self.drops_region(language, region) {
             return locale_with(language, None, None);
         }
         locale_with(language, None, Some(region))
@@ -191,82 +168,66 @@ impl<'d> LocaleExpander<'d> {
 
     // The minimal form of a language and a script, the script favored: with the script, unless the row of the language
     // alone gives it back.
-    #[inline(always)]
-    fn script_first_of_script(
-        &self,
-        language: Language,
-        script: Script,
-        plain: &Option<Triple>,
-    ) -> DataLocale
+    #[inline(never)]
+    fn script_first_of_script(&self, language: Language, script: Script) -> DataLocale
         requires known { bytes_eq language und ≡ false }
-        requires plain { plain.now ≡ likely self.now (LanguageAlone language) }
         requires script { known_subtag unknown_script (Some script) ≡ Some script }
         ensures { IsTried (likely self.now) ScriptFirst
             (maximal_of_bare (likely self.now) (locale_with language (Some script) None)) result }
     {
-        if self.drops_script(language, script, plain) {
+        if self.drops_script(language, script) {
             return locale_with(language, None, None);
         }
         locale_with(language, Some(script), None)
     }
 
     // The minimal form of a language and a region, the script favored: the script that is filled in is tried first.
-    #[inline(always)]
-    fn script_first_of_region(
-        &self,
-        language: Language,
-        region: Region,
-        plain: &Option<Triple>,
-    ) -> DataLocale
+    #[inline(never)]
+    fn script_first_of_region(&self, language: Language, region: Region) -> DataLocale
         requires known { bytes_eq language und ≡ false }
-        requires plain { plain.now ≡ likely self.now (LanguageAlone language) }
         requires region { known_subtag unknown_region (Some region) ≡ Some region }
         ensures { IsTried (likely self.now) ScriptFirst
             (maximal_of_bare (likely self.now) (locale_with language None (Some region))) result }
     {
+        let plain = self.row_at(&LikelyKey::LanguageAlone(language));
         let own = self.row_at(&LikelyKey::LanguageRegion(language, region));
-        let Some(row) = own.or(*plain) else {
+        let Some(row) = own.or(plain) else {
             return locale_with(language, None, Some(region));
         };
         let script = row.1;
-        if gives(plain, script, region) {
+        if gives(&plain, script, region) {
             return locale_with(language, None, None);
         }
         if is_unknown_script(&Some(script)) {
             return locale_with(language, None, Some(region));
         }
-        if self.script_leads(language, script, region, plain) {
+        if self.script_leads(language, script, region, &plain) {
             return locale_with(language, Some(script), None);
         }
         locale_with(language, None, Some(region))
     }
 
     // The minimal form of a language and a script, the region favored: the region that is filled in is tried first.
-    #[inline(always)]
-    fn region_first_of_script(
-        &self,
-        language: Language,
-        script: Script,
-        plain: &Option<Triple>,
-    ) -> DataLocale
+    #[inline(never)]
+    fn region_first_of_script(&self, language: Language, script: Script) -> DataLocale
         requires known { bytes_eq language und ≡ false }
-        requires plain { plain.now ≡ likely self.now (LanguageAlone language) }
         requires script { known_subtag unknown_script (Some script) ≡ Some script }
         ensures { IsTried (likely self.now) RegionFirst
             (maximal_of_bare (likely self.now) (locale_with language (Some script) None)) result }
     {
+        let plain = self.row_at(&LikelyKey::LanguageAlone(language));
         let own = self.row_at(&LikelyKey::LanguageScript(language, script));
-        let Some(row) = own.or(*plain) else {
+        let Some(row) = own.or(plain) else {
             return locale_with(language, Some(script), None);
         };
         let region = row.2;
-        if gives(plain, script, region) {
+        if gives(&plain, script, region) {
             return locale_with(language, None, None);
         }
         if is_unknown_region(&Some(region)) {
             return locale_with(language, Some(script), None);
         }
-        if self.region_leads(language, script, region, plain) {
+        if self.region_leads(language, script, region, &plain) {
             return locale_with(language, None, Some(region));
         }
         locale_with(language, Some(script), None)
@@ -275,11 +236,11 @@ impl<'d> LocaleExpander<'d> {
     // Whether the language alone has the maximal form of the language with a region. The region's own row is asked for
     // only where the language's gives that region.
     #[inline(always)]
-    fn drops_region(&self, language: Language, region: Region, plain: &Option<Triple>) -> bool
-        ensures { result ≡ drops_region plain.now
+    fn drops_region(&self, language: Language, region: Region) -> bool
+        ensures { result ≡ drops_region (likely self.now (LanguageAlone language))
             (likely self.now (LanguageRegion language region)) region }
     {
-        let Some(row) = plain else {
+        let Some(row) = self.row_at(&LikelyKey::LanguageAlone(language)) else {
             return false;
         };
         if row.2 == region {
@@ -294,11 +255,11 @@ impl<'d> LocaleExpander<'d> {
     // Whether the language alone has the maximal form of the language with a script. The script's own row is asked for
     // only where the language's gives that script.
     #[inline(always)]
-    fn drops_script(&self, language: Language, script: Script, plain: &Option<Triple>) -> bool
-        ensures { result ≡ drops_script plain.now
+    fn drops_script(&self, language: Language, script: Script) -> bool
+        ensures { result ≡ drops_script (likely self.now (LanguageAlone language))
             (likely self.now (LanguageScript language script)) script }
     {
-        let Some(row) = plain else {
+        let Some(row) = self.row_at(&LikelyKey::LanguageAlone(language)) else {
             return false;
         };
         if row.1 == script {
