@@ -5,10 +5,12 @@ ghost use Rattle.icu_locale_lines.specs.Texts.{refused_line};
 use crate::error::CliError;
 use std::fmt;
 
-// The line that is written for one that was read, and whether that one was accepted.
+/// The line that is written for one that was read, and whether that one was accepted.
 #[derive(Drop)]
 pub struct Answer {
+    /// The line, with its line feed.
     pub text: Vec<u8>,
+    /// Whether the line that was read was accepted.
     pub accepted: bool,
 }
 

@@ -70,8 +70,12 @@ impl Command {
         }
     }
 
-    // The command `name` of a chain and of preferences.
-    fn name(alloc: Global, chain: &str, text: &str) -> Result<Command, CliError>
+    /// The command `name` of a chain and of preferences.
+    ///
+    /// # Errors
+    ///
+    /// `Usage` exactly where one of the two texts is none.
+    pub fn name(alloc: Global, chain: &str, text: &str) -> Result<Command, CliError>
         ensures named { IfOk result (λ c. (codes "name" ≡ command_word c)
             × AreArguments c (chain.now ∷ text.now ∷ [])) }
         ensures only { (c : Command) → AreArguments c (chain.now ∷ text.now ∷ [])
@@ -85,8 +89,12 @@ impl Command {
         Ok(Command::Lines(LineCommand::Name(chain, preferences)))
     }
 
-    // The command of a word alone.
-    fn from_word(word: &str) -> Result<Command, CliError>
+    /// The command of a word alone.
+    ///
+    /// # Errors
+    ///
+    /// `Usage` exactly where the word is that of no such command.
+    pub fn from_word(word: &str) -> Result<Command, CliError>
         ensures named { IfOk result (λ c. (word.now ≡ command_word c) × AreArguments c []) }
         ensures only { (c : Command) → word.now ≡ command_word c → AreArguments c []
             → result ≡ Ok c }

@@ -24,9 +24,11 @@ mod streams;
 mod transform;
 mod work;
 
+pub use answer::Answer;
 pub use command::{Command, LineCommand};
 pub use error::CliError;
 pub use input::read_all;
+pub use loads::{Loaded, load_expander};
 pub use naming::Naming;
 pub use program::{program_words, run_buffered, run_words, stream_words};
 pub use runs::{run, run_json};
@@ -34,4 +36,4 @@ pub use sample_tables::{SAMPLE, sample};
 pub use status::Status;
 pub use streams::{stream, stream_json};
 pub use transform::Transform;
-pub use work::Work;
+pub use work::{Work, answer_locale};

@@ -28,17 +28,23 @@ use icu_tables::Tables;
 use std::alloc::Global;
 use std::io::Write;
 
-// What a command has before its input is read.
+/// What a command has before its input is read.
 #[derive(Drop)]
 pub enum Loaded<'d> {
-    // What it works with.
+    /// What it works with.
     Ready(Work<'d>),
-    // An expander over settled tables, which waits for the identifiers that are available.
+    /// An expander over settled tables, which waits for the identifiers that are available.
     Negotiate(LocaleExpander<'d>),
 }
 
 impl<'d> Loaded<'d> {
-    // What a command needs: its tables are loaded in their order, and then asked whether they are settled.
+    /// What a command needs: its tables are loaded in their order, and then asked whether they are settled.
+    ///
+    /// # Errors
+    ///
+    /// - `Data` exactly where a needed table is not held.
+    /// - `NotSettled` exactly where `Negotiate` finds likely tables that are not settled.
+    /// - `Memory` where the rules of `Canonicalize` found no room.
     pub fn load(alloc: Global, command: &LineCommand, tables: &'d Tables) -> Result<Self, CliError>
         ensures loaded { IfOk result (IsLoaded command.now tables.now) }
         ensures data { (result ≡ Err (CliError.Data not_found))
@@ -79,7 +85,12 @@ impl<'d> Loaded<'d> {
         }
     }
 
-    // The answers to the lines of an input. `Negotiate` uses the first line for the identifiers that are available.
+    /// The answers to the lines of an input. `Negotiate` uses the first line for the identifiers that are available.
+    ///
+    /// # Errors
+    ///
+    /// - `Available` where the first line of `Negotiate` has a fault: nothing was written.
+    /// - `Write` where a write failed or took no byte, and `Memory` where memory was refused, as `run` answers them.
     pub fn write<W: Write>(
         self,
         alloc: Global,
@@ -104,7 +115,11 @@ impl<'d> Loaded<'d> {
     }
 }
 
-// The expander over the tables, with the extended one where it is held.
+/// The expander over the tables, with the extended one where it is held.
+///
+/// # Errors
+///
+/// `Data` exactly where a common likely table is not held.
 pub fn load_expander(tables: &Tables) -> Result<LocaleExpander<'_>, CliError>
     ensures made { IfOk result (IsExpanderOf tables.entry.now) }
     ensures loaded { is_ok result ≡ has_likely tables.entry.now }

@@ -33,7 +33,11 @@ pub enum Work<'d> {
 }
 
 impl<'d> Work<'d> {
-    // The answer to one line, in the room of an earlier one.
+    /// The answer to one line, in the room of an earlier one.
+    ///
+    /// # Errors
+    ///
+    /// `Memory` where memory was refused.
     pub fn answer(&self, room: Vec<u8>, line: &[u8]) -> Result<Answer, CliError>
         ensures answer { IfOk result (λ a. IsAnswer self.now line.now a.text.items
             a.accepted) }
@@ -111,9 +115,13 @@ fn answer_name(room: Vec<u8>, naming: &Naming<'_>, line: &[u8]) -> Result<Answer
     }
 }
 
-// The answer to a line that is a locale.
+/// The answer to a line that is a locale, which is brought to its canonical form.
+///
+/// # Errors
+///
+/// `Memory` where memory was refused.
 #[inline(always)]
-fn answer_locale(
+pub fn answer_locale(
     room: Vec<u8>,
     canonicalizer: &LocaleCanonicalizer<'_>,
     line: &[u8],

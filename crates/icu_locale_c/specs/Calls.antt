@@ -1,0 +1,127 @@
+-- What the calls answer.
+use Rattle.std.specs.Prelude.{◌≡◌, ◌<◌, ℕ, ◌-◌, Bool, true, false, List, [], take, length, Unit, Option, None, Result, Ok, Err, IsSomeAnd, ℤ, pos}
+use Rattle.std.specs.List.{slice_split}
+use Rattle.icu_locale.specs.LikelyTable.{likely}
+use Rattle.icu_locale.specs.Settled.{AreSettled}
+use Rattle.icu_locale.specs.declared.expander.LocaleExpander.{LocaleExpander}
+use Rattle.icu_tables.specs.Rows.{rows_of}
+use Rattle.icu_tables.specs.Text.{rows_in}
+use Rattle.icu_tables.specs.declared.error.TableError.TheVariants as table
+use Rattle.icu_tables.specs.declared.tables.Tables.{Tables}
+use Rattle.icu_locale_lines.specs.Answers.{IsAnswer}
+use Rattle.icu_locale_lines.specs.Commands.{AreCommandWords}
+use Rattle.icu_locale_lines.specs.Lists.{is_space}
+use Rattle.icu_locale_lines.specs.Works.{IsWorkOf, has_tables}
+use Rattle.icu_locale_lines.specs.WholeRuns.{TellsSettled}
+use Rattle.icu_locale_lines.specs.declared.command.Command.TheVariants.{Settled, Lines}
+use Rattle.icu_locale_lines.specs.declared.command.LineCommand.{LineCommand}
+use Rattle.icu_locale_lines.specs.declared.command.LineCommand.TheVariants.{Negotiate}
+use Rattle.icu_locale_lines.specs.declared.work.Work.{Work}
+use Rattle.icu_locale_c.specs.declared.refusal.Refusal.{Refusal}
+use Rattle.icu_locale_c.specs.declared.refusal.Refusal.TheVariants as refusal
+
+-- a text names a command of the program: its words stand between single spaces
+abbrev pub Names : List ℕ → LineCommand → Type 0
+Names command c = AreCommandWords (slice_split is_space command) (Lines c)
+
+-- a line of the program without its last byte, which is its line feed
+abbrev pub unended : List ℕ → List ℕ
+unended line = take (length line - 1) line
+
+-- what the program writes for a line, without its line feed, and whether the line is accepted
+pub record IsAnswerTo (t : Tables) (command line text : List ℕ) (accepted : Bool) : Type 0 where
+  pub asked : LineCommand
+  pub named : Names command asked
+  pub work : Work
+  pub work_of : IsWorkOf asked t [] work
+  pub whole : List ℕ
+  pub answer : IsAnswer work line whole accepted
+  pub text_is : text ≡ unended whole
+
+-- the answer has no room: how much it wants is told
+pub record WantsRoom (t : Tables) (command line out : List ℕ) (written : ℕ) : Type 0 where
+  pub text : List ℕ
+  pub accepted : Bool
+  pub answer : IsAnswerTo t command line text accepted
+  pub wanted : written ≡ length text
+  pub short : length out < length text
+
+-- the text names a command of which the tables leave out one
+pub record LacksTable (t : Tables) (command : List ℕ) : Type 0 where
+  pub asked : LineCommand
+  pub named : Names command asked
+  pub lacking : has_tables (Lines asked) t ≡ false
+
+-- why there is no answer
+abbrev pub IsRefusedCall : Option Tables → List ℕ → List ℕ → List ℕ → ℕ → Refusal → Type 0
+IsRefusedCall held command line out written refusal.Closed = held ≡ None
+IsRefusedCall held command line out written refusal.Room =
+    IsSomeAnd held (λ t. WantsRoom t command line out written)
+IsRefusedCall held command line out written refusal.Memory = Unit {0}
+IsRefusedCall held command line out written refusal.Command = Unit {0}
+IsRefusedCall held command line out written refusal.Table = IsSomeAnd held (λ t. LacksTable t command)
+IsRefusedCall held command line out written refusal.Negotiate = Names command Negotiate
+IsRefusedCall held command line out written e = ⊥
+
+-- a call over what is held: the answer stands at the beginning of `out`, or `out` is as it was
+abbrev pub IsCall : Option Tables → List ℕ → List ℕ → List ℕ → List ℕ → ℕ
+    → Result Bool Refusal → Type 0
+IsCall held command line out out' written (Ok accepted) =
+    IsSomeAnd held (λ t. IsAnswerTo t command line (take written out') accepted)
+IsCall held command line out out' written (Err e) =
+    (out' ≡ out) × IsRefusedCall held command line out written e
+
+-- why no tables are read
+abbrev pub IsRefusedOpen : List ℕ → Refusal → Type 0
+IsRefusedOpen json refusal.Json = rows_in json ≡ Err table.Json
+IsRefusedOpen json refusal.Shape = rows_in json ≡ Err table.Shape
+IsRefusedOpen json refusal.Memory = Unit {0}
+IsRefusedOpen json e = ⊥
+
+-- tables are read and held, or what was held stays
+abbrev pub IsOpened : List ℕ → Option Tables → Option Tables → Result (Unit {0}) Refusal → Type 0
+IsOpened json old new (Ok u) = IsSomeAnd new (λ t. rows_in json ≡ Ok (rows_of t))
+IsOpened json old new (Err e) = (new ≡ old) × IsRefusedOpen json e
+
+-- the same tables are held twice, or what was held stays
+abbrev pub IsShared : Option Tables → Option Tables → Option Tables → Result (Unit {0}) Refusal
+    → Type 0
+IsShared from old new (Ok u) = IsSomeAnd from (λ t. IsSomeAnd new (λ s. s ≡ t))
+IsShared from old new (Err refusal.Closed) = (new ≡ old) × (from ≡ None)
+IsShared from old new (Err refusal.Memory) = new ≡ old
+IsShared from old new (Err e) = ⊥
+
+-- whether the tables that are held are settled
+abbrev pub IsSettledCall : Option Tables → Result Bool Refusal → Type 0
+IsSettledCall held (Ok settled) = IsSomeAnd held (λ t. TellsSettled t settled)
+IsSettledCall held (Err refusal.Closed) = held ≡ None
+IsSettledCall held (Err refusal.Table) = IsSomeAnd held (λ t. has_tables Settled t ≡ false)
+IsSettledCall held (Err e) = ⊥
+
+-- the number of a refusal
+abbrev pub number : Refusal → ℤ
+number refusal.Closed = pos 2
+number refusal.Room = pos 3
+number refusal.Memory = pos 4
+number refusal.Json = pos 5
+number refusal.Shape = pos 6
+number refusal.Command = pos 7
+number refusal.Table = pos 8
+number refusal.Negotiate = pos 9
+
+-- the number of what a call did that gives nothing: 0 where it did it
+abbrev pub done_number : Result (Unit {0}) Refusal → ℤ
+done_number (Ok u) = pos 0
+done_number (Err e) = number e
+
+-- the number of an answer: 0 where the line is accepted, and 1 where it is refused
+abbrev pub answer_number : Result Bool Refusal → ℤ
+answer_number (Ok true) = pos 0
+answer_number (Ok false) = pos 1
+answer_number (Err e) = number e
+
+-- the number of a yes or a no: 1 and 0
+abbrev pub yes_number : Result Bool Refusal → ℤ
+yes_number (Ok true) = pos 1
+yes_number (Ok false) = pos 0
+yes_number (Err e) = number e

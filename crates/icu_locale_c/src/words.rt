@@ -1,0 +1,92 @@
+//! The command that a text names.
+ghost use Rattle.std.specs.Prelude.{◌≡◌, ◌∷◌, [], codes, IfOk, IfErr};
+ghost use Rattle.std.specs.List.{slice_split};
+ghost use Rattle.std.specs.Option.{MatchOption};
+ghost use Rattle.icu_locale_lines.specs.Commands.{AreCommandWords};
+ghost use Rattle.icu_locale_lines.specs.Lists.{is_space};
+ghost use Rattle.icu_locale_lines.specs.declared.command.Command.TheVariants.{Lines};
+ghost use Rattle.icu_locale_c.specs.Calls.{Names};
+
+use crate::refusal::Refusal;
+use icu_locale_lines::{CliError, Command, LineCommand};
+use std::alloc::Global;
+
+// The command that a text names: the program's words, one space between two.
+pub fn read_command(alloc: Global, text: &[u8]) -> Result<LineCommand, Refusal>
+    ensures named { IfOk result (Names text.now) }
+    ensures refused { IfErr result (λ e. e ≡ Refusal.Command) }
+{
+    match str::from_utf8(text) {
+        Ok(text) => command_in(alloc, text),
+        Err(_) => Err(Refusal::Command),
+    }
+}
+
+fn command_in(alloc: Global, text: &str) -> Result<LineCommand, Refusal>
+    ensures named { IfOk result (Names text.now) }
+    ensures refused { IfErr result (λ e. e ≡ Refusal.Command) }
+{
+    match cut(text) {
+        Some((word, rest)) => {
+            if word == "name" {
+                named_in(alloc, rest)
+            } else {
+                Err(Refusal::Command)
+            }
+        }
+        None => one_word(text),
+    }
+}
+
+fn one_word(word: &str) -> Result<LineCommand, Refusal>
+    ensures named { IfOk result (λ c. AreCommandWords (word.now ∷ []) (Lines c)) }
+    ensures refused { IfErr result (λ e. e ≡ Refusal.Command) }
+{
+    match Command::from_word(word) {
+        Ok(Command::Lines(command)) => Ok(command),
+        _ => Err(Refusal::Command),
+    }
+}
+
+// The command `name` of what stands behind its word.
+fn named_in(alloc: Global, rest: &str) -> Result<LineCommand, Refusal>
+    ensures named { IfOk result (λ c. AreCommandWords
+        (codes "name" ∷ slice_split is_space rest.now) (Lines c)) }
+    ensures refused { IfErr result (λ e. e ≡ Refusal.Command) }
+{
+    match cut(rest) {
+        Some((chain, text)) => named_by(alloc, chain, text),
+        None => Err(Refusal::Command),
+    }
+}
+
+// The command `name` of a chain and of preferences, in which no space may stand.
+fn named_by(alloc: Global, chain: &str, text: &str) -> Result<LineCommand, Refusal>
+    ensures named { IfOk result (λ c. AreCommandWords
+        (codes "name" ∷ chain.now ∷ slice_split is_space text.now) (Lines c)) }
+    ensures refused { IfErr result (λ e. e ≡ Refusal.Command) }
+{
+    match cut(text) {
+        Some(_) => Err(Refusal::Command),
+        None => named(alloc, chain, text),
+    }
+}
+
+fn named(alloc: Global, chain: &str, text: &str) -> Result<LineCommand, Refusal>
+    ensures named { IfOk result (λ c. AreCommandWords
+        (codes "name" ∷ chain.now ∷ text.now ∷ []) (Lines c)) }
+    ensures refused { IfErr result (λ e. e ≡ Refusal.Command) }
+{
+    match Command::name(alloc, chain, text) {
+        Ok(Command::Lines(command)) => Ok(command),
+        _ => Err(Refusal::Command),
+    }
+}
+
+// A text up to its first space, and what stands behind that, if there is one.
+fn cut(text: &str) -> Option<(&str, &str)>
+    ensures { MatchOption result (slice_split is_space text.now ≡ text.now ∷ [])
+        (λ x. slice_split is_space text.now ≡ x.0.now ∷ slice_split is_space x.1.now) }
+{
+    text.split_once(' ')
+}
