@@ -1,5 +1,5 @@
 -- What a command that is read answers over tables.
-use Rattle.std.specs.Prelude.{◌≡◌, ℕ, Bool, false, List, [], Unit}
+use Rattle.std.specs.Prelude.{◌≡◌, ℕ, Bool, false, List, []}
 use Rattle.icu_tables.specs.declared.tables.Tables.{Tables}
 use Rattle.icu_locale_lines.specs.Answers.{IsAnswer}
 use Rattle.icu_locale_lines.specs.Works.{IsWorkOf, has_tables}

@@ -1,7 +1,7 @@
 //! Locale identifiers for programs in C, and for what calls C: the program's answer to a line, over tables behind a handle.
 #![tactic(auto)]
 
-ghost use Rattle.std.specs.Prelude.{◌≡◌, None, Bool, Unit, Result, IfErr};
+ghost use Rattle.std.specs.Prelude.{◌≡◌, None, Bool, Result, IfErr};
 ghost use Rattle.icu_locale_c.specs.Calls.{IsCall, IsOpened, IsShared, IsSettledCall, done_number, answer_number, yes_number};
 ghost use Rattle.icu_locale_c.specs.declared.refusal.Refusal.{Refusal};
 

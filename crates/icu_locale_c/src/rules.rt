@@ -9,6 +9,7 @@ use icu_locale::{LocaleCanonicalizer, LocaleExpander, Rule, Rules};
 use icu_locale_core::{Language, LanguageIdentifier, Subtag, Value};
 use icu_provider::{Aliases, RowList, SortedMap};
 use std::alloc::Global;
+use std::mem::replace;
 
 // What rules own.
 pub struct KeptRules {
@@ -34,26 +35,19 @@ impl Drop for KeptRules {
 }
 
 impl KeptRules {
-    // What a canonicalizer's rules own.
-    pub fn of(canonicalizer: LocaleCanonicalizer<'_>) -> KeptRules
-        ensures { (table : Aliases) → AreRules table canonicalizer.entry.rules → AreKept table result }
+    // What a canonicalizer's rules own. Nothing is read, and no memory is taken.
+    pub fn of(mut canonicalizer: LocaleCanonicalizer<'_>) -> KeptRules
+        ensures { (table : Aliases) → AreRules table canonicalizer.entry.rules
+            → AreKept table result }
     {
-        let LocaleCanonicalizer { rules, expander: _ } = canonicalizer;
-        let Rules {
-            language,
-            language_variants,
-            language_len2,
-            language_len3,
-            subdivision,
-            aliases: _,
-            alloc,
-        } = rules;
+        let rules = &mut canonicalizer.rules;
+        let alloc = rules.alloc;
         KeptRules {
-            language,
-            language_variants,
-            language_len2,
-            language_len3,
-            subdivision,
+            language: replace(&mut rules.language, RowList::new(alloc)),
+            language_variants: replace(&mut rules.language_variants, RowList::new(alloc)),
+            language_len2: replace(&mut rules.language_len2, SortedMap::new(alloc)),
+            language_len3: replace(&mut rules.language_len3, SortedMap::new(alloc)),
+            subdivision: replace(&mut rules.subdivision, SortedMap::new(alloc)),
             alloc,
         }
     }
