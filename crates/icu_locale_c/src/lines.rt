@@ -1,12 +1,15 @@
 //! The program's line for a line, over tables.
 ghost use Rattle.std.specs.Prelude.{◌≡◌, ◌<◌, ◌-◌, take, length, IfOk, IfErr, IfSome};
+ghost use Rattle.icu_locale_lines.specs.Answers.{IsAnswer};
 ghost use Rattle.icu_locale_lines.specs.declared.command.LineCommand.TheVariants as command;
+ghost use Rattle.icu_locale_lines.specs.declared.work.Work.TheVariants as work;
 ghost use Rattle.icu_locale_c.specs.Asked.{IsLineOf, IsRefusedLine};
 ghost use Rattle.icu_locale_c.specs.Calls.{unended};
 ghost use Rattle.icu_locale_c.specs.Rules.{AreKeptOf};
 
 use crate::refusal::Refusal;
 use crate::rules::{KeptRules, canonicalizer};
+use icu_locale::LocaleCanonicalizer;
 use icu_locale_lines::{Answer, CliError, LineCommand, Loaded, answer_locale, load_expander};
 use icu_tables::Tables;
 use std::alloc::Global;
@@ -59,11 +62,23 @@ pub fn canonicalize(
         Ok(canonicalizer) => canonicalizer,
         Err(refusal) => return (Err(refusal), None),
     };
-    let answer = match answer_locale(room, &canonicalizer, line) {
+    let answer = locale_line(room, &canonicalizer, line);
+    (answer, Some(KeptRules::of(canonicalizer)))
+}
+
+fn locale_line(
+    room: Vec<u8>,
+    canonicalizer: &LocaleCanonicalizer<'_>,
+    line: &[u8],
+) -> Result<Answer, Refusal>
+    ensures answered { IfOk result (λ a. IsAnswer (work.Canonicalize canonicalizer.now) line.now
+        a.text.items a.accepted) }
+    ensures refused { IfErr result (λ e. e ≡ Refusal.Memory) }
+{
+    match answer_locale(room, canonicalizer, line) {
         Ok(answer) => Ok(answer),
         Err(_) => Err(Refusal::Memory),
-    };
-    (answer, Some(KeptRules::of(canonicalizer)))
+    }
 }
 
 // Writes a line without its line feed to the beginning of `out`. Where it has no room, its length alone is told.

@@ -1,10 +1,8 @@
-use Rattle.std.proofs.Common.{rules, ◌≡◌, ◌<◌, ◌-◌, take, length, IfOk, IfErr, IfSome, ℕ, ◌+◌, ◌*◌, ◌≤◌, ◌/◌, ◌%◌, Bool, true, false, nat_eq, nat_lt, List, [], ◌∷◌, ◌++◌, slice_index_or, slice_set, bit_and, bit_or, Fits, w8, w32, w64, Bor, MutBor}
-use Rattle.icu_locale_lines.specs.declared.command.LineCommand.TheVariants as command
-use Rattle.icu_locale_c.specs.Asked.{IsLineOf, IsRefusedLine}
-use Rattle.icu_locale_c.specs.Calls.{unended}
-use Rattle.icu_locale_c.specs.Rules.{AreKeptOf}
+use Rattle.std.proofs.Common.{sym}
+use Rattle.icu_locale_c.proofs.CanonicalLines.{line_over_rules}
 use Rattle.icu_locale_c.proofs.lines.canonicalize.Goals as goal
 
--- src/lines.rt:39:1
 pub returns-clause-answered : goal.returns-clause-answered
-returns-clause-answered c = ?
+returns-clause-answered c =
+    line_over_rules c.args.tables.now c.in-Ok.expander c.in-Ok-canonicalizer.canonicalizer c.in-Some.aliases c.args.line.now c.in-Ok.ensures.made c.in-Ok-canonicalizer.ensures.expander c.in-Some.is c.in-Ok-canonicalizer.ensures.rules
+    c.locale_line-answer.result c.locale_line-answer.ensures.answered
