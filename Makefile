@@ -1,14 +1,19 @@
-# `make` proves the program and what it stands on, and leaves it here; `make test` checks every crate; `make install`
-# copies the program and its manual page; `make compare` measures the program beside others, once it is built;
-# `make clean` takes away what was built, and the next `make` then proves all from nothing.
+# `make` proves the program and what it stands on, and leaves it here; `make c` proves the calls for C, and leaves their
+# libraries in out/c; `make test` checks every crate; `make install` copies the program and its manual page, and what
+# `make c` has left; `make compare` measures the program beside others, once it is built; `make clean` takes away what
+# was built, and the next `make` then proves all from nothing.
 PROGRAM = icu_locale_cli
 PREFIX = /usr/local
+C_FILES = libicu_locale.a libicu_locale.so libicu_locale.so.0 pkgconfig/icu_locale.pc
 
-.PHONY: all test compare install uninstall clean
+.PHONY: all c test compare install uninstall clean
 .SILENT: test
 
 all:
 	tools/build $(PROGRAM)
+
+c: $(PROGRAM)
+	tools/build-c
 
 test:
 	.ci/layout/run
@@ -32,9 +37,18 @@ install: $(PROGRAM)
 	install -d "$(DESTDIR)$(PREFIX)/bin" "$(DESTDIR)$(PREFIX)/share/man/man1"
 	install -m 755 $(PROGRAM) "$(DESTDIR)$(PREFIX)/bin/$(PROGRAM)"
 	install -m 644 man/$(PROGRAM).1 "$(DESTDIR)$(PREFIX)/share/man/man1/$(PROGRAM).1"
+	if [ -d out/c ]; then \
+	    install -d "$(DESTDIR)$(PREFIX)/include" "$(DESTDIR)$(PREFIX)/lib/pkgconfig" && \
+	    install -m 644 out/c/icu_locale.h "$(DESTDIR)$(PREFIX)/include/icu_locale.h" && \
+	    install -m 644 out/c/libicu_locale.a out/c/libicu_locale.so.0 "$(DESTDIR)$(PREFIX)/lib" && \
+	    ln -sf libicu_locale.so.0 "$(DESTDIR)$(PREFIX)/lib/libicu_locale.so" && \
+	    sed 's|@includedir@|$(PREFIX)/include|; s|@libdir@|$(PREFIX)/lib|' tools/icu_locale.pc.in \
+	        > "$(DESTDIR)$(PREFIX)/lib/pkgconfig/icu_locale.pc"; \
+	fi
 
 uninstall:
-	rm -f "$(DESTDIR)$(PREFIX)/bin/$(PROGRAM)" "$(DESTDIR)$(PREFIX)/share/man/man1/$(PROGRAM).1"
+	rm -f "$(DESTDIR)$(PREFIX)/bin/$(PROGRAM)" "$(DESTDIR)$(PREFIX)/share/man/man1/$(PROGRAM).1" \
+	    "$(DESTDIR)$(PREFIX)/include/icu_locale.h" $(C_FILES:%="$(DESTDIR)$(PREFIX)/lib/%")
 
 clean:
 	rm -rf out crates/*/out $(PROGRAM)

@@ -1,0 +1,107 @@
+// Each request for memory is refused in its turn: `memory TABLES`, a file with the sample. Built with the linker's
+// --wrap=malloc and --wrap=realloc, so that the library's requests come here.
+#include "shared.h"
+
+static long requests, refused_at;
+
+void *__real_malloc(size_t size);
+void *__real_realloc(void *block, size_t size);
+
+static int is_refused(void) {
+    requests += 1;
+    return requests == refused_at;
+}
+
+void *__wrap_malloc(size_t size) {
+    return is_refused() ? NULL : __real_malloc(size);
+}
+
+void *__wrap_realloc(void *block, size_t size) {
+    return is_refused() ? NULL : __real_realloc(block, size);
+}
+
+static uint8_t *json;
+static size_t length;
+
+static const char *rows[][3] = {
+    {"maximize", "de-1996-1901", "de-Latn-DE-1901-1996\tM"},
+    {"canonicalize", "sh\tabcdefg", "sr-Latn\txyz\tM"},
+    {"canonicalize", "ja\tpiece000-piece001", "ja\tpiece000-piece001\tU"},
+    {"name light en", "it-Latn-fonipa-posix", "Italian (Latin, IPA Phonetics, posix)\tR"},
+    {"maximize", "e", "?\tInvalidLanguage"},
+};
+
+enum { ROWS = sizeof rows / sizeof *rows };
+
+static int32_t row_of(struct icu_locale *handle, int row) {
+    static uint8_t out[128];
+    size_t written;
+    int32_t number = icu_locale_answer(handle, (const uint8_t *)rows[row][0], strlen(rows[row][0]), (const uint8_t *)rows[row][1],
+                                       strlen(rows[row][1]), out, sizeof out, &written);
+    if (number == ICU_LOCALE_ACCEPTED || number == ICU_LOCALE_REFUSED)
+        want(written == strlen(rows[row][2]) && !memcmp(out, rows[row][2], written), "another answer, where memory is refused");
+    else
+        want(number == ICU_LOCALE_MEMORY && written == 0, "another number than that of refused memory");
+    return number;
+}
+
+// All that is done over two handles. Where a request is refused, what was held stays, and the call says so.
+static int run(void) {
+    struct icu_locale one = {0}, other = {0};
+    int refusals = 0;
+    int32_t number = icu_locale_open(json, length, &one);
+    want(number == ICU_LOCALE_DONE ? !!one.at : number == ICU_LOCALE_MEMORY && !one.at, "an open");
+    refusals += number == ICU_LOCALE_MEMORY;
+    if (number != ICU_LOCALE_DONE) want(icu_locale_open(json, length, &one) == ICU_LOCALE_DONE, "the next open");
+    for (int row = 0; row < ROWS; row++) {
+        if (row_of(&one, row) != ICU_LOCALE_MEMORY) continue;
+        refusals += 1;
+        want(row_of(&one, row) != ICU_LOCALE_MEMORY, "the next call is refused too");
+    }
+    number = icu_locale_share(&one, &other);
+    want(number == ICU_LOCALE_DONE ? !!other.at : number == ICU_LOCALE_MEMORY && !other.at, "a share");
+    refusals += number == ICU_LOCALE_MEMORY;
+    number = icu_locale_open(json, length, &one);
+    want(one.at && (number == ICU_LOCALE_DONE || number == ICU_LOCALE_MEMORY), "an open of an open handle");
+    refusals += number == ICU_LOCALE_MEMORY;
+    for (int row = 0; row < ROWS; row++) refusals += row_of(&one, row) == ICU_LOCALE_MEMORY;
+    icu_locale_close(&one);
+    icu_locale_close(&other);
+    return refusals;
+}
+
+// What is prepared is kept: behind the first call of a command, calls on an identifier without variants take no memory.
+static void kept(void) {
+    struct icu_locale handle = {0};
+    const char *commands[] = {"maximize", "minimize", "canonicalize", "direction"};
+    uint8_t out[64];
+    size_t written;
+    want(icu_locale_open(json, length, &handle) == ICU_LOCALE_DONE, "the sample");
+    for (size_t place = 0; place < sizeof commands / sizeof *commands; place++)
+        for (int time = 0; time < 3; time++) {
+            requests = 0;
+            want(icu_locale_answer(&handle, (const uint8_t *)commands[place], strlen(commands[place]), (const uint8_t *)"zh-TW", 5,
+                                   out, sizeof out, &written) == ICU_LOCALE_ACCEPTED, commands[place]);
+            want(time == 0 || requests == 0, "a later call takes memory");
+        }
+    icu_locale_close(&handle);
+}
+
+int main(int count, char **names) {
+    if (count != 2) return 2;
+    json = bytes_of(names[1], &length);
+    requests = refused_at = 0;
+    want(run() == 0, "a request is refused, and none should be");
+    long all = requests, told = 0;
+    for (long number = 1; number <= all; number++) {
+        requests = 0;
+        refused_at = number;
+        told += run() > 0;
+    }
+    refused_at = 0;
+    kept();
+    printf("%ld requests, each refused in its turn: %ld calls say so, and the others did without\n", all, told);
+    want(told > all / 2, "few calls say so");
+    free(json);
+    return faults != 0;
+}
