@@ -1,6 +1,7 @@
 -- What the calls answer.
 use Rattle.std.specs.Prelude.{◌≡◌, ◌<◌, ℕ, ◌-◌, Bool, true, false, List, [], take, length, Option, None, Result, Ok, Err, IsSomeAnd, ℤ, pos}
 use Rattle.std.specs.List.{slice_split}
+use Rattle.std.specs.Str.{IsUtf8}
 use Rattle.icu_locale.specs.LikelyTable.{likely}
 use Rattle.icu_locale.specs.Settled.{AreSettled}
 use Rattle.icu_locale.specs.declared.expander.LocaleExpander.{LocaleExpander}
@@ -23,6 +24,14 @@ use Rattle.icu_locale_c.specs.declared.refusal.Refusal.TheVariants as refusal
 -- a text names a command of the program: its words stand between single spaces
 abbrev pub Names : List ℕ → LineCommand → Type 0
 Names command c = AreCommandWords (slice_split is_space command) (Lines c)
+
+-- the words are those of no command that answers lines
+abbrev pub AreNoCommand : List (List ℕ) → Type 0
+AreNoCommand words = (c : LineCommand) → ¬ (AreCommandWords words (Lines c))
+
+-- a text in UTF-8 that names none
+abbrev pub NamesNone : List ℕ → Type 0
+NamesNone command = IsUtf8 command → AreNoCommand (slice_split is_space command)
 
 -- a line of the program without its last byte, which is its line feed
 abbrev pub unended : List ℕ → List ℕ
@@ -58,7 +67,7 @@ IsRefusedCall held command line out written refusal.Closed = held ≡ None
 IsRefusedCall held command line out written refusal.Room =
     IsSomeAnd held (λ t. WantsRoom t command line out written)
 IsRefusedCall held command line out written refusal.Memory = Unit {0}
-IsRefusedCall held command line out written refusal.Command = Unit {0}
+IsRefusedCall held command line out written refusal.Command = NamesNone command
 IsRefusedCall held command line out written refusal.Table = IsSomeAnd held (λ t. LacksTable t command)
 IsRefusedCall held command line out written refusal.Negotiate = Names command Negotiate
 IsRefusedCall held command line out written e = ⊥

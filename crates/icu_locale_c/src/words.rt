@@ -5,7 +5,7 @@ ghost use Rattle.std.specs.Option.{MatchOption};
 ghost use Rattle.icu_locale_lines.specs.Commands.{AreCommandWords};
 ghost use Rattle.icu_locale_lines.specs.Lists.{is_space};
 ghost use Rattle.icu_locale_lines.specs.declared.command.Command.TheVariants.{Lines};
-ghost use Rattle.icu_locale_c.specs.Calls.{Names};
+ghost use Rattle.icu_locale_c.specs.Calls.{AreNoCommand, Names, NamesNone};
 
 use crate::refusal::Refusal;
 use icu_locale_lines::{CliError, Command, LineCommand};
@@ -14,7 +14,7 @@ use std::alloc::Global;
 // The command that a text names: the program's words, one space between two.
 pub fn read_command(alloc: Global, text: &[u8]) -> Result<LineCommand, Refusal>
     ensures named { IfOk result (Names text.now) }
-    ensures refused { IfErr result (λ e. e ≡ Refusal.Command) }
+    ensures refused { IfErr result (λ e. (e ≡ Refusal.Command) × NamesNone text.now) }
 {
     match str::from_utf8(text) {
         Ok(text) => command_in(alloc, text),
@@ -24,7 +24,8 @@ pub fn read_command(alloc: Global, text: &[u8]) -> Result<LineCommand, Refusal>
 
 fn command_in(alloc: Global, text: &str) -> Result<LineCommand, Refusal>
     ensures named { IfOk result (Names text.now) }
-    ensures refused { IfErr result (λ e. e ≡ Refusal.Command) }
+    ensures refused { IfErr result (λ e. (e ≡ Refusal.Command)
+        × AreNoCommand (slice_split is_space text.now)) }
 {
     match cut(text) {
         Some((word, rest)) => {
@@ -40,7 +41,7 @@ fn command_in(alloc: Global, text: &str) -> Result<LineCommand, Refusal>
 
 fn one_word(word: &str) -> Result<LineCommand, Refusal>
     ensures named { IfOk result (λ c. AreCommandWords (word.now ∷ []) (Lines c)) }
-    ensures refused { IfErr result (λ e. e ≡ Refusal.Command) }
+    ensures refused { IfErr result (λ e. (e ≡ Refusal.Command) × AreNoCommand (word.now ∷ [])) }
 {
     match Command::from_word(word) {
         Ok(Command::Lines(command)) => Ok(command),
@@ -52,7 +53,8 @@ fn one_word(word: &str) -> Result<LineCommand, Refusal>
 fn named_in(alloc: Global, rest: &str) -> Result<LineCommand, Refusal>
     ensures named { IfOk result (λ c. AreCommandWords
         (codes "name" ∷ slice_split is_space rest.now) (Lines c)) }
-    ensures refused { IfErr result (λ e. e ≡ Refusal.Command) }
+    ensures refused { IfErr result (λ e. (e ≡ Refusal.Command)
+        × AreNoCommand (codes "name" ∷ slice_split is_space rest.now)) }
 {
     match cut(rest) {
         Some((chain, text)) => named_by(alloc, chain, text),
@@ -64,7 +66,8 @@ fn named_in(alloc: Global, rest: &str) -> Result<LineCommand, Refusal>
 fn named_by(alloc: Global, chain: &str, text: &str) -> Result<LineCommand, Refusal>
     ensures named { IfOk result (λ c. AreCommandWords
         (codes "name" ∷ chain.now ∷ slice_split is_space text.now) (Lines c)) }
-    ensures refused { IfErr result (λ e. e ≡ Refusal.Command) }
+    ensures refused { IfErr result (λ e. (e ≡ Refusal.Command)
+        × AreNoCommand (codes "name" ∷ chain.now ∷ slice_split is_space text.now)) }
 {
     match cut(text) {
         Some(_) => Err(Refusal::Command),
@@ -75,7 +78,8 @@ fn named_by(alloc: Global, chain: &str, text: &str) -> Result<LineCommand, Refus
 fn named(alloc: Global, chain: &str, text: &str) -> Result<LineCommand, Refusal>
     ensures named { IfOk result (λ c. AreCommandWords
         (codes "name" ∷ chain.now ∷ text.now ∷ []) (Lines c)) }
-    ensures refused { IfErr result (λ e. e ≡ Refusal.Command) }
+    ensures refused { IfErr result (λ e. (e ≡ Refusal.Command)
+        × AreNoCommand (codes "name" ∷ chain.now ∷ text.now ∷ [])) }
 {
     match Command::name(alloc, chain, text) {
         Ok(Command::Lines(command)) => Ok(command),
