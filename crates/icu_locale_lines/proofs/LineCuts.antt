@@ -1,6 +1,6 @@
 -- Where a text is cut: at its first line feed, and at any other separator.
 use Rattle.std.proofs.Common.{◌≡◌, ◌≢◌, ℕ, Bool, ◌+◌, ◌≤◌, nat_lt, length, arith, true, false, cond, List, [], ◌∷◌, take, drop, Some, None, refl, ap, sym, ◌∙◌}
-use Rattle.std.specs.List.{slice_split, position, position_or_len, before_first, after_first}
+use Rattle.std.specs.List.{position, position_or_len, before_first, after_first}
 use Rattle.std.proofs.lemmas.Option.{cond_some, none-some}
 use Rattle.std.proofs.lemmas.Bool.Decides.{nat_tests}
 use Rattle.std.proofs.lemmas.List.{take_all, drop_all}

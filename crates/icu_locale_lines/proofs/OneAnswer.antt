@@ -1,5 +1,5 @@
 -- A line has one answer at most.
-use Rattle.std.proofs.Common.{◌≡◌, ◌≢◌, ◌↔◌, ◌⊎◌, ℕ, ◌<◌, ◌≤◌, Bool, true, false, ◌&&◌, List, [], ◌∷◌, ◌++◌, map, Option, Some, None, Result, Ok, Err, refl, ap, sym, subst, ◌∙◌, inl, inr, arith}
+use Rattle.std.proofs.Common.{◌≡◌, ◌≢◌, ◌↔◌, ◌⊎◌, ℕ, ◌<◌, ◌≤◌, Bool, true, ◌&&◌, List, [], ◌∷◌, ◌++◌, map, Option, Some, None, Result, Ok, Err, refl, ap, sym, subst, ◌∙◌, inl, inr, arith}
 use Rattle.std.specs.Prelude.{slice_index_or, nat_le}
 use Rattle.std.specs.List.{list_all, slice_get}
 use Rattle.std.specs.Char.{is_ascii_alphabetic, to_ascii_lowercase}
@@ -38,7 +38,7 @@ use Rattle.icu_locale_lines.specs.declared.transform.Transform.TheVariants.{Maxi
 use Rattle.icu_locale_lines.specs.Answers.{IsAnswer, IsForm, IsTransformed, IsDirected, IsNamed, IsCanonicalized, IsIdentifierAnswer, IsLocaleAnswer, IsListAnswer}
 use Rattle.icu_locale_lines.specs.Lists.{listed, SpellsAll, IsRefusal}
 use Rattle.icu_locale_lines.specs.Names.{IsNamedLine, name_by}
-use Rattle.icu_locale_lines.specs.Texts.{transformed_line, canonical_line, override_line, refused_line, matched_line}
+use Rattle.icu_locale_lines.specs.Texts.{transformed_line, canonical_line, refused_line, matched_line}
 
 -- two answers are the same
 pub record SameAnswer (one two : List ℕ) (a b : Bool) : Type 0 where

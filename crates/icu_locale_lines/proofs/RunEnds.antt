@@ -19,21 +19,7 @@ use Rattle.icu_locale_lines.specs.Runs.{ReadsAll, WritesAll, WritesWholeLines, W
 use Rattle.icu_locale_lines.specs.Works.{has_tables, text_answered, IsWorkOf, IsUnsettled}
 use Rattle.icu_locale_lines.specs.inner.Causes.{IsRefusedList}
 use Rattle.icu_locale_lines.specs.Output.{Stream}
-use Rattle.icu_locale_lines.specs.WholeRuns.{
-  WritesLines,
-  WritesSettled,
-  WritesOutput,
-  StopsAmongLines,
-  IsRefusedLines,
-  IsRefusedSettled,
-  IsRefusedOutput,
-  IsRun,
-  IsLineRun,
-  IsRefusedLineRun,
-  IsRefusedRun,
-  ReadsTables,
-  IsRefusedJsonRun,
-}
+use Rattle.icu_locale_lines.specs.WholeRuns.{WritesLines, WritesSettled, StopsAmongLines, IsRefusedLines, IsRefusedSettled, IsRefusedOutput, IsRun, IsLineRun, IsRefusedLineRun, IsRefusedRun, ReadsTables, IsRefusedJsonRun}
 
 -- the end of `settled` is the end of a run that reads nothing
 pub settled_run : (t : Tables) (read wrote wrote' : Option (List ℕ)) (r : Result Status CliError) → IfOk r (WritesSettled t wrote wrote') → IfOk r (IsRun command.Settled t read read wrote wrote')

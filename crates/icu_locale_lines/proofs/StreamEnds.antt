@@ -1,8 +1,8 @@
 -- How the ends of a stream's parts make the ends of the stream.
-use Rattle.std.proofs.Common.{◌≡◌, ◌⊎◌, ℕ, Bool, true, false, List, [], ◌∷◌, ◌++◌, Option, Some, None, Result, Ok, Err, IfOk, IfErr, inl, inr, refl, ap, sym, subst, ◌∙◌, append_assoc, append-nil}
+use Rattle.std.proofs.Common.{◌≡◌, ℕ, false, List, [], ◌∷◌, ◌++◌, Some, None, Result, Ok, Err, IfOk, IfErr, inr, refl, ap, sym, subst, ◌∙◌, append_assoc, append-nil}
 use Rattle.std.specs.List.{list_any}
 use Rattle.std.specs.Io.KnownBytes.{Consumes, IsAtEnd, prepend_known}
-use Rattle.std.proofs.KnownBytes.{Consumes-nil, Consumes-trans}
+use Rattle.std.proofs.KnownBytes.{Consumes-trans}
 use Rattle.icu_locale.specs.LikelyTable.{likely}
 use Rattle.icu_locale.specs.Negotiation.{Negotiation}
 use Rattle.icu_locale.specs.Settled.{AreSettled}
@@ -22,8 +22,8 @@ use Rattle.icu_locale_lines.specs.Lists.{listed, SpellsAll}
 use Rattle.icu_locale_lines.specs.Loads.{IsExpanderOf}
 use Rattle.icu_locale_lines.specs.Output.{Stream}
 use Rattle.icu_locale_lines.specs.Runs.{ReadsAll, WritesAll}
-use Rattle.icu_locale_lines.specs.Streams.{StopsStream, StopsAmong, IsStoppedLineStream, IsRefusedLineStream, ReadsLine, ReadsTablesLine, IsJsonStream, IsRefusedJsonStream, line_end}
-use Rattle.icu_locale_lines.specs.WholeRuns.{WritesLines, WritesSettled, IsRefusedSettled, IsLineRun}
+use Rattle.icu_locale_lines.specs.Streams.{StopsStream, StopsAmong, IsStoppedLineStream, IsRefusedLineStream, ReadsTablesLine, IsJsonStream, IsRefusedJsonStream}
+use Rattle.icu_locale_lines.specs.WholeRuns.{WritesSettled, IsRefusedSettled, IsLineRun}
 use Rattle.icu_locale_lines.specs.Works.{IsWorkOf, text_answered}
 use Rattle.icu_locale_lines.proofs.FirstLines.{place_of_end, alone}
 use Rattle.icu_locale_lines.proofs.Streaming.{WritesAll-none}

@@ -28,7 +28,8 @@ abbrev pub EndsLines : List ℕ → Type 0
 EndsLines t = (t ≡ []) ⊎ ((front : List ℕ) × (t ≡ front ++ 10 ∷ []))
 
 -- the lines that a text ends are answered, and what is behind the last is left
-pub record AnswersEnded (work : Work) (text left : List ℕ) (old new : Stream) (status : Status) : Type 0 where
+pub record AnswersEnded (work : Work) (text left : List ℕ) (old new : Stream)
+    (status : Status) : Type 0 where
   pub ended : List ℕ
   pub whole : EndsLines ended
   pub parted : text ≡ ended ++ left
@@ -44,12 +45,14 @@ pub record StopsBetween (work : Work) (read read' wrote wrote' : Stream) : Type 
   pub unended : list_any is_line_feed left ≡ false
 
 -- what came is answered as far as Leaves says
-abbrev pub StopsWithin : (Work → List ℕ → Stream → Stream → Type 0) → Work → Stream → Stream → Stream → Stream → Type 0
-StopsWithin Leaves work read read' wrote wrote' = (text : List ℕ) × Consumes read read' text × Leaves work text wrote wrote'
+abbrev pub StopsWithin : (Work → List ℕ → Stream → Stream → Type 0) → Work → Stream → Stream
+    → Stream → Stream → Type 0
+StopsWithin Leaves work read read' wrote wrote' =
+    (text : List ℕ) × Consumes read read' text × Leaves work text wrote wrote'
 
--- what lines leave that stop early: after a failed read each line that had ended is answered; where memory was refused
--- whole lines alone are written; a failed write leaves the earlier lines and a beginning of the one in hand, and a
--- failed flush each line that had ended
+-- what lines leave that stop early: after a failed read each line that had ended is answered; where
+-- memory was refused whole lines alone are written; a failed write leaves the earlier lines and a
+-- beginning of the one in hand, and a failed flush each line that had ended
 abbrev pub StopsStream : Work → Stream → Stream → Stream → Stream → CliError → Type 0
 StopsStream work read read' wrote wrote' error.Read = StopsBetween work read read' wrote wrote'
 StopsStream work read read' wrote wrote' error.Memory =

@@ -49,7 +49,8 @@ pub record WritesSettled (t : Tables) (wrote wrote' : Stream) (status : Status) 
 -- what a command writes over tables for an input
 abbrev pub WritesOutput : Command → Tables → List ℕ → Stream → Stream → Status → Type 0
 WritesOutput command.Settled t input wrote wrote' status = WritesSettled t wrote wrote' status
-WritesOutput (command.Lines c) t input wrote wrote' status = WritesLines c t input wrote wrote' status
+WritesOutput (command.Lines c) t input wrote wrote' status =
+    WritesLines c t input wrote wrote' status
 
 -- the lines stopped early, with what Leaves says on the writer
 pub record StopsAmongLines (Leaves : Work → List ℕ → Stream → Stream → Type 0) (c : LineCommand)

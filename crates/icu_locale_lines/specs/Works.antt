@@ -9,7 +9,7 @@ use Rattle.icu_locale_lines.specs.Lines.{first_line, after_first_line}
 use Rattle.icu_locale_lines.specs.Lists.{listed, SpellsAll}
 use Rattle.icu_locale_lines.specs.Loads.{IsExpanderOf, has_likely}
 use Rattle.icu_locale_lines.specs.declared.command.Command.{Command}
-use Rattle.icu_locale_lines.specs.declared.command.Command.TheVariants.{Settled, Lines}
+use Rattle.icu_locale_lines.specs.declared.command.Command.TheVariants.{Lines}
 use Rattle.icu_locale_lines.specs.declared.command.LineCommand.{LineCommand}
 use Rattle.icu_locale_lines.specs.declared.command.LineCommand.TheVariants.{Transform, Canonicalize, Direction, Negotiate, Name}
 use Rattle.icu_locale_lines.specs.declared.work.Work.{Work}

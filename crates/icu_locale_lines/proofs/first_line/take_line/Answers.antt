@@ -1,6 +1,6 @@
-use Rattle.std.proofs.Common.{◌≡◌, false, ◌++◌, ◌∷◌, ap, sym, ◌∙◌, subst, rules, length}
+use Rattle.std.proofs.Common.{◌≡◌, false, ◌++◌, ◌∷◌, ap, sym, ◌∙◌, subst, length}
 use Rattle.std.specs.List.{list_any}
-use Rattle.icu_locale_lines.specs.Lines.{is_line_feed, first_line}
+use Rattle.icu_locale_lines.specs.Lines.{is_line_feed}
 use Rattle.icu_locale_lines.proofs.FirstLines.{whole_by_length, cut_by_length}
 use Rattle.icu_locale_lines.proofs.first_line.take_line.Goals as goal
 

@@ -1,4 +1,4 @@
-use Rattle.std.proofs.Common.{◌≡◌, subst, rules, IfOk, IfErr}
+use Rattle.std.proofs.Common.{subst, rules, IfOk, IfErr}
 use Rattle.icu_locale_lines.specs.Runs.{ReadsAll}
 use Rattle.icu_locale_lines.specs.WholeRuns.{WritesLines, IsRefusedLines}
 use Rattle.icu_locale_lines.proofs.RunEnds.{lines_run, lines_read}

@@ -1,4 +1,4 @@
-use Rattle.std.proofs.Common.{◌≡◌, [], Err, IfErr, sym, subst, rules}
+use Rattle.std.proofs.Common.{[], IfErr, sym, subst, rules}
 use Rattle.std.specs.Io.KnownBytes.{prepend_known}
 use Rattle.std.proofs.KnownBytes.{Consumes-nil}
 use Rattle.icu_locale_lines.specs.Streams.{IsStoppedLineStream}

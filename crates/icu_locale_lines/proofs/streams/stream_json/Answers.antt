@@ -1,4 +1,4 @@
-use Rattle.std.proofs.Common.{◌≡◌, IfOk, IfErr, ap, sym, subst, ◌∙◌}
+use Rattle.std.proofs.Common.{IfOk, IfErr, ap, sym, subst, ◌∙◌}
 use Rattle.std.specs.Io.KnownBytes.{prepend_known}
 use Rattle.icu_tables.specs.Text.{rows_in}
 use Rattle.icu_locale_lines.specs.Streams.{ReadsLine, ReadsTablesLine, IsRefusedLineStream}

@@ -1,4 +1,4 @@
-use Rattle.std.proofs.Common.{◌≡◌, ◌++◌, ◌∷◌, [], ℕ, List, IfOk, IfErr, true, false, sym, subst, ◌∙◌, ap}
+use Rattle.std.proofs.Common.{◌++◌, ◌∷◌, [], ℕ, List, IfOk, IfErr, sym, subst}
 use Rattle.std.specs.Io.KnownBytes.{Consumes, prepend_known}
 use Rattle.icu_locale.specs.LikelyTable.{likely}
 use Rattle.icu_locale.specs.Settled.{AreSettled}
