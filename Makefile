@@ -1,8 +1,8 @@
-# `make` proves the program and what it stands on, and leaves it here; `make c` proves the calls for C, and leaves their
-# libraries in out/c; `make test` checks every crate; `make install` copies the program and its manual page, and what
-# `make c` has left; `make compare` measures the program beside others, once it is built; `make clean` takes away what
-# was built, and the next `make` then proves all from nothing.
-PROGRAM = icu_locale_cli
+# `make` proves the two programs and what they stand on, and leaves them here; `make c` proves the calls for C, and leaves their
+# libraries in out/c; `make test` checks every crate; `make install` copies the programs and their manual pages, and
+# what `make c` has left; `make compare` measures icu_locale_cli beside others, once it is built; `make clean` takes away
+# what was built, and the next `make` then proves all from nothing.
+PROGRAMS = icu_locale_cli icu_locale_stream
 PREFIX = /usr/local
 C_FILES = libicu_locale.a libicu_locale.so libicu_locale.so.0 pkgconfig/icu_locale.pc
 
@@ -10,9 +10,9 @@ C_FILES = libicu_locale.a libicu_locale.so libicu_locale.so.0 pkgconfig/icu_loca
 .SILENT: test
 
 all:
-	tools/build $(PROGRAM)
+	tools/build $(PROGRAMS)
 
-c: $(PROGRAM)
+c: $(PROGRAMS)
 	tools/build-c
 
 test:
@@ -29,14 +29,14 @@ test:
 compare:
 	bench/compare/run
 
-# Builds the program only where it is not there.
-$(PROGRAM):
-	tools/build $(PROGRAM)
+# Builds a program only where it is not there.
+$(PROGRAMS):
+	tools/build $@
 
-install: $(PROGRAM)
+install: $(PROGRAMS)
 	install -d "$(DESTDIR)$(PREFIX)/bin" "$(DESTDIR)$(PREFIX)/share/man/man1"
-	install -m 755 $(PROGRAM) "$(DESTDIR)$(PREFIX)/bin/$(PROGRAM)"
-	install -m 644 man/$(PROGRAM).1 "$(DESTDIR)$(PREFIX)/share/man/man1/$(PROGRAM).1"
+	install -m 755 $(PROGRAMS) "$(DESTDIR)$(PREFIX)/bin"
+	install -m 644 $(PROGRAMS:%=man/%.1) "$(DESTDIR)$(PREFIX)/share/man/man1"
 	if [ -d out/c ]; then \
 	    install -d "$(DESTDIR)$(PREFIX)/include" "$(DESTDIR)$(PREFIX)/lib/pkgconfig" && \
 	    install -m 644 out/c/icu_locale.h "$(DESTDIR)$(PREFIX)/include/icu_locale.h" && \
@@ -47,9 +47,9 @@ install: $(PROGRAM)
 	fi
 
 uninstall:
-	rm -f "$(DESTDIR)$(PREFIX)/bin/$(PROGRAM)" "$(DESTDIR)$(PREFIX)/share/man/man1/$(PROGRAM).1" \
+	rm -f $(PROGRAMS:%="$(DESTDIR)$(PREFIX)/bin/%") $(PROGRAMS:%="$(DESTDIR)$(PREFIX)/share/man/man1/%.1") \
 	    "$(DESTDIR)$(PREFIX)/include/icu_locale.h" $(C_FILES:%="$(DESTDIR)$(PREFIX)/lib/%")
 
 clean:
-	rm -rf out crates/*/out $(PROGRAM)
+	rm -rf out crates/*/out $(PROGRAMS)
 	find tools bench .ci -name __pycache__ -prune -exec rm -rf {} +
