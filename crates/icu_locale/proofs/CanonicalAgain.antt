@@ -8,7 +8,7 @@ use Rattle.icu_locale_core.specs.declared.locale.Locale.{Locale}
 use Rattle.icu_locale_core.specs.Maps.{value_at}
 use Rattle.icu_locale.specs.LikelySubtags.{LikelySubtags}
 use Rattle.icu_locale.specs.Kinds.{next, by_language_alias}
-use Rattle.icu_locale.specs.Canonical.{rg, sd, next_value, subdivision_alias, put, AreCanonicalKeywords, IsCanonical, answer_of, is_applied}
+use Rattle.icu_locale.specs.Canonical.{rg, sd, next_value, subdivision_alias, put_optional, AreCanonicalKeywords, IsCanonical, answer_of, is_applied}
 use Rattle.icu_locale.specs.Cost.{NeedsNoMemory, HasNothingToCopy}
 use Rattle.icu_locale.specs.Refusals.{ComesAgainFirst, RulesEnd, EndsInPlace, IsMemory, IsRefusal, ValueComesAgainFirst}
 use Rattle.icu_locale.specs.Run.{BecomesEnd, IsLaterEndOf}
@@ -106,7 +106,7 @@ keywords_same : (rules : Rules) (old new : KeywordRows) → subdivision_alias ru
 keywords_same rules old new no_rg no_sd are =
     let region_override = later_end_none (next_value rules) (value_at text_cmp old rg) are.region_override no_rg are.region_override_end in
     let subdivision = later_end_none (next_value rules) (value_at text_cmp old sd) are.subdivision no_sd are.subdivision_end in
-    (λ i. put (put old rg (sym region_override i)) sd (sym subdivision i)) ∙ sym are.whole
+    (λ i. put_optional (put_optional old rg (sym region_override i)) sd (sym subdivision i)) ∙ sym are.whole
 
 -- nothing is applied to a locale that is its canonical form, and only to that
 unapplied_same : (likely : LikelySubtags) (rules : Rules) (old new : Locale) → is_applied likely rules old ≡ false → IsCanonical likely rules old new → old ≡ new
@@ -167,7 +167,7 @@ one_canonical_form likely rules old new other is other_is =
     let held = old.extensions.unicode.keywords in
     let region_override = one_later (next_value rules) (value_at text_cmp held rg) is.keywords.region_override other_is.keywords.region_override is.keywords.region_override_end other_is.keywords.region_override_end in
     let subdivision = one_later (next_value rules) (value_at text_cmp held sd) is.keywords.subdivision other_is.keywords.subdivision is.keywords.subdivision_end other_is.keywords.subdivision_end in
-    let keywords = is.keywords.whole ∙ (λ i. put (put held rg (region_override i)) sd (subdivision i)) ∙ sym other_is.keywords.whole in
+    let keywords = is.keywords.whole ∙ (λ i. put_optional (put_optional held rg (region_override i)) sd (subdivision i)) ∙ sym other_is.keywords.whole in
     λ i. record { id = id i; extensions = record { unicode = record { keywords = keywords i }; transform = record { lang = lang i } } }
 
 -- the rules end on it, so only memory is refused

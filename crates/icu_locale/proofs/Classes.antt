@@ -1,7 +1,7 @@
 -- Minimal forms as the least of their classes: they exist, are one, and tell maximal forms apart.
 use Rattle.std.proofs.Common.{◌≡◌, ◌≢◌, ◌⊎◌, ◌↔◌, refl, ap, subst, sym, ◌∙◌, inl, inr, ⊎_elim, arith}
 use Rattle.icu_locale_core.specs.declared.langid.LanguageIdentifier.{LanguageIdentifier}
-use Rattle.icu_locale.specs.LikelySubtags.{LikelySubtags, IsBare, IsModified, locale_of, with_locale, maximal_locale, maximal, HaveSameMaximalParts}
+use Rattle.icu_locale.specs.LikelySubtags.{LikelySubtags, IsBare, IsModified, subtags_of, with_locale, maximal_locale, maximal, HaveSameMaximalParts}
 use Rattle.icu_locale.specs.declared.expander.Favor.{Favor}
 use Rattle.icu_locale.specs.Minimal.{Precedes, IsInClass, IsLeast, IsMinimalForm}
 use Rattle.icu_locale.specs.Settled.{IsSettled}
@@ -11,7 +11,7 @@ use Rattle.icu_locale.proofs.Least.{IsMinimalForm-first_trial}
 -- there is a minimal form
 pub minimal_form_exists : (favor : Favor) (likely : LikelySubtags) (x : LanguageIdentifier) → (y : LanguageIdentifier) × IsMinimalForm favor likely x y
 minimal_form_exists favor likely x =
-    let m = maximal_locale likely (locale_of x) in
+    let m = maximal_locale likely (subtags_of x) in
     (with_locale x (first_trial likely m (trials favor m)), IsMinimalForm-first_trial likely x favor)
 
 -- of two identifiers not both precede the other
@@ -89,6 +89,6 @@ minimal_keeps_variants favor likely x y (inr (none, is)) = ap (λ z. z.variants)
 -- a maximal form is made of that of the three subtags and of the variants
 pub maximal_by_parts : (likely : LikelySubtags) (x y : LanguageIdentifier) → (maximal likely x ≡ maximal likely y) ↔ HaveSameMaximalParts likely x y
 maximal_by_parts likely x y = (
-  λ same. record { locale = ap locale_of same; variants = ap (λ z. z.variants) same },
+  λ same. record { locale = ap subtags_of same; variants = ap (λ z. z.variants) same },
   λ parts i. record { language = (parts.locale i).language; script = (parts.locale i).script; region = (parts.locale i).region; variants = parts.variants i },
 )

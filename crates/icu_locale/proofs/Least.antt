@@ -4,13 +4,13 @@ use Rattle.std.proofs.lemmas.Bool.{cases_lt, false≢true}
 use Rattle.icu_locale_core.specs.TextSet.{len}
 use Rattle.icu_locale_core.specs.declared.langid.LanguageIdentifier.{LanguageIdentifier}
 use Rattle.icu_provider.specs.declared.data_locale.DataLocale.{DataLocale}
-use Rattle.icu_locale.specs.LikelySubtags.{LikelySubtags, known_subtag, unknown_script, unknown_region, bare_locale, first_found, keys, maximal_locale, locale_of, with_locale}
+use Rattle.icu_locale.specs.LikelySubtags.{LikelySubtags, known_subtag, unknown_script, unknown_region, bare_locale, first_found, keys, maximal_locale, subtags_of, with_locale}
 use Rattle.icu_locale.specs.declared.expander.Favor.{Favor}
 use Rattle.icu_locale.specs.declared.expander.Favor.TheVariants.{RegionFirst, ScriptFirst}
 use Rattle.icu_locale.specs.Minimal.{count, Precedes, IsInClass, IsMinimalForm}
 use Rattle.icu_locale.specs.inner.Trials.{same_locale, alone, with_favored, with_other, first_trial, trials}
 use Rattle.icu_locale.proofs.Locales.{same_locale-Decides}
-use Rattle.icu_locale.proofs.Maximal.{known_subtag-cases, maximal_locale-bare, filled-script, filled-region}
+use Rattle.icu_locale.proofs.Maximal.{known_subtag-cases, maximal_locale-bare, filled_from-script, filled_from-region}
 
 -- a subtag, taken or left
 abbrev chosen : Bool → Option (List ℕ) → Option (List ℕ)
@@ -65,7 +65,7 @@ count-zero (Some t) e is = omega (arith, e)
 module _ (likely : LikelySubtags) (x : LanguageIdentifier) where
   -- the maximal form of x
   abbrev m : DataLocale
-  m = maximal_locale likely (locale_of x)
+  m = maximal_locale likely (subtags_of x)
 
   -- whether a candidate has the maximal form
   abbrev leads : Bool → Bool → Bool
@@ -85,17 +85,17 @@ module _ (likely : LikelySubtags) (x : LanguageIdentifier) where
 
   shaped : (z : LanguageIdentifier) → IsInClass likely x z → (s : Bool) × (r : Bool) × IsShaped z s r
   shaped z member =
-      let bare : DataLocale = bare_locale (locale_of z) in
-      let is_m : maximal_locale likely (locale_of z) ≡ m = ap locale_of member.same in
+      let bare : DataLocale = bare_locale (subtags_of z) in
+      let is_m : maximal_locale likely (subtags_of z) ≡ m = ap subtags_of member.same in
       let found = first_found likely (keys bare) in
-      let script = part_of unknown_script z.script m.script (⊎_elim inl (λ e. inr (sym (ap (λ (w : DataLocale). w.script) is_m) ∙ e)) (filled-script bare found)) in
-      let region = part_of unknown_region z.region m.region (⊎_elim inl (λ e. inr (sym (ap (λ (w : DataLocale). w.region) is_m) ∙ e)) (filled-region bare found)) in
+      let script = part_of unknown_script z.script m.script (⊎_elim inl (λ e. inr (sym (ap (λ (w : DataLocale). w.script) is_m) ∙ e)) (filled_from-script bare found)) in
+      let region = part_of unknown_region z.region m.region (⊎_elim inl (λ e. inr (sym (ap (λ (w : DataLocale). w.region) is_m) ∙ e)) (filled_from-region bare found)) in
       let language : z.language ≡ m.language = member.language in
       let same : bare ≡ candidate m script.0 region.0 = λ i. record { language = language i; script = script.1 i; region = region.1 i } in (
         script.0,
         region.0,
         record {
-          leading = (same_locale-Decides _ m).1 (ap (maximal_locale likely) (sym same) ∙ maximal_locale-bare likely (locale_of z) ∙ is_m);
+          leading = (same_locale-Decides _ m).1 (ap (maximal_locale likely) (sym same) ∙ maximal_locale-bare likely (subtags_of z) ∙ is_m);
           script = script.2;
           region = region.2;
           language = language;
@@ -213,7 +213,7 @@ module _ (likely : LikelySubtags) (x : LanguageIdentifier) where
   IsMinimalForm-first_trial ScriptFirst = by_script _ _ _ refl refl refl
 
 -- so what the trials leave of an identifier is its minimal form
-pub IsMinimalForm-trials : (favor : Favor) (likely : LikelySubtags) (x y : LanguageIdentifier) (given minimal : DataLocale) → given ≡ locale_of x → minimal ≡ first_trial likely (maximal_locale likely given) (trials favor (maximal_locale likely given)) → y ≡ with_locale x minimal → IsMinimalForm favor likely x y
+pub IsMinimalForm-trials : (favor : Favor) (likely : LikelySubtags) (x y : LanguageIdentifier) (given minimal : DataLocale) → given ≡ subtags_of x → minimal ≡ first_trial likely (maximal_locale likely given) (trials favor (maximal_locale likely given)) → y ≡ with_locale x minimal → IsMinimalForm favor likely x y
 IsMinimalForm-trials favor likely x y given minimal is tried leaves =
     let tried_of : DataLocale → DataLocale = λ l. first_trial likely (maximal_locale likely l) (trials favor (maximal_locale likely l)) in
     subst (IsMinimalForm favor likely x) (sym (leaves ∙ ap (with_locale x) (tried ∙ ap tried_of is))) (IsMinimalForm-first_trial likely x favor)

@@ -4,7 +4,7 @@ use Rattle.std.specs.Option.{unwrap_or}
 use Rattle.std.specs.Str.{bytes_eq}
 use Rattle.std.proofs.lemmas.Bool.{cases_cond}
 use Rattle.icu_provider.specs.declared.data_locale.DataLocale.{DataLocale}
-use Rattle.icu_locale.specs.LikelySubtags.{LikelySubtags, Triple, known_subtag, unknown_script, unknown_region, bare_locale, filled, maximal_of_bare, maximal_locale}
+use Rattle.icu_locale.specs.LikelySubtags.{LikelySubtags, Triple, known_subtag, unknown_script, unknown_region, bare_locale, filled_from, maximal_of_bare, maximal_locale}
 
 -- a subtag that is there is removed or stays
 pub known_subtag-cases : (unknown t : List ℕ) → (known_subtag unknown (Some t) ≡ None) ⊎ (known_subtag unknown (Some t) ≡ Some t)
@@ -31,11 +31,11 @@ given_stays None t = inl refl
 given_stays (Some s) t = inr refl
 
 -- filling in leaves a script that is there
-pub filled-script : (x : DataLocale) (found : Option Triple) → (x.script ≡ None) ⊎ ((filled x found).script ≡ x.script)
-filled-script x None = inr refl
-filled-script x (Some t) = given_stays x.script t.1
+pub filled_from-script : (x : DataLocale) (found : Option Triple) → (x.script ≡ None) ⊎ ((filled_from x found).script ≡ x.script)
+filled_from-script x None = inr refl
+filled_from-script x (Some t) = given_stays x.script t.1
 
 -- and a region that is there
-pub filled-region : (x : DataLocale) (found : Option Triple) → (x.region ≡ None) ⊎ ((filled x found).region ≡ x.region)
-filled-region x None = inr refl
-filled-region x (Some t) = given_stays x.region t.2
+pub filled_from-region : (x : DataLocale) (found : Option Triple) → (x.region ≡ None) ⊎ ((filled_from x found).region ≡ x.region)
+filled_from-region x None = inr refl
+filled_from-region x (Some t) = given_stays x.region t.2

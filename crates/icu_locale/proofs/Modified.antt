@@ -4,24 +4,24 @@ use Rattle.std.proofs.lemmas.Bool.{false≢true, cases_Bool}
 use Rattle.icu_locale_core.specs.laws.Identifiers.{identifiers_decide, same_parts}
 use Rattle.icu_locale_core.specs.declared.langid.LanguageIdentifier.{LanguageIdentifier}
 use Rattle.icu_provider.specs.declared.data_locale.DataLocale.{DataLocale}
-use Rattle.icu_locale.specs.LikelySubtags.{LikelySubtags, IsModified, locale_of, maximal, with_locale}
+use Rattle.icu_locale.specs.LikelySubtags.{LikelySubtags, IsModified, subtags_of, maximal, with_locale}
 use Rattle.icu_locale.specs.inner.Trials.{same_locale}
 use Rattle.icu_locale.proofs.Locales.{same_from_test, other_from_test}
 
 -- an identifier with its own locale is itself
-pub same_with_locale : (x : LanguageIdentifier) (y : DataLocale) → y ≡ locale_of x → with_locale x y ≡ x
+pub same_with_locale : (x : LanguageIdentifier) (y : DataLocale) → y ≡ subtags_of x → with_locale x y ≡ x
 same_with_locale x y e = ap (with_locale x) e
 
 -- and with another one it is another
-pub locale_from_same : (x : LanguageIdentifier) (y : DataLocale) → with_locale x y ≡ x → y ≡ locale_of x
-locale_from_same x y e = ap locale_of e
+pub locale_from_same : (x : LanguageIdentifier) (y : DataLocale) → with_locale x y ≡ x → y ≡ subtags_of x
+locale_from_same x y e = ap subtags_of e
 
 -- a locale that is the same leaves the identifier
-pub unchanged : (x : LanguageIdentifier) (given y : DataLocale) → given ≡ locale_of x → true ≡ same_locale y given → with_locale x y ≡ x
+pub unchanged : (x : LanguageIdentifier) (given y : DataLocale) → given ≡ subtags_of x → true ≡ same_locale y given → with_locale x y ≡ x
 unchanged x given y is e = same_with_locale x y (same_from_test y given (sym e) ∙ is)
 
 -- another one changes it
-pub changed : (x : LanguageIdentifier) (given y : DataLocale) → given ≡ locale_of x → false ≡ same_locale y given → with_locale x y ≢ x
+pub changed : (x : LanguageIdentifier) (given y : DataLocale) → given ≡ subtags_of x → false ≡ same_locale y given → with_locale x y ≢ x
 changed x given y is e same = other_from_test y given (sym e) (locale_from_same x y same ∙ sym is)
 
 -- identifiers that cannot differ are equal

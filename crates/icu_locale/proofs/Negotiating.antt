@@ -8,18 +8,18 @@ use Rattle.std.proofs.lemmas.List.Elements.{All-contains, All-push, AllWithin-mo
 use Rattle.std.proofs.lemmas.List.Sorted.{All-permutation, Contains-permutation}
 use Rattle.std.proofs.lemmas.Option.{same_Some, slice_get_read, slice_get_within}
 use Rattle.icu_locale_core.specs.Identifier.{IsIdentifier}
-use Rattle.icu_locale_core.specs.TextSet.{TextSet, empty}
+use Rattle.icu_locale_core.specs.TextSet.{TextSet}
 use Rattle.icu_locale_core.specs.laws.TextSets.{contains-empty}
 use Rattle.icu_locale_core.specs.declared.langid.LanguageIdentifier.{LanguageIdentifier}
 use Rattle.icu_provider.specs.declared.data_locale.DataLocale.{DataLocale}
-use Rattle.icu_locale.specs.LikelySubtags.{LikelySubtags, locale_of, maximal, HaveSameMaximalParts}
+use Rattle.icu_locale.specs.LikelySubtags.{LikelySubtags, subtags_of, maximal, HaveSameMaximalParts}
 use Rattle.icu_locale.specs.Minimal.{IsMinimalForm}
 use Rattle.icu_locale.specs.Negotiation.{IsMatch, IsFirstMatch}
 use Rattle.icu_locale.specs.Settled.{IsSettled, AreSettled}
 use Rattle.icu_locale.specs.declared.expander.Favor.{Favor}
 use Rattle.icu_locale.specs.declared.expander.Favor.TheVariants.{RegionFirst}
 use Rattle.icu_locale.specs.declared.negotiator.Row.{Row}
-use Rattle.icu_locale.specs.inner.Index.{plain, IsPlainForm, row_cmp, IsRowOf, AreListed, IsIndex, IsPartOf, HasVariants, IsFirstRow, MeansAt, IsFirstPlace}
+use Rattle.icu_locale.specs.inner.Index.{without_variants, IsPlainForm, row_cmp, IsRowOf, AreListed, IsIndex, IsPartOf, HasVariants, IsFirstRow, MeansAt, IsFirstPlace}
 
 -- ---- what the laws say
 
@@ -33,7 +33,7 @@ GoesByParts = (table : LikelySubtags) (x y : LanguageIdentifier) → (maximal ta
 
 -- ---- identifiers without their variants
 
-plain_is_identifier : (x : LanguageIdentifier) → IsIdentifier x → IsIdentifier (plain (locale_of x))
+plain_is_identifier : (x : LanguageIdentifier) → IsIdentifier x → IsIdentifier (without_variants (subtags_of x))
 plain_is_identifier x known = record {
   language = known.language;
   script = known.script;
@@ -41,34 +41,27 @@ plain_is_identifier x known = record {
   variants = λ v here. absurd (false≢true (sym (contains-empty v) ∙ here));
 }
 
--- what minimizing leaves of an identifier without variants
-pub IsPlainForm-minimized : (likely : LikelySubtags) (x minimized : LanguageIdentifier) (variants : TextSet) (d : DataLocale) → variants ≡ empty → IsMinimalForm RegionFirst likely (record { language = x.language; script = x.script; region = x.region; variants = variants }) minimized → minimized.variants ≡ variants → d ≡ locale_of minimized → IsPlainForm likely x d
-IsPlainForm-minimized likely x minimized variants d none form same is =
-    let there : minimized ≡ plain d = λ i. record { language = (sym is i).language; script = (sym is i).script; region = (sym is i).region; variants = (same ∙ none) i } in
-    subst (λ (z : LanguageIdentifier). IsMinimalForm RegionFirst likely z (plain d)) (λ i. record { language = x.language; script = x.script; region = x.region; variants = none i })
-    (subst (IsMinimalForm RegionFirst likely (record { language = x.language; script = x.script; region = x.region; variants = variants })) there form)
-
 -- two identifiers have equal maximal forms exactly where, variants aside, their minimal forms are equal, and their
 -- variants are
 module _ (tells : TellsApart) (by_parts : GoesByParts) (likely : LikelySubtags) (settled : AreSettled likely) (x y : LanguageIdentifier) (d e : DataLocale) (known_x : IsIdentifier x) (known_y : IsIdentifier y) (form_x : IsPlainForm likely x d) (form_y : IsPlainForm likely y e) where
   abbrev px : LanguageIdentifier
-  px = plain (locale_of x)
+  px = without_variants (subtags_of x)
 
   abbrev py : LanguageIdentifier
-  py = plain (locale_of y)
+  py = without_variants (subtags_of y)
 
-  apart : (plain d ≡ plain e) ↔ (maximal likely px ≡ maximal likely py)
-  apart = tells RegionFirst likely px py (plain d) (plain e) (settled px (plain_is_identifier x known_x)) (settled py (plain_is_identifier y known_y)) form_x form_y
+  apart : (without_variants d ≡ without_variants e) ↔ (maximal likely px ≡ maximal likely py)
+  apart = tells RegionFirst likely px py (without_variants d) (without_variants e) (settled px (plain_is_identifier x known_x)) (settled py (plain_is_identifier y known_y)) form_x form_y
 
   pub same_maximal_form : d ≡ e → x.variants ≡ y.variants → maximal likely x ≡ maximal likely y
   same_maximal_form same variants =
-      let parts = (by_parts likely px py).0 (apart.0 (ap plain same)) in
+      let parts = (by_parts likely px py).0 (apart.0 (ap without_variants same)) in
       (by_parts likely x y).1 (record { locale = parts.locale; variants = variants })
 
   pub same_plain_form : maximal likely x ≡ maximal likely y → (d ≡ e) × (x.variants ≡ y.variants)
   same_plain_form same =
       let parts = (by_parts likely x y).0 same in (
-        ap locale_of (apart.1 ((by_parts likely px py).1 (record { locale = parts.locale; variants = refl }))),
+        ap subtags_of (apart.1 ((by_parts likely px py).1 (record { locale = parts.locale; variants = refl }))),
         parts.variants,
       )
 

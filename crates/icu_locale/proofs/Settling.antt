@@ -11,9 +11,9 @@ use Rattle.icu_locale_core.specs.declared.langid.LanguageIdentifier.{LanguageIde
 use Rattle.icu_provider.specs.declared.data_locale.DataLocale.{DataLocale}
 use Rattle.icu_locale.specs.declared.expander.looks.LikelyKey.{LikelyKey}
 use Rattle.icu_locale.specs.declared.expander.looks.LikelyKey.TheVariants.{LanguageRegion, LanguageScript, LanguageAlone, ScriptAlone, RegionAlone}
-use Rattle.icu_locale.specs.LikelySubtags.{LikelySubtags, Triple, known_subtag, unknown_script, unknown_region, bare_locale, known_keys, und_keys, first_found, maximal_of_bare, maximal_locale, locale_of, with_locale}
+use Rattle.icu_locale.specs.LikelySubtags.{LikelySubtags, Triple, known_subtag, unknown_script, unknown_region, bare_locale, known_keys, und_keys, first_found, maximal_of_bare, maximal_locale, subtags_of, with_locale}
 use Rattle.icu_locale.specs.Settled.{AreSettled}
-use Rattle.icu_locale.specs.inner.SettledRows.{key_locale, IsLocale, is_settled_locale, settles, IsUnsettled}
+use Rattle.icu_locale.specs.inner.SettledRows.{key_locale, IsLocale, is_settled_locale, settles, HasUnsettled}
 use Rattle.icu_locale.specs.inner.Trials.{same_locale}
 use Rattle.icu_locale.proofs.Locales.{same_locale-Decides, same_text}
 use Rattle.icu_locale.proofs.Maximal.{known_subtag-again}
@@ -44,15 +44,15 @@ is_identifier x known = record {
 }
 
 -- a key that does not settle
-unsettled : (likely : LikelySubtags) (x : DataLocale) → IsLocale x → is_settled_locale likely (maximal_locale likely x) ≡ false → IsUnsettled likely
+unsettled : (likely : LikelySubtags) (x : DataLocale) → IsLocale x → is_settled_locale likely (maximal_locale likely x) ≡ false → HasUnsettled likely
 unsettled likely x known fails = record {
   identifier = identifier_of x;
   is_identifier = is_identifier x known;
-  unsettled = λ settled. false≢true (sym fails ∙ test-from_Stays likely (maximal_locale likely x) (ap locale_of settled.bare) (ap locale_of settled.fixed));
+  unsettled = λ settled. false≢true (sym fails ∙ test-from_Stays likely (maximal_locale likely x) (ap subtags_of settled.bare) (ap subtags_of settled.fixed));
 }
 
 -- what the test of a key's maximal form tells
-pub told : (likely : LikelySubtags) (k : LikelyKey) (m : DataLocale) → IsLocale (key_locale k) → m ≡ maximal_locale likely (key_locale k) → (b : Bool) → b ≡ is_settled_locale likely m → MatchBool b (settles likely k ≡ true) (IsUnsettled likely)
+pub told : (likely : LikelySubtags) (k : LikelyKey) (m : DataLocale) → IsLocale (key_locale k) → m ≡ maximal_locale likely (key_locale k) → (b : Bool) → b ≡ is_settled_locale likely m → MatchBool b (settles likely k ≡ true) (HasUnsettled likely)
 unfolding settles
 told likely k m known is true e = ap (is_settled_locale likely) (sym is) ∙ sym e
 told likely k m known is false e = unsettled likely (key_locale k) known (ap (is_settled_locale likely) (sym is) ∙ sym e)
@@ -174,5 +174,5 @@ module _ (likely : LikelySubtags) where
     -- a table whose rows' keys settle is settled
     pub AreSettled-from_rows : AreSettled likely
     AreSettled-from_rows x known =
-        let kept = every (locale_of x) in
+        let kept = every (subtags_of x) in
         record { bare = ap (with_locale x) kept.bare; fixed = ap (with_locale x) kept.fixed }

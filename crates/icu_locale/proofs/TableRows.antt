@@ -21,7 +21,7 @@ use Rattle.icu_locale.specs.LikelySubtags.{LikelySubtags, Triple}
 use Rattle.icu_locale.specs.LikelyTable.{LikelyRows, common_rows, extended_rows, row_at, common_row, extension_row, und_row, likely}
 use Rattle.icu_locale.specs.TableKeys.{keys_by}
 use Rattle.icu_locale.specs.Settled.{AreSettled}
-use Rattle.icu_locale.specs.inner.SettledRows.{settles, AllSettle, RowsSettle, UndRowsSettle, AllRowsSettle, IsUnsettled}
+use Rattle.icu_locale.specs.inner.SettledRows.{settles, AllSettle, RowsSettle, UndRowsSettle, AllRowsSettle, HasUnsettled}
 use Rattle.icu_locale.specs.declared.expander.LocaleExpander.{LocaleExpander}
 use Rattle.icu_locale_core.specs.laws.TextSets.{text_same}
 use Rattle.icu_locale.proofs.Lists.{Contains-map}
@@ -95,6 +95,6 @@ every_row e all k t f =
     ⊎_elim (row_settles (likely e) (common_rows e.language.now e.script_region.now) all.common k t) (λ rest. ⊎_elim (extension_settles (likely e) e.extended all.extended k t) (und_settles (likely e) e.language.now.und all.und_rows k t) (some_or extended served t rest)) (some_or common (option_or extended served) t f)
 
 -- the table is settled exactly where its rows are
-pub settled_exactly : (e : LocaleExpander) (b : Bool) → MatchBool b (AllRowsSettle e) (IsUnsettled (likely e)) → IsTrue b ↔ AreSettled (likely e)
+pub settled_exactly : (e : LocaleExpander) (b : Bool) → MatchBool b (AllRowsSettle e) (HasUnsettled (likely e)) → IsTrue b ↔ AreSettled (likely e)
 settled_exactly e true all = (λ _. AreSettled-from_rows (likely e) (every_row e all), λ _. refl)
 settled_exactly e false found = (λ is. absurd (false≢true is), λ settled. absurd (found.unsettled (settled found.identifier found.is_identifier)))

@@ -32,9 +32,9 @@ subdivision_alias rules keywords key =
     option_and_then (next_value rules) (value_at text_cmp keywords key)
 
 -- a value put at a key, if there is one
-abbrev pub put : KeywordRows → List ℕ → Option (List (List ℕ)) → KeywordRows
-put keywords key None = keywords
-put keywords key (Some value) = with_value keywords key value
+abbrev pub put_optional : KeywordRows → List ℕ → Option (List (List ℕ)) → KeywordRows
+put_optional keywords key None = keywords
+put_optional keywords key (Some value) = with_value keywords key value
 
 -- the values at `rg` and `sd` become the ends of their runs, and all else stays
 pub record AreCanonicalKeywords (rules : Rules) (old new : KeywordRows) : Type 0 where
@@ -43,7 +43,7 @@ pub record AreCanonicalKeywords (rules : Rules) (old new : KeywordRows) : Type 0
   pub region_override_end : IsLaterEndOf (next_value rules) (value_at text_cmp old rg)
       region_override
   pub subdivision_end : IsLaterEndOf (next_value rules) (value_at text_cmp old sd) subdivision
-  pub whole : new ≡ put (put old rg region_override) sd subdivision
+  pub whole : new ≡ put_optional (put_optional old rg region_override) sd subdivision
 
 -- no transform language stays none, and one becomes the end of its run by language aliases alone
 abbrev pub IsCanonicalTransform : Rules → Option LanguageIdentifier → Option LanguageIdentifier

@@ -30,11 +30,11 @@ abbrev pub with_extended : LikelySubtagsForLanguage → LikelySubtagsForScriptRe
 with_extended a b c = record { language = a; script_region = b; extended = Some c }
 
 -- two answers in this order, or the first refusal
-abbrev pub both : {A B : Type 0} → Result A DataError → Result B DataError
+abbrev pub both_or_refusal : {A B : Type 0} → Result A DataError → Result B DataError
     → Result (A × B) DataError
-both (Err refusal) b = Err refusal
-both (Ok a) (Err refusal) = Err refusal
-both (Ok a) (Ok b) = Ok (a, b)
+both_or_refusal (Err refusal) b = Err refusal
+both_or_refusal (Ok a) (Err refusal) = Err refusal
+both_or_refusal (Ok a) (Ok b) = Ok (a, b)
 
 -- the common tables, loaded in this order, or the first refusal
 abbrev pub loaded_common : Result LikelySubtagsForLanguage DataError

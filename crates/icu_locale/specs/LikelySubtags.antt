@@ -70,9 +70,9 @@ first_found likely [] = None
 first_found likely (k ∷ ks) = option_or (likely k) (first_found likely ks)
 
 -- what is missing, taken from the triple: the language where it is `und`, the script and the region where there is none
-abbrev pub filled : DataLocale → Option Triple → DataLocale
-filled x None = x
-filled x (Some t) = record {
+abbrev pub filled_from : DataLocale → Option Triple → DataLocale
+filled_from x None = x
+filled_from x (Some t) = record {
   language = (if bytes_eq x.language und then t.0 else x.language);
   script = Some (unwrap_or x.script t.1);
   region = Some (unwrap_or x.region t.2);
@@ -80,15 +80,15 @@ filled x (Some t) = record {
 
 -- the maximal form of what is bare already
 abbrev pub maximal_of_bare : LikelySubtags → DataLocale → DataLocale
-maximal_of_bare likely x = filled x (first_found likely (keys x))
+maximal_of_bare likely x = filled_from x (first_found likely (keys x))
 
 -- the maximal form of a language, a script and a region (section 4.3, Add Likely Subtags)
 abbrev pub maximal_locale : LikelySubtags → DataLocale → DataLocale
 maximal_locale likely x = maximal_of_bare likely (bare_locale x)
 
 -- the language, the script and the region of an identifier
-abbrev pub locale_of : LanguageIdentifier → DataLocale
-locale_of x = record { language = x.language; script = x.script; region = x.region }
+abbrev pub subtags_of : LanguageIdentifier → DataLocale
+subtags_of x = record { language = x.language; script = x.script; region = x.region }
 
 -- an identifier with another language, script and region, and its own variants
 abbrev pub with_locale : LanguageIdentifier → DataLocale → LanguageIdentifier
@@ -97,7 +97,7 @@ with_locale x y =
 
 -- the maximal form of an identifier: its variants stay
 abbrev pub maximal : LikelySubtags → LanguageIdentifier → LanguageIdentifier
-maximal likely x = with_locale x (maximal_locale likely (locale_of x))
+maximal likely x = with_locale x (maximal_locale likely (subtags_of x))
 
 -- the script of the maximal form
 abbrev pub likely_script : LikelySubtags → LanguageIdentifier → Option (List ℕ)
@@ -105,7 +105,7 @@ likely_script likely x = (maximal likely x).script
 
 -- no script `Zzzz` and no region `ZZ`
 abbrev pub IsBare : LanguageIdentifier → Type 0
-IsBare x = with_locale x (bare_locale (locale_of x)) ≡ x
+IsBare x = with_locale x (bare_locale (subtags_of x)) ≡ x
 
 -- something was removed from x or filled in
 abbrev pub IsModified : LikelySubtags → LanguageIdentifier → Type 0
@@ -113,5 +113,5 @@ IsModified likely x = (IsBare x → ⊥) ⊎ (maximal likely x ≢ x)
 
 -- the maximal forms of the three subtags are equal, and the variants are
 pub record HaveSameMaximalParts (likely : LikelySubtags) (x y : LanguageIdentifier) : Type 0 where
-  pub locale : maximal_locale likely (locale_of x) ≡ maximal_locale likely (locale_of y)
+  pub locale : maximal_locale likely (subtags_of x) ≡ maximal_locale likely (subtags_of y)
   pub variants : x.variants ≡ y.variants

@@ -37,6 +37,6 @@ IsNegotiated likely requests available None =
 IsNegotiated likely requests available (Some p) = IsFirstMatch likely requests available p.0 p.1
 
 -- what Display writes
-abbrev pub error_name : NegotiatorError → List ℕ
-error_name Memory = codes "Memory"
-error_name NotSettled = codes "NotSettled"
+abbrev pub refusal_name : NegotiatorError → List ℕ
+refusal_name Memory = codes "Memory"
+refusal_name NotSettled = codes "NotSettled"

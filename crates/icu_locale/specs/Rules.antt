@@ -16,26 +16,26 @@ use Rattle.icu_locale.specs.declared.canonicalizer.rules.Rule.{Rule}
 use Rattle.icu_locale.specs.declared.canonicalizer.rules.Rules.{Rules}
 
 -- the text spells the identifier
-pub record Reads (text : List ℕ) (x : LanguageIdentifier) : Type 0 where
+pub record ReadsIdentifier (text : List ℕ) (x : LanguageIdentifier) : Type 0 where
   pub known : IsIdentifier x
   pub spelled : Spells text x
 
 -- a row of the list `language`: both texts are read
 pub record ReadsRule (row : StrStrPair) (rule : Rule) : Type 0 where
-  pub source : Reads (string_bytes row.0) rule.source
-  pub replacement : Reads (string_bytes row.1) rule.replacement
+  pub source : ReadsIdentifier (string_bytes row.0) rule.source
+  pub replacement : ReadsIdentifier (string_bytes row.1) rule.replacement
 
 -- a variant in lower case
 abbrev pub is_lower_variant : List ℕ → Bool
 is_lower_variant p = is_variant p && bytes_eq (lowercase p) p
 
 -- the pieces of a text of variants, cut at `-`, which is 45
-abbrev pub variant_pieces : List ℕ → List (List ℕ)
-variant_pieces t = slice_split (λ c. c == 45) t
+abbrev pub pieces_of_variants : List ℕ → List (List ℕ)
+pieces_of_variants t = slice_split (λ c. c == 45) t
 
 -- each of them is one
 abbrev pub are_lower_variants : List ℕ → Bool
-are_lower_variants t = list_all is_lower_variant (variant_pieces t)
+are_lower_variants t = list_all is_lower_variant (pieces_of_variants t)
 
 -- a row of the list `language_variants`: the variants are taken as a set, and the replacement is read
 pub record ReadsVariantRule (row : LanguageStrStrPair) (rule : Rule) : Type 0 where
@@ -44,15 +44,15 @@ pub record ReadsVariantRule (row : LanguageStrStrPair) (rule : Rule) : Type 0 wh
     language = row.0;
     script = None;
     region = None;
-    variants = from_list (variant_pieces (string_bytes row.1));
+    variants = from_list (pieces_of_variants (string_bytes row.1));
   }
-  pub replacement : Reads (string_bytes row.2) rule.replacement
+  pub replacement : ReadsIdentifier (string_bytes row.2) rule.replacement
 
 -- a row of `language_len2` or `language_len3`: the replacement is read
 pub record ReadsLanguage (row : List ℕ × String Global)
     (kept : List ℕ × LanguageIdentifier) : Type 0 where
   pub key : kept.0 ≡ row.0
-  pub replacement : Reads (string_bytes row.1) kept.1
+  pub replacement : ReadsIdentifier (string_bytes row.1) kept.1
 
 -- a row of `subdivision`: the text is read as a value
 pub record ReadsSubdivision (row : List ℕ × String Global)

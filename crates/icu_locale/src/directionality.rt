@@ -2,7 +2,7 @@
 ghost use Rattle.std.specs.Prelude.{◌≡◌, ◌↔◌, not, IsTrue, None, Some};
 ghost use Rattle.std.specs.List.{list_all};
 ghost use Rattle.icu_provider.specs.ScriptDirection.{is_listed};
-ghost use Rattle.icu_locale.specs.Construction.{both, loaded_common, loaded_extended, DirectsOver, IsMade};
+ghost use Rattle.icu_locale.specs.Construction.{both_or_refusal, loaded_common, loaded_extended, DirectsOver, IsMade};
 ghost use Rattle.icu_locale.specs.LikelySubtags.{likely_script};
 ghost use Rattle.icu_locale.specs.Direction.{AreDisjoint, is_script_in, direction_of};
 
@@ -78,7 +78,7 @@ impl<'d> LocaleDirectionality<'d> {
     /// The first refusal of the provider, unchanged.
     pub fn try_new_common_unstable<P: DataProvider>(provider: &'d P) -> Result<Self, DataError>
         ensures { IsMade DirectsOver
-            (both (loaded_common (P.likely_language provider.now)
+            (both_or_refusal (loaded_common (P.likely_language provider.now)
             (P.likely_script_region provider.now)) (P.script_direction provider.now)) result }
     {
         let expander = LocaleExpander::try_new_common_unstable(provider)?;
@@ -92,7 +92,7 @@ impl<'d> LocaleDirectionality<'d> {
     /// The first refusal of the provider, unchanged.
     pub fn try_new_extended_unstable<P: DataProvider>(provider: &'d P) -> Result<Self, DataError>
         ensures { IsMade DirectsOver
-            (both (loaded_extended (P.likely_language provider.now)
+            (both_or_refusal (loaded_extended (P.likely_language provider.now)
             (P.likely_script_region provider.now) (P.likely_extended provider.now))
             (P.script_direction provider.now)) result }
     {

@@ -1,7 +1,7 @@
 //! Likely subtags: maximal and minimal forms of identifiers.
 
 ghost use Rattle.std.specs.Prelude.{◌≡◌, ◌≢◌, ◌↔◌, false, Some, None};
-ghost use Rattle.icu_locale.specs.LikelySubtags.{bare_locale, locale_of, with_locale, maximal_of_bare, maximal_locale, maximal, likely_script, IsModified};
+ghost use Rattle.icu_locale.specs.LikelySubtags.{bare_locale, subtags_of, with_locale, maximal_of_bare, maximal_locale, maximal, likely_script, IsModified};
 ghost use Rattle.icu_locale.specs.inner.Trials.{alone, with_favored, with_other, IsTried, same_locale};
 ghost use Rattle.icu_locale.specs.LikelyTable.{likely};
 ghost use Rattle.icu_locale.specs.Construction.{loaded_common, loaded_extended, StandsOn, IsMade};
@@ -224,7 +224,7 @@ impl<'d> LocaleExpander<'d> {
 
 // The language, the script and the region of an identifier.
 pub(crate) fn locale_of(id: &LanguageIdentifier) -> DataLocale
-    ensures { result ≡ locale_of id.now }
+    ensures { result ≡ subtags_of id.now }
 {
     DataLocale {
         language: id.language,

@@ -7,7 +7,7 @@ ghost use Rattle.icu_locale_core.specs.Identifier.{IsIdentifier};
 ghost use Rattle.icu_locale_core.specs.TextSet.{text_set_code};
 ghost use Rattle.icu_locale.specs.LikelyTable.{likely};
 ghost use Rattle.icu_locale.specs.Settled.{AreSettled};
-ghost use Rattle.icu_locale.specs.Negotiation.{Negotiation, IsNegotiated, error_name};
+ghost use Rattle.icu_locale.specs.Negotiation.{Negotiation, IsNegotiated, refusal_name};
 ghost use Rattle.icu_locale.specs.inner.Index.{IsPlainForm, row_cmp, IsIndex, IsPartOf, IsFirstRow, IsFirstPlace};
 ghost use Rattle.icu_locale.specs.declared.negotiator.NegotiatorError.TheVariants.{Memory};
 
@@ -31,7 +31,7 @@ pub enum NegotiatorError {
 }
 
 impl fmt::Display for NegotiatorError {
-    ghost output = { λ e. Some (error_name e) };
+    ghost output = { λ e. Some (refusal_name e) };
 
     fn fmt<W: fmt::Write>(&self, f: &mut fmt::Formatter<W>) -> fmt::Result {
         f.write_str(match self {

@@ -13,7 +13,7 @@ ghost use Rattle.icu_locale.specs.declared.expander.looks.LikelyKey.TheVariants.
 ghost use Rattle.icu_locale.specs.LikelySubtags.{bare_locale};
 ghost use Rattle.icu_locale.specs.LikelyTable.{likely};
 ghost use Rattle.icu_locale.specs.Settled.{AreSettled};
-ghost use Rattle.icu_locale.specs.inner.LikelyMaps.{rows_of};
+ghost use Rattle.icu_locale.specs.inner.LikelyMaps.{map_rows};
 ghost use Rattle.icu_locale.specs.inner.Trials.{same_locale};
 ghost use Rattle.icu_locale.specs.inner.SettledRows.{
   key_locale,
@@ -21,7 +21,7 @@ ghost use Rattle.icu_locale.specs.inner.SettledRows.{
   is_settled_locale,
   settles,
   AllSettle,
-  IsUnsettled,
+  HasUnsettled,
   RowsSettle,
   ExtendedRowsSettle,
   UndRowsSettle,
@@ -144,7 +144,7 @@ impl<'d> LocaleExpander<'d> {
     // Whether the maximal form of a key's own subtags is settled.
     fn settles<K: RowKey>(&self, key: &K) -> bool
         ensures { MatchBool result (settles (likely self.now) (K.key key.now) ≡ true)
-            (IsUnsettled (likely self.now)) }
+            (HasUnsettled (likely self.now)) }
     {
         let key = key.key();
         let maximal = self.maximal_locale(key_locale(&key));
@@ -154,7 +154,7 @@ impl<'d> LocaleExpander<'d> {
     // Whether each row's key settles.
     fn all_settle<K: RowKey, V>(&self, rows: &SortedMap<K, V>) -> bool
         ensures { MatchBool result (AllSettle (likely self.now) K.key rows.now)
-            (IsUnsettled (likely self.now)) }
+            (HasUnsettled (likely self.now)) }
     {
         for row in rows.as_slice() {
             if !self.settles(&row.0) {
@@ -166,8 +166,8 @@ impl<'d> LocaleExpander<'d> {
 
     // Whether the keys of a table settle.
     fn table_settles(&self, maps: &LikelyMaps<'_>) -> bool
-        ensures { MatchBool result (RowsSettle (likely self.now) (rows_of maps.now))
-            (IsUnsettled (likely self.now)) }
+        ensures { MatchBool result (RowsSettle (likely self.now) (map_rows maps.now))
+            (HasUnsettled (likely self.now)) }
     {
         self.all_settle(maps.language)
             && self.all_settle(maps.language_script)
@@ -179,7 +179,7 @@ impl<'d> LocaleExpander<'d> {
 
     // Whether the keys of the extended table settle.
     fn extended_rows_settle(&self) -> bool
-        ensures { MatchBool result (ExtendedRowsSettle self.now) (IsUnsettled (likely self.now)) }
+        ensures { MatchBool result (ExtendedRowsSettle self.now) (HasUnsettled (likely self.now)) }
     {
         match self.extended {
             Some(extended) => self.table_settles(&extended_maps(extended)),
@@ -190,7 +190,7 @@ impl<'d> LocaleExpander<'d> {
     // Whether the keys that the triple of `und` serves settle.
     fn und_rows_settle(&self) -> bool
         ensures { MatchBool result (UndRowsSettle (likely self.now) self.now.language.now.und)
-            (IsUnsettled (likely self.now)) }
+            (HasUnsettled (likely self.now)) }
     {
         let (_, script, region) = self.language.und();
         self.settles(&(script, region)) && self.settles(&script) && self.settles(&region)
@@ -198,7 +198,7 @@ impl<'d> LocaleExpander<'d> {
 
     // Whether all keys settle.
     fn rows_settle(&self) -> bool
-        ensures { MatchBool result (AllRowsSettle self.now) (IsUnsettled (likely self.now)) }
+        ensures { MatchBool result (AllRowsSettle self.now) (HasUnsettled (likely self.now)) }
     {
         self.table_settles(&self.common_maps())
             && self.extended_rows_settle()

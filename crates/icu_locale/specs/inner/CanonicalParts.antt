@@ -10,7 +10,7 @@ use Rattle.icu_locale.specs.LikelySubtags.{LikelySubtags}
 use Rattle.icu_locale.specs.Kinds.{next, by_language_alias}
 use Rattle.icu_locale.specs.Run.{IsLaterEnd, IsLaterEndOf, IsRepeat, HasDistinct}
 use Rattle.icu_locale.specs.Cost.{CountsSearches}
-use Rattle.icu_locale.specs.Canonical.{rg, sd, put, next_value}
+use Rattle.icu_locale.specs.Canonical.{rg, sd, put_optional, next_value}
 use Rattle.icu_locale.specs.Refusals.{ComesAgainFirst, ValueRepeats}
 use Rattle.icu_locale.specs.declared.canonicalizer.rules.Rules.{Rules}
 use Rattle.icu_locale.specs.declared.canonicalizer.changes.Changes.{Changes}
@@ -83,7 +83,7 @@ with_changes changes old = record {
   extensions = record {
     unicode = record {
       keywords =
-          put (put old.extensions.unicode.keywords rg changes.region_override)
+          put_optional (put_optional old.extensions.unicode.keywords rg changes.region_override)
           sd changes.subdivision;
     };
     transform = record { lang = option_or changes.transform old.extensions.transform.lang };

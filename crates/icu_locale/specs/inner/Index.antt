@@ -9,29 +9,29 @@ use Rattle.icu_locale_core.specs.Identifier.{IsIdentifier}
 use Rattle.icu_locale_core.specs.TextSet.{TextSet, text_cmp, empty}
 use Rattle.icu_locale_core.specs.declared.langid.LanguageIdentifier.{LanguageIdentifier}
 use Rattle.icu_provider.specs.declared.data_locale.DataLocale.{DataLocale}
-use Rattle.icu_locale.specs.LikelySubtags.{LikelySubtags, maximal, locale_of}
+use Rattle.icu_locale.specs.LikelySubtags.{LikelySubtags, maximal, subtags_of}
 use Rattle.icu_locale.specs.Minimal.{IsMinimalForm}
 use Rattle.icu_locale.specs.declared.expander.Favor.TheVariants.{RegionFirst}
 use Rattle.icu_locale.specs.declared.negotiator.Row.{Row}
 
 -- a language, a script and a region as an identifier without variants
-abbrev pub plain : DataLocale → LanguageIdentifier
-plain d = record { language = d.language; script = d.script; region = d.region; variants = empty }
+abbrev pub without_variants : DataLocale → LanguageIdentifier
+without_variants d = record { language = d.language; script = d.script; region = d.region; variants = empty }
 
 -- d is the minimal form of x, variants aside
 abbrev pub IsPlainForm : LikelySubtags → LanguageIdentifier → DataLocale → Type 0
-IsPlainForm likely x d = IsMinimalForm RegionFirst likely (plain (locale_of x)) (plain d)
+IsPlainForm likely x d = IsMinimalForm RegionFirst likely (without_variants (subtags_of x)) (without_variants d)
 
 -- by language, then script and region, an absent part first
-abbrev pub locale_cmp : DataLocale → DataLocale → Ordering
-locale_cmp x y =
+abbrev pub subtags_cmp : DataLocale → DataLocale → Ordering
+subtags_cmp x y =
     ordering_then (text_cmp x.language y.language)
     (ordering_then (option_cmp text_cmp x.script y.script)
     (option_cmp text_cmp x.region y.region))
 
 -- by minimal form, then place
 abbrev pub row_cmp : Row → Row → Ordering
-row_cmp r s = ordering_then (locale_cmp r.minimal s.minimal) (nat_cmp r.place s.place)
+row_cmp r s = ordering_then (subtags_cmp r.minimal s.minimal) (nat_cmp r.place s.place)
 
 -- a row tells the place of an available identifier, and its minimal form, variants aside
 pub record IsRowOf (likely : LikelySubtags) (available : List LanguageIdentifier) (r : Row)

@@ -3,8 +3,8 @@ use Rattle.icu_locale.specs.LikelyTable.{LikelyRows}
 use Rattle.icu_locale.specs.declared.expander.looks.LikelyMaps.{LikelyMaps}
 
 -- the rows of the maps
-abbrev pub rows_of : LikelyMaps → LikelyRows
-rows_of maps = record {
+abbrev pub map_rows : LikelyMaps → LikelyRows
+map_rows maps = record {
   language = maps.language.now;
   language_script = maps.language_script.now;
   language_region = maps.language_region.now;

@@ -48,7 +48,7 @@ abbrev pub AllSettle : {K V : Type 0} → LikelySubtags → (K → LikelyKey) �
 AllSettle table key rows = All (λ row. settles table (key row.0) ≡ true) rows
 
 -- some identifier's maximal form is not settled
-pub record IsUnsettled (table : LikelySubtags) : Type 0 where
+pub record HasUnsettled (table : LikelySubtags) : Type 0 where
   pub identifier : LanguageIdentifier
   pub is_identifier : IsIdentifier identifier
   pub unsettled : IsSettled table (maximal table identifier) → ⊥

@@ -3,7 +3,7 @@ ghost use Rattle.std.specs.Prelude.{◌≡◌, is_some, IsSome, IsTrue, unwrap_o
 ghost use Rattle.icu_locale_core.specs.Subtag.{is_key, lowercase};
 ghost use Rattle.icu_locale_core.specs.Maps.{value_at};
 ghost use Rattle.icu_locale_core.specs.TextSet.{text_cmp};
-ghost use Rattle.icu_locale.specs.Canonical.{rg, sd, put, answer_of};
+ghost use Rattle.icu_locale.specs.Canonical.{rg, sd, put_optional, answer_of};
 ghost use Rattle.icu_locale.specs.inner.CanonicalParts.{with_changes, has_change};
 
 use crate::TransformResult;
@@ -78,7 +78,7 @@ fn replace<T: Drop>(place: &mut T, by: Option<T>) -> bool
 #[inline(always)]
 fn put(keywords: &mut Keywords, key: Key, value: Option<Value>) -> bool
     requires { IsSome value → IsSome (value_at text_cmp keywords.old key) }
-    ensures rows { keywords.new ≡ put keywords.old key value }
+    ensures rows { keywords.new ≡ put_optional keywords.old key value }
     ensures answer { result ≡ is_some value }
 {
     match value {

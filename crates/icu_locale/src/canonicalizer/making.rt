@@ -1,6 +1,6 @@
 //! Canonicalizers over tables or a provider.
 ghost use Rattle.std.specs.Prelude.{◌≡◌, Ok, IsOk, IfOk, IfErr};
-ghost use Rattle.icu_locale.specs.Construction.{common, with_extended, both, loaded_common, loaded_extended, RewritesOver, ReadsNoTexts, IsMadeInMemory};
+ghost use Rattle.icu_locale.specs.Construction.{common, with_extended, both_or_refusal, loaded_common, loaded_extended, RewritesOver, ReadsNoTexts, IsMadeInMemory};
 ghost use Rattle.icu_locale.specs.Rules.{AreRules, HasNoTexts};
 
 use super::LocaleCanonicalizer;
@@ -111,7 +111,7 @@ impl<'d> LocaleCanonicalizer<'d, LocaleExpander<'d>> {
         provider: &'d P,
     ) -> Result<Self, DataError>
         ensures { IsMadeInMemory RewritesOver ReadsNoTexts
-            (both (loaded_common (P.likely_language provider.now)
+            (both_or_refusal (loaded_common (P.likely_language provider.now)
             (P.likely_script_region provider.now)) (P.aliases provider.now)) result }
     {
         let expander = LocaleExpander::try_new_common_unstable(provider)?;
@@ -130,7 +130,7 @@ impl<'d> LocaleCanonicalizer<'d, LocaleExpander<'d>> {
         provider: &'d P,
     ) -> Result<Self, DataError>
         ensures { IsMadeInMemory RewritesOver ReadsNoTexts
-            (both (loaded_extended (P.likely_language provider.now)
+            (both_or_refusal (loaded_extended (P.likely_language provider.now)
             (P.likely_script_region provider.now) (P.likely_extended provider.now))
             (P.aliases provider.now)) result }
     {

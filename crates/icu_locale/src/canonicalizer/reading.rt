@@ -7,13 +7,13 @@ ghost use Rattle.icu_locale_core.specs.Identifier.{has_variant};
 ghost use Rattle.icu_locale_core.specs.TextSet.{from_list};
 ghost use Rattle.icu_locale_core.specs.Value.{read_value};
 ghost use Rattle.icu_locale.specs.Rules.{
-  Reads,
+  ReadsIdentifier,
   ReadsRule,
   ReadsVariantRule,
   ReadsLanguage,
   ReadsSubdivision,
   is_lower_variant,
-  variant_pieces,
+  pieces_of_variants,
   are_lower_variants,
   AreRead,
 };
@@ -148,7 +148,7 @@ impl Readable for (Subtag, String) {
 
 fn read_identifier(alloc: Global, text: &str) -> Result<Option<LanguageIdentifier>, DataError>
     ensures read { IfOk result (λ x. MatchOption x
-        ((y : LanguageIdentifier) → ¬ (Reads text.now y)) (Reads text.now)) }
+        ((y : LanguageIdentifier) → ¬ (ReadsIdentifier text.now y)) (ReadsIdentifier text.now)) }
     ensures refused { IfErr result (λ e. e.kind ≡ DataErrorKind.Memory) }
     ensures free { has_variant text.now ≡ false → IsOk result }
 {
@@ -163,14 +163,14 @@ fn read_identifier(alloc: Global, text: &str) -> Result<Option<LanguageIdentifie
 fn read_variants(alloc: Global, text: &str) -> Result<Option<Variants>, DataError>
     ensures read { IfOk result (λ s. MatchOption s (are_lower_variants text.now ≡ false)
         (λ s. (are_lower_variants text.now ≡ true)
-        × (s ≡ from_list (variant_pieces text.now)))) }
+        × (s ≡ from_list (pieces_of_variants text.now)))) }
     ensures refused { IfErr result (λ e. e.kind ≡ DataErrorKind.Memory) }
 {
     read_pieces(alloc, &variant_pieces(alloc, text)?)
 }
 
 fn variant_pieces(alloc: Global, text: &str) -> Result<Vec<&str>, AllocError>
-    ensures { IfOk result (λ pieces. map (λ p. p.now) pieces.items ≡ variant_pieces text.now) }
+    ensures { IfOk result (λ pieces. map (λ p. p.now) pieces.items ≡ pieces_of_variants text.now) }
 {
     text.split('-').collect(alloc)
 }

@@ -7,7 +7,7 @@ ghost use Rattle.icu_locale.specs.LikelySubtags.{
   unknown_script,
   unknown_region,
   bare_locale,
-  filled,
+  filled_from,
   first_found,
   known_keys,
   und_keys,
@@ -15,7 +15,7 @@ ghost use Rattle.icu_locale.specs.LikelySubtags.{
 };
 ghost use Rattle.icu_locale.specs.LikelyTable.{row_at, common_rows, extended_rows, extension_row, und_row, likely};
 ghost use Rattle.icu_locale.specs.inner.Filling.{locale_with, is_unknown, loses, gains};
-ghost use Rattle.icu_locale.specs.inner.LikelyMaps.{rows_of};
+ghost use Rattle.icu_locale.specs.inner.LikelyMaps.{map_rows};
 
 use crate::expander::LocaleExpander;
 use icu_locale_core::{Language, Region, Script};
@@ -50,7 +50,7 @@ impl<'d> LikelyMaps<'d> {
     // The triple at a key: the key's own subtags, and the values of the row.
     #[inline(always)]
     fn row_at(&self, key: &LikelyKey) -> Option<Triple>
-        ensures { result ≡ row_at (rows_of self.now) key.now }
+        ensures { result ≡ row_at (map_rows self.now) key.now }
     {
         match *key {
             LikelyKey::LanguageRegion(language, region) => {
@@ -91,7 +91,7 @@ fn value_at<K: Ord + Copy, V: Copy>(map: &SortedMap<K, V>, key: K) -> Option<V>
 
 // The maps of the extended table.
 pub(crate) fn extended_maps(extended: &LikelySubtagsExtended) -> LikelyMaps<'_>
-    ensures { rows_of result ≡ extended_rows extended.now }
+    ensures { map_rows result ≡ extended_rows extended.now }
 {
     LikelyMaps {
         language: &extended.language,
@@ -119,7 +119,7 @@ fn und_row(und: Triple, key: &LikelyKey) -> Option<Triple>
 impl<'d> LocaleExpander<'d> {
     // The maps of the two common tables.
     pub(crate) fn common_maps(&self) -> LikelyMaps<'d>
-        ensures { rows_of result ≡ common_rows self.now.language.now self.now.script_region.now }
+        ensures { map_rows result ≡ common_rows self.now.language.now self.now.script_region.now }
     {
         LikelyMaps {
             language: &self.language.language,
@@ -139,7 +139,7 @@ impl<'d> LocaleExpander<'d> {
         script: Option<Script>,
         region: Option<Region>,
     ) -> Option<Triple>
-        ensures { let bare = locale_with language script region in filled bare result
+        ensures { let bare = locale_with language script region in filled_from bare result
             ≡ maximal_of_bare (likely self.now) bare }
     {
         if language.is_unknown() {
@@ -236,7 +236,7 @@ pub(crate) fn fill_in(
     row: Triple,
 ) -> bool
     ensures value { locale_with language.new script.new region.new
-        ≡ filled (locale_with language.old script.old region.old) (Some row) }
+        ≡ filled_from (locale_with language.old script.old region.old) (Some row) }
     ensures told { result ≡ gains (locale_with language.old script.old region.old) row }
 {
     let is_new = language.is_unknown() && !row.0.is_unknown();

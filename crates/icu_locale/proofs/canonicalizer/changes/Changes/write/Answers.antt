@@ -1,9 +1,9 @@
 use Rattle.std.proofs.Common.{refl}
 use Rattle.icu_locale.specs.Canonical.{rg, sd}
-use Rattle.icu_locale.proofs.Keywords.{put-other}
+use Rattle.icu_locale.proofs.Keywords.{put_optional-other}
 use Rattle.icu_locale.proofs.canonicalizer.changes.Changes.write.Goals as goal
 
 pub put-is_subdivision_changed-requires : goal.put-is_subdivision_changed-requires
 put-is_subdivision_changed-requires c there =
     let keywords = c.args.locale.now.extensions.unicode.keywords in
-    rw (c.subdivision_key.ensures, c.put-is_region_changed.ensures.rows, c.region_override_key.ensures, put-other keywords rg sd c.args.self.region_override refl) (c.requires.subdivision there)
+    rw (c.subdivision_key.ensures, c.put-is_region_changed.ensures.rows, c.region_override_key.ensures, put_optional-other keywords rg sd c.args.self.region_override refl) (c.requires.subdivision there)
