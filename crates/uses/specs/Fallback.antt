@@ -1,13 +1,11 @@
 -- What is served where no available identifier means the same as a request.
-use Rattle.std.specs.Prelude.{◌≡◌, List, [], ◌∷◌, None, Option, Some}
-use Rattle.std.specs.Str.{bytes_eq}
-use Rattle.std.specs.Prelude.{if◌then◌else◌, Bool, false, not}
+use Rattle.std.specs.Prelude.{◌≡◌, ◌≢◌, ℕ, List, [], ◌∷◌, None, Option, Some}
 use Rattle.icu_locale_core.specs.Subtag.{und}
 use Rattle.icu_locale_core.specs.TextSet.{empty}
 use Rattle.icu_locale_core.specs.declared.langid.LanguageIdentifier.{LanguageIdentifier}
 use Rattle.icu_locale.specs.LikelySubtags.{LikelySubtags, maximal}
 
--- without variants
+-- an identifier without its variants
 abbrev pub plain_form : LanguageIdentifier → LanguageIdentifier
 plain_form x = record {
   language = x.language;
@@ -16,7 +14,7 @@ plain_form x = record {
   variants = empty;
 }
 
--- language and script alone
+-- its language and its script alone
 abbrev pub wide_form : LanguageIdentifier → LanguageIdentifier
 wide_form x = record {
   language = x.language;
@@ -26,9 +24,10 @@ wide_form x = record {
 }
 
 -- the language is known, and there is a script
-abbrev pub has_script : LanguageIdentifier → Bool
-has_script x = by_script (not (bytes_eq x.language und)) x.script
-  where
-    by_script : Bool → Option (List _) → Bool
-    by_script known None = false
-    by_script known (Some s) = known
+abbrev pub HasScript : LanguageIdentifier → Type 0
+HasScript x = (x.language ≢ und) × (s : List ℕ) × (x.script ≡ Some s)
+
+-- two identifiers are read alike: their maximal forms have one language and one script
+pub record AreReadAlike (likely : LikelySubtags) (x y : LanguageIdentifier) : Type 0 where
+  pub language : (maximal likely x).language ≡ (maximal likely y).language
+  pub script : (maximal likely x).script ≡ (maximal likely y).script

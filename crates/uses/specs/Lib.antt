@@ -1,3 +1,4 @@
+pub mod Fallback
 pub mod Keys
 pub mod Meaning
 pub mod Menu

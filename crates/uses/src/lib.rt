@@ -11,6 +11,7 @@ mod menu;
 mod negotiation;
 mod rows;
 mod spelling;
+mod switcher;
 
 pub use canonical::canonicalize_twice;
 pub use fallback::{find_form, minimal_form};
@@ -22,3 +23,4 @@ pub use menu::{MenuError, MenuLine, menu_line, menu_lines};
 pub use negotiation::find_served;
 pub use rows::table_with_row;
 pub use spelling::is_spelling;
+pub use switcher::serve;
