@@ -1,0 +1,344 @@
+"""Likely subtags, canonical forms, directions and names of locale identifiers, by the proved library.
+
+>>> from icu_locale import Tables
+>>> from icu_locale.example import TABLES
+>>> with Tables.from_json(TABLES) as tables:
+...     tables.maximize("zh-TW"), tables.direction("ar"), tables.name("it-US", "en")
+('zh-Hant-TW', 'rtl', 'Italian (United States)')
+
+`from_json` reads tables as docs/TABLES.md describes them. The shared object libicu_locale.so is looked for where the
+variable ICU_LOCALE_LIBRARY says, then in out/c of this repository, where `make c` leaves it, and then where the system
+looks for libraries.
+"""
+import ctypes
+import os
+import threading
+from pathlib import Path
+from types import TracebackType
+from typing import Final, Literal, NamedTuple, Optional, Type, Union
+
+__all__ = ["Tables", "Canonical", "Direction", "Text", "Refused", "Closed", "MemoryRefused", "NoJson", "NoTables",
+           "NoCommand", "TableMissing", "NotAnsweredHere", "LineRefused", "InvalidLanguage", "InvalidSubtag", "NoFixedPoint",
+           "NoSubdivisionFixedPoint", "NameMissing"]
+
+Text = Union[str, bytes]
+Direction = Literal["ltr", "rtl"]
+
+ACCEPTED: Final = 0
+LINE_REFUSED: Final = 1
+ROOM: Final = 3
+
+
+class Refused(Exception):
+    """A call that gives no answer. `number` is that of icu_locale.h."""
+
+    number: int = -1
+
+
+class Closed(Refused, ValueError):
+    """The tables are closed."""
+
+    number = 2
+
+
+class MemoryRefused(Refused, MemoryError):
+    """Memory was asked for and refused."""
+
+    number = 4
+
+
+class NoJson(Refused, ValueError):
+    """The text is no JSON."""
+
+    number = 5
+
+
+class NoTables(Refused, ValueError):
+    """The JSON has not the shape of tables."""
+
+    number = 6
+
+
+class NoCommand(Refused, ValueError):
+    """The words are those of no command that answers lines."""
+
+    number = 7
+
+
+class TableMissing(Refused, LookupError):
+    """The tables leave out one that the command needs."""
+
+    number = 8
+
+
+class NotAnsweredHere(Refused, NotImplementedError):
+    """The command is `negotiate`, which the library does not answer."""
+
+    number = 9
+
+
+class LineRefused(Refused, ValueError):
+    """The line is refused, and `name` is the refusal's."""
+
+    number = LINE_REFUSED
+    name: str = ""
+
+
+class InvalidLanguage(LineRefused):
+    """The line does not begin with a language."""
+
+    name = "InvalidLanguage"
+
+
+class InvalidSubtag(LineRefused):
+    """A subtag of the line is none, or stands where it may not."""
+
+    name = "InvalidSubtag"
+
+
+class NoFixedPoint(LineRefused):
+    """The rules of canonicalization come to no end."""
+
+    name = "NoFixedPoint"
+
+
+class NoSubdivisionFixedPoint(LineRefused):
+    """The rows of subdivisions come to no end."""
+
+    name = "NoSubdivisionFixedPoint"
+
+
+class NameMissing(LineRefused, LookupError):
+    """The tables hold no pattern of names in the language of the preferences."""
+
+    name = "IdentifierNotFound"
+
+
+_BY_NUMBER = {each.number: each for each in (Closed, MemoryRefused, NoJson, NoTables, NoCommand, TableMissing, NotAnsweredHere)}
+_BY_NAME = {each.name: each for each in (InvalidLanguage, InvalidSubtag, NoFixedPoint, NoSubdivisionFixedPoint, NameMissing)}
+
+
+class Canonical(NamedTuple):
+    """A canonical form: the identifier, and the value that was handed in with it, if one was."""
+
+    identifier: str
+    value: Optional[str]
+
+
+class _Handle(ctypes.Structure):
+    _fields_ = [("at", ctypes.c_void_p)]
+
+
+def _path() -> str:
+    told = os.environ.get("ICU_LOCALE_LIBRARY")
+    built = Path(__file__).resolve().parents[3] / "out" / "c" / "libicu_locale.so"
+    return told or (str(built) if built.exists() else "libicu_locale.so.0")
+
+
+# Calls that read tables let other threads run meanwhile. The others are too short for that.
+_long, _short = ctypes.CDLL(_path()), ctypes.PyDLL(_path())
+_HANDLE, _SIZE = ctypes.POINTER(_Handle), ctypes.c_size_t
+_open, _share, _settled = _long.icu_locale_open, _short.icu_locale_share, _long.icu_locale_is_settled
+_answer, _close = _short.icu_locale_answer, _short.icu_locale_close
+_open.argtypes = [ctypes.c_char_p, _SIZE, _HANDLE]
+_share.argtypes = [_HANDLE, _HANDLE]
+_answer.argtypes = [_HANDLE, ctypes.c_char_p, _SIZE, ctypes.c_char_p, _SIZE, ctypes.c_void_p, _SIZE, ctypes.POINTER(_SIZE)]
+_settled.argtypes = [_HANDLE]
+_close.argtypes = [_HANDLE]
+_close.restype = None
+for _call in (_open, _share, _answer, _settled):
+    _call.restype = ctypes.c_int32
+
+
+def _bytes(text: Text) -> bytes:
+    return text.encode() if isinstance(text, str) else bytes(text)
+
+
+def _refuse(number: int) -> None:
+    raise _BY_NUMBER.get(number, Refused)(_BY_NUMBER[number].__doc__ if number in _BY_NUMBER else number)
+
+
+class Tables:
+    """Tables, by `from_json`. Where several threads ask much, each has its own by `share`; one alone takes turns.
+
+    >>> from icu_locale.example import TABLES
+    >>> tables = Tables.from_json(TABLES)
+    >>> tables.minimize("zh-Hant-TW")
+    'zh-TW'
+    >>> tables.close()
+    >>> tables.minimize("zh-Hant-TW")
+    Traceback (most recent call last):
+        ...
+    icu_locale.Closed: The tables are closed.
+    """
+
+    def __init__(self) -> None:
+        """Tables that are closed; `from_json` opens some."""
+        self._handle = _Handle(None)
+        self._at = ctypes.pointer(self._handle)
+        self._written = _SIZE()
+        self._written_at = ctypes.pointer(self._written)
+        self._lock = threading.Lock()
+        self._make_room(128)
+
+    def _make_room(self, room: int) -> None:
+        self._room, self._out = room, ctypes.create_string_buffer(room)
+        self._out_at = ctypes.addressof(self._out)
+
+    @classmethod
+    def from_json(cls, json: Text) -> "Tables":
+        """The tables of a JSON text.
+
+        >>> Tables.from_json("{")
+        Traceback (most recent call last):
+            ...
+        icu_locale.NoJson: The text is no JSON.
+        >>> Tables.from_json('{"colour": 1}')
+        Traceback (most recent call last):
+            ...
+        icu_locale.NoTables: The JSON has not the shape of tables.
+        """
+        made, text = cls(), _bytes(json)
+        number = _open(text, len(text), made._at)
+        if number:
+            _refuse(number)
+        return made
+
+    def share(self) -> "Tables":
+        """The same tables once more, as for another thread. They are in memory once.
+
+        >>> from icu_locale.example import TABLES
+        >>> with Tables.from_json(TABLES) as tables:
+        ...     other = tables.share()
+        >>> other.maximize("zh")
+        'zh-Hans-CN'
+        """
+        made = type(self)()
+        with self._lock:
+            number = _share(self._at, made._at)
+        if number:
+            _refuse(number)
+        return made
+
+    def close(self) -> None:
+        """Lets the tables go. A second call does nothing."""
+        with self._lock:
+            _close(self._at)
+
+    def __enter__(self) -> "Tables":
+        return self
+
+    def __exit__(self, kind: Optional[Type[BaseException]], error: Optional[BaseException],
+                 trace: Optional[TracebackType]) -> None:
+        self.close()
+
+    def __del__(self) -> None:
+        if hasattr(self, "_lock"):
+            self.close()
+
+    def answer(self, command: Text, line: Text) -> str:
+        """What the program icu_locale_cli answers to a line, by the words of a command.
+
+        >>> from icu_locale.example import TABLES
+        >>> tables = Tables.from_json(TABLES)
+        >>> tables.answer("name light en", "it-Qabc-150")
+        'Italian (Qabc, Europe)\\tR'
+        >>> tables.answer("maximise", "zh")
+        Traceback (most recent call last):
+            ...
+        icu_locale.NoCommand: The words are those of no command that answers lines.
+        """
+        words = command if isinstance(command, bytes) else _bytes(command)
+        text = line.encode() if isinstance(line, str) else bytes(line)
+        with self._lock:
+            number = _answer(self._at, words, len(words), text, len(text), self._out_at, self._room, self._written_at)
+            if number == ROOM:
+                self._make_room(self._written.value)
+                number = _answer(self._at, words, len(words), text, len(text), self._out_at, self._room, self._written_at)
+            if number == ACCEPTED or number == LINE_REFUSED:
+                told = ctypes.string_at(self._out_at, self._written.value)
+        if number == ACCEPTED:
+            return told.decode()
+        if number == LINE_REFUSED:
+            name = told.decode().split("\t")[1]
+            raise _BY_NAME.get(name, LineRefused)(f"{name}: {line!r}")
+        _refuse(number)
+        raise AssertionError
+
+    def maximize(self, identifier: Text) -> str:
+        """The maximal form: with the likely script and region.
+
+        >>> from icu_locale.example import TABLES
+        >>> tables = Tables.from_json(TABLES)
+        >>> tables.maximize("zh_tw")
+        'zh-Hant-TW'
+        >>> tables.maximize("en-")
+        Traceback (most recent call last):
+            ...
+        icu_locale.InvalidSubtag: InvalidSubtag: 'en-'
+        """
+        return self.answer(b"maximize", identifier).partition("\t")[0]
+
+    def minimize(self, identifier: Text, *, favor_script: bool = False) -> str:
+        """The minimal form: the shortest with the same maximal form.
+
+        >>> from icu_locale.example import TABLES
+        >>> tables = Tables.from_json(TABLES)
+        >>> tables.minimize("zh-Hant-TW"), tables.minimize("zh-Hant-TW", favor_script=True)
+        ('zh-TW', 'zh-Hant')
+        """
+        return self.answer(b"minimize-script" if favor_script else b"minimize", identifier).partition("\t")[0]
+
+    def canonicalize(self, identifier: Text, value: Optional[Text] = None) -> Canonical:
+        """The canonical form, also of a value at the key `rg`, if one is handed in.
+
+        >>> from icu_locale.example import TABLES
+        >>> tables = Tables.from_json(TABLES)
+        >>> tables.canonicalize("sh").identifier
+        'sr-Latn'
+        >>> tables.canonicalize("sh", "abcdefg")
+        Canonical(identifier='sr-Latn', value='xyz')
+        """
+        line = _bytes(identifier) if value is None else _bytes(identifier) + b"\t" + _bytes(value)
+        parts = self.answer(b"canonicalize", line).split("\t")
+        return Canonical(parts[0], parts[1] if len(parts) == 3 else None)
+
+    def direction(self, identifier: Text) -> Optional[Direction]:
+        """Which way the likely script runs, where that is known.
+
+        >>> from icu_locale.example import TABLES
+        >>> tables = Tables.from_json(TABLES)
+        >>> tables.direction("ar"), tables.direction("de"), tables.direction("und")
+        ('rtl', 'ltr', None)
+        """
+        told = self.answer(b"direction", identifier)
+        return "ltr" if told == "ltr" else "rtl" if told == "rtl" else None
+
+    def name(self, identifier: Text, preferences: Text, chain: str = "light") -> str:
+        """The name, in the language of the preferences. What the tables have no name for stands as a subtag.
+
+        >>> from icu_locale.example import TABLES
+        >>> tables = Tables.from_json(TABLES)
+        >>> tables.name("it-Qabc-150", "en"), tables.name("ku-Latn", "en", "menu-light")
+        ('Italian (Qabc, Europe)', 'Kurdish (Kurmanji, Latin)')
+        >>> tables.name("it", "de")
+        Traceback (most recent call last):
+            ...
+        icu_locale.NameMissing: IdentifierNotFound: 'it'
+        """
+        command = b" ".join((b"name", _bytes(chain), _bytes(preferences)))
+        return self.answer(command, identifier).rpartition("\t")[0]
+
+    @property
+    def is_settled(self) -> bool:
+        """Whether the likely tables are settled. It looks at each row.
+
+        >>> from icu_locale.example import TABLES
+        >>> Tables.from_json(TABLES).is_settled
+        True
+        """
+        with self._lock:
+            number = _settled(self._at)
+        if number > 1:
+            _refuse(number)
+        return number == 1
