@@ -18,7 +18,14 @@ int main(int count, char **names) {
     int32_t number = icu_locale_open(json, length, &handle);
     free(json);
     if (number != ICU_LOCALE_DONE) status = refuse(number);
-    while (status != 2 && (read = getline(&line, &size, stdin)) > 0) {
+    if (status != 2 && !strcmp(names[2], "settled")) {
+        number = icu_locale_is_settled(&handle);
+        if (number == ICU_LOCALE_SETTLED || number == ICU_LOCALE_NOT_SETTLED)
+            printf("%s\n", number == ICU_LOCALE_SETTLED ? "yes" : "no");
+        else
+            status = refuse(number);
+    }
+    while (status != 2 && strcmp(names[2], "settled") && (read = getline(&line, &size, stdin)) > 0) {
         size_t end = (size_t)read - (line[read - 1] == '\n');
         do {
             number = icu_locale_answer(&handle, (const uint8_t *)names[2], strlen(names[2]), (const uint8_t *)line, end, out, room,

@@ -16,6 +16,9 @@ def main():
         lines.pop()
     try:
         with Tables.from_json(Path(sys.argv[1]).read_bytes()) as tables:
+            if command == "settled":
+                lines = []
+                print("yes" if tables.is_settled else "no")
             for line in lines:
                 try:
                     answer = tables.answer(command, line)

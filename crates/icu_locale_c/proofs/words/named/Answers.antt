@@ -5,8 +5,8 @@ use Rattle.icu_locale_c.proofs.words.named.Goals as goal
 
 pub returns-in_default-clause-refused : goal.returns-in_default-clause-refused
 returns-in_default-clause-refused c = (
-    refl,
-    λ k are.
-        let named : c.name.result ≡ Ok (Lines k) = only_arguments (codes "name") c.args.chain.now c.args.text.now c.name.result c.name.ensures.only k are in
-        absurd (search rules),
-  )
+  refl,
+  λ k are.
+      let named : c.name.result ≡ Ok (Lines k) = only_arguments (codes "name") c.args.chain.now c.args.text.now c.name.result c.name.ensures.only k are in
+      absurd (search rules),
+)

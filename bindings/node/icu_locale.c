@@ -1,0 +1,148 @@
+// The calls of icu_locale.h for Node.js, by Node-API: `open(json)` makes an object that stands for tables, and
+// `share`, `answer`, `isSettled` and `close` take one. index.js has what is made of these.
+#include "icu_locale.h"
+#include <node_api.h>
+#include <stdlib.h>
+
+// An object's handle, and the room of its answers. Both go when the object is let go.
+struct tables {
+    struct icu_locale handle;
+    uint8_t *out;
+    size_t room;
+};
+
+static void let_go(napi_env env, void *data, void *hint) {
+    struct tables *tables = data;
+    (void)env;
+    (void)hint;
+    icu_locale_close(&tables->handle);
+    free(tables->out);
+    free(tables);
+}
+
+static napi_value number_of(napi_env env, int32_t number) {
+    napi_value value = NULL;
+    napi_create_int32(env, number, &value);
+    return value;
+}
+
+static struct tables *made(napi_env env, napi_value *object) {
+    struct tables *tables = calloc(1, sizeof *tables);
+    if (!tables) return NULL;
+    tables->room = 256;
+    tables->out = malloc(tables->room);
+    if (tables->out && napi_create_external(env, tables, let_go, NULL, object) == napi_ok) return tables;
+    free(tables->out);
+    free(tables);
+    return NULL;
+}
+
+// The bytes of a Buffer or another view of bytes. A length of 0 has a place too, since C wants one.
+static int bytes_of(napi_env env, napi_value value, const uint8_t **bytes, size_t *length) {
+    static const uint8_t none = 0;
+    void *data = NULL;
+    bool is_buffer = false;
+    if (napi_is_buffer(env, value, &is_buffer) != napi_ok || !is_buffer) return 0;
+    if (napi_get_buffer_info(env, value, &data, length) != napi_ok) return 0;
+    *bytes = *length && data ? data : &none;
+    return 1;
+}
+
+static struct tables *tables_of(napi_env env, napi_value value) {
+    void *data = NULL;
+    napi_valuetype type;
+    if (napi_typeof(env, value, &type) != napi_ok || type != napi_external) return NULL;
+    return napi_get_value_external(env, value, &data) == napi_ok ? data : NULL;
+}
+
+static napi_value wrong(napi_env env) {
+    napi_throw_type_error(env, NULL, "other values than the call takes");
+    return NULL;
+}
+
+// open(json): the object, or the number of a refusal.
+static napi_value open_tables(napi_env env, napi_callback_info info) {
+    size_t count = 1, length;
+    napi_value values[1], object = NULL;
+    const uint8_t *json;
+    if (napi_get_cb_info(env, info, &count, values, NULL, NULL) != napi_ok || count < 1) return wrong(env);
+    if (!bytes_of(env, values[0], &json, &length)) return wrong(env);
+    struct tables *tables = made(env, &object);
+    if (!tables) return number_of(env, ICU_LOCALE_MEMORY);
+    int32_t number = icu_locale_open(json, length, &tables->handle);
+    return number == ICU_LOCALE_DONE ? object : number_of(env, number);
+}
+
+// share(tables): a second object, or the number of a refusal.
+static napi_value share_tables(napi_env env, napi_callback_info info) {
+    size_t count = 1;
+    napi_value values[1], object = NULL;
+    if (napi_get_cb_info(env, info, &count, values, NULL, NULL) != napi_ok || count < 1) return wrong(env);
+    struct tables *from = tables_of(env, values[0]), *to;
+    if (!from) return wrong(env);
+    if (!(to = made(env, &object))) return number_of(env, ICU_LOCALE_MEMORY);
+    int32_t number = icu_locale_share(&from->handle, &to->handle);
+    return number == ICU_LOCALE_DONE ? object : number_of(env, number);
+}
+
+// answer(tables, command, line): the text of an accepted line, and else a list of a number and a text.
+static napi_value answer(napi_env env, napi_callback_info info) {
+    size_t count = 3, command_length, line_length, written = 0;
+    napi_value values[3], text = NULL, list = NULL;
+    const uint8_t *command, *line;
+    if (napi_get_cb_info(env, info, &count, values, NULL, NULL) != napi_ok || count < 3) return wrong(env);
+    struct tables *tables = tables_of(env, values[0]);
+    if (!tables || !bytes_of(env, values[1], &command, &command_length) || !bytes_of(env, values[2], &line, &line_length))
+        return wrong(env);
+    int32_t number;
+    for (;;) {
+        number = icu_locale_answer(&tables->handle, command, command_length, line, line_length, tables->out, tables->room,
+                                   &written);
+        if (number != ICU_LOCALE_ROOM) break;
+        uint8_t *out = realloc(tables->out, written);
+        if (!out) {
+            number = ICU_LOCALE_MEMORY;
+            written = 0;
+            break;
+        }
+        tables->out = out;
+        tables->room = written;
+    }
+    if (napi_create_string_utf8(env, (const char *)tables->out, written, &text) != napi_ok) return wrong(env);
+    if (number == ICU_LOCALE_ACCEPTED) return text;
+    napi_create_array_with_length(env, 2, &list);
+    napi_set_element(env, list, 0, number_of(env, number));
+    napi_set_element(env, list, 1, text);
+    return list;
+}
+
+static napi_value is_settled(napi_env env, napi_callback_info info) {
+    size_t count = 1;
+    napi_value values[1];
+    if (napi_get_cb_info(env, info, &count, values, NULL, NULL) != napi_ok || count < 1) return wrong(env);
+    struct tables *tables = tables_of(env, values[0]);
+    return tables ? number_of(env, icu_locale_is_settled(&tables->handle)) : wrong(env);
+}
+
+static napi_value close_tables(napi_env env, napi_callback_info info) {
+    size_t count = 1;
+    napi_value values[1];
+    if (napi_get_cb_info(env, info, &count, values, NULL, NULL) != napi_ok || count < 1) return wrong(env);
+    struct tables *tables = tables_of(env, values[0]);
+    if (!tables) return wrong(env);
+    icu_locale_close(&tables->handle);
+    return NULL;
+}
+
+NAPI_MODULE_INIT() {
+    static const struct {
+        const char *name;
+        napi_callback call;
+    } calls[] = {{"open", open_tables}, {"share", share_tables}, {"answer", answer}, {"isSettled", is_settled}, {"close", close_tables}};
+    for (size_t place = 0; place < sizeof calls / sizeof *calls; place++) {
+        napi_value call;
+        napi_create_function(env, calls[place].name, NAPI_AUTO_LENGTH, calls[place].call, NULL, &call);
+        napi_set_named_property(env, exports, calls[place].name, call);
+    }
+    return exports;
+}

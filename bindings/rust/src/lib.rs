@@ -1,0 +1,248 @@
+//! Likely subtags, canonical forms, directions and names of locale identifiers, by the proved library. It has no
+//! dependencies.
+//!
+//! ```
+//! use icu_locale_calls::{Refusal, Tables, EXAMPLE};
+//!
+//! let mut tables = Tables::from_json(EXAMPLE.as_bytes())?;
+//! assert_eq!(tables.maximize("zh-TW")?, "zh-Hant-TW");
+//! assert_eq!(tables.minimize("zh-Hant-TW")?, "zh-TW");
+//! assert_eq!(tables.canonicalize("sh")?, "sr-Latn");
+//! assert_eq!(tables.name("it-US", "en")?, "Italian (United States)");
+//! assert_eq!(tables.maximize("en-"), Err(Refusal::InvalidSubtag));
+//! # Ok::<(), Refusal>(())
+//! ```
+#![warn(missing_docs)]
+
+mod calls;
+mod refusal;
+
+use calls::Handle;
+pub use refusal::Refusal;
+
+/// Small tables, as the examples ask them.
+pub const EXAMPLE: &str = include_str!("../../example.json");
+
+const ACCEPTED: i32 = 0;
+const LINE_REFUSED: i32 = 1;
+const ROOM: i32 = 3;
+
+/// Which way a script runs.
+#[derive(Clone, Copy, Debug, PartialEq, Eq, Hash)]
+pub enum Direction {
+    /// From left to right.
+    LeftToRight,
+    /// From right to left.
+    RightToLeft,
+}
+
+/// Tables. A call takes them by `&mut`, since it may prepare something that is kept; a thread has its own by `share`.
+#[derive(Debug)]
+pub struct Tables {
+    handle: Handle,
+}
+
+// SAFETY: it is proved of the handle that it may go to another thread.
+unsafe impl Send for Tables {}
+
+impl std::fmt::Debug for Handle {
+    fn fmt(&self, f: &mut std::fmt::Formatter<'_>) -> std::fmt::Result {
+        f.write_str("..")
+    }
+}
+
+impl Drop for Tables {
+    fn drop(&mut self) {
+        // SAFETY: no other call is made on the handle, by `&mut`.
+        unsafe { calls::icu_locale_close(&mut self.handle) }
+    }
+}
+
+impl Tables {
+    /// The tables of a JSON text.
+    ///
+    /// # Errors
+    ///
+    /// `Json`, `Shape` or `Memory`.
+    ///
+    /// ```
+    /// use icu_locale_calls::{Refusal, Tables};
+    /// assert_eq!(Tables::from_json(b"{").err(), Some(Refusal::Json));
+    /// assert_eq!(Tables::from_json(b"[]").err(), Some(Refusal::Shape));
+    /// ```
+    pub fn from_json(json: &[u8]) -> Result<Self, Refusal> {
+        let mut handle = Handle::closed();
+        // SAFETY: the slice is one of Rust's, and the handle a closed one that nobody else has.
+        match unsafe { calls::icu_locale_open(json.as_ptr(), json.len(), &mut handle) } {
+            ACCEPTED => Ok(Tables { handle }),
+            number => Err(Refusal::of_number(number)),
+        }
+    }
+
+    /// The same tables once more, as for another thread. They are in memory once.
+    ///
+    /// # Errors
+    ///
+    /// `Memory`.
+    ///
+    /// ```
+    /// use icu_locale_calls::{Tables, EXAMPLE};
+    /// let mut first = Tables::from_json(EXAMPLE.as_bytes())?;
+    /// let mut other = first.share()?;
+    /// let thread = std::thread::spawn(move || other.maximize("und-SA"));
+    /// assert_eq!(first.maximize("und-SA"), thread.join().unwrap());
+    /// # Ok::<(), icu_locale_calls::Refusal>(())
+    /// ```
+    pub fn share(&mut self) -> Result<Self, Refusal> {
+        let mut handle = Handle::closed();
+        // SAFETY: the two handles are two, and nobody else has them.
+        match unsafe { calls::icu_locale_share(&mut self.handle, &mut handle) } {
+            ACCEPTED => Ok(Tables { handle }),
+            number => Err(Refusal::of_number(number)),
+        }
+    }
+
+    /// What the program `icu_locale_cli` answers to a line, without its line feed, by the words of a command.
+    ///
+    /// # Errors
+    ///
+    /// Every refusal but `Json` and `Shape`.
+    pub fn answer(&mut self, command: &str, line: &[u8]) -> Result<String, Refusal> {
+        let mut out = vec![0; 64];
+        let mut written = 0;
+        let mut number = self.call(command, line, &mut out, &mut written);
+        if number == ROOM {
+            out.resize(written, 0);
+            number = self.call(command, line, &mut out, &mut written);
+        }
+        out.truncate(written);
+        match number {
+            ACCEPTED => Ok(String::from_utf8(out).expect("an answer is a text")),
+            LINE_REFUSED => Err(Refusal::of_name(String::from_utf8_lossy(&out).trim_start_matches("?\t"))),
+            number => Err(Refusal::of_number(number)),
+        }
+    }
+
+    fn call(&mut self, command: &str, line: &[u8], out: &mut [u8], written: &mut usize) -> i32 {
+        // SAFETY: the slices are Rust's, `out` and `written` overlap nothing by `&mut`, and so the handle is this call's.
+        unsafe {
+            calls::icu_locale_answer(
+                &mut self.handle,
+                command.as_ptr(),
+                command.len(),
+                line.as_ptr(),
+                line.len(),
+                out.as_mut_ptr(),
+                out.len(),
+                written,
+            )
+        }
+    }
+
+    // What stands before the mark of an answer.
+    fn form(&mut self, command: &str, line: &str) -> Result<String, Refusal> {
+        let mut answer = self.answer(command, line.as_bytes())?;
+        answer.truncate(answer.rfind('\t').unwrap_or(answer.len()));
+        Ok(answer)
+    }
+
+    /// The maximal form: with the likely script and region.
+    ///
+    /// # Errors
+    ///
+    /// `InvalidLanguage`, `InvalidSubtag`, `Table` or `Memory`.
+    pub fn maximize(&mut self, identifier: &str) -> Result<String, Refusal> {
+        self.form("maximize", identifier)
+    }
+
+    /// The minimal form, the region kept before the script.
+    ///
+    /// # Errors
+    ///
+    /// Those of `maximize`.
+    pub fn minimize(&mut self, identifier: &str) -> Result<String, Refusal> {
+        self.form("minimize", identifier)
+    }
+
+    /// The minimal form, the script kept before the region.
+    ///
+    /// # Errors
+    ///
+    /// Those of `maximize`.
+    pub fn minimize_favor_script(&mut self, identifier: &str) -> Result<String, Refusal> {
+        self.form("minimize-script", identifier)
+    }
+
+    /// The canonical form of an identifier.
+    ///
+    /// # Errors
+    ///
+    /// Those of `maximize`, or `NoFixedPoint`.
+    pub fn canonicalize(&mut self, identifier: &str) -> Result<String, Refusal> {
+        if identifier.contains('\t') {
+            return Err(Refusal::InvalidSubtag);
+        }
+        self.form("canonicalize", identifier)
+    }
+
+    /// The canonical form of an identifier, and that of a value at the key `rg`.
+    ///
+    /// # Errors
+    ///
+    /// Those of `canonicalize`, or `NoSubdivisionFixedPoint`.
+    ///
+    /// ```
+    /// use icu_locale_calls::{Tables, EXAMPLE};
+    /// let mut tables = Tables::from_json(EXAMPLE.as_bytes())?;
+    /// assert_eq!(tables.canonicalize_with("sh", "abcdefg")?, ("sr-Latn".to_owned(), "xyz".to_owned()));
+    /// # Ok::<(), icu_locale_calls::Refusal>(())
+    /// ```
+    pub fn canonicalize_with(&mut self, identifier: &str, value: &str) -> Result<(String, String), Refusal> {
+        let form = self.form("canonicalize", &format!("{identifier}\t{value}"))?;
+        let (identifier, value) = form.split_once('\t').unwrap_or((&form, ""));
+        Ok((identifier.to_owned(), value.to_owned()))
+    }
+
+    /// Which way the likely script of an identifier runs, where that is known.
+    ///
+    /// # Errors
+    ///
+    /// Those of `maximize`.
+    ///
+    /// ```
+    /// use icu_locale_calls::{Direction, Tables, EXAMPLE};
+    /// let mut tables = Tables::from_json(EXAMPLE.as_bytes())?;
+    /// assert_eq!(tables.direction("ar")?, Some(Direction::RightToLeft));
+    /// # Ok::<(), icu_locale_calls::Refusal>(())
+    /// ```
+    pub fn direction(&mut self, identifier: &str) -> Result<Option<Direction>, Refusal> {
+        Ok(match self.answer("direction", identifier.as_bytes())?.as_str() {
+            "ltr" => Some(Direction::LeftToRight),
+            "rtl" => Some(Direction::RightToLeft),
+            _ => None,
+        })
+    }
+
+    /// The name of an identifier in the language of the preferences, by the chain `light`.
+    ///
+    /// # Errors
+    ///
+    /// `InvalidLanguage`, `InvalidSubtag`, `NameMissing` or `Memory`, and `Command` where the preferences are none.
+    pub fn name(&mut self, identifier: &str, preferences: &str) -> Result<String, Refusal> {
+        self.form(&format!("name light {preferences}"), identifier)
+    }
+
+    /// Whether the likely tables are settled. It looks at each row.
+    ///
+    /// # Errors
+    ///
+    /// `Table` where a likely table is left out.
+    pub fn is_settled(&mut self) -> Result<bool, Refusal> {
+        // SAFETY: no other call is made on the handle, by `&mut`.
+        match unsafe { calls::icu_locale_is_settled(&mut self.handle) } {
+            0 => Ok(false),
+            1 => Ok(true),
+            number => Err(Refusal::of_number(number)),
+        }
+    }
+}

@@ -1,0 +1,74 @@
+//! Why there is no answer.
+use std::fmt;
+
+/// Why a call gives no answer.
+#[derive(Clone, Copy, Debug, PartialEq, Eq, Hash)]
+#[non_exhaustive]
+pub enum Refusal {
+    /// Memory was asked for and refused.
+    Memory,
+    /// The text is no JSON.
+    Json,
+    /// The JSON has not the shape of tables.
+    Shape,
+    /// The words are those of no command that answers lines.
+    Command,
+    /// The tables leave out one that the command needs.
+    Table,
+    /// The command is `negotiate`, which the library does not answer.
+    Negotiate,
+    /// The line does not begin with a language.
+    InvalidLanguage,
+    /// A subtag of the line is none, or stands where it may not.
+    InvalidSubtag,
+    /// The rules of canonicalization come to no end.
+    NoFixedPoint,
+    /// The rows of subdivisions come to no end.
+    NoSubdivisionFixedPoint,
+    /// The tables hold no pattern of names in the language of the preferences.
+    NameMissing,
+}
+
+impl Refusal {
+    pub(crate) fn of_number(number: i32) -> Self {
+        match number {
+            4 => Refusal::Memory,
+            5 => Refusal::Json,
+            6 => Refusal::Shape,
+            7 => Refusal::Command,
+            8 => Refusal::Table,
+            9 => Refusal::Negotiate,
+            _ => unreachable!("the number {number} is that of no refusal of an open handle"),
+        }
+    }
+
+    pub(crate) fn of_name(name: &str) -> Self {
+        match name {
+            "InvalidLanguage" => Refusal::InvalidLanguage,
+            "InvalidSubtag" => Refusal::InvalidSubtag,
+            "NoFixedPoint" => Refusal::NoFixedPoint,
+            "NoSubdivisionFixedPoint" => Refusal::NoSubdivisionFixedPoint,
+            _ => Refusal::NameMissing,
+        }
+    }
+}
+
+impl fmt::Display for Refusal {
+    fn fmt(&self, f: &mut fmt::Formatter<'_>) -> fmt::Result {
+        f.write_str(match self {
+            Refusal::Memory => "no memory",
+            Refusal::Json => "the text is no JSON",
+            Refusal::Shape => "the JSON has not the shape of tables",
+            Refusal::Command => "the words are those of no command that answers lines",
+            Refusal::Table => "the tables leave out one that is needed",
+            Refusal::Negotiate => "negotiate is not answered here",
+            Refusal::InvalidLanguage => "the line does not begin with a language",
+            Refusal::InvalidSubtag => "a subtag is none, or stands where it may not",
+            Refusal::NoFixedPoint => "the rules come to no end",
+            Refusal::NoSubdivisionFixedPoint => "the rows of subdivisions come to no end",
+            Refusal::NameMissing => "there is no pattern of names in that language",
+        })
+    }
+}
+
+impl std::error::Error for Refusal {}
