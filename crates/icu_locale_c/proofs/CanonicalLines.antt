@@ -1,5 +1,5 @@
 -- The line of a canonical form, over the tables of its canonicalizer.
-use Rattle.std.proofs.Common.{◌≡◌, ℕ, List, [], Option, Some, Result, Ok, Err, IfOk, sym, subst}
+use Rattle.std.proofs.Common.{◌≡◌, ℕ, List, Option, Some, Result, Ok, Err, IfOk, sym, subst}
 use Rattle.std.specs.Prelude.{IsSomeAnd}
 use Rattle.icu_locale.specs.Rules.{AreRules}
 use Rattle.icu_locale.specs.declared.canonicalizer.LocaleCanonicalizer.{LocaleCanonicalizer}

@@ -1,5 +1,5 @@
 -- Words that are those of no command.
-use Rattle.std.proofs.Common.{◌≡◌, ◌≢◌, ◌⊎◌, ℕ, ◌≤◌, List, [], ◌∷◌, length, codes, inl, inr, refl, ap, sym, subst, ◌∙◌, arith, Result, Ok, Err, IfErr}
+use Rattle.std.proofs.Common.{◌≡◌, ◌≢◌, ◌⊎◌, ℕ, ◌≤◌, List, [], ◌∷◌, length, codes, inl, inr, ap, sym, subst, ◌∙◌, arith, Result, Ok, Err, IfErr}
 use Rattle.std.specs.List.{slice_split}
 use Rattle.std.proofs.lemmas.List.Splits.{length-slice_split}
 use Rattle.icu_locale_lines.specs.Commands.{AreArguments, AreCommandWords, command_word}

@@ -2,9 +2,6 @@
 use Rattle.std.specs.Prelude.{◌≡◌, ◌<◌, ℕ, ◌-◌, Bool, true, false, List, [], take, length, Option, None, Result, Ok, Err, IsSomeAnd, ℤ, pos}
 use Rattle.std.specs.List.{slice_split}
 use Rattle.std.specs.Str.{IsUtf8}
-use Rattle.icu_locale.specs.LikelyTable.{likely}
-use Rattle.icu_locale.specs.Settled.{AreSettled}
-use Rattle.icu_locale.specs.declared.expander.LocaleExpander.{LocaleExpander}
 use Rattle.icu_tables.specs.Rows.{rows_of}
 use Rattle.icu_tables.specs.Text.{rows_in}
 use Rattle.icu_tables.specs.declared.error.TableError.TheVariants as table

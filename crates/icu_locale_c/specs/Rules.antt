@@ -1,5 +1,5 @@
 -- Rules that are kept without the table that they were read of.
-use Rattle.std.specs.Prelude.{Option, IsSomeAnd}
+use Rattle.std.specs.Prelude.{IsSomeAnd}
 use Rattle.icu_locale.specs.Rules.{AreRead, ReadsRule, ReadsVariantRule, ReadsLanguage, ReadsSubdivision}
 use Rattle.icu_provider.specs.declared.aliases.Aliases.{Aliases}
 use Rattle.icu_tables.specs.declared.tables.Tables.{Tables}

@@ -1,4 +1,3 @@
-use Rattle.std.proofs.Common.{sym}
 use Rattle.icu_locale_c.proofs.CanonicalLines.{line_over_rules}
 use Rattle.icu_locale_c.proofs.lines.canonicalize.Goals as goal
 
