@@ -35,7 +35,7 @@ class WrongUses(unittest.TestCase):
         with Tables.from_json(TABLES) as tables:
             variants = "-".join(f"piece{number:03}" for number in range(200))
             self.assertEqual(tables.maximize(f"de-{variants}"), f"de-Latn-DE-{variants}")
-            self.assertEqual(tables.canonicalize("en", "true"), ("en", ""))
+            self.assertEqual(tables.canonicalize_with("en", "true"), ("en", ""))
 
 
 class Threads(unittest.TestCase):
@@ -44,7 +44,7 @@ class Threads(unittest.TestCase):
 
         def work(tables):
             for _ in range(500):
-                if tables.maximize("zh") != "zh-Hans-CN" or tables.canonicalize("sh").identifier != "sr-Latn":
+                if tables.maximize("zh") != "zh-Hans-CN" or tables.canonicalize("sh") != "sr-Latn":
                     wrong.append(tables)
 
         threads = [threading.Thread(target=work, args=(tables,)) for tables in [first] * 4 + [first.share() for _ in range(4)]]

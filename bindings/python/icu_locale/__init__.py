@@ -119,10 +119,10 @@ _BY_NAME = {each.name: each for each in (InvalidLanguage, InvalidSubtag, NoFixed
 
 
 class Canonical(NamedTuple):
-    """A canonical form: the identifier, and the value that was handed in with it, if one was."""
+    """A canonical form: the identifier, and the value that was handed in with it."""
 
     identifier: str
-    value: Optional[str]
+    value: str
 
 
 class _Handle(ctypes.Structure):
@@ -289,19 +289,26 @@ class Tables:
         """
         return self.answer(b"minimize-script" if favor_script else b"minimize", identifier).partition("\t")[0]
 
-    def canonicalize(self, identifier: Text, value: Optional[Text] = None) -> Canonical:
-        """The canonical form, also of a value at the key `rg`, if one is handed in.
+    def canonicalize(self, identifier: Text) -> str:
+        """The canonical form.
 
         >>> from icu_locale.example import TABLES
         >>> tables = Tables.from_json(TABLES)
-        >>> tables.canonicalize("sh").identifier
+        >>> tables.canonicalize("sh")
         'sr-Latn'
-        >>> tables.canonicalize("sh", "abcdefg")
+        """
+        return self.answer(b"canonicalize", identifier).partition("\t")[0]
+
+    def canonicalize_with(self, identifier: Text, value: Text) -> Canonical:
+        """The canonical form, and that of a value at the key `rg`.
+
+        >>> from icu_locale.example import TABLES
+        >>> tables = Tables.from_json(TABLES)
+        >>> tables.canonicalize_with("sh", "abcdefg")
         Canonical(identifier='sr-Latn', value='xyz')
         """
-        line = _bytes(identifier) if value is None else _bytes(identifier) + b"\t" + _bytes(value)
-        parts = self.answer(b"canonicalize", line).split("\t")
-        return Canonical(parts[0], parts[1] if len(parts) == 3 else None)
+        parts = self.answer(b"canonicalize", _bytes(identifier) + b"\t" + _bytes(value)).split("\t")
+        return Canonical(parts[0], parts[1])
 
     def direction(self, identifier: Text) -> Optional[Direction]:
         """Which way the likely script runs, where that is known.
