@@ -1,7 +1,7 @@
-# `make` proves the two programs and what they stand on, and leaves them here; `make c` proves the calls for C, and leaves their
-# libraries in out/c; `make test` checks every crate; `make install` copies the programs and their manual pages, and
-# what `make c` has left; `make compare` measures icu_locale_cli beside others, once it is built; `make clean` takes away
-# what was built, and the next `make` then proves all from nothing.
+# `make` proves the two programs and what they stand on, and leaves them here; `make c` proves the calls for C, and
+# leaves their libraries in out/c; `make test` checks every crate; `make install` copies the programs and their manual
+# pages, and what `make c` has left; `make compare` measures icu_locale_cli beside others, once it is built; `make clean`
+# takes away what was built, and the next `make` then proves all from nothing.
 PROGRAMS = icu_locale_cli icu_locale_stream
 PREFIX = /usr/local
 C_FILES = libicu_locale.a libicu_locale.so libicu_locale.so.0 pkgconfig/icu_locale.pc
