@@ -1,0 +1,150 @@
+#!/usr/bin/env python3
+"""Tests the switcher and the service over tables of CLDR.
+
+    examples/service/tests.py STREAM PROGRAM SETTLED NAMES [PICTURE]
+
+STREAM is icu_locale_stream and PROGRAM icu_locale_cli; SETTLED and NAMES are files of tables as the service reads them,
+the second with the locales of LOCALES. Each answer of a process that is kept is compared with that of one run of
+PROGRAM: one question after another, from eight threads, and while the process is killed again and again. Then the
+service is asked by HTTP, and by headless Chromium where there is one, which leaves PICTURE where it is named. The last
+line says how long a question takes beside one that starts a process. The status is 1 where something is wrong.
+"""
+from __future__ import annotations
+
+import json
+import shutil
+import subprocess
+import sys
+import threading
+import time
+import urllib.request
+from concurrent.futures import ThreadPoolExecutor
+from pathlib import Path
+
+sys.dont_write_bytecode = True
+HERE = Path(__file__).resolve().parent
+sys.path.insert(0, str(HERE))
+
+from switcher import Stream, Switcher, wanted  # noqa: E402
+
+LOCALES = ["en", "de", "ar", "ja", "zh-Hant", "sr-Latn"]
+# A header, what is served for it, and which way that runs.
+SERVED = [
+    ("en-GB", "en", "ltr"), ("de-AT;q=0.5, en;q=0.4", "de", "ltr"), ("ar-EG", "ar", "rtl"), ("ja-JP", "ja", "ltr"),
+    ("zh-HK", "zh-Hant", "ltr"), ("zh-CN, de;q=0.1", "de", "ltr"), ("sr-ME", "sr-Latn", "ltr"), ("sr", "en", "ltr"),
+    ("sh", "sr-Latn", "ltr"), ("de-1996", "de", "ltr"), ("zz-zz-zz, *", "en", "ltr"), ("", "en", "ltr"),
+    ("de;q=0, ja;q=0.2", "ja", "ltr"), ("de;q=x, ja", "ja", "ltr"),
+]
+
+
+def one_run(program: str, words: list[str], tables: str, lines: list[str]) -> list[list[str]]:
+    """The answers of one run."""
+    text = tables + "\n".join(lines) + "\n"
+    run = subprocess.run([program, *words, "json"], input=text, capture_output=True, text=True, encoding="utf-8")
+    return [line.split("\t") for line in run.stdout.splitlines()]
+
+
+def check_stream(stream: str, program: str, tables: str) -> list[str]:
+    """What is wrong with a process that is kept: of 1,000 questions one by one, by eight threads, and with kills."""
+    letters = "abcdefghijklmnopqrst"
+    lines = [f"{a}{b}{c}" for a in letters[:10] for b in letters[:10] for c in ("", "-Latn", "-US", "-a", "-Cyrl-RS",
+             "-150", "-fonipa", "-419", "-Zzzz", "-ZZ")]
+    answers = dict(zip(lines, one_run(program, ["maximize"], tables, lines), strict=True))
+    kept = Stream([stream, "maximize", "json"], tables)
+    faults = [f"{line}: another answer" for line in lines if kept.ask(line) != answers[line]]
+    with ThreadPoolExecutor(8) as pool:
+        faults += [f"{line}: another answer, by threads" for line, it in zip(lines, pool.map(kept.ask, lines))
+                   if it != answers[line]]
+        stop = threading.Event()
+        killer = threading.Thread(target=kill_again, args=(kept, stop))
+        killer.start()
+        faults += [f"{line}: another answer, with kills" for line, it in zip(lines, pool.map(kept.ask, lines))
+                   if it != answers[line]]
+        stop.set()
+        killer.join()
+    kept.end()
+    return faults
+
+
+def kill_again(kept: Stream, stop: threading.Event) -> None:
+    """Kills the process of a stream every now and then, with no word to the stream."""
+    while not stop.wait(0.02):
+        process = kept.process
+        if process is not None:
+            process.kill()
+            time.sleep(0.1)
+
+
+def fetched(address: str, header: str) -> dict:
+    request = urllib.request.Request(address + "menu", headers={"Accept-Language": header})
+    with urllib.request.urlopen(request) as answer:
+        return json.load(answer)
+
+
+def check_service(address: str) -> list[str]:
+    """What is wrong with the service: what is served, and 1,000 questions from eight threads."""
+    first = {header: fetched(address, header) for header, _, _ in SERVED}
+    faults = [f"{header!r}: {first[header]['locale']} is served" for header, locale, direction in SERVED
+              if (first[header]["locale"], first[header]["direction"]) != (locale, direction)]
+    headers = [SERVED[at % len(SERVED)][0] for at in range(1000)]
+    with ThreadPoolExecutor(8) as pool:
+        answers = list(pool.map(lambda header: fetched(address, header), headers))
+    return faults + [f"{header!r}: another answer, by threads" for header, it in zip(headers, answers) if it != first[header]]
+
+
+def check_page(address: str, picture: str | None) -> list[str]:
+    """What is wrong with the page in four languages, as Chromium shows it."""
+    browser = shutil.which("chromium")
+    if browser is None:
+        print("service: the page is not looked at: there is no Debian package chromium")
+        return []
+    faults = []
+    for language, direction, name in [("en", "ltr", "English"), ("de", "ltr", "Deutsch"), ("ja", "ltr", "日本語"),
+                                      ("ar", "rtl", "العربية")]:
+        words = [browser, "--headless", "--no-sandbox", "--disable-gpu", f"--accept-lang={language}"]
+        page = subprocess.run([*words, "--dump-dom", address], capture_output=True, text=True, encoding="utf-8").stdout
+        if f'<html lang="{language}" dir="{direction}">' not in page or f"<h1>{name}</h1>" not in page:
+            faults.append(f"page: not in {language}")
+        if picture and language == "ar":
+            subprocess.run([*words, f"--screenshot={picture}", "--window-size=560,520", address], capture_output=True)
+    return faults
+
+
+def times(stream: str, program: str, tables: str) -> str:
+    """How long a question takes, of a process that is kept and of one that is started for it."""
+    kept = Stream([stream, "maximize", "json"], tables)
+    kept.ask("en")
+    begun = time.perf_counter()
+    for _ in range(2000):
+        kept.ask("zh-HK")
+    asked = (time.perf_counter() - begun) / 2000
+    kept.end()
+    begun = time.perf_counter()
+    for _ in range(50):
+        one_run(program, ["maximize"], tables, ["zh-HK"])
+    started = (time.perf_counter() - begun) / 50
+    return f"a question takes {asked * 1e6:.0f} microseconds, and {started * 1e3:.1f} milliseconds with a process of its own"
+
+
+def main(words: list[str]) -> int:
+    if len(words) not in (4, 5):
+        print(__doc__.strip(), file=sys.stdout if words in (["-h"], ["--help"]) else sys.stderr)
+        return 0 if words in (["-h"], ["--help"]) else 2
+    stream, program, settled, names = words[:4]
+    faults = [] if wanted("a;q=0.1, b, c;q=0, d;q=0.9") == ["b", "d", "a"] else ["the header is read otherwise"]
+    tables = Path(settled).read_text(encoding="utf-8").strip() + "\n"
+    faults += check_stream(stream, program, tables)
+    command = [sys.executable, HERE / "service", stream, settled, names, "0", *LOCALES]
+    with subprocess.Popen(command, stdout=subprocess.PIPE, text=True) as service:
+        address = service.stdout.readline().strip()
+        faults += check_service(address) + check_page(address, words[4] if len(words) == 5 else None)
+        service.terminate()
+    for fault in faults[:20]:
+        print(fault)
+    print(times(stream, program, tables))
+    print(f"service: {len(faults)} faults")
+    return 1 if faults else 0
+
+
+if __name__ == "__main__":
+    sys.exit(main(sys.argv[1:]))
