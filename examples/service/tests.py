@@ -24,7 +24,9 @@ from pathlib import Path
 sys.dont_write_bytecode = True
 HERE = Path(__file__).resolve().parent
 sys.path.insert(0, str(HERE))
+sys.path.insert(0, str(HERE.parents[1] / "tools"))
 
+from script import Words  # noqa: E402
 from switcher import Stream, Switcher, wanted  # noqa: E402
 
 LOCALES = ["en", "de", "ar", "ja", "zh-Hant", "sr-Latn"]
@@ -126,18 +128,20 @@ def times(stream: str, program: str, tables: str) -> str:
     return f"a question takes {asked * 1e6:.0f} microseconds, and {started * 1e3:.1f} milliseconds with a process of its own"
 
 
-def main(words: list[str]) -> int:
-    if len(words) not in (4, 5):
-        print(__doc__.strip(), file=sys.stdout if words in (["-h"], ["--help"]) else sys.stderr)
-        return 0 if words in (["-h"], ["--help"]) else 2
-    stream, program, settled, names = words[:4]
+def main() -> int:
+    parser = Words("examples/service/tests.py", __doc__)
+    for word in ("stream", "program", "settled", "names"):
+        parser.add_argument(word, metavar=word.upper())
+    parser.add_argument("picture", metavar="PICTURE", nargs="?")
+    words = parser.parse_args()
+    stream, program, settled, names = words.stream, words.program, words.settled, words.names
     faults = [] if wanted("a;q=0.1, b, c;q=0, d;q=0.9") == ["b", "d", "a"] else ["the header is read otherwise"]
     tables = Path(settled).read_text(encoding="utf-8").strip() + "\n"
     faults += check_stream(stream, program, tables)
     command = [sys.executable, HERE / "service", stream, settled, names, "0", *LOCALES]
     with subprocess.Popen(command, stdout=subprocess.PIPE, text=True) as service:
         address = service.stdout.readline().strip()
-        faults += check_service(address) + check_page(address, words[4] if len(words) == 5 else None)
+        faults += check_service(address) + check_page(address, words.picture)
         service.terminate()
     for fault in faults[:20]:
         print(fault)
@@ -147,4 +151,4 @@ def main(words: list[str]) -> int:
 
 
 if __name__ == "__main__":
-    sys.exit(main(sys.argv[1:]))
+    sys.exit(main())
