@@ -1,5 +1,5 @@
 -- What the calls answer.
-use Rattle.std.specs.Prelude.{◌≡◌, ◌<◌, ℕ, ◌-◌, Bool, true, false, List, [], take, length, Option, None, Result, Ok, Err, IsSomeAnd, ℤ, pos}
+use Rattle.std.specs.Prelude.{◌≡◌, ◌<◌, ◌≤◌, ℕ, ◌-◌, Bool, true, false, List, [], take, drop, length, Option, None, Result, Ok, Err, IsSomeAnd, ℤ, pos}
 use Rattle.std.specs.List.{slice_split}
 use Rattle.std.specs.Str.{IsUtf8}
 use Rattle.icu_tables.specs.Rows.{rows_of}
@@ -63,17 +63,25 @@ abbrev pub IsRefusedCall : Option Tables → List ℕ → List ℕ → List ℕ 
 IsRefusedCall held command line out written refusal.Closed = held ≡ None
 IsRefusedCall held command line out written refusal.Room =
     IsSomeAnd held (λ t. WantsRoom t command line out written)
-IsRefusedCall held command line out written refusal.Memory = Unit {0}
-IsRefusedCall held command line out written refusal.Command = NamesNone command
+IsRefusedCall held command line out written refusal.Memory = IsSomeAnd held (λ t. Unit {0})
+IsRefusedCall held command line out written refusal.Command =
+    IsSomeAnd held (λ t. NamesNone command)
 IsRefusedCall held command line out written refusal.Table = IsSomeAnd held (λ t. LacksTable t command)
-IsRefusedCall held command line out written refusal.Negotiate = Names command Negotiate
+IsRefusedCall held command line out written refusal.Negotiate =
+    IsSomeAnd held (λ t. Names command Negotiate)
 IsRefusedCall held command line out written e = ⊥
+
+-- so many bytes are written at the beginning of `out`, and the others are as they were
+pub record Writes (out out' : List ℕ) (written : ℕ) : Type 0 where
+  pub within : written ≤ length out'
+  pub behind : drop written out' ≡ drop written out
 
 -- a call over what is held: the answer stands at the beginning of `out`, or `out` is as it was
 abbrev pub IsCall : Option Tables → List ℕ → List ℕ → List ℕ → List ℕ → ℕ
     → Result Bool Refusal → Type 0
 IsCall held command line out out' written (Ok accepted) =
     IsSomeAnd held (λ t. IsAnswerTo t command line (take written out') accepted)
+    × Writes out out' written
 IsCall held command line out out' written (Err e) =
     (out' ≡ out) × IsRefusedCall held command line out written e
 
@@ -94,7 +102,7 @@ abbrev pub IsShared : Option Tables → Option Tables → Option Tables → Resu
     → Type 0
 IsShared from old new (Ok u) = IsSomeAnd from (λ t. IsSomeAnd new (λ s. s ≡ t))
 IsShared from old new (Err refusal.Closed) = (new ≡ old) × (from ≡ None)
-IsShared from old new (Err refusal.Memory) = new ≡ old
+IsShared from old new (Err refusal.Memory) = (new ≡ old) × IsSomeAnd from (λ t. Unit {0})
 IsShared from old new (Err e) = ⊥
 
 -- whether the tables that are held are settled

@@ -4,7 +4,7 @@ ghost use Rattle.icu_locale_lines.specs.Answers.{IsAnswer};
 ghost use Rattle.icu_locale_lines.specs.declared.command.LineCommand.TheVariants as command;
 ghost use Rattle.icu_locale_lines.specs.declared.work.Work.TheVariants as work;
 ghost use Rattle.icu_locale_c.specs.Asked.{IsLineOf, IsRefusedLine};
-ghost use Rattle.icu_locale_c.specs.Calls.{unended};
+ghost use Rattle.icu_locale_c.specs.Calls.{Writes, unended};
 ghost use Rattle.icu_locale_c.specs.Rules.{AreKeptOf};
 
 use crate::refusal::Refusal;
@@ -84,6 +84,7 @@ fn locale_line(
 // Writes a line without its line feed to the beginning of `out`. Where it has no room, its length alone is told.
 pub fn put_line(text: &[u8], out: &mut [u8], written: &mut usize) -> Result<(), Refusal>
     ensures put { IfOk result (λ _. take written.new out.new ≡ unended text.now) }
+    ensures writes { IfOk result (λ _. Writes out.old out.new written.new) }
     ensures room { IfErr result (λ e. (e ≡ Refusal.Room) × (out.new ≡ out.old)
         × (written.new ≡ length (unended text.now))
         × (length out.old < length (unended text.now))) }
