@@ -27,7 +27,7 @@ test:
 	rt ci
 
 compare:
-	bench/compare/run
+	bench/compare/run --write
 
 # Builds a program only where it is not there.
 $(PROGRAMS):

@@ -7,6 +7,9 @@ from pathlib import Path
 
 from .programs import Stop
 
+# Below this load a machine counts as idle.
+IDLE = 0.5
+
 
 def processor():
     """The name of the processor, where the system tells it."""
@@ -22,6 +25,8 @@ def machine(versions):
     memory = os.sysconf("SC_PAGE_SIZE") * os.sysconf("SC_PHYS_PAGES") / 1e9
     yield f"- {datetime.date.today().isoformat()}"
     yield f"- {processor()}, {os.cpu_count()} processors, {memory:.0f} GB, {platform.system()} {platform.release()}"
+    load = os.getloadavg()[0]
+    yield "- an idle machine" if load < IDLE else f"- other work beside it: a load of {load:.1f} before"
     yield from (f"- {version}" for version in versions)
 
 

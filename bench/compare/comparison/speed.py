@@ -76,7 +76,9 @@ class Costs:
         ]
         found = measure(runs)
         for program, count, whole, part in zip(able, counts, found[::2], found[1::2]):
-            self.found[program.name, command] = (whole - part) / (count - count // 10)
+            cost = (whole - part) / (count - count // 10)
+            # lines too few to tell anything give no figure
+            self.found[program.name, command] = cost if cost > 0 else None
 
     def of(self, program, command):
         return self.found.get((program.name, command))
@@ -102,11 +104,13 @@ class Costs:
         yield "The goals are reached so:"
         yield ""
         program, plain, *others = self.programs
-        within = [it for it in COMMANDS if self.of(program, it) <= MOST * self.of(plain, it)]
+        told = [it for it in COMMANDS if self.of(program, it) and self.of(plain, it)]
+        within = [it for it in told if self.of(program, it) <= MOST * self.of(plain, it)]
         yield f"- {program.name} at most {MOST} times {plain.name}: {listed(within, COMMANDS)}"
         for other in others:
             for first in (program, plain):
-                ahead = [it for it in other.commands if self.of(other, it) >= AHEAD * self.of(first, it)]
+                known = [it for it in other.commands if self.of(other, it) and self.of(first, it)]
+                ahead = [it for it in known if self.of(other, it) >= AHEAD * self.of(first, it)]
                 yield f"- {first.name} at least {AHEAD} times ahead of {other.name}: {listed(ahead, other.commands)}"
 
 
