@@ -66,7 +66,8 @@ IsRefusedCall held command line out written refusal.Room =
 IsRefusedCall held command line out written refusal.Memory = IsSomeAnd held (λ t. Unit {0})
 IsRefusedCall held command line out written refusal.Command =
     IsSomeAnd held (λ t. NamesNone command)
-IsRefusedCall held command line out written refusal.Table = IsSomeAnd held (λ t. LacksTable t command)
+IsRefusedCall held command line out written refusal.Table =
+    IsSomeAnd held (λ t. LacksTable t command)
 IsRefusedCall held command line out written refusal.Negotiate =
     IsSomeAnd held (λ t. Names command Negotiate)
 IsRefusedCall held command line out written e = ⊥
@@ -76,7 +77,7 @@ pub record Writes (out out' : List ℕ) (written : ℕ) : Type 0 where
   pub within : written ≤ length out'
   pub behind : drop written out' ≡ drop written out
 
--- a call over what is held: the answer stands at the beginning of `out`, or `out` is as it was
+-- a call over what is held: `out` begins with the answer, or is as it was
 abbrev pub IsCall : Option Tables → List ℕ → List ℕ → List ℕ → List ℕ → ℕ
     → Result Bool Refusal → Type 0
 IsCall held command line out out' written (Ok accepted) =

@@ -1,4 +1,4 @@
-//! Locale identifiers for programs in C, and for what calls C: the program's answer to a line, over tables behind a handle.
+//! Locale identifiers for C and what calls it: the program's answer to a line, over tables behind a handle.
 #![tactic(auto)]
 
 ghost use Rattle.std.specs.Prelude.{◌≡◌, None, Bool, Result, IfErr};

@@ -38,7 +38,8 @@ pub fn line_over(
     }
 }
 
-// The line of a locale's canonical form, in the room of an earlier one, and the rules, which are read where none are kept.
+// The line of a locale's canonical form, in the room of an earlier one, and the rules, which are read where none
+// are kept.
 pub fn canonicalize(
     alloc: Global,
     tables: &Tables,
