@@ -1,5 +1,0 @@
-use Rattle.std.proofs.Common.{rules}
-use Rattle.icu_locale_core.proofs.variants.VariantsPartialEq.eq.Goals as goal
-
-pub returns : goal.returns
-returns c = search rules

@@ -1,5 +1,0 @@
-use Rattle.std.proofs.Common.{rules}
-use Rattle.icu_provider.proofs.aliases.Aliases.get_complex_region.Goals as goal
-
-pub returns : goal.returns
-returns c = search rules

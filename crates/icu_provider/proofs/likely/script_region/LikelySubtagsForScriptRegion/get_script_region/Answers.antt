@@ -1,5 +1,0 @@
-use Rattle.std.proofs.Common.{rules}
-use Rattle.icu_provider.proofs.likely.script_region.LikelySubtagsForScriptRegion.get_script_region.Goals as goal
-
-pub returns : goal.returns
-returns c = search rules

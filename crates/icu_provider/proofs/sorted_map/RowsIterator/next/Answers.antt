@@ -1,5 +1,0 @@
-use Rattle.std.proofs.Common.{rules}
-use Rattle.icu_provider.proofs.sorted_map.RowsIterator.next.Goals as goal
-
-pub returns : goal.returns
-returns g c = search rules

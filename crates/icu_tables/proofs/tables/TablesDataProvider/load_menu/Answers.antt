@@ -1,5 +1,0 @@
-use Rattle.std.proofs.Common.{rules}
-use Rattle.icu_tables.proofs.tables.TablesDataProvider.load_menu.Goals as goal
-
-pub returns : goal.returns
-returns c = search rules
