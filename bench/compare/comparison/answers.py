@@ -9,6 +9,8 @@ from dataclasses import dataclass, field
 from .inputs import LOCALES
 from .programs import COMMON, Stop, output_of
 
+# So many of the realistic identifiers are asked of unic-langid.
+LANGID_LINES = 20_000
 SUITE = "testData/localeIdentifiers/localeCanonicalization.txt"
 # A language that every locale names, and no locale names together with a script or a region.
 CARRIER = "it"
@@ -23,6 +25,13 @@ KINDS = {
     "root": ("`und` is the root", "ICU takes `und` for the locale `root`, and says so."),
     "brackets": ("brackets in brackets", "ICU makes round brackets square inside those of the pattern."),
     "data and brackets": ("both", "ICU's own row is another one, and its brackets are made square."),
+    "unexplained": ("unexplained", ""),
+}
+LANGID_KINDS = {
+    "reading": ("read by one alone",
+                "unic-langid reads a language of 5 to 8 letters, and a variant of 4 letters; here both are refused."),
+    "und": ("`und` that CLDR takes for English", "unic-langid leaves it as it is: it has no such row."),
+    "data": ("other data", "unic-langid's own maximal form of a key of the identifier is another one."),
     "unexplained": ("unexplained", ""),
 }
 
@@ -182,6 +191,35 @@ def compare_names(program, icu, own, inputs, locale):
     return found
 
 
+def keys_in(identifier):
+    """The identifiers with the language and at most one other subtag: what a look-up in a likely table is made of."""
+    language, *others = spelled(identifier).split("-")
+    return [language, *(f"{language}-{other}" for other in others if len(other) in (2, 3, 4))]
+
+
+def langid_kind(ours, theirs, maximal):
+    """Why answers differ for one question: maximal has both programs' maximal forms of its keys."""
+    if "?" in (ours, theirs):
+        return "reading"
+    if theirs.startswith("und-") and ours.split("-")[0] == "en":
+        return "und"
+    return "data" if any(spelled(one) != spelled(other) for one, other in maximal) else "unexplained"
+
+
+def compare_langid(program, langid, inputs, command, title):
+    """The maximal or minimal forms of realistic identifiers, against unic-langid."""
+    questions = inputs.identifiers.read_text().split("\n")[:LANGID_LINES]
+    asked = [answers(it, command, questions, inputs) for it in (program, langid)]
+    looked_up = [{*keys_in(question), *keys_in(ours)} - {"?"} for question, ours in zip(questions, asked[0])]
+    keys = sorted(set().union(*looked_up))
+    maximal = dict(zip(keys, zip(*(answers(it, "maximize", keys, inputs) for it in (program, langid)))))
+    found = Comparison(f"{title} of realistic identifiers, by unic-langid", title)
+    for question, ours, theirs, looked in zip(questions, *asked, looked_up):
+        kind = None if ours == theirs else langid_kind(ours, theirs, [maximal[key] for key in looked])
+        found.add(kind, question, ours, theirs)
+    return found
+
+
 def table_of_counts(comparisons):
     yield "| | asked | agree | differ | unexplained |"
     yield "|---|---|---|---|---|"
@@ -199,23 +237,28 @@ def by_kind(comparisons):
     return found
 
 
-def table_of_kinds(comparisons):
-    yield "| where | kind of difference | how many | cause | for example: here, ICU4C |"
+def table_of_kinds(comparisons, kinds, other):
+    yield f"| where | kind of difference | how many | cause | for example: here, {other} |"
     yield "|---|---|---|---|---|"
     for (group, kind), differing in by_kind(comparisons).items():
-        title, cause = KINDS[kind]
+        title, cause = kinds[kind]
         question, ours, theirs = differing[0]
         yield f"| {group} | {title} | {len(differing)} | {cause} | `{question}`: `{ours}`, `{theirs}` |"
 
 
-def report(program, icu, own, inputs):
+def report(program, icu, own, langid, inputs):
     """The section of answers, as lines of Markdown."""
+    titles = {"maximize": "maximal forms", "minimize": "minimal forms"} if langid else {}
+    by_langid = [compare_langid(program, langid, inputs, command, title) for command, title in titles.items()]
     canonical, right, whole = compare_canonical(program, icu, own, inputs)
     comparisons = [compare_maximal(program, icu, own, inputs), canonical]
     comparisons += [compare_names(program, icu, own, inputs, locale) for locale in LOCALES]
-    yield from table_of_counts(comparisons)
+    yield from table_of_counts(comparisons + by_langid)
     yield ""
     suite = " and ".join(f"{right[name]} by {name}" for name in (program.name, icu.name))
     yield f"Of the {whole} canonical forms that the suite itself wants, {suite} are those."
     yield ""
-    yield from table_of_kinds(comparisons)
+    yield from table_of_kinds(comparisons, KINDS, "ICU4C")
+    if by_langid:
+        yield ""
+        yield from table_of_kinds(by_langid, LANGID_KINDS, "unic-langid")

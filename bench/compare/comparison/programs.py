@@ -12,6 +12,9 @@ from script import says_its_usage
 HERE = Path(__file__).resolve().parent.parent
 ROOT = HERE.parent.parent
 COMMON = Path(os.environ.get("CLDR", "/usr/share/unicode/cldr/common"))
+# Where Debian keeps the sources of crates and of Go's packages.
+CRATES = Path("/usr/share/cargo/registry")
+GO_SOURCES = Path("/usr/share/gocode")
 COMMANDS = ["maximize", "minimize", "minimize-script", "canonicalize", "direction", "negotiate", "name"]
 NAMED_IN = "en"
 ACCEPTED = (0, 1)
@@ -117,6 +120,32 @@ def node_program():
     return Program("Node.js", ["node", str(HERE / "intl.mjs")], commands, is_counted=False)
 
 
+def langid_program(work):
+    """The program over unic-langid, built by cargo from Debian's crate sources, where they are installed."""
+    if not shutil.which("cargo") or not list(CRATES.glob("unic-langid-[0-9]*")):
+        print("without unic-langid: Debian's packages cargo and librust-unic-langid-dev", file=sys.stderr)
+        return None
+    source = work / "langid"
+    shutil.copytree(HERE / "langid", source)
+    (source / ".cargo").mkdir()
+    (source / ".cargo" / "config.toml").write_text(
+        f'[source.crates-io]\nreplace-with = "debian"\n[source.debian]\ndirectory = "{CRATES}"\n')
+    subprocess.run(["cargo", "build", "--offline", "--release", "--quiet"], cwd=source, check=True)
+    return Program("unic-langid", [str(source / "target" / "release" / "langid-lines")], ["maximize", "minimize"])
+
+
+def golang_program(work):
+    """The program over Go's package golang.org/x/text, where that is installed. Valgrind cannot run it."""
+    if not shutil.which("go") or not (GO_SOURCES / "src" / "golang.org" / "x" / "text").is_dir():
+        print("without Go: Debian's packages golang-go and golang-golang-x-text-dev", file=sys.stderr)
+        return None
+    path = work / "golang"
+    paths = {"GO111MODULE": "off", "GOPATH": str(GO_SOURCES), "GOCACHE": str(work / "golang-cache"), "GOFLAGS": ""}
+    words = ["go", "build", "-o", path, HERE / "golang" / "main.go"]
+    subprocess.run(words, env={**os.environ, **paths}, check=True)
+    return Program("Go", [str(path)], ["canonicalize", "negotiate", "name"], is_counted=False)
+
+
 def output_of(program, command, path, locale=NAMED_IN):
     """What a run writes, as lines."""
     with open(path, "rb") as stdin:
@@ -156,12 +185,17 @@ def first_line_of(words):
     return (ran.stdout.strip() or ran.stderr.strip()).split("\n")[0]
 
 
-def versions(icu, node):
+def langid_version():
+    """The version of Debian's crate."""
+    return sorted(CRATES.glob("unic-langid-[0-9]*"))[-1].name.replace("langid-", "langid ")
+
+
+def versions(icu, node, langid, golang):
     """The versions of everything that is compared, one a line."""
     found = [first_line_of(["rustc", "--version"]), first_line_of(["g++", "--version"])]
-    found.append(first_line_of([*icu.words, "versions"]))
-    if node:
-        found.append(first_line_of([*node.words, "versions"]))
+    found += [first_line_of([*it.words, "versions"]) for it in (icu, node, golang) if it]
+    if langid:
+        found.append(langid_version())
     if has_valgrind():
         found.append(first_line_of(["valgrind", "--version"]))
     if shutil.which("parallel"):

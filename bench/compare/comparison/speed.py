@@ -56,10 +56,12 @@ def fewer(lines, share):
 
 
 class Costs:
-    """What a line of each command costs in each program. The slow programs get fewer lines."""
+    """What a line of each command costs in each program. The slow programs get fewer lines, and libraries stand in tables
+    of their own."""
 
-    def __init__(self, programs, inputs, lines, measure):
-        self.programs = programs
+    def __init__(self, programs, inputs, lines, measure, libraries=()):
+        self.programs = [*programs, *libraries]
+        self.libraries = libraries
         self.found = {}
         asked = {command for program in programs for command in program.commands}
         for command in filter(asked.__contains__, COMMANDS):
@@ -68,6 +70,8 @@ class Costs:
     def measure(self, command, inputs, lines, measure):
         """Finds what a run of many lines costs beyond one of a tenth of them, in all programs side by side."""
         able = [program for program in self.programs if command in program.commands]
+        if not able:
+            return
         counts = [lines if program.takes_tables else fewer(lines, SLOW) for program in able]
         runs = [
             (program, command, inputs.of(program, command, asked))
@@ -80,12 +84,17 @@ class Costs:
             # lines too few to tell anything give no figure
             self.found[program.name, command] = cost if cost > 0 else None
 
+    @property
+    def beside(self):
+        """The programs of the one table."""
+        return [it for it in self.programs if it not in self.libraries]
+
     def of(self, program, command):
         return self.found.get((program.name, command))
 
     def row(self, command):
         """The costs of a line, and how they compare."""
-        program, plain, *others = self.programs
+        program, plain, *others = self.beside
         mine, plains = self.of(program, command), self.of(plain, command)
         cells = [shown(mine), shown(plains), ratio(mine, plains)]
         for other in others:
@@ -93,17 +102,29 @@ class Costs:
         return f"| `{command}` | {' | '.join(cells)} |"
 
     def table(self):
-        others = self.programs[2:]
+        others = self.beside[2:]
         heads = "".join(f" {other.name} | times ahead |" for other in others)
         yield f"| command | this program | plain Rust | ratio |{heads}"
         yield "|---|---|---|---|" + "---|---|" * len(others)
         yield from map(self.row, COMMANDS)
 
+    def library_tables(self):
+        """A table for each library: what a line costs there, here and in plain Rust."""
+        program, plain = self.programs[:2]
+        for library in self.libraries:
+            yield ""
+            yield f"| command | {program.name} | {plain.name} | {library.name} | ratio to {library.name} |"
+            yield "|---|---|---|---|---|"
+            for command in library.commands:
+                mine, theirs = self.of(program, command), self.of(library, command)
+                cells = [shown(mine), shown(self.of(plain, command)), shown(theirs), ratio(mine, theirs)]
+                yield f"| `{command}` | {' | '.join(cells)} |"
+
     def goals(self):
         """Which commands reach the goals."""
         yield "The goals are reached so:"
         yield ""
-        program, plain, *others = self.programs
+        program, plain, *others = self.beside
         told = [it for it in COMMANDS if self.of(program, it) and self.of(plain, it)]
         within = [it for it in told if self.of(program, it) <= MOST * self.of(plain, it)]
         yield f"- {program.name} at most {MOST} times {plain.name}: {listed(within, COMMANDS)}"
@@ -129,27 +150,30 @@ def by_arrays_too(costs, plain, inputs, lines, measure, unit):
     yield f"This program takes {ratio(mine, theirs)} times as many."
 
 
-def report(program, plain, others, inputs, lines):
+def report(program, plain, others, libraries, inputs, lines):
     """The section of speed, as lines of Markdown."""
     for command in COMMANDS:
         check_equal(program, plain, inputs, command, lines)
     check_equal(program, by_arrays(plain), inputs, "name", lines)
-    timed = Costs([program, plain, *others], inputs, lines, nanoseconds)
+    timed = Costs([program, plain, *others], inputs, lines, nanoseconds, libraries)
     yield f"Nanoseconds of processor time a line, over {lines:,} lines, or a tenth of them for those in C++ and"
     yield "JavaScript; the first two programs wrote the same bytes:"
     yield ""
     yield from timed.table()
+    yield from timed.library_tables()
     yield from by_arrays_too(timed, plain, inputs, lines, nanoseconds, "nanoseconds a line")
     yield ""
     yield from timed.goals()
     if not has_valgrind():
         return
     count = fewer(lines, COUNTED)
-    counted = Costs([it for it in timed.programs if it.is_counted], inputs, count, instructions)
+    counted = Costs([it for it in timed.beside if it.is_counted], inputs, count, instructions,
+                    [it for it in libraries if it.is_counted])
     yield ""
     yield f"Instructions a line, counted by valgrind over {count:,} lines, or a tenth of them for those in C++:"
     yield ""
     yield from counted.table()
+    yield from counted.library_tables()
     yield from by_arrays_too(counted, plain, inputs, count, instructions, "instructions a line")
     yield ""
     yield from counted.goals()
