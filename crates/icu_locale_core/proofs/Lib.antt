@@ -1,5 +1,6 @@
 mod Agreements
 mod Cases
+mod Fronts
 mod Hashes
 mod Merges
 mod Padding

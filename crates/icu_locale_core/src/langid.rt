@@ -1,7 +1,8 @@
 //! Identifiers: a language, a script, a region and variants.
-ghost use Rattle.std.specs.Prelude.{◌≡◌, ◌++◌, codes, Some, IsOk, IfOk, IfErr};
+ghost use Rattle.std.specs.Prelude.{◌≡◌, ◌≤◌, ◌++◌, codes, take, length, Some, IsOk, IfOk, IfErr, OnOk, OnErr};
 ghost use Rattle.std.specs.Fmt.{WritesOnOk};
 ghost use Rattle.std.specs.List.{flat_map};
+ghost use Rattle.std.specs.Str.{IsUtf8};
 ghost use Rattle.icu_locale_core.specs.Identifier.{IsIdentifier, ReadsIdentifier, written};
 ghost use Rattle.icu_locale_core.specs.TextSet.{rising, empty};
 ghost use Rattle.icu_locale_core.specs.inner.Heads.{head};
@@ -9,7 +10,7 @@ ghost use Rattle.icu_locale_core.specs.inner.Heads.{head};
 use crate::pieces::Pieces;
 use crate::reader::read_identifier;
 use crate::{Language, ParseError, Region, Script, Variants};
-use std::alloc::Global;
+use std::alloc::{AllocError, Global};
 use std::fmt;
 
 /// An identifier (unicode_language_id of UTS #35, section 3.1): a language, a script or none, a region or none, and
@@ -67,6 +68,27 @@ impl LanguageIdentifier {
         self.variants.known();
     }
 
+    /// Puts the written form behind a text: what Display writes. It takes memory where the text has no room for it.
+    ///
+    /// # Errors
+    ///
+    /// `Memory` where the text could not grow. It is as it was then.
+    #[inline]
+    pub fn append_to(&self, text: &mut Vec<u8>) -> Result<(), ParseError>
+        ensures appended { OnOk result (text.new.items ≡ text.old.items ++ written self.now) }
+        ensures refused { IfErr result (λ e. e ≡ ParseError.Memory) }
+        ensures unchanged { OnErr result (text.new.items ≡ text.old.items) }
+    {
+        let before = text.as_slice().len();
+        match append_parts(self, text) {
+            Ok(()) => Ok(()),
+            Err(_) => {
+                text.truncate(before);
+                Err(ParseError::Memory)
+            }
+        }
+    }
+
     /// An equal identifier. Without variants it takes no memory.
     ///
     /// # Errors
@@ -95,19 +117,55 @@ impl fmt::Display for LanguageIdentifier {
     }
 }
 
+// The written form, put behind a text.
+#[inline]
+fn append_parts(x: &LanguageIdentifier, text: &mut Vec<u8>) -> Result<(), AllocError>
+    ensures appended { OnOk result (text.new.items ≡ text.old.items ++ written x.now) }
+    ensures part { OnErr result (take (length text.old.items) text.new.items ≡ text.old.items) }
+{
+    let mut buffer = [0; 14];
+    let end = put_head(x, &mut buffer);
+    text.extend_from_slice(&buffer[..end])?;
+    append_variants(&x.variants, text)
+}
+
+// Each variant in rising order, with `-` before it, put behind a text.
+fn append_variants(variants: &Variants, text: &mut Vec<u8>) -> Result<(), AllocError>
+    ensures appended { OnOk result (text.new.items
+        ≡ text.old.items ++ flat_map (λ v. codes "-" ++ v) (rising variants.now)) }
+    ensures part { OnErr result (take (length text.old.items) text.new.items ≡ text.old.items) }
+{
+    for variant in variants.iter() {
+        text.push(b'-')?;
+        text.extend_from_slice(variant.as_str().as_bytes())?;
+    }
+    Ok(())
+}
+
 // The language, the script and the region in one run of bytes, with `-` between them.
 fn write_head<W: fmt::Write>(x: &LanguageIdentifier, f: &mut fmt::Formatter<W>) -> fmt::Result
     ensures { WritesOnOk W.write_str_gives f.old result (head x.now) f.new }
 {
     let mut buffer = [0; 14];
-    let mut end = x.language.0.put(&mut buffer, 0);
+    let end = put_head(x, &mut buffer);
+    f.write_str(unsafe { str::from_utf8_unchecked(&buffer[..end]) })
+}
+
+// Puts the language, the script and the region into a buffer, with `-` between them, and tells where they end.
+#[inline(always)]
+fn put_head(x: &LanguageIdentifier, buffer: &mut [u8; 14]) -> usize
+    ensures text { take result buffer.new ≡ head x.now }
+    ensures within { result ≤ 14 }
+    ensures plain { IsUtf8 (take result buffer.new) }
+{
+    let mut end = x.language.0.put(buffer, 0);
     if let Some(script) = &x.script {
-        end = script.0.put_after_dash(&mut buffer, end);
+        end = script.0.put_after_dash(buffer, end);
     }
     if let Some(region) = &x.region {
-        end = region.0.put_after_dash(&mut buffer, end);
+        end = region.0.put_after_dash(buffer, end);
     }
-    f.write_str(unsafe { str::from_utf8_unchecked(&buffer[..end]) })
+    end
 }
 
 // Each variant in rising order, with `-` before it.

@@ -4,8 +4,8 @@ use Rattle.std.proofs.lemmas.Str.{IsUtf8-from_ascii, IsUtf8-append}
 use Rattle.std.proofs.lemmas.Str.Ascii.{IsAscii-nil, IsAscii-cons}
 use Rattle.icu_locale_core.specs.Subtag.{is_alphanumeric}
 use Rattle.icu_locale_core.proofs.Padding.{IsUtf8-plain}
-use Rattle.icu_locale_core.proofs.langid.write_head.Goals as goal
-use Rattle.icu_locale_core.proofs.langid.write_head.Goals.{in-Some, in_default, in-Some-region, in_default-region}
+use Rattle.icu_locale_core.proofs.langid.put_head.Goals as goal
+use Rattle.icu_locale_core.proofs.langid.put_head.Goals.{in-Some, in_default}
 
 -- a dash and a subtag behind a text
 after : (front subtag : List ℕ) → IsUtf8 front → IsTrue (is_alphanumeric subtag) → IsUtf8 (front ++ (codes "-" ++ subtag))
@@ -14,15 +14,21 @@ after front subtag text plain =
     IsUtf8-append front (codes "-" ++ subtag) text (IsUtf8-append (codes "-") subtag dash (IsUtf8-plain subtag plain))
 
 -- letters, digits and dashes
-pub from_utf8_unchecked-requires : goal.from_utf8_unchecked-requires
-from_utf8_unchecked-requires g c =
+pub returns-in-Some-region-clause-plain : goal.returns-in-Some-region-clause-plain
+returns-in-Some-region-clause-plain c =
     let language : IsUtf8 (take c.put-end.result c.put-end.new.buffer) =
     subst IsUtf8 (sym c.put-end.ensures.text) (IsUtf8-plain _ c.put-end.ensures.plain) in
     let script : IsUtf8 (take c.match-x.end c.match-x.buffer) = elim c.match-x.branch [
       | in-Some w ↦ rw (w.end-is, w.buffer-is, w.put_after_dash-end.ensures.text) (after _ _ language w.put_after_dash-end.ensures.plain)
       | in_default w ↦ rw (w.end-is, w.buffer-is) language
     ] in
-    elim c.match-x-2.branch [
-      | in-Some-region w ↦ rw (w.end-is, w.buffer-is, w.put_after_dash-end-in-Some-region.ensures.text) (after _ _ script w.put_after_dash-end-in-Some-region.ensures.plain)
-      | in_default-region w ↦ rw (w.end-is, w.buffer-is) script
+    subst IsUtf8 (sym c.put_after_dash-end-in-Some-region.ensures.text) (after _ _ script c.put_after_dash-end-in-Some-region.ensures.plain)
+
+pub returns-in_default-region-clause-plain : goal.returns-in_default-region-clause-plain
+returns-in_default-region-clause-plain c =
+    let language : IsUtf8 (take c.put-end.result c.put-end.new.buffer) =
+    subst IsUtf8 (sym c.put-end.ensures.text) (IsUtf8-plain _ c.put-end.ensures.plain) in
+    elim c.match-x.branch [
+      | in-Some w ↦ rw (w.end-is, w.buffer-is, w.put_after_dash-end.ensures.text) (after _ _ language w.put_after_dash-end.ensures.plain)
+      | in_default w ↦ rw (w.end-is, w.buffer-is) language
     ]
