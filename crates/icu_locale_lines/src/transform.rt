@@ -4,7 +4,7 @@ ghost use Rattle.icu_locale.specs.LikelyTable.{likely};
 ghost use Rattle.icu_locale_lines.specs.Answers.{IsForm};
 ghost use Rattle.icu_locale_lines.specs.Texts.{mark, transformed_line};
 
-use crate::answer::{Answer, cleared};
+use crate::answer::Answer;
 use crate::error::CliError;
 use icu_locale::{LocaleExpander, TransformResult};
 use icu_locale_core::LanguageIdentifier;
@@ -39,7 +39,7 @@ impl Transform {
 
 // The line of an identifier and whether it was changed.
 pub fn transformed(
-    room: Vec<u8>,
+    mut text: Vec<u8>,
     identifier: &LanguageIdentifier,
     changed: TransformResult,
 ) -> Result<Answer, CliError>
@@ -48,11 +48,13 @@ pub fn transformed(
         × (a.accepted ≡ true)) }
     ensures refused { IfErr result (λ e. e ≡ CliError.Memory) }
 {
-    let mut text = cleared(room);
-    write!(text, "{identifier}")?;
-    text.push_str(ending(changed))?;
+    text.clear();
+    if identifier.append_to(&mut text).is_err() {
+        return Err(CliError::Memory);
+    }
+    text.extend_from_slice(ending(changed).as_bytes())?;
     Ok(Answer {
-        text: text.into_bytes(),
+        text,
         accepted: true,
     })
 }
