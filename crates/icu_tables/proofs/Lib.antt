@@ -1,10 +1,13 @@
 mod FileLookups
 mod Files
+mod Gaps
+mod Groups
 mod Items
 mod KeyNames
 mod Lookups
 mod MarkedLookups
 mod Members
+mod NameGroups
 mod Names
 mod Once
 mod Puts

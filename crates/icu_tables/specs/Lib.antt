@@ -1,6 +1,7 @@
 pub mod Essentials
 pub mod Fields
 pub mod File
+pub mod Groups
 pub mod Lookups
 pub mod NamedRows
 pub mod Names

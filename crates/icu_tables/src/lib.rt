@@ -5,7 +5,9 @@ mod error;
 mod file;
 mod kinds;
 pub mod laws;
+mod name_rows;
 mod tables;
 
 pub use error::TableError;
+pub use name_rows::NameRows;
 pub use tables::Tables;

@@ -1,0 +1,119 @@
+//! Names in two steps: first by marker and locale, and then by key.
+ghost use Rattle.std.specs.Prelude.{◌≡◌, ◌==◌, [], length, MatchResult, option_copied};
+ghost use Rattle.icu_locale_core.specs.Maps.{value_at};
+ghost use Rattle.icu_provider.specs.Inserts.{Inserts};
+ghost use Rattle.icu_provider.specs.Requests.{name_cmp};
+ghost use Rattle.icu_provider.specs.SortedMaps.{IsSortedMap};
+ghost use Rattle.icu_provider.specs.inner.Gaps.{IsAt, IsGapFor};
+ghost use Rattle.icu_tables.specs.Groups.{group_cmp};
+
+use icu_provider::laws::keys_are_told_apart;
+use icu_provider::{DataError, DataLocale, NameKey, NameMarker, SortedMap};
+use std::alloc::Global;
+use std::cmp::Ordering;
+use std::marker::Model;
+
+// A marker and a locale, and their names by key.
+type Group = ((NameMarker, DataLocale), SortedMap<NameKey, String>);
+
+/// Names by marker, locale and key. A marker and a locale that have names are a group with a map of its own, so that a
+/// request whose marker and locale have none is answered by a look at the groups alone. A contract sees one list of
+/// rows, in the order of marker, locale and key. Only `insert` takes memory.
+#[derive(Debug)]
+pub struct NameRows {
+    groups: Vec<Group>,
+}
+
+impl Drop for NameRows {
+    fn drop(self) {
+        let NameRows { groups: _ } = self;
+    }
+}
+
+impl Model for NameRows {
+    ghost use Rattle.std.specs.Prelude.{List, String};
+    ghost use Rattle.std.specs.Global.{Global};
+    ghost use Rattle.icu_provider.specs.declared.data_locale.DataLocale.{DataLocale};
+    ghost use Rattle.icu_provider.specs.declared.names.NameKey.{NameKey};
+    ghost use Rattle.icu_provider.specs.declared.names.NameMarker.{NameMarker};
+    ghost use Rattle.icu_tables.specs.Groups.{RiseInGroups, flat_names, group_cmp, key_cmp};
+
+    ghost Value = { List ((NameMarker × DataLocale × NameKey) × String Global) };
+
+    ghost view = { λ m. flat_names m.groups.items };
+
+    ghost invariant = { λ m. RiseInGroups group_cmp key_cmp m.groups.items };
+}
+
+impl NameRows {
+    /// A table with no names. It takes no memory.
+    pub fn new(alloc: Global) -> Self
+        ensures { result ≡ [] }
+    {
+        NameRows {
+            groups: Vec::new(alloc),
+        }
+    }
+
+    /// The name at a marker, a locale and a key, found by binary search: of the marker and the locale among the groups,
+    /// and then of the key among the names of that group alone.
+    #[inline]
+    pub fn get(&self, marker: NameMarker, locale: DataLocale, key: &NameKey) -> Option<&String>
+        ensures { option_copied result
+            ≡ value_at name_cmp self.now (marker, locale, key.now) }
+    {
+        match place_of(&self.groups, &(marker, locale)) {
+            Ok(at) => self.groups[at].1.get(key),
+            Err(_) => None,
+        }
+    }
+
+    /// Sets the name at a marker, a locale and a key. A key that is there stays and takes the name, with no memory
+    /// taken; a new row goes to its place in its group, and the group's list grows once if it is full. The first row of a
+    /// marker and a locale makes their group.
+    ///
+    /// # Errors
+    ///
+    /// `Memory`, only for a key that is not there yet, where memory for the row or its group was refused: the names stay
+    /// as they were then, and the row is dropped.
+    pub fn insert(
+        &mut self,
+        marker: NameMarker,
+        locale: DataLocale,
+        key: NameKey,
+        name: String,
+    ) -> Result<(), DataError>
+        ensures { Inserts name_cmp self.old self.new (marker, locale, key) name result }
+    {
+        keys_are_told_apart();
+        match place_of(&self.groups, &(marker, locale)) {
+            Ok(at) => self.groups[at].1.insert(key, name),
+            Err(at) => {
+                let mut names = SortedMap::new(*self.groups.allocator());
+                names.insert(key, name)?;
+                Ok(self.groups.insert(at, ((marker, locale), names))?)
+            }
+        }
+    }
+
+    /// Nothing, but that the keys rise, so that no request has two rows.
+    pub fn known(&self)
+        ensures { IsSortedMap name_cmp self.now }
+    {
+        let _ = &self.groups;
+    }
+}
+
+// Where the group of a marker and a locale stands, or where it would go.
+#[inline]
+fn place_of(groups: &[Group], wanted: &(NameMarker, DataLocale)) -> Result<usize, usize>
+    requires { IsSortedMap group_cmp groups.now }
+    ensures { MatchResult result
+        (IsAt group_cmp groups.now wanted.now) (IsGapFor group_cmp groups.now wanted.now) }
+{
+    groups.binary_search_by(
+        |group: &Group| -> Ordering
+            ensures { result ≡ group_cmp group.now.0 wanted.entry.now }
+        { group.0.cmp(wanted) },
+    )
+}
