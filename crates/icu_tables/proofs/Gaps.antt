@@ -1,5 +1,5 @@
 -- Where a key stands among rows whose keys rise, or would go, and what an edit at that place does.
-use Rattle.std.proofs.Common.{◌≡◌, ◌≢◌, Bool, false, if◌then◌else◌, ℕ, zero, suc, ◌+◌, ◌<◌, List, [], ◌∷◌, length, get_or, set, Some, None, Result, Ok, Err, MatchResult, refl, sym, ap, ◌∙◌, subst, arith}
+use Rattle.std.proofs.Common.{◌≡◌, ◌≢◌, Bool, false, if◌then◌else◌, ℕ, zero, suc, ◌+◌, ◌<◌, List, [], ◌∷◌, ◌++◌, length, get_or, set, Some, None, Result, Ok, Err, MatchResult, refl, sym, ap, ◌∙◌, subst, arith}
 use Rattle.std.specs.declared.cmp.Ordering.{Ordering}
 use Rattle.std.specs.declared.cmp.Ordering.TheVariants.{Less, Equal, Greater}
 use Rattle.std.specs.Ordering.{is_eq, is_lt, match_ordering, ordering_reverse}
@@ -132,3 +132,16 @@ module _ {K V : Type 0} {compare : K → K → Ordering} (total : IsTotalOrder c
         others = λ other apart. sets other ∙ ap (λ tied. if tied then Some value else value_at compare old other) (not_tied (compare key other) apart);
         stands = λ ties. stands_where_found total (λ x y tied. (ties x y).0 tied) new key value found;
       }
+
+  -- a key behind rising rows is above the first
+  above_behind : (key : K) (rows rest : List (K × V)) (last : K × V) → AllByRecursion (λ later. compare key later ≡ Less) (keys_of (rows ++ last ∷ rest)) → compare last.0 key ≡ Greater
+  above_behind key [] rest last below = total.antisymm last.0 key ∙ ap ordering_reverse below.0
+  above_behind key (row ∷ rows) rest last below = above_behind key rows rest last below.1
+
+  -- a row that comes behind the others is inserted behind them
+  pub insert_entry-behind : (rows rest : List (K × V)) (last : K × V) → IsSortedMap compare (rows ++ last ∷ rest) → insert_entry compare rows last.0 last.1 ≡ rows ++ last ∷ []
+  unfolding IsStrictlySortedBy
+  insert_entry-behind [] rest last sorted = refl
+  insert_entry-behind (row ∷ rows) rest last sorted =
+      insert_entry-step compare last.0 last.1 row rows Greater (above_behind row.0 rows rest last sorted.0)
+      ∙ ap (λ later. row ∷ later) (insert_entry-behind rows rest last sorted.1)

@@ -116,7 +116,7 @@ inserts_at groups g key name at row names (Ok done) ties rise is here inserts =
     }
 inserts_at groups g key name at row names (Err e) ties rise is here inserts =
     let same : set groups at (row.0, names) ≡ groups =
-        ap (λ rest. set groups at (row.0, rest)) inserts.refuses.unchanged ∙ ap (set groups at) here ∙ set-get_or groups at row in
+    ap (λ rest. set groups at (row.0, rest)) inserts.refuses.unchanged ∙ ap (set groups at) here ∙ set-get_or groups at row in
     record {
       holds = tt;
       refuses = record { memory = inserts.refuses.memory; unchanged = ap flat_names same };

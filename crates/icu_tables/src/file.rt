@@ -27,6 +27,7 @@ use crate::file::exemplars::MarkedExemplars;
 use crate::file::locales::Locales;
 use crate::file::marked::Marked;
 use crate::file::members::{RowByRow, fill_by};
+use crate::file::names::fill_names;
 use crate::file::objects::{fill, only_members};
 use crate::file::values::FromValue;
 use crate::{TableError, Tables};
@@ -118,7 +119,7 @@ impl FromValue for Tables {
             &MarkedExemplars,
             &mut tables.exemplars,
         )?;
-        fill_by(alloc, value, "names", &Marked, &mut tables.names)?;
+        fill_names(alloc, value, &mut tables.names)?;
         fill_by(alloc, value, "menus", &Marked, &mut tables.menus)?;
         fill_by(
             alloc,

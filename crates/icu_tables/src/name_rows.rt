@@ -1,11 +1,11 @@
 //! Names in two steps: first by marker and locale, and then by key.
-ghost use Rattle.std.specs.Prelude.{◌≡◌, ◌==◌, [], length, MatchResult, option_copied};
+ghost use Rattle.std.specs.Prelude.{◌≡◌, ◌==◌, ◌-◌, ◌^◌, [], length, min, MatchResult, option_copied};
 ghost use Rattle.icu_locale_core.specs.Maps.{value_at};
 ghost use Rattle.icu_provider.specs.Inserts.{Inserts};
 ghost use Rattle.icu_provider.specs.Requests.{name_cmp};
 ghost use Rattle.icu_provider.specs.SortedMaps.{IsSortedMap};
 ghost use Rattle.icu_provider.specs.inner.Gaps.{IsAt, IsGapFor};
-ghost use Rattle.icu_tables.specs.Groups.{group_cmp};
+ghost use Rattle.icu_tables.specs.Groups.{flat_names, group_cmp};
 
 use icu_provider::laws::keys_are_told_apart;
 use icu_provider::{DataError, DataLocale, NameKey, NameMarker, SortedMap};
@@ -53,6 +53,20 @@ impl NameRows {
         NameRows {
             groups: Vec::new(alloc),
         }
+    }
+
+    /// How many names there are, or the largest `usize` where there are more. It asks each group once.
+    pub fn len(&self) -> usize
+        ensures { result ≡ min (length self.now) (2 ^ 64 - 1) }
+    {
+        count_of(&self.groups)
+    }
+
+    /// Whether there is no name. It asks each group once.
+    pub fn is_empty(&self) -> bool
+        ensures { result ≡ (length self.now == 0) }
+    {
+        self.len() == 0
     }
 
     /// The name at a marker, a locale and a key, found by binary search: of the marker and the locale among the groups,
@@ -116,4 +130,15 @@ fn place_of(groups: &[Group], wanted: &(NameMarker, DataLocale)) -> Result<usize
             ensures { result ≡ group_cmp group.now.0 wanted.entry.now }
         { group.0.cmp(wanted) },
     )
+}
+
+// How many names stand in groups.
+fn count_of(groups: &[Group]) -> usize
+    ensures { result ≡ min (length (flat_names groups.now)) (2 ^ 64 - 1) }
+{
+    let mut count: usize = 0;
+    for group in groups {
+        count = count.saturating_add(group.1.len());
+    }
+    count
 }

@@ -6,6 +6,7 @@ ghost use Rattle.icu_provider.specs.Requests.{exemplar_cmp, locale_cmp, menu_cmp
 ghost use Rattle.icu_provider.specs.SortedMaps.{IsSortedMap};
 ghost use Rattle.icu_tables.specs.Tables.{held, name_in};
 
+use crate::NameRows;
 use crate::kinds::is_of_kind;
 use icu_locale_core::Language;
 use icu_provider::{
@@ -32,7 +33,7 @@ pub struct Tables {
     /// The sets of exemplar characters, by marker and locale.
     pub exemplars: SortedMap<(ExemplarMarker, DataLocale), ExemplarCharactersData>,
     /// The names, by marker, locale and key.
-    pub names: SortedMap<(NameMarker, DataLocale, NameKey), String>,
+    pub names: NameRows,
     /// The names in menus, by marker, locale and language.
     pub menus: SortedMap<(MenuMarker, DataLocale, Language), MenuNameParts>,
     /// How the parts of names are put together, by locale.
@@ -77,7 +78,7 @@ impl Tables {
             aliases: None,
             script_direction: None,
             exemplars: SortedMap::new(alloc),
-            names: SortedMap::new(alloc),
+            names: NameRows::new(alloc),
             menus: SortedMap::new(alloc),
             essentials: SortedMap::new(alloc),
         }
@@ -157,7 +158,7 @@ impl Tables {
         ensures insert { Inserts name_cmp self.old.names self.new.names
             (marker, locale, key) name result }
     {
-        self.names.insert((marker, locale, key), name)
+        self.names.insert(marker, locale, key, name)
     }
 
     /// Sets the name in menus of a marker, a locale and a language. A name that is there gives way,
@@ -208,7 +209,7 @@ impl Tables {
         ensures essentials { IsSortedMap locale_cmp self.now.essentials }
     {
         let _ = self.exemplars.as_slice();
-        let _ = self.names.as_slice();
+        self.names.known();
         let _ = self.menus.as_slice();
         let _ = self.essentials.as_slice();
     }
@@ -217,7 +218,7 @@ impl Tables {
     fn name_at(&self, marker: NameMarker, locale: DataLocale, key: NameKey) -> Option<&String>
         ensures { option_copied result ≡ value_at name_cmp self.now.names (marker, locale, key) }
     {
-        self.names.get(&(marker, locale, key))
+        self.names.get(marker, locale, &key)
     }
 }
 

@@ -5,7 +5,7 @@ ghost use Rattle.serde_json.specs.View.{view};
 ghost use Rattle.icu_tables.specs.Fields.{said_or};
 ghost use Rattle.icu_tables.specs.NamedRows.{row_at};
 ghost use Rattle.icu_tables.specs.Puts.{map_by, rows_by};
-ghost use Rattle.icu_tables.specs.inner.Reads.{Fills, Puts};
+ghost use Rattle.icu_tables.specs.inner.Reads.{Fills, Puts, Reads};
 ghost use Rattle.icu_tables.specs.Rows.{seen_rows};
 
 use crate::TableError;
@@ -64,7 +64,25 @@ pub(crate) fn put_members<K: Ord, V, P: PutsRows<K, V>>(
     Ok(())
 }
 
-// Puts what a member says, if it is there, into a map without rows. No order of the members costs more than a sort.
+// The rows that a member says, if it is there. No order of the members costs more than a sort.
+pub(crate) fn rows_said<K: Ord + Drop, V: Drop, P: PutsRows<K, V>>(
+    alloc: Global,
+    object: &Value,
+    name: &str,
+    how: &P,
+) -> Result<BTreeMap<K, V>, TableError>
+    ensures { let found = get name.now (view object.now) in
+        Reads (λ rows. seen_rows P.seen rows.entries) result
+        (said_or (Some []) (map_by K.cmp (P.says how.now)) found) }
+{
+    let mut rows = BTreeMap::new(alloc);
+    if let Some(value) = object.get(name) {
+        put_members(alloc, value, how, &mut rows)?;
+    }
+    Ok(rows)
+}
+
+// Puts what a member says into a map in place of its rows, and no rows if it is not there.
 pub(crate) fn fill_by<K: Ord + Drop, V: Drop, P: PutsRows<K, V>>(
     alloc: Global,
     object: &Value,
@@ -72,20 +90,13 @@ pub(crate) fn fill_by<K: Ord + Drop, V: Drop, P: PutsRows<K, V>>(
     how: &P,
     map: &mut SortedMap<K, V>,
 ) -> Result<(), TableError>
-    requires { map.old ≡ [] }
     ensures { let found = get name.now (view object.now) in
         Fills result (seen_rows P.seen map.new)
         (said_or (Some []) (map_by K.cmp (P.says how.now)) found) }
 {
-    match object.get(name) {
-        Some(value) => {
-            let mut rows = BTreeMap::new(alloc);
-            put_members(alloc, value, how, &mut rows)?;
-            *map = in_one_list(alloc, rows)?;
-            Ok(())
-        }
-        None => Ok(()),
-    }
+    let rows = rows_said(alloc, object, name, how)?;
+    *map = in_one_list(alloc, rows)?;
+    Ok(())
 }
 
 // The rows of a map in one list.

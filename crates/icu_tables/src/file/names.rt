@@ -1,11 +1,57 @@
-//! Markers and keys of names.
+//! Markers and keys of names, and the names of a file.
+ghost use Rattle.std.specs.Prelude.{◌≡◌, [], codes, string_bytes, Some, IfOk, IfErr};
+ghost use Rattle.serde_json.specs.Find.{get};
+ghost use Rattle.serde_json.specs.View.{view};
+ghost use Rattle.icu_provider.specs.Requests.{name_cmp};
+ghost use Rattle.icu_tables.specs.Fields.{said_or};
+ghost use Rattle.icu_tables.specs.NamedRows.{marked_names};
+ghost use Rattle.icu_tables.specs.Puts.{map_by};
+ghost use Rattle.icu_tables.specs.Rows.{seen_rows};
+ghost use Rattle.icu_tables.specs.inner.Reads.{Fills};
 
 use crate::file::keys::RowKey;
 use crate::file::locales::locale_named;
-use crate::file::marked::{MarkedKey, Marker};
+use crate::file::marked::{Marked, MarkedKey, Marker};
+use crate::file::members::rows_said;
 use crate::kinds::{names_languages, names_regions, names_scripts};
+use crate::{NameRows, TableError};
 use icu_locale_core::{Region, Script, Variant};
-use icu_provider::{NameKey, NameMarker};
+use icu_provider::{DataLocale, NameKey, NameMarker};
+use serde_json::Value;
+use std::alloc::Global;
+use std::collections::BTreeMap;
+
+// Puts the names of a file in place of what is there, and none where the file has no such member.
+pub(crate) fn fill_names(
+    alloc: Global,
+    object: &Value,
+    names: &mut NameRows,
+) -> Result<(), TableError>
+    ensures { let found = get (codes "names") (view object.now) in
+        Fills result (seen_rows string_bytes names.new)
+        (said_or (Some []) (map_by name_cmp marked_names) found) }
+{
+    let rows = rows_said(alloc, object, "names", &Marked)?;
+    *names = in_groups(alloc, rows)?;
+    Ok(())
+}
+
+// The names of a map, each behind the others. Rows come in order, so that none has to make room.
+fn in_groups(
+    alloc: Global,
+    map: BTreeMap<(NameMarker, DataLocale, NameKey), String>,
+) -> Result<NameRows, TableError>
+    ensures rows { IfOk result (λ rows. rows ≡ map.entries) }
+    ensures refused { IfErr result (λ e. e ≡ TableError.Memory) }
+{
+    let mut rows = NameRows::new(alloc);
+    for ((marker, locale, key), name) in map {
+        let Ok(()) = rows.insert(marker, locale, key, name) else {
+            return Err(TableError::Memory);
+        };
+    }
+    Ok(rows)
+}
 
 impl Marker for NameMarker {
     ghost use Rattle.icu_tables.specs.Names.{name_markers};
