@@ -1,8 +1,8 @@
 -- Names in groups: what a look-up finds, and what a row that is put into its group does to the one list.
-use Rattle.std.proofs.Common.{◌≡◌, ℕ, ◌<◌, List, [], ◌∷◌, length, get_or, set, unwrap_or, String, Option, Some, None, option_and_then, Result, Ok, Err, IsSome, IsOk, refl, sym, ap, ◌∙◌, subst}
+use Rattle.std.proofs.Common.{◌≡◌, ℕ, ◌<◌, List, [], length, get_or, set, unwrap_or, String, Option, Some, None, option_and_then, Result, Ok, Err, IsSome, refl, sym, ap, ◌∙◌, subst}
 use Rattle.std.specs.Global.{Global}
 use Rattle.std.specs.Cmp.{IsTotalOrder}
-use Rattle.std.specs.List.{AllByRecursion, insert}
+use Rattle.std.specs.List.{insert}
 use Rattle.std.specs.List.Sorted.{IsStrictlySortedBy}
 use Rattle.std.specs.BTreeMap.{insert_entry}
 use Rattle.std.specs.Ordering.{ordering_then}
@@ -22,7 +22,7 @@ use Rattle.icu_provider.specs.declared.error.DataError.{DataError}
 use Rattle.icu_provider.specs.declared.names.NameKey.{NameKey}
 use Rattle.icu_provider.specs.declared.names.NameMarker.{NameMarker}
 use Rattle.icu_provider.specs.inner.Gaps.{IsAt, IsGapFor}
-use Rattle.icu_tables.specs.Groups.{NameGroup, RiseInGroups, flat, flat_names, group_cmp, key_cmp, request_of, rows_at}
+use Rattle.icu_tables.specs.Groups.{NameGroup, RiseInGroups, flat_names, group_cmp, key_cmp, request_of, rows_at}
 use Rattle.icu_tables.proofs.Gaps.{IsSortedMap-insert_entry, lookup_at, lookup_in_gap, insert_entry-at, insert_entry-in_gap, inserts_from_rows}
 use Rattle.icu_tables.proofs.Groups.{each_rises-insert_entry, flat_rises, insert_entry-flat, value_at-flat}
 

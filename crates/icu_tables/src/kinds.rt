@@ -5,6 +5,7 @@ ghost use Rattle.icu_tables.specs.Tables.{is_of_kind, names_languages, names_reg
 use icu_provider::{NameKey, NameMarker};
 
 // Whether a marker has names of such keys.
+#[inline]
 pub(crate) fn is_of_kind(marker: NameMarker, key: &NameKey) -> bool
     ensures { result ≡ is_of_kind marker key.now }
 {
@@ -17,6 +18,7 @@ pub(crate) fn is_of_kind(marker: NameMarker, key: &NameKey) -> bool
 }
 
 // Whether a marker is one of names of languages.
+#[inline]
 pub(crate) fn names_languages(marker: NameMarker) -> bool
     ensures { result ≡ names_languages marker }
 {
@@ -33,6 +35,7 @@ pub(crate) fn names_languages(marker: NameMarker) -> bool
 }
 
 // Whether a marker is one of names of scripts.
+#[inline]
 pub(crate) fn names_scripts(marker: NameMarker) -> bool
     ensures { result ≡ names_scripts marker }
 {
@@ -46,6 +49,7 @@ pub(crate) fn names_scripts(marker: NameMarker) -> bool
 }
 
 // Whether a marker is one of names of regions.
+#[inline]
 pub(crate) fn names_regions(marker: NameMarker) -> bool
     ensures { result ≡ names_regions marker }
 {
@@ -59,6 +63,7 @@ pub(crate) fn names_regions(marker: NameMarker) -> bool
 }
 
 // Whether a marker is one of names of variants.
+#[inline]
 fn names_variants(marker: NameMarker) -> bool
     ensures { result ≡ names_variants marker }
 {

@@ -32,7 +32,7 @@ pub struct Tables {
     pub script_direction: Option<ScriptDirection>,
     /// The sets of exemplar characters, by marker and locale.
     pub exemplars: SortedMap<(ExemplarMarker, DataLocale), ExemplarCharactersData>,
-    /// The names, by marker, locale and key.
+    /// The names, by marker and locale, and then by key.
     pub names: NameRows,
     /// The names in menus, by marker, locale and language.
     pub menus: SortedMap<(MenuMarker, DataLocale, Language), MenuNameParts>,
@@ -215,6 +215,7 @@ impl Tables {
     }
 
     // The name of a request, of any kind.
+    #[inline]
     fn name_at(&self, marker: NameMarker, locale: DataLocale, key: NameKey) -> Option<&String>
         ensures { option_copied result ≡ value_at name_cmp self.now.names (marker, locale, key) }
     {

@@ -1,5 +1,4 @@
-use Rattle.std.proofs.Common.{◌≡◌, ◌+◌, ◌-◌, ◌^◌, [], length, drop, arith, ap, ◌∙◌}
-use Rattle.std.specs.Prelude.{min}
+use Rattle.std.proofs.Common.{◌≡◌, [], length, drop, arith, ap}
 use Rattle.std.proofs.Math.ListN.{drop_of_length-le}
 use Rattle.icu_tables.specs.Groups.{flat_names}
 use Rattle.icu_tables.proofs.name_rows.count_of.Goals as goal
