@@ -18,7 +18,7 @@ use Rattle.icu_locale.specs.Negotiation.{IsMatch, IsFirstMatch}
 use Rattle.icu_locale.specs.Settled.{IsSettled, AreSettled}
 use Rattle.icu_locale.specs.declared.expander.Favor.{Favor}
 use Rattle.icu_locale.specs.declared.expander.Favor.TheVariants.{RegionFirst}
-use Rattle.icu_locale.specs.declared.negotiator.Row.{Row}
+use Rattle.icu_locale.specs.declared.negotiator.available.Row.{Row}
 use Rattle.icu_locale.specs.inner.Index.{without_variants, IsPlainForm, row_cmp, IsRowOf, AreListed, IsIndex, IsPartOf, HasVariants, IsFirstRow, MeansAt, IsFirstPlace}
 
 -- ---- what the laws say

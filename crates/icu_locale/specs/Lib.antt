@@ -1,3 +1,4 @@
+pub mod Available
 pub mod Canonical
 pub mod Canonicalization
 pub mod Construction

@@ -17,5 +17,6 @@ pub use canonicalizer::rules::{Rule, Rules};
 pub use canonicalizer::{CanonicalizeError, LocaleCanonicalizer};
 pub use directionality::{Direction, LocaleDirectionality};
 pub use expander::{LocaleExpander, TransformResult};
+pub use negotiator::available::Available;
 pub use negotiator::{Negotiator, NegotiatorError};
 pub use turns::Turns;

@@ -7,6 +7,7 @@ ghost use Rattle.icu_locale_core.specs.Identifier.{IsIdentifier};
 ghost use Rattle.icu_locale_core.specs.TextSet.{text_set_code};
 ghost use Rattle.icu_locale.specs.LikelyTable.{likely};
 ghost use Rattle.icu_locale.specs.Settled.{AreSettled};
+ghost use Rattle.icu_locale.specs.Available.{identifiers_of, IsMadeOver};
 ghost use Rattle.icu_locale.specs.Negotiation.{Negotiation, IsNegotiated, refusal_name};
 ghost use Rattle.icu_locale.specs.inner.Index.{IsPlainForm, row_cmp, IsIndex, IsPartOf, IsFirstRow, IsFirstPlace};
 ghost use Rattle.icu_locale.specs.declared.negotiator.NegotiatorError.TheVariants.{Memory};
@@ -16,10 +17,13 @@ use crate::{LocaleExpander, laws};
 use icu_locale_core::{LanguageIdentifier, Variants};
 use icu_provider::DataLocale;
 use std::alloc::{AllocError, Global};
-use std::cmp::Ord;
 use std::error::Error;
 use std::fmt;
 use std::marker::Model;
+
+pub mod available;
+
+use available::{Available, Row};
 
 /// Why a negotiator is not made.
 #[derive(Clone, Copy, Debug, PartialEq, Eq)]
@@ -51,13 +55,6 @@ impl From<AllocError> for NegotiatorError {
     }
 }
 
-// An available identifier: its minimal form, variants aside, and its place.
-#[derive(Clone, Copy, Debug, PartialEq, Eq, PartialOrd, Ord)]
-struct Row {
-    minimal: DataLocale,
-    place: usize,
-}
-
 /// Finds, over a settled likely table, the identifier among those available that means what a request means: identifiers
 /// mean the same where their maximal forms are equal (UTS #35, section 4.3).
 ///
@@ -66,8 +63,7 @@ struct Row {
 #[derive(Debug)]
 pub struct Negotiator<'d> {
     expander: LocaleExpander<'d>,
-    available: Vec<LanguageIdentifier>,
-    rows: Vec<Row>,
+    available: Available,
 }
 
 impl<'d> Model for Negotiator<'d> {
@@ -75,10 +71,12 @@ impl<'d> Model for Negotiator<'d> {
 
     ghost coded = { Prim.hlevel (codes, text_set_code) };
 
-    ghost view = { λ n. record { expander = n.expander; available = n.available.items } };
+    ghost view = { λ n. record {
+      expander = n.expander;
+      available = identifiers_of n.available;
+    } };
 
-    ghost invariant = { λ n. AreSettled (likely n.expander)
-        × IsIndex (likely n.expander) n.available.items n.rows.items };
+    ghost invariant = { λ n. IsMadeOver (likely n.expander) n.available };
 }
 
 impl<'d> Drop for Negotiator<'d> {
@@ -86,7 +84,6 @@ impl<'d> Drop for Negotiator<'d> {
         let Negotiator {
             expander: _,
             available: _,
-            rows: _,
         } = self;
     }
 }
@@ -116,9 +113,36 @@ impl<'d> Negotiator<'d> {
         let rows = settled_rows(alloc, &expander, &available)?;
         Ok(Negotiator {
             expander,
-            available,
-            rows,
+            available: Available {
+                identifiers: available,
+                rows,
+            },
         })
+    }
+
+    /// Over an expander and a list that was made over the same likely table, as one of another expander over the same
+    /// tables. It takes no memory.
+    pub fn over(expander: LocaleExpander<'d>, list: Available) -> Self
+        requires { IsMadeOver (likely expander) list }
+        ensures expander { result.expander ≡ expander.entry }
+        ensures available { result.available ≡ identifiers_of list }
+    {
+        Negotiator {
+            expander,
+            available: list,
+        }
+    }
+
+    /// The list that the negotiator owns, for a program that keeps it beside its tables. It takes no memory.
+    pub fn into_available(self) -> Available
+        ensures over { IsMadeOver (likely self.entry.expander) result }
+        ensures available { identifiers_of result ≡ self.entry.available }
+    {
+        let Negotiator {
+            expander: _,
+            available: owned,
+        } = self;
+        owned
     }
 
     /// The expander, whose likely table is settled. It takes no memory.
@@ -133,7 +157,7 @@ impl<'d> Negotiator<'d> {
     pub fn available(&self) -> &[LanguageIdentifier]
         ensures { result.now ≡ self.now.available }
     {
-        &self.available
+        self.available.identifiers()
     }
 
     /// The first request that an available identifier has the maximal form of, and the first such identifier: their
@@ -157,8 +181,8 @@ impl<'d> Negotiator<'d> {
         laws::minimal_forms_are_canonical();
         laws::maximal_forms_by_parts();
         let minimal = plain_form(&self.expander, request);
-        let part = rows_with(&self.rows, &minimal);
-        first_row(part, &self.available, &request.variants)
+        let part = rows_with(&self.available.rows, &minimal);
+        first_row(part, &self.available.identifiers, &request.variants)
     }
 }
 

@@ -12,7 +12,7 @@ use Rattle.icu_provider.specs.declared.data_locale.DataLocale.{DataLocale}
 use Rattle.icu_locale.specs.LikelySubtags.{LikelySubtags, maximal, subtags_of}
 use Rattle.icu_locale.specs.Minimal.{IsMinimalForm}
 use Rattle.icu_locale.specs.declared.expander.Favor.TheVariants.{RegionFirst}
-use Rattle.icu_locale.specs.declared.negotiator.Row.{Row}
+use Rattle.icu_locale.specs.declared.negotiator.available.Row.{Row}
 
 -- a language, a script and a region as an identifier without variants
 abbrev pub without_variants : DataLocale → LanguageIdentifier
