@@ -3,7 +3,6 @@ mod FirstLines
 mod LineAnswers
 mod LineCuts
 mod ListReading
-mod Loading
 mod LocaleLines
 mod OneAnswer
 mod Progress

@@ -1,2 +1,3 @@
 -- Facts about the definitions, with their proofs.
+pub mod Expanders
 pub mod Parts

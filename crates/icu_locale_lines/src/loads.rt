@@ -149,7 +149,13 @@ fn load_canonicalizer<'d>(
     LocaleCanonicalizer::new_with_expander(alloc, aliases, expander).map_err(|_| CliError::Memory)
 }
 
-// The negotiator over settled tables and the identifiers that a line lists.
+/// The negotiator over settled tables and the identifiers that a line lists.
+///
+/// # Errors
+///
+/// - `Available` where the line has a fault: the first one.
+/// - `NotSettled` where the likely tables are not settled. The line is read first.
+/// - `Memory` where memory was refused.
 pub fn list_available<'d>(
     alloc: Global,
     expander: LocaleExpander<'d>,

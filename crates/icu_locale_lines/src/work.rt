@@ -137,8 +137,12 @@ pub fn answer_locale(
     }
 }
 
-// The answer to a line that lists requests.
-fn answer_requests(
+/// The answer to a line that lists requests.
+///
+/// # Errors
+///
+/// `Memory` where memory was refused.
+pub fn answer_requests(
     room: Vec<u8>,
     negotiator: &Negotiator<'_>,
     line: &[u8],

@@ -1,6 +1,6 @@
 use Rattle.std.proofs.Common.{refl, rules}
 use Rattle.icu_locale_lines.specs.declared.command.Command.TheVariants.{Lines}
-use Rattle.icu_locale_lines.proofs.Loading.{unsettled_from_one}
+use Rattle.icu_locale_lines.specs.laws.Expanders.{unsettled_from_one}
 use Rattle.icu_locale_lines.proofs.loads.Loaded.load.Goals as goal
 
 -- the tables are held, and not settled

@@ -1,7 +1,8 @@
--- Tables make one expander, so one that is not settled tells of all.
-use Rattle.std.proofs.Common.{◌≡◌, true, Option, Some, None, refl, ap, sym, subst, ◌∙◌}
+-- Tables make one likely table, so one expander over them that is not settled tells of all.
+use Rattle.std.specs.Prelude.{◌≡◌, true, Option, Some, None}
 use Rattle.std.specs.Borrow.{Bor}
 use Rattle.std.specs.Option.{option_copied, option_or}
+use Rattle.std.proofs.Common.{refl, ap, sym, subst, ◌∙◌}
 use Rattle.std.proofs.lemmas.Option.{same_Some, none-some}
 use Rattle.icu_provider.specs.declared.likely.extended.LikelySubtagsExtended.{LikelySubtagsExtended}
 use Rattle.icu_locale.specs.LikelyTable.{likely, row_at, common_rows, extended_rows, extension_row, und_row}
@@ -22,13 +23,14 @@ same_extension (Some x) None same k = absurd (none-some _ (sym same))
 same_extension (Some x) (Some y) same k = ap (λ table. row_at (extended_rows table) k) (same_Some x.now y.now same)
 
 -- expanders over the same tables look up in one likely table
-same_likely : (t : Tables) (e f : LocaleExpander) → IsExpanderOf t e → IsExpanderOf t f → likely e ≡ likely f
+pub same_likely : (t : Tables) (e f : LocaleExpander) → IsExpanderOf t e → IsExpanderOf t f → likely e ≡ likely f
 same_likely t e f over also =
     let language = same_Some e.language.now f.language.now (sym over.language ∙ also.language) in
     let script_region = same_Some e.script_region.now f.script_region.now (sym over.script_region ∙ also.script_region) in
     λ i k. option_or (row_at (common_rows (language i) (script_region i)) k)
     (option_or (same_extension e.extended f.extended (sym over.extended ∙ also.extended) k i) (und_row ((language i).und) k))
 
+-- one that is not settled tells of all
 pub unsettled_from_one : (c : Command) (t : Tables) (e : LocaleExpander) → c ≡ Lines Negotiate → has_likely t ≡ true → IsExpanderOf t e → ¬ (AreSettled (likely e)) → IsUnsettled c t
 unsettled_from_one c t e negotiates held over unsettled = record {
   negotiates = negotiates;
