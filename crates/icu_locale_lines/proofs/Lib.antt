@@ -1,4 +1,5 @@
 mod CommandWords
+mod FirstBytes
 mod FirstLines
 mod LineAnswers
 mod LineCuts

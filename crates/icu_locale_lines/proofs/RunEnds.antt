@@ -17,7 +17,7 @@ use Rattle.icu_locale_lines.specs.declared.work.Work.{Work}
 use Rattle.icu_locale_lines.specs.Lines.{first_line}
 use Rattle.icu_locale_lines.specs.Runs.{ReadsAll, WritesAll, WritesWholeLines, WritesPart}
 use Rattle.icu_locale_lines.specs.Works.{has_tables, text_answered, IsWorkOf, IsUnsettled}
-use Rattle.icu_locale_lines.specs.inner.Causes.{IsRefusedList}
+use Rattle.icu_locale_lines.specs.Causes.{IsRefusedList}
 use Rattle.icu_locale_lines.specs.Output.{Stream}
 use Rattle.icu_locale_lines.specs.WholeRuns.{WritesLines, WritesSettled, StopsAmongLines, IsRefusedLines, IsRefusedSettled, IsRefusedOutput, IsRun, IsLineRun, IsRefusedLineRun, IsRefusedRun, ReadsTables, IsRefusedJsonRun}
 

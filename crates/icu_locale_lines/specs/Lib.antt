@@ -1,8 +1,10 @@
 pub mod Answers
+pub mod Causes
 pub mod CliError
 pub mod Commands
 pub mod Lines
 pub mod Lists
+pub mod Loaded
 pub mod Loads
 pub mod Locales
 pub mod Names

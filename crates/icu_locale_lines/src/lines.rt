@@ -4,6 +4,7 @@ ghost use Rattle.std.specs.List.{position};
 ghost use Rattle.std.specs.Iterator.{YieldsFirstRef, item_count};
 ghost use Rattle.icu_locale_lines.specs.Lines.{is_line_feed, lines, first_line, after_first_line};
 
+use memchr::memchr;
 use std::marker::Model;
 
 // The lines that are left of a text.
@@ -63,11 +64,5 @@ pub fn cut(text: &[u8]) -> (&[u8], &[u8])
 fn line_feed(text: &[u8]) -> Option<usize>
     ensures { result ≡ position is_line_feed text.now }
 {
-    text.iter().position(is_line_feed)
-}
-
-fn is_line_feed(byte: &u8) -> bool
-    ensures { result ≡ is_line_feed byte.now }
-{
-    *byte == b'\n'
+    memchr(b'\n', text)
 }

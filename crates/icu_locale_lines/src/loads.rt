@@ -6,8 +6,8 @@ ghost use Rattle.icu_locale_lines.specs.Lists.{listed, SpellsAll};
 ghost use Rattle.icu_locale_lines.specs.Loads.{IsExpanderOf, has_likely, not_found};
 ghost use Rattle.icu_locale_lines.specs.WholeRuns.{WritesLines, IsRefusedLines};
 ghost use Rattle.icu_locale_lines.specs.Works.{IsUnsettled, has_tables};
-ghost use Rattle.icu_locale_lines.specs.inner.Causes.{IsRefusedLoad, IsRefusedTable, IsRefusedList};
-ghost use Rattle.icu_locale_lines.specs.inner.Loaded.{IsLoaded};
+ghost use Rattle.icu_locale_lines.specs.Causes.{IsRefusedLoad, IsRefusedTable, IsRefusedList};
+ghost use Rattle.icu_locale_lines.specs.Loaded.{IsLoaded};
 ghost use Rattle.icu_locale_lines.specs.declared.command.LineCommand.{LineCommand};
 ghost use Rattle.icu_tables.specs.declared.tables.Tables.{Tables};
 

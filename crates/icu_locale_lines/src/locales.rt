@@ -9,6 +9,7 @@ ghost use Rattle.icu_locale_lines.specs.Locales.{is_tab, identifier_text, value_
 ghost use Rattle.icu_locale_lines.specs.inner.LocaleParts.{IsLocaleOf, IsRefusedValue};
 
 use icu_locale_core::{Key, LanguageIdentifier, Locale, ParseError, Value};
+use memchr::memchr;
 use std::alloc::Global;
 
 // The locale that a line spells. Its identifier is read before its value.
@@ -92,13 +93,7 @@ fn cut_at_tab(line: &[u8]) -> (&[u8], Option<&[u8]>)
 fn first_tab(line: &[u8]) -> Option<usize>
     ensures { result ≡ position is_tab line.now }
 {
-    line.iter().position(is_tab)
-}
-
-fn is_tab(byte: &u8) -> bool
-    ensures { result ≡ is_tab byte.now }
-{
-    *byte == b'\t'
+    memchr(b'\t', line)
 }
 
 // The key of a region override, `rg`.

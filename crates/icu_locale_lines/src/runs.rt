@@ -19,7 +19,7 @@ ghost use Rattle.icu_locale_lines.specs.WholeRuns.{
   IsJsonRun,
   IsRefusedJsonRun,
 };
-ghost use Rattle.icu_locale_lines.specs.inner.Causes.{IsRefusedReading};
+ghost use Rattle.icu_locale_lines.specs.Causes.{IsRefusedReading};
 
 use crate::command::{Command, LineCommand};
 use crate::error::CliError;

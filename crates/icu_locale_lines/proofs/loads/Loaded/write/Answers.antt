@@ -4,7 +4,7 @@ use Rattle.icu_locale.specs.Settled.{AreSettled}
 use Rattle.icu_locale_lines.specs.Lists.{listed, SpellsAll}
 use Rattle.icu_locale_lines.specs.Loads.{IsExpanderOf}
 use Rattle.icu_locale_lines.specs.Works.{IsWorkOf, text_answered}
-use Rattle.icu_locale_lines.specs.inner.Loaded.{IsLoaded}
+use Rattle.icu_locale_lines.specs.Loaded.{IsLoaded}
 use Rattle.icu_locale_lines.specs.declared.work.Work.TheVariants.{Negotiate}
 use Rattle.icu_locale_lines.proofs.RunEnds.{lines_written, lines_stopped}
 use Rattle.icu_locale_lines.proofs.loads.Loaded.write.Goals as goal
