@@ -12,10 +12,11 @@ use Rattle.icu_locale_lines.specs.declared.answer.Answer.{Answer}
 use Rattle.icu_locale_lines.specs.declared.command.LineCommand.TheVariants as command
 use Rattle.icu_locale_lines.specs.declared.work.Work.TheVariants as work
 use Rattle.icu_locale_c.specs.Asked.{IsLineOf}
+use Rattle.icu_locale_c.specs.Held.{without_list}
 
 pub line_over_rules : {E : Type 0} (t : Tables) (e : LocaleExpander) (k : LocaleCanonicalizer LocaleExpander) (table : Aliases) (line : List ℕ)
     → IsExpanderOf t e → k.expander ≡ e → t.aliases ≡ Some table → AreRules table k.rules
-    → (r : Result Answer E) → IfOk r (λ a. IsAnswer (work.Canonicalize k) line a.text.items a.accepted) → IfOk r (λ a. IsLineOf t command.Canonicalize line a.text.items a.accepted)
+    → (r : Result Answer E) → IfOk r (λ a. IsAnswer (work.Canonicalize k) line a.text.items a.accepted) → IfOk r (λ a. IsLineOf (without_list t) command.Canonicalize line a.text.items a.accepted)
 line_over_rules t e k table line over same held rules (Ok a) answer = record {
   work = work.Canonicalize k;
   work_of = (subst (IsExpanderOf t) (sym same) over, subst (λ (o : Option Aliases). IsSomeAnd o (λ x. AreRules x k.rules)) (sym held) rules);

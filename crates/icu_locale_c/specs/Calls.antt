@@ -1,5 +1,5 @@
 -- What the calls answer.
-use Rattle.std.specs.Prelude.{◌≡◌, ◌<◌, ◌≤◌, ℕ, ◌-◌, Bool, true, false, List, [], take, drop, length, Option, None, Result, Ok, Err, IsSomeAnd, ℤ, pos}
+use Rattle.std.specs.Prelude.{◌≡◌, ◌<◌, ◌≤◌, ℕ, ◌-◌, Bool, true, false, List, [], take, drop, length, Option, None, Some, Result, Ok, Err, IsSomeAnd, ℤ, pos}
 use Rattle.std.specs.List.{slice_split}
 use Rattle.std.specs.Str.{IsUtf8}
 use Rattle.icu_tables.specs.Rows.{rows_of}
@@ -9,12 +9,13 @@ use Rattle.icu_tables.specs.declared.tables.Tables.{Tables}
 use Rattle.icu_locale_lines.specs.Answers.{IsAnswer}
 use Rattle.icu_locale_lines.specs.Commands.{AreCommandWords}
 use Rattle.icu_locale_lines.specs.Lists.{is_space}
-use Rattle.icu_locale_lines.specs.Works.{IsWorkOf, has_tables}
+use Rattle.icu_locale_lines.specs.Works.{has_tables}
 use Rattle.icu_locale_lines.specs.WholeRuns.{TellsSettled}
 use Rattle.icu_locale_lines.specs.declared.command.Command.TheVariants.{Settled, Lines}
 use Rattle.icu_locale_lines.specs.declared.command.LineCommand.{LineCommand}
 use Rattle.icu_locale_lines.specs.declared.command.LineCommand.TheVariants.{Negotiate}
 use Rattle.icu_locale_lines.specs.declared.work.Work.{Work}
+use Rattle.icu_locale_c.specs.Held.{Held, IsWorkOver, without_list}
 use Rattle.icu_locale_c.specs.declared.refusal.Refusal.{Refusal}
 use Rattle.icu_locale_c.specs.declared.refusal.Refusal.TheVariants as refusal
 
@@ -35,20 +36,20 @@ abbrev pub unended : List ℕ → List ℕ
 unended line = take (length line - 1) line
 
 -- what the program writes for a line, without its line feed, and whether the line is accepted
-pub record IsAnswerTo (t : Tables) (command line text : List ℕ) (accepted : Bool) : Type 0 where
+pub record IsAnswerTo (h : Held) (command line text : List ℕ) (accepted : Bool) : Type 0 where
   pub asked : LineCommand
   pub named : Names command asked
   pub work : Work
-  pub work_of : IsWorkOf asked t [] work
+  pub work_of : IsWorkOver asked h work
   pub whole : List ℕ
   pub answer : IsAnswer work line whole accepted
   pub text_is : text ≡ unended whole
 
 -- the answer has no room: how much it wants is told
-pub record WantsRoom (t : Tables) (command line out : List ℕ) (written : ℕ) : Type 0 where
+pub record WantsRoom (h : Held) (command line out : List ℕ) (written : ℕ) : Type 0 where
   pub text : List ℕ
   pub accepted : Bool
-  pub answer : IsAnswerTo t command line text accepted
+  pub answer : IsAnswerTo h command line text accepted
   pub wanted : written ≡ length text
   pub short : length out < length text
 
@@ -59,17 +60,17 @@ pub record LacksTable (t : Tables) (command : List ℕ) : Type 0 where
   pub lacking : has_tables (Lines asked) t ≡ false
 
 -- why there is no answer
-abbrev pub IsRefusedCall : Option Tables → List ℕ → List ℕ → List ℕ → ℕ → Refusal → Type 0
+abbrev pub IsRefusedCall : Option Held → List ℕ → List ℕ → List ℕ → ℕ → Refusal → Type 0
 IsRefusedCall held command line out written refusal.Closed = held ≡ None
 IsRefusedCall held command line out written refusal.Room =
-    IsSomeAnd held (λ t. WantsRoom t command line out written)
-IsRefusedCall held command line out written refusal.Memory = IsSomeAnd held (λ t. Unit {0})
+    IsSomeAnd held (λ h. WantsRoom h command line out written)
+IsRefusedCall held command line out written refusal.Memory = IsSomeAnd held (λ h. Unit {0})
 IsRefusedCall held command line out written refusal.Command =
-    IsSomeAnd held (λ t. NamesNone command)
+    IsSomeAnd held (λ h. NamesNone command)
 IsRefusedCall held command line out written refusal.Table =
-    IsSomeAnd held (λ t. LacksTable t command)
+    IsSomeAnd held (λ h. LacksTable h.tables command)
 IsRefusedCall held command line out written refusal.Negotiate =
-    IsSomeAnd held (λ t. Names command Negotiate)
+    IsSomeAnd held (λ h. Names command Negotiate × (h.available ≡ None))
 IsRefusedCall held command line out written e = ⊥
 
 -- so many bytes are written at the beginning of `out`, and the others are as they were
@@ -78,10 +79,10 @@ pub record Writes (out out' : List ℕ) (written : ℕ) : Type 0 where
   pub behind : drop written out' ≡ drop written out
 
 -- a call over what is held: `out` begins with the answer, or is as it was
-abbrev pub IsCall : Option Tables → List ℕ → List ℕ → List ℕ → List ℕ → ℕ
+abbrev pub IsCall : Option Held → List ℕ → List ℕ → List ℕ → List ℕ → ℕ
     → Result Bool Refusal → Type 0
 IsCall held command line out out' written (Ok accepted) =
-    IsSomeAnd held (λ t. IsAnswerTo t command line (take written out') accepted)
+    IsSomeAnd held (λ h. IsAnswerTo h command line (take written out') accepted)
     × Writes out out' written
 IsCall held command line out out' written (Err e) =
     (out' ≡ out) × IsRefusedCall held command line out written e
@@ -93,24 +94,25 @@ IsRefusedOpen json refusal.Shape = rows_in json ≡ Err table.Shape
 IsRefusedOpen json refusal.Memory = Unit {0}
 IsRefusedOpen json e = ⊥
 
--- tables are read and held, or what was held stays
-abbrev pub IsOpened : List ℕ → Option Tables → Option Tables → Result (Unit {0}) Refusal → Type 0
-IsOpened json old new (Ok u) = IsSomeAnd new (λ t. rows_in json ≡ Ok (rows_of t))
+-- tables are read and held without a list, or what was held stays
+abbrev pub IsOpened : List ℕ → Option Held → Option Held → Result (Unit {0}) Refusal → Type 0
+IsOpened json old new (Ok u) =
+    IsSomeAnd new (λ h. (rows_in json ≡ Ok (rows_of h.tables)) × (h.available ≡ None))
 IsOpened json old new (Err e) = (new ≡ old) × IsRefusedOpen json e
 
--- the same tables are held twice, or what was held stays
-abbrev pub IsShared : Option Tables → Option Tables → Option Tables → Result (Unit {0}) Refusal
-    → Type 0
-IsShared from old new (Ok u) = IsSomeAnd from (λ t. IsSomeAnd new (λ s. s ≡ t))
+-- the same tables are held twice, the second time without a list, or what was held stays
+abbrev pub IsShared : Option Held → Option Held → Option Held → Result (Unit {0}) Refusal → Type 0
+IsShared from old new (Ok u) =
+    IsSomeAnd from (λ h. new ≡ Some (without_list h.tables))
 IsShared from old new (Err refusal.Closed) = (new ≡ old) × (from ≡ None)
-IsShared from old new (Err refusal.Memory) = (new ≡ old) × IsSomeAnd from (λ t. Unit {0})
+IsShared from old new (Err refusal.Memory) = (new ≡ old) × IsSomeAnd from (λ h. Unit {0})
 IsShared from old new (Err e) = ⊥
 
 -- whether the tables that are held are settled
-abbrev pub IsSettledCall : Option Tables → Result Bool Refusal → Type 0
-IsSettledCall held (Ok settled) = IsSomeAnd held (λ t. TellsSettled t settled)
+abbrev pub IsSettledCall : Option Held → Result Bool Refusal → Type 0
+IsSettledCall held (Ok settled) = IsSomeAnd held (λ h. TellsSettled h.tables settled)
 IsSettledCall held (Err refusal.Closed) = held ≡ None
-IsSettledCall held (Err refusal.Table) = IsSomeAnd held (λ t. has_tables Settled t ≡ false)
+IsSettledCall held (Err refusal.Table) = IsSomeAnd held (λ h. has_tables Settled h.tables ≡ false)
 IsSettledCall held (Err e) = ⊥
 
 -- the number of a refusal
@@ -123,13 +125,15 @@ number refusal.Shape = pos 6
 number refusal.Command = pos 7
 number refusal.Table = pos 8
 number refusal.Negotiate = pos 9
+number refusal.List = pos 10
+number refusal.Unsettled = pos 11
 
 -- the number of what a call did that gives nothing: 0 where it did it
 abbrev pub done_number : Result (Unit {0}) Refusal → ℤ
 done_number (Ok u) = pos 0
 done_number (Err e) = number e
 
--- the number of an answer: 0 where the line is accepted, and 1 where it is refused
+-- the number of an answer: 0 where the line is accepted or a request is met, and 1 where not
 abbrev pub answer_number : Result Bool Refusal → ℤ
 answer_number (Ok true) = pos 0
 answer_number (Ok false) = pos 1

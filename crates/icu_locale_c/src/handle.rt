@@ -1,8 +1,8 @@
-//! What C holds: a pointer to tables, or null.
+//! What C holds: a pointer to tables and what is kept beside them, or null.
 ghost use Rattle.std.specs.Prelude.{◌≡◌, Option, None, Some, IfOk, IfErr};
-ghost use Rattle.icu_tables.specs.declared.tables.Tables.{Tables};
 ghost use Rattle.std.specs.Option.{MatchOption};
 ghost use Rattle.icu_locale_c.specs.Handle.{handle_owns, held_coded};
+ghost use Rattle.icu_locale_c.specs.Held.{Held};
 
 use crate::loose::Loose;
 use crate::refusal::Refusal;
@@ -16,16 +16,16 @@ use std::ptr::null_mut;
 pub struct Handle {
     at: *mut u8,
     alloc: Global,
-    pub ghost tables: { Option Tables } by { held_coded },
+    pub ghost held: { Option Held } by { held_coded },
 }
 
 impl Model for Handle {
-    ghost also_owns = { λ h. handle_owns h.alloc h.at h.tables };
+    ghost also_owns = { λ h. handle_owns h.alloc h.at h.held };
 }
 
 impl Handle {
     pub fn empty(alloc: Global) -> Handle
-        ensures { result.tables ≡ None }
+        ensures { result.held ≡ None }
     {
         Handle {
             at: null_mut(),
@@ -33,14 +33,14 @@ impl Handle {
         }
     }
 
-    pub fn of(tables: Box<Shared>) -> Handle
-        ensures { result.tables ≡ Some tables.value }
+    pub fn of(shared: Box<Shared>) -> Handle
+        ensures { result.held ≡ Some shared.value }
     {
-        Handle::of_loose(Loose::of(tables))
+        Handle::of_loose(Loose::of(shared))
     }
 
     pub fn into_box(self) -> Option<Box<Shared>>
-        ensures { MatchOption result (self.tables ≡ None) (λ b. self.tables ≡ Some b.value) }
+        ensures { MatchOption result (self.held ≡ None) (λ b. self.held ≡ Some b.value) }
     {
         match self.into_loose() {
             Some(loose) => Some(loose.into_box()),
@@ -48,11 +48,11 @@ impl Handle {
         }
     }
 
-    // The tables, which leaves the handle empty.
+    // What it holds, which leaves the handle empty.
     pub fn take(&mut self, alloc: Global) -> Result<Box<Shared>, Refusal>
-        ensures taken { IfOk result (λ b. self.old.tables ≡ Some b.value) }
-        ensures empty { IfErr result (λ _. self.old.tables ≡ None) }
-        ensures after { self.new.tables ≡ None }
+        ensures taken { IfOk result (λ b. self.old.held ≡ Some b.value) }
+        ensures empty { IfErr result (λ e. (e ≡ Refusal.Closed) × (self.old.held ≡ None)) }
+        ensures after { self.new.held ≡ None }
     {
         replace(self, Handle::empty(alloc))
             .into_box()
@@ -60,7 +60,7 @@ impl Handle {
     }
 
     fn of_loose(loose: Loose<Shared, Global>) -> Handle
-        ensures { result.tables ≡ Some loose.value }
+        ensures { result.held ≡ Some loose.value }
     {
         let Loose { at, alloc } = loose;
         Handle {
@@ -70,7 +70,7 @@ impl Handle {
     }
 
     fn into_loose(self) -> Option<Loose<Shared, Global>>
-        ensures { MatchOption result (self.tables ≡ None) (λ l. self.tables ≡ Some l.value) }
+        ensures { MatchOption result (self.held ≡ None) (λ l. self.held ≡ Some l.value) }
     {
         let Handle { at, alloc } = self;
         if at.is_null() {

@@ -3,11 +3,13 @@
 
 ghost use Rattle.std.specs.Prelude.{◌≡◌, None, Bool, Result, IfErr};
 ghost use Rattle.icu_locale_c.specs.Calls.{IsCall, IsOpened, IsShared, IsSettledCall, done_number, answer_number, yes_number};
+ghost use Rattle.icu_locale_c.specs.Negotiations.{IsAvailableCall, IsNegotiatedCall};
 ghost use Rattle.icu_locale_c.specs.declared.refusal.Refusal.{Refusal};
 
 mod handle;
 mod lines;
 mod loose;
+mod negotiations;
 mod refusal;
 mod rules;
 mod shared;
@@ -23,7 +25,7 @@ use std::alloc::Global;
 #[unsafe(no_mangle)]
 pub extern "C" fn icu_locale_open(alloc: Global, json: &[u8], handle: &mut Handle) -> i32
     ensures { (outcome : Result (Unit {0}) Refusal) × (result ≡ done_number outcome)
-        × IsOpened json.now handle.old.tables handle.new.tables outcome }
+        × IsOpened json.now handle.old.held handle.new.held outcome }
 {
     done_number(open(alloc, json, handle))
 }
@@ -32,9 +34,9 @@ pub extern "C" fn icu_locale_open(alloc: Global, json: &[u8], handle: &mut Handl
 /// both are as they were.
 #[unsafe(no_mangle)]
 pub extern "C" fn icu_locale_share(alloc: Global, from: &mut Handle, to: &mut Handle) -> i32
-    ensures stays { from.new.tables ≡ from.old.tables }
+    ensures stays { from.new.held ≡ from.old.held }
     ensures shared { (outcome : Result (Unit {0}) Refusal) × (result ≡ done_number outcome)
-        × IsShared from.old.tables to.old.tables to.new.tables outcome }
+        × IsShared from.old.held to.old.held to.new.held outcome }
 {
     done_number(share(alloc, from, to))
 }
@@ -49,19 +51,52 @@ pub extern "C" fn icu_locale_answer(
     out: &mut [u8],
     written: &mut usize,
 ) -> i32
-    ensures stays { handle.new.tables ≡ handle.old.tables }
+    ensures stays { handle.new.held ≡ handle.old.held }
     ensures answered { (outcome : Result Bool Refusal) × (result ≡ answer_number outcome)
-        × IsCall handle.old.tables command.now line.now out.old out.new written.new outcome }
+        × IsCall handle.old.held command.now line.now out.old out.new written.new outcome }
 {
     answer_number(answer(alloc, handle, command, line, out, written))
+}
+
+/// A second handle to the same tables, with the identifiers that are available, as a line lists them. A handle that held
+/// others lets them go; after a refusal both are as they were.
+#[unsafe(no_mangle)]
+pub extern "C" fn icu_locale_available(
+    alloc: Global,
+    from: &mut Handle,
+    list: &[u8],
+    negotiator: &mut Handle,
+) -> i32
+    ensures stays { from.new.held ≡ from.old.held }
+    ensures listed { (outcome : Result (Unit {0}) Refusal) × (result ≡ done_number outcome)
+        × IsAvailableCall from.old.held list.now negotiator.old.held negotiator.new.held outcome }
+{
+    done_number(available(alloc, from, list, negotiator))
+}
+
+/// The places of the first request of a line that is met, and of the first available identifier that meets it.
+#[unsafe(no_mangle)]
+pub extern "C" fn icu_locale_negotiate(
+    alloc: Global,
+    negotiator: &mut Handle,
+    requests: &[u8],
+    request: &mut usize,
+    available: &mut usize,
+) -> i32
+    ensures stays { negotiator.new.held ≡ negotiator.old.held }
+    ensures negotiated { (outcome : Result Bool Refusal) × (result ≡ answer_number outcome)
+        × IsNegotiatedCall negotiator.old.held requests.now (request.old, available.old)
+        (request.new, available.new) outcome }
+{
+    answer_number(negotiate(alloc, negotiator, requests, request, available))
 }
 
 /// Whether the likely tables are settled.
 #[unsafe(no_mangle)]
 pub extern "C" fn icu_locale_is_settled(alloc: Global, handle: &mut Handle) -> i32
-    ensures stays { handle.new.tables ≡ handle.old.tables }
+    ensures stays { handle.new.held ≡ handle.old.held }
     ensures told { (outcome : Result Bool Refusal) × (result ≡ yes_number outcome)
-        × IsSettledCall handle.old.tables outcome }
+        × IsSettledCall handle.old.held outcome }
 {
     yes_number(is_settled(alloc, handle))
 }
@@ -69,13 +104,13 @@ pub extern "C" fn icu_locale_is_settled(alloc: Global, handle: &mut Handle) -> i
 /// Lets the tables go. A second call does nothing.
 #[unsafe(no_mangle)]
 pub extern "C" fn icu_locale_close(alloc: Global, handle: &mut Handle)
-    ensures { handle.new.tables ≡ None }
+    ensures { handle.new.held ≡ None }
 {
     *handle = Handle::empty(alloc);
 }
 
 fn open(alloc: Global, json: &[u8], handle: &mut Handle) -> Result<(), Refusal>
-    ensures { IsOpened json.now handle.old.tables handle.new.tables result }
+    ensures { IsOpened json.now handle.old.held handle.new.held result }
 {
     let tables = match Tables::from_json(alloc, json) {
         Ok(tables) => tables,
@@ -83,32 +118,19 @@ fn open(alloc: Global, json: &[u8], handle: &mut Handle) -> Result<(), Refusal>
         Err(TableError::Shape) => return Err(Refusal::Shape),
         Err(TableError::Memory) => return Err(Refusal::Memory),
     };
-    match Shared::new(alloc, tables) {
-        Ok(shared) => {
-            *handle = Handle::of(shared);
-            Ok(())
-        }
-        Err(_) => Err(Refusal::Memory),
-    }
+    *handle = Handle::of(Shared::new(alloc, tables)?);
+    Ok(())
 }
 
 fn share(alloc: Global, from: &mut Handle, to: &mut Handle) -> Result<(), Refusal>
-    ensures stays { from.new.tables ≡ from.old.tables }
-    ensures shared { IsShared from.old.tables to.old.tables to.new.tables result }
+    ensures stays { from.new.held ≡ from.old.held }
+    ensures shared { IsShared from.old.held to.old.held to.new.held result }
 {
-    let shared = match from.take(alloc) {
-        Ok(shared) => shared,
-        Err(_) => return Err(Refusal::Closed),
-    };
+    let shared = from.take(alloc)?;
     let again = shared.again(alloc);
     *from = Handle::of(shared);
-    match again {
-        Ok(again) => {
-            *to = Handle::of(again);
-            Ok(())
-        }
-        Err(_) => Err(Refusal::Memory),
-    }
+    *to = Handle::of(again?);
+    Ok(())
 }
 
 fn answer(
@@ -119,28 +141,57 @@ fn answer(
     out: &mut [u8],
     written: &mut usize,
 ) -> Result<bool, Refusal>
-    ensures stays { handle.new.tables ≡ handle.old.tables }
-    ensures called { IsCall handle.old.tables command.now line.now out.old out.new written.new
+    ensures stays { handle.new.held ≡ handle.old.held }
+    ensures called { IsCall handle.old.held command.now line.now out.old out.new written.new
         result }
 {
     *written = 0;
-    let mut shared = match handle.take(alloc) {
-        Ok(shared) => shared,
-        Err(_) => return Err(Refusal::Closed),
-    };
+    let mut shared = handle.take(alloc)?;
     let outcome = shared.answer(alloc, command, line, out, written);
     *handle = Handle::of(shared);
     outcome
 }
 
-fn is_settled(alloc: Global, handle: &mut Handle) -> Result<bool, Refusal>
-    ensures stays { handle.new.tables ≡ handle.old.tables }
-    ensures told { IsSettledCall handle.old.tables result }
+fn available(alloc: Global, from: &mut Handle, list: &[u8], to: &mut Handle) -> Result<(), Refusal>
+    ensures stays { from.new.held ≡ from.old.held }
+    ensures listed { IsAvailableCall from.old.held list.now to.old.held to.new.held result }
 {
-    let shared = match handle.take(alloc) {
-        Ok(shared) => shared,
-        Err(_) => return Err(Refusal::Closed),
-    };
+    let held = from.take(alloc)?;
+    let listed = held.with_available(alloc, list);
+    *from = Handle::of(held);
+    *to = Handle::of(listed?);
+    Ok(())
+}
+
+fn negotiate(
+    alloc: Global,
+    handle: &mut Handle,
+    requests: &[u8],
+    request: &mut usize,
+    available: &mut usize,
+) -> Result<bool, Refusal>
+    ensures stays { handle.new.held ≡ handle.old.held }
+    ensures negotiated { IsNegotiatedCall handle.old.held requests.now
+        (request.old, available.old) (request.new, available.new) result }
+{
+    let mut shared = handle.take(alloc)?;
+    let outcome = shared.negotiate(alloc, requests);
+    *handle = Handle::of(shared);
+    match outcome? {
+        Some((asked, found)) => {
+            *request = asked;
+            *available = found;
+            Ok(true)
+        }
+        None => Ok(false),
+    }
+}
+
+fn is_settled(alloc: Global, handle: &mut Handle) -> Result<bool, Refusal>
+    ensures stays { handle.new.held ≡ handle.old.held }
+    ensures told { IsSettledCall handle.old.held result }
+{
+    let shared = handle.take(alloc)?;
     let outcome = shared.is_settled();
     *handle = Handle::of(shared);
     outcome

@@ -1,10 +1,11 @@
-//! The program's line for a line, over tables.
+//! The program's line for a line, over tables without a list of what is available.
 ghost use Rattle.std.specs.Prelude.{◌≡◌, ◌<◌, ◌-◌, take, length, IfOk, IfErr, IfSome};
 ghost use Rattle.icu_locale_lines.specs.Answers.{IsAnswer};
 ghost use Rattle.icu_locale_lines.specs.declared.command.LineCommand.TheVariants as command;
 ghost use Rattle.icu_locale_lines.specs.declared.work.Work.TheVariants as work;
 ghost use Rattle.icu_locale_c.specs.Asked.{IsLineOf, IsRefusedLine};
 ghost use Rattle.icu_locale_c.specs.Calls.{Writes, unended};
+ghost use Rattle.icu_locale_c.specs.Held.{without_list};
 ghost use Rattle.icu_locale_c.specs.Rules.{AreKeptOf};
 
 use crate::refusal::Refusal;
@@ -22,9 +23,9 @@ pub fn line_over(
     room: Vec<u8>,
     line: &[u8],
 ) -> Result<Answer, Refusal>
-    ensures answered { IfOk result (λ a. IsLineOf tables.now asked.now line.now a.text.items
-        a.accepted) }
-    ensures refused { IfErr result (IsRefusedLine tables.now asked.now) }
+    ensures answered { IfOk result (λ a. IsLineOf (without_list tables.now) asked.now line.now
+        a.text.items a.accepted) }
+    ensures refused { IfErr result (IsRefusedLine (without_list tables.now) asked.now) }
 {
     match Loaded::load(alloc, asked, tables) {
         Ok(Loaded::Ready(work)) => match work.answer(room, line) {
@@ -49,9 +50,10 @@ pub fn canonicalize(
 ) -> (Result<Answer, Refusal>, Option<KeptRules>)
     requires { IfSome kept (AreKeptOf tables.now) }
     ensures rules { IfSome result.1 (AreKeptOf tables.now) }
-    ensures answered { IfOk result.0 (λ a. IsLineOf tables.now command.Canonicalize line.now
-        a.text.items a.accepted) }
-    ensures refused { IfErr result.0 (IsRefusedLine tables.now command.Canonicalize) }
+    ensures answered { IfOk result.0 (λ a. IsLineOf (without_list tables.now) command.Canonicalize
+        line.now a.text.items a.accepted) }
+    ensures refused { IfErr result.0 (IsRefusedLine (without_list tables.now)
+        command.Canonicalize) }
 {
     let Ok(expander) = load_expander(tables) else {
         return (Err(Refusal::Table), kept);

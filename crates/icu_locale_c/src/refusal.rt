@@ -19,8 +19,12 @@ pub enum Refusal {
     Command,
     // The tables leave out one that the command needs.
     Table,
-    // The command wants what is available.
+    // The handle holds no list of what is available.
     Negotiate,
+    // The line lists a text that is no identifier.
+    List,
+    // The likely tables are not settled.
+    Unsettled,
 }
 
 impl Refusal {
@@ -36,6 +40,8 @@ impl Refusal {
             Refusal::Command => 7,
             Refusal::Table => 8,
             Refusal::Negotiate => 9,
+            Refusal::List => 10,
+            Refusal::Unsettled => 11,
         }
     }
 }
@@ -50,7 +56,7 @@ pub fn done_number(outcome: Result<(), Refusal>) -> i32
     }
 }
 
-// The number of an answer: 0 where the line is accepted, and 1 where it is refused.
+// The number of an answer: 0 where the line is accepted or a request is met, and 1 where not.
 pub fn answer_number(outcome: Result<bool, Refusal>) -> i32
     ensures { result ≡ answer_number outcome }
 {

@@ -1,15 +1,18 @@
-//! Tables that several handles have, and what one of them has prepared.
-ghost use Rattle.std.specs.Prelude.{◌≡◌, Some, IfOk, IfErr, IfSome};
-ghost use Rattle.icu_tables.specs.contracts.tables.Tables.{the_row as tables_row};
-ghost use Rattle.icu_tables.specs.declared.tables.Tables.{Tables};
+//! Tables that several handles have, and what one of them keeps beside them.
+ghost use Rattle.std.specs.Prelude.{◌≡◌, Some, IfOk, IfErr, IfSome, option_map};
+ghost use Rattle.icu_locale.specs.Available.{identifiers_of};
 ghost use Rattle.icu_locale_c.specs.Asked.{IsLineOf, IsRefusedLine};
 ghost use Rattle.icu_locale_c.specs.Calls.{IsCall, IsSettledCall};
+ghost use Rattle.icu_locale_c.specs.Held.{Held, IsListOver, held_code, without_list};
+ghost use Rattle.icu_locale_c.specs.Negotiations.{IsListed, IsMet, IsRefusedListing, IsRefusedNegotiation};
 ghost use Rattle.icu_locale_c.specs.Rules.{AreKeptOf};
 
 use crate::lines::{canonicalize, line_over, put_line};
+use crate::negotiations::{negotiate, read_available, requests_line};
 use crate::refusal::Refusal;
 use crate::rules::KeptRules;
 use crate::words::read_command;
+use icu_locale::Available;
 use icu_locale_lines::{Answer, LineCommand, load_expander};
 use icu_tables::Tables;
 use std::alloc::Global;
@@ -17,21 +20,27 @@ use std::marker::Model;
 use std::mem::replace;
 use std::sync::Arc;
 
-// Tables, the rules that were read of them, if any were, and the room of the last answer.
+// Tables, the rules that were read of them and the list of what is available, where there are any, and the room of the
+// last answer.
 pub struct Shared {
     tables: Arc<Tables>,
     rules: Option<KeptRules>,
+    available: Option<Available>,
     room: Vec<u8>,
 }
 
 impl Model for Shared {
-    ghost Value = { Tables };
+    ghost Value = { Held };
 
-    ghost coded = { tables_row.coded };
+    ghost coded = { held_code };
 
-    ghost view = { λ s. s.tables.value };
+    ghost view = { λ s. record {
+      tables = s.tables.value;
+      available = option_map identifiers_of s.available;
+    } };
 
-    ghost invariant = { λ s. IfSome s.rules (AreKeptOf s.tables.value) };
+    ghost invariant = { λ s. IfSome s.rules (AreKeptOf s.tables.value)
+        × IfSome s.available (IsListOver s.tables.value) };
 }
 
 impl Drop for Shared {
@@ -39,6 +48,7 @@ impl Drop for Shared {
         let Shared {
             tables: _,
             rules: _,
+            available: _,
             room: _,
         } = self;
     }
@@ -46,24 +56,54 @@ impl Drop for Shared {
 
 impl Shared {
     pub fn new(alloc: Global, tables: Tables) -> Result<Box<Shared>, Refusal>
-        ensures made { IfOk result (λ b. b.value ≡ tables) }
+        ensures made { IfOk result (λ b. b.value ≡ without_list tables) }
         ensures refused { IfErr result (λ e. e ≡ Refusal.Memory) }
     {
         let Ok(tables) = Arc::new(alloc, tables) else {
             return Err(Refusal::Memory);
         };
-        boxed(alloc, tables)
+        boxed(alloc, tables, None)
     }
 
-    // The same tables once more, with nothing prepared.
+    // The same tables once more, without a list.
     pub fn again(&self, alloc: Global) -> Result<Box<Shared>, Refusal>
-        ensures made { IfOk result (λ b. b.value ≡ self.now) }
+        ensures made { IfOk result (λ b. b.value ≡ without_list self.now.tables) }
         ensures refused { IfErr result (λ e. e ≡ Refusal.Memory) }
     {
         let Ok(tables) = Arc::clone(&self.tables) else {
             return Err(Refusal::Memory);
         };
-        boxed(alloc, tables)
+        boxed(alloc, tables, None)
+    }
+
+    // The same tables once more, with the list that a line lists.
+    pub fn with_available(&self, alloc: Global, line: &[u8]) -> Result<Box<Shared>, Refusal>
+        ensures made { IfOk result (λ b. IsListed self.now.tables line.now b.value) }
+        ensures refused { IfErr result (IsRefusedListing self.now.tables line.now) }
+    {
+        let available = read_available(alloc, &self.tables, line)?;
+        let Ok(tables) = Arc::clone(&self.tables) else {
+            return Err(Refusal::Memory);
+        };
+        boxed(alloc, tables, Some(available))
+    }
+
+    // The places of the first request of a line that is met and of what meets it.
+    pub fn negotiate(
+        &mut self,
+        alloc: Global,
+        line: &[u8],
+    ) -> Result<Option<(usize, usize)>, Refusal>
+        ensures kept { self.new ≡ self.old }
+        ensures met { IfOk result (IsMet self.old line.now) }
+        ensures refused { IfErr result (IsRefusedNegotiation self.old line.now) }
+    {
+        let Some(list) = replace(&mut self.available, None) else {
+            return Err(Refusal::Negotiate);
+        };
+        let (places, list) = negotiate(alloc, &self.tables, list, line);
+        self.available = Some(list);
+        places
     }
 
     pub fn is_settled(&self) -> Result<bool, Refusal>
@@ -113,7 +153,14 @@ impl Shared {
     {
         let room = replace(&mut self.room, Vec::new(alloc));
         match asked {
-            LineCommand::Negotiate => Err(Refusal::Negotiate),
+            LineCommand::Negotiate => {
+                let Some(list) = replace(&mut self.available, None) else {
+                    return Err(Refusal::Negotiate);
+                };
+                let (outcome, list) = requests_line(&self.tables, list, room, line);
+                self.available = Some(list);
+                outcome
+            }
             LineCommand::Canonicalize => {
                 let kept = replace(&mut self.rules, None);
                 let (outcome, rules) = canonicalize(alloc, &self.tables, kept, room, line);
@@ -125,13 +172,22 @@ impl Shared {
     }
 }
 
-fn boxed(alloc: Global, tables: Arc<Tables>) -> Result<Box<Shared>, Refusal>
-    ensures made { IfOk result (λ b. b.value ≡ tables.value) }
+fn boxed(
+    alloc: Global,
+    tables: Arc<Tables>,
+    available: Option<Available>,
+) -> Result<Box<Shared>, Refusal>
+    requires { IfSome available (IsListOver tables.value) }
+    ensures made { IfOk result (λ b. b.value ≡ record {
+      tables = tables.value;
+      available = option_map identifiers_of available;
+    }) }
     ensures refused { IfErr result (λ e. e ≡ Refusal.Memory) }
 {
     let shared = Shared {
         tables,
         rules: None,
+        available,
         room: Vec::new(alloc),
     };
     match Box::new(alloc, shared) {

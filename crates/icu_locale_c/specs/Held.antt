@@ -1,0 +1,55 @@
+-- What a handle holds: tables, and a list of what is available where one was given.
+use Rattle.std.specs.Prelude.{◌≡◌, List, [], Option, Some, None}
+use Rattle.std.specs.Coded.{Coded, code_by, coded×, coded_list, coded_option}
+use Rattle.icu_locale_core.specs.contracts.langid.LanguageIdentifier.{the_row as identifier_row}
+use Rattle.icu_locale_core.specs.declared.langid.LanguageIdentifier.{LanguageIdentifier}
+use Rattle.icu_locale.specs.Available.{IsMadeOver}
+use Rattle.icu_locale.specs.LikelyTable.{likely}
+use Rattle.icu_locale.specs.Negotiation.{Negotiation}
+use Rattle.icu_locale.specs.Settled.{AreSettled}
+use Rattle.icu_locale.specs.declared.expander.LocaleExpander.{LocaleExpander}
+use Rattle.icu_locale.specs.declared.negotiator.available.Available.{Available}
+use Rattle.icu_tables.specs.contracts.tables.Tables.{the_row as tables_row}
+use Rattle.icu_tables.specs.declared.tables.Tables.{Tables}
+use Rattle.icu_locale_lines.specs.Loads.{IsExpanderOf}
+use Rattle.icu_locale_lines.specs.Works.{IsWorkOf}
+use Rattle.icu_locale_lines.specs.declared.command.LineCommand.{LineCommand}
+use Rattle.icu_locale_lines.specs.declared.command.LineCommand.TheVariants.{Negotiate}
+use Rattle.icu_locale_lines.specs.declared.work.Work.{Work}
+use Rattle.icu_locale_lines.specs.declared.work.Work.TheVariants as work
+
+-- tables, and the available identifiers, as they were handed in
+pub record Held : Type 0 where
+  pub tables : Tables
+  pub available : Option (List LanguageIdentifier)
+
+-- tables without a list
+abbrev pub without_list : Tables → Held
+without_list t = record { tables = t; available = None }
+
+-- tables with a list
+abbrev pub with_list : Tables → List LanguageIdentifier → Held
+with_list t list = record { tables = t; available = Some list }
+
+-- the code of what is held
+abbrev pub held_code : Coded Held
+held_code = code_by (Tables × Option (List LanguageIdentifier))
+    (coded× tables_row.coded (coded_option (coded_list identifier_row.coded)))
+    (λ h. (h.tables, h.available)) (λ p. record { tables = p.0; available = p.1 }) (λ h i. h)
+
+-- a list was made over the tables, whatever the expander over them: they have one
+pub record IsListOver (t : Tables) (list : Available) : Type 0 where
+  pub expander : LocaleExpander
+  pub over : IsExpanderOf t expander
+  pub made : (e : LocaleExpander) → IsExpanderOf t e → IsMadeOver (likely e) list
+
+-- a negotiation over what is held: the likely tables are settled, and the list is the one that is held
+pub record IsNegotiationOf (h : Held) (n : Negotiation) : Type 0 where
+  pub expander : IsExpanderOf h.tables n.expander
+  pub settled : AreSettled (likely n.expander)
+  pub available : h.available ≡ Some n.available
+
+-- the work of a command over what is held; that of `negotiate` is over the list
+abbrev pub IsWorkOver : LineCommand → Held → Work → Type 0
+IsWorkOver Negotiate h (work.Negotiate n) = IsNegotiationOf h n
+IsWorkOver c h w = IsWorkOf c h.tables [] w
