@@ -1,5 +1,6 @@
 /*
- * Locale identifiers for programs in C: likely subtags, canonical forms, directions and names, over tables of your own.
+ * Locale identifiers for programs in C: likely subtags, canonical forms, directions, names and negotiation, over tables
+ * of your own.
  *
  * Each call answers what the program icu_locale_cli writes for one line. docs/PROGRAM.md says what its commands answer,
  * docs/tables.schema.json what tables look like, and docs/PROVED.md what is proved of these calls and what is not.
@@ -16,13 +17,13 @@
  * What a caller owes, and nothing checks:
  *
  * - A handle is zero before its first use, as `= {0}` makes it. It is never copied and never written to by the caller.
- *   A second handle to the same tables comes from icu_locale_share.
+ *   A second handle to the same tables comes from icu_locale_share, or with a list from icu_locale_available.
  * - One call at a time is made on a handle. Other threads may use other handles at the same time, also those to the
  *   same tables. A handle may go to another thread, by what orders the two: a thread's start or join, or a lock.
  * - A pointer and the length behind it are a slice: as many bytes can be read there, at `out` as many can be written.
  *   No pointer is null, not even where the length is 0. Lengths are at most PTRDIFF_MAX.
- * - `out`, `written`, a handle and the slices that are read share no byte with each other. The two handles of
- *   icu_locale_share are two.
+ * - `out`, `written`, `request`, `available`, a handle and the slices that are read share no byte with each other. The
+ *   two handles of icu_locale_share are two, and so are those of icu_locale_available.
  * - malloc, realloc and free are those of one allocator, and align as the C standard says. No call is made in a signal
  *   handler, nor in the child of a fork in a process that has threads.
  *
@@ -39,14 +40,15 @@
 extern "C" {
 #endif
 
-/* A handle to tables. Null says that it is closed. What it points to is the library's. */
+/* A handle to tables, and to a list of what is available where icu_locale_available has made it. Null says that it is
+   closed. What it points to is the library's. */
 struct icu_locale {
     void *at;
 };
 
 /* The numbers that calls return. */
 enum {
-    /* icu_locale_open and icu_locale_share: it is done. */
+    /* icu_locale_open, icu_locale_share and icu_locale_available: it is done. */
     ICU_LOCALE_DONE = 0,
 
     /* icu_locale_answer: the line is accepted, and `out` begins with the answer. */
@@ -60,6 +62,12 @@ enum {
     /* icu_locale_is_settled. */
     ICU_LOCALE_NOT_SETTLED = 0,
     ICU_LOCALE_SETTLED = 1,
+
+    /* icu_locale_negotiate: a request is met, and its place and that of the available identifier are told. */
+    ICU_LOCALE_MET = 0,
+
+    /* icu_locale_negotiate: no request is met. */
+    ICU_LOCALE_NOT_MET = 1,
 
     /* Any call but icu_locale_open and icu_locale_close: the handle is closed. */
     ICU_LOCALE_CLOSED = 2,
@@ -79,34 +87,41 @@ enum {
     /* icu_locale_answer: the words are those of no command that answers lines. */
     ICU_LOCALE_COMMAND = 7,
 
-    /* icu_locale_answer and icu_locale_is_settled: the tables leave out one that is needed. */
+    /* icu_locale_answer, icu_locale_is_settled and icu_locale_available: the tables leave out one that is needed. */
     ICU_LOCALE_TABLE = 8,
 
-    /* icu_locale_answer: the command is `negotiate`, which wants a list of what is available. It is not answered here. */
-    ICU_LOCALE_NEGOTIATE = 9
+    /* icu_locale_negotiate, and icu_locale_answer at `negotiate`: the handle holds no list of what is available. */
+    ICU_LOCALE_NEGOTIATE = 9,
+
+    /* icu_locale_available and icu_locale_negotiate: the text lists something that is no identifier. */
+    ICU_LOCALE_LIST = 10,
+
+    /* icu_locale_available: the likely tables are not settled. */
+    ICU_LOCALE_UNSETTLED = 11
 };
 
 /*
  * Reads tables of a JSON text. Nothing of the text is kept.
  *
- * ICU_LOCALE_DONE: the handle holds these tables, and has let others go that it held.
- * ICU_LOCALE_JSON, ICU_LOCALE_SHAPE, ICU_LOCALE_MEMORY: the handle is as it was, with the tables that it held.
+ * ICU_LOCALE_DONE: the handle holds these tables and no list, and has let go what it held.
+ * ICU_LOCALE_JSON, ICU_LOCALE_SHAPE, ICU_LOCALE_MEMORY: the handle is as it was, with what it held.
  */
 int32_t icu_locale_open(const uint8_t *json, size_t json_length, struct icu_locale *handle);
 
 /*
  * Makes `to` a second handle to the tables of `from`, as for another thread. The tables are there once; they go when the
- * last of their handles is closed.
+ * last of their handles is closed. A list of what is available is not shared.
  *
- * ICU_LOCALE_DONE: `to` holds the tables of `from`, and has let others go that it held. `from` is as it was.
+ * ICU_LOCALE_DONE: `to` holds the tables of `from` and no list, and has let go what it held. `from` is as it was.
  * ICU_LOCALE_CLOSED: `from` is closed. ICU_LOCALE_MEMORY. Both handles are as they were.
  */
 int32_t icu_locale_share(struct icu_locale *from, struct icu_locale *to);
 
 /*
  * Answers one line. `command` is the program's words, one space between two: `maximize`, `minimize`, `minimize-script`,
- * `canonicalize`, `direction`, or `name CHAIN PREFERENCES` as in `name light en`. `line` is one line of the program's
- * input without its line feed: an identifier, or at `canonicalize` an identifier, or an identifier, a tab and a value.
+ * `canonicalize`, `direction`, `name CHAIN PREFERENCES` as in `name light en`, or `negotiate` where the handle holds a
+ * list of what is available. `line` is one line of the program's input without its line feed: an identifier, or at
+ * `canonicalize` an identifier, or an identifier, a tab and a value, or at `negotiate` the requests of one reader.
  *
  * The answer is the program's line without its line feed, with the marks that it has: `zh-Hant-TW`, a tab and `M`.
  *
@@ -117,8 +132,8 @@ int32_t icu_locale_share(struct icu_locale *from, struct icu_locale *to);
  *
  * The tables stay. The answer is made in a list that the handle keeps, and then copied to `out`: the first calls take
  * memory for it, and later ones where they want a longer one. What is taken besides is what the program takes: memory
- * for an identifier's variants and for a value. The first `canonicalize` on a handle also reads the rules, which takes
- * about as long as some hundred calls and is kept until the handle is closed.
+ * for an identifier's variants, for a value and for a list of requests. The first `canonicalize` on a handle also reads
+ * the rules, which takes about as long as some hundred calls and is kept until the handle is closed.
  */
 int32_t icu_locale_answer(struct icu_locale *handle, const uint8_t *command, size_t command_length, const uint8_t *line,
                           size_t line_length, uint8_t *out, size_t room, size_t *written);
@@ -130,7 +145,37 @@ int32_t icu_locale_answer(struct icu_locale *handle, const uint8_t *command, siz
  */
 int32_t icu_locale_is_settled(struct icu_locale *handle);
 
-/* Lets the tables go, and makes the handle zero. It may be opened again. A second call does nothing. */
+/*
+ * Makes `negotiator` a handle to the tables of `from`, with a list of the identifiers that are available. `list` is the
+ * program's first line at `negotiate`, without its line feed: one space stands between two identifiers, and an empty text
+ * lists none. Their minimal forms are made here once, and kept.
+ *
+ * `negotiator` answers every other call too. Each handle that negotiates is given its list by a call of its own.
+ *
+ * ICU_LOCALE_DONE: `negotiator` holds the tables of `from` and the list, and has let go what it held. `from` is as it
+ * was.
+ * ICU_LOCALE_CLOSED: `from` is closed. ICU_LOCALE_TABLE: a likely table is left out. ICU_LOCALE_LIST,
+ * ICU_LOCALE_UNSETTLED, ICU_LOCALE_MEMORY. Both handles are as they were. Where several of these hold, the number is that
+ * of the closed handle first, then of the table, of the list, and of tables that are not settled.
+ */
+int32_t icu_locale_available(struct icu_locale *from, const uint8_t *list, size_t list_length,
+                             struct icu_locale *negotiator);
+
+/*
+ * Tells the first request that an available identifier means, and the first identifier that means it: `request` and
+ * `available` are their places in the two lists, counted from 0. Two identifiers mean the same where they have one
+ * maximal form. `requests` is one line of the program's input at `negotiate`, without its line feed: one space stands
+ * between two identifiers, the most wanted first, and an empty text lists none.
+ *
+ * ICU_LOCALE_MET: `request` and `available` are the places.
+ * ICU_LOCALE_NOT_MET, ICU_LOCALE_CLOSED, ICU_LOCALE_NEGOTIATE, ICU_LOCALE_LIST, ICU_LOCALE_MEMORY: both are as they were.
+ *
+ * The list and the tables stay. Memory is taken for the list of requests and for their variants alone.
+ */
+int32_t icu_locale_negotiate(struct icu_locale *negotiator, const uint8_t *requests, size_t requests_length,
+                             size_t *request, size_t *available);
+
+/* Lets the tables and the list go, and makes the handle zero. It may be opened again. A second call does nothing. */
 void icu_locale_close(struct icu_locale *handle);
 
 #ifdef __cplusplus
