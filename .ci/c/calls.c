@@ -12,6 +12,35 @@ static void answers(struct icu_locale *handle, const char *command, const char *
     }
 }
 
+static int32_t list_of(struct icu_locale *from, const char *list, struct icu_locale *negotiator) {
+    uint8_t *bytes = copy_of(list);
+    int32_t number = icu_locale_available(from, bytes, strlen(list), negotiator);
+    free(bytes);
+    return number;
+}
+
+// Negotiates, and looks at the two places. Where the number is not MET, both stay.
+static void meets(struct icu_locale *handle, const char *requests, int32_t number, size_t request, size_t available) {
+    enum { STAYS = 77 };
+    size_t *places = malloc(sizeof *places), *other = malloc(sizeof *other);
+    uint8_t *bytes = copy_of(requests);
+    if (!places || !other) exit(2);
+    *places = *other = STAYS;
+    int32_t told = icu_locale_negotiate(handle, bytes, strlen(requests), places, other);
+    if (number != ICU_LOCALE_MET) request = available = STAYS;
+    if (told != number || *places != request || *other != available) {
+        printf("negotiate: %s: %d %zu %zu, and not %d %zu %zu\n", requests, told, *places, *other, number, request, available);
+        faults += 1;
+    }
+    free(bytes);
+    free(places);
+    free(other);
+}
+
+static void refuses(struct icu_locale *handle, const char *requests, int32_t number) {
+    meets(handle, requests, number, 0, 0);
+}
+
 // Before an open, and behind a close.
 static void closed(struct icu_locale *handle) {
     struct icu_locale other = {0};
@@ -19,6 +48,11 @@ static void closed(struct icu_locale *handle) {
     answers(handle, "no words", "en", ICU_LOCALE_CLOSED, "");
     want(icu_locale_is_settled(handle) == ICU_LOCALE_CLOSED, "is_settled over a closed handle");
     want(icu_locale_share(handle, &other) == ICU_LOCALE_CLOSED, "share of a closed handle");
+    want(list_of(handle, "en", &other) == ICU_LOCALE_CLOSED, "a list over a closed handle");
+    want(list_of(handle, "en-", &other) == ICU_LOCALE_CLOSED, "a faulty list over a closed handle");
+    refuses(handle, "en", ICU_LOCALE_CLOSED);
+    refuses(handle, "en-", ICU_LOCALE_CLOSED);
+    answers(handle, "negotiate", "en", ICU_LOCALE_CLOSED, "");
     want(!handle->at && !other.at, "a closed handle is not zero");
     icu_locale_close(handle);
     icu_locale_close(handle);
@@ -71,24 +105,129 @@ static void wrong_words(struct icu_locale *handle) {
         answers(handle, words[place], "en", ICU_LOCALE_COMMAND, "");
         want(written == 0, "a length is told for words that are no command");
     }
-    answers(handle, "negotiate", "en", ICU_LOCALE_NEGOTIATE, "");
 }
 
-static void rooms(struct icu_locale *handle) {
+static void rooms(struct icu_locale *handle, const char *command) {
     const char *lines[] = {"zh-TW", "e", "de-1996-1901-fonipa"};
     for (size_t place = 0; place < sizeof lines / sizeof *lines; place++) {
-        int32_t whole = ask(handle, "maximize", lines[place], 4000, text, &written);
+        int32_t whole = ask(handle, command, lines[place], 4000, text, &written);
         size_t length = written;
         for (size_t room = 0; room < length + 3; room++) {
-            int32_t number = ask(handle, "maximize", lines[place], room, text, &written);
+            int32_t number = ask(handle, command, lines[place], room, text, &written);
             want(number == (room < length ? ICU_LOCALE_ROOM : whole), "another number than the room asks for");
             want(written == length, "another length is told than that of the answer");
         }
     }
 }
 
-static void left_out(struct icu_locale *handle) {
+// A handle that holds no list, whatever the requests are.
+static void without_list(struct icu_locale *handle) {
+    const char *requests[] = {"en", "", "en-", " "};
+    for (size_t place = 0; place < sizeof requests / sizeof *requests; place++) {
+        refuses(handle, requests[place], ICU_LOCALE_NEGOTIATE);
+        answers(handle, "negotiate", requests[place], ICU_LOCALE_NEGOTIATE, "");
+        want(written == 0, "a length is told where no list is held");
+    }
+}
+
+// A handle with the list `en-US zh-Hant yue-CN`.
+static void negotiations(struct icu_locale *handle) {
+    const char *faulty[] = {"e", "en-", " ", "en ", " en", "en  de", "zh-TW e", "en\n", "en\tde", "zh-TW \xff"};
+    meets(handle, "en", ICU_LOCALE_MET, 0, 0);
+    meets(handle, "fr zh_tw", ICU_LOCALE_MET, 1, 1);
+    meets(handle, "fr de-AT yue-Hans en", ICU_LOCALE_MET, 2, 2);
+    meets(handle, "EN zh-TW", ICU_LOCALE_MET, 0, 0);
+    refuses(handle, "fr", ICU_LOCALE_NOT_MET);
+    refuses(handle, "en-fonipa zh-Hans", ICU_LOCALE_NOT_MET);
+    refuses(handle, "", ICU_LOCALE_NOT_MET);
+    for (size_t place = 0; place < sizeof faulty / sizeof *faulty; place++) refuses(handle, faulty[place], ICU_LOCALE_LIST);
+    answers(handle, "negotiate", "fr zh_tw", ICU_LOCALE_ACCEPTED, "1\tzh-Hant");
+    answers(handle, "negotiate", "und-US", ICU_LOCALE_ACCEPTED, "0\ten-US");
+    answers(handle, "negotiate", "fr", ICU_LOCALE_ACCEPTED, "none");
+    answers(handle, "negotiate", "", ICU_LOCALE_ACCEPTED, "none");
+    answers(handle, "negotiate", "zh-TW en-", ICU_LOCALE_REFUSED, "?\tInvalidSubtag");
+    answers(handle, "negotiate", "zh-TW ", ICU_LOCALE_REFUSED, "?\tInvalidLanguage");
+}
+
+static void refused_lists(struct icu_locale *from, struct icu_locale *negotiator) {
+    const char *faulty[] = {"e", "en-", " ", "en ", " en", "en  de", "zh-TW e", "en\n", "en\tde", "zh-TW \xff"};
+    void *at = negotiator->at, *from_at = from->at;
+    for (size_t place = 0; place < sizeof faulty / sizeof *faulty; place++)
+        want(list_of(from, faulty[place], negotiator) == ICU_LOCALE_LIST, "a faulty list");
+    want(negotiator->at == at && from->at == from_at, "a handle moves where a list is refused");
+}
+
+// Lists over the tables of `from`: into a closed handle, into an open one, and one behind another.
+static void lists(struct icu_locale *from) {
+    struct icu_locale one = {0}, other = {0};
+    refused_lists(from, &one);
+    want(list_of(from, "en-US zh-Hant yue-CN", &one) == ICU_LOCALE_DONE, "a list into a closed handle");
+    negotiations(&one);
+    commands(&one);
+    wrong_words(&one);
+    rooms(&one, "maximize");
+    rooms(&one, "negotiate");
+    refused_lists(from, &one);
+    negotiations(&one);
+    without_list(from);
+    want(icu_locale_share(&one, &other) == ICU_LOCALE_DONE, "a share of a negotiator");
+    without_list(&other);
+    commands(&other);
+    want(list_of(&one, "de en en-Latn", &other) == ICU_LOCALE_DONE, "a list of a negotiator's tables into an open handle");
+    meets(&other, "zh-Hant en-US", ICU_LOCALE_MET, 1, 1);
+    negotiations(&one);
+    want(list_of(from, "", &other) == ICU_LOCALE_DONE, "an empty list, where there was another");
+    refuses(&other, "en", ICU_LOCALE_NOT_MET);
+    refuses(&other, "", ICU_LOCALE_NOT_MET);
+    refuses(&other, "en-", ICU_LOCALE_LIST);
+    answers(&other, "negotiate", "en", ICU_LOCALE_ACCEPTED, "none");
+    refused_opens(&one);
+    negotiations(&one);
+    icu_locale_close(&other);
+    closed(&other);
+    want(icu_locale_share(from, &one) == ICU_LOCALE_DONE, "a share into a negotiator");
+    without_list(&one);
+    icu_locale_close(&one);
+}
+
+// Five hundred identifiers, with a variant each: every one is found at its place.
+static void many(struct icu_locale *from) {
+    enum { COUNT = 500, SIZE = 8 };
+    struct icu_locale negotiator = {0};
+    char list[COUNT * SIZE + 1], request[SIZE + 1];
+    for (int place = 0; place < COUNT; place++) snprintf(list + place * SIZE, SIZE + 1, "en-%d ", 1000 + place);
+    list[COUNT * SIZE - 1] = 0;
+    want(list_of(from, list, &negotiator) == ICU_LOCALE_DONE, "a long list");
+    for (int place = 0; place < COUNT; place++) {
+        snprintf(request, sizeof request, "en-%d", 1000 + place);
+        meets(&negotiator, request, ICU_LOCALE_MET, 0, (size_t)place);
+    }
+    meets(&negotiator, list, ICU_LOCALE_MET, 0, 0);
+    refuses(&negotiator, "en", ICU_LOCALE_NOT_MET);
+    icu_locale_close(&negotiator);
+}
+
+// A negotiator has its tables also where the handle that they came from is closed, and an open takes its list away.
+static void alone(const uint8_t *json, size_t length) {
+    struct icu_locale from = {0}, negotiator = {0};
+    want(icu_locale_open(json, length, &from) == ICU_LOCALE_DONE, "the sample");
+    want(list_of(&from, "en-US zh-Hant yue-CN", &negotiator) == ICU_LOCALE_DONE, "a list");
+    icu_locale_close(&from);
+    negotiations(&negotiator);
+    want(list_of(&from, "en", &negotiator) == ICU_LOCALE_CLOSED, "a list of a closed handle into an open one");
+    negotiations(&negotiator);
+    want(icu_locale_open(json, length, &negotiator) == ICU_LOCALE_DONE, "an open of a negotiator");
+    without_list(&negotiator);
+    commands(&negotiator);
+    icu_locale_close(&negotiator);
+    closed(&negotiator);
+}
+
+static void left_out(struct icu_locale *handle, struct icu_locale *other) {
     want(open_text("{}", handle) == ICU_LOCALE_DONE, "tables that hold nothing");
+    want(list_of(handle, "en", other) == ICU_LOCALE_TABLE, "a list without likely tables");
+    want(list_of(handle, "", other) == ICU_LOCALE_TABLE, "an empty list without likely tables");
+    want(list_of(handle, "en-", other) == ICU_LOCALE_TABLE, "a faulty list without likely tables");
     answers(handle, "maximize", "en", ICU_LOCALE_TABLE, "");
     answers(handle, "canonicalize", "en", ICU_LOCALE_TABLE, "");
     answers(handle, "direction", "en", ICU_LOCALE_TABLE, "");
@@ -98,6 +237,9 @@ static void left_out(struct icu_locale *handle) {
     want(open_text("{\"likely_language\":{\"und\":[\"en\",\"Latn\",\"US\"],\"language\":{\"xx\":[\"Zzzz\",\"DE\"]}},"
                    "\"likely_script_region\":{}}", handle) == ICU_LOCALE_DONE, "tables that are not settled");
     want(icu_locale_is_settled(handle) == ICU_LOCALE_NOT_SETTLED, "they are told as settled");
+    want(list_of(handle, "en", other) == ICU_LOCALE_UNSETTLED, "a list over tables that are not settled");
+    want(list_of(handle, "", other) == ICU_LOCALE_UNSETTLED, "an empty list over tables that are not settled");
+    want(list_of(handle, "en-", other) == ICU_LOCALE_LIST, "a faulty list over tables that are not settled");
 }
 
 int main(int count, char **names) {
@@ -114,11 +256,17 @@ int main(int count, char **names) {
     commands(&one);
     want(icu_locale_share(&one, &other) == ICU_LOCALE_DONE, "a share");
     want(icu_locale_open(json, length, &one) == ICU_LOCALE_DONE, "an open of an open handle");
+    alone(json, length);
     free(json);
     commands(&other);
     wrong_words(&one);
-    rooms(&one);
-    left_out(&one);
+    without_list(&one);
+    rooms(&one, "maximize");
+    lists(&one);
+    many(&one);
+    want(list_of(&one, "en-US zh-Hant yue-CN", &other) == ICU_LOCALE_DONE, "a list into a handle to the same tables");
+    left_out(&one, &other);
+    negotiations(&other);
     want(icu_locale_share(&other, &one) == ICU_LOCALE_DONE, "a share to an open handle");
     icu_locale_close(&other);
     commands(&one);

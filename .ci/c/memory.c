@@ -29,9 +29,11 @@ static const char *rows[][3] = {
     {"canonicalize", "ja\tpiece000-piece001", "ja\tpiece000-piece001\tU"},
     {"name light en", "it-Latn-fonipa-posix", "Italian (Latin, IPA Phonetics, posix)\tR"},
     {"maximize", "e", "?\tInvalidLanguage"},
+    {"negotiate", "fr de-1996-1901 zh-TW", "2\tzh-Hant"},
 };
 
-enum { ROWS = sizeof rows / sizeof *rows };
+// The last row is for a handle with a list.
+enum { ROWS = sizeof rows / sizeof *rows - 1 };
 
 static int32_t row_of(struct icu_locale *handle, int row) {
     static uint8_t out[128];
@@ -45,7 +47,49 @@ static int32_t row_of(struct icu_locale *handle, int row) {
     return number;
 }
 
-// All that is done over two handles. Where a request is refused, what was held stays, and the call says so.
+static int32_t list_of(struct icu_locale *from, const char *list, struct icu_locale *negotiator) {
+    return icu_locale_available(from, (const uint8_t *)list, strlen(list), negotiator);
+}
+
+// Negotiates over a list in which `zh-Hant` has that place.
+static int32_t meet(struct icu_locale *negotiator, size_t wanted) {
+    size_t request = 77, available = 78;
+    const char *line = rows[ROWS][1];
+    int32_t number = icu_locale_negotiate(negotiator, (const uint8_t *)line, strlen(line), &request, &available);
+    if (number == ICU_LOCALE_MET)
+        want(request == 2 && available == wanted, "another place, where memory is refused");
+    else
+        want(number == ICU_LOCALE_MEMORY && request == 77 && available == 78, "places that are written where memory is refused");
+    return number;
+}
+
+// The same once more, where memory was refused.
+static int met(struct icu_locale *negotiator, size_t wanted) {
+    if (meet(negotiator, wanted) != ICU_LOCALE_MEMORY) return 0;
+    want(meet(negotiator, wanted) == ICU_LOCALE_MET, "the next negotiation is refused too");
+    return 1;
+}
+
+// A list into a closed handle, and another into the same: where that is refused, the first one stays.
+static int negotiations(struct icu_locale *from) {
+    struct icu_locale handle = {0};
+    int refusals = 0;
+    int32_t number = list_of(from, "en-US zh-Hant de-1996-fonipa yue-CN", &handle);
+    want(number == ICU_LOCALE_DONE ? !!handle.at : number == ICU_LOCALE_MEMORY && !handle.at, "a list");
+    refusals += number == ICU_LOCALE_MEMORY;
+    if (number != ICU_LOCALE_DONE)
+        want(list_of(from, "en-US zh-Hant de-1996-fonipa yue-CN", &handle) == ICU_LOCALE_DONE, "the next list");
+    refusals += met(&handle, 1);
+    for (int row = 0; row <= ROWS; row++) refusals += row_of(&handle, row) == ICU_LOCALE_MEMORY;
+    number = list_of(from, "zh-Hant", &handle);
+    want(handle.at && (number == ICU_LOCALE_DONE || number == ICU_LOCALE_MEMORY), "a list into an open handle");
+    refusals += number == ICU_LOCALE_MEMORY;
+    refusals += met(&handle, number == ICU_LOCALE_DONE ? 0 : 1);
+    icu_locale_close(&handle);
+    return refusals;
+}
+
+// All that is done over two handles, and one with a list. Where a request is refused, what was held stays, and the call says so.
 static int run(void) {
     struct icu_locale one = {0}, other = {0};
     int refusals = 0;
@@ -58,6 +102,7 @@ static int run(void) {
         refusals += 1;
         want(row_of(&one, row) != ICU_LOCALE_MEMORY, "the next call is refused too");
     }
+    refusals += negotiations(&one);
     number = icu_locale_share(&one, &other);
     want(number == ICU_LOCALE_DONE ? !!other.at : number == ICU_LOCALE_MEMORY && !other.at, "a share");
     refusals += number == ICU_LOCALE_MEMORY;
@@ -87,6 +132,24 @@ static void kept(void) {
     icu_locale_close(&handle);
 }
 
+// A negotiation takes memory for the list of requests alone, the first time too.
+static void kept_lists(void) {
+    struct icu_locale from = {0}, negotiator = {0};
+    size_t request, available;
+    want(icu_locale_open(json, length, &from) == ICU_LOCALE_DONE, "the sample");
+    want(list_of(&from, "en-US zh-Hant yue-CN", &negotiator) == ICU_LOCALE_DONE, "a list");
+    for (int time = 0; time < 3; time++) {
+        requests = 0;
+        want(icu_locale_negotiate(&negotiator, (const uint8_t *)"zh-TW", 5, &request, &available) == ICU_LOCALE_MET, "zh-TW");
+        want(requests == 1, "a negotiation takes more memory than a list");
+        requests = 0;
+        want(icu_locale_negotiate(&negotiator, (const uint8_t *)"", 0, &request, &available) == ICU_LOCALE_NOT_MET, "nothing");
+        want(requests == 0, "a negotiation over no request takes memory");
+    }
+    icu_locale_close(&negotiator);
+    icu_locale_close(&from);
+}
+
 int main(int count, char **names) {
     if (count != 2) return 2;
     json = bytes_of(names[1], &length);
@@ -100,6 +163,7 @@ int main(int count, char **names) {
     }
     refused_at = 0;
     kept();
+    kept_lists();
     printf("%ld requests, each refused in its turn: %ld calls say so, and the others did without\n", all, told);
     want(told > all / 2, "few calls say so");
     free(json);

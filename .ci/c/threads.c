@@ -10,14 +10,21 @@ static const char *rows[][3] = {
 };
 
 struct job {
-    struct icu_locale handle;
+    struct icu_locale handle, negotiator;
     long wrong;
 };
+
+static int is_met(struct icu_locale *negotiator) {
+    size_t request = 0, available = 0;
+    return icu_locale_negotiate(negotiator, (const uint8_t *)"fr zh-TW", 8, &request, &available) == ICU_LOCALE_MET && request == 1
+           && available == 2;
+}
 
 static void *work(void *at) {
     struct job *job = at;
     struct icu_locale again = {0};
-    for (int time = 0; time < TIMES; time++)
+    for (int time = 0; time < TIMES; time++) {
+        job->wrong += !is_met(&job->negotiator);
         for (size_t row = 0; row < sizeof rows / sizeof *rows; row++) {
             uint8_t out[64];
             size_t written, length = strlen(rows[row][2]);
@@ -26,22 +33,26 @@ static void *work(void *at) {
             job->wrong += number != ICU_LOCALE_ACCEPTED || written != length || memcmp(out, rows[row][2], length);
             job->wrong += time % 100 == 0 && icu_locale_share(&job->handle, &again) != ICU_LOCALE_DONE;
         }
+    }
     icu_locale_close(&again);
     icu_locale_close(&job->handle);
+    icu_locale_close(&job->negotiator);
     return NULL;
 }
 
 int main(int count, char **names) {
     size_t length;
     struct icu_locale first = {0};
-    struct job jobs[THREADS] = {{{0}, 0}};
+    struct job jobs[THREADS] = {{{0}, {0}, 0}};
     pthread_t threads[THREADS];
     if (count != 2) return 2;
     uint8_t *json = bytes_of(names[1], &length);
     want(icu_locale_open(json, length, &first) == ICU_LOCALE_DONE, "the sample");
     free(json);
-    for (int place = 0; place < THREADS; place++)
+    for (int place = 0; place < THREADS; place++) {
         want(icu_locale_share(&first, &jobs[place].handle) == ICU_LOCALE_DONE, "a share");
+        want(icu_locale_available(&first, (const uint8_t *)"en de zh-Hant", 13, &jobs[place].negotiator) == ICU_LOCALE_DONE, "a list");
+    }
     icu_locale_close(&first);
     for (int place = 0; place < THREADS; place++)
         if (pthread_create(&threads[place], NULL, work, &jobs[place])) return 2;
