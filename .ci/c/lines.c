@@ -1,46 +1,105 @@
 // The program over C's calls: `lines TABLES COMMAND` answers each line of its input, and ends with the status of the
-// program: 0, 1 where a line is refused, and 2 with a number on standard error where there is no answer.
+// program: 0, 1 where a line is refused, and 2 with a number on standard error where there is no answer. At `negotiate`
+// the first line is the list, and the places of each negotiation have to tell what the line of its answer tells: where
+// they do not, the status is 3.
 #include "shared.h"
+#include <ctype.h>
+
+static struct icu_locale tables, negotiator;
+static char *line;
+static size_t length, size;
 
 static int refuse(int32_t number) {
     fprintf(stderr, "%d\n", number);
     return 2;
 }
 
-int main(int count, char **names) {
-    struct icu_locale handle = {0};
-    size_t length, room = 8, written, size = 0;
-    char *line = NULL;
-    ssize_t read;
+// The next line of the input, without its line feed. Behind the last one stands an empty one, and 0 is told.
+static int next_line(void) {
+    ssize_t read = getline(&line, &size, stdin);
+    if (!line) exit(3);
+    length = read > 0 ? (size_t)read - (line[read - 1] == '\n') : 0;
+    line[length] = 0;
+    return read > 0;
+}
+
+static int settled(void) {
+    int32_t number = icu_locale_is_settled(&tables);
+    if (number != ICU_LOCALE_SETTLED && number != ICU_LOCALE_NOT_SETTLED) return refuse(number);
+    printf("%s\n", number == ICU_LOCALE_SETTLED ? "yes" : "no");
+    return 0;
+}
+
+static int is_same_text(const char *one, const char *other) {
+    for (; *one && tolower(*one == '_' ? '-' : *one) == tolower(*other); one++) other++;
+    return !*one && !*other;
+}
+
+// Whether the places of a negotiation tell what the text of the answer tells.
+static int are_places(const char *list, int32_t number, const char *text) {
+    size_t request, available;
+    int32_t told = icu_locale_negotiate(&negotiator, (const uint8_t *)line, length, &request, &available);
+    if (told == ICU_LOCALE_LIST) return number == ICU_LOCALE_REFUSED;
+    if (told == ICU_LOCALE_NOT_MET) return number == ICU_LOCALE_ACCEPTED && !strcmp(text, "none");
+    char *copy = strdup(list), *rest = copy, *found = strsep(&rest, " "), *end;
+    for (; found && available; available--) found = strsep(&rest, " ");
+    int is_place = told == ICU_LOCALE_MET && found && strtoul(text, &end, 10) == request && *end == '\t'
+                   && is_same_text(found, end + 1);
+    free(copy);
+    return is_place;
+}
+
+// Answers each line, by a handle with the list where there is one.
+static int answers(struct icu_locale *handle, const char *command, const char *list) {
+    size_t room = 8, written = 0;
+    uint8_t *out = malloc(room + 1);
     int status = 0;
-    if (count != 3) return 3;
-    uint8_t *json = bytes_of(names[1], &length), *out = malloc(room);
-    int32_t number = icu_locale_open(json, length, &handle);
-    free(json);
-    if (number != ICU_LOCALE_DONE) status = refuse(number);
-    if (status != 2 && !strcmp(names[2], "settled")) {
-        number = icu_locale_is_settled(&handle);
-        if (number == ICU_LOCALE_SETTLED || number == ICU_LOCALE_NOT_SETTLED)
-            printf("%s\n", number == ICU_LOCALE_SETTLED ? "yes" : "no");
-        else
-            status = refuse(number);
-    }
-    while (status != 2 && strcmp(names[2], "settled") && (read = getline(&line, &size, stdin)) > 0) {
-        size_t end = (size_t)read - (line[read - 1] == '\n');
+    int32_t number;
+    while (status < 2 && next_line()) {
         do {
-            number = icu_locale_answer(&handle, (const uint8_t *)names[2], strlen(names[2]), (const uint8_t *)line, end, out, room,
-                                       &written);
-        } while (number == ICU_LOCALE_ROOM && (out = realloc(out, room = written)));
+            number = icu_locale_answer(handle, (const uint8_t *)command, strlen(command), (const uint8_t *)line, length, out,
+                                       room, &written);
+        } while (number == ICU_LOCALE_ROOM && (out = realloc(out, (room = written) + 1)));
         if (number != ICU_LOCALE_ACCEPTED && number != ICU_LOCALE_REFUSED) {
             status = refuse(number);
             break;
         }
         if (number == ICU_LOCALE_REFUSED) status = 1;
-        fwrite(out, 1, written, stdout);
-        putchar('\n');
+        out[written] = 0;
+        if (list && !are_places(list, number, (const char *)out)) status = 3;
+        printf("%s\n", (const char *)out);
     }
-    free(line);
     free(out);
-    icu_locale_close(&handle);
+    return status;
+}
+
+static int negotiations(void) {
+    next_line();
+    char *list = strdup(line);
+    int32_t number = icu_locale_available(&tables, (const uint8_t *)line, length, &negotiator);
+    icu_locale_close(&tables);
+    int status = number == ICU_LOCALE_DONE ? answers(&negotiator, "negotiate", list) : refuse(number);
+    free(list);
+    return status;
+}
+
+int main(int count, char **names) {
+    if (count != 3) return 3;
+    uint8_t *json = bytes_of(names[1], &size);
+    int32_t number = icu_locale_open(json, size, &tables);
+    free(json);
+    int status;
+    size = 0;
+    if (number != ICU_LOCALE_DONE)
+        status = refuse(number);
+    else if (!strcmp(names[2], "settled"))
+        status = settled();
+    else if (!strcmp(names[2], "negotiate"))
+        status = negotiations();
+    else
+        status = answers(&tables, names[2], NULL);
+    free(line);
+    icu_locale_close(&tables);
+    icu_locale_close(&negotiator);
     return status;
 }

@@ -59,7 +59,7 @@ static int32_t meet(struct icu_locale *negotiator, size_t wanted) {
     if (number == ICU_LOCALE_MET)
         want(request == 2 && available == wanted, "another place, where memory is refused");
     else
-        want(number == ICU_LOCALE_MEMORY && request == 77 && available == 78, "places that are written where memory is refused");
+        want(number == ICU_LOCALE_MEMORY && request == 77 && available == 78, "places are written where memory is refused");
     return number;
 }
 

@@ -16,8 +16,8 @@ struct job {
 
 static int is_met(struct icu_locale *negotiator) {
     size_t request = 0, available = 0;
-    return icu_locale_negotiate(negotiator, (const uint8_t *)"fr zh-TW", 8, &request, &available) == ICU_LOCALE_MET && request == 1
-           && available == 2;
+    int32_t number = icu_locale_negotiate(negotiator, (const uint8_t *)"fr zh-TW", 8, &request, &available);
+    return number == ICU_LOCALE_MET && request == 1 && available == 2;
 }
 
 static void *work(void *at) {
@@ -51,7 +51,8 @@ int main(int count, char **names) {
     free(json);
     for (int place = 0; place < THREADS; place++) {
         want(icu_locale_share(&first, &jobs[place].handle) == ICU_LOCALE_DONE, "a share");
-        want(icu_locale_available(&first, (const uint8_t *)"en de zh-Hant", 13, &jobs[place].negotiator) == ICU_LOCALE_DONE, "a list");
+        want(icu_locale_available(&first, (const uint8_t *)"en de zh-Hant", 13, &jobs[place].negotiator) == ICU_LOCALE_DONE,
+             "a list");
     }
     icu_locale_close(&first);
     for (int place = 0; place < THREADS; place++)
