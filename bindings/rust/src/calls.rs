@@ -29,5 +29,18 @@ extern "C" {
         written: *mut usize,
     ) -> i32;
     pub fn icu_locale_is_settled(handle: *mut Handle) -> i32;
+    pub fn icu_locale_available(
+        from: *mut Handle,
+        list: *const u8,
+        list_length: usize,
+        negotiator: *mut Handle,
+    ) -> i32;
+    pub fn icu_locale_negotiate(
+        negotiator: *mut Handle,
+        requests: *const u8,
+        requests_length: usize,
+        request: *mut usize,
+        available: *mut usize,
+    ) -> i32;
     pub fn icu_locale_close(handle: *mut Handle);
 }

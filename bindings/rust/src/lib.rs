@@ -1,5 +1,5 @@
-//! Likely subtags, canonical forms, directions and names of locale identifiers, by the proved library. It has no
-//! dependencies.
+//! Likely subtags, canonical forms, directions, names and negotiation of locale identifiers, by the proved library. It
+//! has no dependencies.
 //!
 //! ```
 //! use icu_locale_calls::{Refusal, Tables, EXAMPLE};
@@ -12,12 +12,28 @@
 //! assert_eq!(tables.maximize("en-"), Err(Refusal::InvalidSubtag));
 //! # Ok::<(), Refusal>(())
 //! ```
+//!
+//! What is served to a reader who wants some languages, the most wanted first:
+//!
+//! ```
+//! use icu_locale_calls::{Match, Tables, EXAMPLE};
+//!
+//! let mut tables = Tables::from_json(EXAMPLE.as_bytes())?;
+//! let mut negotiator = tables.negotiator(["en-US", "zh-Hant", "yue-CN"])?;
+//! let met = negotiator.negotiate(["fr", "zh_TW", "en"])?;
+//! assert_eq!(met, Some(Match { request: 1, available: 1 }));
+//! assert_eq!(negotiator.available()[1], "zh-Hant");
+//! assert_eq!(negotiator.negotiate(["fr"])?, None);
+//! # Ok::<(), icu_locale_calls::Refusal>(())
+//! ```
 #![warn(missing_docs)]
 
 mod calls;
+mod negotiator;
 mod refusal;
 
 use calls::Handle;
+pub use negotiator::{Match, Negotiator};
 pub use refusal::Refusal;
 
 /// Small tables, as the examples ask them.
@@ -102,11 +118,33 @@ impl Tables {
         }
     }
 
+    /// What serves a reader one of the identifiers that are available. It holds these tables too.
+    ///
+    /// # Errors
+    ///
+    /// `Table` where a likely table is left out, `List`, `Unsettled` or `Memory`.
+    ///
+    /// ```
+    /// use icu_locale_calls::{Match, Refusal, Tables, EXAMPLE};
+    /// let mut tables = Tables::from_json(EXAMPLE.as_bytes())?;
+    /// let mut negotiator = tables.negotiator(["en", "zh-Hant"])?;
+    /// assert_eq!(negotiator.negotiate(["zh-TW"])?, Some(Match { request: 0, available: 1 }));
+    /// assert_eq!(tables.negotiator(["en", "zh Hant"]).err(), Some(Refusal::List));
+    /// # Ok::<(), Refusal>(())
+    /// ```
+    pub fn negotiator<I>(&mut self, available: I) -> Result<Negotiator, Refusal>
+    where
+        I: IntoIterator,
+        I::Item: Into<String>,
+    {
+        Negotiator::over(&mut self.handle, available.into_iter().map(Into::into).collect())
+    }
+
     /// What the program `icu_locale_cli` answers to a line, without its line feed, by the words of a command.
     ///
     /// # Errors
     ///
-    /// Every refusal but `Json` and `Shape`.
+    /// Every refusal but `Json`, `Shape`, `List` and `Unsettled`.
     pub fn answer(&mut self, command: &str, line: &[u8]) -> Result<String, Refusal> {
         let mut out = vec![0; 64];
         let mut written = 0;

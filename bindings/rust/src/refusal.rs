@@ -13,10 +13,14 @@ pub enum Refusal {
     Shape,
     /// The words are those of no command that answers lines.
     Command,
-    /// The tables leave out one that the command needs.
+    /// The tables leave out one that is needed.
     Table,
-    /// The command is `negotiate`, which the library does not answer.
+    /// The command is `negotiate`, and there is no list of what is available: a `Negotiator` has one.
     Negotiate,
+    /// The list has something that is no identifier.
+    List,
+    /// The likely tables are not settled.
+    Unsettled,
     /// The line does not begin with a language.
     InvalidLanguage,
     /// A subtag of the line is none, or stands where it may not.
@@ -38,6 +42,8 @@ impl Refusal {
             7 => Refusal::Command,
             8 => Refusal::Table,
             9 => Refusal::Negotiate,
+            10 => Refusal::List,
+            11 => Refusal::Unsettled,
             _ => unreachable!("the number {number} is that of no refusal of an open handle"),
         }
     }
@@ -61,7 +67,9 @@ impl fmt::Display for Refusal {
             Refusal::Shape => "the JSON has not the shape of tables",
             Refusal::Command => "the words are those of no command that answers lines",
             Refusal::Table => "the tables leave out one that is needed",
-            Refusal::Negotiate => "negotiate is not answered here",
+            Refusal::Negotiate => "there is no list of what is available",
+            Refusal::List => "the list has something that is no identifier",
+            Refusal::Unsettled => "the likely tables are not settled",
             Refusal::InvalidLanguage => "the line does not begin with a language",
             Refusal::InvalidSubtag => "a subtag is none, or stands where it may not",
             Refusal::NoFixedPoint => "the rules come to no end",

@@ -1,0 +1,102 @@
+//! What is available, and what is served of it.
+use crate::calls::{self, Handle};
+use crate::Refusal;
+
+const DONE: i32 = 0;
+const MET: i32 = 0;
+const NOT_MET: i32 = 1;
+
+/// A request that is met: its place, and that of the available identifier. Both are counted from 0.
+#[derive(Clone, Copy, Debug, PartialEq, Eq, Hash)]
+pub struct Match {
+    /// The place of the request.
+    pub request: usize,
+    /// The place of the available identifier.
+    pub available: usize,
+}
+
+/// What is available, by `Tables::negotiator`. A thread has one of its own.
+#[derive(Debug)]
+pub struct Negotiator {
+    handle: Handle,
+    available: Vec<String>,
+}
+
+// SAFETY: it is proved of the handle that it may go to another thread.
+unsafe impl Send for Negotiator {}
+
+impl Drop for Negotiator {
+    fn drop(&mut self) {
+        // SAFETY: no other call is made on the handle, by `&mut`.
+        unsafe { calls::icu_locale_close(&mut self.handle) }
+    }
+}
+
+impl Negotiator {
+    pub(crate) fn over(from: &mut Handle, available: Vec<String>) -> Result<Self, Refusal> {
+        let list = line(&available)?;
+        let mut handle = Handle::closed();
+        // SAFETY: the slice is one of Rust's, and the two handles are two, which nobody else has.
+        match unsafe { calls::icu_locale_available(from, list.as_ptr(), list.len(), &mut handle) } {
+            DONE => Ok(Negotiator { handle, available }),
+            number => Err(Refusal::of_number(number)),
+        }
+    }
+
+    /// The identifiers that are available, as they were handed in.
+    pub fn available(&self) -> &[String] {
+        &self.available
+    }
+
+    /// The first request that an available identifier means, and the first such identifier; None where there is none.
+    ///
+    /// # Errors
+    ///
+    /// `List` where a request is no identifier, or `Memory`.
+    ///
+    /// ```
+    /// use icu_locale_calls::{Match, Refusal, Tables, EXAMPLE};
+    /// let mut negotiator = Tables::from_json(EXAMPLE.as_bytes())?.negotiator(["de", "en", "en-Latn"])?;
+    /// assert_eq!(negotiator.negotiate(["zh", "en-US", "de"])?, Some(Match { request: 1, available: 1 }));
+    /// assert_eq!(negotiator.negotiate(["zh"])?, None);
+    /// assert_eq!(negotiator.negotiate(["en", "en-"]), Err(Refusal::List));
+    /// # Ok::<(), Refusal>(())
+    /// ```
+    pub fn negotiate<I>(&mut self, requests: I) -> Result<Option<Match>, Refusal>
+    where
+        I: IntoIterator,
+        I::Item: AsRef<str>,
+    {
+        let line = line(requests)?;
+        let (mut request, mut available) = (0, 0);
+        // SAFETY: the slice is one of Rust's, the places are two of this call's, and so is the handle, by `&mut`.
+        let number = unsafe {
+            calls::icu_locale_negotiate(&mut self.handle, line.as_ptr(), line.len(), &mut request, &mut available)
+        };
+        match number {
+            MET => Ok(Some(Match { request, available })),
+            NOT_MET => Ok(None),
+            number => Err(Refusal::of_number(number)),
+        }
+    }
+}
+
+// A list as one line. There, an identifier that is empty or holds a space would be none, or two.
+fn line<I>(identifiers: I) -> Result<String, Refusal>
+where
+    I: IntoIterator,
+    I::Item: AsRef<str>,
+{
+    let mut line = String::new();
+    for identifier in identifiers {
+        let identifier = identifier.as_ref();
+        if identifier.is_empty() || identifier.contains(' ') {
+            return Err(Refusal::List);
+        }
+        if !line.is_empty() {
+            line.push(' ');
+        }
+        line.push_str(identifier);
+    }
+    Ok(line)
+}
