@@ -1,5 +1,5 @@
 // The calls of icu_locale.h for Node.js, by Node-API: `open(json)` makes an object that stands for tables, and
-// `share`, `answer`, `isSettled` and `close` take one. index.js has what is made of these.
+// `share`, `available`, `answer`, `negotiate`, `isSettled` and `close` take one. index.js has what is made of these.
 #include "icu_locale.h"
 #include <node_api.h>
 #include <stdlib.h>
@@ -85,6 +85,37 @@ static napi_value share_tables(napi_env env, napi_callback_info info) {
     return number == ICU_LOCALE_DONE ? object : number_of(env, number);
 }
 
+// available(tables, list): a second object, which has the list too, or the number of a refusal.
+static napi_value available_of(napi_env env, napi_callback_info info) {
+    size_t count = 2, length;
+    napi_value values[2], object = NULL;
+    const uint8_t *list;
+    if (napi_get_cb_info(env, info, &count, values, NULL, NULL) != napi_ok || count < 2) return wrong(env);
+    struct tables *from = tables_of(env, values[0]), *to;
+    if (!from || !bytes_of(env, values[1], &list, &length)) return wrong(env);
+    if (!(to = made(env, &object))) return number_of(env, ICU_LOCALE_MEMORY);
+    int32_t number = icu_locale_available(&from->handle, list, length, &to->handle);
+    return number == ICU_LOCALE_DONE ? object : number_of(env, number);
+}
+
+// negotiate(negotiator, requests): a list of two places, or the number where no request is met and of a refusal.
+static napi_value negotiate(napi_env env, napi_callback_info info) {
+    size_t count = 2, length, places[2];
+    napi_value values[2], list = NULL, place = NULL;
+    const uint8_t *requests;
+    if (napi_get_cb_info(env, info, &count, values, NULL, NULL) != napi_ok || count < 2) return wrong(env);
+    struct tables *tables = tables_of(env, values[0]);
+    if (!tables || !bytes_of(env, values[1], &requests, &length)) return wrong(env);
+    int32_t number = icu_locale_negotiate(&tables->handle, requests, length, &places[0], &places[1]);
+    if (number != ICU_LOCALE_MET) return number_of(env, number);
+    napi_create_array_with_length(env, 2, &list);
+    for (uint32_t at = 0; at < 2; at++) {
+        napi_create_int64(env, (int64_t)places[at], &place);
+        napi_set_element(env, list, at, place);
+    }
+    return list;
+}
+
 // answer(tables, command, line): the text of an accepted line, and else a list of a number and a text.
 static napi_value answer(napi_env env, napi_callback_info info) {
     size_t count = 3, command_length, line_length, written = 0;
@@ -138,7 +169,8 @@ NAPI_MODULE_INIT() {
     static const struct {
         const char *name;
         napi_callback call;
-    } calls[] = {{"open", open_tables}, {"share", share_tables}, {"answer", answer}, {"isSettled", is_settled}, {"close", close_tables}};
+    } calls[] = {{"open", open_tables}, {"share", share_tables}, {"available", available_of}, {"answer", answer},
+                 {"negotiate", negotiate}, {"isSettled", is_settled}, {"close", close_tables}};
     for (size_t place = 0; place < sizeof calls / sizeof *calls; place++) {
         napi_value call;
         napi_create_function(env, calls[place].name, NAPI_AUTO_LENGTH, calls[place].call, NULL, &call);

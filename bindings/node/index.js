@@ -3,8 +3,11 @@
 const calls = require('./icu_locale.node');
 
 const NUMBERS = {
-  2: 'Closed', 4: 'Memory', 5: 'Json', 6: 'Shape', 7: 'Command', 8: 'Table', 9: 'Negotiate',
+  2: 'Closed', 4: 'Memory', 5: 'Json', 6: 'Shape', 7: 'Command', 8: 'Table', 9: 'Negotiate', 10: 'List',
+  11: 'Unsettled',
 };
+const LIST = 10;
+const NOT_MET = 1;
 const COMMANDS = new Map();
 
 /** A call that gives no answer. `code` is the name of the refusal. */
@@ -35,6 +38,18 @@ function made(told) {
   return told;
 }
 
+// A list as one line. There, an identifier that is empty or holds a space would be none, or two.
+function lineOf(identifiers) {
+  if (identifiers.some((it) => typeof it !== 'string')) throw new TypeError('an identifier is a string');
+  if (identifiers.some((it) => it === '' || it.includes(' '))) throw new Refused(NUMBERS[LIST]);
+  return Buffer.from(identifiers.join(' '));
+}
+
+function listed(identifiers) {
+  if (!Array.isArray(identifiers)) throw new TypeError('identifiers are handed in as an array');
+  return [...identifiers];
+}
+
 class Tables {
   #at;
 
@@ -50,6 +65,12 @@ class Tables {
     const tables = new Tables();
     tables.#at = made(calls.share(this.#open()));
     return tables;
+  }
+
+  /** What serves a reader one of the identifiers that are available, an array of strings. It holds these tables too. */
+  negotiator(available) {
+    const list = listed(available);
+    return new Negotiator(made(calls.available(this.#open(), lineOf(list))), list);
   }
 
   /** Lets the tables go. A second call does nothing. */
@@ -105,4 +126,36 @@ class Tables {
   }
 }
 
-module.exports = { Tables, Refused };
+/** What is available, by `tables.negotiator`. */
+class Negotiator {
+  #at;
+  #available;
+
+  constructor(at, available) {
+    this.#at = at;
+    this.#available = Object.freeze(available);
+  }
+
+  /** The identifiers that are available, as they were handed in. */
+  get available() {
+    return this.#available;
+  }
+
+  /**
+   * The places of the first request that an available identifier means, and of the first such identifier, as
+   * `{ request, available }`; null where no request is met.
+   */
+  negotiate(requests) {
+    const told = calls.negotiate(this.#at, lineOf(listed(requests)));
+    if (told === NOT_MET) return null;
+    const [request, available] = made(told);
+    return { request, available };
+  }
+
+  /** Lets the list and the tables go. A second call does nothing. */
+  close() {
+    calls.close(this.#at);
+  }
+}
+
+module.exports = { Tables, Negotiator, Refused };
