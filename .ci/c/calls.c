@@ -192,10 +192,10 @@ static void lists(struct icu_locale *from) {
 
 // Five hundred identifiers, with a variant each: every one is found at its place.
 static void many(struct icu_locale *from) {
-    enum { COUNT = 500, SIZE = 8 };
+    enum { COUNT = 500, SIZE = 8, ROOM = 16 };
     struct icu_locale negotiator = {0};
-    char list[COUNT * SIZE + 1], request[SIZE + 1];
-    for (int place = 0; place < COUNT; place++) snprintf(list + place * SIZE, SIZE + 1, "en-%d ", 1000 + place);
+    char list[COUNT * SIZE + ROOM], request[ROOM];
+    for (int place = 0; place < COUNT; place++) snprintf(list + place * SIZE, ROOM, "en-%d ", 1000 + place);
     list[COUNT * SIZE - 1] = 0;
     want(list_of(from, list, &negotiator) == ICU_LOCALE_DONE, "a long list");
     for (int place = 0; place < COUNT; place++) {
