@@ -421,7 +421,7 @@ class Tables(_Held):
             number = _settled(self._at)
         if number > 1:
             _refuse(number)
-        return number == 1
+        return bool(number == 1)
 
 
 class Negotiator(_Held):
