@@ -1,9 +1,14 @@
-"""A language switcher: what is served to a reader, and what its menu says, by processes that are kept running."""
+"""A language switcher: what is served to a reader, by a negotiator in process, and what its menu says, by processes that
+are kept running."""
 from __future__ import annotations
 
 import subprocess
+import sys
 import threading
 from dataclasses import dataclass, field
+from pathlib import Path
+
+PACKAGE = Path(__file__).resolve().parents[2] / "bindings" / "python"
 
 
 @dataclass
@@ -71,11 +76,11 @@ class Switcher:
         self.maximal = Stream([program, "maximize", "json"], settled)
         self.direction = Stream([program, "direction", "json"], names)
         self.available = [self.canonical_form(tag) or tag for tag in available]
-        self.negotiated = Stream([program, "negotiate", "json"], settled + " ".join(self.available) + "\n")
+        self.negotiator = negotiator(settled, self.available)
         self.named = {tag: Stream([program, "name", "light", tag, "json"], names) for tag in self.available}
 
     def streams(self) -> list[Stream]:
-        return [self.canonical, self.maximal, self.direction, self.negotiated, *self.named.values()]
+        return [self.canonical, self.maximal, self.direction, *self.named.values()]
 
     def canonical_form(self, tag: str) -> str | None:
         """The canonical form; None where the tag is no identifier or the rules come to no end."""
@@ -100,9 +105,9 @@ class Switcher:
             canonical = self.canonical_form(tag)
             if canonical is None:
                 continue
-            answer = self.negotiated.ask(" ".join(self.forms(canonical)))
-            if len(answer) == 2:
-                return answer[1]
+            match = self.negotiator.negotiate(self.forms(canonical))
+            if match:
+                return self.available[match.available]
         return self.available[0]
 
     def menu(self, locale: str) -> list[dict[str, object]]:
@@ -120,8 +125,17 @@ class Switcher:
         return {"locale": locale, "direction": "ltr" if direction == "none" else direction, "menu": self.menu(locale)}
 
     def end(self) -> None:
+        self.negotiator.close()
         for stream in self.streams():
             stream.end()
+
+
+def negotiator(settled: str, available: list[str]):
+    """A negotiator over JSON tables. The library is loaded here: an OSError says that it is not there."""
+    sys.path.insert(0, str(PACKAGE))
+    from icu_locale import Tables
+    with Tables.from_json(settled) as tables:
+        return tables.negotiator(available)
 
 
 def is_variant(subtag: str) -> bool:
