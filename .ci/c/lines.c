@@ -30,12 +30,13 @@ static int settled(void) {
     return 0;
 }
 
+// Case and separators aside.
 static int is_same_text(const char *one, const char *other) {
     for (; *one && tolower(*one == '_' ? '-' : *one) == tolower(*other); one++) other++;
     return !*one && !*other;
 }
 
-// Whether the places of a negotiation tell what the text of the answer tells.
+// Whether the places of a negotiation tell what the text of the answer tells, over a list whose variants are in order.
 static int are_places(const char *list, int32_t number, const char *text) {
     size_t request, available;
     int32_t told = icu_locale_negotiate(&negotiator, (const uint8_t *)line, length, &request, &available);
