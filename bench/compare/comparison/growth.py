@@ -7,8 +7,9 @@ LINES = [1_000, 10_000, 100_000]
 ROWS = [100, 1_000, 8_000]
 COMMANDS = ["maximize", "minimize", "canonicalize", "name"]
 MEGABYTE = 1_000_000
-# Short runs are timed more often.
+# Short runs are timed more often, and runs of fewer lines not at all: what they take beside their lines is more.
 SHORT_TURNS = 10
+TIMED = 10_000
 
 
 def costs(program, work, command, rows, count):
@@ -16,8 +17,10 @@ def costs(program, work, command, rows, count):
     tables = made_tables(work / "made.json", rows)
     both = joined(work / "made", tables, made_lines(work / "made-lines", rows, count))
     runs = [(program, command, path) for path in (both, tables)]
-    counted = difference(instructions(runs), count) if has_valgrind() else None
-    return f"{shown(counted)} | {shown(difference(nanoseconds(runs, turns=SHORT_TURNS), count))}"
+    counted = shown(difference(instructions(runs), count) if has_valgrind() else None)
+    if count < TIMED:
+        return counted
+    return f"{counted} | {shown(difference(nanoseconds(runs, turns=SHORT_TURNS), count))}"
 
 
 def difference(measured, count):
@@ -27,8 +30,9 @@ def difference(measured, count):
 
 def table(program, work, counts, what, sizes):
     """A table by command; sizes gives the rows and the lines of each column."""
-    yield "| command |" + "".join(f" {count:,} {what} | ns |" for count in counts)
-    yield "|---|" + "---|---|" * len(counts)
+    is_timed = [sizes(count)[1] >= TIMED for count in counts]
+    yield "| command |" + "".join(f" {count:,} {what} |" + " ns |" * timed for count, timed in zip(counts, is_timed))
+    yield "|---|" + "".join("---|" + "---|" * timed for timed in is_timed)
     for command in COMMANDS:
         cells = (costs(program, work, command, *sizes(count)) for count in counts)
         yield f"| `{command}` | " + " | ".join(cells) + " |"
