@@ -16,7 +16,7 @@ use Rattle.icu_locale.specs.declared.canonicalizer.CanonicalizeError.{Canonicali
 use Rattle.icu_locale.specs.declared.expander.TransformResult.TheVariants.{Unmodified}
 use Rattle.icu_locale.specs.declared.canonicalizer.rules.Rules.{Rules}
 use Rattle.icu_locale.proofs.Canonicals.{memory_from_end, none_first}
-use Rattle.icu_locale.proofs.Keywords.{canonical_at_rg, canonical_at_sd}
+use Rattle.icu_locale.proofs.Values.{canonical_at_rg, canonical_at_sd}
 use Rattle.icu_locale.proofs.Runs.{end_is_unique}
 use Rattle.icu_locale.proofs.LaterEnds.{none_stands_behind, none_behind_any, alone, stands_alone, in_place, kept, no_later_end, later_end_none, same_where_none, none_behind, EndsIfAny-later_end, EndsIfAny-becomes}
 

@@ -1,10 +1,9 @@
 -- Minimal forms as the least of their classes: they exist, are one, and tell maximal forms apart.
-use Rattle.std.proofs.Common.{◌≡◌, ◌≢◌, ◌⊎◌, ◌↔◌, refl, ap, subst, sym, ◌∙◌, inl, inr, ⊎_elim, arith}
+use Rattle.std.proofs.Common.{◌≡◌, ◌⊎◌, ◌↔◌, refl, ap, sym, ◌∙◌, inl, inr, arith}
 use Rattle.icu_locale_core.specs.declared.langid.LanguageIdentifier.{LanguageIdentifier}
-use Rattle.icu_locale.specs.LikelySubtags.{LikelySubtags, IsBare, IsModified, subtags_of, with_locale, maximal_locale, maximal, HaveSameMaximalParts}
+use Rattle.icu_locale.specs.LikelySubtags.{LikelySubtags, subtags_of, with_locale, maximal_locale, maximal, HaveSameMaximalParts, IsSettled}
 use Rattle.icu_locale.specs.declared.expander.Favor.{Favor}
 use Rattle.icu_locale.specs.Minimal.{Precedes, IsInClass, IsLeast, IsMinimalForm}
-use Rattle.icu_locale.specs.Settled.{IsSettled}
 use Rattle.icu_locale.specs.inner.Trials.{first_trial, trials}
 use Rattle.icu_locale.proofs.Least.{IsMinimalForm-first_trial}
 
@@ -73,13 +72,6 @@ minimal_of_maximal favor likely x y settled = (same_minimal_form favor likely (m
 -- a minimal form is its own minimal form
 pub minimal_of_minimal : (favor : Favor) (likely : LikelySubtags) (x y : LanguageIdentifier) → IsSettled likely (maximal likely x) → IsMinimalForm favor likely x y → IsMinimalForm favor likely y y
 minimal_of_minimal favor likely x y settled is = same_minimal_form favor likely x y y (sym (maximal_of_minimal favor likely x y settled is)) is
-
--- something is removed or filled in exactly where the identifier changes
-pub IsModified-settled : (likely : LikelySubtags) (x : LanguageIdentifier) → IsSettled likely (maximal likely x) → IsModified likely x ↔ (maximal likely x ≢ x)
-IsModified-settled likely x settled = (⊎_elim (λ removed same. removed (bare_along same settled)) (λ filled. filled), inr)
-  where
-    bare_along : maximal likely x ≡ x → IsSettled likely (maximal likely x) → IsBare x
-    bare_along same is = subst IsBare same is.bare
 
 -- a minimal form has the variants of the maximal form
 pub minimal_keeps_variants : (favor : Favor) (likely : LikelySubtags) (x y : LanguageIdentifier) → IsMinimalForm favor likely x y → y.variants ≡ x.variants

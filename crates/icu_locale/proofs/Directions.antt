@@ -8,7 +8,7 @@ use Rattle.std.specs.Ordering.{is_eq}
 use Rattle.icu_locale_core.specs.Maps.{value_at}
 use Rattle.icu_locale_core.specs.TextSet.{text_cmp}
 use Rattle.icu_locale_core.specs.laws.TextSets.{same_from_tied, text_total}
-use Rattle.icu_provider.specs.ScriptDirection.{is_listed}
+use Rattle.icu_provider.specs.SortedMaps.{is_listed}
 use Rattle.icu_provider.specs.declared.direction.ScriptDirection.{ScriptDirection}
 use Rattle.icu_locale.specs.Direction.{is_script_in, direction_of, AreDisjoint}
 use Rattle.icu_locale.specs.declared.directionality.Direction.TheVariants.{LeftToRight, RightToLeft}

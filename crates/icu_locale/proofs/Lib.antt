@@ -1,30 +1,24 @@
-mod Classes
-mod Directions
-mod Least
-mod Locales
-mod Maximal
-mod Modified
-mod Rows
-mod Settling
-mod TableLaws
-mod TableRows
 pub mod CanonicalAgain
 pub mod Canonicals
+mod Classes
 pub mod Counts
-pub mod Keywords
+mod Directions
 pub mod LaterEnds
-pub mod Lists
+mod Least
+mod Lists
+pub mod Maximal
 pub mod Negotiating
-pub mod Options
 pub mod Parts
 pub mod Readings
-pub mod Replacing
+mod Rows
 pub mod RunPlaces
 pub mod Runs
+mod Settling
 pub mod SortedRows
 pub mod Subsets
+mod TableLaws
+mod TableRows
 pub mod Universes
 pub mod Values
-pub mod VariantImages
 pub mod Walks
 pub mod WithoutVariants

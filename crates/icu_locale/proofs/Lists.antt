@@ -1,8 +1,17 @@
--- What lists contain, one element or one list at a time.
-use Rattle.std.proofs.Common.{◌≡◌, zero, suc, List, [], ◌∷◌, map, ◌⊎◌, inl, inr, Some, Bool, true, false, cond, refl, sym, subst, arith}
+-- What lists and options contain, one element or one list at a time.
+use Rattle.std.proofs.Common.{◌≡◌, ◌⊎◌, inl, inr, Option, Some, None, refl, zero, suc, List, [], ◌∷◌, map, Bool, true, false, cond, sym, subst, arith}
+use Rattle.std.specs.Option.{option_or, option_map}
+use Rattle.std.proofs.lemmas.Option.{none-some, same_Some}
 use Rattle.std.specs.List.{Contains, flat_map, find}
 use Rattle.std.proofs.lemmas.List.Elements.{Contains-append_left, Contains-append_right, Contains-append_cases}
-use Rattle.std.proofs.lemmas.Option.{none-some, same_Some}
+
+pub some_map : {X Y : Type 0} (f : X → Y) (o : Option X) (z : Y) → option_map f o ≡ Some z → (b : X) × (o ≡ Some b) × (f b ≡ z)
+some_map f None z e = absurd (none-some z e)
+some_map f (Some b) z e = (b, refl, same_Some (f b) z e)
+
+pub some_or : {X : Type 0} (a b : Option X) (z : X) → option_or a b ≡ Some z → (a ≡ Some z) ⊎ (b ≡ Some z)
+some_or None b z e = inr e
+some_or (Some y) b z e = inl e
 
 pub Contains-here : {X : Type 0} (x : X) (xs : List X) → Contains (x ∷ xs) x
 Contains-here x xs = (0, omega arith, refl)

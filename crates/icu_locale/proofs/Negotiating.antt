@@ -12,10 +12,9 @@ use Rattle.icu_locale_core.specs.TextSet.{TextSet}
 use Rattle.icu_locale_core.specs.laws.TextSets.{contains-empty}
 use Rattle.icu_locale_core.specs.declared.langid.LanguageIdentifier.{LanguageIdentifier}
 use Rattle.icu_provider.specs.declared.data_locale.DataLocale.{DataLocale}
-use Rattle.icu_locale.specs.LikelySubtags.{LikelySubtags, subtags_of, maximal, HaveSameMaximalParts}
+use Rattle.icu_locale.specs.LikelySubtags.{LikelySubtags, subtags_of, maximal, HaveSameMaximalParts, IsSettled, AreSettled}
 use Rattle.icu_locale.specs.Minimal.{IsMinimalForm}
 use Rattle.icu_locale.specs.Negotiation.{IsMatch, IsFirstMatch}
-use Rattle.icu_locale.specs.Settled.{IsSettled, AreSettled}
 use Rattle.icu_locale.specs.declared.expander.Favor.{Favor}
 use Rattle.icu_locale.specs.declared.expander.Favor.TheVariants.{RegionFirst}
 use Rattle.icu_locale.specs.declared.negotiator.available.Row.{Row}

@@ -7,8 +7,8 @@ use Rattle.std.proofs.lemmas.Cmp.{tied_itself}
 use Rattle.icu_locale_core.specs.TextSet.{TextSet, empty, contains, from_list, rising, image}
 use Rattle.icu_locale_core.specs.declared.langid.LanguageIdentifier.{LanguageIdentifier}
 use Rattle.icu_locale_core.specs.laws.TextSets.{text_total, contains-rising, contains-from_list, contains-replaced, contains-empty, Contains-is_among, is_among-Contains}
-use Rattle.icu_locale.specs.Replacement.{is_known, part, replaced}
-use Rattle.icu_locale.specs.inner.Universe.{subsets, made_of, of_script, of_region, of_variant}
+use Rattle.icu_locale.specs.Rules.{is_known, part, replaced}
+use Rattle.icu_locale.specs.inner.Universe.{subsets, mixtures_of, of_script, of_region, of_variant}
 use Rattle.icu_locale.proofs.Lists.{Contains-here, Contains-there, Contains-cons_cases, Contains-map, Contains-from_map, Contains-flat_map, Contains-from_flat_map}
 use Rattle.icu_locale.proofs.Subsets.{subset_among, among_subset, contains-one}
 
@@ -60,8 +60,8 @@ module _ (ps : List LanguageIdentifier) where
   abbrev with_scripts : List ℕ → List LanguageIdentifier
   with_scripts l = flat_map (with_regions l) (None ∷ map (λ p. p.script) ps)
 
-  pub made_of-has : (z : LanguageIdentifier) → IsMadeOf ps z → Contains (made_of ps) z
-  unfolding made_of
+  pub made_of-has : (z : LanguageIdentifier) → IsMadeOf ps z → Contains (mixtures_of ps) z
+  unfolding mixtures_of
   made_of-has z made =
       let language : Contains (map (λ p. p.language) ps) z.language = subst (Contains (map (λ p. p.language) ps)) made.language.2 (Contains-map (λ p. p.language) ps made.language.0 made.language.1) in
       let sets : Contains (subsets all_variants) z.variants = subset_among all_variants z.variants (λ q here.
@@ -72,8 +72,8 @@ module _ (ps : List LanguageIdentifier) where
       (Contains-flat_map (with_regions z.language) (None ∷ map (λ p. p.script) ps) z.script z (optional_part (λ p. p.script) ps z.script made.script)
       (Contains-flat_map (with_sets z.language z.script) (None ∷ map (λ p. p.region) ps) z.region z (optional_part (λ p. p.region) ps z.region made.region) whole))
 
-  pub IsMadeOf-from : (z : LanguageIdentifier) → Contains (made_of ps) z → IsMadeOf ps z
-  unfolding made_of
+  pub IsMadeOf-from : (z : LanguageIdentifier) → Contains (mixtures_of ps) z → IsMadeOf ps z
+  unfolding mixtures_of
   IsMadeOf-from z here =
       let l = Contains-from_flat_map with_scripts (map (λ p. p.language) ps) z here in
       let s = Contains-from_flat_map (with_regions l.0) (None ∷ map (λ p. p.script) ps) z l.2 in

@@ -9,9 +9,8 @@ use Rattle.icu_locale.specs.declared.expander.Favor.{Favor}
 use Rattle.icu_locale.specs.declared.expander.Favor.TheVariants.{RegionFirst, ScriptFirst}
 use Rattle.icu_locale.specs.declared.expander.looks.LikelyKey.TheVariants.{LanguageRegion, LanguageScript, LanguageAlone}
 use Rattle.icu_locale.specs.LikelySubtags.{LikelySubtags, Triple, known_subtag, unknown_script, unknown_region, maximal_of_bare, maximal_locale}
-use Rattle.icu_locale.specs.inner.Filling.{locale_with}
-use Rattle.icu_locale.specs.inner.Trials.{same_locale, alone, with_favored, with_other, trials, first_trial, IsTried, gives, gives_script, gives_region}
-use Rattle.icu_locale.proofs.Locales.{same_locale-Decides, text_itself}
+use Rattle.icu_locale.specs.inner.Trials.{locale_with, same_locale, alone, with_favored, with_other, trials, first_trial, IsTried, gives, gives_script, gives_region}
+use Rattle.icu_locale.proofs.Maximal.{same_locale-Decides, text_itself}
 use Rattle.icu_locale.proofs.Settling.{fill_by, maximal-told}
 
 -- how the trials end over a maximal form
@@ -25,9 +24,6 @@ module _ (likely : LikelySubtags) (favor : Favor) (m : DataLocale) where
 
   abbrev answer : Bool → Bool → Bool → DataLocale
   answer a b c = if a then alone m else (if b then with_favored favor m else (if c then with_other favor m else m))
-
-  pub tried_first : leads (alone m) ≡ true → IsTried likely favor m (alone m)
-  tried_first a = sym (ap (λ x. answer x (leads (with_favored favor m)) (leads (with_other favor m))) a)
 
   pub tried_second : leads (alone m) ≡ false → leads (with_favored favor m) ≡ true → IsTried likely favor m (with_favored favor m)
   tried_second a b = sym (λ i. answer (a i) (b i) (leads (with_other favor m)))

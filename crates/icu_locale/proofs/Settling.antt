@@ -11,12 +11,10 @@ use Rattle.icu_locale_core.specs.declared.langid.LanguageIdentifier.{LanguageIde
 use Rattle.icu_provider.specs.declared.data_locale.DataLocale.{DataLocale}
 use Rattle.icu_locale.specs.declared.expander.looks.LikelyKey.{LikelyKey}
 use Rattle.icu_locale.specs.declared.expander.looks.LikelyKey.TheVariants.{LanguageRegion, LanguageScript, LanguageAlone, ScriptAlone, RegionAlone}
-use Rattle.icu_locale.specs.LikelySubtags.{LikelySubtags, Triple, known_subtag, unknown_script, unknown_region, bare_locale, known_keys, und_keys, first_found, maximal_of_bare, maximal_locale, subtags_of, with_locale}
-use Rattle.icu_locale.specs.Settled.{AreSettled}
+use Rattle.icu_locale.specs.LikelySubtags.{LikelySubtags, Triple, known_subtag, unknown_script, unknown_region, bare_locale, known_keys, und_keys, first_found, maximal_of_bare, maximal_locale, subtags_of, with_locale, AreSettled}
 use Rattle.icu_locale.specs.inner.SettledRows.{key_locale, IsLocale, is_settled_locale, settles, HasUnsettled}
 use Rattle.icu_locale.specs.inner.Trials.{same_locale}
-use Rattle.icu_locale.proofs.Locales.{same_locale-Decides, same_text}
-use Rattle.icu_locale.proofs.Maximal.{known_subtag-again}
+use Rattle.icu_locale.proofs.Maximal.{same_locale-Decides, same_text, known_subtag-again}
 
 -- a locale that is bare and its own maximal form
 record Stays (likely : LikelySubtags) (y : DataLocale) : Type 0 where

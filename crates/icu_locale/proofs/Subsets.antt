@@ -1,16 +1,34 @@
--- The sets of texts of a list are exactly those whose members the list has.
-use Rattle.std.proofs.Common.{◌≡◌, ℕ, Bool, true, false, not, ◌&&◌, ◌||◌, List, [], ◌∷◌, map, inl, inr, refl, ap, sym, ◌∙◌, subst}
-use Rattle.std.proofs.Math.Bool.{or-false}
-use Rattle.std.specs.List.{Contains}
-use Rattle.std.specs.Ordering.{eq_by_cmp, is_eq}
-use Rattle.std.specs.FinMap as fin
+-- The sets of texts of a list are exactly those whose members the list has, and images of sets.
+use Rattle.std.proofs.Common.{◌≡◌, ℕ, true, ◌||◌, List, [], ◌∷◌, map, length, refl, ap, sym, ◌∙◌, arith, Bool, false, not, ◌&&◌, inl, inr, subst}
+use Rattle.std.specs.Ordering.{is_eq, eq_by_cmp}
 use Rattle.std.proofs.lemmas.Bool.{false≢true, cases_Bool, or_cases, false_from_ne_true}
 use Rattle.std.proofs.lemmas.Cmp.{tied_itself}
+use Rattle.std.proofs.Math.Bool.{or-false}
+use Rattle.std.specs.List.{Contains}
 use Rattle.std.proofs.lemmas.List.Elements.{Contains-append_left, Contains-append_right, Contains-append_cases}
-use Rattle.icu_locale_core.specs.TextSet.{TextSet, text_cmp, empty, contains, from_list, difference}
-use Rattle.icu_locale_core.specs.laws.TextSets.{text_total, same_set, same_from_tied, contains-insert, contains-difference, contains-empty}
+use Rattle.icu_locale_core.specs.TextSet.{TextSet, empty, contains, from_list, rising, image, text_cmp, difference}
+use Rattle.icu_locale_core.specs.laws.TextSets.{text_total, is_among, contains-from_list, from_list-rising, contains-empty, length-rising_empty, same_set, same_from_tied, contains-insert, contains-difference}
 use Rattle.icu_locale.specs.inner.Universe.{subsets}
 use Rattle.icu_locale.proofs.Lists.{Contains-here, Contains-there, Contains-cons_cases, Contains-nil, Contains-map, Contains-from_map}
+use Rattle.std.specs.FinMap as fin
+
+among_first : (t : List ℕ) (ts : List (List ℕ)) → is_among t (t ∷ ts) ≡ true
+among_first t ts = ap (λ b. b || is_among t ts) (ap is_eq (tied_itself text_total t))
+
+pub image-empty : (f : List ℕ → List ℕ) → image f empty ≡ empty
+image-empty f = by (rising empty) length-rising_empty
+  where
+    by : (ts : List (List ℕ)) → length ts ≡ 0 → from_list (map f ts) ≡ empty
+    by [] none = refl
+    by (t ∷ ts) none = absurd (omega arith)
+
+pub empty_from_image : (f : List ℕ → List ℕ) (s : TextSet) → image f s ≡ empty → s ≡ empty
+empty_from_image f s none = sym (from_list-rising s) ∙ by (rising s) none
+  where
+    by : (ts : List (List ℕ)) → from_list (map f ts) ≡ empty → from_list ts ≡ empty
+    by [] none = refl
+    by (t ∷ ts) none =
+        absurd (false≢true (sym (contains-empty (f t)) ∙ ap (λ set. contains set (f t)) (sym none) ∙ contains-from_list (f t ∷ map f ts) (f t) ∙ among_first (f t) (map f ts)))
 
 pub contains-one : (t q : List ℕ) → contains (from_list (t ∷ [])) q ≡ eq_by_cmp text_cmp q t
 contains-one t q = contains-insert empty t q ∙ ap (λ b. eq_by_cmp text_cmp q t || b) (contains-empty q) ∙ or-false (eq_by_cmp text_cmp q t)

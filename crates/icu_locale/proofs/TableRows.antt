@@ -17,16 +17,14 @@ use Rattle.icu_provider.specs.SortedMaps.{pair_cmp}
 use Rattle.icu_provider.specs.declared.likely.extended.LikelySubtagsExtended.{LikelySubtagsExtended}
 use Rattle.icu_locale.specs.declared.expander.looks.LikelyKey.{LikelyKey}
 use Rattle.icu_locale.specs.declared.expander.looks.LikelyKey.TheVariants.{LanguageRegion, LanguageScript, LanguageAlone, ScriptRegion, ScriptAlone, RegionAlone}
-use Rattle.icu_locale.specs.LikelySubtags.{LikelySubtags, Triple}
+use Rattle.icu_locale.specs.LikelySubtags.{LikelySubtags, Triple, AreSettled}
 use Rattle.icu_locale.specs.LikelyTable.{LikelyRows, common_rows, extended_rows, row_at, common_row, extension_row, und_row, likely}
 use Rattle.icu_locale.specs.TableKeys.{keys_by}
-use Rattle.icu_locale.specs.Settled.{AreSettled}
 use Rattle.icu_locale.specs.inner.SettledRows.{settles, AllSettle, RowsSettle, UndRowsSettle, AllRowsSettle, HasUnsettled}
 use Rattle.icu_locale.specs.declared.expander.LocaleExpander.{LocaleExpander}
 use Rattle.icu_locale_core.specs.laws.TextSets.{text_same}
-use Rattle.icu_locale.proofs.Lists.{Contains-map}
-use Rattle.icu_locale.proofs.Options.{some_map, some_or}
-use Rattle.icu_locale.proofs.Locales.{same_text}
+use Rattle.icu_locale.proofs.Lists.{Contains-map, some_map, some_or}
+use Rattle.icu_locale.proofs.Maximal.{same_text}
 use Rattle.icu_locale.proofs.Settling.{AreSettled-from_rows}
 
 both_tie : (a b : Ordering) → ordering_then a b ≡ Equal → (a ≡ Equal) × (b ≡ Equal)

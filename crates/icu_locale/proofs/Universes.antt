@@ -13,15 +13,14 @@ use Rattle.icu_locale_core.specs.declared.langid.LanguageIdentifier.{LanguageIde
 use Rattle.icu_locale_core.specs.laws.TextSets.{same_from_tied}
 use Rattle.icu_locale_core.specs.Maps.{value_at}
 use Rattle.icu_locale.specs.LikelySubtags.{LikelySubtags}
-use Rattle.icu_locale.specs.Replacement.{is_known, matches, replaced, of_language}
+use Rattle.icu_locale.specs.Rules.{is_known, matches, replaced, of_language}
 use Rattle.icu_locale.specs.Kinds.{rules_for, by_rule, sign_language, by_sign_region, language_alias, by_language_alias, by_script, region_alias, by_region, chosen, likely_region, complex_region, by_complex_region, variant_alias, by_variant, next, next_of}
 use Rattle.icu_locale.specs.inner.Walk.{IsUniverse}
 use Rattle.icu_locale.specs.inner.Universe.{parts_by_kind, parts, universe, of_script, of_region, of_variant}
 use Rattle.icu_locale.specs.declared.canonicalizer.rules.Rule.{Rule}
 use Rattle.icu_locale.specs.declared.canonicalizer.rules.Rules.{Rules}
 use Rattle.std.proofs.lemmas.Slice.Eq.{bytes_eq-Decides}
-use Rattle.icu_locale.proofs.Options.{some_map, some_or}
-use Rattle.icu_locale.proofs.Lists.{Contains-here, Contains-there, Contains-map, Contains-flat_map, Contains-find}
+use Rattle.icu_locale.proofs.Lists.{some_map, some_or, Contains-here, Contains-there, Contains-map, Contains-flat_map, Contains-find}
 use Rattle.icu_locale.proofs.Parts.{IsMadeOf, IsMadeOf-itself, made_of-has, IsMadeOf-from, IsMadeOf-replaced, IsMadeOf-bare, IsMadeOf-script, IsMadeOf-region, IsMadeOf-image}
 
 pub has_row : {V : Type 0} (rows : List (List ℕ × V)) (k : List ℕ) (v : V) → value_at text_cmp rows k ≡ Some v → Contains rows (k, v)

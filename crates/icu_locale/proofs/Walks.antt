@@ -161,12 +161,6 @@ module _ {X : Type 0} (next : X → Option X) (start : X) where
           | inr (i, below, closes) ↦ omega (arith, walk.counted, least_place i n below closes)
         ]
 
-    pub near_stands : StandsIn next start near
-    near_stands = (walk.place, walk.behind)
-
-    pub far_stands : StandsIn next start far
-    far_stands = (walk.place + walk.met.place, walk.ahead)
-
     -- both walkers always find a state to go to
     pub near_goes : IsSome (next near)
     near_goes =

@@ -1,24 +1,56 @@
--- Identifiers without variants stay so, where no replacement adds variants.
-use Rattle.std.proofs.Common.{◌≡◌, ◌==◌, ◌&&◌, ◌||◌, not, ℕ, zero, suc, Bool, true, false, cond, List, length, Option, Some, None, IfSome, is_some, option_and_then, unwrap_or, inl, inr, codes, refl, ap, sym, ◌∙◌}
+-- Identifiers without variants stay so, and replacements that touch the subtags but the variants alone.
+use Rattle.std.proofs.Common.{◌≡◌, ℕ, Bool, true, false, not, ◌&&◌, ◌||◌, cond, List, Option, Some, None, codes, refl, ◌∙◌, ◌==◌, zero, suc, length, IfSome, is_some, option_and_then, unwrap_or, inl, inr, ap, sym}
+use Rattle.std.proofs.Math.Bool.{or-false}
+use Rattle.std.specs.Option.{option_or, option_map}
+use Rattle.std.proofs.lemmas.Option.{none-some, same_Some, option_and_then_some}
 use Rattle.std.specs.List.{All, find, list_any}
-use Rattle.std.specs.Option.{option_map, option_or}
 use Rattle.std.proofs.lemmas.Bool.{false≢true}
 use Rattle.std.proofs.lemmas.List.Elements.{All-contains}
-use Rattle.std.proofs.lemmas.Option.{none-some, same_Some, option_and_then_some}
-use Rattle.icu_locale_core.specs.TextSet.{TextSet, text_cmp, empty, contains, rising, len, union, difference, image}
+use Rattle.icu_locale_core.specs.TextSet.{TextSet, empty, contains, union, difference, text_cmp, rising, len, image}
 use Rattle.icu_locale_core.specs.declared.langid.LanguageIdentifier.{LanguageIdentifier}
-use Rattle.icu_locale_core.specs.laws.TextSets.{same_set, contains-empty, contains-replaced, length-rising_empty}
+use Rattle.icu_locale_core.specs.laws.TextSets.{same_set, contains-replaced, contains-empty, length-rising_empty}
+use Rattle.icu_locale.specs.Rules.{is_known, part, replaced, of_language, matches}
 use Rattle.icu_locale_core.specs.Maps.{value_at}
 use Rattle.icu_locale.specs.LikelySubtags.{LikelySubtags}
-use Rattle.icu_locale.specs.Replacement.{matches, replaced, of_language}
 use Rattle.icu_locale.specs.Kinds.{by_rule, sign_language, by_sign_region, language_alias, by_language_alias, by_script, region_alias, by_region, complex_region, by_complex_region, variant_alias, by_variant, next}
 use Rattle.icu_locale.specs.Run.{at}
 use Rattle.icu_locale.specs.Cost.{AddsNoVariants}
 use Rattle.icu_locale.specs.declared.canonicalizer.rules.Rule.{Rule}
 use Rattle.icu_locale.specs.declared.canonicalizer.rules.Rules.{Rules}
-use Rattle.icu_locale.proofs.Lists.{Contains-find}
-use Rattle.icu_locale.proofs.VariantImages.{image-empty}
-use Rattle.icu_locale.proofs.Options.{some_map, some_or}
+use Rattle.icu_locale.proofs.Lists.{Contains-find, some_map, some_or}
+use Rattle.icu_locale.proofs.Subsets.{image-empty}
+
+-- a set without none and with none is that set
+pub kept : (s : TextSet) → union (difference s empty) empty ≡ s
+kept s = same_set (union (difference s empty) empty) s (λ q.
+    contains-replaced s empty empty q ∙ (λ i. (not (contains-empty q i) && contains s q) || contains-empty q i) ∙ or-false (contains s q))
+
+pub part-or : {T : Type 0} (source replacement : Option T) → part source None replacement ≡ option_or source replacement
+part-or (Some u) replacement = refl
+part-or None replacement = refl
+
+pub part-itself : {T : Type 0} (source : Option T) → part source source None ≡ None
+part-itself (Some u) = refl
+part-itself None = refl
+
+pub replaced-sign : (x : LanguageIdentifier) (l : List ℕ) → replaced x (record { language = codes "sgn"; script = None; region = x.region; variants = empty }) (of_language l) ≡ record { language = l; script = x.script; region = None; variants = x.variants }
+replaced-sign x l = λ i. record { language = l; script = or_none x.script i; region = part-itself x.region i; variants = kept x.variants i }
+  where
+    or_none : (s : Option (List ℕ)) → part s None None ≡ s
+    or_none (Some u) = refl
+    or_none None = refl
+
+pub replaced-alias : (x b : LanguageIdentifier) → is_known x.language ≡ true → replaced x (of_language x.language) (record b { variants = empty }) ≡ record { language = b.language; script = option_or x.script b.script; region = option_or x.region b.region; variants = x.variants }
+replaced-alias x b known = λ i. record {
+  language = cond (known i || (not (is_known x.language) && is_known b.language)) b.language x.language;
+  script = part-or x.script b.script i;
+  region = part-or x.region b.region i;
+  variants = kept x.variants i;
+}
+
+pub guarded : {T : Type 0} (test : Bool) (o : Option T) (x : T) → cond test o None ≡ Some x → test ≡ true
+guarded true o x e = refl
+guarded false o x e = absurd (none-some x e)
 
 pub IfSome-from : {X : Type 0} (o : Option X) (P : X → Type 0) → ((z : X) → o ≡ Some z → P z) → IfSome o P
 IfSome-from None P h = tt

@@ -1,6 +1,6 @@
 -- Which way the likely script of an identifier runs.
 use Rattle.std.specs.Prelude.{ℕ, Bool, false, true, List, Option, Some, None, if◌then◌else◌, ◌≡◌}
-use Rattle.icu_provider.specs.ScriptDirection.{is_listed}
+use Rattle.icu_provider.specs.SortedMaps.{is_listed}
 use Rattle.icu_provider.specs.declared.direction.ScriptDirection.{ScriptDirection}
 use Rattle.icu_locale.specs.declared.directionality.Direction.{Direction}
 use Rattle.icu_locale.specs.declared.directionality.Direction.TheVariants.{LeftToRight, RightToLeft}

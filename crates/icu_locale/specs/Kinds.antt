@@ -8,7 +8,7 @@ use Rattle.icu_locale_core.specs.TextSet.{text_cmp, empty, rising, len, image}
 use Rattle.icu_locale_core.specs.declared.langid.LanguageIdentifier.{LanguageIdentifier}
 use Rattle.icu_locale_core.specs.Maps.{value_at}
 use Rattle.icu_locale.specs.LikelySubtags.{LikelySubtags, maximal}
-use Rattle.icu_locale.specs.Replacement.{is_known, matches, replaced, of_language}
+use Rattle.icu_locale.specs.Rules.{is_known, matches, replaced, of_language}
 use Rattle.icu_locale.specs.declared.canonicalizer.rules.Rule.{Rule}
 use Rattle.icu_locale.specs.declared.canonicalizer.rules.Rules.{Rules}
 

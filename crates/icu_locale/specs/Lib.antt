@@ -1,4 +1,3 @@
-pub mod Available
 pub mod Canonical
 pub mod Canonicalization
 pub mod Construction
@@ -10,9 +9,7 @@ pub mod LikelyTable
 pub mod Minimal
 pub mod Negotiation
 pub mod Refusals
-pub mod Replacement
 pub mod Rules
 pub mod Run
-pub mod Settled
 pub mod TableKeys
 pub mod inner

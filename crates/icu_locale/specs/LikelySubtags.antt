@@ -6,14 +6,8 @@ use Rattle.icu_locale_core.specs.Subtag.{und}
 use Rattle.icu_locale_core.specs.declared.langid.LanguageIdentifier.{LanguageIdentifier}
 use Rattle.icu_provider.specs.declared.data_locale.DataLocale.{DataLocale}
 use Rattle.icu_locale.specs.declared.expander.looks.LikelyKey.{LikelyKey}
-use Rattle.icu_locale.specs.declared.expander.looks.LikelyKey.TheVariants.{
-  LanguageRegion,
-  LanguageScript,
-  LanguageAlone,
-  ScriptRegion,
-  ScriptAlone,
-  RegionAlone,
-}
+use Rattle.icu_locale.specs.declared.expander.looks.LikelyKey.TheVariants.{LanguageRegion, LanguageScript, LanguageAlone, ScriptRegion, ScriptAlone, RegionAlone}
+use Rattle.icu_locale_core.specs.Identifier.{IsIdentifier}
 
 -- a language, a script and a region
 abbrev pub Triple : Type 0
@@ -115,3 +109,12 @@ IsModified likely x = (IsBare x → ⊥) ⊎ (maximal likely x ≢ x)
 pub record HaveSameMaximalParts (likely : LikelySubtags) (x y : LanguageIdentifier) : Type 0 where
   pub locale : maximal_locale likely (subtags_of x) ≡ maximal_locale likely (subtags_of y)
   pub variants : x.variants ≡ y.variants
+
+-- y is bare and is its own maximal form
+pub record IsSettled (likely : LikelySubtags) (y : LanguageIdentifier) : Type 0 where
+  pub bare : IsBare y
+  pub fixed : maximal likely y ≡ y
+
+-- a table is settled where the maximal form of every identifier is
+abbrev pub AreSettled : LikelySubtags → Type 0
+AreSettled likely = (x : LanguageIdentifier) → IsIdentifier x → IsSettled likely (maximal likely x)

@@ -3,10 +3,12 @@
 use Rattle.std.specs.Prelude.{◌≡◌, ◌⊎◌, ℕ, ◌<◌, ◌≤◌, List, codes, Option, Some, None}
 use Rattle.std.specs.List.{slice_get}
 use Rattle.icu_locale_core.specs.declared.langid.LanguageIdentifier.{LanguageIdentifier}
-use Rattle.icu_locale.specs.LikelySubtags.{LikelySubtags, maximal}
+use Rattle.icu_locale.specs.LikelySubtags.{LikelySubtags, maximal, AreSettled}
 use Rattle.icu_locale.specs.declared.expander.LocaleExpander.{LocaleExpander}
 use Rattle.icu_locale.specs.declared.negotiator.NegotiatorError.{NegotiatorError}
 use Rattle.icu_locale.specs.declared.negotiator.NegotiatorError.TheVariants.{Memory, NotSettled}
+use Rattle.icu_locale.specs.inner.Index.{IsIndex}
+use Rattle.icu_locale.specs.declared.negotiator.available.Available.{Available}
 
 -- what a negotiator is: an expander, and the available identifiers as they were handed in
 pub record Negotiation : Type 0 where
@@ -40,3 +42,12 @@ IsNegotiated likely requests available (Some p) = IsFirstMatch likely requests a
 abbrev pub refusal_name : NegotiatorError → List ℕ
 refusal_name Memory = codes "Memory"
 refusal_name NotSettled = codes "NotSettled"
+
+-- the available identifiers, as they were handed in
+abbrev pub identifiers_of : Available → List LanguageIdentifier
+identifiers_of a = a.identifiers.items
+
+-- a list was made over a settled likely table: its rows are the index of its identifiers
+pub record IsMadeOver (likely : LikelySubtags) (a : Available) : Type 0 where
+  pub settled : AreSettled likely
+  pub index : IsIndex likely a.identifiers.items a.rows.items

@@ -74,7 +74,7 @@ IsOutOfMemory (Ok x) = ⊥
 IsOutOfMemory (Err e) = IsMemory e
 
 -- what Display writes of a refusal
-abbrev pub error_name : CanonicalizeError → List ℕ
-error_name Memory = codes "Memory"
-error_name (NoFixedPoint z) = codes "NoFixedPoint"
-error_name (NoSubdivisionFixedPoint v) = codes "NoSubdivisionFixedPoint"
+abbrev pub canonicalize_error_name : CanonicalizeError → List ℕ
+canonicalize_error_name Memory = codes "Memory"
+canonicalize_error_name (NoFixedPoint z) = codes "NoFixedPoint"
+canonicalize_error_name (NoSubdivisionFixedPoint v) = codes "NoSubdivisionFixedPoint"

@@ -1,11 +1,11 @@
 -- The rules that can be read of a table of aliases (UTS #35 Part 1, Annex C "LocaleId Canonicalization").
 use Rattle.std.specs.Str.{bytes_eq}
-use Rattle.std.specs.Prelude.{◌≡◌, ◌==◌, ◌⊎◌, ℕ, Bool, true, ◌&&◌, List, [], ◌∷◌, None, String}
+use Rattle.std.specs.Prelude.{◌≡◌, ◌==◌, ◌⊎◌, ℕ, Bool, true, ◌&&◌, List, [], ◌∷◌, None, String, false, not, ◌||◌, Option, Some, if◌then◌else◌}
 use Rattle.std.specs.List.{list_all, slice_split}
 use Rattle.std.specs.Global.{Global}
 use Rattle.std.specs.String.{string_bytes}
-use Rattle.icu_locale_core.specs.Subtag.{is_variant, lowercase}
-use Rattle.icu_locale_core.specs.TextSet.{from_list}
+use Rattle.icu_locale_core.specs.Subtag.{is_variant, lowercase, und}
+use Rattle.icu_locale_core.specs.TextSet.{from_list, empty, is_subset, union, difference}
 use Rattle.icu_locale_core.specs.Identifier.{IsIdentifier, Spells}
 use Rattle.icu_locale_core.specs.Value.{is_value, read_value}
 use Rattle.icu_locale_core.specs.declared.langid.LanguageIdentifier.{LanguageIdentifier}
@@ -16,14 +16,14 @@ use Rattle.icu_locale.specs.declared.canonicalizer.rules.Rule.{Rule}
 use Rattle.icu_locale.specs.declared.canonicalizer.rules.Rules.{Rules}
 
 -- the text spells the identifier
-pub record ReadsIdentifier (text : List ℕ) (x : LanguageIdentifier) : Type 0 where
+pub record ReadsAs (text : List ℕ) (x : LanguageIdentifier) : Type 0 where
   pub known : IsIdentifier x
   pub spelled : Spells text x
 
 -- a row of the list `language`: both texts are read
 pub record ReadsRule (row : StrStrPair) (rule : Rule) : Type 0 where
-  pub source : ReadsIdentifier (string_bytes row.0) rule.source
-  pub replacement : ReadsIdentifier (string_bytes row.1) rule.replacement
+  pub source : ReadsAs (string_bytes row.0) rule.source
+  pub replacement : ReadsAs (string_bytes row.1) rule.replacement
 
 -- a variant in lower case
 abbrev pub is_lower_variant : List ℕ → Bool
@@ -46,13 +46,13 @@ pub record ReadsVariantRule (row : LanguageStrStrPair) (rule : Rule) : Type 0 wh
     region = None;
     variants = from_list (pieces_of_variants (string_bytes row.1));
   }
-  pub replacement : ReadsIdentifier (string_bytes row.2) rule.replacement
+  pub replacement : ReadsAs (string_bytes row.2) rule.replacement
 
 -- a row of `language_len2` or `language_len3`: the replacement is read
 pub record ReadsLanguage (row : List ℕ × String Global)
     (kept : List ℕ × LanguageIdentifier) : Type 0 where
   pub key : kept.0 ≡ row.0
-  pub replacement : ReadsIdentifier (string_bytes row.1) kept.1
+  pub replacement : ReadsAs (string_bytes row.1) kept.1
 
 -- a row of `subdivision`: the text is read as a value
 pub record ReadsSubdivision (row : List ℕ × String Global)
@@ -84,3 +84,43 @@ pub record HasNoTexts (table : Aliases) : Type 0 where
   pub language_len2 : table.language_len2 ≡ []
   pub language_len3 : table.language_len3 ≡ []
   pub subdivision : table.subdivision ≡ []
+
+-- a language other than `und`
+abbrev pub is_known : List ℕ → Bool
+is_known language = not (bytes_eq language und)
+
+-- the part of a rule is absent or that of the identifier
+abbrev pub fits : {T : Type 0} → (T → T → Bool) → Option T → Option T → Bool
+fits is_same None part = true
+fits is_same (Some t) None = false
+fits is_same (Some t) (Some u) = is_same t u
+
+-- a rule matches where its language is `und` or that of x, its script and region are absent or those of x, and its variants are among those of x
+abbrev pub matches : LanguageIdentifier → LanguageIdentifier → Bool
+matches x rule =
+    (not (is_known rule.language) || bytes_eq rule.language x.language)
+    && fits bytes_eq rule.script x.script && fits bytes_eq rule.region x.region
+    && is_subset rule.variants x.variants
+
+-- the part of the replacement where the rule has that part, else that of the source, else that of the replacement
+abbrev pub part : {T : Type 0} → Option T → Option T → Option T → Option T
+part source (Some t) replacement = replacement
+part (Some u) None replacement = Some u
+part None None replacement = replacement
+
+-- what a rule makes of a source: its language, its script and region, and its variants without those of the rule and with those of the replacement
+abbrev pub replaced : LanguageIdentifier → LanguageIdentifier → LanguageIdentifier
+    → LanguageIdentifier
+replaced source rule replacement = record {
+  language =
+      if is_known rule.language || (not (is_known source.language) && is_known replacement.language)
+      then replacement.language else source.language;
+  script = part source.script rule.script replacement.script;
+  region = part source.region rule.region replacement.region;
+  variants = union (difference source.variants rule.variants) replacement.variants;
+}
+
+-- the identifier of a language alone
+abbrev pub of_language : List ℕ → LanguageIdentifier
+of_language language =
+    record { language = language; script = None; region = None; variants = empty }

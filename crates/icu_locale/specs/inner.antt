@@ -1,10 +1,6 @@
 pub mod CanonicalParts
-pub mod Filling
 pub mod Index
-pub mod LikelyMaps
-pub mod Rewrite
 pub mod SettledRows
-pub mod Tally
 pub mod Trials
 pub mod Universe
 pub mod Walk

@@ -1,8 +1,8 @@
 //! Canonicalization of locales (UTS #35 Part 1, Annex C, "LocaleId Canonicalization").
-ghost use Rattle.std.specs.Prelude.{◌≡◌, Some, IfOk, IfErr, IfSome};
+ghost use Rattle.std.specs.Prelude.{Some, IfOk, IfErr, IfSome};
 ghost use Rattle.icu_locale.specs.Kinds.{by_language_alias};
 ghost use Rattle.icu_locale.specs.Canonicalization.{Canonicalizes};
-ghost use Rattle.icu_locale.specs.Refusals.{IsRefusal, IsOutOfMemory, error_name};
+ghost use Rattle.icu_locale.specs.Refusals.{IsRefusal, IsOutOfMemory, canonicalize_error_name};
 ghost use Rattle.icu_locale.specs.Cost.{CountsRuns, NeedsNoMemory, AddsNoVariants};
 ghost use Rattle.icu_locale.specs.Run.{IsLaterEndOf};
 ghost use Rattle.icu_locale.specs.inner.CanonicalParts.{IsRunRefusalOf, IsIdentifierRefusal, CountsSearchesOf, AreLaterEnds, AreChanges};
@@ -56,7 +56,7 @@ pub enum CanonicalizeError {
 }
 
 impl fmt::Display for CanonicalizeError {
-    ghost output = { λ e. Some (error_name e) };
+    ghost output = { λ e. Some (canonicalize_error_name e) };
 
     fn fmt<W: fmt::Write>(&self, f: &mut fmt::Formatter<W>) -> fmt::Result {
         f.write_str(match self {

@@ -1,7 +1,7 @@
 //! Which way the script of an identifier runs.
 ghost use Rattle.std.specs.Prelude.{◌≡◌, ◌↔◌, not, IsTrue, None, Some};
 ghost use Rattle.std.specs.List.{list_all};
-ghost use Rattle.icu_provider.specs.ScriptDirection.{is_listed};
+ghost use Rattle.icu_provider.specs.SortedMaps.{is_listed};
 ghost use Rattle.icu_locale.specs.Construction.{both_or_refusal, loaded_common, loaded_extended, DirectsOver, IsMade};
 ghost use Rattle.icu_locale.specs.LikelySubtags.{likely_script};
 ghost use Rattle.icu_locale.specs.Direction.{AreDisjoint, is_script_in, direction_of};

@@ -1,7 +1,7 @@
 //! The characters that a language is written with (UTS #35 Part 2, "Exemplars").
 ghost use Rattle.std.specs.Prelude.{◌≡◌};
-ghost use Rattle.icu_provider.specs.Exemplars.{has_text};
 ghost use Rattle.icu_provider.specs.InversionList.{has_character};
+ghost use Rattle.icu_provider.specs.Exemplars.{has_text};
 
 use icu_provider::{DataError, DataLocale, DataProvider, ExemplarCharactersData, ExemplarMarker};
 use std::marker::Model;

@@ -7,13 +7,12 @@ ghost use Rattle.icu_locale_core.specs.Identifier.{IsIdentifier};
 ghost use Rattle.icu_locale_core.specs.Subtag.{und};
 ghost use Rattle.icu_locale_core.specs.declared.langid.LanguageIdentifier.{LanguageIdentifier};
 ghost use Rattle.icu_locale.specs.declared.expander.LocaleExpander.{LocaleExpander};
-ghost use Rattle.icu_locale.specs.LikelySubtags.{LikelySubtags, Triple, unknown_script, unknown_region, maximal, IsModified, HaveSameMaximalParts};
+ghost use Rattle.icu_locale.specs.LikelySubtags.{LikelySubtags, Triple, unknown_script, unknown_region, maximal, IsModified, HaveSameMaximalParts, IsSettled, AreSettled};
 ghost use Rattle.icu_locale.specs.declared.expander.looks.LikelyKey.{LikelyKey};
 ghost use Rattle.icu_locale.specs.LikelyTable.{likely, common_row, extension_row, und_row};
 ghost use Rattle.icu_locale.specs.TableKeys.{HasKey, table_keys};
 ghost use Rattle.icu_locale.specs.declared.expander.Favor.{Favor};
 ghost use Rattle.icu_locale.specs.Minimal.{IsMinimalForm, IsLeast};
-ghost use Rattle.icu_locale.specs.Settled.{IsSettled, AreSettled};
 ghost use Rattle.icu_provider.specs.declared.direction.ScriptDirection.{ScriptDirection};
 ghost use Rattle.icu_locale.specs.Direction.{is_script_in, direction_of, AreDisjoint};
 ghost use Rattle.icu_locale.specs.declared.directionality.Direction.{Direction};
@@ -138,6 +137,7 @@ pub fn left_to_right_is_a_direction()
 {}
 
 /// Over lists that share no script, `is_right_to_left` answers true exactly where `get` answers right to left.
+#[tactic(auto, using(crate::proofs::Directions::right_to_left))]
 pub fn right_to_left_is_a_direction()
     ensures { (d : ScriptDirection) (s : Option (List ℕ)) → AreDisjoint d →
         (is_script_in d.rtl s ≡ true) ↔ (direction_of d s ≡ Some Direction.RightToLeft) }

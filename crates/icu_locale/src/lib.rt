@@ -10,7 +10,6 @@ pub mod laws;
 mod negotiator;
 mod rewriting;
 mod settled;
-mod turns;
 
 pub use as_expander::AsExpander;
 pub use canonicalizer::rules::{Rule, Rules};
@@ -19,4 +18,4 @@ pub use directionality::{Direction, LocaleDirectionality};
 pub use expander::{LocaleExpander, TransformResult};
 pub use negotiator::available::Available;
 pub use negotiator::{Negotiator, NegotiatorError};
-pub use turns::Turns;
+pub use rewriting::Turns;

@@ -6,9 +6,8 @@ ghost use Rattle.std.specs.List.Sorted.{IsSorted};
 ghost use Rattle.icu_locale_core.specs.Identifier.{IsIdentifier};
 ghost use Rattle.icu_locale_core.specs.TextSet.{text_set_code};
 ghost use Rattle.icu_locale.specs.LikelyTable.{likely};
-ghost use Rattle.icu_locale.specs.Settled.{AreSettled};
-ghost use Rattle.icu_locale.specs.Available.{identifiers_of, IsMadeOver};
-ghost use Rattle.icu_locale.specs.Negotiation.{Negotiation, IsNegotiated, refusal_name};
+ghost use Rattle.icu_locale.specs.LikelySubtags.{AreSettled};
+ghost use Rattle.icu_locale.specs.Negotiation.{identifiers_of, IsMadeOver, Negotiation, IsNegotiated, refusal_name};
 ghost use Rattle.icu_locale.specs.inner.Index.{IsPlainForm, row_cmp, IsIndex, IsPartOf, IsFirstRow, IsFirstPlace};
 ghost use Rattle.icu_locale.specs.declared.negotiator.NegotiatorError.TheVariants.{Memory};
 

@@ -1,10 +1,56 @@
 //! Runs of replacements, of which UTS #35 Part 1, Annex C "LocaleId Canonicalization", has one for each identifier.
-//! Two walkers go along a run, one twice as fast as the other, so no list of states is kept.
-ghost use Rattle.std.specs.Prelude.{◌≡◌, ◌<◌, ◌≤◌, ◌+◌, ◌*◌, ℕ, List, Option, Some, true, IfOk, IfErr, IsOk, OnOk, IsSome};
+//! Two walkers go along a run, one twice as fast as the other, so no list of states is kept. A count of searches for a
+//! rule, which only contracts see, stands here too.
+ghost use Rattle.std.specs.Prelude.{◌≡◌, ◌+◌, ℕ, ◌<◌, ◌≤◌, ◌*◌, List, Option, Some, true, IfOk, IfErr, IsOk, OnOk, IsSome};
+ghost use Rattle.icu_locale.specs.inner.Walk.{strokes, IsFullFront, IsMeeting, IsWalk, IsOutcome, IsUniverse};
 ghost use Rattle.icu_locale.specs.Run.{StandsIn, HasDistinct, IsRepeat};
-ghost use Rattle.icu_locale.specs.inner.Walk.{IsFullFront, IsMeeting, IsWalk, IsOutcome, IsUniverse};
 
-use crate::Turns;
+use std::marker::Model;
+use std::snapshot::Snapshot;
+use std::{fmt, mem};
+
+#[derive(Drop)]
+enum Tally {
+    None,
+    OneMore(Snapshot<Tally>),
+}
+
+/// How many searches were made. It takes no bytes, and only a search adds to it.
+#[derive(Drop)]
+pub struct Turns {
+    tally: Snapshot<Tally>,
+}
+
+impl Model for Turns {
+    ghost Value = { ℕ };
+
+    ghost view = { λ turns. strokes turns.tally.value };
+}
+
+impl fmt::Debug for Turns {
+    fn fmt<W: fmt::Write>(&self, f: &mut fmt::Formatter<W>) -> fmt::Result {
+        f.write_str("Turns")
+    }
+}
+
+impl Turns {
+    /// No search yet.
+    pub fn new() -> Turns
+        ensures { result ≡ 0 }
+    {
+        Turns {
+            tally: Snapshot::of(&Tally::None),
+        }
+    }
+
+    /// One search more. `search` in `canonicalizer/identifiers.rt` takes it, and nothing else does.
+    pub(crate) fn take(&mut self)
+        ensures { self.new ≡ self.old + 1 }
+    {
+        let below = mem::replace(&mut self.tally, Snapshot::of(&Tally::None));
+        self.tally = Snapshot::of(&Tally::OneMore(below));
+    }
+}
 
 /// A rule that leads from a state to the next, or to none.
 pub trait Rewriting {

@@ -10,12 +10,10 @@ ghost use Rattle.icu_locale.specs.declared.expander.looks.LikelyKey.TheVariants.
   ScriptAlone,
   RegionAlone,
 };
-ghost use Rattle.icu_locale.specs.LikelySubtags.{bare_locale};
+ghost use Rattle.icu_locale.specs.LikelySubtags.{bare_locale, AreSettled};
 ghost use Rattle.icu_locale.specs.LikelyTable.{likely};
-ghost use Rattle.icu_locale.specs.Settled.{AreSettled};
-ghost use Rattle.icu_locale.specs.inner.LikelyMaps.{map_rows};
-ghost use Rattle.icu_locale.specs.inner.Trials.{same_locale};
 ghost use Rattle.icu_locale.specs.inner.SettledRows.{
+  map_rows,
   key_locale,
   IsLocale,
   is_settled_locale,
@@ -27,6 +25,7 @@ ghost use Rattle.icu_locale.specs.inner.SettledRows.{
   UndRowsSettle,
   AllRowsSettle,
 };
+ghost use Rattle.icu_locale.specs.inner.Trials.{same_locale};
 
 use crate::LocaleExpander;
 use crate::expander::looks::{LikelyKey, LikelyMaps, bare_locale, extended_maps};

@@ -1,50 +1,56 @@
--- Words that are those of no command.
-use Rattle.std.proofs.Common.{◌≡◌, ◌≢◌, ◌⊎◌, ℕ, ◌≤◌, List, [], ◌∷◌, length, codes, inl, inr, ap, sym, subst, ◌∙◌, arith, Result, Ok, Err, IfErr}
-use Rattle.std.specs.List.{slice_split}
-use Rattle.std.proofs.lemmas.List.Splits.{length-slice_split}
-use Rattle.icu_locale_lines.specs.Commands.{AreArguments, AreCommandWords, command_word}
+-- Words that are those of no command, and a text that is cut at its first space.
+use Rattle.std.proofs.Common.{◌≡◌, ◌≢◌, ℕ, ◌<◌, false, List, [], ◌∷◌, ◌++◌, length, get_or, Option, Some, None, refl, ap, ◌∙◌, arith, ◌⊎◌, ◌≤◌, codes, inl, inr, sym, subst, Result, Ok, Err, IfErr}
+use Rattle.std.specs.Borrow.{Bor}
+use Rattle.std.specs.List.{slice_split, All}
+use Rattle.std.specs.Option.{MatchOption}
+use Rattle.std.proofs.lemmas.Bool.Decides.{nat_tests}
+use Rattle.std.proofs.lemmas.List.Elements.{All-from_get_or}
+use Rattle.std.proofs.lemmas.List.Splits.{slice_split_none, slice_split_at, length-slice_split}
 use Rattle.icu_locale_lines.specs.Lists.{is_space}
+use Rattle.icu_locale_lines.specs.Commands.{AreArguments, AreCommandWords, command_word}
+use Rattle.icu_locale_lines.specs.laws.Commands.{counted}
 use Rattle.icu_locale_lines.specs.declared.command.Command.{Command}
 use Rattle.icu_locale_lines.specs.declared.command.Command.TheVariants.{Lines}
 use Rattle.icu_locale_lines.specs.declared.command.LineCommand.{LineCommand}
-use Rattle.icu_locale_lines.specs.declared.command.LineCommand.TheVariants as command
 use Rattle.icu_locale_lines.specs.declared.error.CliError.{CliError}
-use Rattle.icu_locale_lines.specs.declared.transform.Transform.TheVariants.{Maximize, Minimize, MinimizeScript}
-use Rattle.icu_locale_names.specs.LanguageChains.{chain_word}
 use Rattle.icu_locale_c.specs.Calls.{AreNoCommand, NamesNone}
 use Rattle.icu_locale_c.specs.declared.refusal.Refusal.{Refusal}
+use Rattle.icu_locale_lines.specs.declared.command.LineCommand.TheVariants as command
 use Rattle.icu_locale_c.specs.declared.refusal.Refusal.TheVariants as refusal
 
--- the words of a command are one, or three of which the first is `name`
-counted : (words : List (List ℕ)) (c : LineCommand) → AreCommandWords words (Lines c) → (length words ≡ 1) ⊎ ((chain : List ℕ) × (text : List ℕ) × (words ≡ codes "name" ∷ chain ∷ text ∷ []))
-counted words (command.Transform Maximize) (arguments, none, is) = inl (ap length is ∙ ap (λ a. length (codes "maximize" ∷ a)) none)
-counted words (command.Transform Minimize) (arguments, none, is) = inl (ap length is ∙ ap (λ a. length (codes "minimize" ∷ a)) none)
-counted words (command.Transform MinimizeScript) (arguments, none, is) = inl (ap length is ∙ ap (λ a. length (codes "maximize" ∷ a)) none)
-counted words command.Canonicalize (arguments, none, is) = inl (ap length is ∙ ap (λ a. length (codes "maximize" ∷ a)) none)
-counted words command.Direction (arguments, none, is) = inl (ap length is ∙ ap (λ a. length (codes "maximize" ∷ a)) none)
-counted words command.Negotiate (arguments, none, is) = inl (ap length is ∙ ap (λ a. length (codes "maximize" ∷ a)) none)
-counted words (command.Name k p) (arguments, (text, are, spells), is) = inr (chain_word k, text, is ∙ ap (λ a. codes "name" ∷ a) are)
+no_space : (n : ℕ) → n ≢ 32 → is_space n ≡ false
+no_space n other = grind (arith, nat_tests)
+
+no_spaces : (bs : List ℕ) → ((i : ℕ) → i < length bs → get_or bs i 0 ≢ 32) → All (λ b. is_space b ≡ false) bs
+no_spaces bs others = All-from_get_or (λ b. is_space b ≡ false) bs 0 (λ i low. no_space (get_or bs i 0) (others i low))
+
+-- the words of a text that was cut
+pub cut_words : (bs : List ℕ) (r : Option (Bor (List ℕ) × Bor (List ℕ)))
+    → MatchOption r ((i : ℕ) → i < length bs → get_or bs i 0 ≢ 32) (λ x. (bs ≡ x.0.now ++ (32 ∷ x.1.now)) × ((i : ℕ) → i < length x.0.now → get_or x.0.now i 0 ≢ 32))
+    → MatchOption r (slice_split is_space bs ≡ bs ∷ []) (λ x. slice_split is_space bs ≡ x.0.now ∷ slice_split is_space x.1.now)
+cut_words bs None none = slice_split_none is_space bs (no_spaces bs none)
+cut_words bs (Some x) cut = ap (slice_split is_space) cut.0 ∙ slice_split_at is_space x.0.now 32 x.1.now (no_spaces x.0.now cut.1) refl
 
 -- a text has some word
 pub some_word : (bs : List ℕ) → 1 ≤ length (slice_split is_space bs)
 some_word bs = omega (arith, length-slice_split is_space bs)
 
 pub none_of_two : (w v : List ℕ) → AreNoCommand (w ∷ v ∷ [])
-none_of_two w v c are = by (counted (w ∷ v ∷ []) c are)
+none_of_two w v c are = by (counted (w ∷ v ∷ []) (Lines c) are)
   where
     by : (length (w ∷ v ∷ []) ≡ 1) ⊎ ((chain : List ℕ) × (text : List ℕ) × (w ∷ v ∷ [] ≡ codes "name" ∷ chain ∷ text ∷ [])) → ⊥
     by (inl one) = omega (arith, one)
     by (inr (chain, text, is)) = let two : 2 ≡ 3 = ap length is in omega (arith, two)
 
 pub none_of_more : (w v u : List ℕ) (rest : List (List ℕ)) → 1 ≤ length rest → AreNoCommand (w ∷ v ∷ u ∷ rest)
-none_of_more w v u rest some c are = by (counted (w ∷ v ∷ u ∷ rest) c are)
+none_of_more w v u rest some c are = by (counted (w ∷ v ∷ u ∷ rest) (Lines c) are)
   where
     by : (length (w ∷ v ∷ u ∷ rest) ≡ 1) ⊎ ((chain : List ℕ) × (text : List ℕ) × (w ∷ v ∷ u ∷ rest ≡ codes "name" ∷ chain ∷ text ∷ [])) → ⊥
     by (inl one) = omega (arith, one)
     by (inr (chain, text, is)) = let three : length (w ∷ v ∷ u ∷ rest) ≡ 3 = ap length is in omega (arith, three)
 
 pub none_of_others : (w : List ℕ) (rest : List (List ℕ)) → 1 ≤ length rest → w ≢ codes "name" → AreNoCommand (w ∷ rest)
-none_of_others w rest some other c are = by (counted (w ∷ rest) c are)
+none_of_others w rest some other c are = by (counted (w ∷ rest) (Lines c) are)
   where
     by : (length (w ∷ rest) ≡ 1) ⊎ ((chain : List ℕ) × (text : List ℕ) × (w ∷ rest ≡ codes "name" ∷ chain ∷ text ∷ [])) → ⊥
     by (inl one) = omega (arith, one, some)

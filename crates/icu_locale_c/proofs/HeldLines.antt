@@ -1,25 +1,38 @@
--- Lines and lists over what is held.
-use Rattle.std.proofs.Common.{◌≡◌, ℕ, List, [], ◌∷◌, Some, length, Result, Ok, Err, IfOk, refl, ap, sym, subst, ◌∙◌, arith}
-use Rattle.icu_locale.specs.Available.{IsMadeOver, identifiers_of}
-use Rattle.icu_locale.specs.LikelyTable.{likely}
-use Rattle.icu_locale.specs.Negotiation.{Negotiation}
-use Rattle.icu_locale.specs.Settled.{AreSettled}
+-- Lines, lists and canonical forms over what is held.
+use Rattle.std.proofs.Common.{◌≡◌, ℕ, List, Option, Some, Result, Ok, Err, IfOk, sym, subst, [], ◌∷◌, length, refl, ap, ◌∙◌, arith}
+use Rattle.std.specs.Prelude.{IsSomeAnd}
+use Rattle.icu_locale.specs.Rules.{AreRules}
+use Rattle.icu_locale.specs.declared.canonicalizer.LocaleCanonicalizer.{LocaleCanonicalizer}
 use Rattle.icu_locale.specs.declared.expander.LocaleExpander.{LocaleExpander}
-use Rattle.icu_locale.specs.declared.negotiator.available.Available.{Available}
+use Rattle.icu_provider.specs.declared.aliases.Aliases.{Aliases}
 use Rattle.icu_tables.specs.declared.tables.Tables.{Tables}
-use Rattle.icu_locale_lines.specs.Lists.{listed, SpellsAll}
+use Rattle.icu_locale_lines.specs.Answers.{IsAnswer}
 use Rattle.icu_locale_lines.specs.Loads.{IsExpanderOf}
+use Rattle.icu_locale_lines.specs.declared.answer.Answer.{Answer}
+use Rattle.icu_locale_c.specs.Asked.{IsLineOf}
+use Rattle.icu_locale_c.specs.Held.{without_list, Held, IsListOver, IsNegotiationOf, IsWorkOver, with_list}
+use Rattle.icu_locale.specs.Negotiation.{IsMadeOver, identifiers_of, Negotiation}
+use Rattle.icu_locale.specs.LikelyTable.{likely}
+use Rattle.icu_locale.specs.LikelySubtags.{AreSettled}
+use Rattle.icu_locale.specs.declared.negotiator.available.Available.{Available}
+use Rattle.icu_locale_lines.specs.Lists.{listed, SpellsAll}
 use Rattle.icu_locale_lines.specs.Works.{IsWorkOf, text_answered}
 use Rattle.icu_locale_lines.specs.declared.command.LineCommand.{LineCommand}
-use Rattle.icu_locale_lines.specs.declared.command.LineCommand.TheVariants as command
-use Rattle.icu_locale_lines.specs.Answers.{IsAnswer}
-use Rattle.icu_locale_lines.specs.declared.answer.Answer.{Answer}
 use Rattle.icu_locale_lines.specs.declared.work.Work.{Work}
-use Rattle.icu_locale_lines.specs.declared.work.Work.TheVariants as work
 use Rattle.icu_locale_lines.specs.laws.Expanders.{same_likely}
-use Rattle.icu_locale_c.specs.Asked.{IsLineOf}
-use Rattle.icu_locale_c.specs.Held.{Held, IsListOver, IsNegotiationOf, IsWorkOver, with_list, without_list}
 use Rattle.icu_locale_c.specs.Negotiations.{IsListed}
+use Rattle.icu_locale_lines.specs.declared.command.LineCommand.TheVariants as command
+use Rattle.icu_locale_lines.specs.declared.work.Work.TheVariants as work
+
+pub line_over_rules : {E : Type 0} (t : Tables) (e : LocaleExpander) (k : LocaleCanonicalizer LocaleExpander) (table : Aliases) (line : List ℕ)
+    → IsExpanderOf t e → k.expander ≡ e → t.aliases ≡ Some table → AreRules table k.rules
+    → (r : Result Answer E) → IfOk r (λ a. IsAnswer (work.Canonicalize k) line a.text.items a.accepted) → IfOk r (λ a. IsLineOf (without_list t) command.Canonicalize line a.text.items a.accepted)
+line_over_rules t e k table line over same held rules (Ok a) answer = record {
+  work = work.Canonicalize k;
+  work_of = (subst (IsExpanderOf t) (sym same) over, subst (λ (o : Option Aliases). IsSomeAnd o (λ x. AreRules x k.rules)) (sym held) rules);
+  answer = answer;
+}
+line_over_rules t e k table line over same held rules (Err f) answer = tt
 
 -- the work of a command other than `negotiate` asks for no list
 pub work_without_list : (asked : LineCommand) (t : Tables) (w : Work) → ((input : List ℕ) → IsWorkOf asked t input w × (text_answered asked input ≡ input)) → IsWorkOver asked (without_list t) w

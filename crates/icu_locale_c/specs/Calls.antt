@@ -1,9 +1,9 @@
 -- What the calls answer.
-use Rattle.std.specs.Prelude.{◌≡◌, ◌<◌, ◌≤◌, ℕ, ◌-◌, Bool, true, false, List, [], take, drop, length, Option, None, Some, Result, Ok, Err, IsSomeAnd, ℤ, pos}
+use Rattle.std.specs.Prelude.{◌≡◌, ◌<◌, ◌≤◌, ℕ, ◌-◌, Bool, true, false, List, take, drop, length, Option, None, Some, Result, Ok, Err, IsSomeAnd, ℤ, pos}
 use Rattle.std.specs.List.{slice_split}
 use Rattle.std.specs.Str.{IsUtf8}
 use Rattle.icu_tables.specs.Rows.{rows_of}
-use Rattle.icu_tables.specs.Text.{rows_in}
+use Rattle.icu_tables.specs.File.{rows_in}
 use Rattle.icu_tables.specs.declared.error.TableError.TheVariants as table
 use Rattle.icu_tables.specs.declared.tables.Tables.{Tables}
 use Rattle.icu_locale_lines.specs.Answers.{IsAnswer}

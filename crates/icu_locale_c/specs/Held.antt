@@ -3,10 +3,9 @@ use Rattle.std.specs.Prelude.{◌≡◌, List, [], Option, Some, None}
 use Rattle.std.specs.Coded.{Coded, code_by, coded×, coded_list, coded_option}
 use Rattle.icu_locale_core.specs.contracts.langid.LanguageIdentifier.{the_row as identifier_row}
 use Rattle.icu_locale_core.specs.declared.langid.LanguageIdentifier.{LanguageIdentifier}
-use Rattle.icu_locale.specs.Available.{IsMadeOver}
+use Rattle.icu_locale.specs.Negotiation.{IsMadeOver, Negotiation}
 use Rattle.icu_locale.specs.LikelyTable.{likely}
-use Rattle.icu_locale.specs.Negotiation.{Negotiation}
-use Rattle.icu_locale.specs.Settled.{AreSettled}
+use Rattle.icu_locale.specs.LikelySubtags.{AreSettled}
 use Rattle.icu_locale.specs.declared.expander.LocaleExpander.{LocaleExpander}
 use Rattle.icu_locale.specs.declared.negotiator.available.Available.{Available}
 use Rattle.icu_tables.specs.contracts.tables.Tables.{the_row as tables_row}

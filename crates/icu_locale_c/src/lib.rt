@@ -1,7 +1,7 @@
 //! Locale identifiers for C and what calls it: the program's answer to a line, over tables behind a handle.
 #![tactic(auto)]
 
-ghost use Rattle.std.specs.Prelude.{◌≡◌, None, Bool, Result, IfErr};
+ghost use Rattle.std.specs.Prelude.{◌≡◌, None, Bool, Result};
 ghost use Rattle.icu_locale_c.specs.Calls.{IsCall, IsOpened, IsShared, IsSettledCall, done_number, answer_number, yes_number};
 ghost use Rattle.icu_locale_c.specs.Negotiations.{IsAvailableCall, IsNegotiatedCall};
 ghost use Rattle.icu_locale_c.specs.declared.refusal.Refusal.{Refusal};

@@ -1,6 +1,6 @@
 //! A list of what is available, kept beside the tables over which it was made, and negotiation over it.
 ghost use Rattle.std.specs.Prelude.{◌≡◌, IfOk, IfErr};
-ghost use Rattle.icu_locale.specs.Available.{identifiers_of};
+ghost use Rattle.icu_locale.specs.Negotiation.{identifiers_of};
 ghost use Rattle.icu_locale_lines.specs.Answers.{IsAnswer};
 ghost use Rattle.icu_locale_lines.specs.Lists.{listed, SpellsAll};
 ghost use Rattle.icu_locale_lines.specs.declared.command.LineCommand.TheVariants as command;

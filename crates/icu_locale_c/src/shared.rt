@@ -1,6 +1,6 @@
 //! Tables that several handles have, and what one of them keeps beside them.
 ghost use Rattle.std.specs.Prelude.{◌≡◌, Some, IfOk, IfErr, IfSome, option_map};
-ghost use Rattle.icu_locale.specs.Available.{identifiers_of};
+ghost use Rattle.icu_locale.specs.Negotiation.{identifiers_of};
 ghost use Rattle.icu_locale_c.specs.Asked.{IsLineOf, IsRefusedLine};
 ghost use Rattle.icu_locale_c.specs.Calls.{IsCall, IsSettledCall};
 ghost use Rattle.icu_locale_c.specs.Held.{Held, IsListOver, held_code, without_list};

@@ -1,24 +1,60 @@
--- Equality, order and hash of texts, sets and identifiers agree.
-use Rattle.std.proofs.Common.{◌≡◌, ℕ, Bool, ◌&&◌, List, Option, Some, None, refl, ap, sym, ◌∙◌}
+-- Equality, order and hash of texts, sets and identifiers agree, and what is fed to a hasher tells values apart.
+use Rattle.std.proofs.Common.{◌≡◌, ℕ, List, [], ◌∷◌, ◌++◌, drop, get_or, Option, Some, None, refl, ap, sym, ◌∙◌, arith, Bool, ◌&&◌}
+use Rattle.std.specs.List.{flat_map}
+use Rattle.std.specs.Hash.{HashWrites, le_bytes}
 use Rattle.std.specs.Cmp.Lexicographic.{pointwise, slice_cmp, texts_ties}
 use Rattle.std.specs.Ordering.{is_eq, nat_cmp}
 use Rattle.std.specs.declared.cmp.Ordering.{Ordering}
-use Rattle.std.specs.Hash.{HashWrites}
 use Rattle.std.proofs.lemmas.Slice.Eq.{bytes_eq-Decides, slice_eq-Decides}
 use Rattle.std.proofs.lemmas.Bool.{and_parts}
 use Rattle.std.specs.Option.{option_eq, option_cmp}
 use Rattle.std.specs.Cmp.{both_tied, Equal-is}
-use Rattle.icu_locale_core.specs.Agreement.{Agree}
-use Rattle.icu_locale_core.specs.Hash.{fed_subtag}
-use Rattle.icu_locale_core.specs.Keywords.{KeywordRows, row_eq}
-use Rattle.icu_locale_core.specs.Order.{identifier_cmp}
-use Rattle.icu_locale_core.specs.laws.TextSets.{text_lists_ties}
-use Rattle.icu_locale_core.specs.TextSet.{text_cmp}
+use Rattle.icu_locale_core.specs.Agreement.{fed_subtag, fed_variants, fed_identifier, Agree, identifier_cmp}
+use Rattle.icu_locale_core.specs.TextSet.{TextSet, from_list, rising, text_cmp}
 use Rattle.icu_locale_core.specs.declared.langid.LanguageIdentifier.{LanguageIdentifier}
+use Rattle.icu_locale_core.specs.laws.TextSets.{from_list-rising, text_lists_ties}
+use Rattle.icu_locale_core.specs.Keywords.{KeywordRows, row_eq}
 use Rattle.icu_locale_core.specs.declared.locale.Locale.{Locale}
-use Rattle.icu_locale_core.specs.laws.Identifiers.{Tells, same_text, same_parts, options_tell, identifiers_decide}
-use Rattle.icu_locale_core.specs.laws.Values.{values_decide}
-use Rattle.icu_locale_core.proofs.Hashes.{same_subtag}
+use Rattle.icu_locale_core.specs.laws.Identifiers.{Tells, same_text, same_parts, options_tell, identifiers_decide, values_decide}
+use Rattle.std.specs.Hash as fed
+
+-- the first text that was fed
+abbrev first : HashWrites → List ℕ
+first writes = get_or writes 0 []
+
+pub same_subtag : (s t : List ℕ) → fed_subtag s ≡ fed_subtag t → s ≡ t
+same_subtag s t e = ap first e
+
+-- the first byte of what says whether a part is there
+abbrev mark : HashWrites → ℕ
+mark writes = get_or (first writes) 0 0
+
+same_option : (o p : Option (List ℕ)) (us vs : HashWrites) → fed.option fed_subtag o ++ us ≡ fed.option fed_subtag p ++ vs → (o ≡ p) × (us ≡ vs)
+unfolding le_bytes
+same_option None None us vs e = (refl, ap (drop 1) e)
+same_option None (Some t) us vs e = let apart : 0 ≡ 1 = ap mark e in absurd (omega (arith, apart))
+same_option (Some s) None us vs e = let apart : 1 ≡ 0 = ap mark e in absurd (omega (arith, apart))
+same_option (Some s) (Some t) us vs e = (ap Some (ap (λ writes. first (drop 1 writes)) e), ap (drop 3) e)
+
+same_texts : (ts us : List (List ℕ)) → flat_map fed_subtag ts ≡ flat_map fed_subtag us → ts ≡ us
+same_texts [] [] e = refl
+same_texts [] (u ∷ us) e = absurd (cc)
+same_texts (t ∷ ts) [] e = absurd (cc)
+same_texts (t ∷ ts) (u ∷ us) e = λ i. ap first e i ∷ same_texts ts us (ap (drop 2) e) i
+
+pub same_variants : (s u : TextSet) → fed_variants s ≡ fed_variants u → s ≡ u
+same_variants s u e = sym (from_list-rising s) ∙ ap from_list (same_texts (rising s) (rising u) (ap (drop 1) e)) ∙ from_list-rising u
+
+pub same_identifier : (x y : LanguageIdentifier) → fed_identifier x ≡ fed_identifier y → x ≡ y
+same_identifier x y e =
+    let script = same_option x.script y.script _ _ (ap (drop 2) e) in
+    let region = same_option x.region y.region _ _ script.1 in
+    λ i. record {
+      language = ap first e i;
+      script = script.0 i;
+      region = region.0 i;
+      variants = same_variants x.variants y.variants region.1 i;
+    }
 
 -- a test that tells equality agrees with an order that ties where it passes, and a hash that tells values apart
 pub Agree-from_test : {X : Type 0} (eq : X → X → Bool) (cmp : X → X → Ordering) (hash : X → HashWrites) → ((x y : X) → Tells (eq x y) (x ≡ y)) → ((x y : X) → eq x y ≡ is_eq (cmp x y)) → ((x y : X) → hash x ≡ hash y → x ≡ y) → Agree eq cmp hash

@@ -1,12 +1,8 @@
 mod Agreements
 mod Cases
-mod Fronts
-mod Hashes
 mod Merges
 mod Padding
-mod Plain
 mod Readings
-mod Searches
 mod TextSets
 mod Values
 mod VariantLists

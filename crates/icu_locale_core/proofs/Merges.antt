@@ -15,7 +15,7 @@ use Rattle.std.proofs.lemmas.Map.Keys.{Less-from_sorted}
 use Rattle.std.proofs.lemmas.Option.{same_Some, none-some}
 use Rattle.std.proofs.lemmas.Slice.Eq.{bytes_eq-Decides}
 use Rattle.icu_locale_core.specs.TextSet.{text_cmp, TextSet, empty, contains, from_list, rising, difference, union}
-use Rattle.icu_locale_core.specs.inner.Merging.{HasAllAbove, least, behind}
+use Rattle.icu_locale_core.specs.inner.Variants.{HasAllAbove, least, behind}
 use Rattle.icu_locale_core.specs.laws.TextSets.{text_total, text_same, same_from_tied, same_set, is_among, is_among-append, is_among-Contains, contains-from_list, contains-rising, contains-empty, contains-difference, contains-union, length-rising_empty}
 use Rattle.icu_locale_core.proofs.TextSets.{rising_rises}
 use Rattle.icu_locale_core.specs.laws.RisingLists.{rising-from_list}

@@ -15,7 +15,7 @@ use Rattle.icu_locale_core.specs.declared.parse_error.ParseError.{ParseError}
 use Rattle.icu_locale_core.specs.declared.parse_error.ParseError.TheVariants.{InvalidLanguage, InvalidSubtag, Memory}
 use Rattle.icu_locale_core.specs.TextSet.{TextSet, from_list, contains, len, empty}
 use Rattle.icu_locale_core.specs.Identifier.{IsIdentifier, Lists, subtags, pieces, Spells, IsOkUnlessMemory}
-use Rattle.icu_locale_core.specs.inner.Reading.{optional, after_optional, are_variants, read_variants, with_variants, read_rest, read_pieces}
+use Rattle.icu_locale_core.specs.inner.Identifiers.{optional_subtag, after_optional_subtag, are_variants, read_variants, with_variants, read_rest, read_pieces}
 use Rattle.icu_locale_core.proofs.Cases.{is_member-lowercase, written_case-lowercase, lowercase-written_case, written_written, region_no_script, variant_no_script, variant_no_region}
 use Rattle.icu_locale_core.specs.laws.TextSets.{contains-from_list, Contains-is_among, is_among-Contains, length-rising_empty}
 
@@ -50,22 +50,22 @@ module _ (class : Class) where
   abbrev NoneFirst : List (List ℕ) → Type 0
   NoneFirst ps = (p : List ℕ) (rest : List (List ℕ)) → ps ≡ p ∷ rest → is_member class p ≡ false
 
-  optional-none : (ps : List (List ℕ)) → NoneFirst ps → optional (is_member class) (written_case class) ps ≡ None
+  optional-none : (ps : List (List ℕ)) → NoneFirst ps → optional_subtag (is_member class) (written_case class) ps ≡ None
   optional-none [] none = refl
   optional-none (p ∷ ps) none = rw (none p ps refl) refl
 
-  after_optional-none : (ps : List (List ℕ)) → NoneFirst ps → after_optional (is_member class) ps ≡ ps
+  after_optional-none : (ps : List (List ℕ)) → NoneFirst ps → after_optional_subtag (is_member class) ps ≡ ps
   after_optional-none [] none = refl
   after_optional-none (p ∷ ps) none = rw (none p ps refl) refl
 
-  optional-some : (p s : List ℕ) (ps : List (List ℕ)) → lowercase p ≡ lowercase s → IsWritten (is_member class) (written_case class) s → optional (is_member class) (written_case class) (p ∷ ps) ≡ Some s
+  optional-some : (p s : List ℕ) (ps : List (List ℕ)) → lowercase p ≡ lowercase s → IsWritten (is_member class) (written_case class) s → optional_subtag (is_member class) (written_case class) (p ∷ ps) ≡ Some s
   optional-some p s ps e is = rw (is_member-same p s e ∙ is.member) (ap Some (written_case-same p s e is))
 
-  after_optional-some : (p s : List ℕ) (ps : List (List ℕ)) → lowercase p ≡ lowercase s → IsWritten (is_member class) (written_case class) s → after_optional (is_member class) (p ∷ ps) ≡ ps
+  after_optional-some : (p s : List ℕ) (ps : List (List ℕ)) → lowercase p ≡ lowercase s → IsWritten (is_member class) (written_case class) s → after_optional_subtag (is_member class) (p ∷ ps) ≡ ps
   after_optional-some p s ps e is = rw (is_member-same p s e ∙ is.member) refl
 
   -- what is taken and what is left are the pieces, case aside
-  optional-rest : (ps : List (List ℕ)) → map lowercase ps ≡ map lowercase (option_to_list (optional (is_member class) (written_case class) ps) ++ after_optional (is_member class) ps)
+  optional-rest : (ps : List (List ℕ)) → map lowercase ps ≡ map lowercase (option_to_list (optional_subtag (is_member class) (written_case class) ps) ++ after_optional_subtag (is_member class) ps)
   optional-rest [] = refl
   optional-rest (p ∷ ps) =
       elim (is_member class p) as (λ b. map lowercase (p ∷ ps) ≡ map lowercase (option_to_list (if b then Some (written_case class p) else None) ++ (if b then ps else p ∷ ps))) [
@@ -74,7 +74,7 @@ module _ (class : Class) where
       ]
 
   -- what is taken belongs to the class and stands in its written case
-  optional-written : (ps : List (List ℕ)) → IfSome (optional (is_member class) (written_case class) ps) (IsWritten (is_member class) (written_case class))
+  optional-written : (ps : List (List ℕ)) → IfSome (optional_subtag (is_member class) (written_case class) ps) (IsWritten (is_member class) (written_case class))
   optional-written [] = tt
   optional-written (p ∷ ps) =
       elim (is_member class p) as (λ b. is_member class p ≡ b → IfSome (if b then Some (written_case class p) else None) (IsWritten (is_member class) (written_case class))) [
@@ -144,8 +144,8 @@ module _ (x : LanguageIdentifier) (is : IsIdentifier x) (order : List (List ℕ)
 
   -- what stands behind the script
   record AfterScript (ps : List (List ℕ)) (r : Option (List ℕ)) : Type 0 where
-    region : optional is_region uppercase ps ≡ r
-    variants : read_variants (after_optional is_region ps) ≡ Ok x.variants
+    region : optional_subtag is_region uppercase ps ≡ r
+    variants : read_variants (after_optional_subtag is_region ps) ≡ Ok x.variants
 
   after_script : (r : Option (List ℕ)) → IfSome r IsRegion → (ps : List (List ℕ)) → map lowercase ps ≡ map lowercase (option_to_list r ++ order) → AfterScript ps r
   after_script None known ps same =
@@ -165,8 +165,8 @@ module _ (x : LanguageIdentifier) (is : IsIdentifier x) (order : List (List ℕ)
 
   -- what stands behind the language
   record AfterLanguage (ps : List (List ℕ)) (s r : Option (List ℕ)) : Type 0 where
-    script : optional is_script titlecase ps ≡ s
-    rest : AfterScript (after_optional is_script ps) r
+    script : optional_subtag is_script titlecase ps ≡ s
+    rest : AfterScript (after_optional_subtag is_script ps) r
 
   no_script_behind : (r : Option (List ℕ)) → IfSome r IsRegion → (ps : List (List ℕ)) → map lowercase ps ≡ map lowercase (option_to_list r ++ order) → NoneFirst Script ps
   no_script_behind None known ps same p rest is_first = no_script_in_order ps same p rest is_first
@@ -207,26 +207,26 @@ module _ (x : LanguageIdentifier) (is : IsIdentifier x) (order : List (List ℕ)
 -- the identifier that is read of a language, what may follow it, and variants
 module _ (l : List ℕ) (ps : List (List ℕ)) (known : is_language l ≡ true) where
   after_script_of : List (List ℕ)
-  after_script_of = after_optional is_script ps
+  after_script_of = after_optional_subtag is_script ps
 
   behind : List (List ℕ)
-  behind = after_optional is_region after_script_of
+  behind = after_optional_subtag is_region after_script_of
 
   variants_of : TextSet
   variants_of = from_list (map lowercase behind)
 
   found_of : LanguageIdentifier
-  found_of = record { language = lowercase l; script = optional is_script titlecase ps; region = optional is_region uppercase after_script_of; variants = variants_of }
+  found_of = record { language = lowercase l; script = optional_subtag is_script titlecase ps; region = optional_subtag is_region uppercase after_script_of; variants = variants_of }
 
   -- the pieces are its subtags
   all_same : map lowercase (l ∷ ps) ≡ map lowercase (subtags found_of (map lowercase behind))
   unfolding found_of after_script_of behind variants_of
   all_same =
-      let s = optional is_script titlecase ps in
-      let r = optional is_region uppercase (after_optional is_script ps) in
-      let rest = after_optional is_region (after_optional is_script ps) in
-      let first : map lowercase ps ≡ map lowercase (option_to_list s) ++ map lowercase (after_optional is_script ps) = optional-rest Script ps ∙ map-append_lower (option_to_list s) (after_optional is_script ps) in
-      let second : map lowercase (after_optional is_script ps) ≡ map lowercase (option_to_list r) ++ map lowercase rest = optional-rest Region (after_optional is_script ps) ∙ map-append_lower (option_to_list r) rest in
+      let s = optional_subtag is_script titlecase ps in
+      let r = optional_subtag is_region uppercase (after_optional_subtag is_script ps) in
+      let rest = after_optional_subtag is_region (after_optional_subtag is_script ps) in
+      let first : map lowercase ps ≡ map lowercase (option_to_list s) ++ map lowercase (after_optional_subtag is_script ps) = optional-rest Script ps ∙ map-append_lower (option_to_list s) (after_optional_subtag is_script ps) in
+      let second : map lowercase (after_optional_subtag is_script ps) ≡ map lowercase (option_to_list r) ++ map lowercase rest = optional-rest Region (after_optional_subtag is_script ps) ∙ map-append_lower (option_to_list r) rest in
       let last : map lowercase rest ≡ map lowercase (map lowercase rest) = sym (lower_twice rest) in
       let joined : map lowercase ps ≡ map lowercase (option_to_list s ++ (option_to_list r ++ map lowercase rest)) =
       first
@@ -261,7 +261,7 @@ module _ (l : List ℕ) (ps : List (List ℕ)) (known : is_language l ≡ true) 
   rest_sound : IfOk (read_rest (lowercase l) ps) (λ x. IsIdentifier x × Reads (l ∷ ps) x)
   unfolding found_of variants_of after_script_of behind
   rest_sound =
-      elim (are_variants behind) as (λ b. are_variants behind ≡ b → IfOk (with_variants (lowercase l) (optional is_script titlecase ps) (optional is_region uppercase after_script_of) (if b then Ok (from_list (map lowercase behind)) else Err InvalidSubtag)) (λ x. IsIdentifier x × Reads (l ∷ ps) x)) [
+      elim (are_variants behind) as (λ b. are_variants behind ≡ b → IfOk (with_variants (lowercase l) (optional_subtag is_script titlecase ps) (optional_subtag is_region uppercase after_script_of) (if b then Ok (from_list (map lowercase behind)) else Err InvalidSubtag)) (λ x. IsIdentifier x × Reads (l ∷ ps) x)) [
         | true ↦ λ are. found_reads are
         | false ↦ λ are. tt
       ] refl
@@ -276,8 +276,8 @@ read_pieces-sound (p ∷ ps) =
 
 -- ---- the refusals
 
--- a variant behind an optional piece is a variant of all pieces
-pub some_variant-after : (is_member : List ℕ → Bool) (ps : List (List ℕ)) → list_any is_variant (after_optional is_member ps) ≡ true → list_any is_variant ps ≡ true
+-- a variant behind an optional_subtag piece is a variant of all pieces
+pub some_variant-after : (is_member : List ℕ → Bool) (ps : List (List ℕ)) → list_any is_variant (after_optional_subtag is_member ps) ≡ true → list_any is_variant ps ≡ true
 some_variant-after is_member [] h = h
 some_variant-after is_member (p ∷ ps) h =
     elim (is_member p) as (λ b. list_any is_variant (if b then ps else p ∷ ps) ≡ true → (is_variant p || list_any is_variant ps) ≡ true) [ true ↦ or_right (is_variant p) (list_any is_variant ps) | false ↦ λ g. g ] h

@@ -46,16 +46,16 @@ some_text : (p : List ℕ) (ps : List (List ℕ)) → IsValue (p ∷ ps) → (le
 some_text [] ps is = absurd (false≢true (head_of [] ps is).member)
 some_text (c ∷ t) ps is = eqb-suc-zero (length (t ++ flat_map (λ q. codes "-" ++ q) ps))
 
-pub read-written : (v : List (List ℕ)) → IsValue v → read_value (written_value v) ≡ v
-read-written [] is = refl
-read-written (p ∷ ps) is =
+pub value_reads_back : (v : List (List ℕ)) → IsValue v → read_value (written_value v) ≡ v
+value_reads_back [] is = refl
+value_reads_back (p ∷ ps) is =
     ap (λ b. cond b [] (read_subtags (pieces (written_value (p ∷ ps))))) (some_text p ps is)
     ∙ ap read_subtags (pieces-join p ps (wholes (p ∷ ps) is))
     ∙ kept (p ∷ ps) is
 
-pub is_value-written : (v : List (List ℕ)) → IsValue v → is_value (written_value v) ≡ true
-is_value-written [] is = refl
-is_value-written (p ∷ ps) is =
+pub value_is_accepted : (v : List (List ℕ)) → IsValue v → is_value (written_value v) ≡ true
+value_is_accepted [] is = refl
+value_is_accepted (p ∷ ps) is =
     ap (λ b. b || list_all is_subtag (pieces (written_value (p ∷ ps)))) (some_text p ps is)
     ∙ ap (list_all is_subtag) (pieces-join p ps (wholes (p ∷ ps) is))
     ∙ are_subtags (p ∷ ps) is

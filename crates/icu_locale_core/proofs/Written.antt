@@ -1,20 +1,65 @@
--- What is written spells the identifier, and no other.
-use Rattle.std.proofs.Common.{◌≡◌, ℕ, true, false, List, [], ◌∷◌, ◌++◌, map, codes, Option, Some, None, Ok, IfSome, refl, ap, sym, subst, ◌∙◌, arith, append-nil}
+-- What is written spells the identifier and no other, and without variants has no piece that is one.
+use Rattle.std.proofs.Common.{◌≡◌, ℕ, List, ◌++◌, take, drop, length, ap, sym, ◌∙◌, append_assoc, Result, Ok, Err, OnErr, true, false, ◌||◌, [], ◌∷◌, map, Option, Some, None, IfSome, refl, ◌≤◌, arith, codes, subst, append-nil}
+use Rattle.std.proofs.Math.Seq.{take-append_seam}
+use Rattle.std.proofs.lemmas.List.{take-append-drop}
 use Rattle.std.specs.Option.{option_to_list}
-use Rattle.std.specs.List.{flat_map, join_by, All, Contains}
+use Rattle.std.specs.List.{list_any, flat_map, join_by, All, Contains}
+use Rattle.std.proofs.lemmas.Bool.{false≢true, false_from_ne_true, and_parts}
 use Rattle.std.proofs.lemmas.Bool.Decides.{nat_tests}
 use Rattle.std.proofs.lemmas.List.Splits.{slice_split_none, slice_split_at}
 use Rattle.std.proofs.lemmas.List.Elements.{All-nil, All-cons, All-head, All-tail, All-append, All-weaker, All-contains_itself}
-use Rattle.icu_locale_core.specs.Subtag.{is_alphanumeric, IsWritten}
+use Rattle.icu_locale_core.specs.Subtag.{has_length, is_alphabetic, is_language, is_script, is_region, is_variant, lowercase, IsLanguage, IsScript, IsRegion, is_alphanumeric, IsWritten}
+use Rattle.icu_locale_core.specs.Identifier.{IsIdentifier, Spells, pieces, subtags, has_variant, is_separator, written}
+use Rattle.icu_locale_core.specs.TextSet.{empty, len, rising}
+use Rattle.icu_locale_core.specs.declared.classes.Class.TheVariants.{Variant, Language, Script, Region}
+use Rattle.icu_locale_core.specs.declared.langid.LanguageIdentifier.{LanguageIdentifier}
+use Rattle.icu_locale_core.specs.laws.TextSets.{length-rising_empty, from_list-rising, contains-rising, is_among-Contains}
+use Rattle.icu_locale_core.proofs.Cases.{is_member-lowercase, variant_length, variant_no_script, variant_no_region, plain_from_member}
 use Rattle.icu_locale_core.specs.inner.Class.{is_member, written_case}
 use Rattle.icu_locale_core.specs.declared.classes.Class.{Class}
-use Rattle.icu_locale_core.specs.declared.classes.Class.TheVariants.{Language, Script, Region, Variant}
-use Rattle.icu_locale_core.specs.declared.langid.LanguageIdentifier.{LanguageIdentifier}
-use Rattle.icu_locale_core.specs.TextSet.{rising}
-use Rattle.icu_locale_core.specs.Identifier.{is_separator, pieces, IsIdentifier, Spells, subtags, written}
-use Rattle.icu_locale_core.proofs.Cases.{plain_from_member}
 use Rattle.icu_locale_core.proofs.Readings.{read_pieces-complete}
-use Rattle.icu_locale_core.specs.laws.TextSets.{from_list-rising, contains-rising, is_among-Contains}
+
+-- what begins with a longer list begins with its front
+pub front_of_front : {T E : Type 0} (old more middle new : List ℕ) → middle ≡ old ++ more → (r : Result T E)
+    → OnErr r (take (length middle) new ≡ middle) → OnErr r (take (length old) new ≡ old)
+front_of_front old more middle new is (Ok x) part = tt
+front_of_front old more middle new is (Err e) part =
+    let rest : List ℕ = drop (length middle) new in
+    let whole : new ≡ old ++ (more ++ rest) = sym (take-append-drop (length middle) new) ∙ ap (λ t. t ++ rest) (part ∙ is) ∙ append_assoc old more rest in
+    ap (take (length old)) whole ∙ take-append_seam old (more ++ rest)
+
+any_variant-lowercase : (ps : List (List ℕ)) → list_any is_variant (map lowercase ps) ≡ list_any is_variant ps
+any_variant-lowercase [] = refl
+any_variant-lowercase (p ∷ ps) = λ i. is_member-lowercase Variant p i || any_variant-lowercase ps i
+
+-- no other subtag is a variant
+language_no_variant : (t : List ℕ) → is_language t ≡ true → is_variant t ≡ false
+language_no_variant t h =
+    let short : has_length 2 3 t ≡ true = (and_parts (has_length 2 3 t) (is_alphabetic t) h).0 in
+    let most : length t ≤ 3 = grind (arith, nat_tests) in
+    false_from_ne_true (is_variant t) (λ v. omega (arith, variant_length t v, most))
+
+script_no_variant : (t : List ℕ) → is_script t ≡ true → is_variant t ≡ false
+script_no_variant t h = false_from_ne_true (is_variant t) (λ v. false≢true (sym (variant_no_script t v) ∙ h))
+
+region_no_variant : (t : List ℕ) → is_region t ≡ true → is_variant t ≡ false
+region_no_variant t h = false_from_ne_true (is_variant t) (λ v. false≢true (sym (variant_no_region t v) ∙ h))
+
+none_of_three : (language : List ℕ) (script region : Option (List ℕ)) → IsLanguage language → IfSome script IsScript → IfSome region IsRegion → list_any is_variant (language ∷ (option_to_list script ++ (option_to_list region ++ []))) ≡ false
+none_of_three l None None is s r = λ i. language_no_variant l is.member i || false
+none_of_three l (Some s) None is sis r = λ i. language_no_variant l is.member i || (script_no_variant s sis.member i || false)
+none_of_three l None (Some r) is s ris = λ i. language_no_variant l is.member i || (region_no_variant r ris.member i || false)
+none_of_three l (Some s) (Some r) is sis ris = λ i. language_no_variant l is.member i || (script_no_variant s sis.member i || (region_no_variant r ris.member i || false))
+
+none_listed : (order : List (List ℕ)) → length order ≡ 0 → order ≡ []
+none_listed [] h = refl
+none_listed (t ∷ ts) h = absurd (omega (arith, h))
+
+pub without_variants : (t : List ℕ) (x : LanguageIdentifier) → IsIdentifier x → Spells t x → x.variants ≡ empty → has_variant t ≡ false
+without_variants t x is spells none =
+    let order = none_listed spells.order (spells.lists.once ∙ ap len none ∙ length-rising_empty) in
+    sym (any_variant-lowercase (pieces t)) ∙ ap (list_any is_variant) (spells.same ∙ ap (λ ts. map lowercase (subtags x ts)) order)
+    ∙ any_variant-lowercase (subtags x []) ∙ none_of_three x.language x.script x.region is.language is.script is.region
 
 -- a text without separators
 abbrev pub Whole : List ℕ → Type 0
@@ -50,8 +95,8 @@ module _ (x : LanguageIdentifier) (is : IsIdentifier x) where
       (All-append Whole (option_to_list x.script) _ (whole_option Script x.script is.script)
       (All-append Whole (option_to_list x.region) (rising x.variants) (whole_option Region x.region is.region) whole_variants))
 
-  pub Spells-written : Spells (written x) x
-  Spells-written = record {
+  pub spells_written : Spells (written x) x
+  spells_written = record {
     order = rising x.variants;
     lists = record { members = from_list-rising x.variants; once = refl };
     same = ap (map _) (pieces-join x.language _ whole_subtags);
@@ -63,4 +108,4 @@ same_from_spells t x y is_x is_y of_x of_y =
     cc
 
 pub same_from_written : (x y : LanguageIdentifier) → IsIdentifier x → IsIdentifier y → written x ≡ written y → x ≡ y
-same_from_written x y is_x is_y e = same_from_spells (written x) x y is_x is_y (Spells-written x is_x) (subst (λ t. Spells t y) (sym e) (Spells-written y is_y))
+same_from_written x y is_x is_y e = same_from_spells (written x) x y is_x is_y (spells_written x is_x) (subst (λ t. Spells t y) (sym e) (spells_written y is_y))

@@ -1,29 +1,5 @@
--- Identifiers and their texts (UTS #35 Part 1, section 3.1, unicode_language_id).
-use Rattle.std.specs.Prelude.{
-  ◌≡◌,
-  ◌⊎◌,
-  ◌↔◌,
-  ℕ,
-  Bool,
-  ◌||◌,
-  ◌==◌,
-  true,
-  false,
-  IsTrue,
-  codes,
-  List,
-  [],
-  ◌∷◌,
-  ◌++◌,
-  length,
-  slice_index_or,
-  map,
-  IfSome,
-  Result,
-  Ok,
-  Err,
-  IfOk,
-}
+-- Identifiers and their texts (UTS #35 Part 1, section 3.1, unicode_language_id), and why a text is refused.
+use Rattle.std.specs.Prelude.{◌≡◌, ◌⊎◌, ◌↔◌, ℕ, Bool, ◌||◌, ◌==◌, true, false, IsTrue, codes, List, [], ◌∷◌, ◌++◌, length, slice_index_or, map, IfSome, Result, Ok, Err, IfOk}
 use Rattle.std.specs.Option.{option_to_list}
 use Rattle.std.specs.List.{slice_split, list_any, join_by}
 use Rattle.icu_locale_core.specs.Subtag.{is_language, is_variant, lowercase, IsLanguage, IsScript, IsRegion, IsVariant}
@@ -89,3 +65,9 @@ pub record ReadsIdentifier (t : List ℕ) (result : Result LanguageIdentifier Pa
   pub subtag : result ≡ Err InvalidSubtag
       → (x : LanguageIdentifier) → IsIdentifier x → ¬ (Spells t x)
   pub memory : result ≡ Err Memory → IsTrue (has_variant t)
+
+-- what Display writes
+abbrev pub parse_error_name : ParseError → List ℕ
+parse_error_name InvalidLanguage = codes "InvalidLanguage"
+parse_error_name InvalidSubtag = codes "InvalidSubtag"
+parse_error_name Memory = codes "Memory"

@@ -1,10 +1,7 @@
 pub mod Agreement
-pub mod Hash
 pub mod Identifier
 pub mod Keywords
 pub mod Maps
-pub mod Order
-pub mod ParseError
 pub mod Subtag
 pub mod TextSet
 pub mod Value

@@ -3,6 +3,4 @@ pub mod Cuts
 pub mod Identifiers
 pub mod Maps
 pub mod RisingLists
-pub mod Rows
 pub mod TextSets
-pub mod Values

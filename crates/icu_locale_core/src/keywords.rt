@@ -4,7 +4,7 @@ ghost use Rattle.std.specs.Cmp.{partial_equiv_from_equiv};
 ghost use Rattle.std.specs.Cmp.Lexicographic.{pointwise, lists_equiv};
 ghost use Rattle.icu_locale_core.specs.Keywords.{with_value, without_key, row_eq, KeywordRows};
 ghost use Rattle.icu_locale_core.specs.Maps.{IsSortedMap, value_at, SetsOnly};
-ghost use Rattle.icu_locale_core.specs.laws.Rows.{rows_equiv};
+ghost use Rattle.icu_locale_core.specs.laws.Maps.{rows_equiv};
 ghost use Rattle.icu_locale_core.specs.TextSet.{text_cmp};
 
 use crate::{Key, ParseError, Value};

@@ -5,7 +5,7 @@ ghost use Rattle.std.specs.List.{flat_map};
 ghost use Rattle.std.specs.Str.{IsUtf8};
 ghost use Rattle.icu_locale_core.specs.Identifier.{IsIdentifier, ReadsIdentifier, written};
 ghost use Rattle.icu_locale_core.specs.TextSet.{rising, empty};
-ghost use Rattle.icu_locale_core.specs.inner.Heads.{head};
+ghost use Rattle.icu_locale_core.specs.inner.Identifiers.{head};
 
 use crate::pieces::Pieces;
 use crate::reader::read_identifier;

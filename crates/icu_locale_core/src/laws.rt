@@ -2,12 +2,10 @@
 ghost use Rattle.std.specs.Prelude.{◌≡◌, ◌↔◌, ◌<◌, ◌&&◌, ◌||◌, not, List, ℕ, Some, true, false};
 ghost use Rattle.std.specs.List.{Contains};
 ghost use Rattle.std.specs.List.Sorted.{IsStrictlySortedBy};
-ghost use Rattle.icu_locale_core.specs.Agreement.{Agree, TellsEquality};
-ghost use Rattle.icu_locale_core.specs.Hash.{fed_subtag, fed_variants, fed_identifier};
+ghost use Rattle.icu_locale_core.specs.Agreement.{Agree, TellsEquality, fed_subtag, fed_variants, fed_identifier, identifier_cmp};
 ghost use Rattle.icu_locale_core.specs.Identifier.{IsIdentifier, Spells, has_variant, written};
 ghost use Rattle.icu_locale_core.specs.Keywords.{KeywordRows, with_value, without_key};
 ghost use Rattle.icu_locale_core.specs.Maps.{IsSortedMap, value_at};
-ghost use Rattle.icu_locale_core.specs.Order.{identifier_cmp};
 ghost use Rattle.icu_locale_core.specs.TextSet.{TextSet, empty, contains, difference, from_list, is_subset, len, rising, text_cmp, union};
 ghost use Rattle.icu_locale_core.specs.Value.{IsValue, is_value, read_value, written_value};
 
@@ -19,6 +17,7 @@ use std::cmp::{Ord, PartialEq};
 use std::hash::Hash;
 
 /// What Display writes of an identifier spells that identifier.
+#[tactic(auto, using(crate::proofs::Written::spells_written))]
 pub fn written_spells()
     ensures { (x : LanguageIdentifier) → IsIdentifier x → Spells (written x) x }
 {}
@@ -68,6 +67,7 @@ pub fn variants_agree()
 {}
 
 /// Equality, order and hash of subtags agree, and what is fed to a hasher tells them apart.
+#[tactic(auto, using(crate::proofs::Agreements::texts_agree))]
 pub fn subtags_agree()
     ensures languages { Agree ⟦<Language as PartialEq>⟧.eq
         ⟦<Language as Ord>⟧.cmp ⟦<Language as Hash>⟧.hash_input }
@@ -101,12 +101,14 @@ pub fn equality_is_told()
 {}
 
 /// What Display writes of a value reads as that value.
+#[tactic(auto, using(crate::proofs::Values::value_is_accepted, crate::proofs::Values::value_reads_back))]
 pub fn written_values_read_back()
     ensures accepted { (v : List (List ℕ)) → IsValue v → is_value (written_value v) ≡ true }
     ensures same { (v : List (List ℕ)) → IsValue v → read_value (written_value v) ≡ v }
 {}
 
 /// Of sets of variants: the walk rises, so that no member comes twice, and it goes through the members alone.
+#[tactic(auto, using(crate::proofs::TextSets::rising_rises, crate::proofs::TextSets::members_of_walk))]
 pub fn sets_rise()
     ensures rises { (s : TextSet) → IsStrictlySortedBy text_cmp (rising s) }
     ensures members { (s : TextSet) (t : List ℕ) → (contains s t ≡ true) ↔ Contains (rising s) t }
@@ -124,6 +126,7 @@ pub fn members_of_sets()
 
 /// Sets with the same members are equal. A set that lacks a member of another, and has none that the other lacks, has
 /// fewer members.
+#[tactic(auto, using(crate::specs::laws::TextSets::same_set, crate::proofs::TextSets::fewer_members))]
 pub fn sets_are_their_members()
     ensures same { (s u : TextSet) → ((t : List ℕ) → contains s t ≡ contains u t) → s ≡ u }
     ensures fewer { (s u : TextSet) (t : List ℕ) → is_subset s u ≡ true

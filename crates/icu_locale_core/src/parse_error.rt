@@ -1,6 +1,6 @@
 //! Why a text is refused.
 ghost use Rattle.std.specs.Prelude.{◌≡◌, Some};
-ghost use Rattle.icu_locale_core.specs.ParseError.{error_name};
+ghost use Rattle.icu_locale_core.specs.Identifier.{parse_error_name};
 ghost use Rattle.icu_locale_core.specs.declared.parse_error.ParseError.TheVariants.{Memory};
 
 use std::alloc::{AllocError, AllocFailed};
@@ -19,7 +19,7 @@ pub enum ParseError {
 }
 
 impl fmt::Display for ParseError {
-    ghost output = { λ e. Some (error_name e) };
+    ghost output = { λ e. Some (parse_error_name e) };
 
     fn fmt<W: fmt::Write>(&self, f: &mut fmt::Formatter<W>) -> fmt::Result {
         f.write_str(match self {

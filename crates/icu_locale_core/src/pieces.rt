@@ -3,7 +3,7 @@ ghost use Rattle.std.specs.Prelude.{◌≡◌, ◌∷◌, [], List, ℕ, MatchOp
 ghost use Rattle.std.specs.Iterator.{YieldsFirstRef, item_count};
 ghost use Rattle.std.specs.List.{position};
 ghost use Rattle.icu_locale_core.specs.Identifier.{is_separator, pieces};
-ghost use Rattle.icu_locale_core.specs.inner.Pieces.{pieces_of, first_of};
+ghost use Rattle.icu_locale_core.specs.inner.Identifiers.{pieces_if_any, first_of};
 
 use std::marker::Model;
 
@@ -17,7 +17,7 @@ pub struct Pieces<'a> {
 impl<'a> Model for Pieces<'a> {
     ghost Value = { List (List ℕ) };
 
-    ghost view = { λ a. first_of a.first (pieces_of a.rest) };
+    ghost view = { λ a. first_of a.first (pieces_if_any a.rest) };
 }
 
 impl<'a> Pieces<'a> {
@@ -69,7 +69,7 @@ impl<'a> Iterator for Pieces<'a> {
 // The first piece of a text, and what follows its separator.
 #[inline(always)]
 fn cut(text: &[u8]) -> (&[u8], Option<&[u8]>)
-    ensures { pieces text.now ≡ result.0.now ∷ pieces_of result.1 }
+    ensures { pieces text.now ≡ result.0.now ∷ pieces_if_any result.1 }
 {
     match separator(text) {
         Some(place) => {

@@ -2,7 +2,7 @@
 ghost use Rattle.std.specs.Prelude.{◌≡◌, ◌⊎◌, true, [], slice_index_or, Err};
 ghost use Rattle.std.specs.List.{list_any};
 ghost use Rattle.icu_locale_core.specs.Subtag.{is_language, is_script, is_region, is_variant, titlecase, uppercase};
-ghost use Rattle.icu_locale_core.specs.inner.Reading.{optional, after_optional, read_variants, read_pieces};
+ghost use Rattle.icu_locale_core.specs.inner.Identifiers.{optional_subtag, after_optional_subtag, read_variants, read_pieces};
 
 use crate::pieces::Pieces;
 use crate::{Language, LanguageIdentifier, ParseError, Region, Script, Variant, Variants};
@@ -34,8 +34,8 @@ pub fn read_identifier(
 
 #[inline(always)]
 fn read_script(pieces: &mut Pieces<'_>) -> Option<Script>
-    ensures read { result ≡ optional is_script titlecase pieces.old }
-    ensures rest { pieces.new ≡ after_optional is_script pieces.old }
+    ensures read { result ≡ optional_subtag is_script titlecase pieces.old }
+    ensures rest { pieces.new ≡ after_optional_subtag is_script pieces.old }
 {
     let script = Script::try_from_bytes(pieces.peek()?)?;
     let _ = pieces.next();
@@ -44,8 +44,8 @@ fn read_script(pieces: &mut Pieces<'_>) -> Option<Script>
 
 #[inline(always)]
 fn read_region(pieces: &mut Pieces<'_>) -> Option<Region>
-    ensures read { result ≡ optional is_region uppercase pieces.old }
-    ensures rest { pieces.new ≡ after_optional is_region pieces.old }
+    ensures read { result ≡ optional_subtag is_region uppercase pieces.old }
+    ensures rest { pieces.new ≡ after_optional_subtag is_region pieces.old }
 {
     let region = Region::try_from_bytes(pieces.peek()?)?;
     let _ = pieces.next();

@@ -1,5 +1,5 @@
 //! Values of keywords.
-ghost use Rattle.std.specs.Prelude.{◌≡◌, ◌≢◌, ◌↔◌, ◌++◌, [], false, codes, ◌==◌, Some, Err, IsOk, IfOk, IfErr, nat_eq, List, ℕ};
+ghost use Rattle.std.specs.Prelude.{◌≡◌, ◌≢◌, ◌++◌, [], false, codes, ◌==◌, Some, Err, IsOk, IfOk, IfErr, nat_eq, List, ℕ};
 ghost use Rattle.std.proofs.Common.{rules};
 ghost use Rattle.std.specs.Cmp.Lexicographic.{pointwise};
 ghost use Rattle.std.specs.Cmp.Rules.{comparing};

@@ -11,8 +11,7 @@ ghost use Rattle.std.specs.List.Sorted.{IsStrictlySortedBy};
 ghost use Rattle.std.specs.Ordering.{as_partial_cmp, on};
 ghost use Rattle.icu_locale_core.specs.Subtag.{IsVariant};
 ghost use Rattle.icu_locale_core.specs.TextSet.{text_cmp, empty, contains, from_list, rising, len, is_subset, union, difference, TextSet, text_set_code};
-ghost use Rattle.icu_locale_core.specs.inner.Merging.{HasAllAbove, least, behind};
-ghost use Rattle.icu_locale_core.specs.inner.VariantList.{IsVariantList};
+ghost use Rattle.icu_locale_core.specs.inner.Variants.{HasAllAbove, least, behind, IsVariantList};
 ghost use Rattle.icu_locale_core.specs.laws.TextSets.{is_among, text_lists_ties};
 ghost use Rattle.std.specs.Hash as fed;
 

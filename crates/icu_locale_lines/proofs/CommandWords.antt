@@ -7,13 +7,13 @@ use Rattle.std.proofs.lemmas.List.{length-map, append_cancel_right}
 use Rattle.icu_locale_core.specs.Identifier.{IsIdentifier, Spells, pieces, subtags}
 use Rattle.icu_locale_core.specs.Subtag.{has_length, is_alphabetic, lowercase}
 use Rattle.icu_locale_core.specs.declared.langid.LanguageIdentifier.{LanguageIdentifier}
-use Rattle.icu_locale_names.specs.declared.preferences.DisplayNamesPreferences.{DisplayNamesPreferences}
+use Rattle.icu_locale_names.specs.declared.options.DisplayNamesPreferences.{DisplayNamesPreferences}
 use Rattle.icu_locale_lines.specs.Commands.{AreArguments, AreCommandWords, AreWords, SpellsPreferences, command_word}
 use Rattle.icu_locale_names.specs.LanguageChains.{chain_word}
+use Rattle.icu_locale_lines.specs.laws.Commands.{alone_or_name, counted, other_word}
 use Rattle.icu_locale_lines.specs.declared.command.Command.{Command}
-use Rattle.icu_locale_lines.specs.declared.command.Command.TheVariants.{Settled, Lines}
+use Rattle.icu_locale_lines.specs.declared.command.Command.TheVariants.{Lines}
 use Rattle.icu_locale_lines.specs.declared.command.LineCommand.TheVariants as command
-use Rattle.icu_locale_lines.specs.declared.transform.Transform.TheVariants.{Maximize, Minimize, MinimizeScript}
 use Rattle.icu_locale_names.specs.declared.name_chain.NameChain.{NameChain}
 
 -- a list of three
@@ -36,28 +36,15 @@ nothing : (a b : List ℕ) → a ∷ b ∷ [] ≡ [] → ⊥
 nothing a b e = absurd (cc)
 
 pub name_only : (chain text : List ℕ) (c : Command) → AreArguments c (chain ∷ text ∷ []) → IsName c chain text
-name_only chain text (Lines (command.Transform Maximize)) e = absurd (nothing chain text e)
-name_only chain text (Lines (command.Transform Minimize)) e = absurd (nothing chain text e)
-name_only chain text (Lines (command.Transform MinimizeScript)) e = absurd (nothing chain text e)
-name_only chain text (Lines command.Canonicalize) e = absurd (nothing chain text e)
-name_only chain text (Lines command.Direction) e = absurd (nothing chain text e)
-name_only chain text Settled e = absurd (nothing chain text e)
-name_only chain text (Lines command.Negotiate) e = absurd (nothing chain text e)
-name_only chain text (Lines (command.Name k p)) (t, is, spells) =
-    let same : chain ≡ chain_word k = cc in
-    let text_same : text ≡ t = cc in
-    record { kind = k; preferences = p; is = refl; named = same; spelled = subst (λ u. SpellsPreferences u p) (sym text_same) spells }
-
--- the words of a command are one, or three of which the first is `name`
-pub counted : (words : List (List ℕ)) (c : Command) → AreCommandWords words c → (length words ≡ 1) ⊎ ((chain : List ℕ) × (text : List ℕ) × (words ≡ codes "name" ∷ chain ∷ text ∷ []))
-counted words (Lines (command.Transform Maximize)) (arguments, none, is) = inl (ap length is ∙ ap (λ a. length (codes "maximize" ∷ a)) none)
-counted words (Lines (command.Transform Minimize)) (arguments, none, is) = inl (ap length is ∙ ap (λ a. length (codes "minimize" ∷ a)) none)
-counted words (Lines (command.Transform MinimizeScript)) (arguments, none, is) = inl (ap length is ∙ ap (λ a. length (codes "maximize" ∷ a)) none)
-counted words (Lines command.Canonicalize) (arguments, none, is) = inl (ap length is ∙ ap (λ a. length (codes "maximize" ∷ a)) none)
-counted words (Lines command.Direction) (arguments, none, is) = inl (ap length is ∙ ap (λ a. length (codes "maximize" ∷ a)) none)
-counted words Settled (arguments, none, is) = inl (ap length is ∙ ap (λ a. length (codes "maximize" ∷ a)) none)
-counted words (Lines command.Negotiate) (arguments, none, is) = inl (ap length is ∙ ap (λ a. length (codes "maximize" ∷ a)) none)
-counted words (Lines (command.Name k p)) (arguments, (text, are, spells), is) = inr (chain_word k, text, is ∙ ap (λ a. codes "name" ∷ a) are)
+name_only chain text c are =
+    elim (alone_or_name c (chain ∷ text ∷ []) are) [
+      | inl none ↦ absurd (nothing chain text none)
+      | inr name ↦
+          let words = name.words in
+          let named : chain ≡ chain_word name.kind = cc in
+          let same : text ≡ name.text = cc in
+          record { kind = name.kind; preferences = name.preferences; is = name.is; named = named; spelled = subst (λ u. SpellsPreferences u name.preferences) (sym same) name.spelled }
+    ]
 
 -- the last of two lists that are one
 ends : {X : Type 0} (xs ys : List X) (x y : X) → xs ++ x ∷ [] ≡ ys ++ y ∷ [] → x ≡ y
@@ -79,17 +66,6 @@ unspelled x is spells =
   where
     first : (order : List (List ℕ)) → map lowercase (pieces (codes "json")) ≡ map lowercase (subtags x order) → lowercase (codes "json") ≡ lowercase x.language
     first order e = cc
-
--- a word of a command alone is not `json`
-other_word : (c : Command) → AreArguments c [] → codes "json" ≡ command_word c → ⊥
-other_word (Lines (command.Transform Maximize)) none e = absurd (cc)
-other_word (Lines (command.Transform Minimize)) none e = absurd (cc)
-other_word (Lines (command.Transform MinimizeScript)) none e = absurd (cc)
-other_word (Lines command.Canonicalize) none e = absurd (cc)
-other_word (Lines command.Direction) none e = absurd (cc)
-other_word Settled none e = absurd (cc)
-other_word (Lines command.Negotiate) none e = absurd (cc)
-other_word (Lines (command.Name k p)) (text, none, spells) e = absurd (cc)
 
 -- three words of a command are those of a name
 pub three_named : (words : List (List ℕ)) (word chain text : List ℕ) → words ≡ word ∷ chain ∷ text ∷ [] → (c : Command) → AreCommandWords words c → (word ≡ codes "name") × AreArguments c (chain ∷ text ∷ [])

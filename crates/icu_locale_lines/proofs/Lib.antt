@@ -1,5 +1,4 @@
 mod CommandWords
-mod FirstBytes
 mod FirstLines
 mod LineAnswers
 mod LineCuts

@@ -4,7 +4,7 @@ use Rattle.std.specs.List.{slice_get}
 use Rattle.std.proofs.lemmas.Option.{same_Some, none-some}
 use Rattle.icu_locale.specs.LikelyTable.{likely}
 use Rattle.icu_locale.specs.Negotiation.{Negotiation, IsNegotiated}
-use Rattle.icu_locale_lines.specs.Negotiations.{IsNegotiatedLine}
+use Rattle.icu_locale_lines.specs.Lists.{IsNegotiatedLine}
 use Rattle.icu_locale_core.specs.Identifier.{IsIdentifier, Spells}
 use Rattle.icu_locale_core.specs.declared.langid.LanguageIdentifier.{LanguageIdentifier}
 use Rattle.icu_locale_core.specs.declared.locale.Locale.{Locale}
@@ -21,7 +21,7 @@ use Rattle.icu_locale_lines.specs.declared.error.CliError.{CliError}
 use Rattle.icu_locale_lines.specs.Answers.{IsForm, IsTransformed, IsCanonicalized, IsIdentifierAnswer, IsLocaleAnswer}
 use Rattle.icu_locale_lines.specs.Locales.{SpellsLocale}
 use Rattle.icu_locale_lines.specs.Texts.{transformed_line, canonical_line, matched_line}
-use Rattle.icu_locale_lines.specs.inner.Uncanonical.{TellsRefusal}
+use Rattle.icu_locale_lines.specs.inner.Parts.{TellsRefusal}
 
 -- the line of an identifier's form
 pub transformed_from_line : (form : Transform) (table : LikelySubtags) (x y : LanguageIdentifier) (m : TransformResult) → IsForm form table x y m → (r : Result Answer CliError)

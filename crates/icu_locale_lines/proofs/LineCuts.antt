@@ -1,12 +1,27 @@
--- Where a text is cut: at its first line feed, and at any other separator.
-use Rattle.std.proofs.Common.{◌≡◌, ◌≢◌, ℕ, Bool, ◌+◌, ◌≤◌, nat_lt, length, arith, true, false, cond, List, [], ◌∷◌, take, drop, Some, None, refl, ap, sym, ◌∙◌}
+-- Where a text is cut: at its first line feed, and at any other separator, as memchr finds it.
+use Rattle.std.proofs.Common.{◌≡◌, ℕ, ◌<◌, ◌≤◌, Bool, true, false, List, length, Option, Some, None, refl, ap, sym, ◌∙◌, arith, cond, nat_lt, ◌≢◌, ◌+◌, [], ◌∷◌, take, drop}
 use Rattle.std.specs.List.{position, position_or_len, before_first, after_first}
-use Rattle.std.proofs.lemmas.Option.{cond_some, none-some}
 use Rattle.std.proofs.lemmas.Bool.Decides.{nat_tests}
+use Rattle.std.proofs.lemmas.List.Sums.{position_or_len_is}
+use Rattle.std.proofs.lemmas.Option.{cond_some, none-some}
 use Rattle.std.proofs.lemmas.List.{take_all, drop_all}
+use Rattle.memchr.specs.Find.{IsFirstByte}
 use Rattle.icu_locale_core.specs.laws.Cuts.{slice_split-position, slice_split-no_position}
 use Rattle.icu_locale_lines.specs.Lines.{is_line_feed, without_empty_last, lines}
 use Rattle.icu_locale_lines.specs.laws.Parts.{has_pieces, without_empty_last-more}
+
+not_true : (b : Bool) → (b ≡ true → ⊥) → b ≡ false
+not_true true never = absurd (never refl)
+not_true false never = refl
+
+pub position_from_first : (test : ℕ → Bool) (t : List ℕ) (r : Option ℕ) → IsFirstByte test t r → r ≡ position test t
+position_from_first test t None none =
+    let place : position_or_len test t ≡ length t = position_or_len_is test t (length t) 0 (omega arith) (λ k below. not_true _ (none k (omega arith) below)) (λ less. absurd (omega (arith, less))) in
+    grind (arith, nat_tests)
+position_from_first test t (Some k) (first, is) =
+    let place : position_or_len test t ≡ k = position_or_len_is test t k 0 (omega (arith, first.high)) (λ j below. not_true _ (first.before j (omega arith) below)) (λ _. is) in
+    let high : k < length t = first.high in
+    grind (arith, nat_tests)
 
 pub lines-position : (t : List ℕ) (n : ℕ) → position is_line_feed t ≡ Some n → lines t ≡ take n t ∷ lines (drop (n + 1) t)
 lines-position t n at =

@@ -8,7 +8,7 @@ use Rattle.icu_locale_core.specs.Identifier.{IsIdentifier, Spells, ReadsIdentifi
 use Rattle.icu_locale_core.specs.declared.langid.LanguageIdentifier.{LanguageIdentifier}
 use Rattle.icu_locale_core.specs.declared.parse_error.ParseError.{ParseError}
 use Rattle.icu_locale_core.specs.declared.parse_error.ParseError.TheVariants.{InvalidLanguage, InvalidSubtag, Memory}
-use Rattle.icu_locale_lines.specs.Lists.{is_space, listed, SpellsAll, IsRefusal, IsFirstFault}
+use Rattle.icu_locale_lines.specs.Lists.{is_space, listed, SpellsAll, IsFault, IsFirstFault}
 
 -- one more at the end of both lists
 pub AllZip-push : {A B : Type 0} (P : A → B → Type 0) (xs : List A) (ys : List B) (x : A) (y : B) → AllZip P xs ys → P x y → AllZip P (xs ++ x ∷ []) (ys ++ y ∷ [])
@@ -40,7 +40,7 @@ is_invalid_subtag (Err InvalidSubtag) = Unit {0}
 is_invalid_subtag r = ⊥
 
 -- why reading refuses a text
-pub refusal_from_reading : (t : List ℕ) (e : ParseError) → ReadsIdentifier t (Err e) → (e ≡ Memory) ⊎ IsRefusal t e
+pub refusal_from_reading : (t : List ℕ) (e : ParseError) → ReadsIdentifier t (Err e) → (e ≡ Memory) ⊎ IsFault t e
 unfolding is_invalid_subtag
 refusal_from_reading t InvalidLanguage reads = inr (reads.language.0 refl)
 refusal_from_reading t InvalidSubtag reads = inr (by (starts_with_language t) refl, reads.subtag refl)
@@ -54,7 +54,7 @@ refusal_from_reading t Memory reads = inl refl
 pub refused_here : (texts : List (List ℕ)) (n : ℕ) (identifiers : List LanguageIdentifier) → SpellsAll (take n texts) identifiers → n < length texts → (t : List ℕ) → t ≡ get_or texts n t → (e : ParseError) → ReadsIdentifier t (Err e) → (e ≡ Memory) ⊎ IsFirstFault texts e
 refused_here texts n identifiers spelled low t here e reads = by (refusal_from_reading t e reads)
   where
-    by : (e ≡ Memory) ⊎ IsRefusal t e → (e ≡ Memory) ⊎ IsFirstFault texts e
+    by : (e ≡ Memory) ⊎ IsFault t e → (e ≡ Memory) ⊎ IsFirstFault texts e
     by (inl memory) = inl memory
     by (inr refusal) = inr (record {
       earlier = take n texts;

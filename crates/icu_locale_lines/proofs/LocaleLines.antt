@@ -11,9 +11,9 @@ use Rattle.icu_locale_core.specs.declared.langid.LanguageIdentifier.{LanguageIde
 use Rattle.icu_locale_core.specs.declared.locale.Locale.{Locale}
 use Rattle.icu_locale_core.specs.declared.parse_error.ParseError.{ParseError}
 use Rattle.icu_locale_core.specs.declared.parse_error.ParseError.TheVariants.{InvalidLanguage, InvalidSubtag, Memory}
-use Rattle.icu_locale_lines.specs.Lists.{IsRefusal}
+use Rattle.icu_locale_lines.specs.Lists.{IsFault}
 use Rattle.icu_locale_lines.specs.Locales.{is_tab, identifier_text, value_text, SpellsLocale, IsValueFault, IsLocaleFault}
-use Rattle.icu_locale_lines.specs.inner.LocaleParts.{IsLocaleOf, IsRefusedValue}
+use Rattle.icu_locale_lines.specs.inner.Parts.{IsLocaleOf, IsRefusedValue}
 use Rattle.icu_locale_lines.proofs.ListReading.{refusal_from_reading}
 
 -- what stands behind a tab that is found, and without one nothing does
@@ -86,6 +86,6 @@ module _ (line t : List ℕ) (first : t ≡ identifier_text line) where
   pub fault_from_identifier : (e : ParseError) → ReadsIdentifier t (Err e) → (e ≡ Memory) ⊎ IsLocaleFault line e
   fault_from_identifier e reads = by (refusal_from_reading t e reads)
     where
-      by : (e ≡ Memory) ⊎ IsRefusal t e → (e ≡ Memory) ⊎ IsLocaleFault line e
+      by : (e ≡ Memory) ⊎ IsFault t e → (e ≡ Memory) ⊎ IsLocaleFault line e
       by (inl memory) = inl memory
-      by (inr refusal) = inr (record { fault = inl (subst (λ s. IsRefusal s e) first refusal) })
+      by (inr refusal) = inr (record { fault = inl (subst (λ s. IsFault s e) first refusal) })

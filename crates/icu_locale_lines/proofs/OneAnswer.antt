@@ -8,7 +8,7 @@ use Rattle.std.proofs.lemmas.Bool.Decides.{nat_tests}
 use Rattle.std.proofs.lemmas.List.{length-map}
 use Rattle.std.proofs.lemmas.Option.{same_Some}
 use Rattle.icu_locale_core.specs.Subtag.{has_length, is_language, lowercase}
-use Rattle.icu_locale_core.specs.Identifier.{IsIdentifier, Spells, pieces, subtags, starts_with_language}
+use Rattle.icu_locale_core.specs.Identifier.{IsIdentifier, Spells, pieces, subtags, starts_with_language, parse_error_name}
 use Rattle.icu_locale_core.specs.declared.langid.LanguageIdentifier.{LanguageIdentifier}
 use Rattle.icu_locale_core.specs.declared.parse_error.ParseError.{ParseError}
 use Rattle.icu_locale_core.specs.declared.parse_error.ParseError.TheVariants.{InvalidLanguage, InvalidSubtag, Memory}
@@ -23,21 +23,19 @@ use Rattle.icu_locale.specs.declared.expander.TransformResult.{TransformResult}
 use Rattle.icu_locale.specs.declared.expander.TransformResult.TheVariants.{Modified, Unmodified}
 use Rattle.icu_locale.specs.Canonical.{IsCanonical}
 use Rattle.icu_locale.specs.Negotiation.{Negotiation, IsNegotiated}
-use Rattle.icu_locale.specs.Refusals.{ComesAgainFirst, ValueComesAgainFirst, IsMemory, IsRefusal as IsRefusedBy}
+use Rattle.icu_locale.specs.Refusals.{ComesAgainFirst, ValueComesAgainFirst, IsMemory, IsRefusal}
 use Rattle.icu_locale.specs.declared.canonicalizer.CanonicalizeError.{CanonicalizeError}
 use Rattle.icu_locale.specs.declared.canonicalizer.CanonicalizeError.TheVariants.{NoFixedPoint, NoSubdivisionFixedPoint}
 use Rattle.icu_locale.specs.declared.canonicalizer.rules.Rules.{Rules}
-use Rattle.icu_locale_core.specs.ParseError.{error_name}
 use Rattle.icu_locale_core.specs.declared.locale.Locale.{Locale}
 use Rattle.icu_locale_lines.specs.declared.work.Work.{Work}
 use Rattle.icu_locale_lines.specs.declared.work.Work.TheVariants as work
 use Rattle.icu_locale_lines.specs.Locales.{SpellsLocale, SpellsSome, IsLocaleFault, IsValueFault, identifier_text, value_text}
-use Rattle.icu_locale_lines.specs.Negotiations.{IsNegotiatedLine, TellsMatch}
+use Rattle.icu_locale_lines.specs.Lists.{IsNegotiatedLine, TellsMatch, listed, SpellsAll, IsFault}
 use Rattle.icu_locale_lines.specs.declared.transform.Transform.{Transform}
 use Rattle.icu_locale_lines.specs.declared.transform.Transform.TheVariants.{Maximize, Minimize, MinimizeScript}
 use Rattle.icu_locale_lines.specs.Answers.{IsAnswer, IsForm, IsTransformed, IsDirected, IsNamed, IsCanonicalized, IsIdentifierAnswer, IsLocaleAnswer, IsListAnswer}
-use Rattle.icu_locale_lines.specs.Lists.{listed, SpellsAll, IsRefusal}
-use Rattle.icu_locale_lines.specs.Names.{IsNamedLine, name_by}
+use Rattle.icu_locale_lines.specs.Names.{IsNamedLine, name_asked}
 use Rattle.icu_locale_lines.specs.Texts.{transformed_line, canonical_line, refused_line, matched_line}
 
 -- two answers are the same
@@ -86,7 +84,7 @@ begins t x is_x spells = by (pieces t) spells.same
         sym (is_language_lower p) ∙ ap is_language (ap first_of is ∙ is_x.language.written) ∙ is_x.language.member
 
 -- why a text spells no identifier is told by the text
-refusal_one : (t : List ℕ) (e f : ParseError) → IsRefusal t e → IsRefusal t f → e ≡ f
+refusal_one : (t : List ℕ) (e f : ParseError) → IsFault t e → IsFault t f → e ≡ f
 refusal_one t InvalidLanguage InvalidLanguage p q = refl
 refusal_one t InvalidLanguage InvalidSubtag p q = absurd (false≢true (sym p ∙ q.0))
 refusal_one t InvalidLanguage Memory p q = absurd q
@@ -96,7 +94,7 @@ refusal_one t InvalidSubtag Memory p q = absurd q
 refusal_one t Memory f p q = absurd p
 
 -- a text that spells an identifier is not refused
-not_refused : (t : List ℕ) (x : LanguageIdentifier) (e : ParseError) → IsIdentifier x → Spells t x → IsRefusal t e → ⊥
+not_refused : (t : List ℕ) (x : LanguageIdentifier) (e : ParseError) → IsIdentifier x → Spells t x → IsFault t e → ⊥
 not_refused t x InvalidLanguage is_x spells why = false≢true (sym why ∙ begins t x is_x spells)
 not_refused t x InvalidSubtag is_x spells why = why.1 x is_x spells
 not_refused t x Memory is_x spells why = why
@@ -137,12 +135,12 @@ module _ (one two : List ℕ) (a b : Bool) where
   identifier_one spelled_once IsLine line_one line (inl h) (inr k) = absurd (not_refused line h.0 k.0 h.1 h.2 k.1)
   identifier_one spelled_once IsLine line_one line (inr h) (inl k) = absurd (not_refused line k.0 h.0 k.1 k.2 h.1)
   identifier_one spelled_once IsLine line_one line (inr h) (inr k) =
-      same h.2 k.2 (ap (λ e. refused_line (error_name e)) (refusal_one line h.0 k.0 h.1 k.1)) h.3 k.3
+      same h.2 k.2 (ap (λ e. refused_line (parse_error_name e)) (refusal_one line h.0 k.0 h.1 k.1)) h.3 k.3
 
 -- the facts of canonicalization that are cited
 pub record CanonicalFacts (likely : LikelySubtags) (rules : Rules) : Type 0 where
   pub one : (old new other : Locale) → IsCanonical likely rules old new → IsCanonical likely rules old other → new ≡ other
-  pub refused : (old new : Locale) (e : CanonicalizeError) → IsCanonical likely rules old new → IsRefusedBy likely rules old e → IsMemory e
+  pub refused : (old new : Locale) (e : CanonicalizeError) → IsCanonical likely rules old new → IsRefusal likely rules old e → IsMemory e
   pub apart : (old : Locale) (z : LanguageIdentifier) (v : List (List ℕ)) → ComesAgainFirst likely rules old z → ValueComesAgainFirst likely rules old v → ⊥
 
 module _ (likely : LikelySubtags) (rules : Rules) (facts : CanonicalFacts likely rules) (old : Locale) where
@@ -189,7 +187,7 @@ module _ (spelled_once : (t : List ℕ) (x y : LanguageIdentifier) → IsIdentif
   no_locale_fault : (line : List ℕ) (old : Locale) (e : ParseError) → SpellsLocale line old → IsLocaleFault line e → ⊥
   no_locale_fault line old e p f = by f.fault
     where
-      by : IsRefusal (identifier_text line) e ⊎ (SpellsSome (identifier_text line) × IsValueFault (value_text line) e) → ⊥
+      by : IsFault (identifier_text line) e ⊎ (SpellsSome (identifier_text line) × IsValueFault (value_text line) e) → ⊥
       by (inl r) = not_refused (identifier_text line) old.id e p.known p.id r
       by (inr r) = false≢true (sym r.1.0 ∙ p.readable)
 
@@ -197,7 +195,7 @@ module _ (spelled_once : (t : List ℕ) (x y : LanguageIdentifier) → IsIdentif
   locale_fault_one line e f p q = by p.fault q.fault
     where
       Fault : ParseError → Type 0
-      Fault e = IsRefusal (identifier_text line) e ⊎ (SpellsSome (identifier_text line) × IsValueFault (value_text line) e)
+      Fault e = IsFault (identifier_text line) e ⊎ (SpellsSome (identifier_text line) × IsValueFault (value_text line) e)
 
       by : Fault e → Fault f → e ≡ f
       by (inl r) (inl s) = refusal_one (identifier_text line) e f r s
@@ -212,7 +210,7 @@ module _ (spelled_once : (t : List ℕ) (x y : LanguageIdentifier) → IsIdentif
     locale_answer_one likely rules facts line (inl h) (inr k) = absurd (no_locale_fault line h.0 k.0 h.1 k.1)
     locale_answer_one likely rules facts line (inr h) (inl k) = absurd (no_locale_fault line k.0 h.0 k.1 h.1)
     locale_answer_one likely rules facts line (inr h) (inr k) =
-        same h.2 k.2 (ap (λ e. refused_line (error_name e)) (locale_fault_one line h.0 k.0 h.1 k.1)) h.3 k.3
+        same h.2 k.2 (ap (λ e. refused_line (parse_error_name e)) (locale_fault_one line h.0 k.0 h.1 k.1)) h.3 k.3
 
   -- the identifiers that texts spell are one list
   all_one : (texts : List (List ℕ)) (xs ys : List LanguageIdentifier) → SpellsAll texts xs → SpellsAll texts ys → xs ≡ ys
@@ -227,7 +225,7 @@ module _ (spelled_once : (t : List ℕ) (x y : LanguageIdentifier) → IsIdentif
       λ i. e i ∷ others i
 
   -- texts that all spell identifiers have no fault
-  no_fault : (earlier : List (List ℕ)) (text : List ℕ) (later : List (List ℕ)) (e : ParseError) (xs : List LanguageIdentifier) → SpellsAll (earlier ++ text ∷ later) xs → IsRefusal text e → ⊥
+  no_fault : (earlier : List (List ℕ)) (text : List ℕ) (later : List (List ℕ)) (e : ParseError) (xs : List LanguageIdentifier) → SpellsAll (earlier ++ text ∷ later) xs → IsFault text e → ⊥
   no_fault [] text later e [] p why = p
   no_fault [] text later e (x ∷ xs) p why = not_refused text x e p.0.0 p.0.1 why
   no_fault (t ∷ ts) text later e [] p why = p
@@ -235,12 +233,12 @@ module _ (spelled_once : (t : List ℕ) (x y : LanguageIdentifier) → IsIdentif
 
   -- the first fault is one
   fault_one : (ps : List (List ℕ)) (t : List ℕ) (bs cs : List (List ℕ)) (u : List ℕ) (ds : List (List ℕ)) (e f : ParseError) (xs ys : List LanguageIdentifier) → ps ++ t ∷ bs ≡ cs ++ u ∷ ds
-      → SpellsAll ps xs → SpellsAll cs ys → IsRefusal t e → IsRefusal u f → e ≡ f
-  fault_one [] t bs [] u ds e f xs ys is p q r s = refusal_one u e f (subst (λ w. IsRefusal w e) (ap first_of is) r) s
+      → SpellsAll ps xs → SpellsAll cs ys → IsFault t e → IsFault u f → e ≡ f
+  fault_one [] t bs [] u ds e f xs ys is p q r s = refusal_one u e f (subst (λ w. IsFault w e) (ap first_of is) r) s
   fault_one [] t bs (c ∷ cs) u ds e f xs [] is p q r s = absurd q
-  fault_one [] t bs (c ∷ cs) u ds e f xs (y ∷ ys) is p q r s = absurd (not_refused c y e q.0.0 q.0.1 (subst (λ w. IsRefusal w e) (ap first_of is) r))
+  fault_one [] t bs (c ∷ cs) u ds e f xs (y ∷ ys) is p q r s = absurd (not_refused c y e q.0.0 q.0.1 (subst (λ w. IsFault w e) (ap first_of is) r))
   fault_one (g ∷ ps) t bs [] u ds e f [] ys is p q r s = absurd p
-  fault_one (g ∷ ps) t bs [] u ds e f (x ∷ xs) ys is p q r s = absurd (not_refused g x f p.0.0 p.0.1 (subst (λ w. IsRefusal w f) (sym (ap first_of is)) s))
+  fault_one (g ∷ ps) t bs [] u ds e f (x ∷ xs) ys is p q r s = absurd (not_refused g x f p.0.0 p.0.1 (subst (λ w. IsFault w f) (sym (ap first_of is)) s))
   fault_one (g ∷ ps) t bs (c ∷ cs) u ds e f [] ys is p q r s = absurd p
   fault_one (g ∷ ps) t bs (c ∷ cs) u ds e f (x ∷ xs) [] is p q r s = absurd q
   fault_one (g ∷ ps) t bs (c ∷ cs) u ds e f (x ∷ xs) (y ∷ ys) is p q r s = fault_one ps t bs cs u ds e f xs ys (ap others_of is) p.1 q.1 r s
@@ -260,7 +258,7 @@ module _ (spelled_once : (t : List ℕ) (x y : LanguageIdentifier) → IsIdentif
       let f = h.1 in
       let g = k.1 in
       let e = fault_one f.earlier f.text f.later g.earlier g.text g.later h.0 k.0 f.identifiers g.identifiers (sym f.parted ∙ g.parted) f.spelled g.spelled f.refused g.refused in
-      same h.2 k.2 (ap (λ e. refused_line (error_name e)) e) h.3 k.3
+      same h.2 k.2 (ap (λ e. refused_line (parse_error_name e)) e) h.3 k.3
 
   pub answer_one : ((favor : Favor) (table : LikelySubtags) (x y z : LanguageIdentifier) → IsMinimalForm favor table x y → IsMinimalForm favor table x z → y ≡ z) → ((likely : LikelySubtags) (rules : Rules) → CanonicalFacts likely rules)
       → (work : Work) (line one two : List ℕ) (a b : Bool) → IsAnswer work line one a → IsAnswer work line two b → SameAnswer one two a b
@@ -268,4 +266,4 @@ module _ (spelled_once : (t : List ℕ) (x y : LanguageIdentifier) → IsIdentif
   answer_one minimal_one facts (work.Canonicalize c) line one two a b h k = locale_answer_one one two a b (likely c.expander) c.rules (facts (likely c.expander) c.rules) line h k
   answer_one minimal_one facts (work.Direction d) line one two a b h k = identifier_one one two a b spelled_once (IsDirected d) (λ x p q. same p.0 q.0 refl p.1 q.1) line h k
   answer_one minimal_one facts (work.Negotiate n) line one two a b h k = list_answer_one one two a b n line h k
-  answer_one minimal_one facts (work.Name n) line one two a b h k = identifier_one one two a b spelled_once (IsNamed n) (λ x p q. named_one one two a b (name_by n x) p q) line h k
+  answer_one minimal_one facts (work.Name n) line one two a b h k = identifier_one one two a b spelled_once (IsNamed n) (λ x p q. named_one one two a b (name_asked n x) p q) line h k

@@ -1,7 +1,7 @@
 -- How far a run has come.
 use Rattle.std.proofs.Common.{◌≡◌, ◌↔◌, ℕ, Bool, true, false, ◌&&◌, List, [], ◌∷◌, ◌++◌, Option, refl, ap, sym, subst, ◌∙◌, append_assoc, append-nil}
 use Rattle.std.specs.Io.KnownBytes.{Appends}
-use Rattle.std.proofs.KnownBytes.{Appends-nil, Appends-trans}
+use Rattle.std.proofs.KnownBytes.{Appends-trans}
 use Rattle.std.proofs.lemmas.Bool.{false≢true}
 use Rattle.std.proofs.lemmas.List.Folds.{list_all-append}
 use Rattle.std.proofs.lemmas.Grind.{flat_map-append}
@@ -10,9 +10,9 @@ use Rattle.icu_locale_lines.specs.declared.status.Status.TheVariants.{Accepted}
 use Rattle.icu_locale_lines.specs.declared.work.Work.{Work}
 use Rattle.icu_locale_lines.specs.Answers.{IsAnswer}
 use Rattle.icu_locale_lines.specs.Lines.{lines}
-use Rattle.icu_locale_names.specs.Writing.{AppendsPart}
+use Rattle.icu_locale_names.specs.Pieces.{AppendsPart}
 use Rattle.icu_locale_lines.proofs.ListReading.{AllZip-push}
-use Rattle.icu_locale_lines.specs.Runs.{AreAnswers, text_of, all_accepted, WritesAll, WritesWholeLines, WritesPart}
+use Rattle.icu_locale_lines.specs.Runs.{AreAnswers, text_of_lines, all_accepted, WritesPart}
 
 abbrev was_accepted : List ℕ × Bool → Bool
 was_accepted a = a.1
@@ -23,14 +23,11 @@ pub record Progress (work : Work) (input : List ℕ) (old new : Option (List ℕ
   pub parted : lines input ≡ answered ++ rest
   pub answers : List (List ℕ × Bool)
   pub each : AreAnswers work answered answers
-  pub written : Appends old new (text_of answers)
+  pub written : Appends old new (text_of_lines answers)
   pub status_is : (status ≡ Accepted) ↔ (all_accepted answers ≡ true)
 
-pub Progress-none : (work : Work) (input : List ℕ) (old : Option (List ℕ)) → Progress work input old old Accepted (lines input)
-Progress-none work input old = record { answered = []; parted = refl; answers = []; each = tt; written = Appends-nil old; status_is = (λ e. refl, λ e. refl) }
-
-text_of-push : (answers : List (List ℕ × Bool)) (text : List ℕ) (accepted : Bool) → text_of (answers ++ (text, accepted) ∷ []) ≡ text_of answers ++ text
-text_of-push answers text accepted = flat_map-append (λ a. a.0) answers ((text, accepted) ∷ []) ∙ ap (λ t. text_of answers ++ t) (append-nil text)
+text_of-push : (answers : List (List ℕ × Bool)) (text : List ℕ) (accepted : Bool) → text_of_lines (answers ++ (text, accepted) ∷ []) ≡ text_of_lines answers ++ text
+text_of-push answers text accepted = flat_map-append (λ a. a.0) answers ((text, accepted) ∷ []) ∙ ap (λ t. text_of_lines answers ++ t) (append-nil text)
 
 and_true : (a b : Bool) → (a && (b && true)) ≡ true → (a ≡ true) × (b ≡ true)
 and_true true true e = (refl, refl)
@@ -41,19 +38,6 @@ true_and : (a b : Bool) → a ≡ true → b ≡ true → (a && (b && true)) ≡
 true_and a b p q = λ i. p i && (q i && true)
 
 module _ (work : Work) (input : List ℕ) (old mid : Option (List ℕ)) (status : Status) (line : List ℕ) (rest : List (List ℕ)) (before : Progress work input old mid status (line ∷ rest)) where
-  -- a refusal before the next line is answered leaves whole lines
-  pub WritesWholeLines-before : WritesWholeLines work input old mid
-  WritesWholeLines-before = (
-    line ∷ rest,
-    record {
-      answered = before.answered;
-      parted = before.parted;
-      answers = before.answers;
-      each = before.each;
-      written = subst (Appends old mid) (sym (append-nil (text_of before.answers))) before.written;
-    },
-  )
-
   module _ (text : List ℕ) (accepted : Bool) (answer : IsAnswer work line text accepted) (new : Option (List ℕ)) where
     -- one more line
     pub Progress-more : Appends mid new text → (later : Status) → (later ≡ Accepted) ↔ ((status ≡ Accepted) × (accepted ≡ true)) → Progress work input old new later rest
@@ -62,7 +46,7 @@ module _ (work : Work) (input : List ℕ) (old mid : Option (List ℕ)) (status 
       parted = before.parted ∙ sym (append_assoc before.answered (line ∷ []) rest);
       answers = before.answers ++ (text, accepted) ∷ [];
       each = AllZip-push (λ line a. IsAnswer work line a.0 a.1) before.answered before.answers line (text, accepted) before.each answer;
-      written = subst (Appends old new) (sym (text_of-push before.answers text accepted)) (Appends-trans old mid new (text_of before.answers) text before.written appended);
+      written = subst (Appends old new) (sym (text_of-push before.answers text accepted)) (Appends-trans old mid new (text_of_lines before.answers) text before.written appended);
       status_is = (
         λ e. let both = after.0 e in list_all-append was_accepted before.answers ((text, accepted) ∷ []) ∙ true_and (all_accepted before.answers) accepted (before.status_is.0 both.0) both.1,
         λ e. let both = and_true (all_accepted before.answers) accepted (sym (list_all-append was_accepted before.answers ((text, accepted) ∷ [])) ∙ e) in after.1 (before.status_is.1 both.0, both.1),
@@ -86,15 +70,6 @@ module _ (work : Work) (input : List ℕ) (old mid : Option (List ℕ)) (status 
         parted = before.parted;
         answers = before.answers;
         each = before.each;
-        written = Appends-trans old mid new (text_of before.answers) part.written before.written part.appended;
+        written = Appends-trans old mid new (text_of_lines before.answers) part.written before.written part.appended;
       };
     }
-
--- where no line is left all are answered
-pub WritesAll-from_progress : (work : Work) (input : List ℕ) (old new : Option (List ℕ)) (status : Status) → Progress work input old new status [] → WritesAll work input old new status
-WritesAll-from_progress work input old new status all = record {
-  answers = all.answers;
-  each = subst (λ ls. AreAnswers work ls all.answers) (sym (all.parted ∙ append-nil all.answered)) all.each;
-  written = all.written;
-  status_is = all.status_is;
-}

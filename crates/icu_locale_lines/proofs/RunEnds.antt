@@ -8,27 +8,12 @@ use Rattle.icu_locale_lines.specs.declared.error.CliError.{CliError}
 use Rattle.icu_locale_lines.specs.declared.error.CliError.TheVariants.{Usage, Data, Read, Write, Memory, Available, NotSettled}
 use Rattle.icu_locale_lines.specs.declared.error.CliError.TheVariants as error
 use Rattle.icu_locale_lines.specs.declared.status.Status.{Status}
-use Rattle.icu_locale.specs.LikelyTable.{likely}
-use Rattle.icu_locale.specs.Settled.{AreSettled}
-use Rattle.icu_locale.specs.declared.expander.LocaleExpander.{LocaleExpander}
 use Rattle.icu_locale_lines.specs.declared.command.LineCommand.{LineCommand}
-use Rattle.icu_locale_lines.specs.declared.command.LineCommand.TheVariants.{Negotiate}
 use Rattle.icu_locale_lines.specs.declared.work.Work.{Work}
-use Rattle.icu_locale_lines.specs.Lines.{first_line}
+use Rattle.icu_locale_lines.specs.Lines.{Stream}
 use Rattle.icu_locale_lines.specs.Runs.{ReadsAll, WritesAll, WritesWholeLines, WritesPart}
 use Rattle.icu_locale_lines.specs.Works.{has_tables, text_answered, IsWorkOf, IsUnsettled}
-use Rattle.icu_locale_lines.specs.Causes.{IsRefusedList}
-use Rattle.icu_locale_lines.specs.Output.{Stream}
-use Rattle.icu_locale_lines.specs.WholeRuns.{WritesLines, WritesSettled, StopsAmongLines, IsRefusedLines, IsRefusedSettled, IsRefusedOutput, IsRun, IsLineRun, IsRefusedLineRun, IsRefusedRun, ReadsTables, IsRefusedJsonRun}
-
--- the end of `settled` is the end of a run that reads nothing
-pub settled_run : (t : Tables) (read wrote wrote' : Option (List ℕ)) (r : Result Status CliError) → IfOk r (WritesSettled t wrote wrote') → IfOk r (IsRun command.Settled t read read wrote wrote')
-settled_run t read wrote wrote' (Ok s) h = (refl, h)
-settled_run t read wrote wrote' (Err e) h = tt
-
-pub settled_refused : (t : Tables) (read wrote wrote' : Option (List ℕ)) (r : Result Status CliError) → IfErr r (IsRefusedSettled t wrote wrote') → IfErr r (IsRefusedRun command.Settled t read read wrote wrote')
-settled_refused t read wrote wrote' (Ok s) h = tt
-settled_refused t read wrote wrote' (Err e) h = (refl, h)
+use Rattle.icu_locale_lines.specs.WholeRuns.{WritesLines, StopsAmongLines, IsRefusedLines, IsRefusedOutput, IsLineRun, IsRefusedLineRun, ReadsTables, IsRefusedJsonRun}
 
 module _ (t : Tables) (wrote wrote' : Option (List ℕ)) (c : LineCommand) (r : Result Status CliError) where
   -- lines that were written of an input that was read
@@ -74,17 +59,6 @@ module _ (c : LineCommand) (t : Tables) (input : List ℕ) (work : Work) (work_o
       by (Ok s) which memory write = tt
       by (Err e) (inl is) memory write = subst (IsRefusedLines c t input wrote wrote') (sym is) (inr (stops WritesWholeLines (memory (ap Err is))))
       by (Err e) (inr is) memory write = subst (IsRefusedLines c t input wrote wrote') (sym is) (stops WritesPart (write (ap Err is)))
-
--- a negotiator that is not made leaves the writer as it was
-pub unavailable : (c : LineCommand) (t : Tables) (e : LocaleExpander) → c ≡ Negotiate → AreSettled (likely e) → (input : List ℕ) (wrote : Stream) (refusal : CliError) → IsRefusedList (likely e) (first_line input) refusal → IsRefusedLines c t input wrote wrote refusal
-unavailable c t e negotiates settled input wrote (Available p) h = ((negotiates, h), refl)
-unavailable c t e negotiates settled input wrote Memory h = inl refl
-unavailable c t e negotiates settled input wrote NotSettled h = absurd (h settled)
-unavailable c t e negotiates settled input wrote Usage h = absurd h
-unavailable c t e negotiates settled input wrote (error.Tables p) h = absurd h
-unavailable c t e negotiates settled input wrote (Data p) h = absurd h
-unavailable c t e negotiates settled input wrote Read h = absurd h
-unavailable c t e negotiates settled input wrote Write h = absurd h
 
 -- output is not refused by these
 no_usage : (t : Tables) (input : List ℕ) (wrote wrote' : Stream) (c : Command) → IsRefusedOutput c t input wrote wrote' Usage → ⊥

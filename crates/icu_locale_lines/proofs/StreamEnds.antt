@@ -5,7 +5,7 @@ use Rattle.std.specs.Io.KnownBytes.{Consumes, IsAtEnd, prepend_known}
 use Rattle.std.proofs.KnownBytes.{Consumes-trans}
 use Rattle.icu_locale.specs.LikelyTable.{likely}
 use Rattle.icu_locale.specs.Negotiation.{Negotiation}
-use Rattle.icu_locale.specs.Settled.{AreSettled}
+use Rattle.icu_locale.specs.LikelySubtags.{AreSettled}
 use Rattle.icu_tables.specs.declared.tables.Tables.{Tables}
 use Rattle.icu_locale_lines.specs.declared.command.Command.TheVariants as command
 use Rattle.icu_locale_lines.specs.declared.command.LineCommand.{LineCommand}
@@ -17,10 +17,9 @@ use Rattle.icu_locale_lines.specs.declared.status.Status.{Status}
 use Rattle.icu_locale_lines.specs.declared.status.Status.TheVariants.{Accepted}
 use Rattle.icu_locale_lines.specs.declared.work.Work.{Work}
 use Rattle.icu_locale_lines.specs.declared.work.Work.TheVariants as work
-use Rattle.icu_locale_lines.specs.Lines.{is_line_feed, first_line, after_first_line}
+use Rattle.icu_locale_lines.specs.Lines.{is_line_feed, first_line, after_first_line, Stream}
 use Rattle.icu_locale_lines.specs.Lists.{listed, SpellsAll}
 use Rattle.icu_locale_lines.specs.Loads.{IsExpanderOf}
-use Rattle.icu_locale_lines.specs.Output.{Stream}
 use Rattle.icu_locale_lines.specs.Runs.{ReadsAll, WritesAll}
 use Rattle.icu_locale_lines.specs.Streams.{StopsStream, StopsAmong, IsStoppedLineStream, IsRefusedLineStream, ReadsTablesLine, IsJsonStream, IsRefusedJsonStream}
 use Rattle.icu_locale_lines.specs.WholeRuns.{WritesSettled, IsRefusedSettled, IsLineRun}

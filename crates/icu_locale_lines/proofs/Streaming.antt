@@ -4,7 +4,7 @@ use Rattle.std.specs.List.{list_any}
 use Rattle.std.specs.Io.KnownBytes.{Appends, Consumes, Keeps, IsAtEnd, prepend_known}
 use Rattle.std.proofs.KnownBytes.{Appends-trans, Appends-nil, Appends-kept, Consumes-nil, Consumes-trans, Consumes-kept}
 use Rattle.std.proofs.lemmas.Bool.{false≢true}
-use Rattle.std.proofs.lemmas.List.Folds.{list_any-append, list_all-append}
+use Rattle.std.proofs.lemmas.List.Folds.{list_all-append}
 use Rattle.std.proofs.lemmas.Grind.{flat_map-append}
 use Rattle.icu_locale_lines.specs.declared.error.CliError.{CliError}
 use Rattle.icu_locale_lines.specs.declared.error.CliError.TheVariants.{Memory, Write}
@@ -12,9 +12,8 @@ use Rattle.icu_locale_lines.specs.declared.status.Status.{Status}
 use Rattle.icu_locale_lines.specs.declared.status.Status.TheVariants.{Accepted}
 use Rattle.icu_locale_lines.specs.declared.work.Work.{Work}
 use Rattle.icu_locale_lines.specs.Answers.{IsAnswer}
-use Rattle.icu_locale_lines.specs.Lines.{is_line_feed, lines}
-use Rattle.icu_locale_lines.specs.Output.{Stream}
-use Rattle.icu_locale_lines.specs.Runs.{AreAnswers, text_of, all_accepted, ReadsAll, WritesAll, WritesUpTo, WritesWholeLines, WritesPart}
+use Rattle.icu_locale_lines.specs.Lines.{is_line_feed, lines, Stream}
+use Rattle.icu_locale_lines.specs.Runs.{AreAnswers, text_of_lines, all_accepted, ReadsAll, WritesAll, WritesUpTo, WritesWholeLines, WritesPart}
 use Rattle.icu_locale_lines.specs.Streams.{EndsLines, AnswersEnded, StopsBetween, StopsStream}
 use Rattle.icu_locale_lines.specs.laws.Parts.{lines_of_parts, AllZip-append, all_accepted_of_parts}
 
@@ -22,11 +21,6 @@ use Rattle.icu_locale_lines.specs.laws.Parts.{lines_of_parts, AllZip-append, all
 pub lines_after : (done t : List ℕ) → EndsLines done → lines (done ++ t) ≡ lines done ++ lines t
 lines_after done t (inl none) = ap (λ d. lines (d ++ t)) none ∙ ap (λ d. lines d ++ lines t) (sym none)
 lines_after done t (inr (front, is)) = ap (λ d. lines (d ++ t)) is ∙ ap lines (append_assoc front (10 ∷ []) t) ∙ lines_of_parts front t ∙ ap (λ d. lines d ++ lines t) (sym is)
-
--- whole lines behind anything that is empty or goes on in them
-pub EndsLines-after : (a b : List ℕ) → b ≢ [] → EndsLines b → EndsLines (a ++ b)
-EndsLines-after a b some (inl none) = absurd (some none)
-EndsLines-after a b some (inr (front, is)) = inr (a ++ front, ap (λ x. a ++ x) is ∙ sym (append_assoc a front (10 ∷ [])))
 
 pub EndsLines-append : (a b : List ℕ) → EndsLines a → EndsLines b → EndsLines (a ++ b)
 EndsLines-append a b first (inl none) = subst EndsLines (sym (ap (λ x. a ++ x) none ∙ append-nil a)) first
@@ -43,7 +37,7 @@ list_any-drop n [] low other rest = absurd (omega (arith, low))
 list_any-drop zero (x ∷ xs) low other rest = ap (λ b. b || list_any is_line_feed xs) other ∙ rest
 list_any-drop (suc n) (x ∷ xs) low other rest = list_any-drop n xs (omega (arith, low)) other rest
 
-pub text_of-append : (xs ys : List (List ℕ × Bool)) → text_of (xs ++ ys) ≡ text_of xs ++ text_of ys
+pub text_of-append : (xs ys : List (List ℕ × Bool)) → text_of_lines (xs ++ ys) ≡ text_of_lines xs ++ text_of_lines ys
 text_of-append xs ys = flat_map-append (λ (t : List ℕ × Bool). t.0) xs ys
 
 module _ (work : Work) (old mid new : Stream) where
@@ -55,8 +49,8 @@ module _ (work : Work) (old mid new : Stream) where
     answers = first.answers ++ later.answers;
     each = AllZip-append (λ line a. IsAnswer work line a.0 a.1) (lines done) later.answered first.answers later.answers first.each later.each;
     written = subst (Appends old new)
-        (sym (ap (λ x. x ++ part) (text_of-append first.answers later.answers) ∙ append_assoc (text_of first.answers) (text_of later.answers) part))
-        (Appends-trans old mid new (text_of first.answers) (text_of later.answers ++ part) first.written later.written);
+        (sym (ap (λ x. x ++ part) (text_of-append first.answers later.answers) ∙ append_assoc (text_of_lines first.answers) (text_of_lines later.answers) part))
+        (Appends-trans old mid new (text_of_lines first.answers) (text_of_lines later.answers ++ part) first.written later.written);
   }
 
   pub WritesWholeLines-behind : (done t : List ℕ) (status : Status) → EndsLines done → WritesAll work done old mid status → WritesWholeLines work t mid new → WritesWholeLines work (done ++ t) old new
@@ -83,7 +77,7 @@ module _ (work : Work) (old mid new : Stream) where
     each = subst (λ ls. AreAnswers work ls (first.answers ++ later.answers)) (sym (lines_after done t ends))
         (AllZip-append (λ line a. IsAnswer work line a.0 a.1) (lines done) (lines t) first.answers later.answers first.each later.each);
     written = subst (Appends old new) (sym (text_of-append first.answers later.answers))
-        (Appends-trans old mid new (text_of first.answers) (text_of later.answers) first.written later.written);
+        (Appends-trans old mid new (text_of_lines first.answers) (text_of_lines later.answers) first.written later.written);
     status_is =
         let all = list_all-append (λ (t : List ℕ × Bool). t.1) first.answers later.answers in
         let each = all_accepted_of_parts (all_accepted first.answers) (all_accepted later.answers) in (
@@ -131,17 +125,13 @@ module _ (work : Work) (old new : Stream) (front t : List ℕ) (ends : EndsLines
       parted = sym (append-nil (lines front));
       answers = w.answers;
       each = w.each;
-      written = subst (Appends old new) (sym (append-nil (text_of w.answers))) w.written;
+      written = subst (Appends old new) (sym (append-nil (text_of_lines w.answers))) w.written;
     },
   )
 
 -- nothing is written of no lines
 pub WritesAll-none : (work : Work) (old : Stream) → WritesAll work [] old old Accepted
 WritesAll-none work old = record { answers = []; each = tt; written = Appends-nil old; status_is = (λ e. refl, λ e. refl) }
-
--- what is left has no line feed, nor has what is put behind it
-pub none_more : (a b : List ℕ) → list_any is_line_feed a ≡ false → list_any is_line_feed b ≡ false → list_any is_line_feed (a ++ b) ≡ false
-none_more a b p q = list_any-append is_line_feed a b ∙ ap (λ x. x || list_any is_line_feed b) p ∙ q
 
 -- nothing was answered yet
 pub WritesWholeLines-none : (work : Work) (text : List ℕ) (old : Stream) → WritesWholeLines work text old old
@@ -250,7 +240,7 @@ module _ (work : Work) (read read' wrote mid new : Stream) (status : Status) (ca
     answered = record {
       answers = before.answered.answers;
       each = before.answered.each;
-      written = Appends-kept wrote mid new (text_of before.answered.answers) before.answered.written kept;
+      written = Appends-kept wrote mid new (text_of_lines before.answered.answers) before.answered.written kept;
       status_is = before.answered.status_is;
     };
     unended = before.unended;
@@ -271,7 +261,3 @@ module _ (work : Work) (read read' wrote mid new : Stream) (status : Status) (ca
 pub Consumes-prepended : (first : List ℕ) (read : Stream) → Consumes (prepend_known first read) read first
 Consumes-prepended first None = tt
 Consumes-prepended first (Some xs) = refl
-
-pub StreamProgress-first : (work : Work) (first : List ℕ) (read wrote wrote' : Stream) (carry left : List ℕ) (status : Status) → carry ≡ [] → AnswersEnded work (carry ++ first) left wrote wrote' status → list_any is_line_feed left ≡ false → StreamProgress work (prepend_known first read) read wrote wrote' status left
-StreamProgress-first work first read wrote wrote' carry left status empty answers none = StreamProgress-more work (prepend_known first read) (prepend_known first read) wrote wrote Accepted carry (StreamProgress-none work (prepend_known first read) wrote carry empty)
-    read wrote' first left status status (Consumes-prepended first read) answers none (λ e. (refl, e), λ both. both.1)

@@ -1,7 +1,6 @@
 -- What is written for each line that is read.
 use Rattle.std.specs.Prelude.{◌≡◌, ◌≢◌, ◌↔◌, ◌⊎◌, ℕ, Bool, true, false, List, codes}
-use Rattle.icu_locale_core.specs.Identifier.{IsIdentifier, Spells}
-use Rattle.icu_locale_core.specs.ParseError.{error_name}
+use Rattle.icu_locale_core.specs.Identifier.{IsIdentifier, Spells, parse_error_name}
 use Rattle.icu_locale_core.specs.declared.langid.LanguageIdentifier.{LanguageIdentifier}
 use Rattle.icu_locale_core.specs.declared.locale.Locale.{Locale}
 use Rattle.icu_locale_core.specs.declared.parse_error.ParseError.{ParseError}
@@ -23,10 +22,9 @@ use Rattle.icu_locale_lines.specs.declared.transform.Transform.{Transform}
 use Rattle.icu_locale_lines.specs.declared.transform.Transform.TheVariants.{Maximize, Minimize, MinimizeScript}
 use Rattle.icu_locale_lines.specs.declared.work.Work.{Work}
 use Rattle.icu_locale_lines.specs.declared.work.Work.TheVariants as work
-use Rattle.icu_locale_lines.specs.Lists.{listed, SpellsAll, IsRefusal, IsFirstFault}
+use Rattle.icu_locale_lines.specs.Lists.{listed, SpellsAll, IsFault, IsFirstFault, IsNegotiatedLine}
 use Rattle.icu_locale_lines.specs.Locales.{SpellsLocale, IsLocaleFault}
-use Rattle.icu_locale_lines.specs.Names.{name_by, IsNamedLine}
-use Rattle.icu_locale_lines.specs.Negotiations.{IsNegotiatedLine}
+use Rattle.icu_locale_lines.specs.Names.{name_asked, IsNamedLine}
 use Rattle.icu_locale_lines.specs.Texts.{transformed_line, canonical_line, refused_line, direction_line}
 
 -- an identifier's form, and whether it was changed
@@ -52,7 +50,7 @@ IsDirected d x text accepted = (text
 
 -- the line of an identifier that is named
 abbrev pub IsNamed : Naming → LanguageIdentifier → List ℕ → Bool → Type 0
-IsNamed n x text accepted = IsNamedLine (name_by n x) text accepted
+IsNamed n x text accepted = IsNamedLine (name_asked n x) text accepted
 
 -- the locale becomes canonical, or the rules come to no end, and that is refused by name
 abbrev pub IsCanonicalized : LikelySubtags → Rules → Locale → List ℕ → Bool → Type 0
@@ -70,7 +68,7 @@ abbrev pub IsIdentifierAnswer : (LanguageIdentifier → List ℕ → Bool → Ty
     → Bool → Type 0
 IsIdentifierAnswer IsLine line text accepted =
     ((x : LanguageIdentifier) × IsIdentifier x × Spells line x × IsLine x text accepted)
-    ⊎ ((e : ParseError) × IsRefusal line e × (text ≡ refused_line (error_name e))
+    ⊎ ((e : ParseError) × IsFault line e × (text ≡ refused_line (parse_error_name e))
     × (accepted ≡ false))
 
 -- a line that spells a locale gives the line of its canonical form; every other gives the refusal's
@@ -78,7 +76,7 @@ abbrev pub IsLocaleAnswer : LikelySubtags → Rules → List ℕ → List ℕ �
 IsLocaleAnswer likely rules line text accepted =
     ((locale : Locale) × SpellsLocale line locale
     × IsCanonicalized likely rules locale text accepted)
-    ⊎ ((e : ParseError) × IsLocaleFault line e × (text ≡ refused_line (error_name e))
+    ⊎ ((e : ParseError) × IsLocaleFault line e × (text ≡ refused_line (parse_error_name e))
     × (accepted ≡ false))
 
 -- a line that lists requests gives their line; every other gives the refusal of its first fault
@@ -86,7 +84,7 @@ abbrev pub IsListAnswer : Negotiation → List ℕ → List ℕ → Bool → Typ
 IsListAnswer negotiation line text accepted =
     ((requests : List LanguageIdentifier) × SpellsAll (listed line) requests
     × IsNegotiatedLine negotiation requests text × (accepted ≡ true))
-    ⊎ ((e : ParseError) × IsFirstFault (listed line) e × (text ≡ refused_line (error_name e))
+    ⊎ ((e : ParseError) × IsFirstFault (listed line) e × (text ≡ refused_line (parse_error_name e))
     × (accepted ≡ false))
 
 -- the answer to a line

@@ -1,15 +1,11 @@
 pub mod Answers
-pub mod Causes
-pub mod CliError
 pub mod Commands
 pub mod Lines
 pub mod Lists
-pub mod Loaded
 pub mod Loads
 pub mod Locales
 pub mod Names
-pub mod Negotiations
-pub mod Output
+pub mod Refusals
 pub mod Runs
 pub mod Streams
 pub mod Texts

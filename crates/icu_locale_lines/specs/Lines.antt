@@ -1,6 +1,10 @@
--- The lines of a text.
-use Rattle.std.specs.Prelude.{ℕ, Bool, ◌==◌, List, [], ◌∷◌}
+-- The lines of a text, and what a reader has left and a writer holds.
+use Rattle.std.specs.Prelude.{ℕ, List, Option, Bool, ◌==◌, [], ◌∷◌}
 use Rattle.std.specs.List.{slice_split, before_first, after_first}
+
+-- the bytes, where they are known
+abbrev pub Stream : Type 0
+Stream = Option (List ℕ)
 
 -- a line feed
 abbrev pub is_line_feed : ℕ → Bool

@@ -1,10 +1,13 @@
--- Lines that list identifiers.
-use Rattle.std.specs.Prelude.{◌≡◌, ℕ, Bool, ◌==◌, true, false, List, [], ◌∷◌, ◌++◌}
-use Rattle.std.specs.List.{AllZip, slice_split}
+-- Lines that list identifiers, and what is written for a line of requests.
+use Rattle.std.specs.Prelude.{◌≡◌, ℕ, Bool, ◌==◌, true, false, List, [], ◌∷◌, ◌++◌, codes, Option, Some, None}
+use Rattle.std.specs.List.{AllZip, slice_split, slice_get}
 use Rattle.icu_locale_core.specs.Identifier.{IsIdentifier, Spells, starts_with_language}
 use Rattle.icu_locale_core.specs.declared.langid.LanguageIdentifier.{LanguageIdentifier}
 use Rattle.icu_locale_core.specs.declared.parse_error.ParseError.{ParseError}
 use Rattle.icu_locale_core.specs.declared.parse_error.ParseError.TheVariants.{InvalidLanguage, InvalidSubtag, Memory}
+use Rattle.icu_locale.specs.LikelyTable.{likely}
+use Rattle.icu_locale.specs.Negotiation.{Negotiation, IsNegotiated}
+use Rattle.icu_locale_lines.specs.Texts.{matched_line}
 
 -- a space
 abbrev pub is_space : ℕ → Bool
@@ -20,11 +23,11 @@ abbrev pub SpellsAll : List (List ℕ) → List LanguageIdentifier → Type 0
 SpellsAll texts identifiers = AllZip (λ text x. IsIdentifier x × Spells text x) texts identifiers
 
 -- why a text spells no identifier
-abbrev pub IsRefusal : List ℕ → ParseError → Type 0
-IsRefusal text InvalidLanguage = starts_with_language text ≡ false
-IsRefusal text InvalidSubtag = (starts_with_language text ≡ true)
+abbrev pub IsFault : List ℕ → ParseError → Type 0
+IsFault text InvalidLanguage = starts_with_language text ≡ false
+IsFault text InvalidSubtag = (starts_with_language text ≡ true)
     × ((x : LanguageIdentifier) → IsIdentifier x → ¬ (Spells text x))
-IsRefusal text Memory = ⊥
+IsFault text Memory = ⊥
 
 -- the first text that spells no identifier is refused so
 pub record IsFirstFault (texts : List (List ℕ)) (e : ParseError) : Type 0 where
@@ -34,4 +37,16 @@ pub record IsFirstFault (texts : List (List ℕ)) (e : ParseError) : Type 0 wher
   pub parted : texts ≡ earlier ++ text ∷ later
   pub identifiers : List LanguageIdentifier
   pub spelled : SpellsAll earlier identifiers
-  pub refused : IsRefusal text e
+  pub refused : IsFault text e
+
+-- the place of the request that is met, and the available identifier that meets it; or `none`
+abbrev pub TellsMatch : List LanguageIdentifier → Option (ℕ × ℕ) → List ℕ → Type 0
+TellsMatch available None text = text ≡ codes "none\n"
+TellsMatch available (Some p) text =
+    (x : LanguageIdentifier) × (slice_get available p.1 ≡ Some x) × (text ≡ matched_line p.0 x)
+
+-- the line of requests: what is negotiated
+abbrev pub IsNegotiatedLine : Negotiation → List LanguageIdentifier → List ℕ → Type 0
+IsNegotiatedLine n requests text = (found : Option (ℕ × ℕ))
+    × IsNegotiated (likely n.expander) requests n.available found
+    × TellsMatch n.available found text

@@ -10,7 +10,7 @@ use Rattle.icu_locale_core.specs.declared.locale.Locale.{Locale}
 use Rattle.icu_locale_core.specs.declared.parse_error.ParseError.{ParseError}
 use Rattle.icu_locale_core.specs.declared.parse_error.ParseError.TheVariants.{InvalidSubtag}
 use Rattle.icu_locale.specs.Canonical.{rg}
-use Rattle.icu_locale_lines.specs.Lists.{IsRefusal}
+use Rattle.icu_locale_lines.specs.Lists.{IsFault}
 
 -- a tab
 abbrev pub is_tab : ℕ → Bool
@@ -52,5 +52,5 @@ IsValueFault text e = (is_readable text ≡ false) × (e ≡ InvalidSubtag)
 
 -- why a line spells no locale: its identifier is asked first, and then its value
 pub record IsLocaleFault (line : List ℕ) (e : ParseError) : Type 0 where
-  pub fault : IsRefusal (identifier_text line) e
+  pub fault : IsFault (identifier_text line) e
       ⊎ (SpellsSome (identifier_text line) × IsValueFault (value_text line) e)

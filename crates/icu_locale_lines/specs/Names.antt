@@ -6,7 +6,7 @@ use Rattle.icu_locale_names.specs.LanguageChains.{chain_of}
 use Rattle.icu_locale_names.specs.LanguageNames.{LocaleAnswers, in_locale, name_of}
 use Rattle.icu_locale_names.specs.Pieces.{Piece}
 use Rattle.icu_locale_names.specs.declared.options.LanguageDisplay.TheVariants.{Dialect}
-use Rattle.icu_provider.specs.DataError.{kind_name}
+use Rattle.icu_provider.specs.Provider.{kind_name}
 use Rattle.icu_provider.specs.Requests.{menu_cmp, locale_cmp}
 use Rattle.icu_provider.specs.declared.data_locale.DataLocale.{DataLocale}
 use Rattle.icu_provider.specs.declared.error.DataError.{DataError}
@@ -22,8 +22,8 @@ answers_in t locale = in_locale (λ marker at key. held (name_in t.names marker 
     (λ at. held (value_at locale_cmp t.essentials at)) locale
 
 -- the name of an identifier, where names of dialects are asked for
-abbrev pub name_by : Naming → LanguageIdentifier → Result (List Piece) DataError
-name_by n x =
+abbrev pub name_asked : Naming → LanguageIdentifier → Result (List Piece) DataError
+name_asked n x =
     name_of (answers_in n.tables.now n.preferences.locale) (chain_of n.chain) Dialect x
 
 -- a name gives its line, and a refused one the kind of its refusal

@@ -6,16 +6,15 @@ use Rattle.icu_locale_lines.specs.declared.status.Status.{Status}
 use Rattle.icu_locale_lines.specs.declared.status.Status.TheVariants.{Accepted}
 use Rattle.icu_locale_lines.specs.declared.work.Work.{Work}
 use Rattle.icu_locale_lines.specs.Answers.{IsAnswer}
-use Rattle.icu_locale_lines.specs.Lines.{lines}
-use Rattle.icu_locale_lines.specs.Output.{Stream}
+use Rattle.icu_locale_lines.specs.Lines.{lines, Stream}
 
 -- the answers to lines, in their order: the text of each, and whether its line was accepted
 abbrev pub AreAnswers : Work → List (List ℕ) → List (List ℕ × Bool) → Type 0
 AreAnswers work ls answers = AllZip (λ line a. IsAnswer work line a.0 a.1) ls answers
 
 -- their texts, one after another
-abbrev pub text_of : List (List ℕ × Bool) → List ℕ
-text_of answers = flat_map (λ a. a.0) answers
+abbrev pub text_of_lines : List (List ℕ × Bool) → List ℕ
+text_of_lines answers = flat_map (λ a. a.0) answers
 
 -- every line was accepted
 abbrev pub all_accepted : List (List ℕ × Bool) → Bool
@@ -31,7 +30,7 @@ pub record WritesAll (work : Work) (input : List ℕ) (old new : Stream)
     (status : Status) : Type 0 where
   pub answers : List (List ℕ × Bool)
   pub each : AreAnswers work (lines input) answers
-  pub written : Appends old new (text_of answers)
+  pub written : Appends old new (text_of_lines answers)
   pub status_is : (status ≡ Accepted) ↔ (all_accepted answers ≡ true)
 
 -- the answers to the first lines are written, in order, and then a part of a text
@@ -41,7 +40,7 @@ pub record WritesUpTo (work : Work) (input : List ℕ) (old new : Stream) (part 
   pub parted : lines input ≡ answered ++ rest
   pub answers : List (List ℕ × Bool)
   pub each : AreAnswers work answered answers
-  pub written : Appends old new (text_of answers ++ part)
+  pub written : Appends old new (text_of_lines answers ++ part)
 
 -- whole lines alone are written
 abbrev pub WritesWholeLines : Work → List ℕ → Stream → Stream → Type 0

@@ -4,7 +4,7 @@ use Rattle.std.specs.List.{list_any}
 use Rattle.std.specs.Io.KnownBytes.{Consumes, IsAtEnd}
 use Rattle.icu_locale_core.specs.declared.parse_error.ParseError.{ParseError}
 use Rattle.icu_tables.specs.Rows.{rows_of}
-use Rattle.icu_tables.specs.Text.{rows_in}
+use Rattle.icu_tables.specs.File.{rows_in}
 use Rattle.icu_tables.specs.declared.error.TableError.{TableError}
 use Rattle.icu_tables.specs.declared.tables.Tables.{Tables}
 use Rattle.icu_locale_lines.specs.declared.command.Command.{Command}
@@ -15,10 +15,9 @@ use Rattle.icu_locale_lines.specs.declared.error.CliError.{CliError}
 use Rattle.icu_locale_lines.specs.declared.error.CliError.TheVariants as error
 use Rattle.icu_locale_lines.specs.declared.status.Status.{Status}
 use Rattle.icu_locale_lines.specs.declared.work.Work.{Work}
-use Rattle.icu_locale_lines.specs.Lines.{is_line_feed}
+use Rattle.icu_locale_lines.specs.Lines.{is_line_feed, Stream}
 use Rattle.icu_locale_lines.specs.Lists.{listed, IsFirstFault}
 use Rattle.icu_locale_lines.specs.Loads.{not_found}
-use Rattle.icu_locale_lines.specs.Output.{Stream}
 use Rattle.icu_locale_lines.specs.Runs.{WritesAll, WritesWholeLines, WritesPart}
 use Rattle.icu_locale_lines.specs.WholeRuns.{WritesSettled, IsRefusedSettled, IsLineRun}
 use Rattle.icu_locale_lines.specs.Works.{IsWorkOf, IsUnsettled, has_tables, text_answered}

@@ -2,11 +2,11 @@
 use Rattle.std.specs.Prelude.{◌≡◌, ◌↔◌, ◌⊎◌, ℕ, Bool, true, false, List, Ok, Err}
 use Rattle.std.specs.Io.KnownBytes.{Appends}
 use Rattle.icu_locale.specs.LikelyTable.{likely}
-use Rattle.icu_locale.specs.Settled.{AreSettled}
+use Rattle.icu_locale.specs.LikelySubtags.{AreSettled}
 use Rattle.icu_locale.specs.declared.expander.LocaleExpander.{LocaleExpander}
 use Rattle.icu_locale_core.specs.declared.parse_error.ParseError.{ParseError}
 use Rattle.icu_tables.specs.Rows.{rows_of}
-use Rattle.icu_tables.specs.Text.{rows_in}
+use Rattle.icu_tables.specs.File.{rows_in}
 use Rattle.icu_tables.specs.declared.tables.Tables.{Tables}
 use Rattle.icu_locale_lines.specs.declared.command.Command.{Command}
 use Rattle.icu_locale_lines.specs.declared.command.Command.TheVariants as command
@@ -17,11 +17,10 @@ use Rattle.icu_locale_lines.specs.declared.error.CliError.TheVariants as error
 use Rattle.icu_locale_lines.specs.declared.status.Status.{Status}
 use Rattle.icu_locale_lines.specs.declared.status.Status.TheVariants.{Accepted}
 use Rattle.icu_locale_lines.specs.declared.work.Work.{Work}
-use Rattle.icu_locale_lines.specs.Lines.{first_line, after_first_line}
+use Rattle.icu_locale_lines.specs.Lines.{first_line, after_first_line, Stream}
 use Rattle.icu_locale_lines.specs.Lists.{listed, IsFirstFault}
 use Rattle.icu_locale_lines.specs.Loads.{IsExpanderOf, not_found}
-use Rattle.icu_locale_names.specs.Writing.{AppendsPart}
-use Rattle.icu_locale_lines.specs.Output.{Stream}
+use Rattle.icu_locale_names.specs.Pieces.{AppendsPart}
 use Rattle.icu_locale_lines.specs.Runs.{ReadsAll, WritesAll, WritesWholeLines, WritesPart}
 use Rattle.icu_locale_lines.specs.Texts.{settled_line}
 use Rattle.icu_locale_lines.specs.Works.{IsWorkOf, IsUnsettled, has_tables, text_answered}

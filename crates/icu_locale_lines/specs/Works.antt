@@ -1,8 +1,8 @@
--- What each command works with.
+-- What each command works with, and what it has before its input is read.
 use Rattle.std.specs.Prelude.{◌≡◌, ℕ, List, Bool, true, ◌&&◌, Some, is_some, IsSomeAnd}
 use Rattle.icu_locale.specs.LikelyTable.{likely}
 use Rattle.icu_locale.specs.Rules.{AreRules}
-use Rattle.icu_locale.specs.Settled.{AreSettled}
+use Rattle.icu_locale.specs.LikelySubtags.{AreSettled}
 use Rattle.icu_locale.specs.declared.expander.LocaleExpander.{LocaleExpander}
 use Rattle.icu_tables.specs.declared.tables.Tables.{Tables}
 use Rattle.icu_locale_lines.specs.Lines.{first_line, after_first_line}
@@ -12,6 +12,8 @@ use Rattle.icu_locale_lines.specs.declared.command.Command.{Command}
 use Rattle.icu_locale_lines.specs.declared.command.Command.TheVariants.{Lines}
 use Rattle.icu_locale_lines.specs.declared.command.LineCommand.{LineCommand}
 use Rattle.icu_locale_lines.specs.declared.command.LineCommand.TheVariants.{Transform, Canonicalize, Direction, Negotiate, Name}
+use Rattle.icu_locale_lines.specs.declared.loads.Loaded.{Loaded}
+use Rattle.icu_locale_lines.specs.declared.loads.Loaded.TheVariants as loaded
 use Rattle.icu_locale_lines.specs.declared.work.Work.{Work}
 use Rattle.icu_locale_lines.specs.declared.work.Work.TheVariants as work
 
@@ -46,3 +48,9 @@ IsWorkOf c t input other = ⊥
 abbrev pub text_answered : LineCommand → List ℕ → List ℕ
 text_answered Negotiate input = after_first_line input
 text_answered c input = input
+
+-- the work of a command that answers every line of any input, or an expander over settled tables
+abbrev pub IsLoaded : LineCommand → Tables → Loaded → Type 0
+IsLoaded c t (loaded.Ready work) =
+    (input : List ℕ) → IsWorkOf c t input work × (text_answered c input ≡ input)
+IsLoaded c t (loaded.Negotiate e) = (c ≡ Negotiate) × IsExpanderOf t e × AreSettled (likely e)

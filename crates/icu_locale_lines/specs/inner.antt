@@ -1,4 +1,2 @@
 -- What private functions alone cite.
-pub mod FirstLines
-pub mod LocaleParts
-pub mod Uncanonical
+pub mod Parts

@@ -1,3 +1,4 @@
 -- Facts about the definitions, with their proofs.
+pub mod Commands
 pub mod Expanders
 pub mod Parts

@@ -1,9 +1,18 @@
-//! The answer to a line.
-ghost use Rattle.std.specs.Prelude.{◌≡◌, [], IfOk, IfErr, IfSome, true, false, string_bytes};
+//! Answers: one line, and all lines of an input, written whole or refused.
+ghost use Rattle.std.specs.Prelude.{◌≡◌, [], IfOk, IfErr, IfSome, true, false, string_bytes, ◌⊎◌, Err, OnOk, OnErr};
 ghost use Rattle.icu_locale_lines.specs.Texts.{refused_line};
+ghost use Rattle.std.specs.Io.KnownBytes.{Appends};
+ghost use Rattle.icu_locale_names.specs.Pieces.{AppendsPart};
+ghost use Rattle.icu_locale_lines.specs.Runs.{WritesAll, WritesWholeLines, WritesPart};
 
 use crate::error::CliError;
+use crate::lines::Lines;
+use crate::status::Status;
+use crate::work::Work;
+use icu_locale_names::write_whole;
+use std::alloc::Global;
 use std::fmt;
+use std::io::Write;
 
 /// The line that is written for one that was read, and whether that one was accepted.
 #[derive(Drop)]
@@ -51,4 +60,44 @@ pub fn refused<E: fmt::Display + Drop>(room: Vec<u8>, refusal: E) -> Result<Answ
         text: text.into_bytes(),
         accepted: false,
     })
+}
+
+// The answers to all lines, each made whole before it is written, all in one room.
+pub fn write_answers<W: Write>(
+    alloc: Global,
+    work: &Work<'_>,
+    input: &[u8],
+    writer: &mut W,
+) -> Result<Status, CliError>
+    ensures whole { IfOk result (WritesAll work.now input.now (W.contents writer.old)
+        (W.contents writer.new)) }
+    ensures memory { result ≡ Err CliError.Memory
+        → WritesWholeLines work.now input.now (W.contents writer.old) (W.contents writer.new) }
+    ensures write { result ≡ Err CliError.Write
+        → WritesPart work.now input.now (W.contents writer.old) (W.contents writer.new) }
+    ensures refused { IfErr result (λ e. (e ≡ CliError.Memory) ⊎ (e ≡ CliError.Write)) }
+{
+    let mut status = Status::Accepted;
+    let mut room = Vec::new(alloc);
+    for line in Lines::new(input) {
+        let Answer { text, accepted } = work.answer(room, line)?;
+        write_bytes(writer, text.as_slice())?;
+        status = status.after(accepted);
+        room = text;
+    }
+    Ok(status)
+}
+
+// A write that takes no byte counts as a failure.
+pub fn write_bytes<W: Write>(writer: &mut W, bytes: &[u8]) -> Result<(), CliError>
+    ensures whole { OnOk result
+        (Appends (W.contents writer.old) (W.contents writer.new) bytes.now) }
+    ensures refused { IfErr result (λ e. e ≡ CliError.Write) }
+    ensures part { OnErr result
+        (AppendsPart (W.contents writer.old) (W.contents writer.new) bytes.now) }
+{
+    match write_whole(bytes, writer) {
+        Ok(()) => Ok(()),
+        Err(_) => Err(CliError::Write),
+    }
 }

@@ -3,7 +3,7 @@ ghost use Rattle.std.specs.Prelude.{◌≡◌, Some, IfOk, IfErr, true};
 ghost use Rattle.icu_locale.specs.LikelyTable.{likely};
 ghost use Rattle.icu_locale_lines.specs.Answers.{IsCanonicalized};
 ghost use Rattle.icu_locale_lines.specs.Texts.{override_line, canonical_line};
-ghost use Rattle.icu_locale_lines.specs.inner.Uncanonical.{TellsRefusal};
+ghost use Rattle.icu_locale_lines.specs.inner.Parts.{TellsRefusal};
 
 use crate::answer::{Answer, cleared, refused};
 use crate::error::CliError;

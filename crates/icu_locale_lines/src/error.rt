@@ -1,6 +1,6 @@
 //! Why a run ends before its last line.
 ghost use Rattle.std.specs.Prelude.{◌≡◌, Some};
-ghost use Rattle.icu_locale_lines.specs.CliError.{error_words, table_error_name};
+ghost use Rattle.icu_locale_lines.specs.Refusals.{error_words, table_error_name};
 ghost use Rattle.icu_locale_lines.specs.declared.error.CliError.TheVariants.{Data, Memory};
 
 use icu_locale_core::ParseError;

@@ -2,11 +2,9 @@
 #![tactic(auto)]
 
 mod answer;
-mod answers;
 mod canonical;
 mod command;
 mod error;
-mod first_line;
 mod input;
 pub mod laws;
 mod line_stream;
@@ -15,7 +13,6 @@ mod lists;
 mod loads;
 mod locales;
 mod naming;
-mod output;
 mod program;
 mod runs;
 mod sample_tables;

@@ -6,7 +6,7 @@ ghost use Rattle.icu_locale_lines.specs.Lines.{is_line_feed};
 ghost use Rattle.icu_locale_lines.specs.Runs.{ReadsAll, WritesAll, WritesWholeLines, WritesPart};
 ghost use Rattle.icu_locale_lines.specs.Streams.{EndsLines, AnswersEnded, StopsStream};
 
-use crate::answers::write_answers;
+use crate::answer::write_answers;
 use crate::error::CliError;
 use crate::status::Status;
 use crate::work::Work;

@@ -5,13 +5,13 @@ ghost use Rattle.icu_locale.specs.Rules.{AreRules};
 ghost use Rattle.icu_locale_lines.specs.Lists.{listed, SpellsAll};
 ghost use Rattle.icu_locale_lines.specs.Loads.{IsExpanderOf, has_likely, not_found};
 ghost use Rattle.icu_locale_lines.specs.WholeRuns.{WritesLines, IsRefusedLines};
-ghost use Rattle.icu_locale_lines.specs.Works.{IsUnsettled, has_tables};
-ghost use Rattle.icu_locale_lines.specs.Causes.{IsRefusedLoad, IsRefusedTable, IsRefusedList};
-ghost use Rattle.icu_locale_lines.specs.Loaded.{IsLoaded};
+ghost use Rattle.icu_locale_lines.specs.Lines.{Stream};
+ghost use Rattle.icu_locale_lines.specs.Works.{IsUnsettled, IsLoaded, IsWorkOf, has_tables, text_answered};
+ghost use Rattle.icu_locale_lines.specs.Refusals.{IsRefusedLoad, IsRefusedTable, IsRefusedList};
 ghost use Rattle.icu_locale_lines.specs.declared.command.LineCommand.{LineCommand};
 ghost use Rattle.icu_tables.specs.declared.tables.Tables.{Tables};
 
-use crate::answers::write_answers;
+use crate::answer::write_answers;
 use crate::command::{Command, LineCommand};
 use crate::error::CliError;
 use crate::lines::cut;
@@ -85,6 +85,24 @@ impl<'d> Loaded<'d> {
         }
     }
 
+    // The work on an input, and the text whose lines it answers.
+    fn over<'i>(self, alloc: Global, input: &'i [u8]) -> Result<(Work<'d>, &'i [u8]), CliError>
+        ensures work { (c : LineCommand) (t : Tables) → IsLoaded c t self.entry
+            → IfOk result (λ made. IsWorkOf c t input.now made.0
+            × (text_answered c input.now ≡ made.1.now)) }
+        ensures left { (c : LineCommand) (t : Tables) → IsLoaded c t self.entry
+            → IfErr result (λ e. (wrote : Stream) → IsRefusedLines c t input.now wrote wrote e) }
+    {
+        match self {
+            Loaded::Ready(work) => Ok((work, input)),
+            Loaded::Negotiate(expander) => {
+                let (first, rest) = cut(input);
+                let negotiator = list_available(alloc, expander, first)?;
+                Ok((Work::Negotiate(negotiator), rest))
+            }
+        }
+    }
+
     /// The answers to the lines of an input. `Negotiate` uses the first line for the identifiers that are available.
     ///
     /// # Errors
@@ -104,14 +122,8 @@ impl<'d> Loaded<'d> {
             → IfErr result (IsRefusedLines c t input.now (W.contents writer.old)
             (W.contents writer.new)) }
     {
-        match self {
-            Loaded::Ready(work) => write_answers(alloc, &work, input, writer),
-            Loaded::Negotiate(expander) => {
-                let (first, rest) = cut(input);
-                let negotiator = list_available(alloc, expander, first)?;
-                write_answers(alloc, &Work::Negotiate(negotiator), rest, writer)
-            }
-        }
+        let (work, text) = self.over(alloc, input)?;
+        write_answers(alloc, &work, text, writer)
     }
 }
 

@@ -6,7 +6,7 @@ ghost use Rattle.icu_locale_core.specs.Keywords.{with_value};
 ghost use Rattle.icu_locale_core.specs.Subtag.{is_key, lowercase};
 ghost use Rattle.icu_locale.specs.Canonical.{rg};
 ghost use Rattle.icu_locale_lines.specs.Locales.{is_tab, identifier_text, value_text, SpellsLocale, IsLocaleFault};
-ghost use Rattle.icu_locale_lines.specs.inner.LocaleParts.{IsLocaleOf, IsRefusedValue};
+ghost use Rattle.icu_locale_lines.specs.inner.Parts.{IsLocaleOf, IsRefusedValue};
 
 use icu_locale_core::{Key, LanguageIdentifier, Locale, ParseError, Value};
 use memchr::memchr;

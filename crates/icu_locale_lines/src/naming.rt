@@ -3,9 +3,9 @@ ghost use Rattle.std.specs.Prelude.{◌≡◌, Ok, IfOk, IfErr, true};
 ghost use Rattle.icu_locale_names.specs.LanguageChains.{chain_of};
 ghost use Rattle.icu_locale_names.specs.LanguageNames.{GivesName};
 ghost use Rattle.icu_locale_names.specs.declared.options.LanguageDisplay.TheVariants.{Dialect};
-ghost use Rattle.icu_locale_names.specs.declared.preferences.DisplayNamesPreferences.{DisplayNamesPreferences};
+ghost use Rattle.icu_locale_names.specs.declared.options.DisplayNamesPreferences.{DisplayNamesPreferences};
 ghost use Rattle.icu_locale_lines.specs.Commands.{SpellsPreferences};
-ghost use Rattle.icu_locale_lines.specs.Names.{answers_in, name_by, IsNamedLine};
+ghost use Rattle.icu_locale_lines.specs.Names.{answers_in, name_asked, IsNamedLine};
 ghost use Rattle.icu_locale_lines.specs.Texts.{named_line};
 
 use crate::answer::{Answer, refused};
@@ -49,7 +49,7 @@ pub struct Naming<'d> {
 impl<'d> Naming<'d> {
     // The answer to an identifier.
     pub fn answer(&self, room: Vec<u8>, identifier: &LanguageIdentifier) -> Result<Answer, CliError>
-        ensures answer { IfOk result (λ a. IsNamedLine (name_by self.now identifier.now)
+        ensures answer { IfOk result (λ a. IsNamedLine (name_asked self.now identifier.now)
             a.text.items a.accepted) }
         ensures refused { IfErr result (λ e. e ≡ CliError.Memory) }
     {

@@ -1,7 +1,7 @@
 //! A run: tables, input and output.
 ghost use Rattle.std.specs.Prelude.{◌≡◌, ◌↔◌, Ok, Err, IfOk, IfErr, false};
 ghost use Rattle.icu_tables.specs.Rows.{rows_of};
-ghost use Rattle.icu_tables.specs.Text.{rows_in};
+ghost use Rattle.icu_tables.specs.File.{rows_in};
 ghost use Rattle.icu_locale_lines.specs.Loads.{not_found};
 ghost use Rattle.icu_locale_lines.specs.Texts.{settled_line};
 ghost use Rattle.icu_locale_lines.specs.Works.{IsUnsettled, has_tables};
@@ -19,14 +19,14 @@ ghost use Rattle.icu_locale_lines.specs.WholeRuns.{
   IsJsonRun,
   IsRefusedJsonRun,
 };
-ghost use Rattle.icu_locale_lines.specs.Causes.{IsRefusedReading};
+ghost use Rattle.icu_locale_lines.specs.Refusals.{IsRefusedReading};
 
+use crate::answer::write_bytes;
 use crate::command::{Command, LineCommand};
 use crate::error::CliError;
 use crate::input::{MOST_READS, read_all};
 use crate::lines::cut;
 use crate::loads::{Loaded, load_expander};
-use crate::output::write_bytes;
 use crate::status::Status;
 use icu_tables::{TableError, Tables};
 use std::alloc::Global;

@@ -2,7 +2,7 @@
 ghost use Rattle.std.specs.Prelude.{◌≡◌, ◌↔◌, Err, IfOk, IfErr, false};
 ghost use Rattle.std.specs.Io.KnownBytes.{prepend_known};
 ghost use Rattle.icu_locale.specs.LikelyTable.{likely};
-ghost use Rattle.icu_locale.specs.Settled.{AreSettled};
+ghost use Rattle.icu_locale.specs.LikelySubtags.{AreSettled};
 ghost use Rattle.icu_tables.specs.declared.tables.Tables.{Tables};
 ghost use Rattle.icu_locale_lines.specs.Loads.{IsExpanderOf, not_found};
 ghost use Rattle.icu_locale_lines.specs.Streams.{
@@ -18,8 +18,7 @@ ghost use Rattle.icu_locale_lines.specs.declared.command.LineCommand.TheVariants
 
 use crate::command::{Command, LineCommand};
 use crate::error::CliError;
-use crate::first_line::read_first_line;
-use crate::input::MOST_READS;
+use crate::input::{MOST_READS, read_first_line};
 use crate::line_stream::stream_lines;
 use crate::loads::{Loaded, list_available};
 use crate::runs::{read_tables, write_settled};

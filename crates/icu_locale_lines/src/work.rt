@@ -1,8 +1,8 @@
 //! What a command works with, and what it makes of one line.
-ghost use Rattle.std.specs.Prelude.{◌≡◌, ◌⊎◌, IfOk, IfErr, true};
+ghost use Rattle.std.specs.Prelude.{◌≡◌, IfOk, IfErr, true};
 ghost use Rattle.icu_locale.specs.LikelyTable.{likely};
 ghost use Rattle.icu_locale_lines.specs.Answers.{IsAnswer, IsTransformed, IsDirected, IsNamed, IsIdentifierAnswer, IsLocaleAnswer, IsListAnswer};
-ghost use Rattle.icu_locale_lines.specs.Negotiations.{IsNegotiatedLine};
+ghost use Rattle.icu_locale_lines.specs.Lists.{IsNegotiatedLine};
 ghost use Rattle.icu_locale_lines.specs.Texts.{matched_line, direction_line};
 
 use crate::answer::{Answer, cleared, known_line, refused};

@@ -6,7 +6,7 @@ use Rattle.icu_provider.specs.declared.data_locale.DataLocale.{DataLocale}
 use Rattle.icu_provider.specs.declared.error.DataError.{DataError}
 use Rattle.icu_provider.specs.declared.essentials.LocaleNamesEssentials.{LocaleNamesEssentials}
 use Rattle.icu_provider.specs.declared.names.NameKey.TheVariants.{Language}
-use Rattle.icu_locale_names.specs.FirstHit.{is_missing, or_next, first_hit, made_of, if_missing}
+use Rattle.icu_locale_names.specs.Chains.{is_missing, or_next, first_hit, made_of, if_missing}
 use Rattle.icu_locale_names.specs.LanguageChains.{LanguageChain}
 use Rattle.icu_locale_names.specs.LanguageNames.{KeyParts, in_menu, in_text, in_locale, texts_for, keys_of, menu_base, text_base, raw_base, base_by, base_of}
 use Rattle.icu_locale_names.specs.Names.{Answers, MenuAnswers, menu_by}

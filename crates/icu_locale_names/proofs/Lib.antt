@@ -1,4 +1,2 @@
 mod FlatRequests
-mod Measures
 mod PieceWrites
-mod Reports

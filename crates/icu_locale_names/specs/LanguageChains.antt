@@ -1,7 +1,7 @@
 -- The chains that names of languages are made by.
 use Rattle.std.specs.Prelude.{ℕ, List, [], ◌∷◌, codes}
-use Rattle.icu_provider.specs.declared.menus.MenuMarker.{MenuMarker}
-use Rattle.icu_provider.specs.declared.menus.MenuMarker.TheVariants.{MediumLight, MediumHeavy}
+use Rattle.icu_provider.specs.declared.names.MenuMarker.{MenuMarker}
+use Rattle.icu_provider.specs.declared.names.MenuMarker.TheVariants.{MediumLight, MediumHeavy}
 use Rattle.icu_provider.specs.declared.names.NameMarker.{NameMarker}
 use Rattle.icu_provider.specs.declared.names.NameMarker.TheVariants.{
   LanguageMediumTiny,

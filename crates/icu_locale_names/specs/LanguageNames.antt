@@ -30,18 +30,17 @@ use Rattle.std.specs.List.{flat_map, join_by}
 use Rattle.std.specs.Option.{option_to_list, option_xor}
 use Rattle.icu_locale_core.specs.TextSet.{rising}
 use Rattle.icu_locale_core.specs.declared.langid.LanguageIdentifier.{LanguageIdentifier}
-use Rattle.icu_provider.specs.Patterns.{PatternPart, fixed_text, first_place, second_place}
+use Rattle.icu_provider.specs.Names.{PatternPart, fixed_text, first_place, second_place}
 use Rattle.icu_provider.specs.declared.data_locale.DataLocale.{DataLocale}
 use Rattle.icu_provider.specs.declared.error.DataError.{DataError}
 use Rattle.icu_provider.specs.declared.error.DataErrorKind.TheVariants.{Memory}
 use Rattle.icu_provider.specs.declared.essentials.LocaleNamesEssentials.{LocaleNamesEssentials}
-use Rattle.icu_provider.specs.declared.menus.MenuMarker.{MenuMarker}
-use Rattle.icu_provider.specs.declared.menus.MenuNameParts.{MenuNameParts}
+use Rattle.icu_provider.specs.declared.names.MenuMarker.{MenuMarker}
+use Rattle.icu_provider.specs.declared.names.MenuNameParts.{MenuNameParts}
 use Rattle.icu_provider.specs.declared.names.NameKey.{NameKey}
 use Rattle.icu_provider.specs.declared.names.NameKey.TheVariants.{Language, Script, Region, Variant}
 use Rattle.icu_provider.specs.declared.names.NameMarker.{NameMarker}
-use Rattle.icu_locale_names.specs.Chains.{variant_heavy}
-use Rattle.icu_locale_names.specs.FirstHit.{first_hit, made_of, if_missing, and_then, answer_all}
+use Rattle.icu_locale_names.specs.Chains.{variant_heavy, first_hit, made_of, if_missing, and_then, answer_all}
 use Rattle.icu_locale_names.specs.LanguageChains.{LanguageChain}
 use Rattle.icu_locale_names.specs.Names.{Answers, MenuAnswers}
 use Rattle.icu_locale_names.specs.Pieces.{Piece, plain, raw_subtag}

@@ -1,9 +1,7 @@
 pub mod Chains
-pub mod FirstHit
 pub mod LanguageChains
 pub mod LanguageNames
 pub mod LentNames
 pub mod Names
 pub mod Pieces
-pub mod Writing
 pub mod inner

@@ -2,11 +2,11 @@
 use Rattle.std.specs.Prelude.{ℕ, List, Result, Ok, Err}
 use Rattle.icu_provider.specs.declared.data_locale.DataLocale.{DataLocale}
 use Rattle.icu_provider.specs.declared.error.DataError.{DataError}
-use Rattle.icu_provider.specs.declared.menus.MenuMarker.{MenuMarker}
-use Rattle.icu_provider.specs.declared.menus.MenuNameParts.{MenuNameParts}
+use Rattle.icu_provider.specs.declared.names.MenuMarker.{MenuMarker}
+use Rattle.icu_provider.specs.declared.names.MenuNameParts.{MenuNameParts}
 use Rattle.icu_provider.specs.declared.names.NameKey.{NameKey}
 use Rattle.icu_provider.specs.declared.names.NameMarker.{NameMarker}
-use Rattle.icu_locale_names.specs.FirstHit.{first_hit}
+use Rattle.icu_locale_names.specs.Chains.{first_hit}
 
 -- what a provider answers to a marker, a locale and a key
 abbrev pub Answers : Type 0

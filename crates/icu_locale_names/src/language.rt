@@ -3,11 +3,10 @@ ghost use Rattle.std.specs.Prelude.{◌≡◌, map};
 ghost use Rattle.icu_locale_names.specs.LanguageChains.{chain_of};
 ghost use Rattle.icu_locale_names.specs.LanguageNames.{GivesName, in_locale, display_of, separator_text};
 ghost use Rattle.icu_locale_names.specs.LentNames.{pieces_of};
-ghost use Rattle.icu_provider.specs.Patterns.{part_of};
+ghost use Rattle.icu_provider.specs.Names.{part_of};
 
 mod base;
 mod borrowed;
-mod menus;
 mod named;
 mod parts;
 mod variants;

@@ -1,9 +1,9 @@
 //! Bytes written to a sink.
 ghost use Rattle.std.specs.Prelude.{◌≡◌, OnOk, OnErr, IfErr};
 ghost use Rattle.std.specs.Io.KnownBytes.{Appends};
-ghost use Rattle.icu_locale_names.specs.Writing.{AppendsPart};
+ghost use Rattle.icu_locale_names.specs.Pieces.{AppendsPart};
 
-use crate::write_error::NameWriteError;
+use crate::errors::NameWriteError;
 use std::io;
 
 /// Writes bytes to a sink, all of them. A write that takes no byte counts as a failure. It takes no memory.

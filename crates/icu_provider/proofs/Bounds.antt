@@ -5,7 +5,7 @@ use Rattle.std.proofs.lemmas.Bool.Decides.{nat_tests}
 use native.Mathlib.Numerals.{unary_clauses}
 use Rattle.std.specs.List.Sorted.{IsStrictlyIncreasing, IsPartitionedBy, IsPartitionPoint}
 use Rattle.icu_provider.specs.InversionList.{has_character}
-use Rattle.icu_provider.specs.inner.Bounds.{IsPlace}
+use Rattle.icu_provider.specs.inner.Places.{IsPlace}
 
 odd_after : (n : ℕ) → (suc (suc n) % 2 == 1) ≡ (n % 2 == 1)
 odd_after n = ap (λ k. k == 1) (omega arith)

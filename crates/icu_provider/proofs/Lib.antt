@@ -1,6 +1,4 @@
 mod Bounds
-mod Gaps
-mod OneCharacter
 mod Requests
 mod SortedMaps
 mod StringSets

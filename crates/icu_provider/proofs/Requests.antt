@@ -9,18 +9,17 @@ use Rattle.std.specs.declared.cmp.Ordering.TheVariants.{Less, Equal, Greater}
 use Rattle.std.proofs.lemmas.Cmp.{tied_itself, nat_cmp_total}
 use Rattle.icu_locale_core.specs.TextSet.{text_cmp}
 use Rattle.icu_locale_core.specs.laws.TextSets.{text_same, text_total}
-use Rattle.icu_provider.specs.Order.{exemplar_order, exemplar_place, key_order, locale_order, menu_order, menu_place, name_order, name_place}
-use Rattle.icu_provider.specs.Requests.{exemplar_cmp, locale_cmp, menu_cmp, name_cmp}
+use Rattle.icu_provider.specs.Requests.{exemplar_order, exemplar_place, key_order, locale_order, menu_order, menu_place, name_order, name_place, exemplar_cmp, locale_cmp, menu_cmp, name_cmp}
 use Rattle.icu_provider.specs.contracts.exemplars.ExemplarMarkerOrd.TheImpl as exemplar_marker
-use Rattle.icu_provider.specs.contracts.menus.MenuMarkerOrd.TheImpl as menu_marker
+use Rattle.icu_provider.specs.contracts.names.MenuMarkerOrd.TheImpl as menu_marker
 use Rattle.icu_provider.specs.contracts.names.NameKeyOrd.TheImpl as name_key
 use Rattle.icu_provider.specs.contracts.names.NameMarkerOrd.TheImpl as name_marker
 use Rattle.icu_provider.specs.SortedMaps.{TiesEqualAlone, pair_cmp}
 use Rattle.icu_provider.specs.declared.data_locale.DataLocale.{DataLocale}
 use Rattle.icu_provider.specs.declared.exemplars.ExemplarMarker.{ExemplarMarker}
 use Rattle.icu_provider.specs.declared.exemplars.ExemplarMarker.TheVariants as exemplars
-use Rattle.icu_provider.specs.declared.menus.MenuMarker.{MenuMarker}
-use Rattle.icu_provider.specs.declared.menus.MenuMarker.TheVariants as menus
+use Rattle.icu_provider.specs.declared.names.MenuMarker.{MenuMarker}
+use Rattle.icu_provider.specs.declared.names.MenuMarker.TheVariants as menus
 use Rattle.icu_provider.specs.declared.names.NameKey.{NameKey}
 use Rattle.icu_provider.specs.declared.names.NameKey.TheVariants.{Language, Script, Region, Variant}
 use Rattle.icu_provider.specs.declared.names.NameMarker.{NameMarker}

@@ -1,5 +1,6 @@
--- Sorted lists of texts as sets.
-use Rattle.std.proofs.Common.{◌≡◌, ℕ, zero, suc, ◌<◌, Bool, true, ◌||◌, List, [], ◌∷◌, map, length, get_or, String, string_bytes, Result, Ok, Err, is_ok, refl, ap, sym, ◌∙◌, inl, inr, arith}
+-- Texts of one character, and sorted lists of texts as sets.
+use Rattle.std.proofs.Common.{◌≡◌, ℕ, List, [], ◌∷◌, Some, None, slice_get, refl, sym, zero, suc, ◌<◌, Bool, true, ◌||◌, map, length, get_or, String, string_bytes, Result, Ok, Err, is_ok, ap, ◌∙◌, inl, inr, arith}
+use Rattle.std.proofs.lemmas.Option.{none-some}
 use Rattle.std.specs.Global.{Global}
 use Rattle.std.specs.List.{list_any}
 use Rattle.std.specs.List.Sorted.{IsPermutation, IsSortedByKey, IsSearchInRange, IsBinarySearchResult}
@@ -9,9 +10,20 @@ use Rattle.std.specs.declared.cmp.Ordering.TheVariants.{Less, Equal, Greater}
 use Rattle.std.proofs.lemmas.Bool.{cases_lt}
 use Rattle.std.proofs.lemmas.List.Folds.{list_any_at, list_any_none}
 use Rattle.std.proofs.lemmas.List.Sorted.{searchable_from_sorted, Contains-permutation, IsPermutation-sym, IsPermutation-map}
+use Rattle.icu_provider.specs.Exemplars.{only_item}
 use Rattle.icu_locale_core.specs.TextSet.{text_cmp, from_list, contains}
 use Rattle.icu_locale_core.specs.laws.TextSets.{text_total, is_among, contains-from_list}
 use Rattle.icu_locale_core.specs.laws.RisingLists.{from_list-same}
+
+-- another character follows
+pub more_follow : (x y : ℕ) (xs : List ℕ) → Some y ≡ slice_get xs 0 → only_item (x ∷ xs) ≡ None
+more_follow x y [] first = absurd (none-some y (sym first))
+more_follow x y (z ∷ xs) first = refl
+
+-- none follows
+pub none_follows : (x : ℕ) (xs : List ℕ) → None ≡ slice_get xs 0 → only_item (x ∷ xs) ≡ Some x
+none_follows x [] first = refl
+none_follows x (z ∷ xs) first = absurd (none-some z first)
 
 -- a list has the set of its texts in another order
 pub same_set_of : (texts sorted : List (String Global)) → IsPermutation texts sorted → from_list (map string_bytes sorted) ≡ from_list (map string_bytes texts)

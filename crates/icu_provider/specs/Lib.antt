@@ -1,14 +1,8 @@
-pub mod Aliases
-pub mod DataError
 pub mod Exemplars
-pub mod Inserts
 pub mod InversionList
-pub mod Menus
-pub mod Order
-pub mod Patterns
+pub mod Names
 pub mod Provider
 pub mod Requests
-pub mod ScriptDirection
 pub mod SortedMaps
 pub mod inner
 pub mod laws

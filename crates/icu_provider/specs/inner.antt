@@ -1,3 +1,2 @@
 -- What only private functions cite.
-pub mod Bounds
-pub mod Gaps
+pub mod Places

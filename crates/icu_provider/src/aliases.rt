@@ -3,9 +3,7 @@
 ghost use Rattle.std.specs.Prelude.{◌≡◌, [], option_copied};
 ghost use Rattle.icu_locale_core.specs.Maps.{value_at};
 ghost use Rattle.icu_locale_core.specs.TextSet.{text_cmp};
-ghost use Rattle.icu_provider.specs.Aliases.{text_at, regions_at};
-ghost use Rattle.icu_provider.specs.Inserts.{Inserts, Pushes};
-ghost use Rattle.icu_provider.specs.SortedMaps.{IsFoundEach, IsSortedMap};
+ghost use Rattle.icu_provider.specs.SortedMaps.{text_at, regions_at, IsFoundEach, IsSortedMap, Inserts, Pushes};
 
 use crate::{DataError, RowList, Rows, SortedMap};
 use icu_locale_core::{Language, Region, Script, Subtag, Variant};

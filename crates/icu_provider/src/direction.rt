@@ -1,8 +1,7 @@
 //! Which way scripts run.
 ghost use Rattle.std.specs.Prelude.{◌≡◌, []};
 ghost use Rattle.icu_locale_core.specs.TextSet.{text_cmp};
-ghost use Rattle.icu_provider.specs.Inserts.{Inserts};
-ghost use Rattle.icu_provider.specs.ScriptDirection.{is_listed};
+ghost use Rattle.icu_provider.specs.SortedMaps.{Inserts, is_listed};
 
 use crate::{DataError, SortedMap};
 use icu_locale_core::Script;

@@ -1,6 +1,6 @@
 //! Why data is not given, or a row is not taken.
 ghost use Rattle.std.specs.Prelude.{◌≡◌, Some};
-ghost use Rattle.icu_provider.specs.DataError.{kind_name};
+ghost use Rattle.icu_provider.specs.Provider.{kind_name};
 ghost use Rattle.icu_provider.specs.declared.error.DataErrorKind.TheVariants.{Memory};
 
 use std::alloc::{AllocError, AllocFailed};

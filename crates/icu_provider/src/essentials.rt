@@ -1,6 +1,6 @@
 //! How the parts of a locale's name are put together (UTS #35 Part 2, "Locale Display Name Algorithm").
 ghost use Rattle.std.specs.Prelude.{◌≡◌, map};
-ghost use Rattle.icu_provider.specs.Patterns.{part_of};
+ghost use Rattle.icu_provider.specs.Names.{part_of};
 
 use std::marker::Model;
 
@@ -30,7 +30,7 @@ impl Drop for DoublePlaceholderPattern {
 
 impl Model for DoublePlaceholderPattern {
     ghost use Rattle.std.specs.Prelude.{List, map};
-    ghost use Rattle.icu_provider.specs.Patterns.{PatternPart, part_of};
+    ghost use Rattle.icu_provider.specs.Names.{PatternPart, part_of};
 
     ghost Value = { List PatternPart };
 

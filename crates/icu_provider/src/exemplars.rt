@@ -2,8 +2,8 @@
 ghost use Rattle.std.specs.Prelude.{◌≡◌, ◌↔◌, map, IsOk, IfOk, IfErr, string_bytes};
 ghost use Rattle.std.specs.Str.{chars};
 ghost use Rattle.icu_locale_core.specs.TextSet.{from_list};
-ghost use Rattle.icu_provider.specs.Exemplars.{has_text, only_item};
 ghost use Rattle.icu_provider.specs.InversionList.{IsInversionList, has_character};
+ghost use Rattle.icu_provider.specs.Exemplars.{has_text, only_item};
 ghost use Rattle.icu_provider.specs.declared.error.DataErrorKind.TheVariants.{InvalidRequest};
 
 mod ranges;

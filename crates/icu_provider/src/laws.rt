@@ -5,11 +5,10 @@ ghost use Rattle.icu_locale_core.specs.Agreement.{TellsEquality};
 ghost use Rattle.icu_locale_core.specs.TextSet.{text_cmp};
 ghost use Rattle.icu_provider.specs.declared.data_locale.DataLocale.{DataLocale};
 ghost use Rattle.icu_provider.specs.declared.exemplars.ExemplarMarker.{ExemplarMarker};
-ghost use Rattle.icu_provider.specs.declared.menus.MenuMarker.{MenuMarker};
+ghost use Rattle.icu_provider.specs.declared.names.MenuMarker.{MenuMarker};
 ghost use Rattle.icu_provider.specs.declared.names.NameKey.{NameKey};
 ghost use Rattle.icu_provider.specs.declared.names.NameMarker.{NameMarker};
-ghost use Rattle.icu_provider.specs.Order.{exemplar_place, key_order, locale_order, menu_place, name_place};
-ghost use Rattle.icu_provider.specs.Requests.{exemplar_cmp, locale_cmp, menu_cmp, name_cmp};
+ghost use Rattle.icu_provider.specs.Requests.{exemplar_place, key_order, locale_order, menu_place, name_place, exemplar_cmp, locale_cmp, menu_cmp, name_cmp};
 ghost use Rattle.icu_provider.specs.SortedMaps.{TiesEqualAlone, pair_cmp};
 
 use crate::{DataLocale, ExemplarMarker, MenuMarker, NameKey, NameMarker};

@@ -1,6 +1,7 @@
-//! Requests for names of languages, scripts, regions and variants.
+//! Names of languages, scripts, regions and variants, and names in menus.
 
 use icu_locale_core::{Language, Region, Script, Variant};
+use std::marker::Model;
 
 /// A kind of names: whose name it is, how long it may be, and how common a locale's use of it is. A light kind holds
 /// the names that a tiny one leaves out, and a heavy kind those that a light one leaves out. Their order is that of these
@@ -52,4 +53,45 @@ pub enum NameKey {
     Region(Region),
     /// A variant.
     Variant(Variant),
+}
+
+/// A kind of names in menus: how common a locale's use of them is. The heavy kind holds the names that the light one
+/// leaves out.
+#[derive(Clone, Copy, Debug, PartialEq, Eq, PartialOrd, Ord)]
+pub enum MenuMarker {
+    /// Names of languages of medium length.
+    MediumLight,
+    /// Names of languages of medium length, the rare ones too.
+    MediumHeavy,
+}
+
+/// The name of a language in a menu, in two parts (UTS #35 Part 2, "Display Name Elements"). A contract sees
+/// their texts.
+#[derive(Debug)]
+pub struct MenuNameParts {
+    /// The name that the language shares with those like it.
+    pub core: String,
+    /// What tells the language from those like it, empty where nothing does.
+    pub extension: String,
+}
+
+impl Drop for MenuNameParts {
+    fn drop(self) {
+        let MenuNameParts {
+            core: _,
+            extension: _,
+        } = self;
+    }
+}
+
+impl Model for MenuNameParts {
+    ghost use Rattle.std.specs.Prelude.{string_bytes};
+    ghost use Rattle.icu_provider.specs.Names.{MenuName};
+
+    ghost Value = { MenuName };
+
+    ghost view = { λ parts. record {
+      core = string_bytes parts.core;
+      extension = string_bytes parts.extension;
+    } };
 }

@@ -22,8 +22,8 @@ pub trait DataProvider {
     ghost use Rattle.icu_provider.specs.declared.exemplars.ExemplarCharactersData.{ExemplarCharactersData};
     ghost use Rattle.icu_provider.specs.declared.exemplars.ExemplarMarker.{ExemplarMarker};
     ghost use Rattle.icu_provider.specs.declared.essentials.LocaleNamesEssentials.{LocaleNamesEssentials};
-    ghost use Rattle.icu_provider.specs.declared.menus.MenuMarker.{MenuMarker};
-    ghost use Rattle.icu_provider.specs.declared.menus.MenuNameParts.{MenuNameParts};
+    ghost use Rattle.icu_provider.specs.declared.names.MenuMarker.{MenuMarker};
+    ghost use Rattle.icu_provider.specs.declared.names.MenuNameParts.{MenuNameParts};
     ghost use Rattle.icu_provider.specs.declared.names.NameKey.{NameKey};
     ghost use Rattle.icu_provider.specs.declared.names.NameMarker.{NameMarker};
 

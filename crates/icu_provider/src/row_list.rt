@@ -1,6 +1,6 @@
 //! A list of rows in the order in which they were pushed.
 ghost use Rattle.std.specs.Prelude.{◌≡◌, [], List};
-ghost use Rattle.icu_provider.specs.Inserts.{Pushes};
+ghost use Rattle.icu_provider.specs.SortedMaps.{Pushes};
 
 use crate::DataError;
 use std::alloc::Global;

@@ -3,9 +3,8 @@ ghost use Rattle.std.specs.Prelude.{◌≡◌, ◌==◌, [], length, Some, Match
 ghost use Rattle.std.specs.Iterator.{YieldsFirstBy, item_count};
 ghost use Rattle.std.specs.Map.Iter.{deref_pair};
 ghost use Rattle.icu_locale_core.specs.Maps.{value_at};
-ghost use Rattle.icu_provider.specs.Inserts.{Inserts};
-ghost use Rattle.icu_provider.specs.SortedMaps.{IsFoundEach, IsSortedMap};
-ghost use Rattle.icu_provider.specs.inner.Gaps.{IsAt, IsGapFor};
+ghost use Rattle.icu_provider.specs.SortedMaps.{Inserts, IsFoundEach, IsSortedMap};
+ghost use Rattle.icu_provider.specs.inner.Places.{IsAt, IsGapFor};
 
 use crate::DataError;
 use std::alloc::{AllocError, Global};

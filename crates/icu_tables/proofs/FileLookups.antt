@@ -1,10 +1,8 @@
 -- What a look-up answers in the rows of a file.
-use Rattle.std.proofs.Common.{◌≡◌, ℕ, Bool, true, false, cond, codes, List, [], ◌∷◌, Option, Some, None, Result, Ok, Err, option_and_then, option_map, if◌then◌else◌, refl, sym, ap, ◌∙◌, subst}
+use Rattle.std.proofs.Common.{◌≡◌, ℕ, Bool, true, false, cond, codes, List, [], ◌∷◌, Option, Some, None, Ok, option_and_then, option_map, if◌then◌else◌, refl, sym, ap, ◌∙◌, subst}
 use Rattle.std.proofs.lemmas.Cmp.{tied_itself}
-use Rattle.std.proofs.lemmas.Option.{none-some, same_Some, cond_some}
-use Rattle.std.specs.BTreeMap.{is_at}
+use Rattle.std.proofs.lemmas.Option.{none-some, same_Some}
 use Rattle.std.specs.Cmp.{IsTotalOrder}
-use Rattle.std.specs.Map.{lookup}
 use Rattle.std.specs.Ordering.{is_eq, match_ordering}
 use Rattle.std.specs.Str.{is_utf8}
 use Rattle.std.specs.declared.cmp.Ordering.{Ordering}
@@ -21,25 +19,23 @@ use Rattle.icu_provider.specs.declared.data_locale.DataLocale.{DataLocale}
 use Rattle.icu_provider.specs.declared.essentials.LocaleNamesEssentials.{LocaleNamesEssentials}
 use Rattle.icu_provider.specs.declared.exemplars.ExemplarCharactersData.{ExemplarCharactersData}
 use Rattle.icu_provider.specs.declared.exemplars.ExemplarMarker.{ExemplarMarker}
-use Rattle.icu_provider.specs.declared.menus.MenuMarker.{MenuMarker}
-use Rattle.icu_provider.specs.declared.menus.MenuNameParts.{MenuNameParts}
+use Rattle.icu_provider.specs.declared.names.MenuMarker.{MenuMarker}
+use Rattle.icu_provider.specs.declared.names.MenuNameParts.{MenuNameParts}
 use Rattle.icu_provider.specs.declared.names.NameKey.{NameKey}
 use Rattle.icu_provider.specs.declared.names.NameMarker.{NameMarker}
 use Rattle.icu_provider.specs.declared.likely.extended.LikelySubtagsExtended.{LikelySubtagsExtended}
 use Rattle.icu_provider.specs.declared.likely.language.LikelySubtagsForLanguage.{LikelySubtagsForLanguage}
 use Rattle.icu_provider.specs.declared.likely.script_region.LikelySubtagsForScriptRegion.{LikelySubtagsForScriptRegion}
-use Rattle.icu_tables.specs.Essentials.{name_patterns}
-use Rattle.icu_tables.specs.Fields.{has_only, present, said_or}
-use Rattle.icu_tables.specs.File.{aliases, direction, file, likely_language, likely_script_region, likely_extended}
+use Rattle.icu_tables.specs.NamedRows.{name_patterns, exemplar_set, locale_essentials, marked_exemplars, marked_menus, marked_names, menu_name}
+use Rattle.icu_tables.specs.Fields.{present, said_or}
+use Rattle.icu_tables.specs.File.{aliases, direction, file, likely_language, likely_script_region, likely_extended, or_json, or_shape}
 use Rattle.icu_tables.specs.Lookups.{at_path, said_at, IsFile, FindsAt, FindsByLanguage, FindsByScriptRegion, FindsExtended, FindsByLocale, FindsByKey}
-use Rattle.icu_tables.specs.NamedRows.{exemplar_set, locale_essentials, marked_exemplars, marked_menus, marked_names, menu_name}
 use Rattle.icu_tables.specs.Names.{exemplar_markers, name_markers, menu_markers, locale_key, name_key}
 use Rattle.icu_tables.specs.Puts.{map_by}
 use Rattle.icu_tables.specs.Rows.{AliasRows, DirectionRows, FileRows}
 use Rattle.icu_tables.specs.Shape.{Shape, applied, each_row, map_of, pair_of, text as text_shape, triple_of, with_row}
 use Rattle.icu_tables.specs.Subtags.{key_pair, language_key, script_key, region_key}
 use Rattle.icu_tables.specs.Subtags as subtags
-use Rattle.icu_tables.specs.Text.{json_of, rows_in, or_json, or_shape}
 use Rattle.icu_tables.specs.inner.Once.{NamesRise}
 use Rattle.icu_tables.proofs.KeyNames.{OneName, one_exemplar_name, one_language, one_locale, one_menu_name, one_name_key, one_name_of_names, one_pair, one_region, one_script}
 use Rattle.icu_tables.proofs.Lookups.{map_of_some, parts_of}

@@ -10,8 +10,7 @@ use Rattle.icu_provider.specs.declared.likely.language.LikelySubtagsForLanguage.
 use Rattle.icu_provider.specs.declared.likely.script_region.LikelySubtagsForScriptRegion.{LikelySubtagsForScriptRegion}
 use Rattle.icu_tables.specs.declared.error.TableError.{TableError}
 use Rattle.icu_tables.specs.declared.tables.Tables.{Tables}
-use Rattle.icu_tables.specs.File.{file}
-use Rattle.icu_tables.specs.Text.{json_of, or_json, or_shape, rows_in}
+use Rattle.icu_tables.specs.File.{file, json_of, or_json, or_shape, rows_in}
 use Rattle.icu_provider.specs.declared.aliases.Aliases.{Aliases}
 use Rattle.icu_tables.specs.inner.Reads.{Reads, language_seen, script_region_seen, extended_seen, alias_seen, file_seen}
 use Rattle.icu_tables.specs.Rows.{alias_rows, direction_rows, rows_of, seen_rows, rule, variants_rule}

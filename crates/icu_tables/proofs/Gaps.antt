@@ -17,8 +17,8 @@ use Rattle.std.proofs.lemmas.Map.Entries.{length-keys_of}
 use Rattle.std.proofs.lemmas.Map.Views.{All-keys-insert_entry}
 use Rattle.icu_locale_core.specs.Maps.{IsSortedMap, SetsOnly, value_at}
 use Rattle.icu_locale_core.specs.laws.Maps.{SetsOnly-insert_entry, found_at_key, stands_where_found}
-use Rattle.icu_provider.specs.Inserts.{Holds}
-use Rattle.icu_provider.specs.inner.Gaps.{IsAt, IsGapFor}
+use Rattle.icu_provider.specs.SortedMaps.{Holds}
+use Rattle.icu_provider.specs.inner.Places.{IsAt, IsGapFor}
 use Rattle.icu_tables.proofs.Groups.{by_answer}
 
 module _ {K V : Type 0} (compare : K → K → Ordering) where

@@ -1,8 +1,35 @@
--- Arrays: how many items there are, and what those that were read say of the whole.
-use Rattle.std.proofs.Common.{◌≡◌, ℕ, List, [], ◌∷◌, ◌++◌, length, drop, map, Option, Some, None, option_map, refl, sym, ap, append_assoc}
+-- Arrays: how many items there are, and what each that was read or refused says of the whole; texts as a set, and names among known ones.
+use Rattle.std.proofs.Common.{◌≡◌, Option, Some, None, refl, ap, ◌∙◌, ℕ, List, [], ◌∷◌, ◌++◌, length, drop, map, option_map, sym, append_assoc, nat_eq, subst, Bool, true, false}
+use Rattle.std.specs.Cmp.Lexicographic.{pointwise, texts_ties}
+use Rattle.std.specs.List.{dedup}
+use Rattle.std.specs.List.Sorted.{IsStrictlySortedBy, IsSorted, IsPermutation}
+use Rattle.std.proofs.lemmas.List.Kept.{IsStrictlySortedBy-dedup}
+use Rattle.std.proofs.lemmas.Slice.Eq.{bytes_eq-Decides}
+use Rattle.icu_tables.specs.declared.error.TableError.{TableError}
+use Rattle.icu_tables.specs.inner.Reads.{Refuses}
+use Rattle.icu_tables.specs.Shape.{applied, Shape, two_items, three_items, each_item}
 use Rattle.serde_json.specs.View.{items_view}
 use Rattle.serde_json.specs.declared.value.Value.{Value}
-use Rattle.icu_tables.specs.Shape.{Shape, applied, two_items, three_items, each_item}
+use Rattle.icu_locale_core.specs.TextSet.{text_cmp, from_list, rising}
+use Rattle.icu_locale_core.specs.laws.TextSets.{text_total}
+use Rattle.icu_locale_core.specs.laws.RisingLists.{rising-from_list, from_list-dedup}
+use Rattle.icu_tables.specs.declared.error.TableError.TheVariants as refusal
+
+applied-none : {A B : Type 0} (made : Option (A → B)) → applied made None ≡ None
+applied-none None = refl
+applied-none (Some f) = refl
+
+-- the last member is refused
+pub refused_last : {A B : Type 0} (e : TableError) (made : Option (A → B)) (said : Option A) → Refuses e said → Refuses e (applied made said)
+refused_last refusal.Json made said h = h
+refused_last refusal.Shape made said h = ap (applied made) h ∙ applied-none made
+refused_last refusal.Memory made said h = tt
+
+-- one before it is
+pub refused_before : {A B : Type 0} (e : TableError) (made : Option (A → B)) (said : Option A) → Refuses e made → Refuses e (applied made said)
+refused_before refusal.Json made said h = h
+refused_before refusal.Shape made said h = ap (λ f. applied f said) h
+refused_before refusal.Memory made said h = tt
 
 -- no two items where there are others than two
 pub two_items-other : {A B : Type 0} (first : Shape A) (second : Shape B) (values : List Value) → (length values ≡ 2 → ⊥) → two_items first second (items_view values) ≡ None
@@ -32,3 +59,20 @@ module _ {T A : Type 0} (seen : T → A) (shape : Shape A) (values : List Value)
   -- the items that were read, before those from a place on, are what the array says
   abbrev pub IsReadUpTo : ℕ → List T → Type 0
   IsReadUpTo at done = each_item shape (items_view values) ≡ prefixed (map seen done) (each_item shape (items_view (drop at values)))
+
+-- what is left rises
+pub unique_rises : (sorted left : List (List ℕ)) → left ≡ dedup (pointwise nat_eq) sorted → IsSorted text_cmp sorted → IsStrictlySortedBy text_cmp left
+unique_rises sorted left is order = subst (IsStrictlySortedBy text_cmp) (sym is) (IsStrictlySortedBy-dedup text_total texts_ties sorted order)
+
+-- and it is the set of the list
+pub unique_is_set : (list sorted left : List (List ℕ)) → left ≡ dedup (pointwise nat_eq) sorted → IsPermutation list sorted → IsSorted text_cmp sorted → left ≡ rising (from_list list)
+unique_is_set list sorted left is moved order =
+    sym (rising-from_list left (unique_rises sorted left is order)) ∙ ap (λ texts. rising (from_list texts)) is ∙ ap rising (from_list-dedup list sorted moved)
+
+by_test : (known name : List ℕ) (test : Bool) → pointwise nat_eq known name ≡ test → (name ≡ known → ⊥) → test ≡ false
+by_test known name true is other = absurd (other (sym ((bytes_eq-Decides known name).0 is)))
+by_test known name false is other = refl
+
+-- a name that is not the known one fails its test
+pub unlike : (known name : List ℕ) → (name ≡ known → ⊥) → pointwise nat_eq known name ≡ false
+unlike known name other = by_test known name (pointwise nat_eq known name) refl other

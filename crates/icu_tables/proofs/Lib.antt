@@ -8,8 +8,5 @@ mod Lookups
 mod MarkedLookups
 mod Members
 mod NameGroups
-mod Names
 mod Once
 mod Puts
-mod Refusals
-mod Sets

@@ -1,5 +1,5 @@
 -- What a look-up finds among rows that members put in, one after another.
-use Rattle.std.proofs.Common.{◌≡◌, ◌≢◌, ℕ, T, Bool, true, false, List, [], ◌∷◌, ◌++◌, Option, Some, None, option_map, option_and_then, IfSome, if◌then◌else◌, refl, sym, ap, ◌∙◌, subst}
+use Rattle.std.proofs.Common.{◌≡◌, ◌≢◌, ℕ, T, false, List, [], ◌∷◌, ◌++◌, Option, Some, None, option_map, option_and_then, IfSome, if◌then◌else◌, refl, sym, ap, ◌∙◌, subst}
 use Rattle.std.proofs.lemmas.Option.{none-some, same_Some}
 use Rattle.std.specs.BTreeMap.{insert_entry, is_at}
 use Rattle.std.specs.Cmp.{IsTotalOrder}
@@ -9,14 +9,14 @@ use Rattle.std.specs.Ordering.{is_eq, match_ordering}
 use Rattle.std.specs.declared.cmp.Ordering.{Ordering}
 use Rattle.std.specs.declared.cmp.Ordering.TheVariants.{Less, Equal, Greater}
 use Rattle.serde_json.specs.Data.{Data, null, boolean, number, string, array, object, Members, no_members, member}
-use Rattle.serde_json.specs.Find.{get, get_member, as_object}
+use Rattle.serde_json.specs.Find.{get, get_member}
 use Rattle.icu_locale_core.specs.Maps.{value_at}
 use Rattle.icu_locale_core.specs.TextSet.{text_cmp}
 use Rattle.icu_locale_core.specs.laws.Maps.{SetsOnly-insert_entry}
 use Rattle.icu_locale_core.specs.laws.TextSets.{text_same, text_total}
 use Rattle.icu_provider.specs.SortedMaps.{TiesEqualAlone}
 use Rattle.icu_tables.specs.Puts.{put_all, each_put, rows_by}
-use Rattle.icu_tables.specs.NamedRows.{row_at}
+use Rattle.icu_tables.specs.NamedRows.{named_row}
 use Rattle.icu_tables.specs.Shape.{Shape, applied, with_row}
 use Rattle.icu_tables.specs.inner.Once.{AllAbove, NamesRise, MembersRise}
 
@@ -193,7 +193,7 @@ not_tied Greater apart = refl
 
 module _ {K V : Type 0} (compare : K → K → Ordering) (ties : TiesEqualAlone compare) where
   -- the one row of a key is found
-  pub row_found : (shape : Shape V) (value : Data) (key : K) (rows : List (K × V)) → row_at (Some key) shape value ≡ Some rows → last_at compare key rows None ≡ shape value
+  pub row_found : (shape : Shape V) (value : Data) (key : K) (rows : List (K × V)) → named_row (Some key) shape value ≡ Some rows → last_at compare key rows None ≡ shape value
   row_found shape value key rows is =
       let held = map_of_some (λ v. with_row (Some key) v []) (shape value) rows is in
       ap (λ r. last_at compare key r None) held.2

@@ -11,16 +11,16 @@ use Rattle.icu_provider.specs.SortedMaps.{TiesEqualAlone}
 use Rattle.icu_provider.specs.declared.data_locale.DataLocale.{DataLocale}
 use Rattle.icu_tables.specs.Fields.{said_or}
 use Rattle.icu_tables.specs.Lookups.{at_path, said_at, FindsAt, FindsByLocale, FindsByKey}
-use Rattle.icu_tables.specs.NamedRows.{marked, marked_rows, request_in, row_at, rows_in_locale, rows_of_marker}
+use Rattle.icu_tables.specs.NamedRows.{marked, marked_rows, request_in, named_row, rows_in_locale, rows_of_marker}
 use Rattle.icu_tables.specs.Names.{named_in, locale_key}
 use Rattle.icu_tables.specs.Puts.{put_all, map_by, rows_by}
-use Rattle.icu_tables.specs.Shape.{Shape, both, with_row}
+use Rattle.icu_tables.specs.Shape.{Shape, with_row}
 use Rattle.icu_tables.specs.inner.Once.{NamesRise}
 use Rattle.icu_tables.proofs.KeyNames.{OneName, one_locale}
 use Rattle.icu_tables.proofs.Lookups.{DecidesAt, last_at, each_of_value, each_weaker, level, map_of_some, put_all-finds, rise_behind, row_found, then_of_some}
 
 -- the one row of a member has the key of its name
-own_row : {K V : Type 0} (key : Option K) (shape : Shape V) (value : Data) (rows : List (K × V)) → row_at key shape value ≡ Some rows → AllByRecursion (λ row. key ≡ Some row.0) rows
+own_row : {K V : Type 0} (key : Option K) (shape : Shape V) (value : Data) (rows : List (K × V)) → named_row key shape value ≡ Some rows → AllByRecursion (λ row. key ≡ Some row.0) rows
 own_row {K = K} {V = V} key shape value rows is = by key (map_of_some (λ v. with_row key v []) (shape value) rows is)
   where
     by : (k : Option K) → (v : V) × (shape value ≡ Some v) × (rows ≡ with_row k v []) → AllByRecursion (λ row. k ≡ Some row.0) rows
@@ -32,7 +32,7 @@ module _ {K V : Type 0} (compare : K → K → Ordering) (ties : TiesEqualAlone 
 
   module _ (key : List ℕ → Option K) (one : OneName key) where
     abbrev rows_named : List ℕ → Shape (List (K × V))
-    rows_named name = row_at (key name) shape
+    rows_named name = named_row (key name) shape
 
     pub found_by_key : (mine : List ℕ) (q : K) → key mine ≡ Some q → (value : Data) (rows : List (K × V)) → NamesRise value → rows_by rows_named value ≡ Some rows → last_at compare q rows None ≡ said_at shape (mine ∷ []) value
     found_by_key mine q named value rows rise is =
@@ -42,7 +42,7 @@ module _ {K V : Type 0} (compare : K → K → Ordering) (ties : TiesEqualAlone 
         by : (found : Option Data) → DecidesAt compare rows_named q mine found rows → last_at compare q rows None ≡ option_and_then shape (option_and_then (at_path []) found)
         by None decides = decides None
         by (Some v) decides =
-            let own : row_at (Some q) shape v ≡ Some decides.0 = subst (λ k. row_at k shape v ≡ Some decides.0) named decides.1 in
+            let own : named_row (Some q) shape v ≡ Some decides.0 = subst (λ k. named_row k shape v ≡ Some decides.0) named decides.1 in
             decides.2 None ∙ row_found compare ties shape v q decides.0 own
 
   -- ---- names around them
@@ -80,10 +80,10 @@ module _ {K V : Type 0} (compare : K → K → Ordering) (ties : TiesEqualAlone 
 
 pub finds_by_key : {K V : Type 0} (compare : K → K → Ordering) → TiesEqualAlone compare → IsTotalOrder compare → (shape : Shape V) (key : List ℕ → Option K) → OneName key
     → (member : List ℕ) (value : Data) (rows : List (K × V)) → NamesRise value
-    → said_or (Some []) (map_by compare (λ name. row_at (key name) shape)) (get member value) ≡ Some rows
+    → said_or (Some []) (map_by compare (λ name. named_row (key name) shape)) (get member value) ≡ Some rows
     → FindsAt compare key shape (member ∷ []) value rows
 finds_by_key compare ties total shape key one member value rows rise is name k named =
-    found_in_map compare ties shape total (λ n. row_at (key n) shape) k (name ∷ [])
+    found_in_map compare ties shape total (λ n. named_row (key n) shape) k (name ∷ [])
     (found_by_key compare ties shape key one name k named) member value rows rise is
 
 -- ---- by marker
@@ -108,7 +108,7 @@ module _ {M V : Type 0} (compare : (M × DataLocale) → (M × DataLocale) → O
   locale_request marker name = option_map (λ locale. (marker, locale)) (locale_key name)
 
   abbrev rows_by_locale : M → List ℕ → Shape (List ((M × DataLocale) × V))
-  rows_by_locale marker name = row_at (locale_request marker name) shape
+  rows_by_locale marker name = named_row (locale_request marker name) shape
 
   request_parts : (marker : M) (name : List ℕ) (k : M × DataLocale) → locale_request marker name ≡ Some k → (marker ≡ k.0) × (locale_key name ≡ Some k.1)
   request_parts marker name k is =

@@ -12,8 +12,8 @@ use Rattle.std.specs.String.{string_cmp}
 use Rattle.serde_json.specs.View.{view, members_view}
 use Rattle.serde_json.proofs.Views.{Entry}
 use Rattle.icu_locale_core.specs.TextSet.{text_cmp}
-use Rattle.icu_tables.specs.Fields.{is_listed, are_listed}
-use Rattle.icu_tables.specs.inner.Keys.{ComparesNames}
+use Rattle.icu_tables.specs.Fields.{is_name_listed, are_listed}
+use Rattle.icu_tables.specs.inner.KeyLaws.{ComparesNames}
 use Rattle.icu_tables.specs.Rows.{seen_rows}
 use Rattle.icu_tables.specs.Shape.{Shape, applied, with_row, each_row}
 use Rattle.icu_tables.proofs.Items.{prefixed, prefixed-more}
@@ -69,14 +69,14 @@ module _ {K W : Type 0} (key : List ℕ → Option K) (shape : Shape W) (compare
       ]
 
 -- a name among names behind references
-pub list_any-seen : (name : List ℕ) (names : List (Bor (List ℕ))) → list_any (λ known. pointwise nat_eq known.now name) names ≡ is_listed (map (λ known. known.now) names) name
+pub list_any-seen : (name : List ℕ) (names : List (Bor (List ℕ))) → list_any (λ known. pointwise nat_eq known.now name) names ≡ is_name_listed (map (λ known. known.now) names) name
 list_any-seen name [] = refl
 list_any-seen name (known ∷ names) = ap (λ later. pointwise nat_eq known.now name || later) (list_any-seen name names)
 
 -- the names of members are those of the rows of a map
-pub are_listed-keys : (names : List (List ℕ)) (es : List Entry) → are_listed names (members_view es) ≡ list_all (λ key. is_listed names (string_bytes key)) (keys_of es)
+pub are_listed-keys : (names : List (List ℕ)) (es : List Entry) → are_listed names (members_view es) ≡ list_all (λ key. is_name_listed names (string_bytes key)) (keys_of es)
 are_listed-keys names [] = refl
-are_listed-keys names (e ∷ es) = ap (λ later. is_listed names (string_bytes e.0) && later) (are_listed-keys names es)
+are_listed-keys names (e ∷ es) = ap (λ later. is_name_listed names (string_bytes e.0) && later) (are_listed-keys names es)
 
 -- rows that are seen as they are
 pub seen_rows-same : {K V : Type 0} (rows : List (K × V)) → seen_rows (λ v. v) rows ≡ rows

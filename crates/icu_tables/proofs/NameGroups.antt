@@ -11,9 +11,8 @@ use Rattle.std.proofs.lemmas.Cmp.{on_total, then_total, tied_itself}
 use Rattle.std.proofs.lemmas.List.{set-get_or}
 use Rattle.std.proofs.lemmas.List.Elements.{All-from_recursion}
 use Rattle.icu_locale_core.specs.Maps.{IsSortedMap, value_at}
-use Rattle.icu_provider.specs.Inserts.{Holds, Inserts}
+use Rattle.icu_provider.specs.SortedMaps.{Holds, Inserts, TiesEqualAlone}
 use Rattle.icu_provider.specs.Requests.{name_cmp}
-use Rattle.icu_provider.specs.SortedMaps.{TiesEqualAlone}
 use Rattle.icu_provider.specs.contracts.data_locale.DataLocaleOrd.TheImpl.Laws as data_locale
 use Rattle.icu_provider.specs.contracts.names.NameKeyOrd.TheImpl.Laws as name_key
 use Rattle.icu_provider.specs.contracts.names.NameMarkerOrd.TheImpl.Laws as name_marker
@@ -21,7 +20,7 @@ use Rattle.icu_provider.specs.declared.data_locale.DataLocale.{DataLocale}
 use Rattle.icu_provider.specs.declared.error.DataError.{DataError}
 use Rattle.icu_provider.specs.declared.names.NameKey.{NameKey}
 use Rattle.icu_provider.specs.declared.names.NameMarker.{NameMarker}
-use Rattle.icu_provider.specs.inner.Gaps.{IsAt, IsGapFor}
+use Rattle.icu_provider.specs.inner.Places.{IsAt, IsGapFor}
 use Rattle.icu_tables.specs.Groups.{NameGroup, RiseInGroups, flat_names, group_cmp, key_cmp, request_of, rows_at}
 use Rattle.icu_tables.proofs.Gaps.{IsSortedMap-insert_entry, lookup_at, lookup_in_gap, insert_entry-at, insert_entry-in_gap, inserts_from_rows}
 use Rattle.icu_tables.proofs.Groups.{each_rises-insert_entry, flat_rises, insert_entry-flat, value_at-flat}

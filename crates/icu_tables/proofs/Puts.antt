@@ -8,11 +8,9 @@ use Rattle.std.specs.BTreeMap.{insert_entry}
 use Rattle.serde_json.specs.View.{view, members_view}
 use Rattle.serde_json.proofs.Views.{Entry}
 use Rattle.icu_tables.specs.Puts.{put_all, each_put}
-use Rattle.icu_tables.specs.inner.Reads.{Refuses, Puts}
+use Rattle.icu_tables.specs.inner.Reads.{Puts}
 use Rattle.icu_tables.specs.Rows.{seen_rows}
 use Rattle.icu_tables.specs.Shape.{Shape, applied}
-use Rattle.icu_tables.specs.declared.error.TableError.{TableError}
-use Rattle.icu_tables.specs.declared.error.TableError.TheVariants.{Json, Shape as NoShape, Memory}
 
 module _ {K V : Type 0} (compare : K → K → Ordering) where
   put_all-append : (old first second : List (K × V)) → put_all compare old (first ++ second) ≡ put_all compare (put_all compare old first) second
@@ -31,16 +29,6 @@ module _ {K V : Type 0} (compare : K → K → Ordering) where
   -- a member has put its rows
   pub becomes-more : (says : List ℕ → Shape (List (K × V))) (now next : List (K × V)) (e : Entry) (left : List Entry) → option_map (put_all compare now) (says (string_bytes e.0) (view e.1)) ≡ Some next → becomes says now (e ∷ left) ≡ becomes says next left
   becomes-more says now next e left put = after now next (says (string_bytes e.0) (view e.1)) (each_put says (members_view left)) put
-
-  missing : (now : List (K × V)) (said more : Option (List (K × V))) → option_map (put_all compare now) said ≡ None → option_map (put_all compare now) (applied (option_map (λ rows more. rows ++ more) said) more) ≡ None
-  missing now None more none = refl
-  missing now (Some rows) more none = absurd (none-some _ (sym none))
-
-  -- a member is refused
-  pub becomes-refused : (says : List ℕ → Shape (List (K × V))) (now : List (K × V)) (e : Entry) (left : List Entry) (refusal : TableError) → Refuses refusal (option_map (put_all compare now) (says (string_bytes e.0) (view e.1))) → Refuses refusal (becomes says now (e ∷ left))
-  becomes-refused says now e left Json refused = refused
-  becomes-refused says now e left NoShape refused = missing now (says (string_bytes e.0) (view e.1)) (each_put says (members_view left)) refused
-  becomes-refused says now e left Memory refused = tt
 
 module _ {K V W : Type 0} (compare : K → K → Ordering) (seen : V → W) where
   -- a row is seen where it was put

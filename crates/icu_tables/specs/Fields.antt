@@ -52,13 +52,13 @@ these and more = record {
 }
 
 -- a name is one of these
-abbrev pub is_listed : List (List ℕ) → List ℕ → Bool
-is_listed names name = list_any (λ known. pointwise nat_eq known name) names
+abbrev pub is_name_listed : List (List ℕ) → List ℕ → Bool
+is_name_listed names name = list_any (λ known. pointwise nat_eq known name) names
 
 -- each member has one of these names
 abbrev pub are_listed : List (List ℕ) → Members → Bool
 are_listed names no_members = true
-are_listed names (member name value members) = is_listed names name && are_listed names members
+are_listed names (member name value members) = is_name_listed names name && are_listed names members
 
 -- an object with no member but those of these names
 abbrev pub has_only : List (List ℕ) → Data → Bool

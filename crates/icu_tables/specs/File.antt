@@ -1,5 +1,6 @@
--- A JSON file of tables: which members it may have, and what stands in each.
-use Rattle.std.specs.Prelude.{codes}
+-- What a JSON file of tables may hold, what a text says as one, or why it says nothing.
+use Rattle.std.specs.Prelude.{codes, ℕ, List, if◌then◌else◌, Option, Some, None, Result, Ok, Err}
+use Rattle.std.specs.Str.{is_utf8}
 use Rattle.icu_provider.specs.declared.likely.extended.LikelySubtagsExtended.{LikelySubtagsExtended}
 use Rattle.icu_provider.specs.declared.likely.language.LikelySubtagsForLanguage.{LikelySubtagsForLanguage}
 use Rattle.icu_provider.specs.declared.likely.script_region.LikelySubtagsForScriptRegion.{LikelySubtagsForScriptRegion}
@@ -10,6 +11,10 @@ use Rattle.icu_tables.specs.Puts.{map_by}
 use Rattle.icu_tables.specs.Rows.{AliasRows, DirectionRows, FileRows}
 use Rattle.icu_tables.specs.Shape.{Shape, text, pair_of, triple_of, array_of, set_of, map_of}
 use Rattle.icu_tables.specs.Subtags.{language, script, region, variant, language_key, script_key, region_key, variant_key, subtag_key, key_pair}
+use Rattle.serde_json.specs.Data.{Data}
+use Rattle.serde_json.specs.Read.{read}
+use Rattle.icu_tables.specs.declared.error.TableError.{TableError}
+use Rattle.icu_tables.specs.declared.error.TableError.TheVariants as refusal
 
 -- likely subtags by language
 abbrev pub likely_language : Shape LikelySubtagsForLanguage
@@ -124,3 +129,21 @@ file =
     and rows (codes "names") (map_by name_cmp marked_names)
     and rows (codes "menus") (map_by menu_cmp marked_menus)
     and rows (codes "essentials") (map_by locale_cmp locale_essentials))
+
+-- the JSON value that a text is, if it is one
+abbrev pub json_of : List ℕ → Option Data
+json_of text = if is_utf8 text then read text else None
+
+-- `Shape` where there are no rows
+abbrev pub or_shape : Option FileRows → Result FileRows TableError
+or_shape None = Err refusal.Shape
+or_shape (Some rows) = Ok rows
+
+-- the rows of a value, and `Json` where there is none
+abbrev pub or_json : Option Data → Result FileRows TableError
+or_json None = Err refusal.Json
+or_json (Some value) = or_shape (file value)
+
+-- the rows in a text, or why there are none
+abbrev pub rows_in : List ℕ → Result FileRows TableError
+rows_in text = or_json (json_of text)

@@ -1,15 +1,12 @@
-pub mod Essentials
 pub mod Fields
 pub mod File
 pub mod Groups
 pub mod Lookups
 pub mod NamedRows
 pub mod Names
-pub mod Numbers
 pub mod Puts
 pub mod Rows
 pub mod Shape
 pub mod Subtags
 pub mod Tables
-pub mod Text
 pub mod inner

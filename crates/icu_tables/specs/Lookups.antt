@@ -1,5 +1,5 @@
 -- What stands in a file behind names, one in another, and what a look-up in its rows answers.
-use Rattle.std.specs.Prelude.{◌≡◌, ℕ, List, [], ◌∷◌, ◌++◌, codes, Option, Some, Result, Ok, option_and_then}
+use Rattle.std.specs.Prelude.{◌≡◌, ℕ, List, [], ◌∷◌, ◌++◌, codes, Option, Some, Ok, option_and_then}
 use Rattle.std.specs.declared.cmp.Ordering.{Ordering}
 use Rattle.serde_json.specs.Data.{Data}
 use Rattle.serde_json.specs.Find.{get}
@@ -15,7 +15,7 @@ use Rattle.icu_tables.specs.Rows.{FileRows}
 use Rattle.icu_tables.specs.Shape.{Shape, pair_of}
 use Rattle.icu_tables.specs.Subtags.{language_key, script_key, region_key, key_pair}
 use Rattle.icu_tables.specs.Subtags as subtags
-use Rattle.icu_tables.specs.Text.{json_of, rows_in}
+use Rattle.icu_tables.specs.File.{json_of, rows_in}
 
 -- the value behind some names, the first of them the outermost
 abbrev pub at_path : List (List ℕ) → Data → Option Data

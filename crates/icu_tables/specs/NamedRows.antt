@@ -1,22 +1,48 @@
--- Rows of exemplar sets, names and patterns: objects from markers to locales to what is held.
-use Rattle.std.specs.Prelude.{ℕ, List, [], Option, option_map, option_and_then, if◌then◌else◌, codes, None, Some}
+-- The members of a file that hold exemplar sets, names, names in menus and patterns of names.
+use Rattle.std.specs.Prelude.{ℕ, List, [], Option, option_map, option_and_then, if◌then◌else◌, codes, None, Some, ◌==◌}
+use Rattle.std.specs.Option.{option_or}
 use Rattle.icu_locale_core.specs.TextSet.{from_list}
 use Rattle.icu_provider.specs.InversionList.{is_inversion_list}
 use Rattle.icu_provider.specs.declared.data_locale.DataLocale.{DataLocale}
 use Rattle.icu_provider.specs.declared.essentials.LocaleNamesEssentials.{LocaleNamesEssentials}
 use Rattle.icu_provider.specs.declared.exemplars.ExemplarCharactersData.{ExemplarCharactersData}
 use Rattle.icu_provider.specs.declared.exemplars.ExemplarMarker.{ExemplarMarker}
-use Rattle.icu_provider.specs.declared.menus.MenuMarker.{MenuMarker}
-use Rattle.icu_provider.specs.declared.menus.MenuNameParts.{MenuNameParts}
+use Rattle.icu_provider.specs.declared.names.MenuMarker.{MenuMarker}
+use Rattle.icu_provider.specs.declared.names.MenuNameParts.{MenuNameParts}
 use Rattle.icu_provider.specs.declared.names.NameKey.{NameKey}
 use Rattle.icu_provider.specs.declared.names.NameMarker.{NameMarker}
-use Rattle.icu_tables.specs.Essentials.{name_patterns}
 use Rattle.icu_tables.specs.Fields.{fields, ◌and◌, required, object_of}
 use Rattle.icu_tables.specs.Names.{named_in, exemplar_markers, name_markers, menu_markers, locale_key, name_key}
-use Rattle.icu_tables.specs.Numbers.{bound}
+use Rattle.icu_tables.specs.Shape.{bound, Shape, both, array_of, pair_of, text, with_row}
 use Rattle.icu_tables.specs.Puts.{rows_by}
-use Rattle.icu_tables.specs.Shape.{Shape, both, array_of, pair_of, text, with_row}
 use Rattle.icu_tables.specs.Subtags.{language_key}
+use Rattle.serde_json.specs.Find.{as_number, as_str, as_u64}
+use Rattle.icu_provider.specs.Names.{PatternPart, fixed_text, first_place, second_place}
+
+-- the place that a number names: 0 the first, and 1 the second
+abbrev pub place : ℕ → Option PatternPart
+place n = if n == 0 then Some first_place else if n == 1 then Some second_place else None
+
+-- a text as it stands, or the number of a place
+abbrev pub pattern_item : Shape PatternPart
+pattern_item value =
+    option_or (option_map (λ t. fixed_text t) (as_str value))
+    (option_and_then place (option_and_then as_u64 (as_number value)))
+
+-- a pattern: any number of items
+abbrev pub pattern : Shape (List PatternPart)
+pattern = array_of pattern_item
+
+-- how the parts of names are put together
+abbrev pub name_patterns : Shape LocaleNamesEssentials
+name_patterns =
+    object_of (
+    fields (λ pattern separator. record {
+      locale_pattern = pattern;
+      locale_separator = separator;
+    })
+    and required (codes "pattern") pattern
+    and required (codes "separator") pattern)
 
 -- a set, where its list is an inversion list
 abbrev pub if_inversion_list : ExemplarCharactersData → Option ExemplarCharactersData
@@ -31,8 +57,8 @@ exemplar_set value =
     and required (codes "strings") (array_of text)) value)
 
 -- one row, where the key is one
-abbrev pub row_at : {K V : Type 0} → Option K → Shape V → Shape (List (K × V))
-row_at key shape value = option_map (λ held. with_row key held []) (shape value)
+abbrev pub named_row : {K V : Type 0} → Option K → Shape V → Shape (List (K × V))
+named_row key shape value = option_map (λ held. with_row key held []) (shape value)
 
 -- the rows of a member named by a marker; no other member is there
 abbrev pub marked : {M R : Type 0} → List (List ℕ × M) → (M → List ℕ → Shape (List R))
@@ -47,7 +73,7 @@ exemplar_request marker name = option_map (λ locale. (marker, locale)) (locale_
 -- the sets of a marker, by locale
 abbrev pub exemplars_of : ExemplarMarker → List ℕ
     → Shape (List ((ExemplarMarker × DataLocale) × ExemplarCharactersData))
-exemplars_of marker name = row_at (exemplar_request marker name) exemplar_set
+exemplars_of marker name = named_row (exemplar_request marker name) exemplar_set
 
 -- the sets of a member named by a marker; no other member is there
 abbrev pub marked_exemplars : List ℕ
@@ -64,7 +90,7 @@ request_in marker locale key =
 abbrev pub rows_in_locale : {M K V : Type 0} → (M → List ℕ → Option K) → Shape V
     → M → Option DataLocale → List ℕ → Shape (List ((M × DataLocale × K) × V))
 rows_in_locale key shape marker locale name =
-    row_at (request_in marker locale (key marker name)) shape
+    named_row (request_in marker locale (key marker name)) shape
 
 -- the rows of a marker, by locale
 abbrev pub rows_of_marker : {M K V : Type 0} → (M → List ℕ → Option K) → Shape V
@@ -93,4 +119,4 @@ marked_menus = marked_rows menu_markers (λ _. language_key) menu_name
 
 -- how the parts of names are put together, in a member named by a locale
 abbrev pub locale_essentials : List ℕ → Shape (List (DataLocale × LocaleNamesEssentials))
-locale_essentials name = row_at (locale_key name) name_patterns
+locale_essentials name = named_row (locale_key name) name_patterns

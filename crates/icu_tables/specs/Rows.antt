@@ -12,8 +12,8 @@ use Rattle.icu_provider.specs.declared.exemplars.ExemplarMarker.{ExemplarMarker}
 use Rattle.icu_provider.specs.declared.likely.extended.LikelySubtagsExtended.{LikelySubtagsExtended}
 use Rattle.icu_provider.specs.declared.likely.language.LikelySubtagsForLanguage.{LikelySubtagsForLanguage}
 use Rattle.icu_provider.specs.declared.likely.script_region.LikelySubtagsForScriptRegion.{LikelySubtagsForScriptRegion}
-use Rattle.icu_provider.specs.declared.menus.MenuMarker.{MenuMarker}
-use Rattle.icu_provider.specs.declared.menus.MenuNameParts.{MenuNameParts}
+use Rattle.icu_provider.specs.declared.names.MenuMarker.{MenuMarker}
+use Rattle.icu_provider.specs.declared.names.MenuNameParts.{MenuNameParts}
 use Rattle.icu_provider.specs.declared.names.NameKey.{NameKey}
 use Rattle.icu_provider.specs.declared.names.NameMarker.{NameMarker}
 use Rattle.icu_tables.specs.declared.tables.Tables.{Tables}

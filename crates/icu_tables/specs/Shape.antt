@@ -1,8 +1,8 @@
 -- Shapes of JSON values. A shape is a reader: what a value of the shape says, and none elsewhere.
-use Rattle.std.specs.Prelude.{ℕ, List, [], ◌∷◌, Option, Some, None, option_map, option_and_then}
+use Rattle.std.specs.Prelude.{ℕ, List, [], ◌∷◌, Option, Some, None, option_map, option_and_then, nat_le, if◌then◌else◌}
 use Rattle.icu_locale_core.specs.TextSet.{from_list, rising}
 use Rattle.serde_json.specs.Data.{Data, Items, no_items, item, Members, no_members, member}
-use Rattle.serde_json.specs.Find.{as_str, as_array, as_object}
+use Rattle.serde_json.specs.Find.{as_str, as_array, as_object, as_number, as_u64}
 
 -- what a value says, if it has the shape
 abbrev pub Shape : Type 0 → Type 0
@@ -75,3 +75,11 @@ each_row key shape (member name value members) =
 -- an object whose members are rows: a map, whose keys rise as the names do
 abbrev pub map_of : {K V : Type 0} → (List ℕ → Option K) → Shape V → Shape (List (K × V))
 map_of key shape value = option_and_then (each_row key shape) (as_object value)
+
+-- a number, where it is none above 0x110000
+abbrev pub if_bound : ℕ → Option ℕ
+if_bound n = if nat_le n 1114112 then Some n else None
+
+-- a bound of characters: a whole number up to 0x110000
+abbrev pub bound : Shape ℕ
+bound value = option_and_then if_bound (option_and_then as_u64 (as_number value))

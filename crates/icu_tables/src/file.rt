@@ -2,7 +2,7 @@
 ghost use Rattle.std.specs.Prelude.{◌≡◌, ◌≢◌, Some, None, Ok, Err, IfOk, IfErr};
 ghost use Rattle.icu_tables.specs.inner.Reads.{file_seen};
 ghost use Rattle.icu_tables.specs.Rows.{rows_of};
-ghost use Rattle.icu_tables.specs.Text.{json_of, rows_in};
+ghost use Rattle.icu_tables.specs.File.{json_of, rows_in};
 ghost use Rattle.serde_json.specs.View.{view};
 
 mod aliases;
@@ -13,14 +13,11 @@ mod exemplars;
 mod keys;
 mod likely;
 mod locales;
-mod maps;
 mod marked;
 mod members;
-mod menus;
 mod names;
 mod objects;
 mod subtags;
-mod texts;
 mod values;
 
 use crate::file::exemplars::MarkedExemplars;

@@ -6,7 +6,7 @@ ghost use Rattle.icu_provider.specs.Requests.{exemplar_cmp, locale_cmp, menu_cmp
 ghost use Rattle.icu_provider.specs.declared.likely.extended.LikelySubtagsExtended.{LikelySubtagsExtended};
 ghost use Rattle.icu_provider.specs.declared.likely.language.LikelySubtagsForLanguage.{LikelySubtagsForLanguage};
 ghost use Rattle.icu_provider.specs.declared.likely.script_region.LikelySubtagsForScriptRegion.{LikelySubtagsForScriptRegion};
-ghost use Rattle.icu_tables.specs.Essentials.{name_patterns};
+ghost use Rattle.icu_tables.specs.NamedRows.{name_patterns, exemplar_set, menu_name};
 ghost use Rattle.icu_tables.specs.Lookups.{
   IsFile,
   FindsAt,
@@ -16,7 +16,6 @@ ghost use Rattle.icu_tables.specs.Lookups.{
   FindsByScriptRegion,
   FindsExtended,
 };
-ghost use Rattle.icu_tables.specs.NamedRows.{exemplar_set, menu_name};
 ghost use Rattle.icu_tables.specs.Names.{exemplar_markers, locale_key, menu_markers, name_key, name_markers};
 ghost use Rattle.icu_tables.specs.Rows.{FileRows};
 ghost use Rattle.icu_tables.specs.Shape.{text as a_text};

@@ -1,10 +1,9 @@
 //! Names in two steps: first by marker and locale, and then by key.
 ghost use Rattle.std.specs.Prelude.{◌≡◌, ◌==◌, ◌-◌, ◌^◌, [], length, min, MatchResult, option_copied};
 ghost use Rattle.icu_locale_core.specs.Maps.{value_at};
-ghost use Rattle.icu_provider.specs.Inserts.{Inserts};
+ghost use Rattle.icu_provider.specs.SortedMaps.{Inserts, IsSortedMap};
 ghost use Rattle.icu_provider.specs.Requests.{name_cmp};
-ghost use Rattle.icu_provider.specs.SortedMaps.{IsSortedMap};
-ghost use Rattle.icu_provider.specs.inner.Gaps.{IsAt, IsGapFor};
+ghost use Rattle.icu_provider.specs.inner.Places.{IsAt, IsGapFor};
 ghost use Rattle.icu_tables.specs.Groups.{flat_names, group_cmp};
 
 use icu_provider::laws::keys_are_told_apart;

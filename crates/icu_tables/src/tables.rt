@@ -1,9 +1,8 @@
 //! Tables in memory, and the provider that they are.
 ghost use Rattle.std.specs.Prelude.{◌≡◌, [], Some, None, option_copied};
 ghost use Rattle.icu_locale_core.specs.Maps.{value_at};
-ghost use Rattle.icu_provider.specs.Inserts.{Inserts};
+ghost use Rattle.icu_provider.specs.SortedMaps.{Inserts, IsSortedMap};
 ghost use Rattle.icu_provider.specs.Requests.{exemplar_cmp, locale_cmp, menu_cmp, name_cmp};
-ghost use Rattle.icu_provider.specs.SortedMaps.{IsSortedMap};
 ghost use Rattle.icu_tables.specs.Tables.{held, name_in};
 
 use crate::NameRows;

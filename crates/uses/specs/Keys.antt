@@ -1,5 +1,5 @@
--- Keys of a store.
-use Rattle.std.specs.Prelude.{◌⊎◌}
+-- Keys of a store, and two calls one behind the other.
+use Rattle.std.specs.Prelude.{◌⊎◌, Result, Ok, Err}
 use Rattle.icu_locale_core.specs.declared.locale.Locale.{Locale}
 use Rattle.icu_locale.specs.Canonical.{IsCanonical}
 use Rattle.icu_locale.specs.LikelySubtags.{LikelySubtags}
@@ -8,8 +8,13 @@ use Rattle.icu_locale.specs.declared.canonicalizer.CanonicalizeError.{Canonicali
 use Rattle.icu_locale.specs.declared.canonicalizer.rules.Rules.{Rules}
 
 -- the refusal of one of two locales, the first asked first: that of the second comes where the first has a canonical form
-abbrev pub IsFirstRefusal : LikelySubtags → Rules → (one other : Locale) → CanonicalizeError
+abbrev pub IsRefusalOfEither : LikelySubtags → Rules → (one other : Locale) → CanonicalizeError
     → Type 0
-IsFirstRefusal likely rules one other e =
+IsRefusalOfEither likely rules one other e =
     IsRefusal likely rules one e
     ⊎ (((x : Locale) × IsCanonical likely rules one x) × IsRefusal likely rules other e)
+
+-- the answer of the first of two calls, or the refusal
+abbrev pub first_answer : {A B E : Type 0} → Result (A × B) E → Result A E
+first_answer (Ok answers) = Ok answers.0
+first_answer (Err refusal) = Err refusal

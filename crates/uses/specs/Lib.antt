@@ -2,4 +2,3 @@ pub mod Fallback
 pub mod Keys
 pub mod Meaning
 pub mod Menu
-pub mod Twice

@@ -7,7 +7,7 @@ use Rattle.icu_locale_names.specs.declared.name_chain.NameChain.TheVariants.{Lig
 use Rattle.icu_locale_names.specs.LanguageNames.{LocaleAnswers, GivesName}
 use Rattle.icu_locale_names.specs.Pieces.{Piece, text_of, spans}
 use Rattle.icu_locale_names.specs.declared.options.LanguageDisplay.TheVariants.{Dialect}
-use Rattle.icu_locale_names.specs.declared.write_error.NameWriteError.TheVariants.{TooLong}
+use Rattle.icu_locale_names.specs.declared.errors.NameWriteError.TheVariants.{TooLong}
 use Rattle.uses.specs.declared.menu.MenuLine.{MenuLine}
 use Rattle.uses.specs.declared.menu.MenuError.{MenuError}
 use Rattle.uses.specs.declared.menu.MenuError.TheVariants.{Refused, Unwritten}
@@ -24,14 +24,14 @@ Shows pieces (Err (Refused e)) = ⊥
 Shows pieces (Err (Unwritten e)) = e ≡ TooLong → 2 ^ 64 ≤ length (text_of pieces)
 
 -- the line of a name, or the refusal of the name
-abbrev pub IsLineOf : Result (List Piece) DataError → Result MenuLine MenuError → Type 0
-IsLineOf (Ok pieces) result = Shows pieces result
-IsLineOf (Err refusal) result = result ≡ Err (Refused refusal)
+abbrev pub IsMenuLineOf : Result (List Piece) DataError → Result MenuLine MenuError → Type 0
+IsMenuLineOf (Ok pieces) result = Shows pieces result
+IsMenuLineOf (Err refusal) result = result ≡ Err (Refused refusal)
 
 -- the line of an identifier, over what a provider answers
 abbrev pub IsLineFor : LocaleAnswers → LanguageIdentifier → Result MenuLine MenuError → Type 0
 IsLineFor answers x result =
-    (name : Result (List Piece) DataError) × IsLineOf name result
+    (name : Result (List Piece) DataError) × IsMenuLineOf name result
     × GivesName answers (chain_of Light) Dialect x name
 
 -- the refusal of the first identifier that has no line

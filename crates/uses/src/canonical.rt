@@ -2,7 +2,7 @@
 ghost use Rattle.std.specs.Prelude.{◌≡◌, IfOk};
 ghost use Rattle.icu_locale.specs.Canonicalization.{Canonicalizes};
 ghost use Rattle.icu_locale.specs.LikelyTable.{likely};
-ghost use Rattle.uses.specs.Twice.{first_of};
+ghost use Rattle.uses.specs.Keys.{first_answer};
 
 use icu_locale::{CanonicalizeError, LocaleCanonicalizer, TransformResult, laws};
 use icu_locale_core::Locale;
@@ -18,7 +18,7 @@ pub fn canonicalize_twice(
     locale: &mut Locale,
 ) -> Result<(TransformResult, TransformResult), CanonicalizeError>
     ensures first { Canonicalizes (likely canonicalizer.now.expander) canonicalizer.now.rules
-        locale.old locale.new (first_of result) }
+        locale.old locale.new (first_answer result) }
     ensures second { IfOk result (λ answers. answers.1 ≡ TransformResult.Unmodified) }
 {
     laws::canonical_stays_canonical();

@@ -3,7 +3,7 @@ ghost use Rattle.std.specs.Prelude.{◌≡◌, Some, MatchOption, position};
 ghost use Rattle.std.specs.List.{All, slice_get};
 ghost use Rattle.icu_locale_core.specs.declared.langid.LanguageIdentifier.{LanguageIdentifier};
 ghost use Rattle.icu_locale.specs.LikelyTable.{likely};
-ghost use Rattle.icu_locale.specs.Settled.{AreSettled};
+ghost use Rattle.icu_locale.specs.LikelySubtags.{AreSettled};
 ghost use Rattle.uses.specs.Meaning.{MeanTheSame, NoneMeans, IsMinimal};
 
 use icu_locale::{LocaleExpander, laws};

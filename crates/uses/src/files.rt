@@ -3,7 +3,7 @@ ghost use Rattle.std.specs.Prelude.{◌≡◌, ◌≢◌, Ok, Err, IfOk, IfErr, 
 ghost use Rattle.icu_locale_core.specs.Maps.{value_at};
 ghost use Rattle.icu_locale_core.specs.TextSet.{text_cmp};
 ghost use Rattle.icu_tables.specs.Rows.{FileRows};
-ghost use Rattle.icu_tables.specs.Text.{rows_in};
+ghost use Rattle.icu_tables.specs.File.{rows_in};
 
 use icu_locale_core::{Language, Region, Script};
 use icu_tables::{TableError, Tables};

@@ -5,7 +5,7 @@ ghost use Rattle.icu_locale_core.specs.declared.locale.Locale.{Locale};
 ghost use Rattle.icu_locale.specs.Canonical.{IsCanonical};
 ghost use Rattle.icu_locale.specs.LikelyTable.{likely};
 ghost use Rattle.icu_locale.specs.Refusals.{IsRefusal};
-ghost use Rattle.uses.specs.Keys.{IsFirstRefusal};
+ghost use Rattle.uses.specs.Keys.{IsRefusalOfEither};
 
 use icu_locale::{CanonicalizeError, LocaleCanonicalizer, laws};
 use icu_locale_core::{Locale, laws as texts};
@@ -51,7 +51,7 @@ pub fn have_one_key(
         → IsCanonical (likely canonicalizer.now.expander) canonicalizer.now.rules one x
         → IsCanonical (likely canonicalizer.now.expander) canonicalizer.now.rules other y
         → IsTrue told ↔ (x.id ≡ y.id)) }
-    ensures refused { IfErr result (IsFirstRefusal (likely canonicalizer.now.expander)
+    ensures refused { IfErr result (IsRefusalOfEither (likely canonicalizer.now.expander)
         canonicalizer.now.rules one other) }
 {
     texts::written_once();

@@ -1,7 +1,7 @@
 //! Whether identifiers mean the same.
 ghost use Rattle.std.specs.Prelude.{◌↔◌, IsTrue};
 ghost use Rattle.icu_locale.specs.LikelyTable.{likely};
-ghost use Rattle.icu_locale.specs.Settled.{AreSettled};
+ghost use Rattle.icu_locale.specs.LikelySubtags.{AreSettled};
 ghost use Rattle.uses.specs.Meaning.{MeanTheSame};
 
 use icu_locale::{LocaleExpander, laws};

@@ -1,21 +1,32 @@
--- What the parts of a canonicalization find: what only private functions cite.
-use Rattle.std.specs.Prelude.{◌≡◌, ℕ, List, Bool, ◌||◌, Option, is_some, IsSomeAnd, MatchOption, Result, unwrap_or}
+-- What a turn and the parts of a canonicalization find: what only private functions cite.
+use Rattle.std.specs.Prelude.{unwrap_or, ◌≡◌, ℕ, List, Bool, ◌||◌, Option, is_some, IsSomeAnd, MatchOption, Result}
 use Rattle.std.specs.Option.{option_or}
+use Rattle.icu_locale_core.specs.TextSet.{image, text_cmp}
+use Rattle.icu_locale_core.specs.declared.langid.LanguageIdentifier.{LanguageIdentifier}
+use Rattle.icu_locale.specs.Rules.{replaced}
+use Rattle.icu_locale.specs.Kinds.{variant_alias, next, by_language_alias}
+use Rattle.icu_locale.specs.declared.canonicalizer.rules.Rules.{Rules}
+use Rattle.icu_locale.specs.declared.canonicalizer.kinds.Rewrite.{Rewrite}
+use Rattle.icu_locale.specs.declared.canonicalizer.kinds.Rewrite.TheVariants.{Rule, Subtags, Variants}
 use Rattle.icu_locale_core.specs.Keywords.{KeywordRows}
 use Rattle.icu_locale_core.specs.Maps.{value_at}
-use Rattle.icu_locale_core.specs.TextSet.{text_cmp}
-use Rattle.icu_locale_core.specs.declared.langid.LanguageIdentifier.{LanguageIdentifier}
 use Rattle.icu_locale_core.specs.declared.locale.Locale.{Locale}
 use Rattle.icu_locale.specs.LikelySubtags.{LikelySubtags}
-use Rattle.icu_locale.specs.Kinds.{next, by_language_alias}
 use Rattle.icu_locale.specs.Run.{IsLaterEnd, IsLaterEndOf, IsRepeat, HasDistinct}
 use Rattle.icu_locale.specs.Cost.{CountsSearches}
 use Rattle.icu_locale.specs.Canonical.{rg, sd, put_optional, next_value}
 use Rattle.icu_locale.specs.Refusals.{ComesAgainFirst, ValueRepeats}
-use Rattle.icu_locale.specs.declared.canonicalizer.rules.Rules.{Rules}
 use Rattle.icu_locale.specs.declared.canonicalizer.changes.Changes.{Changes}
 use Rattle.icu_locale.specs.declared.canonicalizer.CanonicalizeError.{CanonicalizeError}
 use Rattle.icu_locale.specs.declared.canonicalizer.CanonicalizeError.TheVariants.{Memory, NoFixedPoint, NoSubdivisionFixedPoint}
+
+-- the identifier that a rewrite makes of x
+abbrev pub rewritten : Rules → LanguageIdentifier → Rewrite → LanguageIdentifier
+rewritten rules x (Rule r) = replaced x r.now.source r.now.replacement
+rewritten rules x (Subtags l s r) =
+    record { language = l; script = s; region = r; variants = x.variants }
+rewritten rules x Variants =
+    record x { variants = image (λ v. unwrap_or (variant_alias rules v) v) x.variants }
 
 -- a refusal of a run names its first repeat
 abbrev pub IsRunRefusal : (LanguageIdentifier → Option LanguageIdentifier) → LanguageIdentifier

@@ -1,24 +1,28 @@
--- How a table is seen to be settled, row by row: what only the expander's own functions cite.
+-- The rows of a likely table, and how it is seen to be settled: what only the expander's own functions cite.
 use Rattle.std.specs.Prelude.{◌≡◌, Bool, true, ◌&&◌, List, Some, None, IfSome}
 use Rattle.std.specs.List.{All}
+use Rattle.icu_locale.specs.LikelyTable.{LikelyRows, common_rows, extended_rows, likely}
+use Rattle.icu_locale.specs.declared.expander.looks.LikelyMaps.{LikelyMaps}
 use Rattle.icu_locale_core.specs.Subtag.{und, IsLanguage, IsScript, IsRegion}
 use Rattle.icu_locale_core.specs.Identifier.{IsIdentifier}
 use Rattle.icu_locale_core.specs.declared.langid.LanguageIdentifier.{LanguageIdentifier}
 use Rattle.icu_provider.specs.declared.data_locale.DataLocale.{DataLocale}
 use Rattle.icu_locale.specs.declared.expander.looks.LikelyKey.{LikelyKey}
-use Rattle.icu_locale.specs.declared.expander.looks.LikelyKey.TheVariants.{
-  LanguageRegion,
-  LanguageScript,
-  LanguageAlone,
-  ScriptRegion,
-  ScriptAlone,
-  RegionAlone,
-}
-use Rattle.icu_locale.specs.LikelySubtags.{LikelySubtags, Triple, bare_locale, maximal_locale, maximal}
+use Rattle.icu_locale.specs.declared.expander.looks.LikelyKey.TheVariants.{LanguageRegion, LanguageScript, LanguageAlone, ScriptRegion, ScriptAlone, RegionAlone}
+use Rattle.icu_locale.specs.LikelySubtags.{LikelySubtags, Triple, bare_locale, maximal_locale, maximal, IsSettled}
 use Rattle.icu_locale.specs.declared.expander.LocaleExpander.{LocaleExpander}
-use Rattle.icu_locale.specs.LikelyTable.{LikelyRows, common_rows, extended_rows, likely}
-use Rattle.icu_locale.specs.Settled.{IsSettled}
 use Rattle.icu_locale.specs.inner.Trials.{same_locale}
+
+-- the rows of the maps
+abbrev pub map_rows : LikelyMaps → LikelyRows
+map_rows maps = record {
+  language = maps.language.now;
+  language_script = maps.language_script.now;
+  language_region = maps.language_region.now;
+  script_region = maps.script_region.now;
+  script = maps.script.now;
+  region = maps.region.now;
+}
 
 -- the key's own subtags
 abbrev pub key_locale : LikelyKey → DataLocale

@@ -5,7 +5,7 @@ use Rattle.std.specs.FinMap as fin
 use Rattle.icu_locale_core.specs.Subtag.{und}
 use Rattle.icu_locale_core.specs.TextSet.{TextSet, empty, from_list, rising}
 use Rattle.icu_locale_core.specs.declared.langid.LanguageIdentifier.{LanguageIdentifier}
-use Rattle.icu_locale.specs.Replacement.{of_language}
+use Rattle.icu_locale.specs.Rules.{of_language}
 use Rattle.icu_locale.specs.declared.canonicalizer.rules.Rules.{Rules}
 
 -- all sets of texts of a list
@@ -46,8 +46,8 @@ unfoldable pub parts : Rules → LanguageIdentifier → List LanguageIdentifier
 parts rules x = flat_map (λ ps. ps) (parts_by_kind rules x)
 
 -- the identifiers whose language, script and region are those of parts, or none, and whose variants are of those of parts
-unfoldable pub made_of : List LanguageIdentifier → List LanguageIdentifier
-made_of ps =
+unfoldable pub mixtures_of : List LanguageIdentifier → List LanguageIdentifier
+mixtures_of ps =
     flat_map (λ l. flat_map (λ s. flat_map (λ r.
     map (λ vs. record { language = l; script = s; region = r; variants = vs })
     (subsets (flat_map (λ p. rising p.variants) ps)))
@@ -57,7 +57,7 @@ made_of ps =
 
 -- the identifiers made of x and of what the rules put in the place of parts
 abbrev pub universe : Rules → LanguageIdentifier → List LanguageIdentifier
-universe rules x = made_of (parts rules x)
+universe rules x = mixtures_of (parts rules x)
 
 -- a value, and those of the rows
 abbrev pub values : Rules → List (List ℕ) → List (List (List ℕ))

@@ -1,11 +1,18 @@
 -- What the two walkers know on the way, and what they answer: what only the walk's own functions cite.
-use Rattle.std.specs.Prelude.{◌≡◌, ◌≢◌, ℕ, ◌+◌, ◌<◌, ◌⊎◌, List, Option, Some, None}
+use Rattle.std.specs.Prelude.{ℕ, suc, ◌≡◌, ◌≢◌, ◌+◌, ◌<◌, ◌⊎◌, List, Option, Some, None}
 use Rattle.std.specs.List.{Contains}
+use Rattle.icu_locale.specs.declared.rewriting.Tally.{Tally}
+use Rattle.icu_locale.specs.declared.rewriting.Tally.TheVariants as tally
 use Rattle.icu_locale.specs.Run.{at, EndsLater, IsRepeat}
 use Rattle.icu_locale.specs.declared.rewriting.Outcome.{Outcome}
 use Rattle.icu_locale.specs.declared.rewriting.Outcome.TheVariants.{Same, Ends, Repeats}
 use Rattle.icu_locale.specs.declared.rewriting.Walk.{Walk}
 use Rattle.icu_locale.specs.declared.rewriting.Walk.TheVariants.{Alone, Stops, Meets}
+
+-- how many strokes a tally has
+abbrev pub strokes : Tally → ℕ
+strokes tally.None = 0
+strokes (tally.OneMore' mark below) = suc (strokes below)
 
 -- the first n places hold n different states
 pub record IsFront {X : Type 0} (next : X → Option X) (start : X) (n : ℕ) : Type 0 where

@@ -2,11 +2,10 @@
 ghost use Rattle.std.specs.Prelude.{◌≡◌, ◌+◌, None, Some, IfOk, IfErr, IfSome, IsOk, unwrap_or};
 ghost use Rattle.icu_locale_core.specs.TextSet.{empty, image};
 ghost use Rattle.icu_locale.specs.Kinds.{variant_alias, next_of};
-ghost use Rattle.icu_locale.specs.inner.Rewrite.{rewritten};
+ghost use Rattle.icu_locale.specs.inner.CanonicalParts.{rewritten, IsRunRefusal, CountsSearchesOf};
 ghost use Rattle.icu_locale.specs.Refusals.{IsOutOfMemory};
 ghost use Rattle.icu_locale.specs.Run.{IsLaterEnd};
 ghost use Rattle.icu_locale.specs.Cost.{AddsNoVariants};
-ghost use Rattle.icu_locale.specs.inner.CanonicalParts.{IsRunRefusal, CountsSearchesOf};
 ghost use Rattle.icu_locale_core.specs.laws.Identifiers.{identifiers_decide};
 ghost use Rattle.icu_locale.specs.inner.Universe.{universe};
 ghost use Rattle.icu_locale.specs.declared.canonicalizer.CanonicalizeError.TheVariants.{Memory};

@@ -4,7 +4,7 @@ ghost use Rattle.std.specs.Option.{option_map};
 ghost use Rattle.std.specs.List.{find, list_any};
 ghost use Rattle.icu_locale_core.specs.TextSet.{rising};
 ghost use Rattle.icu_locale.specs.LikelyTable.{likely};
-ghost use Rattle.icu_locale.specs.Replacement.{matches};
+ghost use Rattle.icu_locale.specs.Rules.{matches};
 ghost use Rattle.icu_locale.specs.Kinds.{
   rules_for,
   by_rule,
@@ -23,7 +23,7 @@ ghost use Rattle.icu_locale.specs.Kinds.{
   by_variant,
   next,
 };
-ghost use Rattle.icu_locale.specs.inner.Rewrite.{rewritten};
+ghost use Rattle.icu_locale.specs.inner.CanonicalParts.{rewritten};
 
 use super::replacing::{is_known, rule_matches};
 use crate::{LocaleExpander, Rule, Rules};

@@ -7,7 +7,7 @@ ghost use Rattle.icu_locale_core.specs.Identifier.{has_variant};
 ghost use Rattle.icu_locale_core.specs.TextSet.{from_list};
 ghost use Rattle.icu_locale_core.specs.Value.{read_value};
 ghost use Rattle.icu_locale.specs.Rules.{
-  ReadsIdentifier,
+  ReadsAs,
   ReadsRule,
   ReadsVariantRule,
   ReadsLanguage,
@@ -148,7 +148,7 @@ impl Readable for (Subtag, String) {
 
 fn read_identifier(alloc: Global, text: &str) -> Result<Option<LanguageIdentifier>, DataError>
     ensures read { IfOk result (λ x. MatchOption x
-        ((y : LanguageIdentifier) → ¬ (ReadsIdentifier text.now y)) (ReadsIdentifier text.now)) }
+        ((y : LanguageIdentifier) → ¬ (ReadsAs text.now y)) (ReadsAs text.now)) }
     ensures refused { IfErr result (λ e. e.kind ≡ DataErrorKind.Memory) }
     ensures free { has_variant text.now ≡ false → IsOk result }
 {

@@ -1,7 +1,7 @@
 //! Matching and replacing.
 ghost use Rattle.std.specs.Prelude.{◌≡◌, ◌&&◌, ◌||◌, not, if◌then◌else◌, IfOk, IfErr, IsOk};
 ghost use Rattle.icu_locale_core.specs.TextSet.{empty};
-ghost use Rattle.icu_locale.specs.Replacement.{is_known, fits, matches, part, replaced};
+ghost use Rattle.icu_locale.specs.Rules.{is_known, fits, matches, part, replaced};
 
 use crate::CanonicalizeError;
 use icu_locale_core::{Language, LanguageIdentifier};

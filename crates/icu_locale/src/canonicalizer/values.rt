@@ -1,8 +1,8 @@
 //! Runs of the values at `rg` and `sd`.
-ghost use Rattle.std.specs.Prelude.{◌≡◌, ◌⊎◌, [], IfOk, IfErr, IfSome, option_copied};
+ghost use Rattle.std.specs.Prelude.{◌≡◌, [], IfOk, IfErr, IfSome, option_copied};
 ghost use Rattle.icu_locale_core.specs.Maps.{value_at};
 ghost use Rattle.icu_locale_core.specs.TextSet.{text_cmp};
-ghost use Rattle.icu_locale_core.specs.laws.Values.{values_decide};
+ghost use Rattle.icu_locale_core.specs.laws.Identifiers.{values_decide};
 ghost use Rattle.icu_locale_core.specs.declared.parse_error.ParseError.TheVariants.{Memory};
 ghost use Rattle.icu_locale.specs.Canonical.{rg, sd, next_value};
 ghost use Rattle.icu_locale.specs.Cost.{AddsNoPieces};

@@ -13,9 +13,9 @@ ghost use Rattle.icu_locale.specs.LikelySubtags.{
   und_keys,
   maximal_of_bare,
 };
-ghost use Rattle.icu_locale.specs.LikelyTable.{row_at, common_rows, extended_rows, extension_row, und_row, likely};
-ghost use Rattle.icu_locale.specs.inner.Filling.{locale_with, is_unknown, loses, gains};
-ghost use Rattle.icu_locale.specs.inner.LikelyMaps.{map_rows};
+ghost use Rattle.icu_locale.specs.LikelyTable.{row_at, common_rows, extended_rows, und_row, likely};
+ghost use Rattle.icu_locale.specs.inner.Trials.{locale_with, is_unknown, loses, gains};
+ghost use Rattle.icu_locale.specs.inner.SettledRows.{map_rows};
 
 use crate::expander::LocaleExpander;
 use icu_locale_core::{Language, Region, Script};

@@ -93,6 +93,7 @@ pub fn canonical_form_is_one()
 {}
 
 /// Something is applied to a locale exactly where its canonical form differs.
+#[tactic(auto, using(crate::proofs::CanonicalAgain::applied_exactly))]
 pub fn applied_where_changed()
     ensures { (likely : LikelySubtags) (rules : Rules) (old new : Locale)
         → IsCanonical likely rules old new

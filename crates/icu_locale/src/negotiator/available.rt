@@ -1,6 +1,6 @@
 //! The identifiers that are available, and what finds one of them.
 ghost use Rattle.std.specs.Prelude.{◌≡◌};
-ghost use Rattle.icu_locale.specs.Available.{identifiers_of};
+ghost use Rattle.icu_locale.specs.Negotiation.{identifiers_of};
 
 use icu_locale_core::LanguageIdentifier;
 use icu_provider::DataLocale;

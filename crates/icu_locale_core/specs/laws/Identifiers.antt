@@ -1,4 +1,4 @@
--- Equality of sets of texts and of identifiers is told by their parts.
+-- Equality of sets of texts, of identifiers and of values is told by their parts.
 use Rattle.std.specs.Prelude.{◌≡◌, ℕ, Bool, true, ◌&&◌, nat_eq, List, Option, Some, None}
 use Rattle.std.proofs.Common.{refl, ap, sym, ◌∙◌}
 use Rattle.std.specs.Option.{option_eq}
@@ -67,3 +67,8 @@ identifiers_decide x y = (
       && ((texts_tell x.region y.region).1 (ap (λ (z : LanguageIdentifier). z.region) e) i
       && (sets_tell x.variants y.variants).1 (ap (λ (z : LanguageIdentifier). z.variants) e) i)),
 )
+
+pub values_decide : (v w : List (List ℕ)) → Tells (pointwise same_text v w) (v ≡ w)
+values_decide v w =
+    let decides = slice_eq-Decides bytes_eq-Decides v w (pointwise same_text v w) refl in
+    (λ e. decides.0 e, λ e. decides.1 e)

@@ -1,4 +1,4 @@
--- What putting a value into a finite map changes, and that a sorted map is told by its answers.
+-- What putting a value into a finite map changes, that a sorted map is told by its answers, and equality of rows.
 use Rattle.std.specs.Prelude.{◌≡◌, Bool, true, false, ◌&&◌, cond, T, if◌then◌else◌, List, [], ◌∷◌, Some}
 use Rattle.std.proofs.Common.{refl, ap, sym, ◌∙◌, subst}
 use Rattle.std.specs.FinMap.{find, is_sorted}
@@ -14,10 +14,12 @@ use Rattle.std.specs.declared.cmp.Ordering.{Ordering}
 use Rattle.std.specs.declared.cmp.Ordering.TheVariants.{Less, Equal, Greater}
 use Rattle.std.specs.Ordering.{match_ordering, is_eq, is_lt, eq_by_cmp}
 use Rattle.std.specs.BTreeMap.{is_at, insert_entry}
-use Rattle.std.specs.Cmp.{IsTotalOrder, Equal-is}
+use Rattle.std.specs.Cmp.{IsTotalOrder, Equal-is, IsEquivalence, and_equiv, on_equiv, nat_eq_equiv}
 use Rattle.std.proofs.lemmas.Bool.{false≢true}
 use Rattle.std.proofs.lemmas.Cmp.{alike_right, eq_by_cmp_equiv, tied_itself}
+use Rattle.std.specs.Cmp.Lexicographic.{lists_equiv}
 use Rattle.icu_locale_core.specs.Maps.{IsSortedMap, value_at, SetsOnly}
+use Rattle.icu_locale_core.specs.Keywords.{row_eq}
 
 same_test : {X : Type 0} (a b : Bool) (x y z : X) → a ≡ b → cond b x z ≡ cond a x (cond b y z)
 same_test true true x y z e = refl
@@ -165,3 +167,9 @@ module _ {K V : Type 0} {compare : K → K → Ordering} (total : IsTotalOrder c
             ≡ row ∷ insert_entry compare rest key value = rw greater in
             ap (λ r. insert_entry compare r key value) removed ∙ step
             ∙ ap (λ r. row ∷ r) (behind later)
+
+-- it is an equivalence
+pub rows_equiv : IsEquivalence row_eq
+rows_equiv =
+    and_equiv (on_equiv (λ p. p.0) (lists_equiv nat_eq_equiv))
+    (on_equiv (λ p. p.1) (lists_equiv (lists_equiv nat_eq_equiv)))

@@ -1,7 +1,7 @@
 -- The parts of a name of an identifier, as the code has them.
 use Rattle.std.specs.Prelude.{◌≡◌, ◌⊎◌, ℕ, Bool, if◌then◌else◌, IsTrue, List, [], ◌∷◌, ◌++◌, map, None, Result, Err, IsOk}
 use Rattle.icu_locale_core.specs.declared.langid.LanguageIdentifier.{LanguageIdentifier}
-use Rattle.icu_provider.specs.Patterns.{part_of}
+use Rattle.icu_provider.specs.Names.{part_of}
 use Rattle.icu_provider.specs.declared.data_locale.DataLocale.{DataLocale}
 use Rattle.icu_provider.specs.declared.error.DataError.{DataError}
 use Rattle.icu_provider.specs.declared.error.DataErrorKind.TheVariants.{Memory}
@@ -9,7 +9,7 @@ use Rattle.icu_provider.specs.declared.essentials.PatternItem.{PatternItem}
 use Rattle.icu_provider.specs.declared.names.NameKey.{NameKey}
 use Rattle.icu_provider.specs.declared.names.NameKey.TheVariants.{Language, Script, Region, Variant}
 use Rattle.icu_provider.specs.declared.names.NameMarker.{NameMarker}
-use Rattle.icu_locale_names.specs.FirstHit.{or_next, first_hit, made_of, if_missing}
+use Rattle.icu_locale_names.specs.Chains.{or_next, first_hit, made_of, if_missing}
 use Rattle.icu_locale_names.specs.LanguageChains.{LanguageChain}
 use Rattle.icu_locale_names.specs.LanguageNames.{Base, Head, KeyParts, glued, menu_base, text_base, raw_base, are_many}
 use Rattle.icu_locale_names.specs.Names.{Answers, MenuAnswers, name_by, menu_by}

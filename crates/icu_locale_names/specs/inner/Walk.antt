@@ -1,7 +1,7 @@
 -- How the pieces of a name are walked through.
 use Rattle.std.specs.Prelude.{ℕ, List, [], ◌∷◌, ◌++◌, map}
 use Rattle.std.specs.List.{flat_map}
-use Rattle.icu_provider.specs.Patterns.{part_of}
+use Rattle.icu_provider.specs.Names.{part_of}
 use Rattle.icu_provider.specs.declared.essentials.PatternItem.{PatternItem}
 use Rattle.icu_locale_names.specs.LanguageNames.{joined, filled}
 use Rattle.icu_locale_names.specs.Pieces.{Piece, plain}

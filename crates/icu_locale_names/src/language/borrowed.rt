@@ -2,16 +2,14 @@
 ghost use Rattle.std.specs.Prelude.{◌≡◌, ◌≢◌, ◌⊎◌, ◌↔◌, ◌^◌, ◌<◌, ◌≤◌, ◌++◌, length, false, Some, Err, OnOk, OnErr, IfOk, IfErr, IsErr, IsTrue};
 ghost use Rattle.std.specs.Io.KnownBytes.{Appends};
 ghost use Rattle.icu_locale_names.specs.LentNames.{pieces_of};
-ghost use Rattle.icu_locale_names.specs.Pieces.{text_of, spans, has_raw};
-ghost use Rattle.icu_locale_names.specs.Writing.{AppendsPart};
+ghost use Rattle.icu_locale_names.specs.Pieces.{text_of, spans, has_raw, AppendsPart};
 ghost use Rattle.icu_locale_names.specs.inner.Walk.{pieces_left};
 
-use crate::fallback_error::LanguageIdentifierNameFallbackError;
+use crate::errors::{LanguageIdentifierNameFallbackError, NameWriteError};
 use crate::language::parts::Parts;
 use crate::language::walk::PieceWalk;
 use crate::language::writing::{format_pieces, measured, spans_of, write_pieces};
 use crate::shown::Shown;
-use crate::write_error::NameWriteError;
 use icu_provider::PatternItem;
 use std::{fmt, io};
 
@@ -70,7 +68,7 @@ impl<'a> LanguageIdentifierDisplayNameBorrowed<'a> {
     }
 
     // Writes the text, and puts the span of each raw subtag behind `parts`, which is unchanged after a refusal.
-    #[tactic(auto, using(crate::proofs::Measures::take_front))]
+    #[tactic(auto, using(crate::proofs::PieceWrites::take_front))]
     fn write_marked<W: io::Write>(
         &self,
         sink: &mut W,

@@ -1,7 +1,7 @@
 //! Names of the subtags that are qualifiers.
 ghost use Rattle.std.specs.Prelude.{◌≡◌};
 ghost use Rattle.std.specs.Option.{option_to_list};
-ghost use Rattle.icu_locale_names.specs.FirstHit.{made_of, if_missing, answer_all};
+ghost use Rattle.icu_locale_names.specs.Chains.{made_of, if_missing, answer_all};
 ghost use Rattle.icu_locale_names.specs.LanguageNames.{qualifier};
 ghost use Rattle.icu_locale_names.specs.Names.{name_by};
 ghost use Rattle.icu_locale_names.specs.Pieces.{plain, raw_subtag};

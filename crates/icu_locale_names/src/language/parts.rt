@@ -1,6 +1,6 @@
 //! What is known of a name before its variants are asked for.
 ghost use Rattle.std.specs.Prelude.{◌≡◌};
-ghost use Rattle.icu_locale_names.specs.FirstHit.{made_of};
+ghost use Rattle.icu_locale_names.specs.Chains.{made_of};
 ghost use Rattle.icu_locale_names.specs.LanguageNames.{in_locale, head_of};
 ghost use Rattle.icu_locale_names.specs.inner.LanguageParts.{chains_of, shown_head};
 

@@ -1,8 +1,7 @@
 //! The names of variants.
 ghost use Rattle.std.specs.Prelude.{◌≡◌, ◌⊎◌, ◌∷◌, []};
 ghost use Rattle.icu_locale_core.specs.TextSet.{rising};
-ghost use Rattle.icu_locale_names.specs.Chains.{variant_heavy};
-ghost use Rattle.icu_locale_names.specs.FirstHit.{made_of};
+ghost use Rattle.icu_locale_names.specs.Chains.{variant_heavy, made_of};
 ghost use Rattle.icu_locale_names.specs.LanguageNames.{qualifier, variants_of};
 ghost use Rattle.icu_locale_names.specs.inner.LanguageParts.{variant_list, variant_pieces, IsThisOrMemory, LacksRoom, IsRefusalOrMemory};
 ghost use Rattle.icu_locale_names.specs.inner.Shown.{piece_of};

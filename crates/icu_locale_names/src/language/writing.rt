@@ -3,17 +3,16 @@ ghost use Rattle.std.specs.Prelude.{◌≡◌, ◌^◌, ◌<◌, ◌≤◌, leng
 ghost use Rattle.std.specs.Fmt.{WritesOnOk};
 ghost use Rattle.std.specs.Io.KnownBytes.{Appends};
 ghost use Rattle.icu_locale_names.specs.LentNames.{pieces_of};
-ghost use Rattle.icu_locale_names.specs.Pieces.{text_of, spans, has_raw};
-ghost use Rattle.icu_locale_names.specs.Writing.{AppendsPart};
+ghost use Rattle.icu_locale_names.specs.Pieces.{text_of, spans, has_raw, AppendsPart};
 
+use crate::errors::NameWriteError;
 use crate::language::LanguageIdentifierDisplayNameBorrowed;
 use crate::sink::write_whole;
-use crate::write_error::NameWriteError;
 use std::alloc::Global;
 use std::{fmt, io};
 
 // Whether a raw subtag stands in the text; nothing where it has more bytes than can be counted. One walk tells both.
-#[tactic(auto, using(crate::proofs::Measures::text_length))]
+#[tactic(auto, using(crate::proofs::PieceWrites::text_length))]
 pub fn measured(name: &LanguageIdentifierDisplayNameBorrowed<'_>) -> Option<bool>
     ensures counted { MatchOption result (2 ^ 64 ≤ length (text_of (pieces_of name.now)))
         (λ _. length (text_of (pieces_of name.now)) < 2 ^ 64) }
@@ -31,7 +30,7 @@ pub fn measured(name: &LanguageIdentifierDisplayNameBorrowed<'_>) -> Option<bool
 }
 
 // The places of the raw subtags.
-#[tactic(auto, using(crate::proofs::Measures::text_length))]
+#[tactic(auto, using(crate::proofs::PieceWrites::text_length))]
 pub fn spans_of(
     alloc: Global,
     name: &LanguageIdentifierDisplayNameBorrowed<'_>,

@@ -2,7 +2,7 @@
 ghost use Rattle.std.specs.Prelude.{◌≡◌, ◌↔◌, ◌%◌, length, nat_le, IsOk, IfOk, IfErr};
 ghost use Rattle.icu_provider.specs.InversionList.{IsInversionList, has_character, is_inversion_list};
 ghost use Rattle.icu_provider.specs.declared.error.DataErrorKind.TheVariants.{InvalidRequest};
-ghost use Rattle.icu_provider.specs.inner.Bounds.{IsPlace};
+ghost use Rattle.icu_provider.specs.inner.Places.{IsPlace};
 
 use crate::{DataError, DataErrorKind};
 use std::marker::Model;

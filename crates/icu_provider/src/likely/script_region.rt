@@ -2,8 +2,7 @@
 ghost use Rattle.std.specs.Prelude.{◌≡◌, []};
 ghost use Rattle.icu_locale_core.specs.Maps.{value_at};
 ghost use Rattle.icu_locale_core.specs.TextSet.{text_cmp};
-ghost use Rattle.icu_provider.specs.Inserts.{Inserts};
-ghost use Rattle.icu_provider.specs.SortedMaps.{IsFoundEach, IsSortedMap, pair_cmp};
+ghost use Rattle.icu_provider.specs.SortedMaps.{Inserts, IsFoundEach, IsSortedMap, pair_cmp};
 
 use crate::{DataError, Rows, SortedMap};
 use icu_locale_core::{Language, Region, Script};

@@ -1,49 +1,40 @@
--- Why subtags meet the laws of keys, and pairs of them too.
-use Rattle.std.specs.Prelude.{◌≡◌, ℕ, ◌<◌, Bool, true, nat_eq, nat_lt, refl, length, get_or, List, [], ◌∷◌, ◌++◌, Option, Some, None}
+-- Keys and their names, and what orders them: what only proofs cite.
+use Rattle.std.specs.Prelude.{◌≡◌, ℕ, Bool, true, nat_lt, List, Option, Some, ◌<◌, nat_eq, refl, length, get_or, [], ◌∷◌, ◌++◌, None}
 use Rattle.std.specs.declared.cmp.Ordering.{Ordering}
+use Rattle.std.specs.List.{list_all, position_or_len, before_first, after_first}
 use Rattle.std.specs.declared.cmp.Ordering.TheVariants.{Less, Equal, Greater}
 use Rattle.std.specs.Char.{is_ascii_alphabetic, is_ascii_digit, is_ascii_alphanumeric}
 use Rattle.std.specs.Cmp.{nat_cmp_is}
 use Rattle.std.specs.Cmp.Lexicographic.{pointwise}
-use Rattle.std.specs.List.{list_all, position_or_len, before_first, after_first}
 use Rattle.std.specs.Ordering.{ordering_then, nat_cmp}
 use Rattle.std.proofs.Common.{sym, ap, ◌∙◌, arith}
-use borrow.Author.Tests.{ltb-true}
 use Rattle.std.proofs.lemmas.Bool.{and_parts}
 use Rattle.std.proofs.lemmas.Bool.Decides.{nat_tests}
 use Rattle.std.proofs.lemmas.List.Sums.{split_at_first, passes_at_first}
 use Rattle.std.proofs.lemmas.Option.{cond_some, option_and_then_some, none-some, same_Some}
 use Rattle.std.proofs.lemmas.Slice.Eq.{bytes_eq-Decides}
-use Rattle.icu_locale_core.specs.Subtag.{
-  is_language,
-  is_script,
-  is_region,
-  is_variant,
-  is_subtag,
-  lowercase,
-  titlecase,
-  uppercase,
-  is_alphabetic,
-  is_numeric,
-  is_alphanumeric,
-}
+use borrow.Author.Tests.{ltb-true}
 use Rattle.icu_locale_core.specs.TextSet.{text_cmp}
-use Rattle.icu_tables.specs.inner.Keys.{ComparesTexts, ComparesNames, is_above_dash, ReadsAboveDash}
+use Rattle.icu_locale_core.specs.Subtag.{is_language, is_script, is_region, is_variant, is_subtag, lowercase, titlecase, uppercase, is_alphabetic, is_numeric, is_alphanumeric}
 use Rattle.icu_tables.specs.Shape.{both}
-use Rattle.icu_tables.specs.Subtags.{
-  in_class,
-  if_written,
-  key_of,
-  key_pair,
-  is_dash,
-  has_dash,
-  cut_at_dash,
-  read_language,
-  read_script,
-  read_region,
-  read_variant,
-  read_subtag,
-}
+use Rattle.icu_tables.specs.Subtags.{in_class, if_written, key_of, key_pair, is_dash, has_dash, cut_at_dash, read_language, read_script, read_region, read_variant, read_subtag}
+
+-- values compare as their texts do
+abbrev pub ComparesTexts : {A : Type 0} → (A → List ℕ) → (A → A → Ordering) → Type 0
+ComparesTexts {A} written compare = (x y : A) → compare x y ≡ text_cmp (written x) (written y)
+
+-- keys compare as the names that they are read from
+abbrev pub ComparesNames : {K : Type 0} → (List ℕ → Option K) → (K → K → Ordering) → Type 0
+ComparesNames {K} key compare = (s t : List ℕ) (x y : K)
+    → key s ≡ Some x → key t ≡ Some y → compare x y ≡ text_cmp s t
+
+-- each character comes after `-`, which is 45
+abbrev pub is_above_dash : List ℕ → Bool
+is_above_dash t = list_all (λ c. nat_lt 45 c) t
+
+-- a text that is read has no `-`, and no character before it
+abbrev pub ReadsAboveDash : {A : Type 0} → (List ℕ → Option A) → Type 0
+ReadsAboveDash {A} reads = (t : List ℕ) (x : A) → reads t ≡ Some x → is_above_dash t ≡ true
 
 -- ---- letters and digits come after `-`
 
@@ -110,9 +101,9 @@ module _ {A : Type 0} (written : A → List ℕ) (reads : List ℕ → Option A)
 -- ---- keys of two subtags
 
 -- pairs in the order of the first and then of the second
-abbrev pub pair_cmp : {A B : Type 0} → (A → A → Ordering) → (B → B → Ordering)
+abbrev pub both_cmp : {A B : Type 0} → (A → A → Ordering) → (B → B → Ordering)
     → A × B → A × B → Ordering
-pair_cmp first second x y = ordering_then (first x.0 y.0) (second x.1 y.1)
+both_cmp first second x y = ordering_then (first x.0 y.0) (second x.1 y.1)
 
 -- a text is its two parts with the `-` between them
 pub cut_joins : (t : List ℕ) (cut : List ℕ × List ℕ) → cut_at_dash t ≡ Some cut
@@ -185,7 +176,7 @@ module _ {A B : Type 0} (first : List ℕ → Option A) (second : List ℕ → O
       → ComparesNames first compare_first
       → ComparesNames second compare_second
       → ReadsAboveDash first
-      → ComparesNames (key_pair first second) (pair_cmp compare_first compare_second)
+      → ComparesNames (key_pair first second) (both_cmp compare_first compare_second)
   pair_compares by_first by_second above s t x y is_x is_y =
       let a = names s x is_x in
       let b = names t y is_y in

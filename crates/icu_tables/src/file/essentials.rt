@@ -1,7 +1,7 @@
 //! How the parts of names are put together.
 ghost use Rattle.std.specs.Prelude.{◌≡◌, option_map};
-ghost use Rattle.icu_provider.specs.Patterns.{part_of};
-ghost use Rattle.icu_tables.specs.Essentials.{place};
+ghost use Rattle.icu_provider.specs.Names.{part_of};
+ghost use Rattle.icu_tables.specs.NamedRows.{place};
 
 use crate::TableError;
 use crate::file::objects::{only_members, required};
@@ -11,8 +11,8 @@ use serde_json::Value;
 use std::alloc::Global;
 
 impl FromValue for PatternItem {
-    ghost use Rattle.icu_provider.specs.Patterns.{PatternPart, part_of};
-    ghost use Rattle.icu_tables.specs.Essentials.{pattern_item};
+    ghost use Rattle.icu_provider.specs.Names.{PatternPart, part_of};
+    ghost use Rattle.icu_tables.specs.NamedRows.{pattern_item};
 
     ghost Seen = { PatternPart };
 
@@ -44,8 +44,8 @@ fn placeholder(number: u64) -> Option<PatternItem>
 
 impl FromValue for DoublePlaceholderPattern {
     ghost use Rattle.std.specs.Prelude.{List};
-    ghost use Rattle.icu_provider.specs.Patterns.{PatternPart};
-    ghost use Rattle.icu_tables.specs.Essentials.{pattern};
+    ghost use Rattle.icu_provider.specs.Names.{PatternPart};
+    ghost use Rattle.icu_tables.specs.NamedRows.{pattern};
 
     ghost Seen = { List PatternPart };
 
@@ -60,7 +60,7 @@ impl FromValue for DoublePlaceholderPattern {
 
 impl FromValue for LocaleNamesEssentials {
     ghost use Rattle.icu_provider.specs.declared.essentials.LocaleNamesEssentials.{LocaleNamesEssentials};
-    ghost use Rattle.icu_tables.specs.Essentials.{name_patterns};
+    ghost use Rattle.icu_tables.specs.NamedRows.{name_patterns};
 
     ghost Seen = { LocaleNamesEssentials };
 

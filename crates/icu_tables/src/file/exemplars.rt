@@ -1,7 +1,6 @@
 //! Sets of exemplar characters.
-ghost use Rattle.std.specs.Prelude.{◌≡◌};
 ghost use Rattle.icu_tables.specs.NamedRows.{exemplar_set};
-ghost use Rattle.icu_tables.specs.Numbers.{bound};
+ghost use Rattle.icu_tables.specs.Shape.{bound};
 
 use crate::TableError;
 use crate::file::locales::locale_named;

@@ -9,7 +9,7 @@ use std::cmp::Ord;
 // What the name of a row's member is read as, if it is a key.
 pub(crate) trait RowKey: Ord + Drop {
     ghost use Rattle.std.specs.Prelude.{◌≡◌, List, ℕ, Option};
-    ghost use Rattle.icu_tables.specs.inner.Keys.{ComparesNames};
+    ghost use Rattle.icu_tables.specs.inner.KeyLaws.{ComparesNames};
 
     ghost key: { List ℕ → Option Self };
 

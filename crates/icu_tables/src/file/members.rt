@@ -1,9 +1,9 @@
 //! Objects whose members put rows into a map.
-ghost use Rattle.std.specs.Prelude.{◌≡◌, [], Some, IfOk, IfErr};
+ghost use Rattle.std.specs.Prelude.{◌≡◌, [], Some, IfOk};
 ghost use Rattle.serde_json.specs.Find.{get};
 ghost use Rattle.serde_json.specs.View.{view};
 ghost use Rattle.icu_tables.specs.Fields.{said_or};
-ghost use Rattle.icu_tables.specs.NamedRows.{row_at};
+ghost use Rattle.icu_tables.specs.NamedRows.{named_row};
 ghost use Rattle.icu_tables.specs.Puts.{map_by, rows_by};
 ghost use Rattle.icu_tables.specs.inner.Reads.{Fills, Puts, Reads};
 ghost use Rattle.icu_tables.specs.Rows.{seen_rows};
@@ -134,7 +134,7 @@ impl<K: Ord + Drop, V: FromValue, R: NamesKeys<K>> PutsRows<K, V> for RowByRow<R
 
     ghost seen = { V.seen };
 
-    ghost says = { λ rows name. row_at (R.key rows.keys name) V.shape };
+    ghost says = { λ rows name. named_row (R.key rows.keys name) V.shape };
 
     fn put(
         &self,

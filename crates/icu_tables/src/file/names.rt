@@ -1,4 +1,4 @@
-//! Markers and keys of names, and the names of a file.
+//! Markers, keys and values of names, and of names in menus.
 ghost use Rattle.std.specs.Prelude.{◌≡◌, [], codes, string_bytes, Some, IfOk, IfErr};
 ghost use Rattle.serde_json.specs.Find.{get};
 ghost use Rattle.serde_json.specs.View.{view};
@@ -13,10 +13,11 @@ use crate::file::keys::RowKey;
 use crate::file::locales::locale_named;
 use crate::file::marked::{Marked, MarkedKey, Marker};
 use crate::file::members::rows_said;
+use crate::file::values::FromValue;
 use crate::kinds::{names_languages, names_regions, names_scripts};
 use crate::{NameRows, TableError};
-use icu_locale_core::{Region, Script, Variant};
-use icu_provider::{DataLocale, NameKey, NameMarker};
+use icu_locale_core::{Language, Region, Script, Variant};
+use icu_provider::{DataLocale, MenuMarker, MenuNameParts, NameKey, NameMarker};
 use serde_json::Value;
 use std::alloc::Global;
 use std::collections::BTreeMap;
@@ -98,5 +99,45 @@ impl MarkedKey<NameMarker> for NameKey {
         } else {
             Some(NameKey::Variant(Variant::from_name(name)?))
         }
+    }
+}
+
+impl FromValue for MenuNameParts {
+    ghost use Rattle.icu_provider.specs.declared.names.MenuNameParts.{MenuNameParts};
+    ghost use Rattle.icu_tables.specs.NamedRows.{menu_name};
+
+    ghost Seen = { MenuNameParts };
+
+    ghost seen = { λ name. name };
+
+    ghost shape = { menu_name };
+
+    fn from_value(alloc: Global, value: &Value) -> Result<Self, TableError> {
+        let (core, extension) = <(String, String)>::from_value(alloc, value)?;
+        Ok(MenuNameParts { core, extension })
+    }
+}
+
+impl Marker for MenuMarker {
+    ghost use Rattle.icu_tables.specs.Names.{menu_markers};
+
+    ghost markers = { menu_markers };
+
+    fn marker_named(name: &str) -> Option<MenuMarker> {
+        match name {
+            "language/menu/medium/light" => Some(MenuMarker::MediumLight),
+            "language/menu/medium/heavy" => Some(MenuMarker::MediumHeavy),
+            _ => None,
+        }
+    }
+}
+
+impl MarkedKey<MenuMarker> for Language {
+    ghost use Rattle.icu_tables.specs.Subtags.{language_key};
+
+    ghost marked_key = { λ _. language_key };
+
+    fn key_named(_marker: MenuMarker, name: &str) -> Option<Language> {
+        Language::from_name(name)
     }
 }

@@ -2,7 +2,7 @@
 ghost use Rattle.std.specs.Prelude.{◌≡◌, Some, None};
 ghost use Rattle.serde_json.specs.Find.{get};
 ghost use Rattle.serde_json.specs.View.{view};
-ghost use Rattle.icu_tables.specs.Fields.{said_or, is_listed, has_only, present};
+ghost use Rattle.icu_tables.specs.Fields.{said_or, is_name_listed, has_only, present};
 ghost use Rattle.icu_tables.specs.inner.Reads.{Accepts, Fills, Reads, texts_of};
 
 use crate::TableError;
@@ -27,7 +27,7 @@ pub(crate) fn only_members(value: &Value, names: &[&str]) -> Result<(), TableErr
 
 // Whether the name is one of these.
 fn is_known(names: &[&str], name: &str) -> bool
-    ensures { result ≡ is_listed (texts_of names.now) name.now }
+    ensures { result ≡ is_name_listed (texts_of names.now) name.now }
 {
     names.contains(&name)
 }

@@ -12,7 +12,7 @@ use std::cmp::Ord;
 // A subtag that is read from a text in any case.
 pub(crate) trait FromText: Ord + Drop {
     ghost use Rattle.std.specs.Prelude.{◌≡◌, List, ℕ, Option};
-    ghost use Rattle.icu_tables.specs.inner.Keys.{ComparesTexts, ReadsAboveDash};
+    ghost use Rattle.icu_tables.specs.inner.KeyLaws.{ComparesTexts, ReadsAboveDash};
 
     ghost written: { Self → List ℕ };
 

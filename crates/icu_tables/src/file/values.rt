@@ -1,6 +1,9 @@
-//! What a JSON value is read as.
+//! What a JSON value is read as: the trait, texts of any content, and maps, objects whose members are rows.
+ghost use Rattle.icu_tables.specs.Shape.{map_of, text};
 
 use crate::TableError;
+use crate::file::keys::RowKey;
+use icu_provider::SortedMap;
 use serde_json::Value;
 use std::alloc::Global;
 
@@ -20,4 +23,46 @@ pub(crate) trait FromValue: Drop {
 
     fn from_value(alloc: Global, value: &Value) -> Result<Self, TableError>
         ensures { Reads Self.seen result (Self.shape (view value.now)) };
+}
+
+impl FromValue for String {
+    ghost use Rattle.std.specs.Prelude.{List, ℕ, string_bytes};
+
+    ghost Seen = { List ℕ };
+
+    ghost seen = { string_bytes };
+
+    ghost shape = { text };
+
+    fn from_value(alloc: Global, value: &Value) -> Result<Self, TableError> {
+        match value.as_str() {
+            Some(text) => Ok(String::from_str(alloc, text)?),
+            None => Err(TableError::Shape),
+        }
+    }
+}
+
+impl<K: RowKey, V: FromValue> FromValue for SortedMap<K, V> {
+    ghost use Rattle.std.specs.Prelude.{List};
+    ghost use Rattle.icu_tables.specs.Rows.{seen_rows};
+
+    ghost Seen = { List (K × V.Seen) };
+
+    ghost seen = { λ rows. seen_rows V.seen rows };
+
+    ghost shape = { map_of K.key V.shape };
+
+    fn from_value(alloc: Global, value: &Value) -> Result<Self, TableError> {
+        let Some(members) = value.as_object() else {
+            return Err(TableError::Shape);
+        };
+        let mut rows = Vec::new(alloc);
+        for (name, member) in members.iter() {
+            let value = V::from_value(alloc, member)?;
+            if let Some(key) = K::from_name(name.as_str()) {
+                rows.push((key, value))?;
+            }
+        }
+        Ok(SortedMap::from_sorted(rows))
+    }
 }

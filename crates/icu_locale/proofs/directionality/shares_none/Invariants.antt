@@ -1,6 +1,6 @@
 use Rattle.std.proofs.Common.{◌≡◌, not}
 use Rattle.std.specs.List.{list_all}
-use Rattle.icu_provider.specs.ScriptDirection.{is_listed}
+use Rattle.icu_provider.specs.SortedMaps.{is_listed}
 use Rattle.icu_locale.proofs.directionality.shares_none.Given as goal
 
 -- what is left decides

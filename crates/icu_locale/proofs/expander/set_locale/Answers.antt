@@ -1,5 +1,5 @@
 use Rattle.std.proofs.Common.{refl}
-use Rattle.icu_locale.proofs.Modified.{unchanged, changed}
+use Rattle.icu_locale.proofs.Maximal.{unchanged, changed}
 use Rattle.icu_locale.proofs.expander.set_locale.Goals as goal
 
 -- the same locale leaves the identifier

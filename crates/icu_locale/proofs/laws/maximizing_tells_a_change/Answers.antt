@@ -1,4 +1,4 @@
-use Rattle.icu_locale.proofs.Modified.{same_where_unmodified}
+use Rattle.icu_locale.proofs.Maximal.{same_where_unmodified}
 use Rattle.icu_locale.proofs.laws.maximizing_tells_a_change.Goals as goal
 
 pub returns-clause-unmodified : goal.returns-clause-unmodified

@@ -1,4 +1,4 @@
-use Rattle.icu_locale_c.proofs.CanonicalLines.{line_over_rules}
+use Rattle.icu_locale_c.proofs.HeldLines.{line_over_rules}
 use Rattle.icu_locale_c.proofs.lines.canonicalize.Goals as goal
 
 pub returns-clause-answered : goal.returns-clause-answered

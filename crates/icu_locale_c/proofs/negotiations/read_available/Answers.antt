@@ -1,6 +1,6 @@
 use Rattle.std.proofs.Common.{refl, sym, subst}
 use Rattle.icu_locale.specs.LikelyTable.{likely}
-use Rattle.icu_locale_lines.specs.Causes.{IsRefusedList}
+use Rattle.icu_locale_lines.specs.Refusals.{IsRefusedList}
 use Rattle.icu_locale_lines.specs.laws.Expanders.{unsettled_from_one}
 use Rattle.icu_locale_c.proofs.HeldLines.{list_over}
 use Rattle.icu_locale_c.proofs.negotiations.read_available.Goals as goal

@@ -1,6 +1,6 @@
 use Rattle.std.proofs.Common.{lit<}
 use Rattle.std.proofs.lemmas.Str.Pattern.{split_parts}
-use Rattle.icu_locale_c.proofs.Cuts.{cut_words}
+use Rattle.icu_locale_c.proofs.CommandTexts.{cut_words}
 use Rattle.icu_locale_c.proofs.words.cut.Goals as goal
 
 pub returns : goal.returns

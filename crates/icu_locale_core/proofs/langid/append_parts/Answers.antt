@@ -1,4 +1,4 @@
-use Rattle.icu_locale_core.proofs.Fronts.{front_of_front}
+use Rattle.icu_locale_core.proofs.Written.{front_of_front}
 use Rattle.icu_locale_core.proofs.langid.append_parts.Goals as goal
 
 pub returns-clause-part : goal.returns-clause-part

@@ -1,4 +1,4 @@
-use Rattle.icu_locale_core.specs.laws.Values.{values_decide}
+use Rattle.icu_locale_core.specs.laws.Identifiers.{values_decide}
 use Rattle.icu_locale_core.proofs.Agreements.{keywords_tell, locales_tell}
 use Rattle.icu_locale_core.proofs.laws.equality_is_told.Goals as goal
 

@@ -1,6 +1,5 @@
 use Rattle.icu_locale_core.specs.laws.Identifiers.{identifiers_decide}
-use Rattle.icu_locale_core.proofs.Agreements.{Agree-from_test, identifiers_tie}
-use Rattle.icu_locale_core.proofs.Hashes.{same_identifier}
+use Rattle.icu_locale_core.proofs.Agreements.{Agree-from_test, identifiers_tie, same_identifier}
 use Rattle.icu_locale_core.proofs.laws.identifiers_agree.Goals as goal
 
 pub returns : goal.returns

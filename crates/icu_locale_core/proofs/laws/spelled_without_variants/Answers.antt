@@ -1,4 +1,4 @@
-use Rattle.icu_locale_core.proofs.Plain.{without_variants}
+use Rattle.icu_locale_core.proofs.Written.{without_variants}
 use Rattle.icu_locale_core.proofs.laws.spelled_without_variants.Goals as goal
 
 pub returns : goal.returns

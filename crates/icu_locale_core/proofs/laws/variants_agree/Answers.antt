@@ -1,7 +1,6 @@
 use Rattle.icu_locale_core.specs.laws.TextSets.{text_lists_ties}
 use Rattle.icu_locale_core.specs.laws.Identifiers.{sets_tell}
-use Rattle.icu_locale_core.proofs.Agreements.{Agree-from_test}
-use Rattle.icu_locale_core.proofs.Hashes.{same_variants}
+use Rattle.icu_locale_core.proofs.Agreements.{Agree-from_test, same_variants}
 use Rattle.icu_locale_core.proofs.laws.variants_agree.Goals as goal
 
 pub returns-clause-agree : goal.returns-clause-agree

@@ -1,7 +1,7 @@
 use Rattle.std.proofs.Common.{◌≡◌, length}
 use Rattle.std.specs.List.Sorted.{IsStrictlySortedBy}
 use Rattle.icu_locale_core.specs.TextSet.{text_cmp}
-use Rattle.icu_locale_core.specs.inner.Merging.{HasAllAbove}
+use Rattle.icu_locale_core.specs.inner.Variants.{HasAllAbove}
 use Rattle.icu_locale_core.specs.laws.TextSets.{is_among}
 use Rattle.icu_locale_core.proofs.variants.past.Given as goal
 

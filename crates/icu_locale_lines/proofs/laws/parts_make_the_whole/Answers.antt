@@ -2,7 +2,7 @@ use Rattle.std.proofs.Common.{◌≡◌, ◌++◌, ◌∷◌, [], ℕ, Bool, Lis
 use Rattle.std.proofs.lemmas.Grind.{flat_map-append}
 use Rattle.icu_locale_lines.specs.Answers.{IsAnswer}
 use Rattle.icu_locale_lines.specs.Lines.{lines}
-use Rattle.icu_locale_lines.specs.Runs.{AreAnswers, text_of}
+use Rattle.icu_locale_lines.specs.Runs.{AreAnswers, text_of_lines}
 use Rattle.icu_locale_lines.specs.declared.work.Work.{Work}
 use Rattle.icu_locale_lines.specs.laws.Parts.{answers_of_parts}
 use Rattle.icu_locale_lines.proofs.laws.parts_make_the_whole.Goals as goal
@@ -24,5 +24,5 @@ pub returns : goal.returns
 returns c = λ work front rest one two all of_one of_two of_all first second whole.
     let parts = answers_of_parts work front rest first.answers second.answers first.each second.each in
     let answers = answers_one work (c.a_line_has_one_answer.ensures work) (lines (front ++ 10 ∷ rest)) whole.answers (first.answers ++ second.answers) whole.each parts in
-    whole.written ∙ ap text_of answers ∙ flat_map-append (λ (t : List ℕ × Bool). t.0) first.answers second.answers
+    whole.written ∙ ap text_of_lines answers ∙ flat_map-append (λ (t : List ℕ × Bool). t.0) first.answers second.answers
     ∙ (λ i. sym first.written i ++ sym second.written i)

@@ -1,4 +1,4 @@
-use Rattle.icu_locale_lines.proofs.FirstBytes.{position_from_first}
+use Rattle.icu_locale_lines.proofs.LineCuts.{position_from_first}
 use Rattle.icu_locale_lines.proofs.lines.line_feed.Goals as goal
 
 pub returns : goal.returns

@@ -1,5 +1,5 @@
 use Rattle.std.proofs.Common.{ap, sym, ◌∙◌}
-use Rattle.icu_tables.specs.Text.{rows_in}
+use Rattle.icu_tables.specs.File.{rows_in}
 use Rattle.icu_locale_lines.specs.Lines.{first_line, after_first_line}
 use Rattle.icu_locale_lines.specs.WholeRuns.{ReadsTables}
 use Rattle.icu_locale_lines.proofs.RunEnds.{stopped_json}

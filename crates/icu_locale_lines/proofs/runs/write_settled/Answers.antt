@@ -1,6 +1,6 @@
 use Rattle.std.proofs.Common.{sym, subst, ◌∙◌}
 use Rattle.std.proofs.lemmas.Result.{err_from_is_err_and}
-use Rattle.icu_locale_names.specs.Writing.{AppendsPart}
+use Rattle.icu_locale_names.specs.Pieces.{AppendsPart}
 use Rattle.icu_locale_lines.specs.WholeRuns.{TellsSettled, IsRefusedSettled}
 use Rattle.icu_locale_lines.proofs.runs.write_settled.Goals as goal
 

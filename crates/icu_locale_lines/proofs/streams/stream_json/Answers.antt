@@ -1,6 +1,6 @@
 use Rattle.std.proofs.Common.{IfOk, IfErr, ap, sym, subst, ◌∙◌}
 use Rattle.std.specs.Io.KnownBytes.{prepend_known}
-use Rattle.icu_tables.specs.Text.{rows_in}
+use Rattle.icu_tables.specs.File.{rows_in}
 use Rattle.icu_locale_lines.specs.Streams.{ReadsLine, ReadsTablesLine, IsRefusedLineStream}
 use Rattle.icu_locale_lines.specs.WholeRuns.{IsLineRun}
 use Rattle.icu_locale_lines.proofs.StreamEnds.{prepend_none, json_settled, json_settled_refused, json_lines, json_lines_refused}

@@ -1,7 +1,7 @@
 use Rattle.std.proofs.Common.{◌++◌, ◌∷◌, [], ℕ, List, IfOk, IfErr, sym, subst}
 use Rattle.std.specs.Io.KnownBytes.{Consumes, prepend_known}
 use Rattle.icu_locale.specs.LikelyTable.{likely}
-use Rattle.icu_locale.specs.Settled.{AreSettled}
+use Rattle.icu_locale.specs.LikelySubtags.{AreSettled}
 use Rattle.icu_locale_lines.specs.Lists.{listed, SpellsAll}
 use Rattle.icu_locale_lines.specs.Loads.{IsExpanderOf}
 use Rattle.icu_locale_lines.specs.Streams.{line_end, StopsStream}

@@ -1,5 +1,5 @@
 use Rattle.std.proofs.Common.{◌≡◌, drop, map}
-use Rattle.icu_provider.specs.Patterns.{part_of}
+use Rattle.icu_provider.specs.Names.{part_of}
 use Rattle.icu_locale_names.specs.LanguageNames.{separator_text}
 use Rattle.icu_locale_names.proofs.language.separator_text.Given as goal
 

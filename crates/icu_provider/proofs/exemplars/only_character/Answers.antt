@@ -2,7 +2,7 @@ use Rattle.std.proofs.Common.{sym, ap, ◌∙◌}
 use Rattle.std.proofs.lemmas.Str.{chars_past_char}
 use Rattle.std.specs.Str.{chars}
 use Rattle.icu_provider.specs.Exemplars.{only_item}
-use Rattle.icu_provider.proofs.OneCharacter.{more_follow, none_follows}
+use Rattle.icu_provider.proofs.StringSets.{more_follow, none_follows}
 use Rattle.icu_provider.proofs.exemplars.only_character.Goals as goal
 
 pub returns-in-Some : goal.returns-in-Some

@@ -1,4 +1,4 @@
-use Rattle.std.proofs.Common.{◌≡◌, [], ◌∷◌, Option, Some, None, IfNone, List, subst, arith}
+use Rattle.std.proofs.Common.{[], ◌∷◌, Option, Some, None, IfNone, subst, arith}
 use Rattle.std.specs.List.{All}
 use Rattle.icu_locale.specs.LikelyTable.{likely}
 use Rattle.uses.specs.Meaning.{NoneMeans}

@@ -1,4 +1,4 @@
-use Rattle.std.proofs.Common.{◌≡◌, Option, Some, None, IfNone, subst, ap, ◌∙◌}
+use Rattle.std.proofs.Common.{Option, Some, None, IfNone, subst, ◌∙◌}
 use Rattle.icu_locale.specs.LikelySubtags.{maximal}
 use Rattle.icu_locale.specs.LikelyTable.{likely}
 use Rattle.uses.specs.Fallback.{plain_form, wide_form}

@@ -1,7 +1,7 @@
 use Rattle.std.proofs.Common.{◌≡◌, ◌∙◌, sym, ap, unwrap_or}
 use Rattle.icu_locale_core.specs.TextSet.{image, empty}
 use Rattle.icu_locale.specs.Kinds.{variant_alias}
-use Rattle.icu_locale.proofs.VariantImages.{image-empty, empty_from_image}
+use Rattle.icu_locale.proofs.Subsets.{image-empty, empty_from_image}
 use Rattle.icu_locale.proofs.canonicalizer.identifiers.replaced_variants.Goals as goal
 
 pub returns-then-is_empty-clause-found : goal.returns-then-is_empty-clause-found

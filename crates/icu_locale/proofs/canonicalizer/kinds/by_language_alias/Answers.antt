@@ -2,8 +2,8 @@ use Rattle.std.proofs.Common.{◌≡◌, ◌∙◌, sym, ap, Some}
 use Rattle.std.specs.Option.{option_map}
 use Rattle.icu_locale_core.specs.TextSet.{empty}
 use Rattle.icu_locale.specs.Kinds.{language_alias}
-use Rattle.icu_locale.specs.Replacement.{replaced, of_language}
-use Rattle.icu_locale.proofs.Replacing.{replaced-alias, guarded}
+use Rattle.icu_locale.specs.Rules.{replaced, of_language}
+use Rattle.icu_locale.proofs.WithoutVariants.{replaced-alias, guarded}
 use Rattle.icu_locale.proofs.canonicalizer.kinds.by_language_alias.Goals as goal
 
 pub returns : goal.returns

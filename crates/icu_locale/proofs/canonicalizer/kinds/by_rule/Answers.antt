@@ -2,7 +2,7 @@ use Rattle.std.proofs.Common.{◌≡◌, ◌∙◌, ap, Some}
 use Rattle.std.specs.Option.{option_map}
 use Rattle.std.specs.List.{find}
 use Rattle.icu_locale.specs.Kinds.{rules_for}
-use Rattle.icu_locale.specs.Replacement.{replaced, matches}
+use Rattle.icu_locale.specs.Rules.{replaced, matches}
 use Rattle.icu_locale.proofs.canonicalizer.kinds.by_rule.Goals as goal
 
 pub returns : goal.returns

@@ -2,8 +2,8 @@ use Rattle.std.proofs.Common.{◌≡◌, ◌∙◌, sym, ap, Some, None, codes}
 use Rattle.std.specs.Option.{option_map}
 use Rattle.icu_locale_core.specs.TextSet.{empty}
 use Rattle.icu_locale.specs.Kinds.{sign_language}
-use Rattle.icu_locale.specs.Replacement.{replaced, of_language}
-use Rattle.icu_locale.proofs.Replacing.{replaced-sign}
+use Rattle.icu_locale.specs.Rules.{replaced, of_language}
+use Rattle.icu_locale.proofs.WithoutVariants.{replaced-sign}
 use Rattle.icu_locale.proofs.canonicalizer.kinds.by_sign_region.Goals as goal
 
 pub returns : goal.returns

@@ -1,4 +1,4 @@
-use Rattle.icu_locale.proofs.Keywords.{canonical_at_rg, canonical_at_sd, canonical_elsewhere}
+use Rattle.icu_locale.proofs.Values.{canonical_at_rg, canonical_at_sd, canonical_elsewhere}
 use Rattle.icu_locale.proofs.laws.canonicalization.canonical_keywords_by_key.Goals as goal
 
 pub returns : goal.returns

@@ -1,6 +1,6 @@
-use Rattle.std.proofs.Common.{rules, ◌≡◌, IfOk}
+use Rattle.std.proofs.Common.{rules, ◌≡◌}
 use Rattle.icu_locale_lines.specs.Lists.{listed, SpellsAll}
-use Rattle.icu_locale.specs.Available.{identifiers_of}
+use Rattle.icu_locale.specs.Negotiation.{identifiers_of}
 use Rattle.icu_locale_c.specs.Held.{IsListOver}
 use Rattle.icu_locale_c.proofs.HeldLines.{listed_in}
 use Rattle.icu_locale_c.proofs.shared.Shared.with_available.Goals as goal

@@ -3,7 +3,7 @@ use Rattle.std.specs.List.Sorted.{IsStrictlySortedBy}
 use Rattle.icu_locale_core.specs.TextSet.{text_cmp}
 use Rattle.icu_locale_core.specs.laws.TextSets.{contains-rising, text_total}
 use Rattle.icu_locale_core.proofs.TextSets.{rising_rises}
-use Rattle.icu_locale_core.proofs.Searches.{is_ok-search}
+use Rattle.icu_locale_core.proofs.VariantLists.{is_ok-search}
 use Rattle.icu_locale_core.proofs.variants.Variants.contains.Goals as goal
 
 pub returns : goal.returns

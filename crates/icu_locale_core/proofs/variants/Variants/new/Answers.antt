@@ -1,5 +1,5 @@
 use Rattle.std.proofs.Common.{subst, sym}
-use Rattle.icu_locale_core.specs.inner.VariantList.{IsVariantList}
+use Rattle.icu_locale_core.specs.inner.Variants.{IsVariantList}
 use Rattle.icu_locale_core.proofs.VariantLists.{IsVariantList-nil}
 use Rattle.icu_locale_core.proofs.variants.Variants.new.Goals as goal
 

@@ -4,7 +4,7 @@ use Rattle.std.specs.Cmp.Lexicographic.{pointwise}
 use Rattle.std.proofs.lemmas.List.Filters.{dedup_is}
 use Rattle.icu_locale_core.specs.Subtag.{IsVariant}
 use Rattle.icu_locale_core.specs.TextSet.{from_list}
-use Rattle.icu_locale_core.specs.inner.VariantList.{IsVariantList}
+use Rattle.icu_locale_core.specs.inner.Variants.{IsVariantList}
 use Rattle.icu_locale_core.proofs.VariantLists.{IsVariantList-dedup}
 use Rattle.icu_locale_core.specs.laws.RisingLists.{from_list-dedup}
 use Rattle.icu_locale_core.proofs.variants.Variants.try_from_list.Goals as goal

@@ -4,7 +4,8 @@ use Rattle.std.proofs.lemmas.List.{length-map}
 use Rattle.icu_locale_lines.specs.Commands.{AreArguments, AreCommandWords, command_word}
 use Rattle.icu_locale_lines.specs.declared.command.Command.{Command}
 use Rattle.icu_locale_lines.specs.declared.error.CliError.{CliError}
-use Rattle.icu_locale_lines.proofs.CommandWords.{three, three_named, counted}
+use Rattle.icu_locale_lines.specs.laws.Commands.{counted}
+use Rattle.icu_locale_lines.proofs.CommandWords.{three, three_named}
 use Rattle.icu_locale_lines.proofs.command.Command.from_front.Goals as goal
 use Rattle.icu_locale_lines.proofs.command.Command.from_front.Goals.{in_default-via-then-words-lt1, in_default-via-else-words-lt1+else-words-lt2+then-words-lt3, in_default-via-in-len3+else-eq, in_default-via-else-words-lt1+else-words-lt2+else-words-lt3+else-words-lt4}
 

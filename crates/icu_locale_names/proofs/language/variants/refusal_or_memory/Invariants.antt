@@ -1,8 +1,7 @@
 use Rattle.std.proofs.Common.{◌≡◌, List, []}
 use Rattle.icu_locale_core.specs.TextSet.{rising}
 use Rattle.icu_provider.specs.declared.names.NameKey.TheVariants.{Variant}
-use Rattle.icu_locale_names.specs.Chains.{variant_heavy}
-use Rattle.icu_locale_names.specs.FirstHit.{answers_behind}
+use Rattle.icu_locale_names.specs.Chains.{variant_heavy, answers_behind}
 use Rattle.icu_locale_names.specs.LanguageNames.{qualifier}
 use Rattle.icu_locale_names.specs.Pieces.{Piece}
 use Rattle.icu_locale_names.proofs.language.variants.refusal_or_memory.Given as goal

@@ -2,7 +2,7 @@ use Rattle.std.proofs.Common.{◌≡◌, ◌+◌, ◌<◌, ◌^◌, ◌||◌}
 use Rattle.icu_locale_names.specs.LentNames.{pieces_of}
 use Rattle.icu_locale_names.specs.Pieces.{has_raw}
 use Rattle.icu_locale_names.specs.inner.Walk.{pieces_left}
-use Rattle.icu_locale_names.proofs.Measures.{byte_count}
+use Rattle.icu_locale_names.proofs.PieceWrites.{byte_count}
 use Rattle.icu_locale_names.proofs.language.writing.measured.Given as goal
 
 -- the bytes so far and those of the pieces that are left, and a raw piece so far or among those

@@ -1,8 +1,7 @@
 use Rattle.std.proofs.Common.{◌≡◌, subst}
 use Rattle.std.proofs.lemmas.Result.{err_from_is_err_and}
 use Rattle.icu_locale_names.specs.LentNames.{pieces_of}
-use Rattle.icu_locale_names.specs.Pieces.{text_of}
-use Rattle.icu_locale_names.specs.Writing.{AppendsPart}
+use Rattle.icu_locale_names.specs.Pieces.{text_of, AppendsPart}
 use Rattle.std.specs.Io.KnownBytes.{Appends}
 use Rattle.icu_locale_names.specs.inner.Shown.{lent_piece}
 use Rattle.icu_locale_names.specs.inner.Walk.{pieces_left}

@@ -1,5 +1,5 @@
 use Rattle.std.proofs.lemmas.Result.{err_from_is_err_and}
-use Rattle.icu_tables.proofs.Refusals.{refused_last, refused_before}
+use Rattle.icu_tables.proofs.Items.{refused_last, refused_before}
 use Rattle.icu_tables.proofs.file.TablesFromValue.from_value.Goals as goal
 
 -- a member is refused, so the file is

@@ -5,7 +5,7 @@ use Rattle.std.specs.Map.{keys_of}
 use Rattle.std.proofs.lemmas.List.{take_all}
 use Rattle.std.proofs.lemmas.List.Filters.{dedup_is}
 use Rattle.icu_locale_core.specs.TextSet.{text_cmp}
-use Rattle.icu_tables.proofs.Sets.{unique_rises, unique_is_set}
+use Rattle.icu_tables.proofs.Items.{unique_rises, unique_is_set}
 use Rattle.icu_tables.proofs.file.direction.set_from.Goals as goal
 
 -- the scripts are sorted, and each is there once

@@ -1,4 +1,4 @@
-use Rattle.std.proofs.Common.{◌≡◌, ◌++◌, sym, ap, ◌∙◌, subst}
+use Rattle.std.proofs.Common.{◌++◌, sym, ap, ◌∙◌, subst}
 use Rattle.std.proofs.lemmas.List.{append-nil}
 use Rattle.icu_provider.specs.SortedMaps.{IsSortedMap}
 use Rattle.icu_tables.proofs.file.members.in_one_list.Goals as goal

@@ -1,6 +1,6 @@
 use Rattle.std.proofs.Common.{refl}
 use Rattle.icu_locale.specs.Canonical.{rg, sd}
-use Rattle.icu_locale.proofs.Keywords.{put_optional-other}
+use Rattle.icu_locale.proofs.Values.{put_optional-other}
 use Rattle.icu_locale.proofs.canonicalizer.changes.Changes.write.Goals as goal
 
 pub put-is_subdivision_changed-requires : goal.put-is_subdivision_changed-requires

@@ -1,7 +1,7 @@
 use Rattle.std.proofs.Common.{ap, sym, ◌∙◌}
 use Rattle.std.specs.Option.{option_map}
 use Rattle.icu_locale.specs.LikelyTable.{row_at}
-use Rattle.icu_locale.specs.inner.LikelyMaps.{map_rows}
+use Rattle.icu_locale.specs.inner.SettledRows.{map_rows}
 use Rattle.icu_locale.proofs.expander.looks.LikelyMaps.row_at.Goals as goal
 
 -- the value that was found stands between the key's own subtags

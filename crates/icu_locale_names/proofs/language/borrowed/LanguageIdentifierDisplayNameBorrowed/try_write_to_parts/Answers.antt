@@ -1,6 +1,6 @@
 use Rattle.std.proofs.Common.{◌∙◌, sym}
 use Rattle.icu_locale_names.specs.LentNames.{pieces_of}
-use Rattle.icu_locale_names.proofs.Reports.{nothing_marked}
+use Rattle.icu_locale_names.proofs.PieceWrites.{nothing_marked}
 use Rattle.icu_locale_names.proofs.language.borrowed.LanguageIdentifierDisplayNameBorrowed.try_write_to_parts.Goals as goal
 
 -- no piece is raw

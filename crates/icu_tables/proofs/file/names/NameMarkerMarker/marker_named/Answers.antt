@@ -1,4 +1,4 @@
-use Rattle.icu_tables.proofs.Names.{unlike}
+use Rattle.icu_tables.proofs.Items.{unlike}
 use Rattle.icu_tables.proofs.file.names.NameMarkerMarker.marker_named.Goals as goal
 
 -- no marker has the name
