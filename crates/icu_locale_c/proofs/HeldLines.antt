@@ -16,7 +16,7 @@ use Rattle.icu_locale.specs.LikelyTable.{likely}
 use Rattle.icu_locale.specs.LikelySubtags.{AreSettled}
 use Rattle.icu_locale.specs.declared.negotiator.available.Available.{Available}
 use Rattle.icu_locale_lines.specs.Lists.{listed, SpellsAll}
-use Rattle.icu_locale_lines.specs.Works.{IsWorkOf, text_answered}
+use Rattle.icu_locale_lines.specs.Commands.{IsWorkOf, text_answered}
 use Rattle.icu_locale_lines.specs.declared.command.LineCommand.{LineCommand}
 use Rattle.icu_locale_lines.specs.declared.work.Work.{Work}
 use Rattle.icu_locale_lines.specs.laws.Expanders.{same_likely}

@@ -1,7 +1,7 @@
 -- What a command that is read answers over what is held.
 use Rattle.std.specs.Prelude.{◌≡◌, ℕ, Bool, false, List, None}
 use Rattle.icu_locale_lines.specs.Answers.{IsAnswer}
-use Rattle.icu_locale_lines.specs.Works.{has_tables}
+use Rattle.icu_locale_lines.specs.Commands.{has_tables}
 use Rattle.icu_locale_lines.specs.declared.command.Command.TheVariants.{Lines}
 use Rattle.icu_locale_lines.specs.declared.command.LineCommand.{LineCommand}
 use Rattle.icu_locale_lines.specs.declared.command.LineCommand.TheVariants.{Negotiate}

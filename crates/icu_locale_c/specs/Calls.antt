@@ -7,9 +7,8 @@ use Rattle.icu_tables.specs.File.{rows_in}
 use Rattle.icu_tables.specs.declared.error.TableError.TheVariants as table
 use Rattle.icu_tables.specs.declared.tables.Tables.{Tables}
 use Rattle.icu_locale_lines.specs.Answers.{IsAnswer}
-use Rattle.icu_locale_lines.specs.Commands.{AreCommandWords}
+use Rattle.icu_locale_lines.specs.Commands.{AreCommandWords, has_tables}
 use Rattle.icu_locale_lines.specs.Lists.{is_space}
-use Rattle.icu_locale_lines.specs.Works.{has_tables}
 use Rattle.icu_locale_lines.specs.WholeRuns.{TellsSettled}
 use Rattle.icu_locale_lines.specs.declared.command.Command.TheVariants.{Settled, Lines}
 use Rattle.icu_locale_lines.specs.declared.command.LineCommand.{LineCommand}

@@ -11,7 +11,7 @@ use Rattle.icu_locale.specs.declared.negotiator.available.Available.{Available}
 use Rattle.icu_tables.specs.contracts.tables.Tables.{the_row as tables_row}
 use Rattle.icu_tables.specs.declared.tables.Tables.{Tables}
 use Rattle.icu_locale_lines.specs.Loads.{IsExpanderOf}
-use Rattle.icu_locale_lines.specs.Works.{IsWorkOf}
+use Rattle.icu_locale_lines.specs.Commands.{IsWorkOf}
 use Rattle.icu_locale_lines.specs.declared.command.LineCommand.{LineCommand}
 use Rattle.icu_locale_lines.specs.declared.command.LineCommand.TheVariants.{Negotiate}
 use Rattle.icu_locale_lines.specs.declared.work.Work.{Work}

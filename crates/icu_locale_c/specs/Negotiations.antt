@@ -7,7 +7,7 @@ use Rattle.icu_locale.specs.Negotiation.{Negotiation, IsNegotiated}
 use Rattle.icu_tables.specs.declared.tables.Tables.{Tables}
 use Rattle.icu_locale_lines.specs.Lists.{listed, SpellsAll, IsFirstFault}
 use Rattle.icu_locale_lines.specs.Loads.{has_likely}
-use Rattle.icu_locale_lines.specs.Works.{IsUnsettled}
+use Rattle.icu_locale_lines.specs.Commands.{IsUnsettled}
 use Rattle.icu_locale_lines.specs.declared.command.Command.TheVariants.{Lines}
 use Rattle.icu_locale_lines.specs.declared.command.LineCommand.TheVariants.{Negotiate}
 use Rattle.icu_locale_c.specs.Held.{Held, IsNegotiationOf}

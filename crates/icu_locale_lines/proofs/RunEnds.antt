@@ -12,7 +12,7 @@ use Rattle.icu_locale_lines.specs.declared.command.LineCommand.{LineCommand}
 use Rattle.icu_locale_lines.specs.declared.work.Work.{Work}
 use Rattle.icu_locale_lines.specs.Lines.{Stream}
 use Rattle.icu_locale_lines.specs.Runs.{ReadsAll, WritesAll, WritesWholeLines, WritesPart}
-use Rattle.icu_locale_lines.specs.Works.{has_tables, text_answered, IsWorkOf, IsUnsettled}
+use Rattle.icu_locale_lines.specs.Commands.{has_tables, text_answered, IsWorkOf, IsUnsettled}
 use Rattle.icu_locale_lines.specs.WholeRuns.{WritesLines, StopsAmongLines, IsRefusedLines, IsRefusedOutput, IsLineRun, IsRefusedLineRun, ReadsTables, IsRefusedJsonRun}
 
 module _ (t : Tables) (wrote wrote' : Option (List ℕ)) (c : LineCommand) (r : Result Status CliError) where

@@ -23,7 +23,7 @@ use Rattle.icu_locale_lines.specs.Loads.{IsExpanderOf}
 use Rattle.icu_locale_lines.specs.Runs.{ReadsAll, WritesAll}
 use Rattle.icu_locale_lines.specs.Streams.{StopsStream, StopsAmong, IsStoppedLineStream, IsRefusedLineStream, ReadsTablesLine, IsJsonStream, IsRefusedJsonStream}
 use Rattle.icu_locale_lines.specs.WholeRuns.{WritesSettled, IsRefusedSettled, IsLineRun}
-use Rattle.icu_locale_lines.specs.Works.{IsWorkOf, text_answered}
+use Rattle.icu_locale_lines.specs.Commands.{IsWorkOf, text_answered}
 use Rattle.icu_locale_lines.proofs.FirstLines.{place_of_end, alone}
 use Rattle.icu_locale_lines.proofs.Streaming.{WritesAll-none}
 

@@ -10,6 +10,5 @@ pub mod Runs
 pub mod Streams
 pub mod Texts
 pub mod WholeRuns
-pub mod Works
 pub mod inner
 pub mod laws

@@ -20,7 +20,7 @@ use Rattle.icu_locale_lines.specs.Lists.{listed, IsFirstFault}
 use Rattle.icu_locale_lines.specs.Loads.{not_found}
 use Rattle.icu_locale_lines.specs.Runs.{WritesAll, WritesWholeLines, WritesPart}
 use Rattle.icu_locale_lines.specs.WholeRuns.{WritesSettled, IsRefusedSettled, IsLineRun}
-use Rattle.icu_locale_lines.specs.Works.{IsWorkOf, IsUnsettled, has_tables, text_answered}
+use Rattle.icu_locale_lines.specs.Commands.{IsWorkOf, IsUnsettled, has_tables, text_answered}
 
 -- a text of whole lines: nothing, or all up to a line feed
 abbrev pub EndsLines : List ℕ → Type 0

@@ -23,7 +23,7 @@ use Rattle.icu_locale_lines.specs.Loads.{IsExpanderOf, not_found}
 use Rattle.icu_locale_names.specs.Pieces.{AppendsPart}
 use Rattle.icu_locale_lines.specs.Runs.{ReadsAll, WritesAll, WritesWholeLines, WritesPart}
 use Rattle.icu_locale_lines.specs.Texts.{settled_line}
-use Rattle.icu_locale_lines.specs.Works.{IsWorkOf, IsUnsettled, has_tables, text_answered}
+use Rattle.icu_locale_lines.specs.Commands.{IsWorkOf, IsUnsettled, has_tables, text_answered}
 
 -- the work of the command was done on every line that it answers
 pub record WritesLines (c : LineCommand) (t : Tables) (input : List ℕ) (wrote wrote' : Stream)

@@ -6,7 +6,7 @@ ghost use Rattle.icu_locale_lines.specs.Lists.{listed, SpellsAll};
 ghost use Rattle.icu_locale_lines.specs.Loads.{IsExpanderOf, has_likely, not_found};
 ghost use Rattle.icu_locale_lines.specs.WholeRuns.{WritesLines, IsRefusedLines};
 ghost use Rattle.icu_locale_lines.specs.Lines.{Stream};
-ghost use Rattle.icu_locale_lines.specs.Works.{IsUnsettled, IsLoaded, IsWorkOf, has_tables, text_answered};
+ghost use Rattle.icu_locale_lines.specs.Commands.{IsUnsettled, IsLoaded, IsWorkOf, has_tables, text_answered};
 ghost use Rattle.icu_locale_lines.specs.Refusals.{IsRefusedLoad, IsRefusedTable, IsRefusedList};
 ghost use Rattle.icu_locale_lines.specs.declared.command.LineCommand.{LineCommand};
 ghost use Rattle.icu_tables.specs.declared.tables.Tables.{Tables};

@@ -90,6 +90,7 @@ fn cut_at_tab(line: &[u8]) -> (&[u8], Option<&[u8]>)
 }
 
 // Where the first tab stands.
+#[tactic(auto, using(crate::proofs::LineCuts::position_from_first))]
 fn first_tab(line: &[u8]) -> Option<usize>
     ensures { result ≡ position is_tab line.now }
 {

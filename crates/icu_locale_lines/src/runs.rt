@@ -4,7 +4,7 @@ ghost use Rattle.icu_tables.specs.Rows.{rows_of};
 ghost use Rattle.icu_tables.specs.File.{rows_in};
 ghost use Rattle.icu_locale_lines.specs.Loads.{not_found};
 ghost use Rattle.icu_locale_lines.specs.Texts.{settled_line};
-ghost use Rattle.icu_locale_lines.specs.Works.{IsUnsettled, has_tables};
+ghost use Rattle.icu_locale_lines.specs.Commands.{IsUnsettled, has_tables};
 ghost use Rattle.icu_locale_lines.specs.WholeRuns.{
   IsRun,
   IsLineRun,

@@ -13,7 +13,7 @@ ghost use Rattle.icu_locale_lines.specs.Streams.{
   IsRefusedJsonStream,
 };
 ghost use Rattle.icu_locale_lines.specs.WholeRuns.{IsLineRun, IsRun};
-ghost use Rattle.icu_locale_lines.specs.Works.{IsUnsettled, has_tables};
+ghost use Rattle.icu_locale_lines.specs.Commands.{IsUnsettled, has_tables};
 ghost use Rattle.icu_locale_lines.specs.declared.command.LineCommand.TheVariants.{Negotiate};
 
 use crate::command::{Command, LineCommand};

@@ -11,7 +11,7 @@ use Rattle.icu_locale.specs.LikelySubtags.{AreSettled}
 use Rattle.icu_locale.specs.declared.expander.LocaleExpander.{LocaleExpander}
 use Rattle.icu_tables.specs.declared.tables.Tables.{Tables}
 use Rattle.icu_locale_lines.specs.Loads.{IsExpanderOf, has_likely}
-use Rattle.icu_locale_lines.specs.Works.{IsUnsettled}
+use Rattle.icu_locale_lines.specs.Commands.{IsUnsettled}
 use Rattle.icu_locale_lines.specs.declared.command.Command.{Command}
 use Rattle.icu_locale_lines.specs.declared.command.Command.TheVariants.{Lines}
 use Rattle.icu_locale_lines.specs.declared.command.LineCommand.TheVariants.{Negotiate}

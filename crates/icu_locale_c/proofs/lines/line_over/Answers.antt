@@ -1,5 +1,5 @@
 use Rattle.std.proofs.Common.{subst}
-use Rattle.icu_locale_lines.specs.Works.{IsLoaded}
+use Rattle.icu_locale_lines.specs.Commands.{IsLoaded}
 use Rattle.icu_locale_c.proofs.HeldLines.{work_without_list}
 use Rattle.icu_locale_c.proofs.lines.line_over.Goals as goal
 

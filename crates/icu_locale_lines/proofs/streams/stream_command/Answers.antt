@@ -3,7 +3,7 @@ use Rattle.std.specs.Io.KnownBytes.{prepend_known}
 use Rattle.std.proofs.KnownBytes.{Consumes-nil}
 use Rattle.icu_locale_lines.specs.Streams.{IsStoppedLineStream}
 use Rattle.icu_locale_lines.specs.declared.command.LineCommand.TheVariants.{Negotiate}
-use Rattle.icu_locale_lines.specs.Works.{IsLoaded}
+use Rattle.icu_locale_lines.specs.Commands.{IsLoaded}
 use Rattle.icu_locale_lines.proofs.StreamEnds.{stopped_behind, refused_from_stopped}
 use Rattle.icu_locale_lines.proofs.streams.stream_command.Goals as goal
 

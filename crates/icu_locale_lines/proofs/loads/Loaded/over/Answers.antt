@@ -3,7 +3,7 @@ use Rattle.icu_locale.specs.LikelyTable.{likely}
 use Rattle.icu_locale.specs.LikelySubtags.{AreSettled}
 use Rattle.icu_locale_lines.specs.Lists.{listed, SpellsAll}
 use Rattle.icu_locale_lines.specs.Loads.{IsExpanderOf}
-use Rattle.icu_locale_lines.specs.Works.{IsWorkOf, text_answered, IsLoaded}
+use Rattle.icu_locale_lines.specs.Commands.{IsWorkOf, text_answered, IsLoaded}
 use Rattle.icu_locale_lines.specs.declared.work.Work.TheVariants.{Negotiate}
 use Rattle.icu_locale_lines.proofs.loads.Loaded.over.Goals as goal
 
