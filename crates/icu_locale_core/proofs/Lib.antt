@@ -6,4 +6,5 @@ mod Readings
 mod TextSets
 mod Values
 mod VariantLists
+mod Walks
 mod Written

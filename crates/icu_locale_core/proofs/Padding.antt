@@ -1,14 +1,16 @@
--- What an array of a text and zeros behind it holds, and its order.
-use Rattle.std.proofs.Common.{◌≡◌, ℕ, ◌<◌, ◌≤◌, ◌+◌, ◌-◌, true, false, ◌&&◌, List, [], ◌∷◌, ◌++◌, length, take, set, replicate, get_or, suc, zero, nat_lt, if◌then◌else◌, refl, ap, sym, subst, ◌∙◌, arith, nat_eq}
-use Rattle.std.specs.Cmp.Lexicographic.{pointwise, slice_cmp}
-use Rattle.std.specs.Ordering.{nat_cmp, ordering_then}
-use Rattle.std.specs.declared.cmp.Ordering.TheVariants.{Equal}
+-- What an array of a text and zeros behind it holds, its equality and its number.
+use Rattle.std.proofs.Common.{◌≡◌, ℕ, ◌<◌, ◌≤◌, ◌+◌, ◌-◌, ◌*◌, ◌^◌, true, false, ◌&&◌, List, [], ◌∷◌, ◌++◌, length, take, set, replicate, get_or, suc, zero, nat_lt, if◌then◌else◌, refl, ap, sym, subst, ◌∙◌, arith, nat_eq}
+use Rattle.std.specs.Cmp.Lexicographic.{pointwise}
 use Rattle.std.specs.Str.{IsUtf8, IsAscii}
 use Rattle.std.proofs.lemmas.Str.{IsUtf8-from_ascii, IsUtf8-append}
 use Rattle.std.proofs.lemmas.Str.Ascii.{IsAscii-nil, IsAscii-cons}
 use Rattle.std.proofs.lemmas.Bool.Decides.{nat_tests}
+use Rattle.std.specs.Int.Digits.{number_from_digits, AllBelowBase}
+use Rattle.std.proofs.Math.Nat.{pow-le-pow_right}
+use Rattle.std.proofs.lemmas.Int.Digits.{number_lt, number_more}
 use Rattle.std.proofs.lemmas.List.{set_at, length-take, take_more}
 use Rattle.icu_locale_core.specs.Subtag.{is_alphanumeric}
+use Rattle.icu_locale_core.specs.laws.Numbers.{all_below}
 use Rattle.icu_locale_core.specs.inner.Padded.{unpadded, padded, IsPadded}
 
 -- behind a text of letters and digits the zeros are not seen
@@ -21,10 +23,10 @@ unpadded-zeros (c ∷ t) n h =
     rw positive (ap (λ r. c ∷ r) (unpadded-zeros t n rest))
 
 -- so a text with zeros behind it is as the invariant asks
-pub IsPadded-padded : (n : ℕ) (t : List ℕ) → is_alphanumeric t ≡ true → length t ≤ n → IsPadded n (padded n t)
-IsPadded-padded n t plain short =
+pub IsPadded-padded : (n : ℕ) (t : List ℕ) → n ≤ 8 → is_alphanumeric t ≡ true → length t ≤ n → IsPadded n (padded n t)
+IsPadded-padded n t small plain short =
     let seen = unpadded-zeros t (n - length t) plain in
-    record { short = rw seen short; zeros = ap (padded n) seen; plain = rw seen plain }
+    record { small = small; short = rw seen short; zeros = ap (padded n) seen; plain = rw seen plain }
 
 -- the next character goes in place of the first zero
 pub set-next : (w : List ℕ) (n i x : ℕ) → i < length w → i < n → get_or w i 0 ≡ x → set (take i w ++ replicate (n - i) 0) i x ≡ take (i + 1) w ++ replicate (n - (i + 1)) 0
@@ -38,25 +40,7 @@ set-next w n i x within room is =
     append_one [] y ys = refl
     append_one (x ∷ xs) y ys = ap (λ r. x ∷ r) (append_one xs y ys)
 
--- with the zeros, a text compares as it does without them
-padded_cmp : (s t : List ℕ) (k m : ℕ) → is_alphanumeric s ≡ true → is_alphanumeric t ≡ true → length s + k ≡ length t + m → slice_cmp nat_cmp (s ++ replicate k 0) (t ++ replicate m 0) ≡ slice_cmp nat_cmp s t
-padded_cmp [] [] k m p q e = let same : k ≡ m = omega arith in rw same (zeros_tie m)
-  where
-    zeros_tie : (n : ℕ) → slice_cmp nat_cmp (replicate n 0) (replicate n 0) ≡ Equal
-    zeros_tie zero = refl
-    zeros_tie (suc n) = zeros_tie n
-padded_cmp [] (d ∷ t) zero m p q e = absurd (omega arith)
-padded_cmp [] (d ∷ t) (suc k) m p q e = let positive : nat_lt 0 d ≡ true = grind (arith, nat_tests) in rw positive refl
-padded_cmp (c ∷ s) [] k zero p q e = absurd (omega arith)
-padded_cmp (c ∷ s) [] k (suc m) p q e =
-    let above : nat_lt c 0 ≡ false = grind (arith, nat_tests) in
-    let apart : nat_eq c 0 ≡ false = grind (arith, nat_tests) in
-    rw (above, apart) refl
-padded_cmp (c ∷ s) (d ∷ t) k m p q e =
-    let p' : is_alphanumeric s ≡ true = grind (arith, nat_tests) in
-    let q' : is_alphanumeric t ≡ true = grind (arith, nat_tests) in
-    ap (λ o. ordering_then (nat_cmp c d) o) (padded_cmp s t k m p' q' (omega arith))
-
+-- with the zeros, texts agree as they do without them
 padded_eq : (s t : List ℕ) (k m : ℕ) → is_alphanumeric s ≡ true → is_alphanumeric t ≡ true → length s + k ≡ length t + m → pointwise nat_eq (s ++ replicate k 0) (t ++ replicate m 0) ≡ pointwise nat_eq s t
 padded_eq [] [] k m p q e = let same : k ≡ m = omega arith in rw same (zeros_agree m)
   where
@@ -72,13 +56,8 @@ padded_eq (c ∷ s) (d ∷ t) k m p q e =
     let q' : is_alphanumeric t ≡ true = grind (arith, nat_tests) in
     ap (λ b. nat_eq c d && b) (padded_eq s t k m p' q' (omega arith))
 
-module _ (n : ℕ) (s t : List ℕ) (p : is_alphanumeric s ≡ true) (q : is_alphanumeric t ≡ true) (short : length s ≤ n) (short' : length t ≤ n) where
-  -- with the zeros, texts compare as they do without them
-  pub cmp-padded : slice_cmp nat_cmp (padded n s) (padded n t) ≡ slice_cmp nat_cmp s t
-  cmp-padded = padded_cmp s t (n - length s) (n - length t) p q (omega arith)
-
-  pub eq-padded : pointwise nat_eq (padded n s) (padded n t) ≡ pointwise nat_eq s t
-  eq-padded = padded_eq s t (n - length s) (n - length t) p q (omega arith)
+pub eq-padded : (n : ℕ) (s t : List ℕ) → is_alphanumeric s ≡ true → is_alphanumeric t ≡ true → length s ≤ n → length t ≤ n → pointwise nat_eq (padded n s) (padded n t) ≡ pointwise nat_eq s t
+eq-padded n s t p q short short' = padded_eq s t (n - length s) (n - length t) p q (omega arith)
 
 -- letters and digits are ASCII, and so UTF-8
 pub IsUtf8-plain : (t : List ℕ) → is_alphanumeric t ≡ true → IsUtf8 t
@@ -104,3 +83,17 @@ IsUtf8-padded n bs p = subst IsUtf8 p.zeros (IsUtf8-append (unpadded bs) (replic
     zeros_ascii : (k : ℕ) → IsAscii (replicate k 0)
     zeros_ascii zero = IsAscii-nil
     zeros_ascii (suc k) = IsAscii-cons 0 (replicate k 0) (omega arith) (zeros_ascii k)
+
+below_take : (i : ℕ) (ds : List ℕ) → AllBelowBase 256 ds → AllBelowBase 256 (take i ds)
+below_take zero ds below = tt
+below_take (suc i) [] below = tt
+below_take (suc i) (d ∷ ds) below = (below.0, below_take i ds below.1)
+
+-- eight bytes write a number of 64 bits
+pub digit_fits : (n i : ℕ) (bs : List ℕ) → IsPadded n bs → length bs ≡ n → i < n → number_from_digits 256 (take i bs) * 256 + get_or bs i 0 < 2 ^ 64
+digit_fits n i bs p long within =
+    let below : AllBelowBase 256 bs = subst (AllBelowBase 256) p.zeros (all_below (unpadded bs) (n - length (unpadded bs)) p.plain) in
+    let fits = number_lt 256 (take (i + 1) bs) (below_take (i + 1) bs below) in
+    let count : length (take (i + 1) bs) ≤ 8 = omega (arith, length-take (i + 1) bs, p.small) in
+    let most : 256 ^ length (take (i + 1) bs) ≤ 256 ^ 8 = pow-le-pow_right (omega arith) count in
+    omega (arith, number_more 256 bs i (omega (arith, long, within)), fits, most)

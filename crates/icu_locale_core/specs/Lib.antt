@@ -2,6 +2,7 @@ pub mod Agreement
 pub mod Identifier
 pub mod Keywords
 pub mod Maps
+pub mod Numbers
 pub mod Subtag
 pub mod TextSet
 pub mod Value

@@ -77,6 +77,22 @@ IsLanguage t = IsWritten is_language lowercase t
 abbrev pub und : List ℕ
 und = codes "und"
 
+-- the script that stands for none that is known
+abbrev pub unknown_script : List ℕ
+unknown_script = codes "Zzzz"
+
+-- the region that stands for none that is known
+abbrev pub unknown_region : List ℕ
+unknown_region = codes "ZZ"
+
+-- the key of a region override, section 3.6.1
+abbrev pub rg : List ℕ
+rg = codes "rg"
+
+-- the key of a subdivision, section 3.6.1
+abbrev pub sd : List ℕ
+sd = codes "sd"
+
 -- a script in its written case
 abbrev pub IsScript : List ℕ → Type 0
 IsScript t = IsWritten is_script titlecase t

@@ -2,5 +2,6 @@
 pub mod Cuts
 pub mod Identifiers
 pub mod Maps
+pub mod Numbers
 pub mod RisingLists
 pub mod TextSets

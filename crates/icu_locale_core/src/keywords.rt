@@ -2,11 +2,15 @@
 ghost use Rattle.std.specs.Prelude.{◌≡◌, ◌↔◌, [], IsTrue, IsSome, IsOk, IfOk, IfErr, OnOk, OnErr, Some, None, option_copied};
 ghost use Rattle.std.specs.Cmp.{partial_equiv_from_equiv};
 ghost use Rattle.std.specs.Cmp.Lexicographic.{pointwise, lists_equiv};
-ghost use Rattle.icu_locale_core.specs.Keywords.{with_value, without_key, row_eq, KeywordRows};
+ghost use Rattle.std.specs.Fmt.{WritesOnOk};
+ghost use Rattle.std.specs.List.{All};
+ghost use Rattle.icu_locale_core.specs.Keywords.{with_value, without_key, row_eq, KeywordRows, IsKeyword, written_keyword, written_keywords};
 ghost use Rattle.icu_locale_core.specs.Maps.{IsSortedMap, value_at, SetsOnly};
 ghost use Rattle.icu_locale_core.specs.laws.Maps.{rows_equiv};
 ghost use Rattle.icu_locale_core.specs.TextSet.{text_cmp};
 
+use crate::langid::write_after_dash;
+use crate::value::write_pieces;
 use crate::{Key, ParseError, Value};
 use std::alloc::Global;
 use std::collections::BTreeMap;
@@ -51,6 +55,15 @@ impl Keywords {
         ensures { IsSortedMap text_cmp self.now }
     {
         let _ = self.map.len();
+    }
+
+    /// Nothing, but that each row has a key and a value.
+    pub fn known_rows(&self)
+        ensures { All IsKeyword self.now }
+    {
+        for (key, value) in self.map.iter() {
+            know_keyword(key, value);
+        }
     }
 
     /// The value at a key, if any. It takes no memory.
@@ -105,6 +118,13 @@ impl Keywords {
     }
 }
 
+fn know_keyword(key: &Key, value: &Value)
+    ensures { IsKeyword (key.now, value.now) }
+{
+    let _ = key.as_str();
+    let _ = value.as_single_subtag();
+}
+
 impl PartialEq for Keywords {
     ghost eq = { pointwise row_eq };
 
@@ -117,6 +137,29 @@ impl PartialEq for Keywords {
 
 impl Eq for Keywords {
     ghost laws = { lists_equiv rows_equiv };
+}
+
+impl fmt::Display for Keywords {
+    ghost output = { λ rows. Some (written_keywords rows) };
+
+    fn fmt<W: fmt::Write>(&self, f: &mut fmt::Formatter<W>) -> fmt::Result {
+        for (key, value) in self.map.iter() {
+            write_keyword(key, value, f)?;
+        }
+        Ok(())
+    }
+}
+
+// A key and the pieces of its value, with `-` before each.
+fn write_keyword<W: fmt::Write>(
+    key: &Key,
+    value: &Value,
+    f: &mut fmt::Formatter<W>,
+) -> fmt::Result
+    ensures { WritesOnOk W.write_str_gives f.old result (written_keyword (key.now, value.now)) f.new }
+{
+    write_after_dash(key.as_str(), f)?;
+    write_pieces(value.as_slice(), f)
 }
 
 impl fmt::Debug for Keywords {

@@ -158,12 +158,12 @@ fn put_head(x: &LanguageIdentifier, buffer: &mut [u8; 14]) -> usize
     ensures within { result ≤ 14 }
     ensures plain { IsUtf8 (take result buffer.new) }
 {
-    let mut end = x.language.0.put(buffer, 0);
+    let mut end = x.language.put(buffer, 0);
     if let Some(script) = &x.script {
-        end = script.0.put_after_dash(buffer, end);
+        end = script.put_after_dash(buffer, end);
     }
     if let Some(region) = &x.region {
-        end = region.0.put_after_dash(buffer, end);
+        end = region.put_after_dash(buffer, end);
     }
     end
 }

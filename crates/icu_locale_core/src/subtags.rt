@@ -1,5 +1,5 @@
 //! Subtags: language, script, region and variant of an identifier, and key and piece of a keyword.
-ghost use Rattle.std.specs.Prelude.{◌≡◌, ◌↔◌, IsTrue, IsOk, IfOk, IfErr, IfSome, is_some, Some, List, ℕ};
+ghost use Rattle.std.specs.Prelude.{◌≡◌, ◌↔◌, ◌≤◌, ◌+◌, ◌++◌, codes, take, IsTrue, IsOk, IfOk, IfErr, IfSome, is_some, Some, List, ℕ, length};
 ghost use Rattle.icu_locale_core.specs.Subtag.{
   is_language,
   is_script,
@@ -8,7 +8,10 @@ ghost use Rattle.icu_locale_core.specs.Subtag.{
   is_key,
   is_subtag,
   is_alphabetic,
+  is_alphanumeric,
   und,
+  unknown_script,
+  unknown_region,
   lowercase,
   titlecase,
   uppercase,
@@ -71,6 +74,19 @@ impl Language {
         self.0.as_str()
     }
 
+    // Puts it into a buffer at a place, and tells where it ends there. What stands behind that is lost.
+    #[inline(always)]
+    pub(crate) fn put(&self, buffer: &mut [u8], at: usize) -> usize
+        requires { at + 4 ≤ length buffer.old }
+        ensures text { take result buffer.new ≡ take at buffer.old ++ self.now }
+        ensures end { (at ≤ result) × (result ≤ at + 4) }
+        ensures size { length buffer.new ≡ length buffer.old }
+        ensures plain { IsTrue (is_alphanumeric self.now) }
+    {
+        self.0.put(buffer, at);
+        at + self.0.two_or_three()
+    }
+
     /// The language `und`, which stands for none that is known.
     pub const UNKNOWN: Language = Language(TinyText { bytes: *b"und\0" });
 
@@ -80,6 +96,9 @@ impl Language {
     {
         *self == Language::UNKNOWN
     }
+
+    /// The language `sgn`, which stands for a sign language.
+    pub const SIGN: Language = Language(TinyText { bytes: *b"sgn\0" });
 }
 
 impl fmt::Display for Language {
@@ -133,6 +152,29 @@ impl Script {
         ensures known { IsScript self.now }
     {
         self.0.as_str()
+    }
+
+    // Puts `-` and the text into a buffer at a place, and tells where they end there. What stands behind that is lost.
+    #[inline(always)]
+    pub(crate) fn put_after_dash(&self, buffer: &mut [u8], at: usize) -> usize
+        requires { at + 5 ≤ length buffer.old }
+        ensures text { take result buffer.new ≡ take at buffer.old ++ (codes "-" ++ self.now) }
+        ensures end { (at ≤ result) × (result ≤ at + 5) }
+        ensures size { length buffer.new ≡ length buffer.old }
+        ensures plain { IsTrue (is_alphanumeric self.now) }
+    {
+        self.0.put_after_dash(buffer, at);
+        at + 5
+    }
+
+    /// The script `Zzzz`, which stands for none that is known.
+    pub const UNKNOWN: Script = Script(TinyText { bytes: *b"Zzzz" });
+
+    /// Whether the script is `Zzzz`. It takes no memory.
+    pub fn is_unknown(&self) -> bool
+        ensures { IsTrue result ↔ (self.now ≡ unknown_script) }
+    {
+        *self == Script::UNKNOWN
     }
 }
 
@@ -189,11 +231,34 @@ impl Region {
         self.0.as_str()
     }
 
+    // Puts `-` and the text into a buffer at a place, and tells where they end there. What stands behind that is lost.
+    #[inline(always)]
+    pub(crate) fn put_after_dash(&self, buffer: &mut [u8], at: usize) -> usize
+        requires { at + 5 ≤ length buffer.old }
+        ensures text { take result buffer.new ≡ take at buffer.old ++ (codes "-" ++ self.now) }
+        ensures end { (at ≤ result) × (result ≤ at + 5) }
+        ensures size { length buffer.new ≡ length buffer.old }
+        ensures plain { IsTrue (is_alphanumeric self.now) }
+    {
+        self.0.put_after_dash(buffer, at);
+        at + 1 + self.0.two_or_three()
+    }
+
     /// Whether the region is one of letters, and not of digits. It takes no memory.
     pub fn is_alphabetic(&self) -> bool
         ensures { result ≡ is_alphabetic self.now }
     {
-        self.0.len() == 2
+        self.0.two_or_three() == 2
+    }
+
+    /// The region `ZZ`, which stands for none that is known.
+    pub const UNKNOWN: Region = Region(TinyText { bytes: *b"ZZ\0\0" });
+
+    /// Whether the region is `ZZ`. It takes no memory.
+    pub fn is_unknown(&self) -> bool
+        ensures { IsTrue result ↔ (self.now ≡ unknown_region) }
+    {
+        *self == Region::UNKNOWN
     }
 }
 
@@ -207,7 +272,7 @@ impl fmt::Display for Region {
 
 /// A variant: 5 to 8 letters or digits, or a digit and 3 of them, written in lower case (unicode_variant_subtag of UTS #35, section 3.1).
 #[derive(Clone, Copy, Debug, PartialEq, Eq, PartialOrd, Ord, Hash)]
-pub struct Variant(TinyText<8>);
+pub struct Variant(pub(crate) TinyText<8>);
 
 impl Model for Variant {
     ghost Value = { List ℕ };
@@ -287,9 +352,9 @@ impl Key {
         Self::try_from_bytes(text.as_bytes()).ok_or(ParseError::InvalidSubtag)
     }
 
-    // Reads the bytes of a key.
+    /// Reads the bytes of it, in any case. It takes no memory.
     #[inline(always)]
-    pub(crate) fn try_from_bytes(text: &[u8]) -> Option<Self>
+    pub fn try_from_bytes(text: &[u8]) -> Option<Self>
         ensures read { IfSome result (λ x. x ≡ lowercase text.now) }
         ensures accepted { is_some result ≡ is_key text.now }
     {
@@ -303,6 +368,12 @@ impl Key {
     {
         self.0.as_str()
     }
+
+    /// The key `rg`, at which a region override stands.
+    pub const REGION_OVERRIDE: Key = Key(TinyText { bytes: *b"rg" });
+
+    /// The key `sd`, at which a subdivision stands.
+    pub const SUBDIVISION: Key = Key(TinyText { bytes: *b"sd" });
 }
 
 impl fmt::Display for Key {
@@ -315,7 +386,7 @@ impl fmt::Display for Key {
 
 /// One piece of a value: 3 to 8 letters or digits, written in lower case (type of UTS #35, section 3.6.1).
 #[derive(Clone, Copy, Debug, PartialEq, Eq, PartialOrd, Ord, Hash)]
-pub struct Subtag(TinyText<8>);
+pub struct Subtag(pub(crate) TinyText<8>);
 
 impl Model for Subtag {
     ghost Value = { List ℕ };
@@ -341,9 +412,9 @@ impl Subtag {
         Self::try_from_bytes(text.as_bytes()).ok_or(ParseError::InvalidSubtag)
     }
 
-    // Reads the bytes of a subtag.
+    /// Reads the bytes of it, in any case. It takes no memory.
     #[inline(always)]
-    pub(crate) fn try_from_bytes(text: &[u8]) -> Option<Self>
+    pub fn try_from_bytes(text: &[u8]) -> Option<Self>
         ensures read { IfSome result (λ x. x ≡ lowercase text.now) }
         ensures accepted { is_some result ≡ is_subtag text.now }
     {

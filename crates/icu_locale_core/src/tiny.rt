@@ -5,6 +5,7 @@ ghost use Rattle.std.specs.Cmp.{partial_order_from_own_ties};
 ghost use Rattle.std.specs.Cmp.Lexicographic.{pointwise, slice_cmp};
 ghost use Rattle.std.specs.Cmp.Rules.{comparing, hashing};
 ghost use Rattle.std.specs.Ordering.{nat_cmp, as_partial_cmp};
+ghost use Rattle.icu_locale_core.specs.Numbers.{IsNumberOf};
 ghost use Rattle.icu_locale_core.specs.Subtag.{is_alphanumeric, IsWritten};
 ghost use Rattle.icu_locale_core.specs.inner.Class.{is_member, written_case, longest};
 ghost use Rattle.icu_locale_core.specs.inner.Padded.{unpadded, padded, IsPadded};
@@ -39,7 +40,8 @@ impl<const N: usize> TinyText<N> {
     // The text in the written case of a class, where it belongs to the class: one walk tells both.
     #[inline(always)]
     pub fn read(class: Class, text: &[u8]) -> Option<Self>
-        requires { longest class ≤ N }
+        requires long { longest class ≤ N }
+        requires small { N ≤ 8 }
         ensures text { IfSome result (λ x. x ≡ written_case class text.now) }
         ensures accepted { is_some result ≡ is_member class text.now }
         ensures known { IfSome result (IsWritten (is_member class) (written_case class)) }
@@ -77,39 +79,63 @@ impl<const N: usize> TinyText<N> {
         unsafe { str::from_utf8_unchecked(text) }
     }
 
-    // Puts the text into a buffer at a place, and tells where it ends there. What stands behind that is lost.
+    // Puts the text into a buffer at a place. What stands behind it there is lost.
     #[inline(always)]
-    pub fn put(&self, buffer: &mut [u8], at: usize) -> usize
+    pub fn put(&self, buffer: &mut [u8], at: usize)
         requires { at + N ≤ length buffer.old }
-        ensures text { take result buffer.new ≡ take at buffer.old ++ self.now }
-        ensures end { (at ≤ result) × (result ≤ at + N) }
+        ensures text { take (at + length self.now) buffer.new ≡ take at buffer.old ++ self.now }
         ensures size { length buffer.new ≡ length buffer.old }
+        ensures short { length self.now ≤ N }
         ensures plain { IsTrue (is_alphanumeric self.now) }
     {
         buffer[at..at + N].copy_from_slice(&self.bytes);
-        at + self.len()
     }
 
-    // Puts `-` and the text into a buffer at a place, and tells where they end there.
+    // Puts `-` and the text into a buffer at a place. What stands behind it there is lost.
     #[inline(always)]
-    pub fn put_after_dash(&self, buffer: &mut [u8], at: usize) -> usize
+    pub fn put_after_dash(&self, buffer: &mut [u8], at: usize)
         requires { at + (1 + N) ≤ length buffer.old }
-        ensures text { take result buffer.new ≡ take at buffer.old ++ (codes "-" ++ self.now) }
-        ensures end { (at ≤ result) × (result ≤ at + (1 + N)) }
+        ensures text { take (at + (1 + length self.now)) buffer.new
+            ≡ take at buffer.old ++ (codes "-" ++ self.now) }
         ensures size { length buffer.new ≡ length buffer.old }
+        ensures short { length self.now ≤ N }
         ensures plain { IsTrue (is_alphanumeric self.now) }
     {
         buffer[at] = b'-';
-        self.put(buffer, at + 1)
+        self.put(buffer, at + 1);
     }
 
-    // The text with the zeros behind it, which has the order of the text alone.
+    // The text with the zeros behind it as one number. Numbers are in the order of the texts.
+    #[inline(always)]
+    pub fn number(&self) -> u64
+        ensures { IsNumberOf N self.now result }
+    {
+        let mut number = 0;
+        for byte in &self.bytes {
+            number = number * 256 + u64::from(*byte);
+        }
+        number
+    }
+
+    // The text with the zeros behind it.
     fn padded(&self) -> &str
         ensures value { result.now ≡ padded N self.now }
         ensures short { length self.now ≤ N }
         ensures plain { IsTrue (is_alphanumeric self.now) }
     {
         unsafe { str::from_utf8_unchecked(&self.bytes) }
+    }
+}
+
+impl TinyText<4> {
+    // How many bytes a text of two or three has: the third byte tells, with no branch.
+    #[inline(always)]
+    pub fn two_or_three(&self) -> usize
+        requires least { 2 ≤ length self.now }
+        requires most { length self.now ≤ 3 }
+        ensures { result ≡ length self.now }
+    {
+        2 + usize::from(self.bytes[2] != 0)
     }
 }
 
@@ -148,7 +174,7 @@ impl<const N: usize> Ord for TinyText<N> {
     ghost matches_eq = { Prim.search (comparing, rules) };
 
     fn cmp(&self, other: &Self) -> Ordering {
-        self.padded().cmp(other.padded())
+        self.number().cmp(&other.number())
     }
 }
 

@@ -33,7 +33,7 @@ loop-place-preserved g c =
     let long = length-written_case c.args.class text in
     let next = get_or-written_case c.args.class text c.loop-place.place c.loop-place-test.true ∙ sym c.written_byte.ensures in
     record {
-      array = rw c.loop-place.invariant.array (set-next (written_case c.args.class text) g.row.N c.loop-place.place c.written_byte.result (omega (arith, long)) (omega (arith, c.requires, c.in_ok-kind.ensures.short)) next);
+      array = rw c.loop-place.invariant.array (set-next (written_case c.args.class text) g.row.N c.loop-place.place c.written_byte.result (omega (arith, long)) (omega (arith, c.requires.long, c.in_ok-kind.ensures.short)) next);
       whole = c.loop-place.invariant.whole ∙ past_one (is_character c.in_ok-kind.kind) text c.loop-place.place c.loop-place-test.true (sym c.has.ensures ∙ c.if-not-has.false);
     }
 
@@ -60,7 +60,7 @@ pub invariant_of-result : goal.invariant_of-result
 invariant_of-result g c =
     let text = c.args.text.now in
     let long = length-written_case c.args.class text in
-    subst (IsPadded g.row.N) (sym (array_of_text g c)) (IsPadded-padded g.row.N (written_case c.args.class text) (written_plain c.args.class text (member g c)) (omega (arith, long, c.requires, c.in_ok-kind.ensures.short)))
+    subst (IsPadded g.row.N) (sym (array_of_text g c)) (IsPadded-padded g.row.N (written_case c.args.class text) c.requires.small (written_plain c.args.class text (member g c)) (omega (arith, long, c.requires.long, c.in_ok-kind.ensures.short)))
 
 pub returns-clause-text : goal.returns-clause-text
 returns-clause-text g c = text_read g c

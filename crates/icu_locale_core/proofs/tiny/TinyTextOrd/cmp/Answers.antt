@@ -1,7 +1,7 @@
-use Rattle.icu_locale_core.proofs.Padding.{cmp-padded}
+use Rattle.icu_locale_core.specs.laws.Numbers.{number_cmp}
 use Rattle.icu_locale_core.proofs.tiny.TinyTextOrd.cmp.Goals as goal
 
 pub returns : goal.returns
 returns g c =
-    let same = cmp-padded g.row.N c.args.self.now c.args.other.now c.padded.ensures.plain c.padded-2.ensures.plain c.padded.ensures.short c.padded-2.ensures.short in
-    cc (c.cmp.ensures, c.padded.ensures.value, c.padded-2.ensures.value, same)
+    let same = number_cmp g.row.N c.args.self.now c.args.other.now c.number.result c.number-2.result c.number.ensures c.number-2.ensures in
+    cc (c.cmp.ensures, same)
