@@ -1,5 +1,6 @@
 //! Subtags: language, script, region and variant of an identifier, and key and piece of a keyword.
 ghost use Rattle.std.specs.Prelude.{◌≡◌, ◌↔◌, ◌≤◌, ◌+◌, ◌++◌, codes, take, IsTrue, IsOk, IfOk, IfErr, IfSome, is_some, Some, List, ℕ, length};
+ghost use Rattle.std.specs.Char.{is_ascii_alphabetic, is_ascii_digit};
 ghost use Rattle.icu_locale_core.specs.Subtag.{
   is_language,
   is_script,
@@ -63,7 +64,20 @@ impl Language {
         ensures read { IfSome result (λ x. x ≡ lowercase text.now) }
         ensures accepted { is_some result ≡ is_language text.now }
     {
-        Some(Language(TinyText::read(Class::Language, text)?))
+        match *text {
+            [a, b] if is_letter(a) && is_letter(b) => Some(Language(TinyText::of_two(
+                a.to_ascii_lowercase(),
+                b.to_ascii_lowercase(),
+            ))),
+            [a, b, c] if is_letter(a) && is_letter(b) && is_letter(c) => {
+                Some(Language(TinyText::of_three(
+                    a.to_ascii_lowercase(),
+                    b.to_ascii_lowercase(),
+                    c.to_ascii_lowercase(),
+                )))
+            }
+            _ => None,
+        }
     }
 
     /// The text in its written case. It takes no memory.
@@ -143,7 +157,17 @@ impl Script {
         ensures read { IfSome result (λ x. x ≡ titlecase text.now) }
         ensures accepted { is_some result ≡ is_script text.now }
     {
-        Some(Script(TinyText::read(Class::Script, text)?))
+        match *text {
+            [a, b, c, d] if is_letter(a) && is_letter(b) && is_letter(c) && is_letter(d) => {
+                Some(Script(TinyText::of_four(
+                    a.to_ascii_uppercase(),
+                    b.to_ascii_lowercase(),
+                    c.to_ascii_lowercase(),
+                    d.to_ascii_lowercase(),
+                )))
+            }
+            _ => None,
+        }
     }
 
     /// The text in its written case. It takes no memory.
@@ -220,7 +244,16 @@ impl Region {
         ensures read { IfSome result (λ x. x ≡ uppercase text.now) }
         ensures accepted { is_some result ≡ is_region text.now }
     {
-        Some(Region(TinyText::read(Class::Region, text)?))
+        match *text {
+            [a, b] if is_letter(a) && is_letter(b) => Some(Region(TinyText::of_two(
+                a.to_ascii_uppercase(),
+                b.to_ascii_uppercase(),
+            ))),
+            [a, b, c] if is_digit(a) && is_digit(b) && is_digit(c) => {
+                Some(Region(TinyText::of_three(a, b, c)))
+            }
+            _ => None,
+        }
     }
 
     /// The text in its written case. It takes no memory.
@@ -436,4 +469,18 @@ impl fmt::Display for Subtag {
     fn fmt<W: fmt::Write>(&self, f: &mut fmt::Formatter<W>) -> fmt::Result {
         f.write_str(self.as_str())
     }
+}
+
+#[inline(always)]
+fn is_letter(byte: u8) -> bool
+    ensures { result ≡ is_ascii_alphabetic byte }
+{
+    byte.is_ascii_alphabetic()
+}
+
+#[inline(always)]
+fn is_digit(byte: u8) -> bool
+    ensures { result ≡ is_ascii_digit byte }
+{
+    byte.is_ascii_digit()
 }

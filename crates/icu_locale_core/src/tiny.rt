@@ -1,5 +1,5 @@
 // A short text of letters and digits, in an array and behind no pointer.
-ghost use Rattle.std.specs.Prelude.{◌≡◌, ◌≤◌, ◌+◌, ◌++◌, take, codes, IsTrue, IfSome, is_some, length, List, ℕ, nat_eq};
+ghost use Rattle.std.specs.Prelude.{◌≡◌, ◌≤◌, ◌+◌, ◌++◌, ◌∷◌, [], take, codes, IsTrue, IfSome, is_some, length, List, ℕ, nat_eq};
 ghost use Rattle.std.proofs.Common.{rules};
 ghost use Rattle.std.specs.Cmp.{partial_order_from_own_ties};
 ghost use Rattle.std.specs.Cmp.Lexicographic.{pointwise, slice_cmp};
@@ -128,6 +128,36 @@ impl<const N: usize> TinyText<N> {
 }
 
 impl TinyText<4> {
+    #[inline(always)]
+    pub fn of_two(first: u8, second: u8) -> Self
+        requires { IsTrue (is_alphanumeric (first ∷ second ∷ [])) }
+        ensures { result ≡ first ∷ second ∷ [] }
+    {
+        TinyText {
+            bytes: [first, second, 0, 0],
+        }
+    }
+
+    #[inline(always)]
+    pub fn of_three(first: u8, second: u8, third: u8) -> Self
+        requires { IsTrue (is_alphanumeric (first ∷ second ∷ third ∷ [])) }
+        ensures { result ≡ first ∷ second ∷ third ∷ [] }
+    {
+        TinyText {
+            bytes: [first, second, third, 0],
+        }
+    }
+
+    #[inline(always)]
+    pub fn of_four(first: u8, second: u8, third: u8, fourth: u8) -> Self
+        requires { IsTrue (is_alphanumeric (first ∷ second ∷ third ∷ fourth ∷ [])) }
+        ensures { result ≡ first ∷ second ∷ third ∷ fourth ∷ [] }
+    {
+        TinyText {
+            bytes: [first, second, third, fourth],
+        }
+    }
+
     // How many bytes a text of two or three has: the third byte tells, with no branch.
     #[inline(always)]
     pub fn two_or_three(&self) -> usize
