@@ -118,6 +118,7 @@ impl Keywords {
     }
 }
 
+// A row has a key and a value.
 fn know_keyword(key: &Key, value: &Value)
     ensures { IsKeyword (key.now, value.now) }
 {
@@ -151,11 +152,7 @@ impl fmt::Display for Keywords {
 }
 
 // A key and the pieces of its value, with `-` before each.
-fn write_keyword<W: fmt::Write>(
-    key: &Key,
-    value: &Value,
-    f: &mut fmt::Formatter<W>,
-) -> fmt::Result
+fn write_keyword<W: fmt::Write>(key: &Key, value: &Value, f: &mut fmt::Formatter<W>) -> fmt::Result
     ensures { WritesOnOk W.write_str_gives f.old result (written_keyword (key.now, value.now)) f.new }
 {
     write_after_dash(key.as_str(), f)?;

@@ -125,8 +125,25 @@ fn append_parts(x: &LanguageIdentifier, text: &mut Vec<u8>) -> Result<(), AllocE
 {
     let mut buffer = [0; 14];
     let end = put_head(x, &mut buffer);
-    text.extend_from_slice(&buffer[..end])?;
+    append_front(text, &buffer, end)?;
     append_variants(&x.variants, text)
+}
+
+// Puts the front of a buffer behind a text. Where there is room for all of the buffer, it goes in one move of a fixed
+// size, and what stands behind the front is cut off again.
+#[inline(always)]
+fn append_front(text: &mut Vec<u8>, buffer: &[u8; 14], end: usize) -> Result<(), AllocError>
+    requires { end ≤ 14 }
+    ensures appended { OnOk result (text.new.items ≡ text.old.items ++ take end buffer.now) }
+    ensures unchanged { OnErr result (text.new.items ≡ text.old.items) }
+{
+    let before = text.len();
+    if text.capacity() - before < buffer.len() {
+        return text.extend_from_slice(&buffer[..end]);
+    }
+    text.extend_from_slice(buffer)?;
+    text.truncate(before + end);
+    Ok(())
 }
 
 // Each variant in rising order, with `-` before it, put behind a text.

@@ -1,4 +1,4 @@
-// The pieces of a text, cut at every `-` and `_`.
+//! The pieces of a text, cut at every `-` and `_`.
 ghost use Rattle.std.specs.Prelude.{◌≡◌, ◌∷◌, [], List, ℕ, MatchOption};
 ghost use Rattle.std.specs.Iterator.{YieldsFirstRef, item_count};
 ghost use Rattle.std.specs.List.{position};
@@ -7,7 +7,8 @@ ghost use Rattle.icu_locale_core.specs.inner.Identifiers.{pieces_if_any, first_o
 
 use std::marker::Model;
 
-// The pieces that are left of a text. The first is found already, so that a look at it costs nothing.
+/// The pieces that are left of a text, cut at every `-` and `_`. The first is found already, so that a look at it costs
+/// nothing. It takes no memory.
 #[derive(Drop)]
 pub struct Pieces<'a> {
     first: Option<&'a [u8]>,
@@ -21,6 +22,7 @@ impl<'a> Model for Pieces<'a> {
 }
 
 impl<'a> Pieces<'a> {
+    /// All pieces of a text.
     #[inline(always)]
     pub fn new(text: &'a [u8]) -> Self
         ensures { result ≡ pieces text.now }
@@ -32,7 +34,7 @@ impl<'a> Pieces<'a> {
         }
     }
 
-    // The next piece.
+    /// The next piece, if one is left.
     #[inline(always)]
     pub fn peek(&self) -> Option<&'a [u8]>
         ensures { MatchOption result (self.now ≡ [])

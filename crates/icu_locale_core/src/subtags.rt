@@ -385,7 +385,7 @@ impl Key {
         Self::try_from_bytes(text.as_bytes()).ok_or(ParseError::InvalidSubtag)
     }
 
-    /// Reads the bytes of it, in any case. It takes no memory.
+    /// Reads the bytes of a key in any case, if they are one. It takes no memory.
     #[inline(always)]
     pub fn try_from_bytes(text: &[u8]) -> Option<Self>
         ensures read { IfSome result (λ x. x ≡ lowercase text.now) }
@@ -445,7 +445,7 @@ impl Subtag {
         Self::try_from_bytes(text.as_bytes()).ok_or(ParseError::InvalidSubtag)
     }
 
-    /// Reads the bytes of it, in any case. It takes no memory.
+    /// Reads the bytes of a subtag in any case, if they are one. It takes no memory.
     #[inline(always)]
     pub fn try_from_bytes(text: &[u8]) -> Option<Self>
         ensures read { IfSome result (λ x. x ≡ lowercase text.now) }

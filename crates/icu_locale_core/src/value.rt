@@ -75,8 +75,8 @@ impl Value {
         }
     }
 
-    // The pieces.
-    pub(crate) fn as_slice(&self) -> &[Subtag]
+    /// The pieces. It takes no memory.
+    pub fn as_slice(&self) -> &[Subtag]
         ensures { result.now ≡ self.now }
     {
         self.pieces.as_slice()
@@ -144,7 +144,10 @@ impl fmt::Debug for Value {
 }
 
 // Each piece, with `-` before it.
-pub(crate) fn write_pieces<W: fmt::Write>(pieces: &[Subtag], f: &mut fmt::Formatter<W>) -> fmt::Result
+pub(crate) fn write_pieces<W: fmt::Write>(
+    pieces: &[Subtag],
+    f: &mut fmt::Formatter<W>,
+) -> fmt::Result
     ensures { WritesOnOk W.write_str_gives f.old result
         (flat_map (λ p. codes "-" ++ p) pieces.now) f.new }
 {

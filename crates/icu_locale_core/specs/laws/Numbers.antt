@@ -35,9 +35,9 @@ two_digits : (base a b d e : ℕ) → d < base → e < base → nat_cmp (a * bas
 two_digits base a b d e p q = ⊎_elim
     (λ (below : a < b). let far = outweighs base a b d below p in grind (arith, nat_tests))
     (λ (le : b ≤ a). ⊎_elim
-        (λ (above : b < a). let far = outweighs base b a e above q in grind (arith, nat_tests))
-        (λ (ge : a ≤ b). let same : a ≡ b = omega arith in rw same (grind (arith, nat_tests)))
-        (cases_lt b a))
+    (λ (above : b < a). let far = outweighs base b a e above q in grind (arith, nat_tests))
+    (λ (ge : a ≤ b). let same : a ≡ b = omega arith in rw same (grind (arith, nat_tests)))
+    (cases_lt b a))
     (cases_lt a b)
 
 -- so do numbers of as many digits
