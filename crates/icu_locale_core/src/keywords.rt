@@ -19,7 +19,8 @@ use std::marker::Model;
 
 /// The keywords of a locale (keyword of UTS #35, section 3.6.1): a finite map from keys to values.
 ///
-/// A contract sees the rows of the map, a key and its value each, the keys rising.
+/// A contract sees the rows of the map, a key and its value each, the keys rising. Only `set` and `try_clone` take
+/// memory.
 #[derive(Drop)]
 pub struct Keywords {
     map: BTreeMap<Key, Value>,
@@ -33,7 +34,7 @@ impl Model for Keywords {
 }
 
 impl Keywords {
-    /// The map without keys. It takes no memory.
+    /// The map without keys.
     pub fn new(alloc: Global) -> Self
         ensures { result ≡ [] }
     {
@@ -43,7 +44,7 @@ impl Keywords {
         }
     }
 
-    /// Whether there is no key. It takes no memory.
+    /// Whether there is no key.
     pub fn is_empty(&self) -> bool
         ensures { IsTrue result ↔ (self.now ≡ []) }
     {
@@ -66,7 +67,7 @@ impl Keywords {
         }
     }
 
-    /// The value at a key, if any. It takes no memory.
+    /// The value at a key, if any.
     pub fn get(&self, key: Key) -> Option<&Value>
         ensures { option_copied result ≡ value_at text_cmp self.now key }
     {
@@ -89,7 +90,7 @@ impl Keywords {
         Ok(self.map.insert(key, value)?)
     }
 
-    /// Takes a key out, and gives the value that was there, if any. It takes no memory.
+    /// Takes a key out, and gives the value that was there, if any.
     pub fn remove(&mut self, key: Key) -> Option<Value>
         ensures value { result ≡ value_at text_cmp self.old key }
         ensures rows { self.new ≡ without_key self.old key }

@@ -30,7 +30,8 @@ use crate::tiny::TinyText;
 use std::fmt;
 use std::marker::Model;
 
-/// A language: 2 or 3 letters, written in lower case (unicode_language_subtag of UTS #35, section 3.1).
+/// A language: 2 or 3 letters, written in lower case (unicode_language_subtag of UTS #35, section 3.1). No call takes
+/// memory.
 #[derive(Clone, Copy, Debug, PartialEq, Eq, PartialOrd, Ord, Hash)]
 pub struct Language(pub(crate) TinyText<4>);
 
@@ -45,7 +46,7 @@ impl Model for Language {
 }
 
 impl Language {
-    /// Reads a language in any case. It takes no memory.
+    /// Reads a language in any case.
     ///
     /// # Errors
     ///
@@ -80,7 +81,7 @@ impl Language {
         }
     }
 
-    /// The text in its written case. It takes no memory.
+    /// The text in its written case.
     pub fn as_str(&self) -> &str
         ensures text { result.now ≡ self.now }
         ensures known { IsLanguage self.now }
@@ -104,7 +105,7 @@ impl Language {
     /// The language `und`, which stands for none that is known.
     pub const UNKNOWN: Language = Language(TinyText { bytes: *b"und\0" });
 
-    /// Whether the language is `und`. It takes no memory.
+    /// Whether the language is `und`.
     pub fn is_unknown(&self) -> bool
         ensures { IsTrue result ↔ (self.now ≡ und) }
     {
@@ -123,7 +124,8 @@ impl fmt::Display for Language {
     }
 }
 
-/// A script: 4 letters, written with the first in upper case (unicode_script_subtag of UTS #35, section 3.1).
+/// A script: 4 letters, written with the first in upper case (unicode_script_subtag of UTS #35, section 3.1). No call
+/// takes memory.
 #[derive(Clone, Copy, Debug, PartialEq, Eq, PartialOrd, Ord, Hash)]
 pub struct Script(pub(crate) TinyText<4>);
 
@@ -138,7 +140,7 @@ impl Model for Script {
 }
 
 impl Script {
-    /// Reads a script in any case. It takes no memory.
+    /// Reads a script in any case.
     ///
     /// # Errors
     ///
@@ -170,7 +172,7 @@ impl Script {
         }
     }
 
-    /// The text in its written case. It takes no memory.
+    /// The text in its written case.
     pub fn as_str(&self) -> &str
         ensures text { result.now ≡ self.now }
         ensures known { IsScript self.now }
@@ -194,7 +196,7 @@ impl Script {
     /// The script `Zzzz`, which stands for none that is known.
     pub const UNKNOWN: Script = Script(TinyText { bytes: *b"Zzzz" });
 
-    /// Whether the script is `Zzzz`. It takes no memory.
+    /// Whether the script is `Zzzz`.
     pub fn is_unknown(&self) -> bool
         ensures { IsTrue result ↔ (self.now ≡ unknown_script) }
     {
@@ -210,7 +212,8 @@ impl fmt::Display for Script {
     }
 }
 
-/// A region: 2 letters or 3 digits, written in upper case (unicode_region_subtag of UTS #35, section 3.1).
+/// A region: 2 letters or 3 digits, written in upper case (unicode_region_subtag of UTS #35, section 3.1). No call takes
+/// memory.
 #[derive(Clone, Copy, Debug, PartialEq, Eq, PartialOrd, Ord, Hash)]
 pub struct Region(pub(crate) TinyText<4>);
 
@@ -225,7 +228,7 @@ impl Model for Region {
 }
 
 impl Region {
-    /// Reads a region in any case. It takes no memory.
+    /// Reads a region in any case.
     ///
     /// # Errors
     ///
@@ -256,7 +259,7 @@ impl Region {
         }
     }
 
-    /// The text in its written case. It takes no memory.
+    /// The text in its written case.
     pub fn as_str(&self) -> &str
         ensures text { result.now ≡ self.now }
         ensures known { IsRegion self.now }
@@ -277,7 +280,7 @@ impl Region {
         at + 1 + self.0.two_or_three()
     }
 
-    /// Whether the region is one of letters, and not of digits. It takes no memory.
+    /// Whether the region is one of letters, and not of digits.
     pub fn is_alphabetic(&self) -> bool
         ensures { result ≡ is_alphabetic self.now }
     {
@@ -287,7 +290,7 @@ impl Region {
     /// The region `ZZ`, which stands for none that is known.
     pub const UNKNOWN: Region = Region(TinyText { bytes: *b"ZZ\0\0" });
 
-    /// Whether the region is `ZZ`. It takes no memory.
+    /// Whether the region is `ZZ`.
     pub fn is_unknown(&self) -> bool
         ensures { IsTrue result ↔ (self.now ≡ unknown_region) }
     {
@@ -303,7 +306,8 @@ impl fmt::Display for Region {
     }
 }
 
-/// A variant: 5 to 8 letters or digits, or a digit and 3 of them, written in lower case (unicode_variant_subtag of UTS #35, section 3.1).
+/// A variant: 5 to 8 letters or digits, or a digit and 3 of them, written in lower case (unicode_variant_subtag of UTS
+/// #35, section 3.1). No call takes memory.
 #[derive(Clone, Copy, Debug, PartialEq, Eq, PartialOrd, Ord, Hash)]
 pub struct Variant(pub(crate) TinyText<8>);
 
@@ -318,7 +322,7 @@ impl Model for Variant {
 }
 
 impl Variant {
-    /// Reads a variant in any case. It takes no memory.
+    /// Reads a variant in any case.
     ///
     /// # Errors
     ///
@@ -340,7 +344,7 @@ impl Variant {
         Some(Variant(TinyText::read(Class::Variant, text)?))
     }
 
-    /// The text in its written case. It takes no memory.
+    /// The text in its written case.
     pub fn as_str(&self) -> &str
         ensures text { result.now ≡ self.now }
         ensures known { IsVariant self.now }
@@ -357,7 +361,8 @@ impl fmt::Display for Variant {
     }
 }
 
-/// A key of a keyword: a letter or digit and then a letter, written in lower case (key of UTS #35, section 3.6.1).
+/// A key of a keyword: a letter or digit and then a letter, written in lower case (key of UTS #35, section 3.6.1). No
+/// call takes memory.
 #[derive(Clone, Copy, Debug, PartialEq, Eq, PartialOrd, Ord, Hash)]
 pub struct Key(TinyText<2>);
 
@@ -372,7 +377,7 @@ impl Model for Key {
 }
 
 impl Key {
-    /// Reads a key in any case. It takes no memory.
+    /// Reads a key in any case.
     ///
     /// # Errors
     ///
@@ -385,7 +390,7 @@ impl Key {
         Self::try_from_bytes(text.as_bytes()).ok_or(ParseError::InvalidSubtag)
     }
 
-    /// Reads the bytes of a key in any case, if they are one. It takes no memory.
+    /// Reads the bytes of a key in any case, if they are one.
     #[inline(always)]
     pub fn try_from_bytes(text: &[u8]) -> Option<Self>
         ensures read { IfSome result (λ x. x ≡ lowercase text.now) }
@@ -394,7 +399,7 @@ impl Key {
         Some(Key(TinyText::read(Class::Key, text)?))
     }
 
-    /// The text in its written case. It takes no memory.
+    /// The text in its written case.
     pub fn as_str(&self) -> &str
         ensures text { result.now ≡ self.now }
         ensures known { IsKey self.now }
@@ -417,7 +422,8 @@ impl fmt::Display for Key {
     }
 }
 
-/// One piece of a value: 3 to 8 letters or digits, written in lower case (type of UTS #35, section 3.6.1).
+/// One piece of a value: 3 to 8 letters or digits, written in lower case (type of UTS #35, section 3.6.1). No call takes
+/// memory.
 #[derive(Clone, Copy, Debug, PartialEq, Eq, PartialOrd, Ord, Hash)]
 pub struct Subtag(pub(crate) TinyText<8>);
 
@@ -432,7 +438,7 @@ impl Model for Subtag {
 }
 
 impl Subtag {
-    /// Reads a subtag in any case. It takes no memory.
+    /// Reads a subtag in any case.
     ///
     /// # Errors
     ///
@@ -445,7 +451,7 @@ impl Subtag {
         Self::try_from_bytes(text.as_bytes()).ok_or(ParseError::InvalidSubtag)
     }
 
-    /// Reads the bytes of a subtag in any case, if they are one. It takes no memory.
+    /// Reads the bytes of a subtag in any case, if they are one.
     #[inline(always)]
     pub fn try_from_bytes(text: &[u8]) -> Option<Self>
         ensures read { IfSome result (λ x. x ≡ lowercase text.now) }
@@ -454,7 +460,7 @@ impl Subtag {
         Some(Subtag(TinyText::read(Class::Subtag, text)?))
     }
 
-    /// The text in its written case. It takes no memory.
+    /// The text in its written case.
     pub fn as_str(&self) -> &str
         ensures text { result.now ≡ self.now }
         ensures known { IsSubtag self.now }

@@ -24,7 +24,7 @@ use std::marker::Model;
 
 /// The variants of an identifier, each once and in no order (unicode_variant_subtag of UTS #35, section 3.1).
 ///
-/// They stand in a sorted list, so that a look-up is a binary search.
+/// They stand in a sorted list, so that a look-up is a binary search. Only `try_replaced` and `try_clone` take memory.
 #[derive(Drop)]
 pub struct Variants {
     items: Vec<Variant>,
@@ -41,7 +41,7 @@ impl Model for Variants {
 }
 
 impl Variants {
-    /// The set without variants. It takes no memory.
+    /// The set without variants.
     pub fn new(alloc: Global) -> Self
         ensures { result ≡ empty }
     {
@@ -61,28 +61,28 @@ impl Variants {
         Ok(Variants { items: list })
     }
 
-    /// How many variants there are. It takes no memory.
+    /// How many variants there are.
     pub fn len(&self) -> usize
         ensures { result ≡ len self.now }
     {
         self.as_slice().len()
     }
 
-    /// Whether there are none. It takes no memory.
+    /// Whether there are none.
     pub fn is_empty(&self) -> bool
         ensures { IsTrue result ↔ (self.now ≡ empty) }
     {
         self.as_slice().is_empty()
     }
 
-    /// Whether the variant is one of them. It takes no memory.
+    /// Whether the variant is one of them.
     pub fn contains(&self, variant: &Variant) -> bool
         ensures { result ≡ contains self.now variant.now }
     {
         self.as_slice().binary_search(variant).is_ok()
     }
 
-    /// The variants in rising order. It takes no memory.
+    /// The variants in rising order.
     pub fn iter(&self) -> VariantsIter<'_>
         ensures { result ≡ rising self.now }
     {
@@ -98,7 +98,7 @@ impl Variants {
         let _ = &self.items;
     }
 
-    /// Whether every one of them is one of the others. It takes no memory.
+    /// Whether every one of them is one of the others.
     pub fn is_subset(&self, others: &Variants) -> bool
         ensures { result ≡ is_subset self.now others.now }
     {

@@ -1,4 +1,4 @@
 mod Bounds
 mod Requests
-mod SortedMaps
+mod Spans
 mod StringSets

@@ -1,6 +1,7 @@
 pub mod Exemplars
 pub mod InversionList
 pub mod Names
+pub mod Places
 pub mod Provider
 pub mod Requests
 pub mod SortedMaps

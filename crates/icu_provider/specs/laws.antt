@@ -1,2 +1,3 @@
 -- Facts about the definitions, with their proofs: what crates above may cite.
 pub mod InversionLists
+pub mod SortedMaps

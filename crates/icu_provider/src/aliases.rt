@@ -18,7 +18,7 @@ pub struct StrStrPair(pub String, pub String);
 pub struct LanguageStrStrPair(pub Language, pub String, pub String);
 
 /// The rules of canonicalization (UTS #35 Part 1, Annex C). Texts are of any content: who reads them skips those that
-/// cannot be read.
+/// cannot be read. Only a call that puts a row takes memory.
 #[derive(Debug)]
 pub struct Aliases {
     /// Rules with variants, asked in order: a language, a text of variants and a replacement text.
@@ -64,7 +64,7 @@ impl Drop for Aliases {
 }
 
 impl Aliases {
-    /// A table without rows. It takes no memory.
+    /// A table without rows.
     pub fn new(alloc: Global) -> Self
         ensures { result ≡ record {
           language_variants = [];
@@ -109,7 +109,7 @@ impl Aliases {
         self.language_variants.push(row)
     }
 
-    /// The rules of `language_variants` in order. It takes no memory.
+    /// The rules of `language_variants` in order.
     pub fn language_variants(&self) -> &[LanguageStrStrPair]
         ensures { result.now ≡ self.now.language_variants }
     {
@@ -128,7 +128,7 @@ impl Aliases {
         self.language.push(row)
     }
 
-    /// The rules of `language` in order. It takes no memory.
+    /// The rules of `language` in order.
     pub fn language(&self) -> &[StrStrPair]
         ensures { result.now ≡ self.now.language }
     {
@@ -148,14 +148,14 @@ impl Aliases {
         self.sgn_region.insert(region, value)
     }
 
-    /// The language of a sign language's region, if there is a row. It takes no memory.
+    /// The language of a sign language's region, if there is a row.
     pub fn get_sgn_region(&self, region: Region) -> Option<Language>
         ensures { result ≡ value_at text_cmp self.now.sgn_region region }
     {
-        self.sgn_region.get(&region).copied()
+        self.sgn_region.get_numbered(&region).copied()
     }
 
-    /// A walk over the rows of `sgn_region`, rising by key. It takes no memory.
+    /// A walk over the rows of `sgn_region`, rising by key.
     pub fn iter_sgn_region(&self) -> Rows<'_, Region, Language>
         ensures rows { result ≡ self.now.sgn_region }
         ensures sorted { IsSortedMap text_cmp self.now.sgn_region }
@@ -181,14 +181,14 @@ impl Aliases {
         self.language_len2.insert(language, value)
     }
 
-    /// The replacement text of a language of two letters, if there is a row. It takes no memory.
+    /// The replacement text of a language of two letters, if there is a row.
     pub fn get_language_len2(&self, language: Language) -> Option<&str>
         ensures { option_copied result ≡ text_at self.now.language_len2 language }
     {
-        Some(self.language_len2.get(&language)?.as_str())
+        Some(self.language_len2.get_numbered(&language)?.as_str())
     }
 
-    /// A walk over the rows of `language_len2`, rising by key. It takes no memory.
+    /// A walk over the rows of `language_len2`, rising by key.
     pub fn iter_language_len2(&self) -> Rows<'_, Language, String>
         ensures rows { result ≡ self.now.language_len2 }
         ensures sorted { IsSortedMap text_cmp self.now.language_len2 }
@@ -214,14 +214,14 @@ impl Aliases {
         self.language_len3.insert(language, value)
     }
 
-    /// The replacement text of a language of three letters, if there is a row. It takes no memory.
+    /// The replacement text of a language of three letters, if there is a row.
     pub fn get_language_len3(&self, language: Language) -> Option<&str>
         ensures { option_copied result ≡ text_at self.now.language_len3 language }
     {
-        Some(self.language_len3.get(&language)?.as_str())
+        Some(self.language_len3.get_numbered(&language)?.as_str())
     }
 
-    /// A walk over the rows of `language_len3`, rising by key. It takes no memory.
+    /// A walk over the rows of `language_len3`, rising by key.
     pub fn iter_language_len3(&self) -> Rows<'_, Language, String>
         ensures rows { result ≡ self.now.language_len3 }
         ensures sorted { IsSortedMap text_cmp self.now.language_len3 }
@@ -242,14 +242,14 @@ impl Aliases {
         self.script.insert(script, value)
     }
 
-    /// The script that replaces a script, if there is a row. It takes no memory.
+    /// The script that replaces a script, if there is a row.
     pub fn get_script(&self, script: Script) -> Option<Script>
         ensures { result ≡ value_at text_cmp self.now.script script }
     {
-        self.script.get(&script).copied()
+        self.script.get_numbered(&script).copied()
     }
 
-    /// A walk over the rows of `script`, rising by key. It takes no memory.
+    /// A walk over the rows of `script`, rising by key.
     pub fn iter_script(&self) -> Rows<'_, Script, Script>
         ensures rows { result ≡ self.now.script }
         ensures sorted { IsSortedMap text_cmp self.now.script }
@@ -271,14 +271,14 @@ impl Aliases {
         self.region_alpha.insert(region, value)
     }
 
-    /// The region that replaces a region of letters, if there is a row. It takes no memory.
+    /// The region that replaces a region of letters, if there is a row.
     pub fn get_region_alpha(&self, region: Region) -> Option<Region>
         ensures { result ≡ value_at text_cmp self.now.region_alpha region }
     {
-        self.region_alpha.get(&region).copied()
+        self.region_alpha.get_numbered(&region).copied()
     }
 
-    /// A walk over the rows of `region_alpha`, rising by key. It takes no memory.
+    /// A walk over the rows of `region_alpha`, rising by key.
     pub fn iter_region_alpha(&self) -> Rows<'_, Region, Region>
         ensures rows { result ≡ self.now.region_alpha }
         ensures sorted { IsSortedMap text_cmp self.now.region_alpha }
@@ -300,14 +300,14 @@ impl Aliases {
         self.region_num.insert(region, value)
     }
 
-    /// The region that replaces a region of digits, if there is a row. It takes no memory.
+    /// The region that replaces a region of digits, if there is a row.
     pub fn get_region_num(&self, region: Region) -> Option<Region>
         ensures { result ≡ value_at text_cmp self.now.region_num region }
     {
-        self.region_num.get(&region).copied()
+        self.region_num.get_numbered(&region).copied()
     }
 
-    /// A walk over the rows of `region_num`, rising by key. It takes no memory.
+    /// A walk over the rows of `region_num`, rising by key.
     pub fn iter_region_num(&self) -> Rows<'_, Region, Region>
         ensures rows { result ≡ self.now.region_num }
         ensures sorted { IsSortedMap text_cmp self.now.region_num }
@@ -333,14 +333,14 @@ impl Aliases {
         self.complex_region.insert(region, value)
     }
 
-    /// The regions of which one replaces a region, if there is a row. It takes no memory.
+    /// The regions of which one replaces a region, if there is a row.
     pub fn get_complex_region(&self, region: Region) -> Option<&[Region]>
         ensures { option_copied result ≡ regions_at self.now.complex_region region }
     {
-        Some(self.complex_region.get(&region)?.as_slice())
+        Some(self.complex_region.get_numbered(&region)?.as_slice())
     }
 
-    /// A walk over the rows of `complex_region`, rising by key. It takes no memory.
+    /// A walk over the rows of `complex_region`, rising by key.
     pub fn iter_complex_region(&self) -> Rows<'_, Region, Vec<Region>>
         ensures rows { result ≡ self.now.complex_region }
         ensures sorted { IsSortedMap text_cmp self.now.complex_region }
@@ -361,14 +361,14 @@ impl Aliases {
         self.variant.insert(variant, value)
     }
 
-    /// The variant that replaces a variant, if there is a row. It takes no memory.
+    /// The variant that replaces a variant, if there is a row.
     pub fn get_variant(&self, variant: Variant) -> Option<Variant>
         ensures { result ≡ value_at text_cmp self.now.variant variant }
     {
-        self.variant.get(&variant).copied()
+        self.variant.get_numbered(&variant).copied()
     }
 
-    /// A walk over the rows of `variant`, rising by key. It takes no memory.
+    /// A walk over the rows of `variant`, rising by key.
     pub fn iter_variant(&self) -> Rows<'_, Variant, Variant>
         ensures rows { result ≡ self.now.variant }
         ensures sorted { IsSortedMap text_cmp self.now.variant }
@@ -390,14 +390,14 @@ impl Aliases {
         self.subdivision.insert(subtag, value)
     }
 
-    /// The value text that replaces a subdivision, if there is a row. It takes no memory.
+    /// The value text that replaces a subdivision, if there is a row.
     pub fn get_subdivision(&self, subtag: Subtag) -> Option<&str>
         ensures { option_copied result ≡ text_at self.now.subdivision subtag }
     {
-        Some(self.subdivision.get(&subtag)?.as_str())
+        Some(self.subdivision.get_numbered(&subtag)?.as_str())
     }
 
-    /// A walk over the rows of `subdivision`, rising by key. It takes no memory.
+    /// A walk over the rows of `subdivision`, rising by key.
     pub fn iter_subdivision(&self) -> Rows<'_, Subtag, String>
         ensures rows { result ≡ self.now.subdivision }
         ensures sorted { IsSortedMap text_cmp self.now.subdivision }

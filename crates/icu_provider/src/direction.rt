@@ -8,7 +8,7 @@ use icu_locale_core::Script;
 use std::alloc::Global;
 
 /// Two sets of scripts: those that run from right to left, and those that run from left to right. They may share
-/// scripts.
+/// scripts. Only a call that puts one takes memory.
 #[derive(Debug)]
 pub struct ScriptDirection {
     /// The scripts from right to left.
@@ -24,7 +24,7 @@ impl Drop for ScriptDirection {
 }
 
 impl ScriptDirection {
-    /// No script in either set. It takes no memory.
+    /// No script in either set.
     pub fn new(alloc: Global) -> Self
         ensures { result ≡ record { rtl = []; ltr = [] } }
     {
@@ -58,17 +58,17 @@ impl ScriptDirection {
         self.ltr.insert(script, ())
     }
 
-    /// Whether a script is one of those from right to left. It takes no memory.
+    /// Whether a script is one of those from right to left.
     pub fn is_rtl(&self, script: Script) -> bool
         ensures { result ≡ is_listed self.now.rtl script }
     {
-        self.rtl.contains_key(&script)
+        self.rtl.get_numbered(&script).is_some()
     }
 
-    /// Whether a script is one of those from left to right. It takes no memory.
+    /// Whether a script is one of those from left to right.
     pub fn is_ltr(&self, script: Script) -> bool
         ensures { result ≡ is_listed self.now.ltr script }
     {
-        self.ltr.contains_key(&script)
+        self.ltr.get_numbered(&script).is_some()
     }
 }

@@ -1,12 +1,13 @@
 //! A map in a sorted list: look-ups by binary search, and walks in the keys' order.
-ghost use Rattle.std.specs.Prelude.{◌≡◌, ◌==◌, [], length, Some, MatchResult, is_some, option_copied, List, ⊤};
+ghost use Rattle.std.specs.Prelude.{◌≡◌, ◌==◌, ◌<◌, ◌≤◌, ◌^◌, [], length, Some, MatchResult, is_some, option_copied, List, ⊤};
 ghost use Rattle.std.specs.Iterator.{YieldsFirstBy, item_count};
 ghost use Rattle.std.specs.Map.Iter.{deref_pair};
 ghost use Rattle.icu_locale_core.specs.Maps.{value_at};
 ghost use Rattle.icu_provider.specs.SortedMaps.{Inserts, IsFoundEach, IsSortedMap};
-ghost use Rattle.icu_provider.specs.inner.Places.{IsAt, IsGapFor};
+ghost use Rattle.icu_provider.specs.Places.{IsAt, IsGapFor, IsNearest};
 
 use crate::DataError;
+use icu_locale_core::Numbered;
 use std::alloc::{AllocError, Global};
 use std::cmp::{Ord, Ordering};
 use std::marker::Model;
@@ -126,6 +127,49 @@ impl<K: Ord, V> SortedMap<K, V> {
             { row.0.cmp(key) },
         )
     }
+}
+
+impl<K: Numbered, V> SortedMap<K, V> {
+    /// The value at the key, as `get` gives it. The search compares numbers, and its steps have no branch.
+    #[inline(always)]
+    pub fn get_numbered(&self, key: &K) -> Option<&V>
+        ensures { option_copied result ≡ value_at K.cmp self.now key.now }
+    {
+        let row = self.entries.get(nearest(&self.entries, key))?;
+        if row.0.number() == key.number() {
+            Some(&row.1)
+        } else {
+            None
+        }
+    }
+}
+
+// The place of the last row that is not above a key, or the first place.
+#[inline(always)]
+fn nearest<K: Numbered, V>(rows: &[(K, V)], key: &K) -> usize
+    requires { IsSortedMap K.cmp rows.now }
+    ensures { IsNearest K.cmp rows.now key.now result }
+{
+    let wanted = key.number();
+    let mut place = 0;
+    let mut size = rows.len();
+    while size > 1 {
+        let half = size / 2;
+        place += half * not_above(rows[place + half].0.number(), wanted);
+        size -= half;
+    }
+    place
+}
+
+// 1 where a number is not above another, and 0 else: the top bit of their difference tells, with no branch.
+#[inline(always)]
+fn not_above(number: u64, other: u64) -> usize
+    requires number { number < 2 ^ 63 }
+    requires other { other < 2 ^ 63 }
+    ensures not_above { number ≤ other → result ≡ 1 }
+    ensures above { other < number → result ≡ 0 }
+{
+    ((other + (1 << 63) - number) >> 63) as usize
 }
 
 /// The rows of a sorted map that a walk has not come to yet, in the keys' order. It takes no memory.

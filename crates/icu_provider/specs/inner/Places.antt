@@ -1,8 +1,8 @@
--- Where a character stands among bounds, and a key in a map: what only the searches cite.
-use Rattle.std.specs.Prelude.{ℕ, ◌≤◌, ◌<◌, List, length, ◌≡◌}
-use Rattle.std.specs.List.{AllWithin, HoldsAt}
+-- Where a character stands among bounds, and a key among rows.
+use Rattle.std.specs.Prelude.{◌≡◌, ℕ, ◌+◌, ◌≤◌, ◌<◌, List, length}
+use Rattle.std.specs.List.{AllWithin}
 use Rattle.std.specs.declared.cmp.Ordering.{Ordering}
-use Rattle.std.specs.declared.cmp.Ordering.TheVariants.{Less, Equal, Greater}
+use Rattle.std.specs.declared.cmp.Ordering.TheVariants.{Less, Greater}
 
 -- this many bounds are not above the character, and all others are
 pub record IsPlace (character : ℕ) (bounds : List ℕ) (place : ℕ) : Type 0 where
@@ -10,15 +10,9 @@ pub record IsPlace (character : ℕ) (bounds : List ℕ) (place : ℕ) : Type 0 
   pub passed : AllWithin (λ bound. bound ≤ character) bounds 0 place
   pub ahead : AllWithin (λ bound. character < bound) bounds place (length bounds)
 
--- the row at this place has the key
-pub record IsAt {K V : Type 0} (compare : K → K → Ordering) (rows : List (K × V)) (key : K) (at : ℕ)
-    : Type 0 where
-  pub in_range : at < length rows
-  pub has_key : HoldsAt (λ row. compare key row.0 ≡ Equal) rows at
-
--- the key would go to this place: the keys before it are below, and those from it on are above
-pub record IsGapFor {K V : Type 0} (compare : K → K → Ordering) (rows : List (K × V)) (key : K)
-    (at : ℕ) : Type 0 where
-  pub in_range : at ≤ length rows
-  pub above_before : AllWithin (λ row. compare key row.0 ≡ Greater) rows 0 at
-  pub below_after : AllWithin (λ row. compare key row.0 ≡ Less) rows at (length rows)
+-- the keys before these rows are below, and those behind them are above
+pub record IsSpan {K V : Type 0} (compare : K → K → Ordering) (rows : List (K × V)) (key : K)
+    (place size : ℕ) : Type 0 where
+  pub within : place + size ≤ length rows
+  pub above_before : AllWithin (λ row. compare key row.0 ≡ Greater) rows 0 place
+  pub below_behind : AllWithin (λ row. compare key row.0 ≡ Less) rows (place + size) (length rows)

@@ -1,9 +1,10 @@
 -- What look-ups find in rows whose keys rise, what a search finds, and what an edit at that place does.
-use Rattle.std.proofs.Common.{◌≡◌, List, [], ◌∷◌, slice_get, Some, refl, sym, ap, ◌∙◌, subst, ◌≢◌, false, if◌then◌else◌, ℕ, zero, suc, ◌+◌, ◌<◌, length, get_or, set, None, Result, Ok, Err, MatchResult, arith}
+use Rattle.std.proofs.Common.{◌≡◌, List, [], ◌∷◌, slice_get, Some, refl, sym, ap, ◌∙◌, subst, ◌≢◌, false, if◌then◌else◌, ℕ, zero, suc, ◌+◌, ◌<◌, length, get_or, set, None, Result, Ok, Err, MatchResult, ⊎_elim, arith}
 use Rattle.std.specs.declared.cmp.Ordering.{Ordering}
 use Rattle.std.specs.declared.cmp.Ordering.TheVariants.{Less, Equal, Greater}
 use Rattle.std.specs.Ordering.{match_ordering, ordering_reverse, is_eq, is_lt}
-use Rattle.std.specs.List.{All, AllByRecursion, Contains, AllWithin, insert}
+use Rattle.std.specs.List.{All, AllByRecursion, Contains, AllWithin, HoldsAt, insert}
+use Rattle.std.proofs.Math.Nat.{eq-or-lt_of_le}
 use Rattle.std.specs.List.Sorted.{IsStrictlySortedBy, IsSearchInRange, IsBinarySearchResult}
 use Rattle.std.specs.Map.{keys_of, lookup}
 use Rattle.std.specs.BTreeMap.{is_at, insert_entry}
@@ -14,15 +15,15 @@ use Rattle.std.proofs.lemmas.Option.{slice_get-get_or}
 use Rattle.std.proofs.lemmas.Map.Keys.{IsDistinct-from_sorted, sorted_tail, Less-from_sorted}
 use Rattle.std.proofs.lemmas.Map.Entries.{lookup_from_place, length-keys_of}
 use Rattle.std.proofs.lemmas.Map.Views.{All-keys-insert_entry}
-use Rattle.std.proofs.lemmas.List.{get_or-map}
+use Rattle.std.proofs.lemmas.List.{get_or-map, get_or_default}
 use Rattle.std.proofs.lemmas.List.Sorted.{searchable_from_sorted}
 use Rattle.icu_provider.specs.SortedMaps.{IsSortedMap, Holds}
 use Rattle.icu_locale_core.specs.Maps.{SetsOnly, value_at}
-use Rattle.icu_provider.specs.inner.Places.{IsAt, IsGapFor}
+use Rattle.icu_provider.specs.Places.{IsAt, IsGapFor, IsNearest}
 use Rattle.icu_locale_core.specs.laws.Maps.{SetsOnly-insert_entry, found_at_key, stands_where_found}
 
 -- a fact holds where it holds at each answer of a comparison
-by_answer : {P : Type 0} (answer : Ordering) → (answer ≡ Less → P) → (answer ≡ Equal → P) → (answer ≡ Greater → P) → P
+pub by_answer : {P : Type 0} (answer : Ordering) → (answer ≡ Less → P) → (answer ≡ Equal → P) → (answer ≡ Greater → P) → P
 by_answer Less less equal greater = less refl
 by_answer Equal less equal greater = equal refl
 by_answer Greater less equal greater = greater refl
@@ -70,7 +71,7 @@ not_tied Greater apart = refl
 
 module _ {K V : Type 0} {compare : K → K → Ordering} (total : IsTotalOrder compare) where
   -- each row's key is below that of a later row
-  keys_rise : (rows : List (K × V)) (i j : ℕ) (default : K × V) → IsSortedMap compare rows → i < j → j < length rows → compare (get_or rows i default).0 (get_or rows j default).0 ≡ Less
+  pub keys_rise : (rows : List (K × V)) (i j : ℕ) (default : K × V) → IsSortedMap compare rows → i < j → j < length rows → compare (get_or rows i default).0 (get_or rows j default).0 ≡ Less
   keys_rise rows i j default sorted lt in_range =
       let at = λ (k : ℕ) (h : k < length rows). get_or-map (λ (row : K × V). row.0) rows k default default.0 h in
       rw (← at i (omega arith), ← at j in_range) (Less-from_sorted compare (keys_of rows) i j default.0 sorted lt (omega (arith, length-keys_of rows)))
@@ -124,7 +125,7 @@ module _ {K V : Type 0} {compare : K → K → Ordering} (total : IsTotalOrder c
   lookup_in_gap (row ∷ rows) key (suc at) gap = grind (arith, gap.above_before 0 row (omega arith) (omega arith), lookup_in_gap rows key at (gap_tail row rows key at gap))
 
   -- writing over the key's row inserts the value
-  insert_entry-at : (rows : List (K × V)) (key : K) (value : V) (at : ℕ) (row : K × V) → IsSortedMap compare rows → IsAt compare rows key at → row ≡ get_or rows at row → set rows at (row.0, value) ≡ insert_entry compare rows key value
+  pub insert_entry-at : (rows : List (K × V)) (key : K) (value : V) (at : ℕ) (row : K × V) → IsSortedMap compare rows → IsAt compare rows key at → row ≡ get_or rows at row → set rows at (row.0, value) ≡ insert_entry compare rows key value
   insert_entry-at [] key value at row sorted is here = absurd (omega (arith, is.in_range))
   insert_entry-at (first ∷ rows) key value zero row sorted is here = grind (arith, insert_entry-step compare key value first rows Equal (is.has_key row))
   insert_entry-at (first ∷ rows) key value (suc at) row sorted is here =
@@ -133,7 +134,7 @@ module _ {K V : Type 0} {compare : K → K → Ordering} (total : IsTotalOrder c
       ap (λ rest. first ∷ rest) (insert_entry-at rows key value at row (sorted_tail compare _ _ sorted) later here) ∙ sym step
 
   -- a new row in the gap inserts it
-  insert_entry-in_gap : (rows : List (K × V)) (key : K) (value : V) (at : ℕ) → IsGapFor compare rows key at → insert rows at (key, value) ≡ insert_entry compare rows key value
+  pub insert_entry-in_gap : (rows : List (K × V)) (key : K) (value : V) (at : ℕ) → IsGapFor compare rows key at → insert rows at (key, value) ≡ insert_entry compare rows key value
   insert_entry-in_gap [] key value zero gap = refl
   insert_entry-in_gap [] key value (suc at) gap = absurd (omega (arith, gap.in_range))
   insert_entry-in_gap (row ∷ rows) key value zero gap = sym (insert_entry-step compare key value row rows Less (gap.below_after 0 row (omega arith) (omega arith)))
@@ -142,7 +143,7 @@ module _ {K V : Type 0} {compare : K → K → Ordering} (total : IsTotalOrder c
       ap (λ rest. row ∷ rest) (insert_entry-in_gap rows key value at (gap_tail row rows key at gap)) ∙ sym step
 
   -- rows with the value inserted stay in order, and find it
-  inserts_from_rows : (old new : List (K × V)) (key : K) (value : V) → IsSortedMap compare old → new ≡ insert_entry compare old key value → Holds compare old new key value
+  pub inserts_from_rows : (old new : List (K × V)) (key : K) (value : V) → IsSortedMap compare old → new ≡ insert_entry compare old key value → Holds compare old new key value
   inserts_from_rows old new key value sorted rows =
       let sets : SetsOnly compare old new key (Some value) = λ q. rw rows (SetsOnly-insert_entry total old key value q) in
       let found : value_at compare new key ≡ Some value = rw rows (found_at_key total old key value) in
@@ -162,3 +163,52 @@ module _ {K V : Type 0} {compare : K → K → Ordering} (total : IsTotalOrder c
   -- a new row in the gap
   pub inserts_in_gap : (rows : List (K × V)) (key : K) (value : V) (at : ℕ) → IsSortedMap compare rows → IsGapFor compare rows key at → Holds compare rows (insert rows at (key, value)) key value
   inserts_in_gap rows key value at sorted gap = inserts_from_rows rows _ key value sorted (insert_entry-in_gap rows key value at gap)
+
+module _ {K V : Type 0} {compare : K → K → Ordering} (total : IsTotalOrder compare) where
+  -- where a row is not above the key, those before it are below
+  pub below_before : (rows : List (K × V)) (key : K) (at : ℕ) → IsSortedMap compare rows → at < length rows → HoldsAt (λ row. compare key row.0 ≢ Less) rows at → AllWithin (λ row. compare key row.0 ≡ Greater) rows 0 at
+  below_before rows key at sorted in_range reached k d low high =
+      let rise = keys_rise total rows k at d sorted high in_range in
+      total.antisymm key (get_or rows k d).0
+      ∙ ap ordering_reverse (by_answer (compare key (get_or rows at d).0)
+      (λ less. absurd (reached d less))
+      (λ equal. alike_right total key (get_or rows at d).0 (get_or rows k d).0 equal ∙ rise)
+      (λ greater. total.trans (get_or rows k d).0 (get_or rows at d).0 key rise (total.antisymm (get_or rows at d).0 key ∙ ap ordering_reverse greater)))
+
+  -- where a row is above the key, those behind it are too
+  pub above_behind : (rows : List (K × V)) (key : K) (at : ℕ) → IsSortedMap compare rows → HoldsAt (λ row. compare key row.0 ≡ Less) rows at → AllWithin (λ row. compare key row.0 ≡ Less) rows at (length rows)
+  above_behind rows key at sorted above k d low high = ⊎_elim
+      (λ (same : at ≡ k). subst (λ n. compare key (get_or rows n d).0 ≡ Less) same (above d))
+      (λ (later : at < k). total.trans key (get_or rows at d).0 (get_or rows k d).0 (above d) (keys_rise total rows at k d sorted later high))
+      (eq-or-lt_of_le low)
+
+  -- a row that was read is the one at its place, whatever stands past the end
+  pub at_row : (P : K → Type 0) (rows : List (K × V)) (at : ℕ) (row : K × V) → at < length rows → row ≡ get_or rows at row → P row.0 → HoldsAt (λ row. P row.0) rows at
+  at_row P rows at row in_range here holds d = subst (λ (r : K × V). P r.0) (here ∙ get_or_default rows at row d in_range) holds
+
+  -- a look-up answers by the nearest row, if it has the key
+  pub lookup_nearest : (rows : List (K × V)) (key : K) (at : ℕ) (row : K × V) → IsSortedMap compare rows → at < length rows → row ≡ get_or rows at row → compare key row.0 ≡ Equal → lookup (is_at (compare key)) rows ≡ Some row.1
+  lookup_nearest rows key at row sorted in_range here equal =
+      let is : IsAt compare rows key at = record { in_range = in_range; has_key = at_row (λ k. compare key k ≡ Equal) rows at row in_range here equal } in
+      lookup_at total rows key at row sorted is ∙ ap (λ (r : K × V). Some r.1) (sym here)
+
+  -- and else finds nothing
+  pub lookup_apart : (rows : List (K × V)) (key : K) (at : ℕ) (row : K × V) → IsNearest compare rows key at → at < length rows → row ≡ get_or rows at row → compare key row.0 ≢ Equal → lookup (is_at (compare key)) rows ≡ None
+  lookup_apart rows key at row nearest in_range here apart = by_answer (compare key row.0)
+      (λ less. lookup_in_gap total rows key at (record {
+        in_range = omega (arith, in_range);
+        above_before = nearest.above_before;
+        below_after = λ k d low high. ⊎_elim
+            (λ (same : at ≡ k). subst (λ n. compare key (get_or rows n d).0 ≡ Less) same (at_row (λ k. compare key k ≡ Less) rows at row in_range here less d))
+            (λ (later : at < k). nearest.below_behind k d (omega arith) high)
+            (eq-or-lt_of_le low);
+      }))
+      (λ equal. absurd (apart equal))
+      (λ greater. lookup_in_gap total rows key (at + 1) (record {
+        in_range = omega (arith, in_range);
+        above_before = λ k d low high. ⊎_elim
+            (λ (same : k ≡ at). subst (λ n. compare key (get_or rows n d).0 ≡ Greater) (sym same) (at_row (λ k. compare key k ≡ Greater) rows at row in_range here greater d))
+            (λ (earlier : k < at). nearest.above_before k d low earlier)
+            (eq-or-lt_of_le (omega arith));
+        below_after = nearest.below_behind;
+      }))

@@ -9,6 +9,7 @@ use icu_locale_core::{Language, Region, Script};
 use std::alloc::Global;
 
 /// Further likely subtags (UTS #35, section 4.3), each used where the other two tables have no row with the same key.
+/// Only a call that puts a row takes memory.
 #[derive(Debug)]
 pub struct LikelySubtagsExtended {
     /// The script and the region of a language.
@@ -39,7 +40,7 @@ impl Drop for LikelySubtagsExtended {
 }
 
 impl LikelySubtagsExtended {
-    /// A table without rows. It takes no memory.
+    /// A table without rows.
     pub fn new(alloc: Global) -> Self
         ensures { result ≡ record {
           language = [];
@@ -78,14 +79,14 @@ impl LikelySubtagsExtended {
         self.language.insert(language, (script, region))
     }
 
-    /// The script and the region of a language, if there is a row. It takes no memory.
+    /// The script and the region of a language, if there is a row.
     pub fn get_language(&self, language: Language) -> Option<(Script, Region)>
         ensures { result ≡ value_at text_cmp self.now.language language }
     {
-        self.language.get(&language).copied()
+        self.language.get_numbered(&language).copied()
     }
 
-    /// A walk over the rows of `language`, rising by key. It takes no memory.
+    /// A walk over the rows of `language`, rising by key.
     pub fn iter_language(&self) -> Rows<'_, Language, (Script, Region)>
         ensures rows { result ≡ self.now.language }
         ensures sorted { IsSortedMap text_cmp self.now.language }
@@ -113,14 +114,16 @@ impl LikelySubtagsExtended {
         self.language_script.insert((language, script), region)
     }
 
-    /// The region of a language and a script, if there is a row. It takes no memory.
+    /// The region of a language and a script, if there is a row.
     pub fn get_language_script(&self, language: Language, script: Script) -> Option<Region>
         ensures { result ≡ value_at pair_cmp self.now.language_script (language, script) }
     {
-        self.language_script.get(&(language, script)).copied()
+        self.language_script
+            .get_numbered(&(language, script))
+            .copied()
     }
 
-    /// A walk over the rows of `language_script`, rising by key. It takes no memory.
+    /// A walk over the rows of `language_script`, rising by key.
     pub fn iter_language_script(&self) -> Rows<'_, (Language, Script), Region>
         ensures rows { result ≡ self.now.language_script }
         ensures sorted { IsSortedMap pair_cmp self.now.language_script }
@@ -148,14 +151,16 @@ impl LikelySubtagsExtended {
         self.language_region.insert((language, region), script)
     }
 
-    /// The script of a language and a region, if there is a row. It takes no memory.
+    /// The script of a language and a region, if there is a row.
     pub fn get_language_region(&self, language: Language, region: Region) -> Option<Script>
         ensures { result ≡ value_at pair_cmp self.now.language_region (language, region) }
     {
-        self.language_region.get(&(language, region)).copied()
+        self.language_region
+            .get_numbered(&(language, region))
+            .copied()
     }
 
-    /// A walk over the rows of `language_region`, rising by key. It takes no memory.
+    /// A walk over the rows of `language_region`, rising by key.
     pub fn iter_language_region(&self) -> Rows<'_, (Language, Region), Script>
         ensures rows { result ≡ self.now.language_region }
         ensures sorted { IsSortedMap pair_cmp self.now.language_region }
@@ -182,14 +187,14 @@ impl LikelySubtagsExtended {
         self.script_region.insert((script, region), language)
     }
 
-    /// The language of a script and a region, if there is a row. It takes no memory.
+    /// The language of a script and a region, if there is a row.
     pub fn get_script_region(&self, script: Script, region: Region) -> Option<Language>
         ensures { result ≡ value_at pair_cmp self.now.script_region (script, region) }
     {
-        self.script_region.get(&(script, region)).copied()
+        self.script_region.get_numbered(&(script, region)).copied()
     }
 
-    /// A walk over the rows of `script_region`, rising by key. It takes no memory.
+    /// A walk over the rows of `script_region`, rising by key.
     pub fn iter_script_region(&self) -> Rows<'_, (Script, Region), Language>
         ensures rows { result ≡ self.now.script_region }
         ensures sorted { IsSortedMap pair_cmp self.now.script_region }
@@ -216,14 +221,14 @@ impl LikelySubtagsExtended {
         self.script.insert(script, (language, region))
     }
 
-    /// The language and the region of a script, if there is a row. It takes no memory.
+    /// The language and the region of a script, if there is a row.
     pub fn get_script(&self, script: Script) -> Option<(Language, Region)>
         ensures { result ≡ value_at text_cmp self.now.script script }
     {
-        self.script.get(&script).copied()
+        self.script.get_numbered(&script).copied()
     }
 
-    /// A walk over the rows of `script`, rising by key. It takes no memory.
+    /// A walk over the rows of `script`, rising by key.
     pub fn iter_script(&self) -> Rows<'_, Script, (Language, Region)>
         ensures rows { result ≡ self.now.script }
         ensures sorted { IsSortedMap text_cmp self.now.script }
@@ -250,14 +255,14 @@ impl LikelySubtagsExtended {
         self.region.insert(region, (language, script))
     }
 
-    /// The language and the script of a region, if there is a row. It takes no memory.
+    /// The language and the script of a region, if there is a row.
     pub fn get_region(&self, region: Region) -> Option<(Language, Script)>
         ensures { result ≡ value_at text_cmp self.now.region region }
     {
-        self.region.get(&region).copied()
+        self.region.get_numbered(&region).copied()
     }
 
-    /// A walk over the rows of `region`, rising by key. It takes no memory.
+    /// A walk over the rows of `region`, rising by key.
     pub fn iter_region(&self) -> Rows<'_, Region, (Language, Script)>
         ensures rows { result ≡ self.now.region }
         ensures sorted { IsSortedMap text_cmp self.now.region }

@@ -8,7 +8,8 @@ use crate::{DataError, Rows, SortedMap};
 use icu_locale_core::{Language, Region, Script};
 use std::alloc::Global;
 
-/// Likely subtags by language (UTS #35, section 4.3), and those of `und`.
+/// Likely subtags by language (UTS #35, section 4.3), and those of `und`. Only a call that puts a row takes
+/// memory.
 #[derive(Debug)]
 pub struct LikelySubtagsForLanguage {
     /// The language, script and region of `und`, which also serves as a row for its script and its region.
@@ -33,7 +34,7 @@ impl Drop for LikelySubtagsForLanguage {
 }
 
 impl LikelySubtagsForLanguage {
-    /// A table without rows and with the triple of `und`. It takes no memory.
+    /// A table without rows and with the triple of `und`.
     pub fn new(alloc: Global, und: (Language, Script, Region)) -> Self
         ensures { result ≡ record {
           und = und;
@@ -50,7 +51,7 @@ impl LikelySubtagsForLanguage {
         }
     }
 
-    /// The triple of `und`. It takes no memory.
+    /// The triple of `und`.
     pub fn und(&self) -> (Language, Script, Region)
         ensures { result ≡ self.now.und }
     {
@@ -75,14 +76,14 @@ impl LikelySubtagsForLanguage {
         self.language.insert(language, (script, region))
     }
 
-    /// The script and the region of a language, if there is a row. It takes no memory.
+    /// The script and the region of a language, if there is a row.
     pub fn get_language(&self, language: Language) -> Option<(Script, Region)>
         ensures { result ≡ value_at text_cmp self.now.language language }
     {
-        self.language.get(&language).copied()
+        self.language.get_numbered(&language).copied()
     }
 
-    /// A walk over the rows of `language`, rising by key. It takes no memory.
+    /// A walk over the rows of `language`, rising by key.
     pub fn iter_language(&self) -> Rows<'_, Language, (Script, Region)>
         ensures rows { result ≡ self.now.language }
         ensures sorted { IsSortedMap text_cmp self.now.language }
@@ -110,14 +111,16 @@ impl LikelySubtagsForLanguage {
         self.language_script.insert((language, script), region)
     }
 
-    /// The region of a language and a script, if there is a row. It takes no memory.
+    /// The region of a language and a script, if there is a row.
     pub fn get_language_script(&self, language: Language, script: Script) -> Option<Region>
         ensures { result ≡ value_at pair_cmp self.now.language_script (language, script) }
     {
-        self.language_script.get(&(language, script)).copied()
+        self.language_script
+            .get_numbered(&(language, script))
+            .copied()
     }
 
-    /// A walk over the rows of `language_script`, rising by key. It takes no memory.
+    /// A walk over the rows of `language_script`, rising by key.
     pub fn iter_language_script(&self) -> Rows<'_, (Language, Script), Region>
         ensures rows { result ≡ self.now.language_script }
         ensures sorted { IsSortedMap pair_cmp self.now.language_script }
@@ -145,14 +148,16 @@ impl LikelySubtagsForLanguage {
         self.language_region.insert((language, region), script)
     }
 
-    /// The script of a language and a region, if there is a row. It takes no memory.
+    /// The script of a language and a region, if there is a row.
     pub fn get_language_region(&self, language: Language, region: Region) -> Option<Script>
         ensures { result ≡ value_at pair_cmp self.now.language_region (language, region) }
     {
-        self.language_region.get(&(language, region)).copied()
+        self.language_region
+            .get_numbered(&(language, region))
+            .copied()
     }
 
-    /// A walk over the rows of `language_region`, rising by key. It takes no memory.
+    /// A walk over the rows of `language_region`, rising by key.
     pub fn iter_language_region(&self) -> Rows<'_, (Language, Region), Script>
         ensures rows { result ≡ self.now.language_region }
         ensures sorted { IsSortedMap pair_cmp self.now.language_region }

@@ -9,6 +9,7 @@ use icu_locale_core::{Language, Region, Script};
 use std::alloc::Global;
 
 /// Likely subtags of identifiers whose language is not known, by script and region (UTS #35, section 4.3).
+/// Only a call that puts a row takes memory.
 #[derive(Debug)]
 pub struct LikelySubtagsForScriptRegion {
     /// The language of a script and a region.
@@ -30,7 +31,7 @@ impl Drop for LikelySubtagsForScriptRegion {
 }
 
 impl LikelySubtagsForScriptRegion {
-    /// A table without rows. It takes no memory.
+    /// A table without rows.
     pub fn new(alloc: Global) -> Self
         ensures { result ≡ record { script_region = []; script = []; region = [] } }
     {
@@ -59,14 +60,14 @@ impl LikelySubtagsForScriptRegion {
         self.script_region.insert((script, region), language)
     }
 
-    /// The language of a script and a region, if there is a row. It takes no memory.
+    /// The language of a script and a region, if there is a row.
     pub fn get_script_region(&self, script: Script, region: Region) -> Option<Language>
         ensures { result ≡ value_at pair_cmp self.now.script_region (script, region) }
     {
-        self.script_region.get(&(script, region)).copied()
+        self.script_region.get_numbered(&(script, region)).copied()
     }
 
-    /// A walk over the rows of `script_region`, rising by key. It takes no memory.
+    /// A walk over the rows of `script_region`, rising by key.
     pub fn iter_script_region(&self) -> Rows<'_, (Script, Region), Language>
         ensures rows { result ≡ self.now.script_region }
         ensures sorted { IsSortedMap pair_cmp self.now.script_region }
@@ -93,14 +94,14 @@ impl LikelySubtagsForScriptRegion {
         self.script.insert(script, (language, region))
     }
 
-    /// The language and the region of a script, if there is a row. It takes no memory.
+    /// The language and the region of a script, if there is a row.
     pub fn get_script(&self, script: Script) -> Option<(Language, Region)>
         ensures { result ≡ value_at text_cmp self.now.script script }
     {
-        self.script.get(&script).copied()
+        self.script.get_numbered(&script).copied()
     }
 
-    /// A walk over the rows of `script`, rising by key. It takes no memory.
+    /// A walk over the rows of `script`, rising by key.
     pub fn iter_script(&self) -> Rows<'_, Script, (Language, Region)>
         ensures rows { result ≡ self.now.script }
         ensures sorted { IsSortedMap text_cmp self.now.script }
@@ -127,14 +128,14 @@ impl LikelySubtagsForScriptRegion {
         self.region.insert(region, (language, script))
     }
 
-    /// The language and the script of a region, if there is a row. It takes no memory.
+    /// The language and the script of a region, if there is a row.
     pub fn get_region(&self, region: Region) -> Option<(Language, Script)>
         ensures { result ≡ value_at text_cmp self.now.region region }
     {
-        self.region.get(&region).copied()
+        self.region.get_numbered(&region).copied()
     }
 
-    /// A walk over the rows of `region`, rising by key. It takes no memory.
+    /// A walk over the rows of `region`, rising by key.
     pub fn iter_region(&self) -> Rows<'_, Region, (Language, Script)>
         ensures rows { result ≡ self.now.region }
         ensures sorted { IsSortedMap text_cmp self.now.region }

@@ -1,5 +1,5 @@
 use Rattle.std.proofs.Common.{Some, sym, ap, ◌∙◌}
-use Rattle.icu_provider.proofs.SortedMaps.{lookup_at, lookup_in_gap}
+use Rattle.icu_provider.specs.laws.SortedMaps.{lookup_at, lookup_in_gap}
 use Rattle.icu_provider.proofs.sorted_map.SortedMap.get.Goals as goal
 
 -- the row that was read is the one that the look-up finds

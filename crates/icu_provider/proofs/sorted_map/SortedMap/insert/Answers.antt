@@ -1,5 +1,5 @@
 use Rattle.std.proofs.Common.{arith, rules, refl}
-use Rattle.icu_provider.proofs.SortedMaps.{lookup_in_gap, inserts_at, inserts_in_gap}
+use Rattle.icu_provider.specs.laws.SortedMaps.{lookup_in_gap, inserts_at, inserts_in_gap}
 use Rattle.icu_provider.proofs.sorted_map.SortedMap.insert.Goals as goal
 
 -- the key is there, and its row takes the value

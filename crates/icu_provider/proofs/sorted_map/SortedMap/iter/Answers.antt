@@ -1,4 +1,4 @@
-use Rattle.icu_provider.proofs.SortedMaps.{All-lookup_own_key}
+use Rattle.icu_provider.specs.laws.SortedMaps.{All-lookup_own_key}
 use Rattle.icu_provider.proofs.sorted_map.SortedMap.iter.Goals as goal
 
 -- the keys rise, so each row is found at its own key

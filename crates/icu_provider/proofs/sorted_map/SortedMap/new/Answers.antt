@@ -1,4 +1,4 @@
-use Rattle.icu_provider.proofs.SortedMaps.{IsSortedMap-from_empty}
+use Rattle.icu_provider.specs.laws.SortedMaps.{IsSortedMap-from_empty}
 use Rattle.icu_provider.proofs.sorted_map.SortedMap.new.Goals as goal
 
 -- a new list has no rows

@@ -1,6 +1,6 @@
 use Rattle.std.proofs.Common.{rules}
 use Rattle.std.proofs.lemmas.Fn.{always_returns_same}
-use Rattle.icu_provider.proofs.SortedMaps.{searched}
+use Rattle.icu_provider.specs.laws.SortedMaps.{searched}
 use Rattle.icu_provider.proofs.sorted_map.SortedMap.search.Goals as goal
 
 -- the closure compares a row's key with the one that is sought
