@@ -1,138 +1,17 @@
--- Where a key stands among rows whose keys rise, or would go, and what an edit at that place does.
-use Rattle.std.proofs.Common.{◌≡◌, ◌≢◌, false, if◌then◌else◌, ℕ, zero, suc, ◌+◌, ◌<◌, List, [], ◌∷◌, ◌++◌, length, get_or, set, Some, None, Result, Ok, Err, MatchResult, refl, sym, ap, ◌∙◌, subst, arith}
+-- A row that comes behind the others is inserted behind them.
+use Rattle.std.proofs.Common.{◌≡◌, List, [], ◌∷◌, ◌++◌, refl, ap, ◌∙◌}
 use Rattle.std.specs.declared.cmp.Ordering.{Ordering}
-use Rattle.std.specs.declared.cmp.Ordering.TheVariants.{Less, Equal, Greater}
-use Rattle.std.specs.Ordering.{is_eq, is_lt, match_ordering, ordering_reverse}
+use Rattle.std.specs.declared.cmp.Ordering.TheVariants.{Less, Greater}
+use Rattle.std.specs.Ordering.{ordering_reverse}
 use Rattle.std.specs.Cmp.{IsTotalOrder}
-use Rattle.std.specs.List.{AllByRecursion, AllWithin, insert}
-use Rattle.std.specs.List.Sorted.{IsStrictlySortedBy, IsSearchInRange, IsBinarySearchResult}
-use Rattle.std.specs.Map.{keys_of, lookup}
-use Rattle.std.specs.BTreeMap.{is_at, insert_entry}
-use Rattle.std.proofs.lemmas.Cmp.{tied_back, alike_right}
-use Rattle.std.proofs.lemmas.List.{get_or-map}
-use Rattle.std.proofs.lemmas.List.Elements.{All-from_recursion, recursion_from_All, All-weaker}
-use Rattle.std.proofs.lemmas.List.Sorted.{searchable_from_sorted}
-use Rattle.std.proofs.lemmas.Map.Keys.{sorted_tail, Less-from_sorted}
-use Rattle.std.proofs.lemmas.Map.Entries.{length-keys_of}
-use Rattle.std.proofs.lemmas.Map.Views.{All-keys-insert_entry}
-use Rattle.icu_locale_core.specs.Maps.{IsSortedMap, SetsOnly, value_at}
-use Rattle.icu_locale_core.specs.laws.Maps.{SetsOnly-insert_entry, found_at_key, stands_where_found}
-use Rattle.icu_provider.specs.SortedMaps.{Holds}
-use Rattle.icu_provider.specs.inner.Places.{IsAt, IsGapFor}
-use Rattle.icu_tables.proofs.Groups.{by_answer}
-
-module _ {K V : Type 0} (compare : K → K → Ordering) where
-  -- an insert goes on by how the key compares to the first
-  insert_entry-step : (key : K) (value : V) (row : K × V) (rows : List (K × V)) (answer : Ordering) → compare key row.0 ≡ answer → insert_entry compare (row ∷ rows) key value ≡ match_ordering answer ((key, value) ∷ row ∷ rows) ((row.0, value) ∷ rows) (row ∷ insert_entry compare rows key value)
-  insert_entry-step key value row rows answer is = ap (λ o. match_ordering o ((key, value) ∷ row ∷ rows) ((row.0, value) ∷ rows) (row ∷ insert_entry compare rows key value)) is
-
-not_tied : (o : Ordering) → o ≢ Equal → is_eq o ≡ false
-not_tied Less apart = refl
-not_tied Equal apart = absurd (apart refl)
-not_tied Greater apart = refl
+use Rattle.std.specs.List.{AllByRecursion}
+use Rattle.std.specs.List.Sorted.{IsStrictlySortedBy}
+use Rattle.std.specs.Map.{keys_of}
+use Rattle.std.specs.BTreeMap.{insert_entry}
+use Rattle.icu_locale_core.specs.Maps.{IsSortedMap}
+use Rattle.icu_provider.specs.laws.SortedMaps.{insert_entry-step}
 
 module _ {K V : Type 0} {compare : K → K → Ordering} (total : IsTotalOrder compare) where
-  -- a key below the first of rising rows is below each
-  below_all : (key : K) (row : K × V) (rows : List (K × V)) → compare key row.0 ≡ Less → AllByRecursion (λ later. compare row.0 later ≡ Less) (keys_of rows) → AllByRecursion (λ later. compare key later ≡ Less) (keys_of rows)
-  below_all key row rows below rise = recursion_from_All _ _ (All-weaker (λ later. compare row.0 later ≡ Less) (λ later. compare key later ≡ Less) (λ later. total.trans key row.0 later below) _ (All-from_recursion _ _ rise))
-
-  -- an insert keeps the order
-  pub IsSortedMap-insert_entry : (rows : List (K × V)) (key : K) (value : V) → IsSortedMap compare rows → IsSortedMap compare (insert_entry compare rows key value)
-  unfolding IsStrictlySortedBy
-  IsSortedMap-insert_entry [] key value sorted = (tt, tt)
-  IsSortedMap-insert_entry (row ∷ rows) key value sorted =
-      let step = insert_entry-step compare key value row rows in
-      by_answer (compare key row.0)
-      (λ is. subst (IsSortedMap compare) (sym (step Less is)) ((is, below_all key row rows is sorted.0), sorted))
-      (λ is. subst (IsSortedMap compare) (sym (step Equal is)) sorted)
-      (λ is. subst (IsSortedMap compare) (sym (step Greater is)) (recursion_from_All _ _ (All-keys-insert_entry compare key value (λ later. compare row.0 later ≡ Less) rows (All-from_recursion _ _ sorted.0) (total.antisymm row.0 key ∙ ap ordering_reverse is)), IsSortedMap-insert_entry rows key value sorted.1))
-
-  -- each row's key is below that of a later row
-  keys_rise : (rows : List (K × V)) (i j : ℕ) (default : K × V) → IsSortedMap compare rows → i < j → j < length rows → compare (get_or rows i default).0 (get_or rows j default).0 ≡ Less
-  keys_rise rows i j default sorted lt in_range =
-      let at = λ (k : ℕ) (h : k < length rows). get_or-map (λ (row : K × V). row.0) rows k default default.0 h in
-      rw (← at i (omega arith), ← at j in_range) (Less-from_sorted compare (keys_of rows) i j default.0 sorted lt (omega (arith, length-keys_of rows)))
-
-  -- a binary search ends at the key, or at the gap for it
-  pub searched : (rows : List (K × V)) (key : K) (place : Result ℕ ℕ) → IsSortedMap compare rows → IsSearchInRange place (length rows) → IsBinarySearchResult (λ row. compare row.0 key) rows place → MatchResult place (IsAt compare rows key) (IsGapFor compare rows key)
-  searched rows key (Ok at) sorted in_range equal = record { in_range = in_range; has_key = λ d. tied_back total _ _ (equal d) }
-  searched rows key (Err at) sorted in_range parted =
-      let rise = searchable_from_sorted total (λ (row : K × V). row.0) rows key (λ k d low high. ap is_lt (total.antisymm _ _ ∙ ap ordering_reverse (keys_rise rows k (k + 1) d sorted (omega arith) high))) in
-      record {
-        in_range = in_range;
-        above_before = λ k d low high. total.antisymm _ _ ∙ ap ordering_reverse ((parted rise).0 k d low high);
-        below_after = λ k d low high. total.antisymm _ _ ∙ ap ordering_reverse ((parted rise).1 k d low high);
-      }
-
-  -- a key in a later row is above the first
-  above_first : (row : K × V) (rows : List (K × V)) (key : K) (at : ℕ) → IsSortedMap compare (row ∷ rows) → IsAt compare rows key at → compare key row.0 ≡ Greater
-  above_first row rows key at sorted is =
-      let rise = keys_rise (row ∷ rows) 0 (suc at) row sorted (omega arith) (omega (arith, is.in_range)) in
-      total.antisymm key row.0 ∙ ap ordering_reverse (alike_right total key (get_or rows at row).0 row.0 (is.has_key row) ∙ rise)
-
-  -- in the tail, a key's place is one lower
-  is_at_tail : (row : K × V) (rows : List (K × V)) (key : K) (at : ℕ) → IsAt compare (row ∷ rows) key (suc at) → IsAt compare rows key at
-  is_at_tail row rows key at is = record { in_range = omega (arith, is.in_range); has_key = is.has_key }
-
-  -- so is a gap
-  gap_tail : (row : K × V) (rows : List (K × V)) (key : K) (at : ℕ) → IsGapFor compare (row ∷ rows) key (suc at) → IsGapFor compare rows key at
-  gap_tail row rows key at gap = record {
-    in_range = omega (arith, gap.in_range);
-    above_before = λ k d low high. gap.above_before (suc k) d (omega arith) (omega arith);
-    below_after = λ k d low high. gap.below_after (suc k) d (omega arith) (omega arith);
-  }
-
-  -- the value at the key's place is found
-  pub lookup_at : (rows : List (K × V)) (key : K) (at : ℕ) (default : K × V) → IsSortedMap compare rows → IsAt compare rows key at → lookup (is_at (compare key)) rows ≡ Some (get_or rows at default).1
-  lookup_at [] key at default sorted is = absurd (omega (arith, is.in_range))
-  lookup_at (row ∷ rows) key zero default sorted is = grind (arith, is.has_key row)
-  lookup_at (row ∷ rows) key (suc at) default sorted is =
-      let later = is_at_tail row rows key at is in
-      grind (arith, above_first row rows key at sorted later, lookup_at rows key at default (sorted_tail compare _ _ sorted) later)
-
-  -- below the first key nothing is found
-  lookup_below : (rows : List (K × V)) (key : K) → AllWithin (λ row. compare key row.0 ≡ Less) rows 0 (length rows) → lookup (is_at (compare key)) rows ≡ None
-  lookup_below [] key below = refl
-  lookup_below (row ∷ rows) key below = grind (arith, below 0 row (omega arith) (omega arith), lookup_below rows key (λ k d low high. below (suc k) d (omega arith) (omega arith)))
-
-  -- in a gap nothing is found
-  pub lookup_in_gap : (rows : List (K × V)) (key : K) (at : ℕ) → IsGapFor compare rows key at → lookup (is_at (compare key)) rows ≡ None
-  lookup_in_gap rows key zero gap = lookup_below rows key gap.below_after
-  lookup_in_gap [] key (suc at) gap = refl
-  lookup_in_gap (row ∷ rows) key (suc at) gap = grind (arith, gap.above_before 0 row (omega arith) (omega arith), lookup_in_gap rows key at (gap_tail row rows key at gap))
-
-  -- writing over the key's row inserts the value
-  pub insert_entry-at : (rows : List (K × V)) (key : K) (value : V) (at : ℕ) (row : K × V) → IsSortedMap compare rows → IsAt compare rows key at → row ≡ get_or rows at row → set rows at (row.0, value) ≡ insert_entry compare rows key value
-  insert_entry-at [] key value at row sorted is here = absurd (omega (arith, is.in_range))
-  insert_entry-at (first ∷ rows) key value zero row sorted is here = grind (arith, insert_entry-step compare key value first rows Equal (is.has_key row))
-  insert_entry-at (first ∷ rows) key value (suc at) row sorted is here =
-      let later = is_at_tail first rows key at is in
-      let step = insert_entry-step compare key value first rows Greater (above_first first rows key at sorted later) in
-      ap (λ rest. first ∷ rest) (insert_entry-at rows key value at row (sorted_tail compare _ _ sorted) later here) ∙ sym step
-
-  -- a new row in the gap inserts it
-  pub insert_entry-in_gap : (rows : List (K × V)) (key : K) (value : V) (at : ℕ) → IsGapFor compare rows key at → insert rows at (key, value) ≡ insert_entry compare rows key value
-  insert_entry-in_gap [] key value zero gap = refl
-  insert_entry-in_gap [] key value (suc at) gap = absurd (omega (arith, gap.in_range))
-  insert_entry-in_gap (row ∷ rows) key value zero gap = sym (insert_entry-step compare key value row rows Less (gap.below_after 0 row (omega arith) (omega arith)))
-  insert_entry-in_gap (row ∷ rows) key value (suc at) gap =
-      let step = insert_entry-step compare key value row rows Greater (gap.above_before 0 row (omega arith) (omega arith)) in
-      ap (λ rest. row ∷ rest) (insert_entry-in_gap rows key value at (gap_tail row rows key at gap)) ∙ sym step
-
-  -- rows with the value inserted stay in order, and find it
-  pub inserts_from_rows : (old new : List (K × V)) (key : K) (value : V) → IsSortedMap compare old → new ≡ insert_entry compare old key value → Holds compare old new key value
-  inserts_from_rows old new key value sorted rows =
-      let sets : SetsOnly compare old new key (Some value) = λ q. rw rows (SetsOnly-insert_entry total old key value q) in
-      let found : value_at compare new key ≡ Some value = rw rows (found_at_key total old key value) in
-      record {
-        rows = rows;
-        sets = sets;
-        sorted = rw rows (IsSortedMap-insert_entry old key value sorted);
-        found = found;
-        others = λ other apart. sets other ∙ ap (λ tied. if tied then Some value else value_at compare old other) (not_tied (compare key other) apart);
-        stands = λ ties. stands_where_found total (λ x y tied. (ties x y).0 tied) new key value found;
-      }
-
   -- a key behind rising rows is above the first
   above_behind : (key : K) (rows rest : List (K × V)) (last : K × V) → AllByRecursion (λ later. compare key later ≡ Less) (keys_of (rows ++ last ∷ rest)) → compare last.0 key ≡ Greater
   above_behind key [] rest last below = total.antisymm last.0 key ∙ ap ordering_reverse below.0

@@ -13,13 +13,8 @@ use Rattle.std.proofs.lemmas.Cmp.{tied_itself}
 use Rattle.std.proofs.lemmas.Map.{lookup-none}
 use Rattle.std.proofs.lemmas.Map.Entries.{none_below_head}
 use Rattle.icu_locale_core.specs.Maps.{IsSortedMap, value_at}
+use Rattle.icu_provider.specs.laws.SortedMaps.{by_answer}
 use Rattle.icu_tables.specs.Groups.{group_rows, flat, rows_at}
-
--- a fact holds where it holds at each answer of a comparison
-pub by_answer : {P : Type 0} (answer : Ordering) → (answer ≡ Less → P) → (answer ≡ Equal → P) → (answer ≡ Greater → P) → P
-by_answer Less less equal greater = less refl
-by_answer Equal less equal greater = equal refl
-by_answer Greater less equal greater = greater refl
 
 -- where the first comparison is not a tie, it decides
 first_decides : (o p : Ordering) → is_eq o ≡ false → is_eq (ordering_then o p) ≡ false

@@ -20,9 +20,9 @@ use Rattle.icu_provider.specs.declared.data_locale.DataLocale.{DataLocale}
 use Rattle.icu_provider.specs.declared.error.DataError.{DataError}
 use Rattle.icu_provider.specs.declared.names.NameKey.{NameKey}
 use Rattle.icu_provider.specs.declared.names.NameMarker.{NameMarker}
-use Rattle.icu_provider.specs.inner.Places.{IsAt, IsGapFor}
+use Rattle.icu_provider.specs.Places.{IsAt, IsGapFor}
 use Rattle.icu_tables.specs.Groups.{NameGroup, RiseInGroups, flat_names, group_cmp, key_cmp, request_of, rows_at}
-use Rattle.icu_tables.proofs.Gaps.{IsSortedMap-insert_entry, lookup_at, lookup_in_gap, insert_entry-at, insert_entry-in_gap, inserts_from_rows}
+use Rattle.icu_provider.specs.laws.SortedMaps.{IsSortedMap-insert_entry, lookup_at, lookup_in_gap, insert_entry-at, insert_entry-in_gap, inserts_from_rows}
 use Rattle.icu_tables.proofs.Groups.{each_rises-insert_entry, flat_rises, insert_entry-flat, value_at-flat}
 
 abbrev Names : Type 0

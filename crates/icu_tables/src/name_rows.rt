@@ -3,7 +3,7 @@ ghost use Rattle.std.specs.Prelude.{◌≡◌, ◌==◌, ◌-◌, ◌^◌, [], l
 ghost use Rattle.icu_locale_core.specs.Maps.{value_at};
 ghost use Rattle.icu_provider.specs.SortedMaps.{Inserts, IsSortedMap};
 ghost use Rattle.icu_provider.specs.Requests.{name_cmp};
-ghost use Rattle.icu_provider.specs.inner.Places.{IsAt, IsGapFor};
+ghost use Rattle.icu_provider.specs.Places.{IsAt, IsGapFor};
 ghost use Rattle.icu_tables.specs.Groups.{flat_names, group_cmp};
 
 use icu_provider::laws::keys_are_told_apart;

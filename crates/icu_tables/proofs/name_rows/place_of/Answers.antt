@@ -1,7 +1,7 @@
 use Rattle.std.proofs.Common.{rules}
 use Rattle.std.proofs.lemmas.Fn.{always_returns_same}
 use Rattle.icu_tables.specs.Groups.{group_cmp}
-use Rattle.icu_tables.proofs.Gaps.{searched}
+use Rattle.icu_provider.specs.laws.SortedMaps.{searched}
 use Rattle.icu_tables.proofs.NameGroups.{group_total}
 use Rattle.icu_tables.proofs.name_rows.place_of.Goals as goal
 
