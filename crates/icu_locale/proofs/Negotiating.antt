@@ -18,7 +18,8 @@ use Rattle.icu_locale.specs.Negotiation.{IsMatch, IsFirstMatch}
 use Rattle.icu_locale.specs.declared.expander.Favor.{Favor}
 use Rattle.icu_locale.specs.declared.expander.Favor.TheVariants.{RegionFirst}
 use Rattle.icu_locale.specs.declared.negotiator.available.Row.{Row}
-use Rattle.icu_locale.specs.inner.Index.{without_variants, IsPlainForm, row_cmp, IsRowOf, AreListed, IsIndex, IsPartOf, HasVariants, IsFirstRow, MeansAt, IsFirstPlace}
+use Rattle.icu_locale.specs.Index.{without_variants, IsPlainForm, row_cmp, IsRowOf, IsIndex}
+use Rattle.icu_locale.specs.inner.Index.{AreListed, IsPartOf, HasVariants, IsFirstRow, MeansAt, IsFirstPlace}
 
 -- ---- what the laws say
 

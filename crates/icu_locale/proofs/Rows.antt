@@ -1,8 +1,10 @@
 -- What the rows of a known language say of its three trials.
-use Rattle.std.proofs.Common.{◌≡◌, ℕ, List, Bool, true, false, ◌&&◌, Option, Some, None, if◌then◌else◌, refl, ap, sym, ◌∙◌}
+use Rattle.std.proofs.Common.{◌≡◌, ◌↔◌, IsTrue, ℕ, List, Bool, true, false, ◌&&◌, Option, Some, None, if◌then◌else◌, refl, ap, sym, ◌∙◌}
 use Rattle.std.specs.Option.{option_or}
 use Rattle.std.specs.Str.{bytes_eq}
 use Rattle.std.proofs.Math.Bool.{and-true}
+use Rattle.std.proofs.lemmas.Bool.{false_from_ne_true, false≢true}
+use Rattle.std.proofs.lemmas.Slice.Eq.{bytes_eq-Decides}
 use Rattle.icu_locale_core.specs.Subtag.{und}
 use Rattle.icu_provider.specs.declared.data_locale.DataLocale.{DataLocale}
 use Rattle.icu_locale.specs.declared.expander.Favor.{Favor}
@@ -39,11 +41,15 @@ pub moved : (likely : LikelySubtags) (favor : Favor) (m n y : DataLocale) → m 
 moved likely favor m n y e tried = tried ∙ ap (λ x. first_trial likely x (trials favor x)) (sym e)
 
 -- a subtag that is there and does not stand for none is bare
-pub bare_from_test : (unknown t : List ℕ) → bytes_eq t unknown ≡ false → known_subtag unknown (Some t) ≡ Some t
-bare_from_test unknown t e = ap (λ b. if b then None else Some t) e
+pub bare_from_test : (unknown t : List ℕ) (test : Bool) → (IsTrue test ↔ (t ≡ unknown)) → test ≡ false → known_subtag unknown (Some t) ≡ Some t
+bare_from_test unknown t test told fails =
+    let apart : bytes_eq t unknown ≡ false = false_from_ne_true (bytes_eq t unknown) (λ same. false≢true (sym fails ∙ told.1 ((bytes_eq-Decides t unknown).0 same))) in
+    ap (λ b. if b then None else Some t) apart
 
-pub gone_from_test : (unknown t : List ℕ) → bytes_eq t unknown ≡ true → known_subtag unknown (Some t) ≡ None
-gone_from_test unknown t e = ap (λ b. if b then None else Some t) e
+pub gone_from_test : (unknown t : List ℕ) (test : Bool) → (IsTrue test ↔ (t ≡ unknown)) → test ≡ true → known_subtag unknown (Some t) ≡ None
+gone_from_test unknown t test told holds =
+    let same : bytes_eq t unknown ≡ true = (bytes_eq-Decides t unknown).1 (told.0 holds) in
+    ap (λ b. if b then None else Some t) same
 
 or-none : (x y : Option Triple) → option_or x (option_or y None) ≡ option_or x y
 or-none None None = refl

@@ -16,7 +16,8 @@ use Rattle.icu_locale_core.specs.TextSet.{text_cmp}
 use Rattle.icu_locale_core.specs.laws.TextSets.{text_total, text_same}
 use Rattle.icu_provider.specs.declared.data_locale.DataLocale.{DataLocale}
 use Rattle.icu_locale.specs.declared.negotiator.available.Row.{Row}
-use Rattle.icu_locale.specs.inner.Index.{subtags_cmp, row_cmp, IsPartOf}
+use Rattle.icu_locale.specs.Index.{subtags_cmp, row_cmp}
+use Rattle.icu_locale.specs.inner.Index.{IsPartOf}
 
 -- ---- orders
 

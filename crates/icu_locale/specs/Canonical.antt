@@ -1,6 +1,7 @@
 -- Canonical locales (UTS #35 Part 1, Annex C "LocaleId Canonicalization").
 use Rattle.std.specs.Prelude.{◌≡◌, ℕ, Bool, true, false, ◌||◌, List, codes, Option, Some, None, is_some}
 use Rattle.std.specs.Option.{option_and_then}
+pub use Rattle.icu_locale_core.specs.Subtag.{rg, sd}
 use Rattle.icu_locale_core.specs.TextSet.{text_cmp}
 use Rattle.icu_locale_core.specs.Value.{only_piece}
 use Rattle.icu_locale_core.specs.Keywords.{KeywordRows, with_value}
@@ -13,14 +14,6 @@ use Rattle.icu_locale.specs.Run.{EndsAt, IsLaterEndOf, BecomesEnd}
 use Rattle.icu_locale.specs.declared.expander.TransformResult.{TransformResult}
 use Rattle.icu_locale.specs.declared.expander.TransformResult.TheVariants.{Modified, Unmodified}
 use Rattle.icu_locale.specs.declared.canonicalizer.rules.Rules.{Rules}
-
--- the key of a region override
-abbrev pub rg : List ℕ
-rg = codes "rg"
-
--- the key of a subdivision
-abbrev pub sd : List ℕ
-sd = codes "sd"
 
 -- the value that follows another: that of the row whose key is its only piece
 abbrev pub next_value : Rules → List (List ℕ) → Option (List (List ℕ))

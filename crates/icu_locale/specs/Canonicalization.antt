@@ -1,4 +1,4 @@
--- x
+-- What canonicalizing a locale does (UTS #35 Part 1, Annex C "LocaleId Canonicalization").
 use Rattle.std.specs.Prelude.{◌≡◌, ◌↔◌, ◌⊎◌, ℕ, List, Result, Err, OnOk, OnErr, IfOk, IfErr, IsOk}
 use Rattle.icu_locale_core.specs.declared.langid.LanguageIdentifier.{LanguageIdentifier}
 use Rattle.icu_locale_core.specs.declared.locale.Locale.{Locale}

@@ -3,6 +3,7 @@ pub mod Canonicalization
 pub mod Construction
 pub mod Cost
 pub mod Direction
+pub mod Index
 pub mod Kinds
 pub mod LikelySubtags
 pub mod LikelyTable

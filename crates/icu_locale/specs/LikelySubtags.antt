@@ -3,6 +3,7 @@ use Rattle.std.specs.Prelude.{◌≡◌, ◌≢◌, ◌⊎◌, ℕ, List, [], �
 use Rattle.std.specs.Option.{option_or, unwrap_or}
 use Rattle.std.specs.Str.{bytes_eq}
 use Rattle.icu_locale_core.specs.Subtag.{und}
+pub use Rattle.icu_locale_core.specs.Subtag.{unknown_script, unknown_region}
 use Rattle.icu_locale_core.specs.declared.langid.LanguageIdentifier.{LanguageIdentifier}
 use Rattle.icu_provider.specs.declared.data_locale.DataLocale.{DataLocale}
 use Rattle.icu_locale.specs.declared.expander.looks.LikelyKey.{LikelyKey}
@@ -16,14 +17,6 @@ Triple = List ℕ × List ℕ × List ℕ
 -- a likely table: each key has at most one triple
 abbrev pub LikelySubtags : Type 0
 LikelySubtags = LikelyKey → Option Triple
-
--- the script that stands for none
-abbrev pub unknown_script : List ℕ
-unknown_script = codes "Zzzz"
-
--- the region that stands for none
-abbrev pub unknown_region : List ℕ
-unknown_region = codes "ZZ"
 
 -- a subtag, unless it stands for none
 abbrev pub known_subtag : List ℕ → Option (List ℕ) → Option (List ℕ)

@@ -7,7 +7,7 @@ use Rattle.icu_locale.specs.LikelySubtags.{LikelySubtags, maximal, AreSettled}
 use Rattle.icu_locale.specs.declared.expander.LocaleExpander.{LocaleExpander}
 use Rattle.icu_locale.specs.declared.negotiator.NegotiatorError.{NegotiatorError}
 use Rattle.icu_locale.specs.declared.negotiator.NegotiatorError.TheVariants.{Memory, NotSettled}
-use Rattle.icu_locale.specs.inner.Index.{IsIndex}
+use Rattle.icu_locale.specs.Index.{IsIndex}
 use Rattle.icu_locale.specs.declared.negotiator.available.Available.{Available}
 
 -- what a negotiator is: an expander, and the available identifiers as they were handed in

@@ -189,7 +189,7 @@ fn shares_none(scripts: Rows<'_, Script, ()>, others: &SortedMap<Script, ()>) ->
     ensures { result ≡ list_all (λ row. not (is_listed others.now row.0)) scripts.entry }
 {
     for (script, _) in scripts {
-        if others.contains_key(script) {
+        if others.get_numbered(script).is_some() {
             return false;
         }
     }

@@ -8,7 +8,8 @@ ghost use Rattle.icu_locale_core.specs.TextSet.{text_set_code};
 ghost use Rattle.icu_locale.specs.LikelyTable.{likely};
 ghost use Rattle.icu_locale.specs.LikelySubtags.{AreSettled};
 ghost use Rattle.icu_locale.specs.Negotiation.{identifiers_of, IsMadeOver, Negotiation, IsNegotiated, refusal_name};
-ghost use Rattle.icu_locale.specs.inner.Index.{IsPlainForm, row_cmp, IsIndex, IsPartOf, IsFirstRow, IsFirstPlace};
+ghost use Rattle.icu_locale.specs.Index.{IsPlainForm, row_cmp, IsIndex};
+ghost use Rattle.icu_locale.specs.inner.Index.{IsPartOf, IsFirstRow, IsFirstPlace};
 ghost use Rattle.icu_locale.specs.declared.negotiator.NegotiatorError.TheVariants.{Memory};
 
 use crate::expander::{Favor, locale_of};

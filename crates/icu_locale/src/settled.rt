@@ -107,22 +107,15 @@ fn key_locale(key: &LikelyKey) -> DataLocale
         LikelyKey::LanguageRegion(language, region) => (language, None, Some(region)),
         LikelyKey::LanguageScript(language, script) => (language, Some(script), None),
         LikelyKey::LanguageAlone(language) => (language, None, None),
-        LikelyKey::ScriptRegion(script, region) => (unknown_language(), Some(script), Some(region)),
-        LikelyKey::ScriptAlone(script) => (unknown_language(), Some(script), None),
-        LikelyKey::RegionAlone(region) => (unknown_language(), None, Some(region)),
+        LikelyKey::ScriptRegion(script, region) => (Language::UNKNOWN, Some(script), Some(region)),
+        LikelyKey::ScriptAlone(script) => (Language::UNKNOWN, Some(script), None),
+        LikelyKey::RegionAlone(region) => (Language::UNKNOWN, None, Some(region)),
     };
     DataLocale {
         language,
         script,
         region,
     }
-}
-
-// The language `und`.
-fn unknown_language() -> Language
-    ensures { result ≡ und }
-{
-    Language::UNKNOWN
 }
 
 // Whether a locale has neither script `Zzzz` nor region `ZZ`.

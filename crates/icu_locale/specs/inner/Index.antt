@@ -1,45 +1,12 @@
 -- How a negotiator finds an available identifier: what only its own functions cite.
 use Rattle.std.specs.Prelude.{◌≡◌, ℕ, ◌<◌, ◌≤◌, List, length, slice_index_or, Option, Some, None}
 use Rattle.std.specs.List.{All, AllWithin, Contains, slice_get}
-use Rattle.std.specs.List.Sorted.{IsSorted}
-use Rattle.std.specs.Option.{option_cmp}
-use Rattle.std.specs.Ordering.{ordering_then, nat_cmp}
-use Rattle.std.specs.declared.cmp.Ordering.{Ordering}
-use Rattle.icu_locale_core.specs.Identifier.{IsIdentifier}
-use Rattle.icu_locale_core.specs.TextSet.{TextSet, text_cmp, empty}
+use Rattle.icu_locale_core.specs.TextSet.{TextSet}
 use Rattle.icu_locale_core.specs.declared.langid.LanguageIdentifier.{LanguageIdentifier}
 use Rattle.icu_provider.specs.declared.data_locale.DataLocale.{DataLocale}
-use Rattle.icu_locale.specs.LikelySubtags.{LikelySubtags, maximal, subtags_of}
-use Rattle.icu_locale.specs.Minimal.{IsMinimalForm}
-use Rattle.icu_locale.specs.declared.expander.Favor.TheVariants.{RegionFirst}
+use Rattle.icu_locale.specs.LikelySubtags.{LikelySubtags, maximal}
+use Rattle.icu_locale.specs.Index.{IsRowOf}
 use Rattle.icu_locale.specs.declared.negotiator.available.Row.{Row}
-
--- a language, a script and a region as an identifier without variants
-abbrev pub without_variants : DataLocale → LanguageIdentifier
-without_variants d = record { language = d.language; script = d.script; region = d.region; variants = empty }
-
--- d is the minimal form of x, variants aside
-abbrev pub IsPlainForm : LikelySubtags → LanguageIdentifier → DataLocale → Type 0
-IsPlainForm likely x d = IsMinimalForm RegionFirst likely (without_variants (subtags_of x)) (without_variants d)
-
--- by language, then script and region, an absent part first
-abbrev pub subtags_cmp : DataLocale → DataLocale → Ordering
-subtags_cmp x y =
-    ordering_then (text_cmp x.language y.language)
-    (ordering_then (option_cmp text_cmp x.script y.script)
-    (option_cmp text_cmp x.region y.region))
-
--- by minimal form, then place
-abbrev pub row_cmp : Row → Row → Ordering
-row_cmp r s = ordering_then (subtags_cmp r.minimal s.minimal) (nat_cmp r.place s.place)
-
--- a row tells the place of an available identifier, and its minimal form, variants aside
-pub record IsRowOf (likely : LikelySubtags) (available : List LanguageIdentifier) (r : Row)
-    : Type 0 where
-  pub identifier : LanguageIdentifier
-  pub stands : slice_get available r.place ≡ Some identifier
-  pub known : IsIdentifier identifier
-  pub form : IsPlainForm likely identifier r.minimal
 
 -- the first n available identifiers have a row each, in their order
 pub record AreListed (likely : LikelySubtags) (available : List LanguageIdentifier) (n : ℕ)
@@ -47,14 +14,6 @@ pub record AreListed (likely : LikelySubtags) (available : List LanguageIdentifi
   pub count : length rows ≡ n
   pub each_row : All (IsRowOf likely available) rows
   pub places : (k : ℕ) (d : Row) → k < length rows → (slice_index_or rows k d).place ≡ k
-
--- each available identifier has a row, and the rows are in order
-pub record IsIndex (likely : LikelySubtags) (available : List LanguageIdentifier)
-    (rows : List Row) : Type 0 where
-  pub each_row : All (IsRowOf likely available) rows
-  pub each_place : (k : ℕ) → k < length available
-      → (r : Row) × Contains rows r × (r.place ≡ k)
-  pub sorted : IsSorted row_cmp rows
 
 -- the part has the rows with the minimal form d, and no other, by rising places
 pub record IsPartOf (rows : List Row) (d : DataLocale) (part : List Row) : Type 0 where

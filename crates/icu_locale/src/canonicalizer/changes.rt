@@ -1,6 +1,5 @@
 //! What is to be changed of a locale.
-ghost use Rattle.std.specs.Prelude.{◌≡◌, is_some, IsSome, IsTrue, unwrap_or};
-ghost use Rattle.icu_locale_core.specs.Subtag.{is_key, lowercase};
+ghost use Rattle.std.specs.Prelude.{◌≡◌, is_some, IsSome, unwrap_or};
 ghost use Rattle.icu_locale_core.specs.Maps.{value_at};
 ghost use Rattle.icu_locale_core.specs.TextSet.{text_cmp};
 ghost use Rattle.icu_locale.specs.Canonical.{rg, sd, put_optional, answer_of};
@@ -36,8 +35,8 @@ impl Changes {
             subdivision,
         } = self;
         let keywords = &mut locale.extensions.unicode.keywords;
-        let is_region_changed = put(keywords, region_override_key(), region_override);
-        let is_subdivision_changed = put(keywords, subdivision_key(), subdivision);
+        let is_region_changed = put(keywords, Key::REGION_OVERRIDE, region_override);
+        let is_subdivision_changed = put(keywords, Key::SUBDIVISION, subdivision);
         let is_id_changed = replace(&mut locale.id, id);
         let is_transform_changed = replace(
             &mut locale.extensions.transform.lang,
@@ -87,30 +86,5 @@ fn put(keywords: &mut Keywords, key: Key, value: Option<Value>) -> bool
             true
         }
         None => false,
-    }
-}
-
-#[inline(always)]
-pub fn region_override_key() -> Key
-    ensures { result ≡ rg }
-{
-    key("rg")
-}
-
-#[inline(always)]
-pub fn subdivision_key() -> Key
-    ensures { result ≡ sd }
-{
-    key("sd")
-}
-
-#[inline(always)]
-fn key(text: &str) -> Key
-    requires { IsTrue (is_key text.now) }
-    ensures { result ≡ lowercase text.now }
-{
-    match Key::try_from_str(text) {
-        Ok(key) => key,
-        Err(_) => unreachable!(),
     }
 }

@@ -103,7 +103,7 @@ fn by_sign_region<'r>(rules: &'r Rules<'_>, x: &LanguageIdentifier) -> Option<Re
 fn sign_language(rules: &Rules<'_>, x: &LanguageIdentifier) -> Option<Language>
     ensures { result ≡ sign_language rules.now x.now }
 {
-    if x.language.as_str() == "sgn" {
+    if x.language == Language::SIGN {
         rules.aliases.get_sgn_region(x.region?)
     } else {
         None
@@ -129,9 +129,9 @@ fn language_alias<'r>(rules: &'r Rules<'_>, language: &Language) -> Option<&'r L
     if !is_known(language) {
         None
     } else if language.as_str().len() == 2 {
-        rules.language_len2.get(language)
+        rules.language_len2.get_numbered(language)
     } else {
-        rules.language_len3.get(language)
+        rules.language_len3.get_numbered(language)
     }
 }
 

@@ -11,10 +11,9 @@ ghost use Rattle.icu_locale.specs.Run.{IsLaterEndOf};
 ghost use Rattle.icu_locale.specs.inner.CanonicalParts.{IsValueRefusal, IsValuesRefusal, AreLaterValues};
 ghost use Rattle.icu_locale.specs.inner.Universe.{values};
 
-use super::changes::{region_override_key, subdivision_key};
 use crate::rewriting::{Outcome, Rewriting, end_of_run};
 use crate::{CanonicalizeError, Rules, Turns};
-use icu_locale_core::{Keywords, ParseError, Value};
+use icu_locale_core::{Key, Keywords, ParseError, Value};
 
 // One run of values: of one piece that is a key of `subdivision`, the value of its row follows.
 #[derive(Drop)]
@@ -50,7 +49,7 @@ impl Rewriting for Values<'_, '_> {
 fn next_value<'r>(rules: &'r Rules<'_>, value: &Value) -> Option<&'r Value>
     ensures { option_copied result ≡ next_value rules.now value.now }
 {
-    rules.subdivision.get(&value.as_single_subtag()?)
+    rules.subdivision.get_numbered(&value.as_single_subtag()?)
 }
 
 // Where the runs of the values at `rg` and then at `sd` end, each if that is at a later place than its start. Their steps
@@ -67,8 +66,8 @@ pub fn later_values(
         → IfSome (value_at text_cmp keywords.now sd) (AddsNoPieces rules.now)
         → ¬ (IsOutOfMemory result) }
 {
-    let region_override = later_value(rules, keywords.get(region_override_key()), apart)?;
-    let subdivision = later_value(rules, keywords.get(subdivision_key()), apart)?;
+    let region_override = later_value(rules, keywords.get(Key::REGION_OVERRIDE), apart)?;
+    let subdivision = later_value(rules, keywords.get(Key::SUBDIVISION), apart)?;
     Ok((region_override, subdivision))
 }
 

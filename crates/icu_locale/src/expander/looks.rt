@@ -14,11 +14,11 @@ ghost use Rattle.icu_locale.specs.LikelySubtags.{
   maximal_of_bare,
 };
 ghost use Rattle.icu_locale.specs.LikelyTable.{row_at, common_rows, extended_rows, und_row, likely};
-ghost use Rattle.icu_locale.specs.inner.Trials.{locale_with, is_unknown, loses, gains};
+ghost use Rattle.icu_locale.specs.inner.Trials.{locale_with, loses, gains};
 ghost use Rattle.icu_locale.specs.inner.SettledRows.{map_rows};
 
 use crate::expander::LocaleExpander;
-use icu_locale_core::{Language, Region, Script};
+use icu_locale_core::{Language, Numbered, Region, Script};
 use icu_provider::{DataLocale, LikelySubtagsExtended, SortedMap};
 
 // A language, a script and a region, as a row of the table gives them.
@@ -83,10 +83,10 @@ impl<'d> LikelyMaps<'d> {
 
 // The value at a key of a map, if any.
 #[inline(always)]
-fn value_at<K: Ord + Copy, V: Copy>(map: &SortedMap<K, V>, key: K) -> Option<V>
+fn value_at<K: Numbered + Copy, V: Copy>(map: &SortedMap<K, V>, key: K) -> Option<V>
     ensures { result ≡ value_at K.cmp map.now key }
 {
-    map.get(&key).copied()
+    map.get_numbered(&key).copied()
 }
 
 // The maps of the extended table.
@@ -268,59 +268,15 @@ pub(crate) fn remove_unknown(script: &mut Option<Script>, region: &mut Option<Re
     ensures region { region.new ≡ known_subtag unknown_region region.old }
     ensures told { result ≡ loses script.old region.old }
 {
-    let is_script_unknown = is_unknown_script(script);
+    let is_script_unknown = matches!(script, Some(script) if script.is_unknown());
     if is_script_unknown {
         *script = None;
     }
-    let is_region_unknown = is_unknown_region(region);
+    let is_region_unknown = matches!(region, Some(region) if region.is_unknown());
     if is_region_unknown {
         *region = None;
     }
     is_script_unknown || is_region_unknown
-}
-
-// The script that stands for none.
-#[inline(always)]
-fn unknown_script() -> Script
-    ensures { result ≡ unknown_script }
-{
-    match Script::try_from_str("Zzzz") {
-        Ok(script) => script,
-        Err(_) => unreachable!(),
-    }
-}
-
-// The region that stands for none.
-#[inline(always)]
-fn unknown_region() -> Region
-    ensures { result ≡ unknown_region }
-{
-    match Region::try_from_str("ZZ") {
-        Ok(region) => region,
-        Err(_) => unreachable!(),
-    }
-}
-
-// Whether a script is `Zzzz`.
-#[inline(always)]
-pub(crate) fn is_unknown_script(script: &Option<Script>) -> bool
-    ensures { result ≡ is_unknown unknown_script script.now }
-{
-    match script {
-        Some(script) => *script == unknown_script(),
-        None => false,
-    }
-}
-
-// Whether a region is `ZZ`.
-#[inline(always)]
-pub(crate) fn is_unknown_region(region: &Option<Region>) -> bool
-    ensures { result ≡ is_unknown unknown_region region.now }
-{
-    match region {
-        Some(region) => *region == unknown_region(),
-        None => false,
-    }
 }
 
 // Without script `Zzzz` and region `ZZ`.

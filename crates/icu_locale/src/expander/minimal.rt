@@ -15,9 +15,7 @@ ghost use Rattle.icu_locale.specs.declared.expander.Favor.TheVariants.{RegionFir
 ghost use Rattle.icu_locale.specs.declared.expander.looks.LikelyKey.TheVariants.{LanguageRegion, LanguageScript, LanguageAlone};
 ghost use Rattle.icu_locale.specs.inner.Trials.{locale_with, IsTried, gives, gives_script, gives_region, drops_region, drops_script};
 
-use crate::expander::looks::{
-    LikelyKey, Triple, bare_locale, is_unknown_region, is_unknown_script,
-};
+use crate::expander::looks::{LikelyKey, Triple, bare_locale};
 use crate::expander::{Favor, LocaleExpander};
 use icu_locale_core::{Language, Region, Script};
 use icu_provider::DataLocale;
@@ -44,8 +42,8 @@ impl<'d> LocaleExpander<'d> {
         if let Some(script) = maximal.script
             && let Some(region) = maximal.region
             && !maximal.language.is_unknown()
-            && !is_unknown_script(&maximal.script)
-            && !is_unknown_region(&maximal.region)
+            && !script.is_unknown()
+            && !region.is_unknown()
         {
             return self.minimal_of_full(favor, maximal.language, script, region);
         }
@@ -197,7 +195,7 @@ impl<'d> LocaleExpander<'d> {
         if gives(&plain, script, region) {
             return locale_with(language, None, None);
         }
-        if is_unknown_script(&Some(script)) {
+        if script.is_unknown() {
             return locale_with(language, None, Some(region));
         }
         if self.script_leads(language, script, region, &plain) {
@@ -223,7 +221,7 @@ impl<'d> LocaleExpander<'d> {
         if gives(&plain, script, region) {
             return locale_with(language, None, None);
         }
-        if is_unknown_region(&Some(region)) {
+        if region.is_unknown() {
             return locale_with(language, Some(script), None);
         }
         if self.region_leads(language, script, region, &plain) {

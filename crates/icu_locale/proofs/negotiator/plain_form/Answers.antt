@@ -1,7 +1,7 @@
 use Rattle.std.proofs.Common.{refl}
 use Rattle.icu_locale.specs.declared.expander.Favor.TheVariants.{RegionFirst}
 use Rattle.icu_locale.specs.LikelySubtags.{subtags_of}
-use Rattle.icu_locale.specs.inner.Index.{without_variants}
+use Rattle.icu_locale.specs.Index.{without_variants}
 use Rattle.icu_locale.proofs.Least.{IsMinimalForm-trials}
 use Rattle.icu_locale.proofs.negotiator.plain_form.Goals as goal
 

@@ -1,7 +1,7 @@
 use Rattle.std.proofs.Common.{rules}
 use Rattle.std.specs.Ordering.{is_lt, is_le}
 use Rattle.std.proofs.lemmas.List.Sorted.{IsPartitionPoint-from_clause}
-use Rattle.icu_locale.specs.inner.Index.{subtags_cmp}
+use Rattle.icu_locale.specs.Index.{subtags_cmp}
 use Rattle.icu_locale.proofs.SortedRows.{rows_rise, rest_rises, parted_below, parted_above, IsPartOf-cut}
 use Rattle.icu_locale.proofs.negotiator.rows_with.Goals as goal
 

@@ -6,4 +6,4 @@ use Rattle.icu_locale.proofs.canonicalizer.changes.Changes.write.Goals as goal
 pub put-is_subdivision_changed-requires : goal.put-is_subdivision_changed-requires
 put-is_subdivision_changed-requires c there =
     let keywords = c.args.locale.now.extensions.unicode.keywords in
-    rw (c.subdivision_key.ensures, c.put-is_region_changed.ensures.rows, c.region_override_key.ensures, put_optional-other keywords rg sd c.args.self.region_override refl) (c.requires.subdivision there)
+    rw (c.put-is_region_changed.ensures.rows, put_optional-other keywords rg sd c.args.self.region_override refl) (c.requires.subdivision there)
