@@ -1,23 +1,24 @@
-pub mod CanonicalAgain
-pub mod Canonicals
+mod Alone
 mod Classes
-pub mod Counts
 mod Directions
-pub mod LaterEnds
 mod Least
 mod Lists
+mod Rows
+mod Settling
+mod TableLaws
+mod TableRows
+pub mod CanonicalAgain
+pub mod Canonicals
+pub mod Counts
+pub mod LaterEnds
 pub mod Maximal
 pub mod Negotiating
 pub mod Parts
 pub mod Readings
-mod Rows
 pub mod RunPlaces
 pub mod Runs
-mod Settling
 pub mod SortedRows
 pub mod Subsets
-mod TableLaws
-mod TableRows
 pub mod Universes
 pub mod Values
 pub mod Walks

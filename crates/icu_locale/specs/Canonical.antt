@@ -1,5 +1,5 @@
 -- Canonical locales (UTS #35 Part 1, Annex C "LocaleId Canonicalization").
-use Rattle.std.specs.Prelude.{◌≡◌, ℕ, Bool, true, false, ◌||◌, List, codes, Option, Some, None, is_some}
+use Rattle.std.specs.Prelude.{◌≡◌, ℕ, Bool, true, false, ◌||◌, List, [], Option, Some, None, is_some}
 use Rattle.std.specs.Option.{option_and_then}
 pub use Rattle.icu_locale_core.specs.Subtag.{rg, sd}
 use Rattle.icu_locale_core.specs.TextSet.{text_cmp}
@@ -63,3 +63,13 @@ is_applied likely rules old =
 abbrev pub answer_of : Bool → TransformResult
 answer_of true = Modified
 answer_of false = Unmodified
+
+-- the locale of an identifier with no extensions
+abbrev pub without_extensions : LanguageIdentifier → Locale
+without_extensions id = record {
+  id = id;
+  extensions = record {
+    unicode = record { keywords = [] };
+    transform = record { lang = None };
+  };
+}

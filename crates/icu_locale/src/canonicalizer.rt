@@ -1,6 +1,7 @@
 //! Canonicalization of locales (UTS #35 Part 1, Annex C, "LocaleId Canonicalization").
 ghost use Rattle.std.specs.Prelude.{Some, IfOk, IfErr, IfSome};
 ghost use Rattle.icu_locale.specs.Kinds.{by_language_alias};
+ghost use Rattle.icu_locale.specs.Canonical.{without_extensions};
 ghost use Rattle.icu_locale.specs.Canonicalization.{Canonicalizes};
 ghost use Rattle.icu_locale.specs.Refusals.{IsRefusal, IsOutOfMemory, canonicalize_error_name};
 ghost use Rattle.icu_locale.specs.Cost.{CountsRuns, NeedsNoMemory, AddsNoVariants};
@@ -22,7 +23,7 @@ pub mod rules;
 mod values;
 
 use changes::Changes;
-use identifiers::later_end;
+use identifiers::{later_end, matching};
 use rules::Rules;
 use values::later_values;
 
@@ -113,6 +114,33 @@ impl<'d, E: AsExpander<'d>> LocaleCanonicalizer<'d, E> {
     {
         let changes = self.find_changes(locale, turns)?;
         Ok(changes.write(locale))
+    }
+
+    /// Brings an identifier to its canonical form, as `canonicalize` does of the locale with that identifier and no
+    /// extensions. Where no rule matches, one search tells that, and nothing is built.
+    ///
+    /// # Errors
+    ///
+    /// Those of `canonicalize`, but for `NoSubdivisionFixedPoint`. The identifier is unchanged then.
+    #[inline(always)]
+    pub fn canonicalize_identifier(
+        &self,
+        id: &mut LanguageIdentifier,
+    ) -> Result<TransformResult, CanonicalizeError>
+        ensures { Canonicalizes (E.table self.now.expander) self.now.rules
+            (without_extensions id.old) (without_extensions id.new) result }
+    {
+        let mut turns = Turns::new();
+        if matching(self, id, false, &mut turns).is_none() {
+            return Ok(TransformResult::Unmodified);
+        }
+        match later_end(self, id, false, &mut turns)? {
+            Some(last) => {
+                *id = last;
+                Ok(TransformResult::Modified)
+            }
+            None => Ok(TransformResult::Unmodified),
+        }
     }
 
     // What is to be changed of a locale, found before anything is written.

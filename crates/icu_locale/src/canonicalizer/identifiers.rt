@@ -1,5 +1,6 @@
 //! Runs of identifiers.
 ghost use Rattle.std.specs.Prelude.{◌≡◌, ◌+◌, None, Some, IfOk, IfErr, IfSome, IsOk, unwrap_or};
+ghost use Rattle.std.specs.Option.{option_map};
 ghost use Rattle.icu_locale_core.specs.TextSet.{empty, image};
 ghost use Rattle.icu_locale.specs.Kinds.{variant_alias, next_of};
 ghost use Rattle.icu_locale.specs.inner.CanonicalParts.{rewritten, IsRunRefusal, CountsSearchesOf};
@@ -16,8 +17,29 @@ use crate::rewriting::{Outcome, Rewriting, end_of_run};
 use crate::{AsExpander, CanonicalizeError, LocaleCanonicalizer, Rules, Turns};
 use icu_locale_core::{LanguageIdentifier, Variants};
 
-/// What follows an identifier in one turn: by all rules, or by language aliases alone where it is a transform language.
-/// It is the only search for a rule that matches, and it adds one to the turns.
+/// What a turn rewrites of an identifier: by all rules, or by language aliases alone where it is a transform language. It
+/// is the only search for a rule that matches, and it adds one to the turns.
+#[inline(always)]
+pub fn matching<'r, 'd, E: AsExpander<'d>>(
+    canonicalizer: &'r LocaleCanonicalizer<'d, E>,
+    id: &LanguageIdentifier,
+    transform: bool,
+    turns: &mut Turns,
+) -> Option<Rewrite<'r>>
+    ensures found { option_map (rewritten canonicalizer.now.rules id.now) result
+        ≡ next_of (E.table canonicalizer.now.expander) canonicalizer.now.rules transform id.now }
+    ensures counted { turns.new ≡ turns.old + 1 }
+{
+    turns.take();
+    let rules = &canonicalizer.rules;
+    if transform {
+        by_language_alias(rules, id)
+    } else {
+        find_rewrite(rules, &canonicalizer.expander.as_expander(), id)
+    }
+}
+
+/// What follows an identifier in one turn.
 ///
 /// # Errors
 ///
@@ -35,15 +57,8 @@ pub fn search<'d, E: AsExpander<'d>>(
     ensures free { IfSome (next_of (E.table canonicalizer.now.expander) canonicalizer.now.rules
         transform id.now) (λ z. z.variants ≡ empty) → IsOk result }
 {
-    turns.take();
-    let rules = &canonicalizer.rules;
-    let rewrite = if transform {
-        by_language_alias(rules, id)
-    } else {
-        find_rewrite(rules, &canonicalizer.expander.as_expander(), id)
-    };
-    match rewrite {
-        Some(rewrite) => Ok(Some(rewritten(rules, id, &rewrite)?)),
+    match matching(canonicalizer, id, transform, turns) {
+        Some(rewrite) => Ok(Some(rewritten(&canonicalizer.rules, id, &rewrite)?)),
         None => Ok(None),
     }
 }

@@ -1,6 +1,8 @@
 //! Look-ups in the one likely table of an expander.
-ghost use Rattle.std.specs.Prelude.{◌≡◌, not, Some, is_some};
+ghost use Rattle.std.specs.Prelude.{◌≡◌, not, false, Some, None, IsSome, is_some};
 ghost use Rattle.std.specs.Option.{unwrap_or};
+ghost use Rattle.std.specs.Str.{bytes_eq};
+ghost use Rattle.icu_locale_core.specs.Subtag.{und};
 ghost use Rattle.icu_locale_core.specs.Maps.{value_at};
 ghost use Rattle.icu_locale.specs.LikelySubtags.{
   known_subtag,
@@ -139,8 +141,10 @@ impl<'d> LocaleExpander<'d> {
         script: Option<Script>,
         region: Option<Region>,
     ) -> Option<Triple>
-        ensures { let bare = locale_with language script region in filled_from bare result
+        ensures fills { let bare = locale_with language script region in filled_from bare result
             ≡ maximal_of_bare (likely self.now) bare }
+        ensures whole { bytes_eq language und ≡ false → IsSome script → IsSome region
+            → result ≡ None }
     {
         if language.is_unknown() {
             self.first_of_und(script, region)

@@ -1,0 +1,32 @@
+use Rattle.std.proofs.Common.{None, Some, sym, subst, ◌∙◌}
+use Rattle.std.proofs.lemmas.Result.{err_from_is_err_and}
+use Rattle.icu_locale.specs.Kinds.{next}
+use Rattle.icu_locale.specs.Run.{IsLaterEnd}
+use Rattle.icu_locale.specs.inner.CanonicalParts.{rewritten}
+use Rattle.icu_locale.specs.declared.expander.TransformResult.TheVariants.{Modified, Unmodified}
+use Rattle.icu_locale.proofs.Alone.{nothing_next, canonicalized, refused, same_answer, changed_answer}
+use Rattle.icu_locale.proofs.canonicalizer.LocaleCanonicalizer.canonicalize_identifier.Goals as goal
+
+-- no rule matches
+pub returns-then-is_none : goal.returns-then-is_none
+returns-then-is_none g c =
+    let none = nothing_next (rewritten c.args.self.now.rules c.args.id.now) c.matching.result _ c.if-is_none.ensures c.matching.ensures.found in
+    canonicalized (g.E.AsExpander.table c.args.self.now.expander) c.args.self.now.rules c.args.id.now None Unmodified none (same_answer _ c.args.self.now.rules c.args.id.now none)
+
+-- the run has no end, or memory was refused
+pub returns-in_err-last : goal.returns-in_err-last
+returns-in_err-last g c =
+    let p = err_from_is_err_and c.from_residual.result c.from_residual.ensures.1 in
+    rw (p.1, p.2) (refused (g.E.AsExpander.table c.args.self.now.expander) c.args.self.now.rules c.args.id.now c.in_err-last.field-0.0 c.in_err-last.ensures.refused c.in_err-last.ensures.free)
+
+-- the run has an end
+pub returns-in-Some : goal.returns-in-Some
+returns-in-Some g c =
+    let ends = subst (IsLaterEnd (next (g.E.AsExpander.table c.args.self.now.expander) c.args.self.now.rules) c.args.id.now) c.in-Some.is c.in_ok-last.ensures.end in
+    canonicalized (g.E.AsExpander.table c.args.self.now.expander) c.args.self.now.rules c.args.id.now (Some c.in-Some.last) Modified ends (changed_answer _ c.args.self.now.rules c.args.id.now ends.0)
+
+-- or none, where nothing follows the identifier
+pub returns : goal.returns
+returns g c =
+    let none = subst (IsLaterEnd (next (g.E.AsExpander.table c.args.self.now.expander) c.args.self.now.rules) c.args.id.now) c.in-None.is c.in_ok-last.ensures.end in
+    canonicalized (g.E.AsExpander.table c.args.self.now.expander) c.args.self.now.rules c.args.id.now None Unmodified none (same_answer _ c.args.self.now.rules c.args.id.now none)
