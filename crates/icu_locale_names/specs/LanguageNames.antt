@@ -253,14 +253,13 @@ are_many [] = false
 are_many (v ∷ []) = false
 are_many (v ∷ (w ∷ vs)) = true
 
--- no memory for the list of two or more variants, once the region is known and each variant is
--- answered: a refusal of a variant comes first
+-- no memory for the list of two or more variants, once the region is known and before a variant is
+-- asked for
 pub record LacksMemory (answers : LocaleAnswers) (chain : LanguageChain)
     (display : LanguageDisplay) (x : LanguageIdentifier)
     (result : Result (List Piece) DataError) : Type 0 where
   pub known : IsOk (head_of answers chain display x)
   pub many : IsTrue (are_many (rising x.variants))
-  pub named : IsOk (variants_of answers.name (rising x.variants))
   pub refused : result ≡ Err (record { kind = Memory })
 
 -- the name of an identifier is given, or refused as it must be; or memory was lacking

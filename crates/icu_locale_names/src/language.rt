@@ -54,7 +54,7 @@ impl<'d> LanguageIdentifierDisplayName<'d> {
     ///
     /// The first refusal of the provider other than `IdentifierNotFound`, unchanged, in the order language, script,
     /// region, variants, patterns; for the patterns `IdentifierNotFound` too, also where none is used. `Memory` where
-    /// the list of variants could not be made: behind a refusal of a variant, and before one of the patterns.
+    /// the list of variants could not be made: behind a refusal of the region, and before one of a variant.
     pub fn try_new_unstable<P: DataProvider>(
         alloc: Global,
         provider: &'d P,

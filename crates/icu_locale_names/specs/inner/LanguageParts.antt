@@ -94,20 +94,14 @@ variant_list (variants.Many names) = names.items
 abbrev pub variant_pieces : VariantNames → List Piece
 variant_pieces names = map piece_of (variant_list names)
 
--- all is answered, and there was no memory for what is made of the answers
-abbrev pub LacksRoom : {A B : Type 0} → Result A DataError → Result B DataError → Type 0
-LacksRoom answers made = IsOk answers × (made ≡ Err (record { kind = Memory }))
+-- memory was lacking
+abbrev pub IsMemory : {A : Type 0} → Result A DataError → Type 0
+IsMemory made = made ≡ Err (record { kind = Memory })
 
--- what is refused where there is no memory: a refusal of the answers, or memory where all is answered
-abbrev pub IsRefusalOrMemory : {A : Type 0} → Result A DataError → DataError → Type 0
-IsRefusalOrMemory answers refusal =
-    (answers ≡ Err refusal) ⊎ (IsOk answers × (refusal ≡ record { kind = Memory }))
-
--- what was made of variants is this, or memory was lacking for two or more, each of them answered
+-- what was made of variants is this, or memory was lacking for two or more
 abbrev pub IsThisOrMemory : {A : Type 0} → List (List ℕ) → Result A DataError
     → Result A DataError → Type 0
-IsThisOrMemory subtags this made =
-    (made ≡ this) ⊎ (IsTrue (are_many subtags) × LacksRoom this made)
+IsThisOrMemory subtags this made = (made ≡ this) ⊎ (IsTrue (are_many subtags) × IsMemory made)
 
 -- the pieces of a name that is made of these parts
 abbrev pub pieces_by : Parts → List Shown → List PatternItem → List ℕ → List Piece

@@ -3,14 +3,14 @@ ghost use Rattle.std.specs.Prelude.{◌≡◌, ◌⊎◌, ◌∷◌, []};
 ghost use Rattle.icu_locale_core.specs.TextSet.{rising};
 ghost use Rattle.icu_locale_names.specs.Chains.{variant_heavy, made_of};
 ghost use Rattle.icu_locale_names.specs.LanguageNames.{qualifier, variants_of};
-ghost use Rattle.icu_locale_names.specs.inner.LanguageParts.{variant_list, variant_pieces, IsThisOrMemory, LacksRoom, IsRefusalOrMemory};
+ghost use Rattle.icu_locale_names.specs.inner.LanguageParts.{variant_list, variant_pieces, IsMemory, IsThisOrMemory};
 ghost use Rattle.icu_locale_names.specs.inner.Shown.{piece_of};
 
 use crate::language::named::name_or_raw;
 use crate::shown::Shown;
 use crate::variant::HEAVY;
 use icu_locale_core::{Variant, Variants};
-use icu_provider::{DataError, DataErrorKind, DataLocale, DataProvider, NameKey};
+use icu_provider::{DataError, DataLocale, DataProvider, NameKey};
 use std::alloc::Global;
 use std::slice;
 
@@ -34,8 +34,7 @@ impl<'d> VariantNames<'d> {
     }
 }
 
-// The names of variants. Memory is taken for two or more alone, once, before the first is asked for; where it is
-// refused, a refusal of the provider still comes first.
+// The names of variants. Memory is taken for two or more alone, once, before the first is asked for.
 pub fn variant_names<'d, P: DataProvider>(
     alloc: Global,
     provider: &'d P,
@@ -82,44 +81,16 @@ fn many_names<'d, P: DataProvider>(
 ) -> Result<VariantNames<'d>, DataError>
     ensures { (made_of variant_pieces result
         ≡ variants_of (λ marker key. P.name provider.now marker locale.now key)
-        (rising variants.now)) ⊎ LacksRoom
-        (variants_of (λ marker key. P.name provider.now marker locale.now key)
-        (rising variants.now)) (made_of variant_pieces result) }
+        (rising variants.now)) ⊎ IsMemory (made_of variant_pieces result) }
 {
-    let Ok(mut names) = Vec::with_capacity(alloc, variants.len()) else {
-        return Err(refusal_or_memory(provider, locale, variants));
-    };
+    let mut names = Vec::with_capacity(alloc, variants.len())?;
     for variant in variants.iter() {
         match variant_name(provider, locale, &variant) {
-            Ok(name) => {
-                if names.extend_from_slice(slice::from_ref(&name)).is_err() {
-                    return Err(refusal_or_memory(provider, locale, variants));
-                }
-            }
+            Ok(name) => names.extend_from_slice(slice::from_ref(&name))?,
             Err(refusal) => return Err(refusal),
         }
     }
     Ok(VariantNames::Many(names))
-}
-
-// The first refusal of a variant, or `Memory` where each is answered.
-fn refusal_or_memory<P: DataProvider>(
-    provider: &P,
-    locale: &DataLocale,
-    variants: &Variants,
-) -> DataError
-    ensures { IsRefusalOrMemory
-        (variants_of (λ marker key. P.name provider.now marker locale.now key)
-        (rising variants.now)) result }
-{
-    for variant in variants.iter() {
-        if let Err(refusal) = variant_name(provider, locale, &variant) {
-            return refusal;
-        }
-    }
-    DataError {
-        kind: DataErrorKind::Memory,
-    }
 }
 
 // The name of a variant, or the raw subtag.
