@@ -1,5 +1,5 @@
 -- How the ends of a run's parts make the ends of the run.
-use Rattle.std.proofs.Common.{◌≡◌, ◌⊎◌, false, List, ℕ, Option, Result, Ok, Err, IfOk, IfErr, inl, inr, refl, ap, subst, sym}
+use Rattle.std.proofs.Common.{◌≡◌, ◌⊎◌, false, List, ℕ, Option, Result, Ok, Err, IfOk, IfErr, inl, inr, ap, subst, sym}
 use Rattle.icu_tables.specs.declared.error.TableError.{TableError}
 use Rattle.icu_tables.specs.declared.tables.Tables.{Tables}
 use Rattle.icu_locale_lines.specs.declared.command.Command.{Command}

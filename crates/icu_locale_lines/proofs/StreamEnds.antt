@@ -21,7 +21,7 @@ use Rattle.icu_locale_lines.specs.Lines.{is_line_feed, first_line, after_first_l
 use Rattle.icu_locale_lines.specs.Lists.{listed, SpellsAll}
 use Rattle.icu_locale_lines.specs.Loads.{IsExpanderOf}
 use Rattle.icu_locale_lines.specs.Runs.{ReadsAll, WritesAll}
-use Rattle.icu_locale_lines.specs.Streams.{StopsStream, StopsAmong, IsStoppedLineStream, IsRefusedLineStream, ReadsTablesLine, IsJsonStream, IsRefusedJsonStream}
+use Rattle.icu_locale_lines.specs.Streams.{StopsStream, StopsAmong, IsStoppedLineStream, IsRefusedLineStream, ReadsTablesLine, LeavesBehind, IsJsonStream, IsRefusedJsonStream}
 use Rattle.icu_locale_lines.specs.WholeRuns.{WritesSettled, IsRefusedSettled, IsLineRun}
 use Rattle.icu_locale_lines.specs.Commands.{IsWorkOf, text_answered}
 use Rattle.icu_locale_lines.proofs.FirstLines.{place_of_end, alone}
@@ -109,32 +109,32 @@ module _ (c : LineCommand) (t : Tables) (start left read' wrote wrote' : Stream)
 -- ---- over the tables of the first line
 
 module _ (t : Tables) (read mid read' wrote wrote' : Stream) (reads : ReadsTablesLine read mid t) where
-  pub json_settled : (r : Result Status CliError) → IfOk r (WritesSettled t wrote wrote') → IfOk r (IsJsonStream command.Settled read read' wrote wrote')
-  json_settled (Ok s) h = (t, mid, reads, h)
-  json_settled (Err e) h = tt
+  pub json_settled : LeavesBehind mid read' → (r : Result Status CliError) → IfOk r (WritesSettled t wrote wrote') → IfOk r (IsJsonStream command.Settled read read' wrote wrote')
+  json_settled behind (Ok s) h = (t, mid, reads, (behind, h))
+  json_settled behind (Err e) h = tt
 
-  pub json_settled_refused : (r : Result Status CliError) → IfErr r (IsRefusedSettled t wrote wrote') → IfErr r (IsRefusedJsonStream command.Settled read read' wrote wrote')
-  json_settled_refused (Ok s) h = tt
-  json_settled_refused (Err Usage) h = absurd h
-  json_settled_refused (Err (error.Tables e)) h = absurd h
-  json_settled_refused (Err (Data e)) h = (t, mid, reads, h)
-  json_settled_refused (Err Read) h = absurd h
-  json_settled_refused (Err Write) h = (t, mid, reads, h)
-  json_settled_refused (Err Memory) h = absurd h
-  json_settled_refused (Err (Available e)) h = absurd h
-  json_settled_refused (Err NotSettled) h = absurd h
+  pub json_settled_refused : LeavesBehind mid read' → (r : Result Status CliError) → IfErr r (IsRefusedSettled t wrote wrote') → IfErr r (IsRefusedJsonStream command.Settled read read' wrote wrote')
+  json_settled_refused behind (Ok s) h = tt
+  json_settled_refused behind (Err Usage) h = absurd h
+  json_settled_refused behind (Err (error.Tables e)) h = absurd h
+  json_settled_refused behind (Err (Data e)) h = (t, mid, reads, (behind, h))
+  json_settled_refused behind (Err Read) h = absurd h
+  json_settled_refused behind (Err Write) h = (t, mid, reads, (behind, h))
+  json_settled_refused behind (Err Memory) h = absurd h
+  json_settled_refused behind (Err (Available e)) h = absurd h
+  json_settled_refused behind (Err NotSettled) h = absurd h
 
   pub json_lines : (c : LineCommand) (r : Result Status CliError) → IfOk r (IsLineRun c t mid read' wrote wrote') → IfOk r (IsJsonStream (command.Lines c) read read' wrote wrote')
   json_lines c (Ok s) h = (t, mid, reads, h)
   json_lines c (Err e) h = tt
 
-  pub json_lines_refused : (c : LineCommand) (left : Stream) (r : Result Status CliError) → IfErr r (IsRefusedLineStream c t mid left read' wrote wrote') → IfErr r (IsRefusedJsonStream (command.Lines c) read read' wrote wrote')
-  json_lines_refused c left (Ok s) h = tt
-  json_lines_refused c left (Err Usage) h = absurd h
-  json_lines_refused c left (Err (error.Tables e)) h = absurd h
-  json_lines_refused c left (Err (Data e)) h = (t, mid, reads, (left, h))
-  json_lines_refused c left (Err Read) h = inr (t, mid, reads, (left, h))
-  json_lines_refused c left (Err Write) h = (t, mid, reads, (left, h))
-  json_lines_refused c left (Err Memory) h = inr (t, mid, reads, (left, h))
-  json_lines_refused c left (Err (Available e)) h = (t, mid, reads, (left, h))
-  json_lines_refused c left (Err NotSettled) h = (t, mid, reads, (left, h))
+  pub json_lines_refused : (c : LineCommand) (left : Stream) → LeavesBehind mid left → (r : Result Status CliError) → IfErr r (IsRefusedLineStream c t mid left read' wrote wrote') → IfErr r (IsRefusedJsonStream (command.Lines c) read read' wrote wrote')
+  json_lines_refused c left behind (Ok s) h = tt
+  json_lines_refused c left behind (Err Usage) h = absurd h
+  json_lines_refused c left behind (Err (error.Tables e)) h = absurd h
+  json_lines_refused c left behind (Err (Data e)) h = (t, mid, reads, (left, behind, h))
+  json_lines_refused c left behind (Err Read) h = inr (t, mid, reads, (left, behind, h))
+  json_lines_refused c left behind (Err Write) h = (t, mid, reads, (left, behind, h))
+  json_lines_refused c left behind (Err Memory) h = inr (t, mid, reads, (left, behind, h))
+  json_lines_refused c left behind (Err (Available e)) h = (t, mid, reads, (left, behind, h))
+  json_lines_refused c left behind (Err NotSettled) h = (t, mid, reads, (left, behind, h))

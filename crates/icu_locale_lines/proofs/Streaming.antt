@@ -1,5 +1,5 @@
 -- Lines that are answered as they come.
-use Rattle.std.proofs.Common.{◌≡◌, ◌≢◌, ◌⊎◌, ◌↔◌, ℕ, zero, suc, ◌<◌, ◌==◌, ◌||◌, Bool, false, List, [], ◌∷◌, ◌++◌, length, take, drop, get_or, Result, Err, None, Some, inl, inr, refl, ap, sym, subst, ◌∙◌, append_assoc, append-nil, arith}
+use Rattle.std.proofs.Common.{◌≡◌, ◌⊎◌, ◌↔◌, ℕ, zero, suc, ◌<◌, ◌==◌, ◌||◌, Bool, false, List, [], ◌∷◌, ◌++◌, length, take, drop, get_or, Result, Err, None, Some, inl, inr, refl, ap, sym, subst, ◌∙◌, append_assoc, append-nil, arith}
 use Rattle.std.specs.List.{list_any}
 use Rattle.std.specs.Io.KnownBytes.{Appends, Consumes, Keeps, IsAtEnd, prepend_known}
 use Rattle.std.proofs.KnownBytes.{Appends-trans, Appends-nil, Appends-kept, Consumes-nil, Consumes-trans, Consumes-kept}
@@ -14,7 +14,7 @@ use Rattle.icu_locale_lines.specs.declared.work.Work.{Work}
 use Rattle.icu_locale_lines.specs.Answers.{IsAnswer}
 use Rattle.icu_locale_lines.specs.Lines.{is_line_feed, lines, Stream}
 use Rattle.icu_locale_lines.specs.Runs.{AreAnswers, text_of_lines, all_accepted, ReadsAll, WritesAll, WritesUpTo, WritesWholeLines, WritesPart}
-use Rattle.icu_locale_lines.specs.Streams.{EndsLines, AnswersEnded, StopsBetween, StopsStream}
+use Rattle.icu_locale_lines.specs.Streams.{EndsLines, AnswersEnded, LeavesEnded, LeavesLines, StopsBetween, StopsStream}
 use Rattle.icu_locale_lines.specs.laws.Parts.{lines_of_parts, AllZip-append, all_accepted_of_parts}
 
 -- the lines of whole lines and what follows them
@@ -88,54 +88,32 @@ module _ (work : Work) (old mid new : Stream) where
         );
   }
 
-module _ (work : Work) (old new : Stream) (front t : List ℕ) (ends : EndsLines front) where
-  -- some of whole lines were answered, and nothing of what follows
-  pub WritesUpTo-before : (part : List ℕ) (rest : List (List ℕ)) → WritesUpTo work front old new part rest → WritesUpTo work (front ++ t) old new part (rest ++ lines t)
-  WritesUpTo-before part rest w = record {
-    answered = w.answered;
-    parted = lines_after front t ends ∙ ap (λ l. l ++ lines t) w.parted ∙ append_assoc w.answered rest (lines t);
+-- the whole lines were answered
+pub WritesWholeLines-answered : (work : Work) (front : List ℕ) (old new : Stream) (status : Status) → WritesAll work front old new status → WritesWholeLines work front old new
+WritesWholeLines-answered work front old new status w = (
+  [],
+  record {
+    answered = lines front;
+    parted = sym (append-nil (lines front));
     answers = w.answers;
     each = w.each;
-    written = w.written;
-  }
-
-  pub WritesWholeLines-ahead : WritesWholeLines work front old new → WritesWholeLines work (front ++ t) old new
-  WritesWholeLines-ahead w = (w.0 ++ lines t, WritesUpTo-before [] w.0 w.1)
-
-  pub WritesPart-ahead : WritesPart work front old new → WritesPart work (front ++ t) old new
-  WritesPart-ahead w = record {
-    line = w.line;
-    rest = w.rest ++ lines t;
-    text = w.text;
-    accepted = w.accepted;
-    answer = w.answer;
-    part = w.part;
-    left = w.left;
-    cut = w.cut;
-    short = w.short;
-    earlier = WritesUpTo-before w.part (w.line ∷ w.rest) w.earlier;
-  }
-
-  -- the whole lines were answered, and nothing of what follows
-  pub WritesWholeLines-answered : (status : Status) → WritesAll work front old new status → WritesWholeLines work (front ++ t) old new
-  WritesWholeLines-answered status w = WritesWholeLines-ahead (
-    [],
-    record {
-      answered = lines front;
-      parted = sym (append-nil (lines front));
-      answers = w.answers;
-      each = w.each;
-      written = subst (Appends old new) (sym (append-nil (text_of_lines w.answers))) w.written;
-    },
-  )
+    written = subst (Appends old new) (sym (append-nil (text_of_lines w.answers))) w.written;
+  },
+)
 
 -- nothing is written of no lines
 pub WritesAll-none : (work : Work) (old : Stream) → WritesAll work [] old old Accepted
 WritesAll-none work old = record { answers = []; each = tt; written = Appends-nil old; status_is = (λ e. refl, λ e. refl) }
 
 -- nothing was answered yet
-pub WritesWholeLines-none : (work : Work) (text : List ℕ) (old : Stream) → WritesWholeLines work text old old
-WritesWholeLines-none work text old = (lines text, record { answered = []; parted = refl; answers = []; each = tt; written = Appends-nil old })
+pub LeavesEnded-none : (work : Work) (text : List ℕ) (old : Stream) → LeavesEnded WritesWholeLines work text old old
+LeavesEnded-none work text old = record {
+  ended = [];
+  left = text;
+  whole = inl refl;
+  parted = refl;
+  leaves = ([], record { answered = []; parted = refl; answers = []; each = tt; written = Appends-nil old });
+}
 
 -- a refusal that was passed on
 pub same_refusal : (r : Result Status CliError) (e y t : CliError) → r ≡ Err y → y ≡ e → r ≡ Err t → (q : Result Status CliError) → q ≡ Err e → q ≡ Err t
@@ -154,14 +132,8 @@ module _ (carry part front rest held : List ℕ) (parted : part ≡ front ++ res
   held_ends = subst EndsLines (sym held_is) (some_ends carry front some front_ends)
 
   module _ (work : Work) (old new : Stream) where
-    pub part_memory : WritesWholeLines work held old new → WritesWholeLines work (carry ++ part) old new
-    part_memory w = subst (λ t. WritesWholeLines work t old new) (sym whole_text) (WritesWholeLines-ahead work old new held rest held_ends w)
-
-    pub part_write : WritesPart work held old new → WritesPart work (carry ++ part) old new
-    part_write w = subst (λ t. WritesPart work t old new) (sym whole_text) (WritesPart-ahead work old new held rest held_ends w)
-
-    pub part_answered : (status : Status) → WritesAll work held old new status → WritesWholeLines work (carry ++ part) old new
-    part_answered status w = subst (λ t. WritesWholeLines work t old new) (sym whole_text) (WritesWholeLines-answered work old new held rest held_ends status w)
+    pub part_leaves : (Leaves : Work → List ℕ → Stream → Stream → Type 0) → Leaves work held old new → LeavesEnded Leaves work (carry ++ part) old new
+    part_leaves Leaves leaves = record { ended = held; left = rest; whole = held_ends; parted = whole_text; leaves = leaves }
 
     pub part_whole : (status : Status) → WritesAll work held old new status → (left : List ℕ) → left ≡ rest → AnswersEnded work (carry ++ part) left old new status
     part_whole status w left left_is = record {
@@ -203,10 +175,21 @@ module _ (work : Work) (read mid wrote between : Stream) (status : Status) (carr
     unended = none;
   }
 
+  -- what a refused part leaves, behind the lines before
+  lines_behind : (Leaves : Work → List ℕ → Stream → Stream → Type 0) (wrote' : Stream) → ((t : List ℕ) → Leaves work t between wrote' → Leaves work (before.done ++ t) wrote wrote') → (new : Stream) (part : List ℕ) → LeavesLines Leaves work new (carry ++ part) between wrote' → LeavesLines Leaves work new (before.done ++ (carry ++ part)) wrote wrote'
+  lines_behind Leaves wrote' behind new part (inl l) = inl record {
+    ended = before.done ++ l.ended;
+    left = l.left;
+    whole = EndsLines-append before.done l.ended before.whole l.whole;
+    parted = ap (λ t. before.done ++ t) l.parted ∙ sym (append_assoc before.done l.ended l.left);
+    leaves = behind l.ended l.leaves;
+  }
+  lines_behind Leaves wrote' behind new part (inr end) = inr (end.0, behind (carry ++ part) end.1)
+
   -- a part was refused
-  pub StreamProgress-refused : (new wrote' : Stream) (part : List ℕ) → Consumes mid new part → (e : CliError) → (e ≡ Memory) ⊎ (e ≡ Write) → ((r : Result Status CliError) → r ≡ Err e → r ≡ Err Memory → WritesWholeLines work (carry ++ part) between wrote') → ((r : Result Status CliError) → r ≡ Err e → r ≡ Err Write → WritesPart work (carry ++ part) between wrote') → StopsStream work read new wrote wrote' e
-  StreamProgress-refused new wrote' part more e (inl is) memory write = subst (StopsStream work read new wrote wrote') (sym is) (before.done ++ (carry ++ part), consumed_more new part more, WritesWholeLines-behind work wrote between wrote' before.done (carry ++ part) status before.whole before.answered (memory (Err e) refl (ap Err is)))
-  StreamProgress-refused new wrote' part more e (inr is) memory write = subst (StopsStream work read new wrote wrote') (sym is) (inl (before.done ++ (carry ++ part), consumed_more new part more, WritesPart-behind work wrote between wrote' before.done (carry ++ part) status before.whole before.answered (write (Err e) refl (ap Err is))))
+  pub StreamProgress-refused : (new wrote' : Stream) (part : List ℕ) → Consumes mid new part → (e : CliError) → (e ≡ Memory) ⊎ (e ≡ Write) → ((r : Result Status CliError) → r ≡ Err e → r ≡ Err Memory → LeavesLines WritesWholeLines work new (carry ++ part) between wrote') → ((r : Result Status CliError) → r ≡ Err e → r ≡ Err Write → LeavesLines WritesPart work new (carry ++ part) between wrote') → StopsStream work read new wrote wrote' e
+  StreamProgress-refused new wrote' part more e (inl is) memory write = subst (StopsStream work read new wrote wrote') (sym is) (before.done ++ (carry ++ part), consumed_more new part more, lines_behind WritesWholeLines wrote' (λ t w. WritesWholeLines-behind work wrote between wrote' before.done t status before.whole before.answered w) new part (memory (Err e) refl (ap Err is)))
+  StreamProgress-refused new wrote' part more e (inr is) memory write = subst (StopsStream work read new wrote wrote') (sym is) (inl (before.done ++ (carry ++ part), consumed_more new part more, lines_behind WritesPart wrote' (λ t w. WritesPart-behind work wrote between wrote' before.done t status before.whole before.answered w) new part (write (Err e) refl (ap Err is))))
 
   -- a failed read
   pub StreamProgress-unread : (new : Stream) → Keeps mid new → StopsBetween work read new wrote between

@@ -79,6 +79,10 @@ pub record IsUnsettled (c : Command) (t : Tables) : Type 0 where
   pub held : has_likely t ≡ true
   pub unsettled : (e : LocaleExpander) → IsExpanderOf t e → ¬ (AreSettled (likely e))
 
+-- the likely tables are held and settled
+abbrev pub HoldsSettled : Tables → Type 0
+HoldsSettled t = (e : LocaleExpander) × IsExpanderOf t e × AreSettled (likely e)
+
 -- the work of a command over tables; for `negotiate` these are settled, and the first line of the
 -- input lists what is available
 abbrev pub IsWorkOf : LineCommand → Tables → List ℕ → Work → Type 0

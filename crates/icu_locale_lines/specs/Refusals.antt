@@ -4,9 +4,10 @@ use Rattle.icu_locale.specs.LikelySubtags.{LikelySubtags, AreSettled}
 use Rattle.icu_tables.specs.File.{rows_in}
 use Rattle.icu_locale_lines.specs.declared.error.CliError.{CliError}
 use Rattle.icu_locale_lines.specs.declared.error.CliError.TheVariants.{Tables, Data, Memory, Available, NotSettled, Usage, Read, Write}
-use Rattle.icu_locale_lines.specs.Lists.{listed, IsFirstFault}
+use Rattle.icu_locale_lines.specs.Lists.{listed, SpellsAll, IsFirstFault}
 use Rattle.icu_locale_lines.specs.Loads.{not_found}
 use Rattle.icu_locale_core.specs.Identifier.{parse_error_name}
+use Rattle.icu_locale_core.specs.declared.langid.LanguageIdentifier.{LanguageIdentifier}
 use Rattle.icu_provider.specs.Provider.{kind_name}
 use Rattle.icu_tables.specs.declared.error.TableError.{TableError}
 use Rattle.icu_tables.specs.declared.error.TableError.TheVariants.{Json, Shape}
@@ -30,7 +31,8 @@ IsRefusedLoad e = (e ≡ Data not_found) ⊎ (e ≡ Memory) ⊎ (e ≡ NotSettle
 abbrev pub IsRefusedList : LikelySubtags → List ℕ → CliError → Type 0
 IsRefusedList likely line (Available e) = IsFirstFault (listed line) e
 IsRefusedList likely line Memory = Unit {0}
-IsRefusedList likely line NotSettled = ¬ (AreSettled likely)
+IsRefusedList likely line NotSettled =
+    ¬ (AreSettled likely) × (list : List LanguageIdentifier) × SpellsAll (listed line) list
 IsRefusedList likely line e = ⊥
 
 -- the name of a refusal of tables

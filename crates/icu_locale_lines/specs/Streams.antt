@@ -1,7 +1,7 @@
 -- What a run that answers lines as they come reads and writes.
-use Rattle.std.specs.Prelude.{◌≡◌, ◌⊎◌, ℕ, Bool, true, false, List, [], ◌∷◌, ◌++◌, Ok, Err}
+use Rattle.std.specs.Prelude.{◌≡◌, ◌⊎◌, ◌<◌, ℕ, length, Bool, true, false, List, [], ◌∷◌, ◌++◌, Ok, Err}
 use Rattle.std.specs.List.{list_any}
-use Rattle.std.specs.Io.KnownBytes.{Consumes, IsAtEnd}
+use Rattle.std.specs.Io.KnownBytes.{Consumes, IsAtEnd, prepend_known}
 use Rattle.icu_locale_core.specs.declared.parse_error.ParseError.{ParseError}
 use Rattle.icu_tables.specs.Rows.{rows_of}
 use Rattle.icu_tables.specs.File.{rows_in}
@@ -20,7 +20,7 @@ use Rattle.icu_locale_lines.specs.Lists.{listed, IsFirstFault}
 use Rattle.icu_locale_lines.specs.Loads.{not_found}
 use Rattle.icu_locale_lines.specs.Runs.{WritesAll, WritesWholeLines, WritesPart}
 use Rattle.icu_locale_lines.specs.WholeRuns.{WritesSettled, IsRefusedSettled, IsLineRun}
-use Rattle.icu_locale_lines.specs.Commands.{IsWorkOf, IsUnsettled, has_tables, text_answered}
+use Rattle.icu_locale_lines.specs.Commands.{IsWorkOf, IsUnsettled, HoldsSettled, has_tables, text_answered}
 
 -- a text of whole lines: nothing, or all up to a line feed
 abbrev pub EndsLines : List ℕ → Type 0
@@ -43,11 +43,27 @@ pub record StopsBetween (work : Work) (read read' wrote wrote' : Stream) : Type 
   pub answered : AnswersEnded work text left wrote wrote' status
   pub unended : list_any is_line_feed left ≡ false
 
+-- the lines that a text ends are answered as far as Leaves says
+pub record LeavesEnded (Leaves : Work → List ℕ → Stream → Stream → Type 0) (work : Work)
+    (text : List ℕ) (old new : Stream) : Type 0 where
+  pub ended : List ℕ
+  pub left : List ℕ
+  pub whole : EndsLines ended
+  pub parted : text ≡ ended ++ left
+  pub leaves : Leaves work ended old new
+
+-- the lines of a text are answered as far as Leaves says: what follows the last line feed is one
+-- only where the input has ended
+abbrev pub LeavesLines : (Work → List ℕ → Stream → Stream → Type 0) → Work → Stream → List ℕ
+    → Stream → Stream → Type 0
+LeavesLines Leaves work read' text wrote wrote' =
+    LeavesEnded Leaves work text wrote wrote' ⊎ (IsAtEnd read' × Leaves work text wrote wrote')
+
 -- what came is answered as far as Leaves says
 abbrev pub StopsWithin : (Work → List ℕ → Stream → Stream → Type 0) → Work → Stream → Stream
     → Stream → Stream → Type 0
 StopsWithin Leaves work read read' wrote wrote' =
-    (text : List ℕ) × Consumes read read' text × Leaves work text wrote wrote'
+    (text : List ℕ) × Consumes read read' text × LeavesLines Leaves work read' text wrote wrote'
 
 -- what lines leave that stop early: after a failed read each line that had ended is answered; where
 -- memory was refused whole lines alone are written; a failed write leaves the earlier lines and a
@@ -92,18 +108,20 @@ pub record StopsAmong (c : LineCommand) (t : Tables) (read read' wrote wrote' : 
   pub answered : (text : List ℕ) → text_answered c (head ++ text) ≡ text
   pub stops : StopsStream work mid read' wrote wrote' e
 
--- the first line, which lists what `negotiate` has available, was read and has a fault
-abbrev pub IsUnavailableLine : LineCommand → Stream → ParseError → Type 0
-IsUnavailableLine c read e = (c ≡ Negotiate) × (line : List ℕ) × (has_ended : Bool)
-    × (mid : Stream) × ReadsLine read mid line has_ended × IsFirstFault (listed line) e
+-- over settled tables the first line, which lists what `negotiate` has available, was read and has
+-- a fault
+abbrev pub IsUnavailableLine : LineCommand → Tables → Stream → ParseError → Type 0
+IsUnavailableLine c t read e = (c ≡ Negotiate) × HoldsSettled t × (line : List ℕ)
+    × (has_ended : Bool) × (mid : Stream) × ReadsLine read mid line has_ended
+    × IsFirstFault (listed line) e
 
 -- what a command leaves that stops once its tables are loaded
 abbrev pub IsStoppedLineStream : LineCommand → Tables → Stream → Stream → Stream → Stream
     → CliError → Type 0
 IsStoppedLineStream c t read read' wrote wrote' (error.Available e) =
-    IsUnavailableLine c read e × (wrote' ≡ wrote)
+    IsUnavailableLine c t read e × (wrote' ≡ wrote)
 IsStoppedLineStream c t read read' wrote wrote' error.Read =
-    ((c ≡ Negotiate) × ReadsUnended read read' × (wrote' ≡ wrote))
+    ((c ≡ Negotiate) × HoldsSettled t × ReadsUnended read read' × (wrote' ≡ wrote))
     ⊎ StopsAmong c t read read' wrote wrote' error.Read
 IsStoppedLineStream c t read read' wrote wrote' error.Memory =
     (wrote' ≡ wrote) ⊎ StopsAmong c t read read' wrote wrote' error.Memory
@@ -132,6 +150,16 @@ IsRefusedStream (command.Lines c) t read read' wrote wrote' e =
 
 -- ---- tables of the first line
 
+-- what is read at once, in bytes
+abbrev pub part_size : ℕ
+part_size = 16384
+
+-- what follows a line and was read with it is less than what is read at once; left is all else
+pub record LeavesBehind (mid left : Stream) : Type 0 where
+  pub rest : List ℕ
+  pub short : length rest < part_size
+  pub behind : mid ≡ prepend_known rest left
+
 -- the first line was read, and gives tables with these rows
 pub record ReadsTablesLine (read mid : Stream) (t : Tables) : Type 0 where
   pub line : List ℕ
@@ -139,10 +167,10 @@ pub record ReadsTablesLine (read mid : Stream) (t : Tables) : Type 0 where
   pub reads : ReadsLine read mid line has_ended
   pub rows : rows_in line ≡ Ok (rows_of t)
 
--- what follows tables: `settled` reads no further
+-- what follows tables: `settled` reads no part behind that of the first line
 abbrev pub WritesBehind : Command → Tables → Stream → Stream → Stream → Stream → Status → Type 0
 WritesBehind command.Settled t mid read' wrote wrote' status =
-    WritesSettled t wrote wrote' status
+    LeavesBehind mid read' × WritesSettled t wrote wrote' status
 WritesBehind (command.Lines c) t mid read' wrote wrote' status =
     IsLineRun c t mid read' wrote wrote' status
 
@@ -153,9 +181,10 @@ IsJsonStream c read read' wrote wrote' status = (t : Tables) × (mid : Stream)
 
 -- what is refused behind tables
 abbrev pub StopsBehind : Command → Tables → Stream → Stream → Stream → Stream → CliError → Type 0
-StopsBehind command.Settled t mid read' wrote wrote' e = IsRefusedSettled t wrote wrote' e
-StopsBehind (command.Lines c) t mid read' wrote wrote' e =
-    (left : Stream) × IsRefusedLineStream c t mid left read' wrote wrote' e
+StopsBehind command.Settled t mid read' wrote wrote' e =
+    LeavesBehind mid read' × IsRefusedSettled t wrote wrote' e
+StopsBehind (command.Lines c) t mid read' wrote wrote' e = (left : Stream) × LeavesBehind mid left
+    × IsRefusedLineStream c t mid left read' wrote wrote' e
 
 -- a stream over the tables of the first line stopped early
 abbrev pub StopsJsonStream : Command → Stream → Stream → Stream → Stream → CliError → Type 0
@@ -163,15 +192,15 @@ StopsJsonStream c read read' wrote wrote' e = (t : Tables) × (mid : Stream)
     × ReadsTablesLine read mid t × StopsBehind c t mid read' wrote wrote' e
 
 -- the first line was read, and gives no tables
-abbrev pub ReadsNoTables : Stream → TableError → Type 0
-ReadsNoTables read e = (line : List ℕ) × (has_ended : Bool) × (mid : Stream)
-    × ReadsLine read mid line has_ended × (rows_in line ≡ Err e)
+abbrev pub ReadsNoTables : Stream → Stream → TableError → Type 0
+ReadsNoTables read read' e = (line : List ℕ) × (has_ended : Bool) × (mid : Stream)
+    × ReadsLine read mid line has_ended × LeavesBehind mid read' × (rows_in line ≡ Err e)
 
 -- what a refused stream over the tables of the first line leaves
 abbrev pub IsRefusedJsonStream : Command → Stream → Stream → Stream → Stream → CliError → Type 0
 IsRefusedJsonStream c read read' wrote wrote' error.Usage = ⊥
 IsRefusedJsonStream c read read' wrote wrote' (error.Tables e) =
-    ReadsNoTables read e × (wrote' ≡ wrote)
+    ReadsNoTables read read' e × (wrote' ≡ wrote)
 IsRefusedJsonStream c read read' wrote wrote' error.Read =
     (ReadsUnended read read' × (wrote' ≡ wrote))
     ⊎ StopsJsonStream c read read' wrote wrote' error.Read

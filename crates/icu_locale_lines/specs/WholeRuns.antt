@@ -23,7 +23,7 @@ use Rattle.icu_locale_lines.specs.Loads.{IsExpanderOf, not_found}
 use Rattle.icu_locale_names.specs.Pieces.{AppendsPart}
 use Rattle.icu_locale_lines.specs.Runs.{ReadsAll, WritesAll, WritesWholeLines, WritesPart}
 use Rattle.icu_locale_lines.specs.Texts.{settled_line}
-use Rattle.icu_locale_lines.specs.Commands.{IsWorkOf, IsUnsettled, has_tables, text_answered}
+use Rattle.icu_locale_lines.specs.Commands.{IsWorkOf, IsUnsettled, HoldsSettled, has_tables, text_answered}
 
 -- the work of the command was done on every line that it answers
 pub record WritesLines (c : LineCommand) (t : Tables) (input : List ℕ) (wrote wrote' : Stream)
@@ -63,9 +63,11 @@ abbrev pub WritesPartOfSettled : Tables → Stream → Stream → Type 0
 WritesPartOfSettled t wrote wrote' =
     (answer : Bool) × TellsSettled t answer × AppendsPart wrote wrote' (settled_line answer)
 
--- the first line of an input, which lists what `negotiate` has available, has a fault
-abbrev pub IsUnavailable : LineCommand → List ℕ → ParseError → Type 0
-IsUnavailable c input e = (c ≡ Negotiate) × IsFirstFault (listed (first_line input)) e
+-- over settled tables the first line of an input, which lists what `negotiate` has available, has a
+-- fault
+abbrev pub IsUnavailable : LineCommand → Tables → List ℕ → ParseError → Type 0
+IsUnavailable c t input e =
+    (c ≡ Negotiate) × HoldsSettled t × IsFirstFault (listed (first_line input)) e
 
 -- what lines that stop early leave: a table that is not held, tables that are not settled and a fault among the
 -- available identifiers leave the writer as it was; where memory was refused whole lines alone are written; a failed
@@ -78,7 +80,7 @@ IsRefusedLines c t input wrote wrote' error.Memory =
 IsRefusedLines c t input wrote wrote' error.Write =
     StopsAmongLines WritesPart c t input wrote wrote'
 IsRefusedLines c t input wrote wrote' (error.Available e) =
-    IsUnavailable c input e × (wrote' ≡ wrote)
+    IsUnavailable c t input e × (wrote' ≡ wrote)
 IsRefusedLines c t input wrote wrote' error.NotSettled =
     IsUnsettled (command.Lines c) t × (wrote' ≡ wrote)
 IsRefusedLines c t input wrote wrote' e = ⊥
@@ -120,7 +122,7 @@ IsRefusedLineRun c t read read' wrote wrote' error.Memory = (wrote' ≡ wrote)
 IsRefusedLineRun c t read read' wrote wrote' error.Write =
     (input : List ℕ) × ReadsAll read read' input × StopsAmongLines WritesPart c t input wrote wrote'
 IsRefusedLineRun c t read read' wrote wrote' (error.Available e) =
-    ((input : List ℕ) × ReadsAll read read' input × IsUnavailable c input e) × (wrote' ≡ wrote)
+    ((input : List ℕ) × ReadsAll read read' input × IsUnavailable c t input e) × (wrote' ≡ wrote)
 IsRefusedLineRun c t read read' wrote wrote' error.NotSettled =
     IsUnsettled (command.Lines c) t × (read' ≡ read) × (wrote' ≡ wrote)
 IsRefusedLineRun c t read read' wrote wrote' e = ⊥

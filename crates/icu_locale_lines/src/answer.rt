@@ -15,7 +15,7 @@ use std::fmt;
 use std::io::Write;
 
 /// The line that is written for one that was read, and whether that one was accepted.
-#[derive(Drop)]
+#[derive(Debug, Drop)]
 pub struct Answer {
     /// The line, with its line feed.
     pub text: Vec<u8>,

@@ -1,7 +1,7 @@
 //! The input, read to its end, or up to the end of its first line.
-ghost use Rattle.std.specs.Prelude.{◌≡◌, ◌⊎◌, IfOk, IfErr, Err, option_map};
+ghost use Rattle.std.specs.Prelude.{◌≡◌, ◌⊎◌, ◌<◌, ◌≤◌, length, IfOk, IfErr, Err, option_map};
 ghost use Rattle.std.specs.Io.KnownBytes.{Consumes, IsAtEnd, prepend_known};
-ghost use Rattle.icu_locale_lines.specs.Streams.{ReadsLine, ReadsUnended};
+ghost use Rattle.icu_locale_lines.specs.Streams.{ReadsLine, ReadsUnended, part_size};
 ghost use Rattle.icu_locale_lines.specs.inner.Parts.{TakesLine};
 
 use crate::error::CliError;
@@ -52,17 +52,18 @@ pub struct FirstLine {
     pub has_ended: bool,
 }
 
-// Reads the first line behind what was read before. An input in which it has not ended after the last read counts as a
-// failed read.
+// Reads the first line behind what was read before. An input in which it has not ended after the last read that it may
+// take counts as a failed read.
 pub fn read_first_line<R: Read>(
     alloc: Global,
     before: &[u8],
     reader: &mut R,
-    most_reads: u64,
 ) -> Result<FirstLine, CliError>
     ensures line { IfOk result (λ l. ReadsLine
         (prepend_known before.now (R.remaining reader.old))
         (prepend_known l.rest.items (R.remaining reader.new)) l.line.items l.has_ended) }
+    ensures short { length before.now ≤ part_size
+        → IfOk result (λ l. length l.rest.items < part_size) }
     ensures unended { result ≡ Err CliError.Read → ReadsUnended
         (prepend_known before.now (R.remaining reader.old)) (R.remaining reader.new) }
     ensures refused { IfErr result (λ e. (e ≡ CliError.Read) ⊎ (e ≡ CliError.Memory)) }
@@ -76,7 +77,7 @@ pub fn read_first_line<R: Read>(
         });
     }
     let mut buffer = [0; PART];
-    for _ in 0..most_reads {
+    for _ in 0..MOST_READS {
         match reader.read(&mut buffer) {
             Ok(0) => {
                 return Ok(FirstLine {

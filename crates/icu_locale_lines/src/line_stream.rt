@@ -4,10 +4,11 @@ ghost use Rattle.std.specs.List.{list_any};
 ghost use Rattle.std.specs.Io.KnownBytes.{prepend_known};
 ghost use Rattle.icu_locale_lines.specs.Lines.{is_line_feed};
 ghost use Rattle.icu_locale_lines.specs.Runs.{ReadsAll, WritesAll, WritesWholeLines, WritesPart};
-ghost use Rattle.icu_locale_lines.specs.Streams.{EndsLines, AnswersEnded, StopsStream};
+ghost use Rattle.icu_locale_lines.specs.Streams.{EndsLines, AnswersEnded, LeavesEnded, StopsStream};
 
 use crate::answer::write_answers;
 use crate::error::CliError;
+use crate::input::MOST_READS;
 use crate::status::Status;
 use crate::work::Work;
 use std::alloc::Global;
@@ -18,14 +19,13 @@ pub const PART: usize = 16384;
 
 // Answers what is left of a reader, behind what was read of it before. After each part it answers the lines that this
 // part ends, and keeps what is behind the last line feed; at the end it answers what is left. An input that has not ended
-// after the last read counts as a failed read.
+// after the last read that it may take counts as a failed read.
 pub fn stream_lines<R: Read, W: Write>(
     alloc: Global,
     work: &Work<'_>,
     first: &[u8],
     reader: &mut R,
     writer: &mut W,
-    most_reads: u64,
 ) -> Result<Status, CliError>
     ensures whole { IfOk result (λ status. (input : List ℕ)
         × ReadsAll (prepend_known first.now (R.remaining reader.old))
@@ -38,7 +38,7 @@ pub fn stream_lines<R: Read, W: Write>(
     let mut carry = Vec::new(alloc);
     let mut status = answer_part(alloc, work, &mut carry, first, writer)?;
     let mut buffer = [0; PART];
-    for _ in 0..most_reads {
+    for _ in 0..MOST_READS {
         if writer.flush().is_err() {
             return Err(CliError::Write);
         }
@@ -70,9 +70,9 @@ fn answer_part<W: Write>(
         (W.contents writer.old) (W.contents writer.new)) }
     ensures carried { list_any is_line_feed carry.old.items ≡ false → IfOk result
         (λ _. list_any is_line_feed carry.new.items ≡ false) }
-    ensures memory { result ≡ Err CliError.Memory → WritesWholeLines work.now
+    ensures memory { result ≡ Err CliError.Memory → LeavesEnded WritesWholeLines work.now
         (carry.old.items ++ part.now) (W.contents writer.old) (W.contents writer.new) }
-    ensures write { result ≡ Err CliError.Write → WritesPart work.now
+    ensures write { result ≡ Err CliError.Write → LeavesEnded WritesPart work.now
         (carry.old.items ++ part.now) (W.contents writer.old) (W.contents writer.new) }
     ensures refused { IfErr result (λ e. (e ≡ CliError.Memory) ⊎ (e ≡ CliError.Write)) }
 {

@@ -29,7 +29,7 @@ use std::alloc::Global;
 use std::io::Write;
 
 /// What a command has before its input is read.
-#[derive(Drop)]
+#[derive(Debug, Drop)]
 pub enum Loaded<'d> {
     /// What it works with.
     Ready(Work<'d>),

@@ -18,7 +18,7 @@ ghost use Rattle.icu_locale_lines.specs.declared.command.LineCommand.TheVariants
 
 use crate::command::{Command, LineCommand};
 use crate::error::CliError;
-use crate::input::{MOST_READS, read_first_line};
+use crate::input::read_first_line;
 use crate::line_stream::stream_lines;
 use crate::loads::{Loaded, list_available};
 use crate::runs::{read_tables, write_settled};
@@ -82,7 +82,7 @@ pub fn stream_json<R: Read, W: Write>(
     ensures refused { IfErr result (IsRefusedJsonStream command.now (R.remaining reader.old)
         (R.remaining reader.new) (W.contents writer.old) (W.contents writer.new)) }
 {
-    let first = read_first_line(alloc, &[], reader, MOST_READS)?;
+    let first = read_first_line(alloc, &[], reader)?;
     let tables = read_tables(alloc, &first.line)?;
     match command {
         Command::Settled => write_settled(&tables, writer),
@@ -113,7 +113,7 @@ fn stream_command<R: Read, W: Write>(
         (R.remaining reader.new) (W.contents writer.old) (W.contents writer.new)) }
 {
     match Loaded::load(alloc, command, tables)? {
-        Loaded::Ready(work) => stream_lines(alloc, &work, before, reader, writer, MOST_READS),
+        Loaded::Ready(work) => stream_lines(alloc, &work, before, reader, writer),
         Loaded::Negotiate(expander) => stream_requests(alloc, expander, before, reader, writer),
     }
 }
@@ -135,10 +135,10 @@ fn stream_requests<R: Read, W: Write>(
         (prepend_known before.now (R.remaining reader.old)) (R.remaining reader.new)
         (W.contents writer.old) (W.contents writer.new)) }
 {
-    let first = read_first_line(alloc, before, reader, MOST_READS)?;
+    let first = read_first_line(alloc, before, reader)?;
     let work = Work::Negotiate(list_available(alloc, expander, &first.line)?);
     if first.has_ended {
         return Ok(Status::Accepted);
     }
-    stream_lines(alloc, &work, &first.rest, reader, writer, MOST_READS)
+    stream_lines(alloc, &work, &first.rest, reader, writer)
 }

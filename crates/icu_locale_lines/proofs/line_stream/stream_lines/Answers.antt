@@ -1,4 +1,4 @@
-use Rattle.std.proofs.Common.{◌≡◌, [], take, rules, inr, refl, sym, subst, ◌∙◌, append-nil}
+use Rattle.std.proofs.Common.{◌≡◌, [], take, rules, inl, inr, refl, sym, subst, ◌∙◌, append-nil}
 use Rattle.std.specs.Io.KnownBytes.{Consumes, IsAtEnd, prepend_known}
 use Rattle.std.proofs.lemmas.Result.{err_from_is_err_and}
 use Rattle.icu_locale_lines.specs.Runs.{WritesAll, WritesWholeLines, WritesPart}
@@ -19,8 +19,8 @@ returns-in_err-status-clause-refused g c =
     let passed_on = err_from_is_err_and c.from_residual.result c.from_residual.ensures.1 in
     rw (passed_on.1, passed_on.2) (StreamProgress-refused work start start (wrote c.args.writer.now) (wrote c.args.writer.now) Accepted held (StreamProgress-none work start (wrote c.args.writer.now) held c.new-carry.ensures.items)
     (read c.args.reader.now) (wrote c.answer_part.new.writer) first (Consumes-prepended first (read c.args.reader.now)) e c.in_err-status.ensures.refused
-    (λ r is target. c.in_err-status.ensures.memory (sym is ∙ target))
-    (λ r is target. c.in_err-status.ensures.write (sym is ∙ target)))
+    (λ r is target. inl (c.in_err-status.ensures.memory (sym is ∙ target)))
+    (λ r is target. inl (c.in_err-status.ensures.write (sym is ∙ target))))
 
 -- the last line was refused
 pub returns-in_err-last-in-Ok-eq0-clause-refused : goal.returns-in_err-last-in-Ok-eq0-clause-refused
@@ -32,13 +32,14 @@ returns-in_err-last-in-Ok-eq0-clause-refused g c =
     let work = c.args.work.now in
     let none : c.in-Ok-eq0.field-0 ≡ 0 = search rules in
     let more = subst (λ n. Consumes (read c.loop.reader) (read c.read.new.self) (take n c.read.new.buf)) none c.in-Ok-eq0.ensures.bytes.0 in
+    let ended : IsAtEnd (read c.read.new.self) = search rules in
     let same = c.as_slice.ensures.value ∙ sym (append-nil c.loop.carry.items) in
     let e = c.in_err-last-in-Ok-eq0.field-0.0 in
     let passed_on = err_from_is_err_and c.from_residual-in_err-last-in-Ok-eq0.result c.from_residual-in_err-last-in-Ok-eq0.ensures.1 in
     rw (passed_on.1, passed_on.2) (StreamProgress-refused work start (read c.loop.reader) (wrote c.args.writer.now) (wrote c.flush.new.self) c.loop.status c.loop.carry.items before
     (read c.read.new.self) (wrote c.write_answers.new.writer) [] more e c.in_err-last-in-Ok-eq0.ensures.refused
-    (λ r is target. subst (λ t. WritesWholeLines work t (wrote c.flush.new.self) (wrote c.write_answers.new.writer)) same (c.in_err-last-in-Ok-eq0.ensures.memory (sym is ∙ target)))
-    (λ r is target. subst (λ t. WritesPart work t (wrote c.flush.new.self) (wrote c.write_answers.new.writer)) same (c.in_err-last-in-Ok-eq0.ensures.write (sym is ∙ target))))
+    (λ r is target. inr (ended, subst (λ t. WritesWholeLines work t (wrote c.flush.new.self) (wrote c.write_answers.new.writer)) same (c.in_err-last-in-Ok-eq0.ensures.memory (sym is ∙ target))))
+    (λ r is target. inr (ended, subst (λ t. WritesPart work t (wrote c.flush.new.self) (wrote c.write_answers.new.writer)) same (c.in_err-last-in-Ok-eq0.ensures.write (sym is ∙ target)))))
 
 -- the input is at its end, and its last line is answered
 pub returns-in-Ok-eq0-clause-whole : goal.returns-in-Ok-eq0-clause-whole
@@ -67,8 +68,8 @@ returns-in_err-ended-in-Ok-clause-refused g c =
     let passed_on = err_from_is_err_and c.from_residual-in_err-ended-in-Ok.result c.from_residual-in_err-ended-in-Ok.ensures.1 in
     rw (passed_on.1, passed_on.2) (StreamProgress-refused c.args.work.now start (read c.loop.reader) (wrote c.args.writer.now) (wrote c.flush.new.self) c.loop.status c.loop.carry.items before
     (read c.read.new.self) (wrote c.answer_part-in-Ok.new.writer) c.split_at.result.0.now more e c.in_err-ended-in-Ok.ensures.refused
-    (λ r is target. c.in_err-ended-in-Ok.ensures.memory (sym is ∙ target))
-    (λ r is target. c.in_err-ended-in-Ok.ensures.write (sym is ∙ target)))
+    (λ r is target. inl (c.in_err-ended-in-Ok.ensures.memory (sym is ∙ target)))
+    (λ r is target. inl (c.in_err-ended-in-Ok.ensures.write (sym is ∙ target))))
 
 -- a failed read leaves what is carried unanswered
 pub returns-in-Err-clause-refused : goal.returns-in-Err-clause-refused

@@ -1,7 +1,7 @@
-use Rattle.std.proofs.Common.{IfOk, IfErr, ap, sym, subst, ◌∙◌}
+use Rattle.std.proofs.Common.{IfOk, IfErr, refl, ap, sym, subst, ◌∙◌, arith}
 use Rattle.std.specs.Io.KnownBytes.{prepend_known}
 use Rattle.icu_tables.specs.File.{rows_in}
-use Rattle.icu_locale_lines.specs.Streams.{ReadsLine, ReadsTablesLine, IsRefusedLineStream}
+use Rattle.icu_locale_lines.specs.Streams.{ReadsLine, ReadsTablesLine, LeavesBehind, IsRefusedLineStream}
 use Rattle.icu_locale_lines.specs.WholeRuns.{IsLineRun}
 use Rattle.icu_locale_lines.proofs.StreamEnds.{prepend_none, json_settled, json_settled_refused, json_lines, json_lines_refused}
 use Rattle.icu_locale_lines.proofs.streams.stream_json.Goals as goal
@@ -18,7 +18,8 @@ returns-in-Settled-clause-output g c =
       reads = subst (λ r. ReadsLine r mid first.line.items first.has_ended) (prepend_none (read c.args.reader.now)) c.in_ok-first.ensures.line;
       rows = ap rows_in (sym c.deref.ensures.value) ∙ c.in_ok-tables.ensures.rows;
     } in
-    rw c.in-Settled.is (json_settled c.in_ok-tables.tables (read c.args.reader.now) mid (read c.read_first_line.new.reader) (wrote c.args.writer.now) (wrote c.write_settled.new.writer) reads c.write_settled.result c.write_settled.ensures.output)
+    let behind : LeavesBehind mid (read c.read_first_line.new.reader) = record { rest = first.rest.items; short = c.in_ok-first.ensures.short (omega arith); behind = refl } in
+    rw c.in-Settled.is (json_settled c.in_ok-tables.tables (read c.args.reader.now) mid (read c.read_first_line.new.reader) (wrote c.args.writer.now) (wrote c.write_settled.new.writer) reads behind c.write_settled.result c.write_settled.ensures.output)
 
 pub returns-in-Settled-clause-refused : goal.returns-in-Settled-clause-refused
 returns-in-Settled-clause-refused g c =
@@ -32,7 +33,8 @@ returns-in-Settled-clause-refused g c =
       reads = subst (λ r. ReadsLine r mid first.line.items first.has_ended) (prepend_none (read c.args.reader.now)) c.in_ok-first.ensures.line;
       rows = ap rows_in (sym c.deref.ensures.value) ∙ c.in_ok-tables.ensures.rows;
     } in
-    rw c.in-Settled.is (json_settled_refused c.in_ok-tables.tables (read c.args.reader.now) mid (read c.read_first_line.new.reader) (wrote c.args.writer.now) (wrote c.write_settled.new.writer) reads c.write_settled.result c.write_settled.ensures.refused)
+    let behind : LeavesBehind mid (read c.read_first_line.new.reader) = record { rest = first.rest.items; short = c.in_ok-first.ensures.short (omega arith); behind = refl } in
+    rw c.in-Settled.is (json_settled_refused c.in_ok-tables.tables (read c.args.reader.now) mid (read c.read_first_line.new.reader) (wrote c.args.writer.now) (wrote c.write_settled.new.writer) reads behind c.write_settled.result c.write_settled.ensures.refused)
 
 pub returns-clause-output : goal.returns-clause-output
 returns-clause-output g c =
@@ -63,5 +65,6 @@ returns-clause-refused g c =
       reads = subst (λ r. ReadsLine r mid first.line.items first.has_ended) (prepend_none (read c.args.reader.now)) c.in_ok-first.ensures.line;
       rows = ap rows_in (sym c.deref.ensures.value) ∙ c.in_ok-tables.ensures.rows;
     } in
-    rw c.in-Lines.is (json_lines_refused c.in_ok-tables.tables (read c.args.reader.now) mid (read c.stream_command.new.reader) (wrote c.args.writer.now) (wrote c.stream_command.new.writer) reads c.in-Lines.command held c.stream_command.result
+    let behind : LeavesBehind mid (read c.read_first_line.new.reader) = record { rest = first.rest.items; short = c.in_ok-first.ensures.short (omega arith); behind = refl } in
+    rw c.in-Lines.is (json_lines_refused c.in_ok-tables.tables (read c.args.reader.now) mid (read c.stream_command.new.reader) (wrote c.args.writer.now) (wrote c.stream_command.new.writer) reads c.in-Lines.command held behind c.stream_command.result
     (subst (λ b. IfErr c.stream_command.result (IsRefusedLineStream c.in-Lines.command c.in_ok-tables.tables (prepend_known b held) held (read c.stream_command.new.reader) (wrote c.args.writer.now) (wrote c.stream_command.new.writer))) c.deref-in-Lines.ensures.value c.stream_command.ensures.refused))
