@@ -15,7 +15,6 @@ use Rattle.icu_locale_lines.specs.declared.command.LineCommand.{LineCommand}
 use Rattle.icu_locale_lines.specs.declared.error.CliError.{CliError}
 use Rattle.icu_locale_c.specs.Calls.{AreNoCommand, NamesNone}
 use Rattle.icu_locale_c.specs.declared.refusal.Refusal.{Refusal}
-use Rattle.icu_locale_lines.specs.declared.command.LineCommand.TheVariants as command
 use Rattle.icu_locale_c.specs.declared.refusal.Refusal.TheVariants as refusal
 
 no_space : (n : ℕ) → n ≢ 32 → is_space n ≡ false

@@ -1,5 +1,5 @@
 -- What a command that is read answers over what is held.
-use Rattle.std.specs.Prelude.{◌≡◌, ℕ, Bool, false, List, None}
+use Rattle.std.specs.Prelude.{◌≡◌, ℕ, Bool, true, false, List, None}
 use Rattle.icu_locale_lines.specs.Answers.{IsAnswer}
 use Rattle.icu_locale_lines.specs.Commands.{has_tables}
 use Rattle.icu_locale_lines.specs.declared.command.Command.TheVariants.{Lines}
@@ -19,7 +19,7 @@ pub record IsLineOf (h : Held) (asked : LineCommand) (line whole : List ℕ) (ac
 
 -- why there is none
 abbrev pub IsRefusedLine : Held → LineCommand → Refusal → Type 0
-IsRefusedLine h asked refusal.Memory = Unit {0}
+IsRefusedLine h asked refusal.Memory = has_tables (Lines asked) h.tables ≡ true
 IsRefusedLine h asked refusal.Table = has_tables (Lines asked) h.tables ≡ false
 IsRefusedLine h asked refusal.Negotiate = (asked ≡ Negotiate) × (h.available ≡ None)
 IsRefusedLine h asked e = ⊥

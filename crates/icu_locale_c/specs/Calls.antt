@@ -52,25 +52,27 @@ pub record WantsRoom (h : Held) (command line out : List ℕ) (written : ℕ) : 
   pub wanted : written ≡ length text
   pub short : length out < length text
 
--- the text names a command of which the tables leave out one
-pub record LacksTable (t : Tables) (command : List ℕ) : Type 0 where
+-- the text names a command, and whether the tables that it needs are held
+pub record NeedsTables (t : Tables) (command : List ℕ) (held : Bool) : Type 0 where
   pub asked : LineCommand
   pub named : Names command asked
-  pub lacking : has_tables (Lines asked) t ≡ false
+  pub are_held : has_tables (Lines asked) t ≡ held
 
--- why there is no answer
+-- why there is no answer, whatever the room
+abbrev pub HasNoAnswer : Option Held → List ℕ → Refusal → Type 0
+HasNoAnswer held command refusal.Closed = held ≡ None
+HasNoAnswer held command refusal.Memory = IsSomeAnd held (λ h. NeedsTables h.tables command true)
+HasNoAnswer held command refusal.Command = IsSomeAnd held (λ h. NamesNone command)
+HasNoAnswer held command refusal.Table = IsSomeAnd held (λ h. NeedsTables h.tables command false)
+HasNoAnswer held command refusal.Negotiate =
+    IsSomeAnd held (λ h. Names command Negotiate × (h.available ≡ None))
+HasNoAnswer held command e = ⊥
+
+-- why nothing is answered: too little room tells how much is wanted, and all else tells no length
 abbrev pub IsRefusedCall : Option Held → List ℕ → List ℕ → List ℕ → ℕ → Refusal → Type 0
-IsRefusedCall held command line out written refusal.Closed = held ≡ None
 IsRefusedCall held command line out written refusal.Room =
     IsSomeAnd held (λ h. WantsRoom h command line out written)
-IsRefusedCall held command line out written refusal.Memory = IsSomeAnd held (λ h. Unit {0})
-IsRefusedCall held command line out written refusal.Command =
-    IsSomeAnd held (λ h. NamesNone command)
-IsRefusedCall held command line out written refusal.Table =
-    IsSomeAnd held (λ h. LacksTable h.tables command)
-IsRefusedCall held command line out written refusal.Negotiate =
-    IsSomeAnd held (λ h. Names command Negotiate × (h.available ≡ None))
-IsRefusedCall held command line out written e = ⊥
+IsRefusedCall held command line out written e = (written ≡ 0) × HasNoAnswer held command e
 
 -- so many bytes are written at the beginning of `out`, and the others are as they were
 pub record Writes (out out' : List ℕ) (written : ℕ) : Type 0 where

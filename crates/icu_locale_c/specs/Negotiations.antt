@@ -18,6 +18,10 @@ use Rattle.icu_locale_c.specs.declared.refusal.Refusal.TheVariants as refusal
 abbrev pub HasFault : List ℕ → Type 0
 HasFault line = (e : ParseError) × IsFirstFault (listed line) e
 
+-- each text that a line lists spells an identifier
+abbrev pub ListsIdentifiers : List ℕ → Type 0
+ListsIdentifiers line = (identifiers : List LanguageIdentifier) × SpellsAll (listed line) identifiers
+
 -- the tables are held, with the list of a line over settled likely tables
 pub record IsListed (t : Tables) (list : List ℕ) (h : Held) : Type 0 where
   pub tables : h.tables ≡ t
@@ -31,7 +35,8 @@ abbrev pub IsRefusedListing : Tables → List ℕ → Refusal → Type 0
 IsRefusedListing t list refusal.Memory = has_likely t ≡ true
 IsRefusedListing t list refusal.Table = has_likely t ≡ false
 IsRefusedListing t list refusal.List = (has_likely t ≡ true) × HasFault list
-IsRefusedListing t list refusal.Unsettled = IsUnsettled (Lines Negotiate) t
+IsRefusedListing t list refusal.Unsettled =
+    IsUnsettled (Lines Negotiate) t × ListsIdentifiers list
 IsRefusedListing t list e = ⊥
 
 -- the tables are held a second time, with a list, or what was held stays

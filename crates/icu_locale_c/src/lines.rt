@@ -14,13 +14,14 @@ use icu_locale::LocaleCanonicalizer;
 use icu_locale_lines::{Answer, CliError, LineCommand, Loaded, answer_locale, load_expander};
 use icu_tables::Tables;
 use std::alloc::Global;
+use std::mem::replace;
 
 // The line of a command that keeps nothing, in the room of an earlier one.
 pub fn line_over(
     alloc: Global,
     tables: &Tables,
     asked: &LineCommand,
-    room: Vec<u8>,
+    room: &mut Vec<u8>,
     line: &[u8],
 ) -> Result<Answer, Refusal>
     ensures answered { IfOk result (λ a. IsLineOf (without_list tables.now) asked.now line.now
@@ -28,7 +29,7 @@ pub fn line_over(
     ensures refused { IfErr result (IsRefusedLine (without_list tables.now) asked.now) }
 {
     match Loaded::load(alloc, asked, tables) {
-        Ok(Loaded::Ready(work)) => match work.answer(room, line) {
+        Ok(Loaded::Ready(work)) => match work.answer(replace(room, Vec::new(alloc)), line) {
             Ok(answer) => Ok(answer),
             Err(_) => Err(Refusal::Memory),
         },
@@ -45,7 +46,7 @@ pub fn canonicalize(
     alloc: Global,
     tables: &Tables,
     kept: Option<KeptRules>,
-    room: Vec<u8>,
+    room: &mut Vec<u8>,
     line: &[u8],
 ) -> (Result<Answer, Refusal>, Option<KeptRules>)
     requires { IfSome kept (AreKeptOf tables.now) }
@@ -65,7 +66,7 @@ pub fn canonicalize(
         Ok(canonicalizer) => canonicalizer,
         Err(refusal) => return (Err(refusal), None),
     };
-    let answer = locale_line(room, &canonicalizer, line);
+    let answer = locale_line(replace(room, Vec::new(alloc)), &canonicalizer, line);
     (answer, Some(KeptRules::of(canonicalizer)))
 }
 

@@ -5,7 +5,7 @@ ghost use Rattle.icu_locale_lines.specs.Answers.{IsAnswer};
 ghost use Rattle.icu_locale_lines.specs.Lists.{listed, SpellsAll};
 ghost use Rattle.icu_locale_lines.specs.declared.command.LineCommand.TheVariants as command;
 ghost use Rattle.icu_locale_lines.specs.declared.work.Work.TheVariants as work;
-ghost use Rattle.icu_locale_c.specs.Asked.{IsLineOf};
+ghost use Rattle.icu_locale_c.specs.Asked.{IsLineOf, IsRefusedLine};
 ghost use Rattle.icu_locale_c.specs.Held.{IsListOver, with_list};
 ghost use Rattle.icu_locale_c.specs.Negotiations.{IsMet, IsRefusedListing, IsRefusedRequests};
 
@@ -17,6 +17,7 @@ use icu_locale_lines::{
 };
 use icu_tables::Tables;
 use std::alloc::Global;
+use std::mem::replace;
 
 // The list that a line lists, over tables that have to be settled.
 pub fn read_available(alloc: Global, tables: &Tables, line: &[u8]) -> Result<Available, Refusal>
@@ -37,9 +38,10 @@ pub fn read_available(alloc: Global, tables: &Tables, line: &[u8]) -> Result<Ava
 
 // The program's line for a line of requests, in the room of an earlier one, and the list again.
 pub fn requests_line(
+    alloc: Global,
     tables: &Tables,
     list: Available,
-    room: Vec<u8>,
+    room: &mut Vec<u8>,
     line: &[u8],
 ) -> (Result<Answer, Refusal>, Available)
     requires { IsListOver tables.now list }
@@ -47,13 +49,14 @@ pub fn requests_line(
     ensures same { identifiers_of result.1 ≡ identifiers_of list }
     ensures answered { IfOk result.0 (λ a. IsLineOf (with_list tables.now (identifiers_of list))
         command.Negotiate line.now a.text.items a.accepted) }
-    ensures refused { IfErr result.0 (λ e. e ≡ Refusal.Memory) }
+    ensures refused { IfErr result.0 (IsRefusedLine
+        (with_list tables.now (identifiers_of list)) command.Negotiate) }
 {
     let Ok(expander) = load_expander(tables) else {
         return (Err(Refusal::Memory), list);
     };
     let negotiator = Negotiator::over(expander, list);
-    let answer = list_line(room, &negotiator, line);
+    let answer = list_line(replace(room, Vec::new(alloc)), &negotiator, line);
     (answer, negotiator.into_available())
 }
 

@@ -115,7 +115,7 @@ impl Shared {
         }
     }
 
-    // Writes the answer to a line to the beginning of `out`.
+    // Writes the answer to a line to the beginning of `out`. No length has been told before.
     pub fn answer(
         &mut self,
         alloc: Global,
@@ -124,6 +124,7 @@ impl Shared {
         out: &mut [u8],
         written: &mut usize,
     ) -> Result<bool, Refusal>
+        requires { written.old ≡ 0 }
         ensures kept { self.new ≡ self.old }
         ensures called { IsCall (Some self.old) command.now line.now out.old out.new written.new
             result }
@@ -151,23 +152,34 @@ impl Shared {
             a.accepted) }
         ensures refused { IfErr result (IsRefusedLine self.old asked.now) }
     {
-        let room = replace(&mut self.room, Vec::new(alloc));
         match asked {
             LineCommand::Negotiate => {
                 let Some(list) = replace(&mut self.available, None) else {
                     return Err(Refusal::Negotiate);
                 };
-                let (outcome, list) = requests_line(&self.tables, list, room, line);
+                let (outcome, list) = requests_line(
+                    alloc,
+                    &self.tables,
+                    list,
+                    &mut self.room,
+                    line,
+                );
                 self.available = Some(list);
                 outcome
             }
             LineCommand::Canonicalize => {
                 let kept = replace(&mut self.rules, None);
-                let (outcome, rules) = canonicalize(alloc, &self.tables, kept, room, line);
+                let (outcome, rules) = canonicalize(
+                    alloc,
+                    &self.tables,
+                    kept,
+                    &mut self.room,
+                    line,
+                );
                 self.rules = rules;
                 outcome
             }
-            _ => line_over(alloc, &self.tables, asked, room, line),
+            _ => line_over(alloc, &self.tables, asked, &mut self.room, line),
         }
     }
 }
