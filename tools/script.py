@@ -11,9 +11,9 @@ USAGE = "usage: icu_locale_cli COMMAND [json]"
 class Words(argparse.ArgumentParser):
     """The words of a script: `--help` prints its text, and a wrong word is told in one line, with status 2."""
 
-    def __init__(self, name, text):
-        super().__init__(prog=name, description=text, formatter_class=argparse.RawDescriptionHelpFormatter,
-                         allow_abbrev=False)
+    def __init__(self, name, description, **kept):
+        raw = argparse.RawDescriptionHelpFormatter
+        super().__init__(name, description=description, **{"formatter_class": raw, "allow_abbrev": False, **kept})
 
     def error(self, message):
         stop(self.prog, f"{message}; --help says which words there are")

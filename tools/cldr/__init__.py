@@ -1,1 +1,1 @@
-"""The JSON tables of icu_locale_cli, made of a CLDR `common` folder."""
+"""What the tests of the tables want, beside the package that makes them: bindings/python/icu_locale/cldr."""

@@ -4,8 +4,8 @@ It shares nothing with `aliases.py` but the reading of identifiers, and has no t
 """
 import random
 
-from .likely import likely_rows
-from .subtags import UNKNOWN_LANGUAGE, Identifier, read_identifier
+from icu_locale.cldr.likely import likely_rows
+from icu_locale.cldr.subtags import UNKNOWN_LANGUAGE, Identifier, read_identifier
 
 SINGLE = (("L", "language"), ("S", "script"), ("R", "region"))
 SIGN_LANGUAGE = "sgn"

@@ -1,8 +1,9 @@
-"""The command `cldr-tables`."""
+"""The command `cldr-tables`, and the same as a call."""
+import argparse
 import json
 import sys
-
-from script import Words
+from os import PathLike
+from typing import Iterable, Optional, Union
 
 from .account import Account
 from .aliases import read_aliases
@@ -24,12 +25,13 @@ The program looks up what it is asked and falls back from no locale to another. 
 from its parents up to `root`, is written as its own."""
 EPILOG = """\
 status: 0, or 2 where the words are wrong, or where the folder or a locale is not there
-example: (tools/cldr-tables /usr/share/unicode/cldr/common en; echo zh-TW) | ./icu_locale_cli name light en json"""
+example: ({name} /usr/share/unicode/cldr/common en; echo zh-TW) | ./icu_locale_cli name light en json"""
 
 
-def arguments(words):
-    parser = Words("cldr-tables", DESCRIPTION)
-    parser.epilog = EPILOG
+def arguments(parser_type, name, words):
+    """The words of the command, read by a parser of a type; `name` is how the command is called."""
+    parser = parser_type(name, description=DESCRIPTION, epilog=EPILOG.format(name=name), allow_abbrev=False,
+                         formatter_class=argparse.RawDescriptionHelpFormatter)
     parser.add_argument("--settled", action="store_true",
                         help="leave out the likely subtags that keep the table from being settled")
     parser.add_argument("common", metavar="COMMON",
@@ -77,15 +79,21 @@ def read_locales(words):
         yield locale
 
 
-def main(words):
+def json_of(folder: Union[str, "PathLike[str]"], locales: Iterable[str], is_settled: bool,
+            account: Optional[Account] = None) -> bytes:
+    """The JSON text of the tables of a CLDR folder, on one line. The account takes what is left out."""
+    return on_one_line(tables_of(Common(folder), list(read_locales(locales)), is_settled, account or Account()))
+
+
+def main(parser_type, name, words):
     """Runs the command, and answers its status."""
-    chosen, account = arguments(words), Account()
+    chosen, account = arguments(parser_type, name, words), Account()
     try:
-        tables = tables_of(Common(chosen.common), list(read_locales(chosen.locales)), chosen.settled, account)
+        text = json_of(chosen.common, chosen.locales, chosen.settled, account)
     except NoCldr as fault:
         print(f"cldr-tables: {fault}", file=sys.stderr)
         return 2
-    sys.stdout.buffer.write(on_one_line(tables) + b"\n")
+    sys.stdout.buffer.write(text + b"\n")
     for line in account.lines():
         print(line, file=sys.stderr)
     return 0

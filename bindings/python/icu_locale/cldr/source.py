@@ -3,12 +3,10 @@ import xml.etree.ElementTree as ElementTree
 from functools import lru_cache
 from pathlib import Path
 
+from .._refusals import NoCldr
+
 PACKAGE = "unicode-cldr-core"
 DEBIAN_COMMON = Path("/usr/share/unicode/cldr/common")
-
-
-class NoCldr(Exception):
-    """A file of CLDR is not there, or does not hold what its place promises."""
 
 
 class Common:

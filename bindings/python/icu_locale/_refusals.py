@@ -1,0 +1,143 @@
+"""Why a call gives no answer, and what a text is."""
+from typing import Dict, NoReturn, Type, Union
+
+Text = Union[str, bytes]
+
+
+class Refused(Exception):
+    """A call that gives no answer. `number` is that of icu_locale.h."""
+
+    number: int = -1
+
+
+class Closed(Refused, ValueError):
+    """The tables are closed."""
+
+    number = 2
+
+
+class MemoryRefused(Refused, MemoryError):
+    """Memory was asked for and refused."""
+
+    number = 4
+
+
+class NoJson(Refused, ValueError):
+    """The text is no JSON."""
+
+    number = 5
+
+
+class NoTables(Refused, ValueError):
+    """The JSON has not the shape of tables."""
+
+    number = 6
+
+
+class NoCommand(Refused, ValueError):
+    """The words are those of no command that answers lines."""
+
+    number = 7
+
+
+class TableMissing(Refused, LookupError):
+    """The tables leave out one that is needed."""
+
+    number = 8
+
+
+class NoList(Refused, ValueError):
+    """The command is `negotiate`, and there is no list of what is available: `Tables.negotiator` is given one."""
+
+    number = 9
+
+
+class InvalidList(Refused, ValueError):
+    """The list has something that is no identifier: `identifier`, at `place`, counted from 0."""
+
+    number = 10
+    place: int = -1
+    identifier: Text = ""
+
+
+class NotSettled(Refused, ValueError):
+    """The likely tables are not settled."""
+
+    number = 11
+
+
+class NoCldr(Refused, LookupError):
+    """A file of CLDR or a locale is not there, or does not hold what its place promises."""
+
+
+class LineRefused(Refused, ValueError):
+    """The line is refused, and `name` is the refusal's."""
+
+    number = 1
+    name: str = ""
+
+
+class InvalidLanguage(LineRefused):
+    """The line does not begin with a language."""
+
+    name = "InvalidLanguage"
+
+
+class InvalidSubtag(LineRefused):
+    """A subtag of the line is none, or stands where it may not."""
+
+    name = "InvalidSubtag"
+
+
+class NoFixedPoint(LineRefused):
+    """The rules of canonicalization come to no end."""
+
+    name = "NoFixedPoint"
+
+
+class NoSubdivisionFixedPoint(LineRefused):
+    """The rows of subdivisions come to no end."""
+
+    name = "NoSubdivisionFixedPoint"
+
+
+class NameMissing(LineRefused, LookupError):
+    """The tables were made without the locale of the preferences: they hold no pattern of names in it.
+
+    A name that is missing in a locale that they have is no refusal: its subtag stands there.
+    """
+
+    name = "IdentifierNotFound"
+
+
+_BY_NUMBER: Dict[int, Type[Refused]] = {each.number: each for each in (
+    Closed, MemoryRefused, NoJson, NoTables, NoCommand, TableMissing, NoList, InvalidList, NotSettled)}
+_BY_NAME: Dict[str, Type[LineRefused]] = {each.name: each for each in (
+    InvalidLanguage, InvalidSubtag, NoFixedPoint, NoSubdivisionFixedPoint, NameMissing)}
+
+
+def refuse(number: int) -> NoReturn:
+    """Raises what a number of icu_locale.h stands for."""
+    kind = _BY_NUMBER.get(number, Refused)
+    raise kind(kind.__doc__ if number in _BY_NUMBER else number)
+
+
+def line_refusal(name: str, line: Text) -> LineRefused:
+    """What is raised for a line that is refused."""
+    return _BY_NAME.get(name, LineRefused)(f"{name}: {line!r}")
+
+
+def list_refusal(place: int, identifier: Text) -> InvalidList:
+    """What is raised for something in a list that is no identifier."""
+    refusal = InvalidList(f"what stands at place {place} is no identifier: {identifier!r}")
+    refusal.place, refusal.identifier = place, identifier
+    return refusal
+
+
+def as_bytes(text: Text) -> bytes:
+    """The bytes of a text; half of a surrogate pair becomes what no call accepts."""
+    if isinstance(text, str):
+        return text.encode(errors="surrogatepass")
+    if isinstance(text, (bytes, bytearray, memoryview)):
+        return bytes(text)
+    raise TypeError(f"a text is a str or bytes, and no {type(text).__name__}")
