@@ -1,24 +1,40 @@
-"""The examples of the package's texts, wrong uses, and threads."""
+"""The examples of the package's texts, wrong uses, and lists."""
 import doctest
-import threading
+import re
 import unittest
+from pathlib import Path
 
 import icu_locale
-from icu_locale import (Closed, InvalidList, LineRefused, Match, Negotiator, NoCommand, NoList, NotSettled, Refused,
-                        TableMissing, Tables)
+from icu_locale import (Closed, InvalidLanguage, InvalidList, InvalidSubtag, LineRefused, Match, NameMissing, Negotiator,
+                        NoCommand, NoJson, NoList, NotSettled, Refused, TableMissing, Tables)
 from icu_locale.example import TABLES
 
 UNSETTLED = """{"likely_language": {"und": ["en", "Latn", "US"], "language": {"xx": ["Zzzz", "DE"]}},
  "likely_script_region": {}}"""
 # What is no identifier, and what would be none or two in a line.
-FAULTY = ["", " ", "en ", " en", "en zh", "e", "en-", "en\n", "en\0", "\xe9n", b"\xff"]
+FAULTY = ["", " ", "en ", " en", "en zh", "e", "en-", "en\n", "en\0", "\xe9n", b"\xff", "\ud800"]
+NO_TEXTS = [5, 3 * 10 ** 9, None, 1.5, ["en"], object()]
+TOP = Path(__file__).resolve().parents[3]
 
 
 class Examples(unittest.TestCase):
     def test_examples(self):
-        failed, tried = doctest.testmod(icu_locale)
-        self.assertEqual(failed, 0)
-        self.assertGreater(tried, 20)
+        runner, names = doctest.DocTestRunner(), {name: getattr(icu_locale, name) for name in icu_locale.__all__}
+        for name, shown in [("icu_locale", icu_locale), *names.items()]:
+            for example in doctest.DocTestFinder().find(shown, name, module=False, globs=dict(names)):
+                runner.run(example)
+        self.assertEqual(runner.failures, 0)
+        self.assertGreater(runner.tries, 40)
+
+    def test_version(self):
+        self.assertEqual(icu_locale.__version__, (TOP / "VERSION").read_text().strip())
+
+    def test_names(self):
+        types = [each for name in icu_locale.__all__ if isinstance(each := getattr(icu_locale, name), type)]
+        self.assertEqual(len(types), len(icu_locale.__all__) - 2)
+        for each in types:
+            self.assertTrue(each.__doc__)
+            self.assertEqual(each.__module__, "icu_locale")
 
 
 class WrongUses(unittest.TestCase):
@@ -38,6 +54,33 @@ class WrongUses(unittest.TestCase):
             self.assertRaises(NoCommand, tables.name, "en", "en", "no chain")
             self.assertRaises(Refused, tables.answer, b"\xff", b"\xff")
 
+    def test_no_texts(self):
+        tables = Tables.from_json(TABLES)
+        negotiator = tables.negotiator(["en"])
+        for wrong in NO_TEXTS:
+            for call in (Tables.from_json, tables.maximize, tables.minimize, tables.canonicalize, tables.direction,
+                         lambda text: tables.canonicalize_with("sh", text), lambda text: tables.canonicalize_with(text, "ab"),
+                         lambda text: tables.name(text, "en"), lambda text: tables.name("en", text),
+                         lambda text: tables.name("en", "en", text), lambda text: tables.answer(text, "en"),
+                         lambda text: tables.negotiator([text]), lambda text: negotiator.negotiate(["en", text]),
+                         lambda text: tables.serve("en", [text]), lambda text: tables.serve([text], ["en"])):
+                self.assertRaises(TypeError, call, wrong)
+        self.assertEqual(tables.maximize(bytearray(b"zh")), tables.maximize(memoryview(b"zh")))
+
+    def test_no_identifiers(self):
+        with Tables.from_json(TABLES) as tables:
+            for wrong in ("\ud800", "en\ud800", b"\xff", "en\n", "en-", "sh\tab"):
+                for call in (tables.maximize, tables.canonicalize, tables.direction, lambda text: tables.name(text, "en"),
+                             lambda text: tables.canonicalize_with(text, "abcdefg")):
+                    self.assertRaises((InvalidLanguage, InvalidSubtag), call, wrong)
+        self.assertRaises(NoJson, Tables.from_json, '"\ud800"')
+
+    def test_missing_names(self):
+        with Tables.from_json(TABLES) as tables:
+            with self.assertRaisesRegex(NameMissing, "without the locale 'de', to name 'it' in"):
+                tables.name("it", "de")
+            self.assertEqual(tables.name("tlh", "en"), "tlh")
+
     def test_long_answers(self):
         with Tables.from_json(TABLES) as tables:
             variants = "-".join(f"piece{number:03}" for number in range(200))
@@ -46,11 +89,17 @@ class WrongUses(unittest.TestCase):
 
 
 class Negotiators(unittest.TestCase):
+    def refuses(self, listed, faulty, call):
+        """The refusal names what is faulty, and its place."""
+        with self.assertRaisesRegex(InvalidList, f"place {listed.index(faulty)} .*: {re.escape(repr(faulty))}") as told:
+            call(listed)
+        self.assertEqual((told.exception.place, told.exception.identifier), (listed.index(faulty), faulty))
+
     def test_lists(self):
         with Tables.from_json(TABLES) as tables:
             for faulty in FAULTY:
                 for listed in ([faulty], ["en", faulty], [faulty, "en"]):
-                    self.assertRaises(InvalidList, tables.negotiator, listed)
+                    self.refuses(listed, faulty, tables.negotiator)
             for text in ("en", b"en", ""):
                 self.assertRaises(TypeError, tables.negotiator, text)
             self.assertEqual(tables.negotiator([]).negotiate(["en"]), None)
@@ -60,7 +109,7 @@ class Negotiators(unittest.TestCase):
         with Tables.from_json(TABLES).negotiator(["en-US", "zh_Hant", "yue-CN"]) as negotiator:
             for faulty in FAULTY:
                 for listed in ([faulty], ["en", faulty], [faulty, "en"]):
-                    self.assertRaises(InvalidList, negotiator.negotiate, listed)
+                    self.refuses(listed, faulty, negotiator.negotiate)
             self.assertRaises(TypeError, negotiator.negotiate, "en")
             self.assertEqual(negotiator.negotiate([]), None)
             self.assertEqual(negotiator.negotiate(iter(["fr", b"yue-Hans"])), Match(1, 2))
@@ -91,42 +140,6 @@ class Negotiators(unittest.TestCase):
             negotiator = tables.negotiator(available)
             for place in range(0, 2000, 97):
                 self.assertEqual(negotiator.negotiate(["fr", available[place]]), Match(1, place))
-
-
-class Threads(unittest.TestCase):
-    def test_threads(self):
-        first, wrong = Tables.from_json(TABLES), []
-
-        def work(tables):
-            for _ in range(500):
-                if tables.maximize("zh") != "zh-Hans-CN" or tables.canonicalize("sh") != "sr-Latn":
-                    wrong.append(tables)
-
-        run_all(work, [first] * 4 + [first.share() for _ in range(4)])
-        self.assertEqual(wrong, [])
-
-    def test_negotiations(self):
-        tables, wrong = Tables.from_json(TABLES), []
-        listed = ["en", "de", "zh-Hant"]
-
-        def work(negotiator):
-            for _ in range(500):
-                if negotiator.negotiate(["fr", "zh-TW"]) != Match(1, 2) or negotiator.negotiate(["fr"]) is not None:
-                    wrong.append(negotiator)
-            if tables.negotiator(listed).negotiate(["de-DE"]) != Match(0, 1):
-                wrong.append(tables)
-
-        run_all(work, [tables.negotiator(listed)] * 4 + [tables.negotiator(listed) for _ in range(4)])
-        self.assertEqual(wrong, [])
-
-
-def run_all(work, each):
-    """One thread for each, all at once."""
-    threads = [threading.Thread(target=work, args=(one,)) for one in each]
-    for thread in threads:
-        thread.start()
-    for thread in threads:
-        thread.join()
 
 
 if __name__ == "__main__":

@@ -1,0 +1,156 @@
+"""Handles of C, one for each call that runs.
+
+A call takes a handle that is free, and gives it back; where none is free it makes one. So no call waits for another, be
+it of another thread or of a signal handler that interrupts it. In a forked child the handles that were free at the fork
+are free; what another thread of the parent had taken is in no list there, so that it is never used and never closed.
+"""
+import ctypes
+import os
+import threading
+from types import TracebackType
+from typing import List, NoReturn, Optional, SupportsIndex, Tuple, Type, TypeVar
+
+from ._calls import SIZE, Calls, Handle, calls
+from ._refusals import Closed, InvalidList, LineRefused, Text, as_bytes, line_refusal, list_refusal, refuse
+
+ACCEPTED = 0
+ROOM = 3
+
+
+class Slot:
+    """A handle of C, and the room of its answers."""
+
+    __slots__ = ("handle", "written", "written_at", "out", "out_at", "room")
+
+    def __init__(self) -> None:
+        self.handle = ctypes.pointer(Handle(None))
+        self.written = SIZE()
+        self.written_at = ctypes.pointer(self.written)
+        self.make_room(128)
+
+    def make_room(self, room: int) -> None:
+        """Room for an answer."""
+        self.room, self.out = room, ctypes.create_string_buffer(room)
+        self.out_at = ctypes.addressof(self.out)
+
+    def answer(self, library: Calls, words: bytes, line: bytes) -> Tuple[int, bytes]:
+        """The number of an answer, and the answer where there is one."""
+        while True:
+            number = library.answer(self.handle, words, len(words), line, len(line), self.out_at, self.room,
+                                    self.written_at)
+            if number != ROOM:
+                return number, ctypes.string_at(self.out_at, self.written.value)
+            self.make_room(self.written.value)
+
+
+class NoCopies:
+    """What is neither copied nor pickled, since its handles are the library's."""
+
+    def __reduce_ex__(self, protocol: SupportsIndex) -> NoReturn:
+        """Refuses `copy`, `deepcopy` and `pickle`."""
+        raise TypeError(f"{type(self).__name__} is neither copied nor pickled: make another one, of its tables")
+
+
+_Self = TypeVar("_Self", bound="Held")
+
+
+class Held(NoCopies):
+    """What the handles of one object hold. The root is a handle that others are made of, and no call else is made on it."""
+
+    # Held where the root is used. A signal handler may come in between, and a fork waits.
+    _rooted = threading.RLock()
+
+    def __init__(self) -> None:
+        """It is closed."""
+        self._calls = calls()
+        self._root = Slot()
+        self._free: List[Slot] = []
+        self._is_open = False
+
+    def _share_root(self, to: Slot) -> None:
+        with self._rooted:
+            number = self._calls.share(self._root.handle, to.handle)
+        if number:
+            refuse(number)
+
+    def _fresh(self) -> Slot:
+        """A new handle that holds what this object's handles hold."""
+        slot = Slot()
+        self._share_root(slot)
+        return slot
+
+    def _take(self) -> Slot:
+        if not self._is_open:
+            refuse(Closed.number)
+        try:
+            return self._free.pop()
+        except IndexError:
+            return self._fresh()
+
+    def _give_back(self, slot: Slot) -> None:
+        self._free.append(slot)
+        if not self._is_open:
+            self._let_go()
+
+    def _let_go(self) -> None:
+        while True:
+            try:
+                slot = self._free.pop()
+            except IndexError:
+                return
+            self._calls.close(slot.handle)
+
+    def close(self) -> None:
+        """Lets the tables go; a call that still runs has its answer first. A second call does nothing."""
+        self._is_open = False
+        with self._rooted:
+            self._calls.close(self._root.handle)
+        self._let_go()
+
+    def __enter__(self: _Self) -> _Self:
+        return self
+
+    def __exit__(self, kind: Optional[Type[BaseException]], error: Optional[BaseException],
+                 trace: Optional[TracebackType]) -> None:
+        self.close()
+
+    def __del__(self) -> None:
+        if hasattr(self, "_is_open"):
+            self.close()
+
+    def answer(self, command: Text, line: Text) -> str:
+        """What the program icu_locale_cli answers to a line, by the words of a command.
+
+        >>> from icu_locale.example import TABLES
+        >>> tables = Tables.from_json(TABLES)
+        >>> tables.answer("name light en", "it-Qabc-150")
+        'Italian (Qabc, Europe)\\tR'
+        >>> tables.answer("maximise", "zh")
+        Traceback (most recent call last):
+            ...
+        icu_locale.NoCommand: The words are those of no command that answers lines.
+        """
+        words, text = as_bytes(command), as_bytes(line)
+        slot = self._take()
+        try:
+            number, told = slot.answer(self._calls, words, text)
+        finally:
+            self._give_back(slot)
+        if number == ACCEPTED:
+            return told.decode()
+        if number == LineRefused.number:
+            raise line_refusal(told.decode().split("\t")[1], line)
+        refuse(number)
+
+    def _list_refusal(self, listed: Tuple[Text, ...]) -> InvalidList:
+        """Why a list is refused: the first that is refused as a line."""
+        for place, identifier in enumerate(listed):
+            try:
+                self.answer(b"maximize", identifier)
+            except LineRefused:
+                return list_refusal(place, identifier)
+        raise AssertionError(listed)
+
+
+os.register_at_fork(before=Held._rooted.acquire, after_in_parent=Held._rooted.release,
+                    after_in_child=Held._rooted.release)

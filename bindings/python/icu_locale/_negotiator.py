@@ -1,0 +1,98 @@
+"""What is available, and which request of a reader it meets."""
+from typing import Iterable, NamedTuple, Optional, Tuple
+
+from ._calls import SIZE
+from ._held import Held, Slot
+from ._refusals import InvalidList, Text, as_bytes, list_refusal, refuse
+
+MET = 0
+NOT_MET = 1
+
+
+class Match(NamedTuple):
+    """A request that is met: its place, and that of the available identifier. Both are counted from 0."""
+
+    request: int
+    available: int
+
+
+def listed(identifiers: Iterable[Text]) -> Tuple[Text, ...]:
+    """The identifiers of a list. In a line, one that is empty or holds a space would be none, or two."""
+    if isinstance(identifiers, (str, bytes, bytearray, memoryview)):
+        raise TypeError("one text is no list of identifiers")
+    found = tuple(identifiers)
+    for place, identifier in enumerate(found):
+        text = as_bytes(identifier)
+        if not text or b" " in text:
+            raise list_refusal(place, identifier)
+    return found
+
+
+class Negotiator(Held):
+    """What is available, by `Tables.negotiator`. Any number of threads may use it at once.
+
+    >>> from icu_locale.example import TABLES
+    >>> with Tables.from_json(TABLES) as tables:
+    ...     negotiator = tables.negotiator(["en-US", "zh-Hant", "yue-CN"])
+    >>> match = negotiator.negotiate(["fr", "zh_TW", "en"])
+    >>> match
+    Match(request=1, available=1)
+    >>> negotiator.available[match.available]
+    'zh-Hant'
+    >>> negotiator.answer("negotiate", "fr zh_TW en"), negotiator.answer("maximize", "zh-TW")
+    ('1\\tzh-Hant', 'zh-Hant-TW\\tM')
+    """
+
+    def __init__(self) -> None:
+        """A negotiator that is closed; `Tables.negotiator` opens one."""
+        super().__init__()
+        self._available: Tuple[Text, ...] = ()
+        self._line = b""
+
+    def _fresh(self) -> Slot:
+        slot, tables = Slot(), super()._fresh()
+        try:
+            number = self._calls.available(tables.handle, self._line, len(self._line), slot.handle)
+        finally:
+            self._calls.close(tables.handle)
+        if number:
+            refuse(number)
+        return slot
+
+    @property
+    def available(self) -> Tuple[Text, ...]:
+        """The identifiers that are available, as they were handed in."""
+        return self._available
+
+    def negotiate(self, requests: Iterable[Text]) -> Optional[Match]:
+        """The first request that an available identifier means, and the first such identifier; None where no request is met.
+
+        >>> from icu_locale.example import TABLES
+        >>> negotiator = Tables.from_json(TABLES).negotiator(["de", "en", "en-Latn"])
+        >>> negotiator.negotiate(["zh", "en-US", "de"])
+        Match(request=1, available=1)
+        >>> negotiator.negotiate(["zh"]), negotiator.negotiate([])
+        (None, None)
+        >>> negotiator.negotiate(["en", "en-"])
+        Traceback (most recent call last):
+            ...
+        icu_locale.InvalidList: what stands at place 1 is no identifier: 'en-'
+        """
+        asked, request, available = listed(requests), SIZE(), SIZE()
+        line, slot = line_of(asked), self._take()
+        try:
+            number = self._calls.negotiate(slot.handle, line, len(line), request, available)
+        finally:
+            self._give_back(slot)
+        if number == MET:
+            return Match(request.value, available.value)
+        if number == InvalidList.number:
+            raise self._list_refusal(asked)
+        if number != NOT_MET:
+            refuse(number)
+        return None
+
+
+def line_of(identifiers: Iterable[Text]) -> bytes:
+    """A list as one line."""
+    return b" ".join(map(as_bytes, identifiers))

@@ -1,0 +1,87 @@
+"""What is served to a reader, by the headers of a request."""
+import re
+from typing import Iterable, List, Optional, Tuple, Union
+
+from ._accept import read_headers
+from ._held import NoCopies
+from ._negotiator import Negotiator
+from ._refusals import LineRefused, Text
+
+VARIANT = re.compile(r"[A-Za-z0-9]{5,8}|[0-9][A-Za-z0-9]{3}")
+EXTENSIONS = re.compile(r"[-_][A-Za-z0-9][-_].*", re.DOTALL)
+
+
+def without_extensions(tag: str) -> str:
+    """A tag up to its first extension, or to what is for private use."""
+    return EXTENSIONS.sub("", tag)
+
+
+class Switcher(NoCopies):
+    """What is available, by `Tables.switcher`, and which of it is served. Any number of threads may use it at once.
+
+    It never serves another language or another script than a tag asks for, but for `*`.
+
+    >>> from icu_locale.example import TABLES
+    >>> switcher = Tables.from_json(TABLES).switcher(["en", "zh-Hant", "sr_latn"])
+    >>> switcher.serve("sh;q=0.8, fr"), switcher.serve("zh-TW-u-co-stroke"), switcher.serve("zh-CN")
+    ('sr_latn', 'zh-Hant', None)
+    """
+
+    def __init__(self, negotiator: Negotiator, available: Tuple[Text, ...]) -> None:
+        """`negotiator` holds the canonical forms of what is available; `Tables.switcher` makes both."""
+        self._negotiator, self._available = negotiator, available
+
+    @property
+    def available(self) -> Tuple[Text, ...]:
+        """The identifiers that are available, as they were handed in."""
+        return self._available
+
+    def serve(self, headers: Union[Text, Iterable[Text]]) -> Optional[Text]:
+        """What is served for one header Accept-Language, or for several; None where nothing is met.
+
+        The tags are asked by their `q`, the greatest first. `*` is met by the first of what is available, but for what
+        begins with a tag of `q=0`. What is no tag is passed over, and so is what stands behind the hundredth tag.
+        """
+        wishes = read_headers(headers)
+        for tag in wishes.wanted:
+            place = self._first_but(wishes.refused) if tag == "*" else self._met(tag)
+            if place is not None:
+                return self._available[place]
+        return None
+
+    def close(self) -> None:
+        """Lets the list and the tables go. A second call does nothing."""
+        self._negotiator.close()
+
+    def _met(self, tag: str) -> Optional[int]:
+        canonical = self._canonical(tag)
+        match = self._negotiator.negotiate(self._forms(canonical)) if canonical else None
+        return match.available if match else None
+
+    def _canonical(self, tag: str) -> Optional[str]:
+        """The canonical form; None where the tag is no identifier, or the rules come to no end."""
+        try:
+            return self._told("canonicalize", without_extensions(tag)) if "\t" not in tag else None
+        except LineRefused:
+            return None
+
+    def _told(self, command: str, identifier: str) -> str:
+        return self._negotiator.answer(command, identifier).partition("\t")[0]
+
+    def _forms(self, canonical: str) -> List[str]:
+        """What may be served for a request, the best first: itself, itself without variants, and the language and the
+        script of its maximal form. Each has the language and the script that the request means."""
+        language, *others = canonical.split("-")
+        plain = "-".join([language, *(each for each in others if not VARIANT.fullmatch(each))])
+        language, *others = self._told("maximize", plain).split("-")
+        script = [each for each in others if len(each) == 4 and each.isalpha()]
+        wide = [f"{language}-{script[0]}"] if script and language != "und" else []
+        return [canonical, plain, *wide]
+
+    def _first_but(self, refused: Tuple[str, ...]) -> Optional[int]:
+        """The first of what is available that no refused tag is the beginning of."""
+        unwanted = [tag for tag in map(self._canonical, refused) if tag]
+        for place, tag in enumerate(self._negotiator.available):
+            if not any(f"{tag!s}-".startswith(f"{each}-") for each in unwanted):
+                return place
+        return None

@@ -1,0 +1,247 @@
+"""Tables, and what they are asked."""
+from os import PathLike
+from typing import Iterable, Literal, NamedTuple, Optional, Union
+
+from ._held import Held
+from ._negotiator import Negotiator, line_of, listed
+from ._refusals import (InvalidLanguage, InvalidList, InvalidSubtag, NameMissing, Text, as_bytes, line_refusal,
+                        list_refusal, refuse)
+from ._switcher import Switcher, without_extensions
+
+Direction = Literal["ltr", "rtl"]
+DEBIAN_CLDR = "/usr/share/unicode/cldr/common"
+
+
+class Canonical(NamedTuple):
+    """A canonical form: the identifier, and the value that was handed in with it."""
+
+    identifier: str
+    value: str
+
+
+class Tables(Held):
+    """Tables, by `from_json` or `from_cldr`. Any number of threads may use them at once.
+
+    >>> from icu_locale.example import TABLES
+    >>> tables = Tables.from_json(TABLES)
+    >>> tables.minimize("zh-Hant-TW")
+    'zh-TW'
+    >>> tables.close()
+    >>> tables.minimize("zh-Hant-TW")
+    Traceback (most recent call last):
+        ...
+    icu_locale.Closed: The tables are closed.
+    """
+
+    def __init__(self) -> None:
+        """Tables that are closed; `from_json` and `from_cldr` open some."""
+        super().__init__()
+        self._switcher: Optional[Switcher] = None
+
+    @classmethod
+    def from_json(cls, json: Text) -> "Tables":
+        """The tables of a JSON text.
+
+        >>> Tables.from_json("{")
+        Traceback (most recent call last):
+            ...
+        icu_locale.NoJson: The text is no JSON.
+        >>> Tables.from_json('{"colour": 1}')
+        Traceback (most recent call last):
+            ...
+        icu_locale.NoTables: The JSON has not the shape of tables.
+        """
+        made, text = cls(), as_bytes(json)
+        number = made._calls.open(text, len(text), made._root.handle)
+        if number:
+            refuse(number)
+        made._is_open = True
+        return made
+
+    @classmethod
+    def from_cldr(cls, folder: Union[str, "PathLike[str]"] = DEBIAN_CLDR, locales: Iterable[str] = (), *,
+                  settled: bool = True) -> "Tables":
+        """The tables of CLDR's folder `common`, which Debian has in the package unicode-cldr-core, with the names of some
+        locales. What keeps the likely tables from being settled is left out, as negotiation wants it, unless `settled`
+        is False. It raises `NoCldr` where the folder or a locale is not there. It takes about a second.
+        """
+        from .cldr.command import json_of
+        return cls.from_json(json_of(folder, locales, settled))
+
+    def share(self) -> "Tables":
+        """The same tables once more, to be closed apart. They are in memory once.
+
+        >>> from icu_locale.example import TABLES
+        >>> with Tables.from_json(TABLES) as tables:
+        ...     other = tables.share()
+        >>> other.maximize("zh")
+        'zh-Hans-CN'
+        """
+        made = type(self)()
+        self._share_root(made._root)
+        made._is_open = True
+        return made
+
+    def negotiator(self, available: Iterable[Text]) -> Negotiator:
+        """What serves a reader one of the identifiers that are available. It holds these tables too: they may be closed.
+
+        >>> from icu_locale.example import TABLES
+        >>> tables = Tables.from_json(TABLES)
+        >>> tables.negotiator(["en", "zh-Hant"]).negotiate(["zh-TW"])
+        Match(request=0, available=1)
+        >>> tables.negotiator(["en", "zh Hant"])
+        Traceback (most recent call last):
+            ...
+        icu_locale.InvalidList: what stands at place 1 is no identifier: 'zh Hant'
+        """
+        made = Negotiator()
+        made._available = listed(available)
+        made._line = line_of(made._available)
+        self._share_root(made._root)
+        try:
+            made._free.append(made._fresh())
+        except InvalidList:
+            raise self._list_refusal(made._available) from None
+        made._is_open = True
+        return made
+
+    def switcher(self, available: Iterable[Text]) -> Switcher:
+        """What serves a reader by the headers Accept-Language of a request. It holds these tables too.
+
+        >>> from icu_locale.example import TABLES
+        >>> switcher = Tables.from_json(TABLES).switcher(["en", "zh-Hant"])
+        >>> switcher.serve("fr, zh-TW;q=0.5"), switcher.serve("fr")
+        ('zh-Hant', None)
+        """
+        found, canonical = listed(available), []
+        for place, tag in enumerate(found):
+            try:
+                canonical.append(self.canonicalize(without_extensions(as_bytes(tag).decode(errors="replace"))))
+            except (InvalidLanguage, InvalidSubtag):
+                raise list_refusal(place, tag) from None
+        return Switcher(self.negotiator(canonical), found)
+
+    def serve(self, headers: Union[Text, Iterable[Text]], available: Iterable[Text]) -> Optional[Text]:
+        """What is served of the available identifiers, in their own spelling, for the headers Accept-Language of a request:
+        one, or several. None where nothing is met. What was last available is kept, so that it is read once.
+
+        >>> from icu_locale.example import TABLES
+        >>> tables = Tables.from_json(TABLES)
+        >>> tables.serve("fr, zh-TW;q=0.5", ["en", "zh_hant"])
+        'zh_hant'
+        >>> tables.serve(["fr;q=0.1", "de-AT, *;q=0.2"], ["en", "zh_hant"])
+        'en'
+        """
+        found, kept = listed(available), self._switcher
+        if kept is None or kept.available != found:
+            kept = self._switcher = self.switcher(found)
+        return kept.serve(headers)
+
+    def close(self) -> None:
+        """Lets the tables go; a call that still runs has its answer first. A second call does nothing."""
+        self._switcher = None
+        super().close()
+
+    def maximize(self, identifier: Text) -> str:
+        """The maximal form: with the likely script and region.
+
+        >>> from icu_locale.example import TABLES
+        >>> tables = Tables.from_json(TABLES)
+        >>> tables.maximize("zh_tw")
+        'zh-Hant-TW'
+        >>> tables.maximize("en-")
+        Traceback (most recent call last):
+            ...
+        icu_locale.InvalidSubtag: InvalidSubtag: 'en-'
+        """
+        return self.answer(b"maximize", identifier).partition("\t")[0]
+
+    def minimize(self, identifier: Text, *, favor_script: bool = False) -> str:
+        """The minimal form: the shortest with the same maximal form.
+
+        >>> from icu_locale.example import TABLES
+        >>> tables = Tables.from_json(TABLES)
+        >>> tables.minimize("zh-Hant-TW"), tables.minimize("zh-Hant-TW", favor_script=True)
+        ('zh-TW', 'zh-Hant')
+        """
+        return self.answer(b"minimize-script" if favor_script else b"minimize", identifier).partition("\t")[0]
+
+    def canonicalize(self, identifier: Text) -> str:
+        """The canonical form.
+
+        >>> from icu_locale.example import TABLES
+        >>> tables = Tables.from_json(TABLES)
+        >>> tables.canonicalize("sh")
+        'sr-Latn'
+        >>> tables.canonicalize("sh\\tabcdefg")
+        Traceback (most recent call last):
+            ...
+        icu_locale.InvalidSubtag: InvalidSubtag: 'sh\\tabcdefg'
+        """
+        return self.answer(b"canonicalize", without_tab(identifier)).partition("\t")[0]
+
+    def canonicalize_with(self, identifier: Text, value: Text) -> Canonical:
+        """The canonical form, and that of a value at the key `rg`.
+
+        >>> from icu_locale.example import TABLES
+        >>> tables = Tables.from_json(TABLES)
+        >>> tables.canonicalize_with("sh", "abcdefg")
+        Canonical(identifier='sr-Latn', value='xyz')
+        """
+        line = as_bytes(without_tab(identifier)) + b"\t" + as_bytes(value)
+        parts = self.answer(b"canonicalize", line).split("\t")
+        return Canonical(parts[0], parts[1])
+
+    def direction(self, identifier: Text) -> Optional[Direction]:
+        """Which way the likely script runs, where that is known.
+
+        >>> from icu_locale.example import TABLES
+        >>> tables = Tables.from_json(TABLES)
+        >>> tables.direction("ar"), tables.direction("de"), tables.direction("und")
+        ('rtl', 'ltr', None)
+        """
+        told = self.answer(b"direction", identifier)
+        return "ltr" if told == "ltr" else "rtl" if told == "rtl" else None
+
+    def name(self, identifier: Text, preferences: Text, chain: Text = "light") -> str:
+        """The name, in the language of the preferences. What the tables have no name for stands as a subtag.
+
+        >>> from icu_locale.example import TABLES
+        >>> tables = Tables.from_json(TABLES)
+        >>> tables.name("it-Qabc-150", "en"), tables.name("ku-Latn", "en", "menu-light")
+        ('Italian (Qabc, Europe)', 'Kurdish (Kurmanji, Latin)')
+        >>> tables.name("it", "de")
+        Traceback (most recent call last):
+            ...
+        icu_locale.NameMissing: IdentifierNotFound: the tables were made without the locale 'de', to name 'it' in
+        """
+        command = b" ".join((b"name", as_bytes(chain), as_bytes(preferences)))
+        try:
+            return self.answer(command, identifier).rpartition("\t")[0]
+        except NameMissing as fault:
+            raise NameMissing(f"{fault.name}: the tables were made without the locale {preferences!r}, to name "
+                              f"{identifier!r} in") from None
+
+    @property
+    def is_settled(self) -> bool:
+        """Whether the likely tables are settled. It looks at each row.
+
+        >>> from icu_locale.example import TABLES
+        >>> Tables.from_json(TABLES).is_settled
+        True
+        """
+        slot = self._take()
+        try:
+            number = self._calls.is_settled(slot.handle)
+        finally:
+            self._give_back(slot)
+        if number > 1:
+            refuse(number)
+        return bool(number == 1)
+
+
+def without_tab(identifier: Text) -> Text:
+    """An identifier. In a line of `canonicalize`, a value would stand behind a tab."""
+    if b"\t" in as_bytes(identifier):
+        raise line_refusal(InvalidSubtag.name, identifier)
+    return identifier
