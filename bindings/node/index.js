@@ -1,26 +1,46 @@
 'use strict';
-// Tables of locale identifiers, by the proved library. README.md has examples.
-const calls = require('./icu_locale.node');
+// Tables of locale identifiers, by the proved library. README.md has examples, and index.d.ts says what each call takes.
+const { Switcher, withoutExtensions } = require('./switcher.js');
+// Newer versions of Node.js refuse a copy for another thread; older ones make an empty object.
+const { markAsUncloneable = () => {} } = require('worker_threads');
 
+const calls = addon();
 const NUMBERS = {
   2: 'Closed', 4: 'Memory', 5: 'Json', 6: 'Shape', 7: 'Command', 8: 'Table', 9: 'Negotiate', 10: 'List',
   11: 'Unsettled',
 };
+const LINE_REFUSED = 1;
 const LIST = 10;
 const NOT_MET = 1;
 const COMMANDS = new Map();
 
-/** A call that gives no answer. `code` is the name of the refusal. */
+function addon() {
+  try {
+    return require('./icu_locale.node');
+  } catch (fault) {
+    fault.message = `the addon of icu_locale cannot be loaded; bindings/node/build makes it: ${fault.message}`;
+    throw fault;
+  }
+}
+
+/** A call that gives no answer. `code` is the name of the refusal; `place` is that of what is no identifier in a list. */
 class Refused extends Error {
-  constructor(code) {
-    super(code);
+  constructor(code, message = code, place = undefined) {
+    super(message);
     this.name = 'Refused';
     this.code = code;
+    if (place !== undefined) this.place = place;
   }
 }
 
 function bytes(text) {
+  if (typeof text !== 'string' && !(text instanceof Uint8Array)) throw new TypeError('a text is a string or a Buffer');
   return typeof text === 'string' ? Buffer.from(text) : text;
+}
+
+function string(text) {
+  if (typeof text !== 'string') throw new TypeError('an identifier is a string');
+  return text;
 }
 
 // The words of a command are made into bytes once.
@@ -28,7 +48,7 @@ function wordsOf(command) {
   let words = COMMANDS.get(command);
   if (!words) {
     words = bytes(command);
-    if (COMMANDS.size < 100) COMMANDS.set(command, words);
+    if (typeof command === 'string' && COMMANDS.size < 100) COMMANDS.set(command, words);
   }
   return words;
 }
@@ -38,20 +58,43 @@ function made(told) {
   return told;
 }
 
-// A list as one line. There, an identifier that is empty or holds a space would be none, or two.
-function lineOf(identifiers) {
-  if (identifiers.some((it) => typeof it !== 'string')) throw new TypeError('an identifier is a string');
-  if (identifiers.some((it) => it === '' || it.includes(' '))) throw new Refused(NUMBERS[LIST]);
-  return Buffer.from(identifiers.join(' '));
+function noIdentifier(place, identifier) {
+  return new Refused('List', `List: what stands at place ${place} is no identifier: ${JSON.stringify(identifier)}`, place);
 }
 
+// The identifiers of a list. In a line, one that is empty or holds a space would be none, or two.
 function listed(identifiers) {
   if (!Array.isArray(identifiers)) throw new TypeError('identifiers are handed in as an array');
-  return [...identifiers];
+  const list = Array.from(identifiers, string);
+  const place = list.findIndex((it) => it === '' || it.includes(' '));
+  if (place >= 0) throw noIdentifier(place, list[place]);
+  return list;
+}
+
+// What a call tells that is handed a list: where the list is refused, the first that is refused as a line is named.
+function overList(held, list, call) {
+  const told = call(Buffer.from(list.join(' ')));
+  if (told === LIST) {
+    const place = list.findIndex((it) => typeof calls.answer(held, wordsOf('maximize'), bytes(it)) !== 'string');
+    throw noIdentifier(place, list[place]);
+  }
+  return told;
+}
+
+function answered(held, command, line) {
+  const told = calls.answer(held, wordsOf(command), bytes(line));
+  if (typeof told === 'string') return told;
+  const [number, text] = told;
+  throw new Refused(number === LINE_REFUSED ? text.split('\t')[1] : NUMBERS[number]);
 }
 
 class Tables {
   #at;
+  #switcher;
+
+  constructor() {
+    markAsUncloneable(this);
+  }
 
   /** The tables of a JSON text, a string or a Buffer. */
   static fromJson(json) {
@@ -70,19 +113,45 @@ class Tables {
   /** What serves a reader one of the identifiers that are available, an array of strings. It holds these tables too. */
   negotiator(available) {
     const list = listed(available);
-    return new Negotiator(made(calls.available(this.#open(), lineOf(list))), list);
+    const held = this.#open();
+    return new Negotiator(made(overList(held, list, (line) => calls.available(held, line))), list);
+  }
+
+  /** What serves a reader by the headers Accept-Language of a request. It holds these tables too. */
+  switcher(available) {
+    const list = listed(available);
+    const canonical = list.map((tag, place) => {
+      try {
+        return this.canonicalize(withoutExtensions(tag));
+      } catch (refused) {
+        throw /^Invalid/.test(refused.code) ? noIdentifier(place, tag) : refused;
+      }
+    });
+    return new Switcher(this.negotiator(canonical), list);
+  }
+
+  /**
+   * What is served of the available identifiers, in their own spelling, for the headers Accept-Language of a request: one,
+   * or several. Null where nothing is met. What was last available is kept, so that it is read once.
+   */
+  serve(headers, available) {
+    const kept = this.#switcher;
+    const list = listed(available);
+    if (!kept || kept.available.length !== list.length || list.some((tag, place) => tag !== kept.available[place])) {
+      this.#switcher = this.switcher(list);
+    }
+    return this.#switcher.serve(headers);
   }
 
   /** Lets the tables go. A second call does nothing. */
   close() {
+    this.#switcher = undefined;
     if (this.#at) calls.close(this.#at);
   }
 
   /** What the program icu_locale_cli answers to a line, by the words of a command. */
   answer(command, line) {
-    const told = calls.answer(this.#open(), wordsOf(command), bytes(line));
-    if (typeof told === 'string') return told;
-    throw new Refused(told[0] === 1 ? told[1].split('\t')[1] : NUMBERS[told[0]]);
+    return answered(this.#open(), command, line);
   }
 
   #open() {
@@ -95,18 +164,22 @@ class Tables {
     return answer.slice(0, answer.lastIndexOf('\t'));
   }
 
+  /** The maximal form: with the likely script and region. */
   maximize(identifier) {
     return this.#form('maximize', identifier);
   }
 
+  /** The minimal form: the shortest with the same maximal form. */
   minimize(identifier, { favorScript = false } = {}) {
     return this.#form(favorScript ? 'minimize-script' : 'minimize', identifier);
   }
 
   /** The canonical identifier, or where a value at `rg` is handed in, the two. */
   canonicalize(identifier, value) {
-    if (value === undefined) return this.#form('canonicalize', identifier).split('\t')[0];
-    return this.#form('canonicalize', `${identifier}\t${value}`).split('\t');
+    const line = bytes(identifier);
+    if (line.includes(9)) throw new Refused('InvalidSubtag'); // a tab: a value would stand behind it
+    if (value === undefined) return this.#form('canonicalize', line).split('\t')[0];
+    return this.#form('canonicalize', Buffer.concat([line, Buffer.from('\t'), bytes(value)])).split('\t');
   }
 
   /** `ltr`, `rtl` or null. */
@@ -115,10 +188,17 @@ class Tables {
     return told === 'none' ? null : told;
   }
 
+  /** The name, in the language of the preferences. What the tables have no name for stands as a subtag. */
   name(identifier, preferences, chain = 'light') {
-    return this.#form(`name ${chain} ${preferences}`, identifier);
+    try {
+      return this.#form(`name ${string(chain)} ${string(preferences)}`, identifier);
+    } catch (refused) {
+      if (refused.code !== 'IdentifierNotFound') throw refused;
+      throw new Refused(refused.code, `${refused.code}: the tables were made without the locale '${preferences}'`);
+    }
   }
 
+  /** Whether the likely tables are settled. It looks at each row. */
   isSettled() {
     const number = calls.isSettled(this.#open());
     if (number > 1) throw new Refused(NUMBERS[number]);
@@ -132,6 +212,7 @@ class Negotiator {
   #available;
 
   constructor(at, available) {
+    markAsUncloneable(this);
     this.#at = at;
     this.#available = Object.freeze(available);
   }
@@ -146,10 +227,15 @@ class Negotiator {
    * `{ request, available }`; null where no request is met.
    */
   negotiate(requests) {
-    const told = calls.negotiate(this.#at, lineOf(listed(requests)));
+    const told = overList(this.#at, listed(requests), (line) => calls.negotiate(this.#at, line));
     if (told === NOT_MET) return null;
     const [request, available] = made(told);
     return { request, available };
+  }
+
+  /** What the program icu_locale_cli answers to a line, by the words of a command. */
+  answer(command, line) {
+    return answered(this.#at, command, line);
   }
 
   /** Lets the list and the tables go. A second call does nothing. */
@@ -158,4 +244,4 @@ class Negotiator {
   }
 }
 
-module.exports = { Tables, Negotiator, Refused };
+module.exports = { Tables, Negotiator, Switcher, Refused };

@@ -2,11 +2,12 @@
 // The examples of README.md, wrong uses, long answers, and objects that are let go.
 const assert = require('assert');
 const fs = require('fs');
-const path = require('path');
-const { Tables, Negotiator, Refused } = require('./index.js');
+const { Tables, Negotiator, Refused } = require('icu_locale');
 
-const example = fs.readFileSync(path.join(__dirname, '..', 'example.json'));
-const refuses = (call, code) => assert.throws(call, (error) => error instanceof Refused && error.code === code);
+const example = fs.readFileSync(require.resolve('icu_locale/example.json'));
+const refuses = (call, code, message = code) => assert.throws(call, (error) => {
+  return error instanceof Refused && error.code === code && error.message === message;
+});
 
 const tables = Tables.fromJson(example);
 assert.strictEqual(tables.maximize('zh-TW'), 'zh-Hant-TW');
@@ -23,12 +24,25 @@ refuses(() => Tables.fromJson('{'), 'Json');
 refuses(() => Tables.fromJson('[]'), 'Shape');
 refuses(() => tables.maximize('en-'), 'InvalidSubtag');
 refuses(() => tables.maximize(''), 'InvalidLanguage');
-refuses(() => tables.name('it', 'de'), 'IdentifierNotFound');
+refuses(() => tables.name('it', 'de'), 'IdentifierNotFound',
+  "IdentifierNotFound: the tables were made without the locale 'de'");
+refuses(() => tables.canonicalize('sh\tabcdefg'), 'InvalidSubtag');
+refuses(() => tables.canonicalize('sh\tab', 'abcdefg'), 'InvalidSubtag');
 refuses(() => tables.answer('maximise', 'en'), 'Command');
 refuses(() => tables.answer('negotiate', 'en'), 'Negotiate');
 refuses(() => Tables.fromJson('{}').maximize('en'), 'Table');
 refuses(() => new Tables().maximize('en'), 'Closed');
-assert.throws(() => tables.answer('maximize', 5), TypeError);
+for (const wrong of [5, 3e9, undefined, null, ['en'], {}]) {
+  for (const call of [
+    () => Tables.fromJson(wrong), () => tables.answer('maximize', wrong), () => tables.answer(wrong, 'en'),
+    () => tables.maximize(wrong), () => tables.minimize(wrong), () => tables.canonicalize(wrong),
+    () => tables.direction(wrong), () => tables.name(wrong, 'en'), () => tables.name('en', wrong),
+  ]) assert.throws(call, TypeError);
+}
+assert.throws(() => tables.canonicalize('sh', 5), TypeError);
+assert.throws(() => tables.name('en', 'en', 5), TypeError);
+assert.strictEqual(tables.maximize(Buffer.from('zh')), 'zh-Hans-CN');
+assert.strictEqual(tables.maximize(new Uint8Array([122, 104])), 'zh-Hans-CN');
 
 const negotiator = tables.negotiator(['en-US', 'zh-Hant', 'yue-CN']);
 const match = negotiator.negotiate(['fr', 'zh_TW', 'en']);
@@ -38,11 +52,15 @@ assert.strictEqual(negotiator.negotiate(['fr']), null);
 assert.strictEqual(negotiator.negotiate([]), null);
 assert.strictEqual(tables.negotiator([]).negotiate(['en']), null);
 assert.ok(negotiator instanceof Negotiator);
+assert.strictEqual(negotiator.answer('maximize', 'zh-TW'), 'zh-Hant-TW\tM');
 
 for (const faulty of ['', ' ', 'en ', ' en', 'en zh', 'e', 'en-', 'en\n', 'en\0', '\u00e9n', '\ud800']) {
   for (const list of [[faulty], ['en', faulty], [faulty, 'en']]) {
-    refuses(() => tables.negotiator(list), 'List');
-    refuses(() => negotiator.negotiate(list), 'List');
+    const place = list.indexOf(faulty);
+    const message = `List: what stands at place ${place} is no identifier: ${JSON.stringify(faulty)}`;
+    refuses(() => tables.negotiator(list), 'List', message);
+    refuses(() => negotiator.negotiate(list), 'List', message);
+    assert.throws(() => negotiator.negotiate(list), { place });
   }
 }
 for (const list of ['en', 5, undefined, null, [5], ['en', null], new Array(2)]) {
@@ -79,4 +97,4 @@ for (let time = 0; time < 1000; time += 1) {
   other.negotiator(['en', 'de']).negotiate(['de-DE']);
 }
 global.gc();
-console.log('as it should be');
+console.log('calls: as they should be');

@@ -1,0 +1,83 @@
+/** Likely subtags, canonical forms, directions, names and negotiation of locale identifiers, by the proved library. */
+
+/** A text: a string, or its bytes. */
+export type Text = string | Uint8Array;
+
+/** Why a call gives no answer. */
+export type Code =
+  | 'Closed' | 'Memory' | 'Json' | 'Shape' | 'Command' | 'Table' | 'Negotiate' | 'List' | 'Unsettled'
+  | 'InvalidLanguage' | 'InvalidSubtag' | 'NoFixedPoint' | 'NoSubdivisionFixedPoint' | 'IdentifierNotFound';
+
+/** A call that gives no answer. */
+export class Refused extends Error {
+  constructor(code: Code, message?: string, place?: number);
+  /** The name of the refusal. */
+  readonly code: Code;
+  /** Where the code is `List`: the place of what is no identifier, counted from 0. */
+  readonly place?: number;
+}
+
+/** A request that is met: its place, and that of the available identifier. Both are counted from 0. */
+export interface Match {
+  request: number;
+  available: number;
+}
+
+/** Tables, by `Tables.fromJson`. A worker thread has its own. */
+export class Tables {
+  /** The tables of a JSON text. */
+  static fromJson(json: Text): Tables;
+  /** The same tables once more. They are in memory once. */
+  share(): Tables;
+  /** What serves a reader one of the identifiers that are available. It holds these tables too. */
+  negotiator(available: readonly string[]): Negotiator;
+  /** What serves a reader by the headers Accept-Language of a request. It holds these tables too. */
+  switcher(available: readonly string[]): Switcher;
+  /**
+   * What is served of the available identifiers, in their own spelling, for the headers Accept-Language of a request: one,
+   * or several. Null where nothing is met. What was last available is kept, so that it is read once.
+   */
+  serve(headers: string | readonly string[] | undefined, available: readonly string[]): string | null;
+  /** What the program icu_locale_cli answers to a line, by the words of a command. */
+  answer(command: Text, line: Text): string;
+  /** The maximal form: with the likely script and region. */
+  maximize(identifier: Text): string;
+  /** The minimal form: the shortest with the same maximal form. */
+  minimize(identifier: Text, options?: { favorScript?: boolean }): string;
+  /** The canonical form. */
+  canonicalize(identifier: Text): string;
+  /** The canonical form, and that of a value at the key `rg`. */
+  canonicalize(identifier: Text, value: Text): [string, string];
+  /** Which way the likely script runs; null where that is not known. */
+  direction(identifier: Text): 'ltr' | 'rtl' | null;
+  /** The name, in the language of the preferences. The chain is `light` where none is named. */
+  name(identifier: Text, preferences: string, chain?: string): string;
+  /** Whether the likely tables are settled. It looks at each row. */
+  isSettled(): boolean;
+  /** Lets the tables go. A second call does nothing. */
+  close(): void;
+}
+
+/** What is available, by `tables.negotiator`. */
+export class Negotiator {
+  private constructor();
+  /** The identifiers that are available, as they were handed in. */
+  readonly available: readonly string[];
+  /** The first request that an available identifier means, and the first such identifier; null where there is none. */
+  negotiate(requests: readonly string[]): Match | null;
+  /** What the program icu_locale_cli answers to a line, by the words of a command. */
+  answer(command: Text, line: Text): string;
+  /** Lets the list and the tables go. A second call does nothing. */
+  close(): void;
+}
+
+/** What is available, by `tables.switcher`, and which of it is served. */
+export class Switcher {
+  private constructor();
+  /** The identifiers that are available, as they were handed in. */
+  readonly available: readonly string[];
+  /** What is served for one header Accept-Language, or for several; null where nothing is met. */
+  serve(headers: string | readonly string[] | undefined): string | null;
+  /** Lets the list and the tables go. A second call does nothing. */
+  close(): void;
+}

@@ -1,0 +1,115 @@
+'use strict';
+// What is served to a reader, by the headers Accept-Language of a request (RFC 9110, section 12.5.4).
+
+// How many tags of a request are read: who sends more is no reader.
+const MOST_TAGS = 100;
+const FOLD = /\r?\n[ \t]+/g;
+const WEIGHT = /^([01](\.[0-9]*)?|\.[0-9]+)$/;
+const VARIANT = /^([A-Za-z0-9]{5,8}|[0-9][A-Za-z0-9]{3})$/;
+const SCRIPT = /^[A-Za-z]{4}$/;
+
+// A tag up to its first extension, or to what is for private use.
+function withoutExtensions(tag) {
+  return tag.replace(/[-_][A-Za-z0-9][-_][^]*/, '');
+}
+
+// The weight `q`, 1 where there is none; null where it is no weight.
+function weightOf(parameters) {
+  for (const parameter of parameters) {
+    const [name, value = ''] = parameter.split('=', 2).map((word) => word.trim());
+    if (name.toLowerCase() === 'q') return WEIGHT.test(value) && Number(value) <= 1 ? Number(value) : null;
+  }
+  return 1;
+}
+
+// The tags of one header, or of several: those wanted, the most wanted first, and those with `q=0`.
+function readHeaders(headers) {
+  const each = headers === undefined ? [] : Array.isArray(headers) ? headers : [headers];
+  if (each.some((it) => typeof it !== 'string')) throw new TypeError('a header is a string');
+  const found = [];
+  for (const part of each.join(',').replace(FOLD, ' ').split(',', MOST_TAGS)) {
+    const [tag, ...parameters] = part.split(';').map((word) => word.trim());
+    const weight = weightOf(parameters);
+    if (tag && weight !== null) found.push({ tag, weight });
+  }
+  found.sort((one, other) => other.weight - one.weight);
+  const tags = (isWanted) => found.filter((it) => isWanted === it.weight > 0).map((it) => it.tag);
+  return { wanted: tags(true), refused: tags(false) };
+}
+
+/** What is available, by `tables.switcher`, and which of it is served. */
+class Switcher {
+  #negotiator;
+  #available;
+
+  /** `negotiator` holds the canonical forms of what is available, as it was handed in. */
+  constructor(negotiator, available) {
+    this.#negotiator = negotiator;
+    this.#available = Object.freeze(available);
+  }
+
+  /** The identifiers that are available, as they were handed in. */
+  get available() {
+    return this.#available;
+  }
+
+  /**
+   * What is served for one header Accept-Language, or for several; null where nothing is met. The tags are asked by their
+   * `q`, the greatest first. `*` is met by the first of what is available, but for what begins with a tag of `q=0`. What
+   * is no tag is passed over, and so is what stands behind the hundredth tag.
+   */
+  serve(headers) {
+    const { wanted, refused } = readHeaders(headers);
+    for (const tag of wanted) {
+      const place = tag === '*' ? this.#firstBut(refused) : this.#met(tag);
+      if (place !== null) return this.#available[place];
+    }
+    return null;
+  }
+
+  /** Lets the list and the tables go. A second call does nothing. */
+  close() {
+    this.#negotiator.close();
+  }
+
+  #met(tag) {
+    const canonical = this.#canonical(tag);
+    const match = canonical === null ? null : this.#negotiator.negotiate(this.#forms(canonical));
+    return match && match.available;
+  }
+
+  // The canonical form; null where the tag is no identifier, or the rules come to no end.
+  #canonical(tag) {
+    if (tag.includes('\t')) return null;
+    try {
+      return this.#told('canonicalize', withoutExtensions(tag));
+    } catch (refused) {
+      if (/^(Invalid|No.*FixedPoint)/.test(refused.code)) return null;
+      throw refused;
+    }
+  }
+
+  #told(command, identifier) {
+    return this.#negotiator.answer(command, identifier).split('\t')[0];
+  }
+
+  // What may be served for a request, the best first: itself, itself without variants, and the language and the script of
+  // its maximal form. Each has the language and the script that the request means.
+  #forms(canonical) {
+    const [first, ...others] = canonical.split('-');
+    const plain = [first, ...others.filter((it) => !VARIANT.test(it))].join('-');
+    const [language, ...rest] = this.#told('maximize', plain).split('-');
+    const script = rest.find((it) => SCRIPT.test(it));
+    return script && language !== 'und' ? [canonical, plain, `${language}-${script}`] : [canonical, plain];
+  }
+
+  // The first of what is available that no refused tag is the beginning of.
+  #firstBut(refused) {
+    const unwanted = refused.map((tag) => this.#canonical(tag)).filter((tag) => tag !== null);
+    const begins = (tag) => unwanted.some((each) => `${tag}-`.startsWith(`${each}-`));
+    const place = this.#negotiator.available.findIndex((tag) => !begins(tag));
+    return place < 0 ? null : place;
+  }
+}
+
+module.exports = { Switcher, withoutExtensions, readHeaders, MOST_TAGS };
