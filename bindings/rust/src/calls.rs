@@ -2,16 +2,36 @@
 use std::ffi::c_void;
 use std::ptr::null_mut;
 
-/// A handle of C: null is closed.
+/// A handle of C: null is closed. It closes itself.
 #[repr(C)]
 pub struct Handle {
     at: *mut c_void,
 }
 
+// SAFETY: it is proved of the handle that it may go to another thread.
+unsafe impl Send for Handle {}
+
 impl Handle {
     /// A handle that is closed.
     pub const fn closed() -> Self {
         Handle { at: null_mut() }
+    }
+
+    /// The handle that was taken out of another one.
+    pub const fn at(at: *mut c_void) -> Self {
+        Handle { at }
+    }
+
+    /// What it holds, and leaves it closed.
+    pub fn take(&mut self) -> *mut c_void {
+        std::mem::replace(&mut self.at, null_mut())
+    }
+}
+
+impl Drop for Handle {
+    fn drop(&mut self) {
+        // SAFETY: no other call is made on the handle, by `&mut`.
+        unsafe { icu_locale_close(self) }
     }
 }
 

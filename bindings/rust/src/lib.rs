@@ -4,7 +4,7 @@
 //! ```
 //! use icu_locale_calls::{Refusal, Tables, EXAMPLE};
 //!
-//! let mut tables = Tables::from_json(EXAMPLE.as_bytes())?;
+//! let tables = Tables::from_json(EXAMPLE.as_bytes())?;
 //! assert_eq!(tables.maximize("zh-TW")?, "zh-Hant-TW");
 //! assert_eq!(tables.minimize("zh-Hant-TW")?, "zh-TW");
 //! assert_eq!(tables.canonicalize("sh")?, "sr-Latn");
@@ -18,8 +18,8 @@
 //! ```
 //! use icu_locale_calls::{Match, Tables, EXAMPLE};
 //!
-//! let mut tables = Tables::from_json(EXAMPLE.as_bytes())?;
-//! let mut negotiator = tables.negotiator(["en-US", "zh-Hant", "yue-CN"])?;
+//! let tables = Tables::from_json(EXAMPLE.as_bytes())?;
+//! let negotiator = tables.negotiator(["en-US", "zh-Hant", "yue-CN"])?;
 //! let met = negotiator.negotiate(["fr", "zh_TW", "en"])?;
 //! assert_eq!(met, Some(Match { request: 1, available: 1 }));
 //! assert_eq!(negotiator.available()[1], "zh-Hant");
@@ -30,14 +30,16 @@
 
 mod calls;
 mod negotiator;
+mod pool;
 mod refusal;
 
 use calls::Handle;
 pub use negotiator::{Match, Negotiator};
+use pool::Pool;
 pub use refusal::Refusal;
 
 /// Small tables, as the examples ask them.
-pub const EXAMPLE: &str = include_str!("../../example.json");
+pub const EXAMPLE: &str = include_str!("../example.json");
 
 const ACCEPTED: i32 = 0;
 const LINE_REFUSED: i32 = 1;
@@ -52,26 +54,21 @@ pub enum Direction {
     RightToLeft,
 }
 
-/// Tables. A call takes them by `&mut`, since it may prepare something that is kept; a thread has its own by `share`.
+/// Tables. Any number of threads may use them at once, by a reference or an `Arc`.
+///
+/// ```
+/// use icu_locale_calls::{Tables, EXAMPLE};
+/// let tables = Tables::from_json(EXAMPLE.as_bytes())?;
+/// std::thread::scope(|scope| {
+///     for _ in 0..4 {
+///         scope.spawn(|| assert_eq!(tables.maximize("und-SA").as_deref(), Ok("ar-Arab-SA")));
+///     }
+/// });
+/// # Ok::<(), icu_locale_calls::Refusal>(())
+/// ```
 #[derive(Debug)]
 pub struct Tables {
-    handle: Handle,
-}
-
-// SAFETY: it is proved of the handle that it may go to another thread.
-unsafe impl Send for Tables {}
-
-impl std::fmt::Debug for Handle {
-    fn fmt(&self, f: &mut std::fmt::Formatter<'_>) -> std::fmt::Result {
-        f.write_str("..")
-    }
-}
-
-impl Drop for Tables {
-    fn drop(&mut self) {
-        // SAFETY: no other call is made on the handle, by `&mut`.
-        unsafe { calls::icu_locale_close(&mut self.handle) }
-    }
+    pool: Pool,
 }
 
 impl Tables {
@@ -90,12 +87,12 @@ impl Tables {
         let mut handle = Handle::closed();
         // SAFETY: the slice is one of Rust's, and the handle a closed one that nobody else has.
         match unsafe { calls::icu_locale_open(json.as_ptr(), json.len(), &mut handle) } {
-            ACCEPTED => Ok(Tables { handle }),
+            ACCEPTED => Ok(Tables { pool: Pool::over(handle, None) }),
             number => Err(Refusal::of_number(number)),
         }
     }
 
-    /// The same tables once more, as for another thread. They are in memory once.
+    /// The same tables once more, to be let go apart. They are in memory once.
     ///
     /// # Errors
     ///
@@ -103,19 +100,14 @@ impl Tables {
     ///
     /// ```
     /// use icu_locale_calls::{Tables, EXAMPLE};
-    /// let mut first = Tables::from_json(EXAMPLE.as_bytes())?;
-    /// let mut other = first.share()?;
+    /// let first = Tables::from_json(EXAMPLE.as_bytes())?;
+    /// let other = first.share()?;
     /// let thread = std::thread::spawn(move || other.maximize("und-SA"));
     /// assert_eq!(first.maximize("und-SA"), thread.join().unwrap());
     /// # Ok::<(), icu_locale_calls::Refusal>(())
     /// ```
-    pub fn share(&mut self) -> Result<Self, Refusal> {
-        let mut handle = Handle::closed();
-        // SAFETY: the two handles are two, and nobody else has them.
-        match unsafe { calls::icu_locale_share(&mut self.handle, &mut handle) } {
-            ACCEPTED => Ok(Tables { handle }),
-            number => Err(Refusal::of_number(number)),
-        }
+    pub fn share(&self) -> Result<Self, Refusal> {
+        Ok(Tables { pool: Pool::over(self.pool.share()?, None) })
     }
 
     /// What serves a reader one of the identifiers that are available. It holds these tables too.
@@ -126,18 +118,18 @@ impl Tables {
     ///
     /// ```
     /// use icu_locale_calls::{Match, Refusal, Tables, EXAMPLE};
-    /// let mut tables = Tables::from_json(EXAMPLE.as_bytes())?;
-    /// let mut negotiator = tables.negotiator(["en", "zh-Hant"])?;
+    /// let tables = Tables::from_json(EXAMPLE.as_bytes())?;
+    /// let negotiator = tables.negotiator(["en", "zh-Hant"])?;
     /// assert_eq!(negotiator.negotiate(["zh-TW"])?, Some(Match { request: 0, available: 1 }));
     /// assert_eq!(tables.negotiator(["en", "zh Hant"]).err(), Some(Refusal::List));
     /// # Ok::<(), Refusal>(())
     /// ```
-    pub fn negotiator<I>(&mut self, available: I) -> Result<Negotiator, Refusal>
+    pub fn negotiator<I>(&self, available: I) -> Result<Negotiator, Refusal>
     where
         I: IntoIterator,
         I::Item: Into<String>,
     {
-        Negotiator::over(&mut self.handle, available.into_iter().map(Into::into).collect())
+        Negotiator::over(self.pool.share()?, available.into_iter().map(Into::into).collect())
     }
 
     /// What the program `icu_locale_cli` answers to a line, without its line feed, by the words of a command.
@@ -145,14 +137,17 @@ impl Tables {
     /// # Errors
     ///
     /// Every refusal but `Json`, `Shape`, `List` and `Unsettled`.
-    pub fn answer(&mut self, command: &str, line: &[u8]) -> Result<String, Refusal> {
+    pub fn answer(&self, command: &str, line: &[u8]) -> Result<String, Refusal> {
         let mut out = vec![0; 64];
         let mut written = 0;
-        let mut number = self.call(command, line, &mut out, &mut written);
-        if number == ROOM {
-            out.resize(written, 0);
-            number = self.call(command, line, &mut out, &mut written);
-        }
+        let number = self.pool.with(|handle| {
+            let mut number = call(handle, command, line, &mut out, &mut written);
+            if number == ROOM {
+                out.resize(written, 0);
+                number = call(handle, command, line, &mut out, &mut written);
+            }
+            number
+        })?;
         out.truncate(written);
         match number {
             ACCEPTED => Ok(String::from_utf8(out).expect("an answer is a text")),
@@ -161,24 +156,8 @@ impl Tables {
         }
     }
 
-    fn call(&mut self, command: &str, line: &[u8], out: &mut [u8], written: &mut usize) -> i32 {
-        // SAFETY: the slices are Rust's, `out` and `written` overlap nothing by `&mut`, and so the handle is this call's.
-        unsafe {
-            calls::icu_locale_answer(
-                &mut self.handle,
-                command.as_ptr(),
-                command.len(),
-                line.as_ptr(),
-                line.len(),
-                out.as_mut_ptr(),
-                out.len(),
-                written,
-            )
-        }
-    }
-
     // What stands before the mark of an answer.
-    fn form(&mut self, command: &str, line: &str) -> Result<String, Refusal> {
+    fn form(&self, command: &str, line: &str) -> Result<String, Refusal> {
         let mut answer = self.answer(command, line.as_bytes())?;
         answer.truncate(answer.rfind('\t').unwrap_or(answer.len()));
         Ok(answer)
@@ -189,7 +168,7 @@ impl Tables {
     /// # Errors
     ///
     /// `InvalidLanguage`, `InvalidSubtag`, `Table` or `Memory`.
-    pub fn maximize(&mut self, identifier: &str) -> Result<String, Refusal> {
+    pub fn maximize(&self, identifier: &str) -> Result<String, Refusal> {
         self.form("maximize", identifier)
     }
 
@@ -198,7 +177,7 @@ impl Tables {
     /// # Errors
     ///
     /// Those of `maximize`.
-    pub fn minimize(&mut self, identifier: &str) -> Result<String, Refusal> {
+    pub fn minimize(&self, identifier: &str) -> Result<String, Refusal> {
         self.form("minimize", identifier)
     }
 
@@ -207,7 +186,7 @@ impl Tables {
     /// # Errors
     ///
     /// Those of `maximize`.
-    pub fn minimize_favor_script(&mut self, identifier: &str) -> Result<String, Refusal> {
+    pub fn minimize_favor_script(&self, identifier: &str) -> Result<String, Refusal> {
         self.form("minimize-script", identifier)
     }
 
@@ -216,7 +195,7 @@ impl Tables {
     /// # Errors
     ///
     /// Those of `maximize`, or `NoFixedPoint`.
-    pub fn canonicalize(&mut self, identifier: &str) -> Result<String, Refusal> {
+    pub fn canonicalize(&self, identifier: &str) -> Result<String, Refusal> {
         if identifier.contains('\t') {
             return Err(Refusal::InvalidSubtag);
         }
@@ -231,11 +210,11 @@ impl Tables {
     ///
     /// ```
     /// use icu_locale_calls::{Tables, EXAMPLE};
-    /// let mut tables = Tables::from_json(EXAMPLE.as_bytes())?;
+    /// let tables = Tables::from_json(EXAMPLE.as_bytes())?;
     /// assert_eq!(tables.canonicalize_with("sh", "abcdefg")?, ("sr-Latn".to_owned(), "xyz".to_owned()));
     /// # Ok::<(), icu_locale_calls::Refusal>(())
     /// ```
-    pub fn canonicalize_with(&mut self, identifier: &str, value: &str) -> Result<(String, String), Refusal> {
+    pub fn canonicalize_with(&self, identifier: &str, value: &str) -> Result<(String, String), Refusal> {
         let form = self.form("canonicalize", &format!("{identifier}\t{value}"))?;
         let (identifier, value) = form.split_once('\t').unwrap_or((&form, ""));
         Ok((identifier.to_owned(), value.to_owned()))
@@ -249,11 +228,11 @@ impl Tables {
     ///
     /// ```
     /// use icu_locale_calls::{Direction, Tables, EXAMPLE};
-    /// let mut tables = Tables::from_json(EXAMPLE.as_bytes())?;
+    /// let tables = Tables::from_json(EXAMPLE.as_bytes())?;
     /// assert_eq!(tables.direction("ar")?, Some(Direction::RightToLeft));
     /// # Ok::<(), icu_locale_calls::Refusal>(())
     /// ```
-    pub fn direction(&mut self, identifier: &str) -> Result<Option<Direction>, Refusal> {
+    pub fn direction(&self, identifier: &str) -> Result<Option<Direction>, Refusal> {
         Ok(match self.answer("direction", identifier.as_bytes())?.as_str() {
             "ltr" => Some(Direction::LeftToRight),
             "rtl" => Some(Direction::RightToLeft),
@@ -266,7 +245,7 @@ impl Tables {
     /// # Errors
     ///
     /// `InvalidLanguage`, `InvalidSubtag`, `NameMissing` or `Memory`, and `Command` where the preferences are none.
-    pub fn name(&mut self, identifier: &str, preferences: &str) -> Result<String, Refusal> {
+    pub fn name(&self, identifier: &str, preferences: &str) -> Result<String, Refusal> {
         self.form(&format!("name light {preferences}"), identifier)
     }
 
@@ -275,12 +254,28 @@ impl Tables {
     /// # Errors
     ///
     /// `Table` where a likely table is left out.
-    pub fn is_settled(&mut self) -> Result<bool, Refusal> {
+    pub fn is_settled(&self) -> Result<bool, Refusal> {
         // SAFETY: no other call is made on the handle, by `&mut`.
-        match unsafe { calls::icu_locale_is_settled(&mut self.handle) } {
+        match self.pool.with(|handle| unsafe { calls::icu_locale_is_settled(handle) })? {
             0 => Ok(false),
             1 => Ok(true),
             number => Err(Refusal::of_number(number)),
         }
+    }
+}
+
+fn call(handle: &mut Handle, command: &str, line: &[u8], out: &mut [u8], written: &mut usize) -> i32 {
+    // SAFETY: the slices are Rust's, `out` and `written` overlap nothing by `&mut`, and so the handle is this call's.
+    unsafe {
+        calls::icu_locale_answer(
+            handle,
+            command.as_ptr(),
+            command.len(),
+            line.as_ptr(),
+            line.len(),
+            out.as_mut_ptr(),
+            out.len(),
+            written,
+        )
     }
 }

@@ -1,8 +1,8 @@
 //! What is available, and what is served of it.
 use crate::calls::{self, Handle};
+use crate::pool::Pool;
 use crate::Refusal;
 
-const DONE: i32 = 0;
 const MET: i32 = 0;
 const NOT_MET: i32 = 1;
 
@@ -15,32 +15,18 @@ pub struct Match {
     pub available: usize,
 }
 
-/// What is available, by `Tables::negotiator`. A thread has one of its own.
+/// What is available, by `Tables::negotiator`. Any number of threads may use it at once.
 #[derive(Debug)]
 pub struct Negotiator {
-    handle: Handle,
+    pool: Pool,
     available: Vec<String>,
 }
 
-// SAFETY: it is proved of the handle that it may go to another thread.
-unsafe impl Send for Negotiator {}
-
-impl Drop for Negotiator {
-    fn drop(&mut self) {
-        // SAFETY: no other call is made on the handle, by `&mut`.
-        unsafe { calls::icu_locale_close(&mut self.handle) }
-    }
-}
-
 impl Negotiator {
-    pub(crate) fn over(from: &mut Handle, available: Vec<String>) -> Result<Self, Refusal> {
-        let list = line(&available)?;
-        let mut handle = Handle::closed();
-        // SAFETY: the slice is one of Rust's, and the two handles are two, which nobody else has.
-        match unsafe { calls::icu_locale_available(from, list.as_ptr(), list.len(), &mut handle) } {
-            DONE => Ok(Negotiator { handle, available }),
-            number => Err(Refusal::of_number(number)),
-        }
+    pub(crate) fn over(tables: Handle, available: Vec<String>) -> Result<Self, Refusal> {
+        let pool = Pool::over(tables, Some(line(&available)?));
+        pool.with(|_| ())?;
+        Ok(Negotiator { pool, available })
     }
 
     /// The identifiers that are available, as they were handed in.
@@ -56,23 +42,25 @@ impl Negotiator {
     ///
     /// ```
     /// use icu_locale_calls::{Match, Refusal, Tables, EXAMPLE};
-    /// let mut negotiator = Tables::from_json(EXAMPLE.as_bytes())?.negotiator(["de", "en", "en-Latn"])?;
+    /// let negotiator = Tables::from_json(EXAMPLE.as_bytes())?.negotiator(["de", "en", "en-Latn"])?;
     /// assert_eq!(negotiator.negotiate(["zh", "en-US", "de"])?, Some(Match { request: 1, available: 1 }));
     /// assert_eq!(negotiator.negotiate(["zh"])?, None);
     /// assert_eq!(negotiator.negotiate(["en", "en-"]), Err(Refusal::List));
     /// # Ok::<(), Refusal>(())
     /// ```
-    pub fn negotiate<I>(&mut self, requests: I) -> Result<Option<Match>, Refusal>
+    pub fn negotiate<I>(&self, requests: I) -> Result<Option<Match>, Refusal>
     where
         I: IntoIterator,
         I::Item: AsRef<str>,
     {
         let line = line(requests)?;
         let (mut request, mut available) = (0, 0);
-        // SAFETY: the slice is one of Rust's, the places are two of this call's, and so is the handle, by `&mut`.
-        let number = unsafe {
-            calls::icu_locale_negotiate(&mut self.handle, line.as_ptr(), line.len(), &mut request, &mut available)
-        };
+        let number = self.pool.with(|handle| {
+            // SAFETY: the slice is one of Rust's, the places are two of this call's, and so is the handle, by `&mut`.
+            unsafe {
+                calls::icu_locale_negotiate(handle, line.as_ptr(), line.len(), &mut request, &mut available)
+            }
+        })?;
         match number {
             MET => Ok(Some(Match { request, available })),
             NOT_MET => Ok(None),

@@ -1,4 +1,4 @@
-//! Wrong uses, long answers, and eight threads.
+//! Wrong uses, long answers, and threads, each with its own and all with one.
 use icu_locale_calls::{Match, Negotiator, Refusal, Tables, EXAMPLE};
 
 const UNSETTLED: &str = r#"{"likely_language":{"und":["en","Latn","US"],"language":{"xx":["Zzzz","DE"]}},
@@ -8,7 +8,7 @@ const FAULTY: [&str; 10] = ["", " ", "en ", " en", "en zh", "e", "en-", "en\n", 
 
 #[test]
 fn refusals() {
-    let mut tables = Tables::from_json(b"{}").unwrap();
+    let tables = Tables::from_json(b"{}").unwrap();
     assert_eq!(tables.maximize("en"), Err(Refusal::Table));
     assert_eq!(tables.is_settled(), Err(Refusal::Table));
     assert_eq!(tables.name("en", "en"), Err(Refusal::NameMissing));
@@ -19,7 +19,7 @@ fn refusals() {
 
 #[test]
 fn long_answers() {
-    let mut tables = Tables::from_json(EXAMPLE.as_bytes()).unwrap();
+    let tables = Tables::from_json(EXAMPLE.as_bytes()).unwrap();
     let variants: Vec<String> = (0..200).map(|number| format!("piece{number:03}")).collect();
     let variants = variants.join("-");
     assert_eq!(tables.maximize(&format!("de-{variants}")), Ok(format!("de-Latn-DE-{variants}")));
@@ -29,8 +29,8 @@ fn long_answers() {
 
 #[test]
 fn lists() {
-    let mut tables = Tables::from_json(EXAMPLE.as_bytes()).unwrap();
-    let mut negotiator = tables.negotiator(["en-US", "zh_Hant", "yue-CN"]).unwrap();
+    let tables = Tables::from_json(EXAMPLE.as_bytes()).unwrap();
+    let negotiator = tables.negotiator(["en-US", "zh_Hant", "yue-CN"]).unwrap();
     for faulty in FAULTY {
         for listed in [vec![faulty], vec!["en", faulty], vec![faulty, "en"]] {
             assert_eq!(tables.negotiator(listed.clone()).err(), Some(Refusal::List));
@@ -48,25 +48,25 @@ fn lists() {
 
 #[test]
 fn refused_tables() {
-    let mut empty = Tables::from_json(b"{}").unwrap();
+    let empty = Tables::from_json(b"{}").unwrap();
     assert_eq!(empty.negotiator(["en-"]).err(), Some(Refusal::Table));
-    let mut unsettled = Tables::from_json(UNSETTLED.as_bytes()).unwrap();
+    let unsettled = Tables::from_json(UNSETTLED.as_bytes()).unwrap();
     assert_eq!(unsettled.negotiator(["en"]).err(), Some(Refusal::Unsettled));
     assert_eq!(unsettled.negotiator(["en-"]).err(), Some(Refusal::List));
 }
 
 #[test]
 fn long_lists() {
-    let mut tables = Tables::from_json(EXAMPLE.as_bytes()).unwrap();
+    let tables = Tables::from_json(EXAMPLE.as_bytes()).unwrap();
     let available: Vec<String> = (1000..3000).map(|number| format!("en-{number}")).collect();
-    let mut negotiator = tables.negotiator(available.clone()).unwrap();
+    let negotiator = tables.negotiator(available.clone()).unwrap();
     for place in (0..2000).step_by(97) {
         let met = negotiator.negotiate(["fr", &available[place]]);
         assert_eq!(met, Ok(Some(Match { request: 1, available: place })));
     }
 }
 
-fn always_meets(mut negotiator: Negotiator) -> bool {
+fn always_meets(negotiator: Negotiator) -> bool {
     (0..2000).all(|_| {
         negotiator.negotiate(["fr", "zh-TW"]) == Ok(Some(Match { request: 1, available: 2 }))
             && negotiator.negotiate(["fr"]) == Ok(None)
@@ -75,7 +75,7 @@ fn always_meets(mut negotiator: Negotiator) -> bool {
 
 #[test]
 fn threads_that_negotiate() {
-    let mut tables = Tables::from_json(EXAMPLE.as_bytes()).unwrap();
+    let tables = Tables::from_json(EXAMPLE.as_bytes()).unwrap();
     let threads: Vec<_> = (0..8)
         .map(|_| {
             let negotiator = tables.negotiator(["en", "de", "zh-Hant"]).unwrap();
@@ -88,10 +88,10 @@ fn threads_that_negotiate() {
 
 #[test]
 fn threads() {
-    let mut first = Tables::from_json(EXAMPLE.as_bytes()).unwrap();
+    let first = Tables::from_json(EXAMPLE.as_bytes()).unwrap();
     let threads: Vec<_> = (0..8)
         .map(|_| {
-            let mut tables = first.share().unwrap();
+            let tables = first.share().unwrap();
             std::thread::spawn(move || {
                 (0..2000).all(|_| {
                     tables.maximize("zh").as_deref() == Ok("zh-Hans-CN")
@@ -102,4 +102,58 @@ fn threads() {
         .collect();
     drop(first);
     assert!(threads.into_iter().all(|thread| thread.join().unwrap()));
+}
+
+fn is_one_thread_or_many<T: Send + Sync>(_: &T) {}
+
+#[test]
+fn one_object_in_sixteen_threads() {
+    let tables = Tables::from_json(EXAMPLE.as_bytes()).unwrap();
+    let negotiator = tables.negotiator(["en", "de", "zh-Hant"]).unwrap();
+    is_one_thread_or_many(&tables);
+    is_one_thread_or_many(&negotiator);
+    std::thread::scope(|scope| {
+        for _ in 0..16 {
+            scope.spawn(|| {
+                for _ in 0..2000 {
+                    assert_eq!(tables.maximize("zh").as_deref(), Ok("zh-Hans-CN"));
+                    assert_eq!(tables.canonicalize("sh").as_deref(), Ok("sr-Latn"));
+                    assert_eq!(negotiator.negotiate(["fr", "zh-TW"]), Ok(Some(Match { request: 1, available: 2 })));
+                }
+                assert_eq!(tables.is_settled(), Ok(true));
+            });
+        }
+    });
+}
+
+#[test]
+fn more_threads_than_places() {
+    let tables = std::sync::Arc::new(Tables::from_json(EXAMPLE.as_bytes()).unwrap());
+    let threads: Vec<_> = (0..100)
+        .map(|_| {
+            let tables = std::sync::Arc::clone(&tables);
+            std::thread::spawn(move || (0..200).all(|_| tables.maximize("zh").as_deref() == Ok("zh-Hans-CN")))
+        })
+        .collect();
+    drop(tables);
+    assert!(threads.into_iter().all(|thread| thread.join().unwrap()));
+}
+
+// Answers a second of some threads over one object.
+fn rate(tables: &Tables, count: usize) -> f64 {
+    let begun = std::time::Instant::now();
+    std::thread::scope(|scope| {
+        for _ in 0..count {
+            scope.spawn(|| (0..64_000 / count).for_each(|_| assert!(tables.maximize("zh-TW").is_ok())));
+        }
+    });
+    64_000.0 / begun.elapsed().as_secs_f64()
+}
+
+// In one of ten rounds at the least, since other work of the machine comes between them.
+#[test]
+fn sixteen_threads_answer_no_less_than_one() {
+    let tables = Tables::from_json(EXAMPLE.as_bytes()).unwrap();
+    let rounds: Vec<_> = (0..10).map(|_| (rate(&tables, 16), rate(&tables, 1))).collect();
+    assert!(rounds.iter().any(|(many, alone)| many >= alone), "{rounds:?}");
 }
