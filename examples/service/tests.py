@@ -13,6 +13,8 @@ from __future__ import annotations
 
 import json
 import shutil
+import signal
+import socket
 import subprocess
 import sys
 import threading
@@ -27,7 +29,8 @@ sys.path.insert(0, str(HERE))
 sys.path.insert(0, str(HERE.parents[1] / "tools"))
 
 from script import Words  # noqa: E402
-from switcher import Stream, Switcher, wanted  # noqa: E402
+import switcher  # noqa: E402
+from switcher import Stream  # noqa: E402
 
 LOCALES = ["en", "de", "ar", "ja", "zh-Hant", "sr-Latn"]
 # A header, what is served for it, and which way that runs.
@@ -35,7 +38,13 @@ SERVED = [
     ("en-GB", "en", "ltr"), ("de-AT;q=0.5, en;q=0.4", "de", "ltr"), ("ar-EG", "ar", "rtl"), ("ja-JP", "ja", "ltr"),
     ("zh-HK", "zh-Hant", "ltr"), ("zh-CN, de;q=0.1", "de", "ltr"), ("sr-ME", "sr-Latn", "ltr"), ("sr", "en", "ltr"),
     ("sh", "sr-Latn", "ltr"), ("de-1996", "de", "ltr"), ("zz-zz-zz, *", "en", "ltr"), ("", "en", "ltr"),
-    ("de;q=0, ja;q=0.2", "ja", "ltr"), ("de;q=x, ja", "ja", "ltr"),
+    ("de;q=0, ja;q=0.2", "ja", "ltr"), ("de;q=x, ja", "ja", "ltr"), ("fr-u-ca-buddhist, ar-u-nu-latn", "ar", "rtl"),
+]
+# Header lines as they come, and what is served.
+LINES = [
+    ("Accept-Language: fr,\r\n ja", "ja"), ("Accept-Language: fr\r\nHost: x\r\naccept-language: ja", "ja"),
+    ("Accept-Language: de;q=0.1\r\nAccept-Language: ja;q=0.2", "ja"), ("Accept-Language: " + "fr," * 21000 + "ja", "en"),
+    ("Host: x", "en"),
 ]
 
 
@@ -64,8 +73,17 @@ def check_stream(stream: str, program: str, tables: str) -> list[str]:
                    if it != answers[line]]
         stop.set()
         killer.join()
+    faults += [f"{line}: another answer, of a process that stood still" for line in lines[:2]
+               if stopped(kept).ask(line) != answers[line]]
     kept.end()
     return faults
+
+
+def stopped(kept: Stream) -> Stream:
+    """A stream whose process stands still."""
+    switcher.SECONDS = 2.0
+    kept.process.send_signal(signal.SIGSTOP)
+    return kept
 
 
 def kill_again(kept: Stream, stop: threading.Event) -> None:
@@ -83,11 +101,20 @@ def fetched(address: str, header: str) -> dict:
         return json.load(answer)
 
 
+def by_lines(address: str, lines: str) -> str:
+    """What is served for header lines as they are."""
+    host, port = address.removeprefix("http://").strip("/").split(":")
+    with socket.create_connection((host, int(port)), timeout=60) as reader:
+        reader.sendall(f"GET /menu HTTP/1.0\r\n{lines}\r\n\r\n".encode())
+        return json.loads(reader.makefile("rb").read().split(b"\r\n\r\n", 1)[1])["locale"]
+
+
 def check_service(address: str) -> list[str]:
     """What is wrong with the service: what is served, and 1,000 questions from eight threads."""
     first = {header: fetched(address, header) for header, _, _ in SERVED}
     faults = [f"{header!r}: {first[header]['locale']} is served" for header, locale, direction in SERVED
               if (first[header]["locale"], first[header]["direction"]) != (locale, direction)]
+    faults += [f"{lines[:60]!r}: not {locale}" for lines, locale in LINES if by_lines(address, lines) != locale]
     headers = [SERVED[at % len(SERVED)][0] for at in range(1000)]
     with ThreadPoolExecutor(8) as pool:
         answers = list(pool.map(lambda header: fetched(address, header), headers))
@@ -135,9 +162,8 @@ def main() -> int:
     parser.add_argument("picture", metavar="PICTURE", nargs="?")
     words = parser.parse_args()
     stream, program, settled, names = words.stream, words.program, words.settled, words.names
-    faults = [] if wanted("a;q=0.1, b, c;q=0, d;q=0.9") == ["b", "d", "a"] else ["the header is read otherwise"]
     tables = Path(settled).read_text(encoding="utf-8").strip() + "\n"
-    faults += check_stream(stream, program, tables)
+    faults = check_stream(stream, program, tables)
     command = [sys.executable, HERE / "service", stream, settled, names, "0", *LOCALES]
     with subprocess.Popen(command, stdout=subprocess.PIPE, text=True) as service:
         address = service.stdout.readline().strip()
