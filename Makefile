@@ -1,12 +1,14 @@
 # `make` proves the two programs and what they stand on, and leaves them here; `make c` proves the calls for C, and
 # leaves their libraries in out/c; `make test` checks every crate; `make install` copies the programs and their manual
-# pages, and what `make c` has left; `make compare` measures icu_locale_cli beside others, once it is built; `make clean`
-# takes away what was built, and the next `make` then proves all from nothing.
+# pages, and what `make c` has left; `make wheel`, `make npm`, `make crate` and `make deb` leave packages in out/packages;
+# `make compare` measures icu_locale_cli beside others, once it is built; `make clean` takes away what was built, and the
+# next `make` then proves all from nothing.
 PROGRAMS = icu_locale_cli icu_locale_stream
 PREFIX = /usr/local
+LIBDIR = $(PREFIX)/lib
 C_FILES = libicu_locale.a libicu_locale.so libicu_locale.so.0 pkgconfig/icu_locale.pc
 
-.PHONY: all c test compare install uninstall clean
+.PHONY: all c wheel npm crate deb test compare install uninstall clean
 .SILENT: test
 
 all:
@@ -14,6 +16,12 @@ all:
 
 c: $(PROGRAMS)
 	tools/build-c
+
+wheel npm crate: out/c/libicu_locale.a
+	tools/package $@
+
+deb: $(PROGRAMS) out/c/libicu_locale.a
+	tools/package $@
 
 test:
 	.ci/layout/run
@@ -29,27 +37,31 @@ test:
 compare:
 	bench/compare/run --write
 
-# Builds a program only where it is not there.
+# Builds a program, and the libraries, only where they are not there.
 $(PROGRAMS):
 	tools/build $@
+
+out/c/libicu_locale.a: | $(PROGRAMS)
+	tools/build-c
 
 install: $(PROGRAMS)
 	install -d "$(DESTDIR)$(PREFIX)/bin" "$(DESTDIR)$(PREFIX)/share/man/man1"
 	install -m 755 $(PROGRAMS) "$(DESTDIR)$(PREFIX)/bin"
 	install -m 644 $(PROGRAMS:%=man/%.1) "$(DESTDIR)$(PREFIX)/share/man/man1"
 	if [ -d out/c ]; then \
-	    install -d "$(DESTDIR)$(PREFIX)/include" "$(DESTDIR)$(PREFIX)/lib/pkgconfig" && \
+	    install -d "$(DESTDIR)$(PREFIX)/include" "$(DESTDIR)$(LIBDIR)/pkgconfig" && \
 	    install -m 644 out/c/icu_locale.h "$(DESTDIR)$(PREFIX)/include/icu_locale.h" && \
-	    install -m 644 out/c/libicu_locale.a out/c/libicu_locale.so.0 "$(DESTDIR)$(PREFIX)/lib" && \
-	    ln -sf libicu_locale.so.0 "$(DESTDIR)$(PREFIX)/lib/libicu_locale.so" && \
-	    sed 's|@includedir@|$(PREFIX)/include|; s|@libdir@|$(PREFIX)/lib|' tools/icu_locale.pc.in \
-	        > "$(DESTDIR)$(PREFIX)/lib/pkgconfig/icu_locale.pc"; \
+	    install -m 644 out/c/libicu_locale.a out/c/libicu_locale.so.0 "$(DESTDIR)$(LIBDIR)" && \
+	    ln -sf libicu_locale.so.0 "$(DESTDIR)$(LIBDIR)/libicu_locale.so" && \
+	    sed "s|@includedir@|$(PREFIX)/include|; s|@libdir@|$(LIBDIR)|; s|@version@|$$(cat VERSION)|" \
+	        tools/icu_locale.pc.in > "$(DESTDIR)$(LIBDIR)/pkgconfig/icu_locale.pc"; \
 	fi
 
 uninstall:
 	rm -f $(PROGRAMS:%="$(DESTDIR)$(PREFIX)/bin/%") $(PROGRAMS:%="$(DESTDIR)$(PREFIX)/share/man/man1/%.1") \
-	    "$(DESTDIR)$(PREFIX)/include/icu_locale.h" $(C_FILES:%="$(DESTDIR)$(PREFIX)/lib/%")
+	    "$(DESTDIR)$(PREFIX)/include/icu_locale.h" $(C_FILES:%="$(DESTDIR)$(LIBDIR)/%")
 
 clean:
 	rm -rf out crates/*/out $(PROGRAMS)
-	find tools bench .ci -name __pycache__ -prune -exec rm -rf {} +
+	rm -rf bindings/python/build bindings/python/*.egg-info bindings/node/icu_locale.node bindings/node/example.json
+	find tools bench .ci bindings -name __pycache__ -prune -exec rm -rf {} +
