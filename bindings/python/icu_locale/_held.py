@@ -8,9 +8,9 @@ import ctypes
 import os
 import threading
 from types import TracebackType
-from typing import List, NoReturn, Optional, SupportsIndex, Tuple, Type, TypeVar
+from typing import Any, List, NoReturn, Optional, SupportsIndex, Tuple, Type, TypeVar
 
-from ._calls import SIZE, Calls, Handle, calls
+from ._calls import SIZE, Handle, calls
 from ._refusals import Closed, InvalidList, LineRefused, Text, as_bytes, line_refusal, list_refusal, refuse
 
 ACCEPTED = 0
@@ -21,6 +21,7 @@ class Slot:
     """A handle of C, and the room of its answers."""
 
     __slots__ = ("handle", "written", "written_at", "out", "out_at", "room")
+    out: Any
 
     def __init__(self) -> None:
         self.handle = ctypes.pointer(Handle(None))
@@ -32,15 +33,6 @@ class Slot:
         """Room for an answer."""
         self.room, self.out = room, ctypes.create_string_buffer(room)
         self.out_at = ctypes.addressof(self.out)
-
-    def answer(self, library: Calls, words: bytes, line: bytes) -> Tuple[int, bytes]:
-        """The number of an answer, and the answer where there is one."""
-        while True:
-            number = library.answer(self.handle, words, len(words), line, len(line), self.out_at, self.room,
-                                    self.written_at)
-            if number != ROOM:
-                return number, ctypes.string_at(self.out_at, self.written.value)
-            self.make_room(self.written.value)
 
 
 class NoCopies:
@@ -130,10 +122,15 @@ class Held(NoCopies):
             ...
         icu_locale.NoCommand: The words are those of no command that answers lines.
         """
-        words, text = as_bytes(command), as_bytes(line)
-        slot = self._take()
+        words = command if isinstance(command, bytes) else as_bytes(command)
+        text, ask, slot = as_bytes(line), self._calls.answer, self._take()
         try:
-            number, told = slot.answer(self._calls, words, text)
+            while True:
+                number = ask(slot.handle, words, len(words), text, len(text), slot.out_at, slot.room, slot.written_at)
+                if number != ROOM:
+                    break
+                slot.make_room(slot.written.value)
+            told: bytes = slot.out[:slot.written.value]
         finally:
             self._give_back(slot)
         if number == ACCEPTED:

@@ -137,7 +137,7 @@ def list_refusal(place: int, identifier: Text) -> InvalidList:
 def as_bytes(text: Text) -> bytes:
     """The bytes of a text; half of a surrogate pair becomes what no call accepts."""
     if isinstance(text, str):
-        return text.encode(errors="surrogatepass")
+        return text.encode("utf-8", "surrogatepass")
     if isinstance(text, (bytes, bytearray, memoryview)):
         return bytes(text)
     raise TypeError(f"a text is a str or bytes, and no {type(text).__name__}")
