@@ -1,20 +1,47 @@
 // The calls of icu_locale.h for Node.js, by Node-API: `open(json)` makes an object that stands for tables, and
-// `share`, `available`, `answer`, `negotiate`, `isSettled` and `close` take one. index.js has what is made of these.
+// `share`, `available`, `answer`, `negotiate`, `isSettled`, `lend` and `close` take one; `borrow(number)` makes one of what
+// another worker has lent. index.js has what is made of these.
 #include "icu_locale.h"
 #include <node_api.h>
+#include <pthread.h>
 #include <stdlib.h>
 
-// An object's handle, and the room of its answers. Both go when the object is let go.
+// A handle that other workers of the process make theirs of, by its number. It is used where the lock is held.
+struct loan {
+    struct icu_locale handle;
+    uint64_t number;
+    struct loan *next;
+};
+
+// An object's handle, what it has lent, and the room of its answers. All go when the object is let go.
 struct tables {
     struct icu_locale handle;
+    struct loan *loan;
     uint8_t *out;
     size_t room;
 };
+
+static pthread_mutex_t lending = PTHREAD_MUTEX_INITIALIZER;
+static struct loan *loans = NULL;
+static uint64_t last_loan = 0;
+
+static void end_loan(struct tables *tables) {
+    if (!tables->loan) return;
+    pthread_mutex_lock(&lending);
+    struct loan **at = &loans;
+    while (*at != tables->loan) at = &(*at)->next;
+    *at = tables->loan->next;
+    icu_locale_close(&tables->loan->handle);
+    pthread_mutex_unlock(&lending);
+    free(tables->loan);
+    tables->loan = NULL;
+}
 
 static void let_go(napi_env env, void *data, void *hint) {
     struct tables *tables = data;
     (void)env;
     (void)hint;
+    end_loan(tables);
     icu_locale_close(&tables->handle);
     free(tables->out);
     free(tables);
@@ -82,6 +109,53 @@ static napi_value share_tables(napi_env env, napi_callback_info info) {
     if (!from) return wrong(env);
     if (!(to = made(env, &object))) return number_of(env, ICU_LOCALE_MEMORY);
     int32_t number = icu_locale_share(&from->handle, &to->handle);
+    return number == ICU_LOCALE_DONE ? object : number_of(env, number);
+}
+
+static int32_t make_loan(struct tables *tables) {
+    struct loan *loan = calloc(1, sizeof *loan);
+    if (!loan) return ICU_LOCALE_MEMORY;
+    int32_t number = icu_locale_share(&tables->handle, &loan->handle);
+    if (number != ICU_LOCALE_DONE) {
+        free(loan);
+        return number;
+    }
+    pthread_mutex_lock(&lending);
+    loan->number = ++last_loan;
+    loan->next = loans;
+    loans = tables->loan = loan;
+    pthread_mutex_unlock(&lending);
+    return ICU_LOCALE_DONE;
+}
+
+// lend(tables): the number of a loan as a BigInt, or that of a refusal.
+static napi_value lend(napi_env env, napi_callback_info info) {
+    size_t count = 1;
+    napi_value values[1], loan = NULL;
+    if (napi_get_cb_info(env, info, &count, values, NULL, NULL) != napi_ok || count < 1) return wrong(env);
+    struct tables *tables = tables_of(env, values[0]);
+    if (!tables) return wrong(env);
+    int32_t number = tables->loan ? ICU_LOCALE_DONE : make_loan(tables);
+    if (number != ICU_LOCALE_DONE) return number_of(env, number);
+    napi_create_bigint_uint64(env, tables->loan->number, &loan);
+    return loan;
+}
+
+// borrow(number): an object of what was lent, or the number of a refusal, which is that of closed tables where it has ended.
+static napi_value borrow(napi_env env, napi_callback_info info) {
+    size_t count = 1;
+    napi_value values[1], object = NULL;
+    uint64_t wanted;
+    bool is_whole;
+    if (napi_get_cb_info(env, info, &count, values, NULL, NULL) != napi_ok || count < 1) return wrong(env);
+    if (napi_get_value_bigint_uint64(env, values[0], &wanted, &is_whole) != napi_ok) return wrong(env);
+    struct tables *to = made(env, &object);
+    if (!to) return number_of(env, ICU_LOCALE_MEMORY);
+    pthread_mutex_lock(&lending);
+    struct loan *loan = loans;
+    while (loan && loan->number != wanted) loan = loan->next;
+    int32_t number = loan ? icu_locale_share(&loan->handle, &to->handle) : ICU_LOCALE_CLOSED;
+    pthread_mutex_unlock(&lending);
     return number == ICU_LOCALE_DONE ? object : number_of(env, number);
 }
 
@@ -161,6 +235,7 @@ static napi_value close_tables(napi_env env, napi_callback_info info) {
     if (napi_get_cb_info(env, info, &count, values, NULL, NULL) != napi_ok || count < 1) return wrong(env);
     struct tables *tables = tables_of(env, values[0]);
     if (!tables) return wrong(env);
+    end_loan(tables);
     icu_locale_close(&tables->handle);
     return NULL;
 }
@@ -170,7 +245,8 @@ NAPI_MODULE_INIT() {
         const char *name;
         napi_callback call;
     } calls[] = {{"open", open_tables}, {"share", share_tables}, {"available", available_of}, {"answer", answer},
-                 {"negotiate", negotiate}, {"isSettled", is_settled}, {"close", close_tables}};
+                 {"negotiate", negotiate}, {"isSettled", is_settled}, {"lend", lend}, {"borrow", borrow},
+                 {"close", close_tables}};
     for (size_t place = 0; place < sizeof calls / sizeof *calls; place++) {
         napi_value call;
         napi_create_function(env, calls[place].name, NAPI_AUTO_LENGTH, calls[place].call, NULL, &call);

@@ -23,12 +23,19 @@ export interface Match {
   available: number;
 }
 
-/** Tables, by `Tables.fromJson`. A worker thread has its own. */
+/** Tables, by `Tables.fromJson`. A worker has its own, or borrows what another one lends. */
 export class Tables {
   /** The tables of a JSON text. */
   static fromJson(json: Text): Tables;
   /** The same tables once more. They are in memory once. */
   share(): Tables;
+  /**
+   * Lends the tables to other workers of this process: a number that may be posted to them, for `borrow`. The loan ends
+   * where these tables are closed or collected; what was borrowed stays.
+   */
+  lend(): bigint;
+  /** The tables that another worker has lent. They are in memory once. */
+  static borrow(number: bigint): Tables;
   /** What serves a reader one of the identifiers that are available. It holds these tables too. */
   negotiator(available: readonly string[]): Negotiator;
   /** What serves a reader by the headers Accept-Language of a request. It holds these tables too. */

@@ -110,6 +110,21 @@ class Tables {
     return tables;
   }
 
+  /**
+   * Lends the tables to other workers of this process: a number that may be posted to them, for `borrow`. The loan ends
+   * where these tables are closed or collected; what was borrowed stays.
+   */
+  lend() {
+    return made(calls.lend(this.#open()));
+  }
+
+  /** The tables that another worker has lent. They are in memory once. */
+  static borrow(number) {
+    const tables = new Tables();
+    tables.#at = made(calls.borrow(number));
+    return tables;
+  }
+
   /** What serves a reader one of the identifiers that are available, an array of strings. It holds these tables too. */
   negotiator(available) {
     const list = listed(available);

@@ -9,7 +9,7 @@ const direction: 'ltr' | 'rtl' | null = tables.direction('ar');
 const settled: boolean = tables.isSettled();
 const negotiator: Negotiator = tables.negotiator(['en']);
 const match: Match | null = negotiator.negotiate(['fr', 'en']);
-const switcher: Switcher = tables.share().switcher(negotiator.available);
+const switcher: Switcher = Tables.borrow(tables.share().lend()).switcher(negotiator.available);
 const served: (string | null)[] = [switcher.serve(['fr', 'en']), tables.serve(undefined, ['en']), tables.serve('en', ['en'])];
 try {
   tables.name('it', 'en', 'menu-light');

@@ -1,6 +1,9 @@
 """The examples of the package's texts, wrong uses, and lists."""
 import doctest
+import os
 import re
+import subprocess
+import sys
 import unittest
 from pathlib import Path
 
@@ -28,6 +31,15 @@ class Examples(unittest.TestCase):
 
     def test_version(self):
         self.assertEqual(icu_locale.__version__, (TOP / "VERSION").read_text().strip())
+
+    def test_missing_library(self):
+        words = [sys.executable, "-c", "import icu_locale\ntry: icu_locale.Tables()\nexcept OSError as fault: print(fault)"]
+        path = os.pathsep.join(each for each in sys.path if each)
+        for missing in ("/missing.so", "libm.so.6"):
+            told = subprocess.run(words, env={**os.environ, "PYTHONPATH": path, "ICU_LOCALE_LIBRARY": missing},
+                                  capture_output=True, text=True, check=True).stdout
+            self.assertIn("ICU_LOCALE_LIBRARY", told)
+            self.assertIn(missing, told)
 
     def test_names(self):
         types = [each for name in icu_locale.__all__ if isinstance(each := getattr(icu_locale, name), type)]
