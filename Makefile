@@ -63,5 +63,6 @@ uninstall:
 
 clean:
 	rm -rf out crates/*/out $(PROGRAMS)
-	rm -rf bindings/python/build bindings/python/*.egg-info bindings/node/icu_locale.node bindings/node/example.json
+	rm -rf bindings/python/build bindings/python/*.egg-info bindings/rust/target bindings/node/icu_locale.node \
+	    bindings/node/example.json
 	find tools bench .ci bindings -name __pycache__ -prune -exec rm -rf {} +

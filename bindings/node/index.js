@@ -88,6 +88,7 @@ function answered(held, command, line) {
   throw new Refused(number === LINE_REFUSED ? text.split('\t')[1] : NUMBERS[number]);
 }
 
+/** Tables, by `Tables.fromJson`. */
 class Tables {
   #at;
   #switcher;

@@ -3,6 +3,7 @@
 A call takes a handle that is free, and gives it back; where none is free it makes one. So no call waits for another, be
 it of another thread or of a signal handler that interrupts it. In a forked child the handles that were free at the fork
 are free; what another thread of the parent had taken is in no list there, so that it is never used and never closed.
+icu_locale.h asks for no call in such a child, since C promises it no memory; glibc does, and Python itself rests on that.
 """
 import ctypes
 import os
@@ -18,7 +19,7 @@ ROOM = 3
 
 
 class Slot:
-    """A handle of C, and the room of its answers."""
+    """A handle of C, and the room of its answers. It does not close itself: in a forked child it may be another thread's."""
 
     __slots__ = ("handle", "written", "written_at", "out", "out_at", "room")
     out: Any
