@@ -16,6 +16,7 @@ What is served to a reader whose browser sends the header Accept-Language:
 for where the variable ICU_LOCALE_LIBRARY says, then in this package, then in out/c of its repository, where `make c`
 leaves it, and then where the system looks for libraries. It is loaded where it is first wanted.
 """
+from ._accept import Headers
 from ._calls import version
 from ._negotiator import Match, Negotiator
 from ._refusals import (Closed, InvalidLanguage, InvalidList, InvalidSubtag, LineRefused, MemoryRefused, NameMissing, NoCldr,
@@ -24,7 +25,7 @@ from ._refusals import (Closed, InvalidLanguage, InvalidList, InvalidSubtag, Lin
 from ._switcher import Switcher
 from ._tables import Canonical, Direction, Tables
 
-__all__ = ["Tables", "Negotiator", "Switcher", "Match", "Canonical", "Direction", "Text", "Refused", "Closed",
+__all__ = ["Tables", "Negotiator", "Switcher", "Match", "Canonical", "Direction", "Headers", "Text", "Refused", "Closed",
            "MemoryRefused", "NoJson", "NoTables", "NoCommand", "TableMissing", "NoList", "InvalidList", "NotSettled", "NoCldr",
            "LineRefused", "InvalidLanguage", "InvalidSubtag", "NoFixedPoint", "NoSubdivisionFixedPoint", "NameMissing"]
 

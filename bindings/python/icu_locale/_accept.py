@@ -4,6 +4,9 @@ from typing import Iterable, List, NamedTuple, Optional, Tuple, Union
 
 from ._refusals import Text
 
+# The header Accept-Language of a request, the lines of several, or None where there is none.
+Headers = Union[None, Text, Iterable[Text]]
+
 # How many tags of a request are read: who sends more is no reader.
 MOST_TAGS = 100
 FOLD = re.compile(r"\r?\n[ \t]+")
@@ -17,9 +20,9 @@ class Wishes(NamedTuple):
     refused: Tuple[str, ...]
 
 
-def read_headers(headers: Union[Text, Iterable[Text]]) -> Wishes:
+def read_headers(headers: Headers) -> Wishes:
     """The tags of one header, or of several. A line may be folded, and what cannot be read is passed over."""
-    each: Iterable[Text] = [headers] if isinstance(headers, (str, bytes)) else headers
+    each: Iterable[Text] = [] if headers is None else [headers] if isinstance(headers, (str, bytes)) else headers
     parts = FOLD.sub(" ", ",".join(map(text_of, each))).split(",", MOST_TAGS)[:MOST_TAGS]
     found: List[Tuple[float, str]] = []
     for part in parts:

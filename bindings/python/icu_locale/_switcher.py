@@ -1,8 +1,8 @@
 """What is served to a reader, by the headers of a request."""
 import re
-from typing import Iterable, List, Optional, Tuple, Union
+from typing import List, Optional, Tuple
 
-from ._accept import read_headers
+from ._accept import Headers, read_headers
 from ._held import NoCopies
 from ._negotiator import Negotiator
 from ._refusals import LineRefused, Text
@@ -36,7 +36,7 @@ class Switcher(NoCopies):
         """The identifiers that are available, as they were handed in."""
         return self._available
 
-    def serve(self, headers: Union[Text, Iterable[Text]]) -> Optional[Text]:
+    def serve(self, headers: Headers) -> Optional[Text]:
         """What is served for one header Accept-Language, or for several; None where nothing is met.
 
         The tags are asked by their `q`, the greatest first. `*` is met by the first of what is available, but for what

@@ -2,6 +2,7 @@
 from os import PathLike
 from typing import Iterable, Literal, NamedTuple, Optional, Union
 
+from ._accept import Headers
 from ._held import Held
 from ._negotiator import Negotiator, line_of, listed
 from ._refusals import (InvalidLanguage, InvalidList, InvalidSubtag, NameMissing, Text, as_bytes, line_refusal,
@@ -66,6 +67,8 @@ class Tables(Held):
         is False. It raises `NoCldr` where the folder or a locale is not there. It takes about a second.
         """
         from .cldr.command import json_of
+        if isinstance(locales, (str, bytes)):
+            raise TypeError("one text is no list of locales")
         return cls.from_json(json_of(folder, locales, settled))
 
     def share(self) -> "Tables":
@@ -121,7 +124,7 @@ class Tables(Held):
                 raise list_refusal(place, tag) from None
         return Switcher(self.negotiator(canonical), found)
 
-    def serve(self, headers: Union[Text, Iterable[Text]], available: Iterable[Text]) -> Optional[Text]:
+    def serve(self, headers: Headers, available: Iterable[Text]) -> Optional[Text]:
         """What is served of the available identifiers, in their own spelling, for the headers Accept-Language of a request:
         one, or several. None where nothing is met. What was last available is kept, so that it is read once.
 

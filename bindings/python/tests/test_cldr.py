@@ -20,6 +20,7 @@ class Cldr(unittest.TestCase):
         self.assertEqual(Tables.from_json(written).name("qaa", "qaa"), tables.name("qaa", "qaa"))
         for folder, locales in ((SMALL, ["qzz"]), (SMALL, ["no locale"]), (SMALL / "missing", [])):
             self.assertRaises(NoCldr, Tables.from_cldr, folder, locales)
+        self.assertRaises(TypeError, Tables.from_cldr, SMALL, "qaa")
 
     @unittest.skipUnless(os.path.isdir(DEBIAN_CLDR), "there is no Debian package unicode-cldr-core")
     def test_debian(self):

@@ -9,7 +9,7 @@ AVAILABLE = ["en", "de", "AR_eg", "zh_hant", b"sr-Latn-u-ka-shifted"]
 # A header or several, and what is served.
 SERVED = [
     ("en-GB", "en"), ("de-AT;q=0.5, en;q=0.4", "de"), ("ar", "AR_eg"), ("zh-TW", "zh_hant"), ("zh-CN, de;q=0.1", "de"),
-    ("sh", AVAILABLE[4]), ("sr-Latn-x-a", AVAILABLE[4]), ("sr-Cyrl", None), ("zh-CN", None), ("", None), ([], None),
+    ("sh", AVAILABLE[4]), ("sr-Latn-x-a", AVAILABLE[4]), ("sr-Cyrl", None), ("zh-CN", None), ("", None), ([], None), (None, None),
     ("de-1996", "de"), ("de-u-co-phonebk, en", "de"), ("de-x-mine", "de"), ("x-mine, i-klingon, de", "de"),
     ("zz-zz-zz, *", "en"), ("*", "en"), ("*;q=0", None), ("en;q=0, *;q=0.1", "de"), ("EN;q=0, de;q=0, *", "AR_eg"),
     ("de;q=0, ja;q=0.2", None), ("de;q=x, en", "en"), ("de;q=1.001, en;q=0.1", "en"), ("de;q=nan, en", "en"),
@@ -50,7 +50,8 @@ class Switchers(unittest.TestCase):
                 self.assertEqual(told.exception.place, place)
             for wrong in ("en", 5):
                 self.assertRaises(TypeError, tables.serve, "en", wrong)
-                self.assertRaises(TypeError, tables.serve, [5], ["en"])
+            for wrong in (0, 5, [5], [None]):
+                self.assertRaises(TypeError, tables.serve, wrong, ["en"])
             self.assertEqual(tables.serve("en", []), None)
         unsettled = TABLES.replace('"de": ["Latn", "DE"]', '"de": ["Zzzz", "DE"]')
         self.assertRaises(NotSettled, Tables.from_json(unsettled).switcher, ["en"])
