@@ -1,62 +1,75 @@
 -- The answer to one line.
-use Rattle.std.proofs.Common.{◌≡◌, Bool, true, List, [], ◌∷◌, Some, ℕ, zero, suc, get_or, Result, Ok, Err, IfOk, inl, inr, subst, ap, ◌∙◌}
-use Rattle.std.specs.List.{slice_get}
+use Rattle.std.proofs.Common.{◌≡◌, ◌≢◌, ◌⊎◌, Bool, true, false, None, refl, sym, List, [], ◌∷◌, Some, ℕ, zero, suc, get_or, Result, Ok, Err, IfOk, inl, inr, subst, ap, ◌∙◌}
+use Rattle.std.specs.List.{slice_get, position}
 use Rattle.std.proofs.lemmas.Option.{same_Some, none-some}
 use Rattle.icu_locale.specs.LikelyTable.{likely}
 use Rattle.icu_locale.specs.Negotiation.{Negotiation, IsNegotiated}
 use Rattle.icu_locale_lines.specs.Lists.{IsNegotiatedLine}
-use Rattle.icu_locale_core.specs.Identifier.{IsIdentifier, Spells}
+use Rattle.icu_locale_core.specs.Identifier.{IsIdentifier, Spells, parse_error_name}
+use Rattle.icu_locale_core.specs.declared.parse_error.ParseError.{ParseError}
+use Rattle.icu_locale_core.specs.declared.parse_error.ParseError.TheVariants as parse_error
 use Rattle.icu_locale_core.specs.declared.langid.LanguageIdentifier.{LanguageIdentifier}
 use Rattle.icu_locale_core.specs.declared.locale.Locale.{Locale}
-use Rattle.icu_locale.specs.Canonical.{IsCanonical, is_applied, answer_of}
+use Rattle.icu_locale.specs.Canonical.{IsCanonical, is_applied, answer_of, without_extensions}
 use Rattle.icu_locale.specs.Refusals.{IsRefusal}
 use Rattle.icu_locale.specs.LikelySubtags.{LikelySubtags}
 use Rattle.icu_locale.specs.declared.canonicalizer.CanonicalizeError.{CanonicalizeError}
 use Rattle.icu_locale.specs.declared.canonicalizer.CanonicalizeError.TheVariants.{Memory, NoFixedPoint, NoSubdivisionFixedPoint}
 use Rattle.icu_locale.specs.declared.canonicalizer.rules.Rules.{Rules}
 use Rattle.icu_locale.specs.declared.expander.TransformResult.{TransformResult}
-use Rattle.icu_locale_lines.specs.declared.transform.Transform.{Transform}
-use Rattle.icu_locale_lines.specs.declared.answer.Answer.{Answer}
+use Rattle.icu_provider.specs.declared.error.DataError.{DataError}
+use Rattle.icu_provider.specs.declared.error.DataErrorKind.{DataErrorKind}
+use Rattle.icu_provider.specs.declared.error.DataErrorKind.TheVariants as kind
 use Rattle.icu_locale_lines.specs.declared.error.CliError.{CliError}
-use Rattle.icu_locale_lines.specs.Answers.{IsForm, IsTransformed, IsCanonicalized, IsIdentifierAnswer, IsLocaleAnswer}
-use Rattle.icu_locale_lines.specs.Locales.{SpellsLocale}
-use Rattle.icu_locale_lines.specs.Texts.{transformed_line, canonical_line, matched_line}
+use Rattle.icu_locale_lines.specs.Answers.{AddsLine, IsCanonicalized}
+use Rattle.icu_locale_lines.specs.Locales.{is_tab, is_readable, keywords_of, SpellsLocale}
+use Rattle.icu_locale_lines.specs.Texts.{canonical_line, matched_line, refused_line}
 use Rattle.icu_locale_lines.specs.inner.Parts.{TellsRefusal}
+use Rattle.icu_locale_lines.proofs.LineCuts.{before_first-no_position}
+use Rattle.icu_locale_lines.proofs.LocaleLines.{value_text-no_position}
 
--- the line of an identifier's form
-pub transformed_from_line : (form : Transform) (table : LikelySubtags) (x y : LanguageIdentifier) (m : TransformResult) → IsForm form table x y m → (r : Result Answer CliError)
-    → IfOk r (λ a. (a.text.items ≡ transformed_line y m) × (a.accepted ≡ true)) → IfOk r (λ a. IsTransformed form table x a.text.items a.accepted)
-transformed_from_line form table x y m is (Ok a) h = (y, m, is, h.0, h.1)
-transformed_from_line form table x y m is (Err e) h = tt
+-- what is put behind the others is a line of another kind too
+pub if_adds : (P Q : List ℕ → Bool → Type 0) → ((t : List ℕ) (a : Bool) → P t a → Q t a) → (old new : List ℕ) (r : Result Bool CliError) → IfOk r (AddsLine P old new) → IfOk r (AddsLine Q old new)
+if_adds P Q more old new (Ok a) h = record { line = h.line; added = h.added; is = more h.line a h.is }
+if_adds P Q more old new (Err e) h = tt
 
--- the line of the identifier that a line spells is the answer to that line
-pub answer_from_line : (IsLine : LanguageIdentifier → List ℕ → Bool → Type 0) (line : List ℕ) (x : LanguageIdentifier) → IsIdentifier x × Spells line x → (r : Result Answer CliError)
-    → IfOk r (λ a. IsLine x a.text.items a.accepted) → IfOk r (λ a. IsIdentifierAnswer IsLine line a.text.items a.accepted)
-answer_from_line IsLine line x spelled (Ok a) h = inl (x, spelled.0, spelled.1, h)
-answer_from_line IsLine line x spelled (Err e) h = tt
+-- the line of a refusal
+pub if_fault : (Q : List ℕ → Bool → Type 0) (e : ParseError) → (IsFault : Type 0) → (e ≡ parse_error.Memory) ⊎ IsFault → ((t : List ℕ) (a : Bool) → IsFault → (t ≡ refused_line (parse_error_name e)) → (a ≡ false) → Q t a) → (old new : List ℕ) (r : Result Bool CliError)
+    → IfOk r (AddsLine (λ t a. (t ≡ refused_line (parse_error_name e)) × (a ≡ false)) old new) → IfOk r (λ _. e ≢ parse_error.Memory) → IfOk r (AddsLine Q old new)
+if_fault Q e IsFault (inl memory) more old new (Ok a) h told = absurd (told memory)
+if_fault Q e IsFault (inr fault) more old new (Ok a) h told = record { line = h.line; added = h.added; is = more h.line a fault h.is.0 h.is.1 }
+if_fault Q e IsFault why more old new (Err e') h told = tt
+
+abbrev kind_of : {T : Type 0} → Result T DataError → DataErrorKind
+kind_of (Ok x) = kind.Memory
+kind_of (Err e) = e.kind
+
+-- want of memory has no line
+pub if_unnamed : {T : Type 0} (e : DataError) → ◌≡◌ {A = Result T DataError} (Err e) (Err (record { kind = kind.Memory })) → (Q : List ℕ → Bool → Type 0) (old new : List ℕ) (r : Result Bool CliError)
+    → IfOk r (λ _. e.kind ≢ kind.Memory) → IfOk r (AddsLine Q old new)
+if_unnamed e lacks Q old new (Ok a) told = absurd (told (ap kind_of lacks))
+if_unnamed e lacks Q old new (Err x) told = tt
 
 module _ (likely : LikelySubtags) (rules : Rules) (old : Locale) where
   -- the line of a canonical locale
-  pub canonicalized_from_line : (new : Locale) (m : TransformResult) → IsCanonical likely rules old new → m ≡ answer_of (is_applied likely rules old) → (r : Result Answer CliError)
-      → IfOk r (λ a. (a.text.items ≡ canonical_line new m) × (a.accepted ≡ true)) → IfOk r (λ a. IsCanonicalized likely rules old a.text.items a.accepted)
-  canonicalized_from_line new m canonical answer (Ok a) h = inl (new, canonical, subst (λ k. a.text.items ≡ canonical_line new k) answer h.0, h.1)
-  canonicalized_from_line new m canonical answer (Err e) h = tt
+  pub canonicalized_from_line : (new : Locale) (m : TransformResult) → IsCanonical likely rules old new → m ≡ answer_of (is_applied likely rules old) → (t : List ℕ) (a : Bool) → (t ≡ canonical_line new m) × (a ≡ true) → IsCanonicalized likely rules old t a
+  canonicalized_from_line new m canonical answer t a h = inl (new, canonical, subst (λ k. t ≡ canonical_line new k) answer h.0, h.1)
 
   -- the line of what comes again
-  pub refused_from_line : (refusal : CanonicalizeError) → IsRefusal likely rules old refusal → (r : Result Answer CliError)
-      → IfOk r (λ a. TellsRefusal refusal a.text.items a.accepted) → IfOk r (λ a. IsCanonicalized likely rules old a.text.items a.accepted)
-  refused_from_line Memory why (Ok a) h = absurd h
-  refused_from_line Memory why (Err e) h = tt
-  refused_from_line (NoFixedPoint z) why (Ok a) h = inr (inl (z, why, h.0, h.1))
-  refused_from_line (NoFixedPoint z) why (Err e) h = tt
-  refused_from_line (NoSubdivisionFixedPoint v) why (Ok a) h = inr (inr (v, why, h.0, h.1))
-  refused_from_line (NoSubdivisionFixedPoint v) why (Err e) h = tt
+  pub refused_from_line : (refusal : CanonicalizeError) → IsRefusal likely rules old refusal → (t : List ℕ) (a : Bool) → TellsRefusal refusal t a → IsCanonicalized likely rules old t a
+  refused_from_line Memory why t a h = absurd h
+  refused_from_line (NoFixedPoint z) why t a h = inr (inl (z, why, h.0, h.1))
+  refused_from_line (NoSubdivisionFixedPoint v) why t a h = inr (inr (v, why, h.0, h.1))
 
-  -- the line of the locale that a line spells
-  pub answer_from_locale : (line : List ℕ) → SpellsLocale line old → (r : Result Answer CliError)
-      → IfOk r (λ a. IsCanonicalized likely rules old a.text.items a.accepted) → IfOk r (λ a. IsLocaleAnswer likely rules line a.text.items a.accepted)
-  answer_from_locale line spells (Ok a) h = inl (old, spells, h)
-  answer_from_locale line spells (Err e) h = tt
+-- a line without a tab spells a locale without extensions
+pub spelled_alone : (line : List ℕ) (x : LanguageIdentifier) → position is_tab line ≡ None → IsIdentifier x × Spells line x → SpellsLocale line (without_extensions x)
+spelled_alone line x none spelled = record {
+  known = spelled.0;
+  id = subst (λ t. Spells t x) (sym (before_first-no_position is_tab line none)) spelled.1;
+  readable = ap is_readable (value_text-no_position line none);
+  keywords = sym (ap keywords_of (value_text-no_position line none));
+  transform = refl;
+}
 
 get_or-slice_get : (xs : List LanguageIdentifier) (j : ℕ) (x d : LanguageIdentifier) → slice_get xs j ≡ Some x → get_or xs j d ≡ x
 get_or-slice_get [] j x d at = absurd (none-some x at)
@@ -64,10 +77,9 @@ get_or-slice_get (y ∷ ys) zero x d at = same_Some y x at
 get_or-slice_get (y ∷ ys) (suc j) x d at = get_or-slice_get ys j x d at
 
 -- the line of a match is that of what was negotiated
-pub negotiated_from_line : (n : Negotiation) (requests : List LanguageIdentifier) (i j : ℕ) (x : LanguageIdentifier) → IsNegotiated (likely n.expander) requests n.available (Some (i, j)) → x ≡ get_or n.available j x → (r : Result Answer CliError)
-    → IfOk r (λ a. (a.text.items ≡ matched_line i x) × (a.accepted ≡ true)) → IfOk r (λ a. IsNegotiatedLine n requests a.text.items × (a.accepted ≡ true))
-negotiated_from_line n requests i j x negotiated here (Ok a) h =
+pub negotiated_from_line : (n : Negotiation) (requests : List LanguageIdentifier) (i j : ℕ) (x : LanguageIdentifier) → IsNegotiated (likely n.expander) requests n.available (Some (i, j)) → x ≡ get_or n.available j x
+    → (t : List ℕ) (a : Bool) → (t ≡ matched_line i x) × (a ≡ true) → IsNegotiatedLine n requests t × (a ≡ true)
+negotiated_from_line n requests i j x negotiated here t a h =
     let m = negotiated.matches in
     let same = here ∙ get_or-slice_get n.available j m.identifier x m.offered in
     ((Some (i, j), negotiated, (m.identifier, m.offered, h.0 ∙ ap (matched_line i) same)), h.1)
-negotiated_from_line n requests i j x negotiated here (Err e) h = tt

@@ -1,5 +1,5 @@
 -- What is written for each line that is read.
-use Rattle.std.specs.Prelude.{◌≡◌, ◌≢◌, ◌↔◌, ◌⊎◌, ℕ, Bool, true, false, List, codes}
+use Rattle.std.specs.Prelude.{◌≡◌, ◌≢◌, ◌↔◌, ◌⊎◌, ℕ, Bool, true, false, List, ◌++◌, take, length, codes}
 use Rattle.icu_locale_core.specs.Identifier.{IsIdentifier, Spells, parse_error_name}
 use Rattle.icu_locale_core.specs.declared.langid.LanguageIdentifier.{LanguageIdentifier}
 use Rattle.icu_locale_core.specs.declared.locale.Locale.{Locale}
@@ -26,6 +26,17 @@ use Rattle.icu_locale_lines.specs.Lists.{listed, SpellsAll, IsFault, IsFirstFaul
 use Rattle.icu_locale_lines.specs.Locales.{SpellsLocale, IsLocaleFault}
 use Rattle.icu_locale_lines.specs.Names.{name_asked, IsNamedLine}
 use Rattle.icu_locale_lines.specs.Texts.{transformed_line, canonical_line, refused_line, direction_line}
+
+-- a line is put behind what stood before, and it is such a line
+pub record AddsLine (IsLine : List ℕ → Bool → Type 0) (old new : List ℕ) (accepted : Bool)
+    : Type 0 where
+  pub line : List ℕ
+  pub added : new ≡ old ++ line
+  pub is : IsLine line accepted
+
+-- what stood before still stands in front
+abbrev pub Keeps : (old new : List ℕ) → Type 0
+Keeps old new = take (length old) new ≡ old
 
 -- an identifier's form, and whether it was changed
 abbrev pub IsForm : Transform → LikelySubtags → LanguageIdentifier → LanguageIdentifier

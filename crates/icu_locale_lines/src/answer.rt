@@ -1,5 +1,7 @@
 //! Answers: one line, and all lines of an input, written whole or refused.
-ghost use Rattle.std.specs.Prelude.{◌≡◌, [], IfOk, IfErr, IfSome, true, false, string_bytes, ◌⊎◌, Err, OnOk, OnErr};
+ghost use Rattle.std.specs.Prelude.{◌≡◌, ◌≢◌, ◌++◌, decimal, IfOk, IfErr, false, ◌⊎◌, Err, OnOk, OnErr};
+ghost use Rattle.icu_locale_core.specs.Identifier.{parse_error_name};
+ghost use Rattle.icu_locale_lines.specs.Answers.{AddsLine, Keeps};
 ghost use Rattle.icu_locale_lines.specs.Texts.{refused_line};
 ghost use Rattle.std.specs.Io.KnownBytes.{Appends};
 ghost use Rattle.icu_locale_names.specs.Pieces.{AppendsPart};
@@ -9,10 +11,14 @@ use crate::error::CliError;
 use crate::lines::Lines;
 use crate::status::Status;
 use crate::work::Work;
+use icu_locale_core::ParseError;
 use icu_locale_names::write_whole;
+use itoa::Buffer;
 use std::alloc::Global;
-use std::fmt;
 use std::io::Write;
+
+// How many bytes of answers are written at once.
+const FULL: usize = 65536;
 
 /// The line that is written for one that was read, and whether that one was accepted.
 #[derive(Debug, Drop)]
@@ -23,46 +29,56 @@ pub struct Answer {
     pub accepted: bool,
 }
 
-// The empty text, in the room of an earlier answer.
-pub fn cleared(mut room: Vec<u8>) -> String
-    ensures { string_bytes result ≡ [] }
+// A text is put behind another.
+#[inline(always)]
+pub fn add_text(text: &mut Vec<u8>, more: &str) -> Result<(), CliError>
+    ensures added { OnOk result (text.new.items ≡ text.old.items ++ more.now) }
+    ensures refused { IfErr result (λ e. e ≡ CliError.Memory) }
+    ensures unchanged { OnErr result (text.new.items ≡ text.old.items) }
 {
-    room.clear();
-    let alloc = *room.allocator();
-    match String::from_utf8(room) {
-        Ok(text) => text,
-        Err(_) => String::new(alloc),
+    Ok(text.extend_from_slice(more.as_bytes())?)
+}
+
+// A number is put behind a text, in decimal digits.
+pub fn add_number(text: &mut Vec<u8>, number: usize) -> Result<(), CliError>
+    ensures added { OnOk result (text.new.items ≡ text.old.items ++ decimal number) }
+    ensures refused { IfErr result (λ e. e ≡ CliError.Memory) }
+    ensures unchanged { OnErr result (text.new.items ≡ text.old.items) }
+{
+    let mut digits = Buffer::new();
+    add_text(text, digits.format(number))
+}
+
+// A known line is put behind the others.
+#[inline(always)]
+pub fn add_known(text: &mut Vec<u8>, line: &str, accepted: bool) -> Result<bool, CliError>
+    ensures answer { IfOk result (AddsLine (λ t a. (t ≡ line.now) × (a ≡ accepted))
+        text.old.items text.new.items) }
+    ensures refused { IfErr result (λ e. e ≡ CliError.Memory) }
+    ensures kept { OnErr result (Keeps text.old.items text.new.items) }
+{
+    add_text(text, line)?;
+    Ok(accepted)
+}
+
+// The line of a refused text is put behind the others. Want of memory has no line.
+pub fn add_fault(text: &mut Vec<u8>, refusal: ParseError) -> Result<bool, CliError>
+    ensures answer { IfOk result (AddsLine
+        (λ t a. (t ≡ refused_line (parse_error_name refusal)) × (a ≡ false))
+        text.old.items text.new.items) }
+    ensures told { IfOk result (λ _. refusal ≢ ParseError.Memory) }
+    ensures refused { IfErr result (λ e. e ≡ CliError.Memory) }
+    ensures kept { OnErr result (Keeps text.old.items text.new.items) }
+{
+    match refusal {
+        ParseError::InvalidLanguage => add_known(text, "?\tInvalidLanguage\n", false),
+        ParseError::InvalidSubtag => add_known(text, "?\tInvalidSubtag\n", false),
+        ParseError::Memory => Err(CliError::Memory),
     }
 }
 
-// A line that is known beforehand.
-pub fn known_line(mut room: Vec<u8>, line: &str) -> Result<Answer, CliError>
-    ensures answer { IfOk result (λ a. (a.text.items ≡ line.now) × (a.accepted ≡ true)) }
-    ensures refused { IfErr result (λ e. e ≡ CliError.Memory) }
-{
-    room.clear();
-    room.extend_from_slice(line.as_bytes())?;
-    Ok(Answer {
-        text: room,
-        accepted: true,
-    })
-}
-
-// The line of a refusal.
-pub fn refused<E: fmt::Display + Drop>(room: Vec<u8>, refusal: E) -> Result<Answer, CliError>
-    ensures answer { IfOk result (λ a. IfSome (E.output refusal)
-        (λ name. a.text.items ≡ refused_line name) × (a.accepted ≡ false)) }
-    ensures refused { IfErr result (λ e. e ≡ CliError.Memory) }
-{
-    let mut text = cleared(room);
-    write!(text, "?\t{refusal}\n")?;
-    Ok(Answer {
-        text: text.into_bytes(),
-        accepted: false,
-    })
-}
-
-// The answers to all lines, each made whole before it is written, all in one room.
+// The answers to all lines, put behind one another in a list that is written when it is full. Where memory is refused,
+// the lines that are whole are written all the same.
 pub fn write_answers<W: Write>(
     alloc: Global,
     work: &Work<'_>,
@@ -78,13 +94,21 @@ pub fn write_answers<W: Write>(
     ensures refused { IfErr result (λ e. (e ≡ CliError.Memory) ⊎ (e ≡ CliError.Write)) }
 {
     let mut status = Status::Accepted;
-    let mut room = Vec::new(alloc);
+    let mut text = Vec::new(alloc);
     for line in Lines::new(input) {
-        let Answer { text, accepted } = work.answer(room, line)?;
-        write_bytes(writer, text.as_slice())?;
-        status = status.after(accepted);
-        room = text;
+        match work.add_answer(&mut text, line) {
+            Ok(accepted) => status = status.after(accepted),
+            Err(refusal) => {
+                write_bytes(writer, text.as_slice())?;
+                return Err(refusal);
+            }
+        }
+        if text.len() >= FULL {
+            write_bytes(writer, text.as_slice())?;
+            text.clear();
+        }
     }
+    write_bytes(writer, text.as_slice())?;
     Ok(status)
 }
 

@@ -1,9 +1,8 @@
 // Lines that are locales: an identifier, or an identifier, a tab and a value for `rg`.
-ghost use Rattle.std.specs.Prelude.{◌≡◌, ◌⊎◌, Some, IsTrue, IfOk, IfErr};
+ghost use Rattle.std.specs.Prelude.{◌≡◌, ◌⊎◌, Some, IfOk, IfErr};
 ghost use Rattle.std.specs.List.{position};
 ghost use Rattle.std.specs.Option.{option_copied};
 ghost use Rattle.icu_locale_core.specs.Keywords.{with_value};
-ghost use Rattle.icu_locale_core.specs.Subtag.{is_key, lowercase};
 ghost use Rattle.icu_locale.specs.Canonical.{rg};
 ghost use Rattle.icu_locale_lines.specs.Locales.{is_tab, identifier_text, value_text, SpellsLocale, IsLocaleFault};
 ghost use Rattle.icu_locale_lines.specs.inner.Parts.{IsLocaleOf, IsRefusedValue};
@@ -36,13 +35,13 @@ fn with_override(
     ensures refused { IfErr result (IsRefusedValue (option_copied text.entry)) }
 {
     match text {
-        Some(text) => overridden(alloc, identifier, text),
+        Some(text) => with_value(alloc, identifier, text),
         None => Ok(Locale::new(alloc, identifier)),
     }
 }
 
 // The locale of an identifier, with the value of a text at `rg`.
-fn overridden(
+fn with_value(
     alloc: Global,
     identifier: LanguageIdentifier,
     text: &[u8],
@@ -69,7 +68,7 @@ fn put_override(mut locale: Locale, value: Value) -> Result<Locale, ParseError>
         .extensions
         .unicode
         .keywords
-        .set(region_override_key(), value)?;
+        .set(Key::REGION_OVERRIDE, value)?;
     Ok(locale)
 }
 
@@ -91,25 +90,8 @@ fn cut_at_tab(line: &[u8]) -> (&[u8], Option<&[u8]>)
 
 // Where the first tab stands.
 #[tactic(auto, using(crate::proofs::LineCuts::position_from_first))]
-fn first_tab(line: &[u8]) -> Option<usize>
+pub fn first_tab(line: &[u8]) -> Option<usize>
     ensures { result ≡ position is_tab line.now }
 {
     memchr(b'\t', line)
-}
-
-// The key of a region override, `rg`.
-pub fn region_override_key() -> Key
-    ensures { result ≡ rg }
-{
-    key("rg")
-}
-
-fn key(text: &str) -> Key
-    requires { IsTrue (is_key text.now) }
-    ensures { result ≡ lowercase text.now }
-{
-    match Key::try_from_str(text) {
-        Ok(key) => key,
-        Err(_) => unreachable!(),
-    }
 }

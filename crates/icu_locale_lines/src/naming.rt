@@ -1,14 +1,16 @@
 //! Names of identifiers, by a chain and in the language of preferences.
-ghost use Rattle.std.specs.Prelude.{◌≡◌, Ok, IfOk, IfErr, true};
+ghost use Rattle.std.specs.Prelude.{◌≡◌, ◌≢◌, Ok, IfOk, IfErr, OnErr, true, false};
+ghost use Rattle.icu_provider.specs.Provider.{kind_name};
 ghost use Rattle.icu_locale_names.specs.LanguageChains.{chain_of};
 ghost use Rattle.icu_locale_names.specs.LanguageNames.{GivesName};
 ghost use Rattle.icu_locale_names.specs.declared.options.LanguageDisplay.TheVariants.{Dialect};
 ghost use Rattle.icu_locale_names.specs.declared.options.DisplayNamesPreferences.{DisplayNamesPreferences};
+ghost use Rattle.icu_locale_lines.specs.Answers.{AddsLine, Keeps};
 ghost use Rattle.icu_locale_lines.specs.Commands.{SpellsPreferences};
 ghost use Rattle.icu_locale_lines.specs.Names.{answers_in, name_asked, IsNamedLine};
-ghost use Rattle.icu_locale_lines.specs.Texts.{named_line};
+ghost use Rattle.icu_locale_lines.specs.Texts.{named_line, refused_line};
 
-use crate::answer::{Answer, refused};
+use crate::answer::{add_known, add_text};
 use crate::error::CliError;
 use icu_locale_core::{LanguageIdentifier, laws};
 use icu_locale_names::{
@@ -47,16 +49,16 @@ pub struct Naming<'d> {
 }
 
 impl<'d> Naming<'d> {
-    // The answer to an identifier.
-    pub fn answer(&self, room: Vec<u8>, identifier: &LanguageIdentifier) -> Result<Answer, CliError>
-        ensures answer { IfOk result (λ a. IsNamedLine (name_asked self.now identifier.now)
-            a.text.items a.accepted) }
+    // The answer to an identifier is put behind the others.
+    pub fn add(&self, text: &mut Vec<u8>, identifier: &LanguageIdentifier) -> Result<bool, CliError>
+        ensures answer { IfOk result (AddsLine (IsNamedLine (name_asked self.now identifier.now))
+            text.old.items text.new.items) }
         ensures refused { IfErr result (λ e. e ≡ CliError.Memory) }
+        ensures kept { OnErr result (Keeps text.old.items text.new.items) }
     {
-        match self.name(*room.allocator(), identifier) {
-            Ok(name) => named(room, &name),
-            Err(refusal) if refusal.kind == DataErrorKind::Memory => Err(CliError::Memory),
-            Err(refusal) => refused(room, refusal),
+        match self.name(*text.allocator(), identifier) {
+            Ok(name) => add_named(text, &name),
+            Err(refusal) => add_refusal(text, refusal.kind),
         }
     }
 
@@ -81,21 +83,37 @@ impl<'d> Naming<'d> {
 }
 
 // The line of a name: its text, and whether a raw subtag was written. A text that is too long finds no memory.
-fn named(mut text: Vec<u8>, name: &LanguageIdentifierDisplayName<'_>) -> Result<Answer, CliError>
-    ensures answer { IfOk result (λ a. (a.text.items ≡ named_line name.now)
-        × (a.accepted ≡ true)) }
+fn add_named(text: &mut Vec<u8>, name: &LanguageIdentifierDisplayName<'_>) -> Result<bool, CliError>
+    ensures answer { IfOk result (AddsLine (λ t a. (t ≡ named_line name.now) × (a ≡ true))
+        text.old.items text.new.items) }
     ensures refused { IfErr result (λ e. e ≡ CliError.Memory) }
+    ensures kept { OnErr result (Keeps text.old.items text.new.items) }
 {
-    text.clear();
     let mut spans = Vec::new(*text.allocator());
-    let report = name
-        .as_borrowed()
-        .try_write_to_parts(&mut text, &mut spans)
-        .map_err(|_| CliError::Memory)?;
+    let report = match name.as_borrowed().try_write_to_parts(text, &mut spans) {
+        Ok(report) => report,
+        Err(_) => return Err(CliError::Memory),
+    };
     let mark = if report.is_ok() { "\tN\n" } else { "\tR\n" };
-    text.extend_from_slice(mark.as_bytes())?;
-    Ok(Answer {
-        text,
-        accepted: true,
-    })
+    add_text(text, mark)?;
+    Ok(true)
+}
+
+// The line of a refused name. Want of memory has none.
+fn add_refusal(text: &mut Vec<u8>, kind: DataErrorKind) -> Result<bool, CliError>
+    ensures answer { IfOk result (AddsLine
+        (λ t a. (t ≡ refused_line (kind_name kind)) × (a ≡ false))
+        text.old.items text.new.items) }
+    ensures told { IfOk result (λ _. kind ≢ DataErrorKind.Memory) }
+    ensures refused { IfErr result (λ e. e ≡ CliError.Memory) }
+    ensures kept { OnErr result (Keeps text.old.items text.new.items) }
+{
+    match kind {
+        DataErrorKind::IdentifierNotFound => add_known(text, "?\tIdentifierNotFound\n", false),
+        DataErrorKind::MarkerNotFound => add_known(text, "?\tMarkerNotFound\n", false),
+        DataErrorKind::InvalidRequest => add_known(text, "?\tInvalidRequest\n", false),
+        DataErrorKind::Deserialize => add_known(text, "?\tDeserialize\n", false),
+        DataErrorKind::Custom => add_known(text, "?\tCustom\n", false),
+        DataErrorKind::Memory => Err(CliError::Memory),
+    }
 }

@@ -1,10 +1,11 @@
 //! Forms of an identifier over likely subtags, and their lines.
-ghost use Rattle.std.specs.Prelude.{◌≡◌, ◌++◌, IfOk, IfErr, true, codes};
+ghost use Rattle.std.specs.Prelude.{◌≡◌, ◌++◌, IfOk, IfErr, OnOk, OnErr, true, codes};
+ghost use Rattle.icu_locale_core.specs.Identifier.{written};
 ghost use Rattle.icu_locale.specs.LikelyTable.{likely};
-ghost use Rattle.icu_locale_lines.specs.Answers.{IsForm};
+ghost use Rattle.icu_locale_lines.specs.Answers.{IsForm, AddsLine, Keeps};
 ghost use Rattle.icu_locale_lines.specs.Texts.{mark, transformed_line};
 
-use crate::answer::Answer;
+use crate::answer::add_text;
 use crate::error::CliError;
 use icu_locale::{LocaleExpander, TransformResult};
 use icu_locale_core::LanguageIdentifier;
@@ -37,26 +38,35 @@ impl Transform {
     }
 }
 
-// The line of an identifier and whether it was changed.
-pub fn transformed(
-    mut text: Vec<u8>,
+// The line of an identifier and whether it was changed is put behind the others.
+#[inline(always)]
+pub fn add_transformed(
+    text: &mut Vec<u8>,
     identifier: &LanguageIdentifier,
     changed: TransformResult,
-) -> Result<Answer, CliError>
-    ensures answer { IfOk result (λ a.
-        (a.text.items ≡ transformed_line identifier.now changed)
-        × (a.accepted ≡ true)) }
+) -> Result<bool, CliError>
+    ensures answer { IfOk result (AddsLine
+        (λ t a. (t ≡ transformed_line identifier.now changed) × (a ≡ true))
+        text.old.items text.new.items) }
     ensures refused { IfErr result (λ e. e ≡ CliError.Memory) }
+    ensures kept { OnErr result (Keeps text.old.items text.new.items) }
 {
-    text.clear();
-    if identifier.append_to(&mut text).is_err() {
-        return Err(CliError::Memory);
+    add_identifier(text, identifier)?;
+    add_text(text, ending(changed))?;
+    Ok(true)
+}
+
+// An identifier in written case is put behind a text.
+#[inline(always)]
+pub fn add_identifier(text: &mut Vec<u8>, identifier: &LanguageIdentifier) -> Result<(), CliError>
+    ensures added { OnOk result (text.new.items ≡ text.old.items ++ written identifier.now) }
+    ensures refused { IfErr result (λ e. e ≡ CliError.Memory) }
+    ensures unchanged { OnErr result (text.new.items ≡ text.old.items) }
+{
+    match identifier.append_to(text) {
+        Ok(()) => Ok(()),
+        Err(_) => Err(CliError::Memory),
     }
-    text.extend_from_slice(ending(changed).as_bytes())?;
-    Ok(Answer {
-        text,
-        accepted: true,
-    })
 }
 
 // The end of a line: a tab, and `M` where something was changed, or `U` where nothing was.

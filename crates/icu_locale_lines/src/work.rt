@@ -1,21 +1,23 @@
 //! What a command works with, and what it makes of one line.
-ghost use Rattle.std.specs.Prelude.{◌≡◌, IfOk, IfErr, true};
+ghost use Rattle.std.specs.Prelude.{◌≡◌, IfOk, IfErr, OnErr, None, true};
+ghost use Rattle.std.specs.List.{position};
 ghost use Rattle.icu_locale.specs.LikelyTable.{likely};
-ghost use Rattle.icu_locale_lines.specs.Answers.{IsAnswer, IsTransformed, IsDirected, IsNamed, IsIdentifierAnswer, IsLocaleAnswer, IsListAnswer};
+ghost use Rattle.icu_locale_lines.specs.Answers.{AddsLine, Keeps, IsAnswer, IsTransformed, IsDirected, IsNamed, IsIdentifierAnswer, IsLocaleAnswer, IsListAnswer};
+ghost use Rattle.icu_locale_lines.specs.Locales.{is_tab};
 ghost use Rattle.icu_locale_lines.specs.Lists.{IsNegotiatedLine};
 ghost use Rattle.icu_locale_lines.specs.Texts.{matched_line, direction_line};
 
-use crate::answer::{Answer, cleared, known_line, refused};
-use crate::canonical::canonicalized;
+use crate::answer::{Answer, add_fault, add_known, add_number, add_text};
+use crate::canonical::{add_canonical, add_canonical_identifier};
 use crate::error::CliError;
 use crate::lists::read_list;
-use crate::locales::read_locale;
+use crate::locales::{first_tab, read_locale};
 use crate::naming::Naming;
-use crate::transform::{Transform, transformed};
+use crate::transform::{Transform, add_identifier, add_transformed};
 use icu_locale::{
     Direction, LocaleCanonicalizer, LocaleDirectionality, LocaleExpander, Negotiator,
 };
-use icu_locale_core::{LanguageIdentifier, ParseError};
+use icu_locale_core::LanguageIdentifier;
 
 /// What a command works with, over tables that it borrows.
 #[derive(Debug, Drop)]
@@ -33,62 +35,101 @@ pub enum Work<'d> {
 }
 
 impl<'d> Work<'d> {
+    /// Puts the answer to one line behind the others.
+    ///
+    /// # Errors
+    ///
+    /// `Memory` where memory was refused. The text is as it was then.
+    #[inline(always)]
+    pub fn add_answer(&self, text: &mut Vec<u8>, line: &[u8]) -> Result<bool, CliError>
+        ensures answer { IfOk result (AddsLine (IsAnswer self.now line.now)
+            text.old.items text.new.items) }
+        ensures refused { IfErr result (λ e. e ≡ CliError.Memory) }
+        ensures unchanged { OnErr result (text.new.items ≡ text.old.items) }
+    {
+        let before = text.len();
+        match self.add(text, line) {
+            Ok(accepted) => Ok(accepted),
+            Err(refusal) => {
+                text.truncate(before);
+                Err(refusal)
+            }
+        }
+    }
+
     /// The answer to one line, in the room of an earlier one.
     ///
     /// # Errors
     ///
     /// `Memory` where memory was refused.
-    pub fn answer(&self, room: Vec<u8>, line: &[u8]) -> Result<Answer, CliError>
+    pub fn answer(&self, mut room: Vec<u8>, line: &[u8]) -> Result<Answer, CliError>
         ensures answer { IfOk result (λ a. IsAnswer self.now line.now a.text.items
             a.accepted) }
         ensures refused { IfErr result (λ e. e ≡ CliError.Memory) }
     {
+        room.clear();
+        let accepted = self.add(&mut room, line)?;
+        Ok(Answer {
+            text: room,
+            accepted,
+        })
+    }
+
+    // Puts the answer behind the others, or a part of it where memory is refused.
+    fn add(&self, text: &mut Vec<u8>, line: &[u8]) -> Result<bool, CliError>
+        ensures answer { IfOk result (AddsLine (IsAnswer self.now line.now)
+            text.old.items text.new.items) }
+        ensures refused { IfErr result (λ e. e ≡ CliError.Memory) }
+        ensures kept { OnErr result (Keeps text.old.items text.new.items) }
+    {
         match self {
-            Work::Transform(form, expander) => answer_transform(room, *form, expander, line),
-            Work::Canonicalize(canonicalizer) => answer_locale(room, canonicalizer, line),
-            Work::Direction(directionality) => answer_direction(room, directionality, line),
-            Work::Negotiate(negotiator) => answer_requests(room, negotiator, line),
-            Work::Name(naming) => answer_name(room, naming, line),
+            Work::Transform(form, expander) => add_form(text, *form, expander, line),
+            Work::Canonicalize(canonicalizer) => add_locale(text, canonicalizer, line),
+            Work::Direction(directionality) => add_direction(text, directionality, line),
+            Work::Negotiate(negotiator) => add_requests(text, negotiator, line),
+            Work::Name(naming) => add_name(text, naming, line),
         }
     }
 }
 
 // The answer to a line that is an identifier, which is brought to a form.
 #[inline(always)]
-fn answer_transform(
-    room: Vec<u8>,
+fn add_form(
+    text: &mut Vec<u8>,
     form: Transform,
     expander: &LocaleExpander<'_>,
     line: &[u8],
-) -> Result<Answer, CliError>
-    ensures answer { IfOk result (λ a. IsIdentifierAnswer
-        (IsTransformed form (likely expander.now)) line.now a.text.items a.accepted) }
+) -> Result<bool, CliError>
+    ensures answer { IfOk result (AddsLine (IsIdentifierAnswer
+        (IsTransformed form (likely expander.now)) line.now)
+        text.old.items text.new.items) }
     ensures refused { IfErr result (λ e. e ≡ CliError.Memory) }
+    ensures kept { OnErr result (Keeps text.old.items text.new.items) }
 {
-    match LanguageIdentifier::try_from_utf8(*room.allocator(), line) {
+    match LanguageIdentifier::try_from_utf8(*text.allocator(), line) {
         Ok(mut identifier) => {
             let changed = form.apply(expander, &mut identifier);
-            transformed(room, &identifier, changed)
+            add_transformed(text, &identifier, changed)
         }
-        Err(ParseError::Memory) => Err(CliError::Memory),
-        Err(refusal) => refused(room, refusal),
+        Err(refusal) => add_fault(text, refusal),
     }
 }
 
 // The answer to a line that is an identifier, whose direction is told.
-fn answer_direction(
-    room: Vec<u8>,
+fn add_direction(
+    text: &mut Vec<u8>,
     directionality: &LocaleDirectionality<'_>,
     line: &[u8],
-) -> Result<Answer, CliError>
-    ensures answer { IfOk result (λ a. IsIdentifierAnswer (IsDirected directionality.now)
-        line.now a.text.items a.accepted) }
+) -> Result<bool, CliError>
+    ensures answer { IfOk result (AddsLine (IsIdentifierAnswer (IsDirected directionality.now)
+        line.now)
+        text.old.items text.new.items) }
     ensures refused { IfErr result (λ e. e ≡ CliError.Memory) }
+    ensures kept { OnErr result (Keeps text.old.items text.new.items) }
 {
-    match LanguageIdentifier::try_from_utf8(*room.allocator(), line) {
-        Ok(identifier) => known_line(room, direction_line(directionality.get(&identifier))),
-        Err(ParseError::Memory) => Err(CliError::Memory),
-        Err(refusal) => refused(room, refusal),
+    match LanguageIdentifier::try_from_utf8(*text.allocator(), line) {
+        Ok(identifier) => add_known(text, direction_line(directionality.get(&identifier)), true),
+        Err(refusal) => add_fault(text, refusal),
     }
 }
 
@@ -103,26 +144,136 @@ fn direction_line(direction: Option<Direction>) -> &'static str
 }
 
 // The answer to a line that is an identifier, which is named.
-fn answer_name(room: Vec<u8>, naming: &Naming<'_>, line: &[u8]) -> Result<Answer, CliError>
-    ensures answer { IfOk result (λ a. IsIdentifierAnswer (IsNamed naming.now) line.now
-        a.text.items a.accepted) }
+fn add_name(text: &mut Vec<u8>, naming: &Naming<'_>, line: &[u8]) -> Result<bool, CliError>
+    ensures answer { IfOk result (AddsLine (IsIdentifierAnswer (IsNamed naming.now) line.now)
+        text.old.items text.new.items) }
     ensures refused { IfErr result (λ e. e ≡ CliError.Memory) }
+    ensures kept { OnErr result (Keeps text.old.items text.new.items) }
 {
-    match LanguageIdentifier::try_from_utf8(*room.allocator(), line) {
-        Ok(identifier) => naming.answer(room, &identifier),
-        Err(ParseError::Memory) => Err(CliError::Memory),
-        Err(refusal) => refused(room, refusal),
+    match LanguageIdentifier::try_from_utf8(*text.allocator(), line) {
+        Ok(identifier) => naming.add(text, &identifier),
+        Err(refusal) => add_fault(text, refusal),
     }
 }
 
-/// The answer to a line that is a locale, which is brought to its canonical form.
+// The answer to a line that is a locale, which is brought to its canonical form.
+#[inline(always)]
+fn add_locale(
+    text: &mut Vec<u8>,
+    canonicalizer: &LocaleCanonicalizer<'_>,
+    line: &[u8],
+) -> Result<bool, CliError>
+    ensures answer { IfOk result (AddsLine (IsLocaleAnswer (likely canonicalizer.now.expander)
+        canonicalizer.now.rules line.now)
+        text.old.items text.new.items) }
+    ensures refused { IfErr result (λ e. e ≡ CliError.Memory) }
+    ensures kept { OnErr result (Keeps text.old.items text.new.items) }
+{
+    match first_tab(line) {
+        None => add_identifier_alone(text, canonicalizer, line),
+        Some(_) => add_with_value(text, canonicalizer, line),
+    }
+}
+
+// The same of a line without a tab, which has an identifier alone.
+#[inline(always)]
+fn add_identifier_alone(
+    text: &mut Vec<u8>,
+    canonicalizer: &LocaleCanonicalizer<'_>,
+    line: &[u8],
+) -> Result<bool, CliError>
+    requires { position is_tab line.now ≡ None }
+    ensures answer { IfOk result (AddsLine (IsLocaleAnswer (likely canonicalizer.now.expander)
+        canonicalizer.now.rules line.now)
+        text.old.items text.new.items) }
+    ensures refused { IfErr result (λ e. e ≡ CliError.Memory) }
+    ensures kept { OnErr result (Keeps text.old.items text.new.items) }
+{
+    match LanguageIdentifier::try_from_utf8(*text.allocator(), line) {
+        Ok(mut identifier) => add_canonical_identifier(text, canonicalizer, &mut identifier),
+        Err(refusal) => add_fault(text, refusal),
+    }
+}
+
+// The same of a line with a tab, which has a value too.
+fn add_with_value(
+    text: &mut Vec<u8>,
+    canonicalizer: &LocaleCanonicalizer<'_>,
+    line: &[u8],
+) -> Result<bool, CliError>
+    ensures answer { IfOk result (AddsLine (IsLocaleAnswer (likely canonicalizer.now.expander)
+        canonicalizer.now.rules line.now)
+        text.old.items text.new.items) }
+    ensures refused { IfErr result (λ e. e ≡ CliError.Memory) }
+    ensures kept { OnErr result (Keeps text.old.items text.new.items) }
+{
+    match read_locale(*text.allocator(), line) {
+        Ok(mut locale) => add_canonical(text, canonicalizer, &mut locale),
+        Err(refusal) => add_fault(text, refusal),
+    }
+}
+
+// The answer to a line that lists requests.
+fn add_requests(
+    text: &mut Vec<u8>,
+    negotiator: &Negotiator<'_>,
+    line: &[u8],
+) -> Result<bool, CliError>
+    ensures answer { IfOk result (AddsLine (IsListAnswer negotiator.now line.now)
+        text.old.items text.new.items) }
+    ensures refused { IfErr result (λ e. e ≡ CliError.Memory) }
+    ensures kept { OnErr result (Keeps text.old.items text.new.items) }
+{
+    match read_list(*text.allocator(), line) {
+        Ok(requests) => add_negotiated(text, negotiator, &requests),
+        Err(refusal) => add_fault(text, refusal),
+    }
+}
+
+// The line of requests: the place of the first that is met, and the identifier that meets it.
+fn add_negotiated(
+    text: &mut Vec<u8>,
+    negotiator: &Negotiator<'_>,
+    requests: &[LanguageIdentifier],
+) -> Result<bool, CliError>
+    ensures answer { IfOk result (AddsLine (λ t a. IsNegotiatedLine negotiator.now
+        requests.now t × (a ≡ true))
+        text.old.items text.new.items) }
+    ensures refused { IfErr result (λ e. e ≡ CliError.Memory) }
+    ensures kept { OnErr result (Keeps text.old.items text.new.items) }
+{
+    match negotiator.negotiate(requests) {
+        Some((asked, found)) => add_match(text, asked, &negotiator.available()[found]),
+        None => add_known(text, "none\n", true),
+    }
+}
+
+// The line of a request's place and the available identifier that means it.
+fn add_match(
+    text: &mut Vec<u8>,
+    asked: usize,
+    identifier: &LanguageIdentifier,
+) -> Result<bool, CliError>
+    ensures answer { IfOk result (AddsLine (λ t a. (t ≡ matched_line asked identifier.now)
+        × (a ≡ true))
+        text.old.items text.new.items) }
+    ensures refused { IfErr result (λ e. e ≡ CliError.Memory) }
+    ensures kept { OnErr result (Keeps text.old.items text.new.items) }
+{
+    add_number(text, asked)?;
+    add_text(text, "\t")?;
+    add_identifier(text, identifier)?;
+    add_text(text, "\n")?;
+    Ok(true)
+}
+
+/// The answer to a line that is a locale, in the room of an earlier one: the line of its canonical form.
 ///
 /// # Errors
 ///
 /// `Memory` where memory was refused.
-#[inline(always)]
 pub fn answer_locale(
-    room: Vec<u8>,
+    mut room: Vec<u8>,
     canonicalizer: &LocaleCanonicalizer<'_>,
     line: &[u8],
 ) -> Result<Answer, CliError>
@@ -130,20 +281,21 @@ pub fn answer_locale(
         canonicalizer.now.rules line.now a.text.items a.accepted) }
     ensures refused { IfErr result (λ e. e ≡ CliError.Memory) }
 {
-    match read_locale(*room.allocator(), line) {
-        Ok(mut locale) => canonicalized(room, canonicalizer, &mut locale),
-        Err(ParseError::Memory) => Err(CliError::Memory),
-        Err(refusal) => refused(room, refusal),
-    }
+    room.clear();
+    let accepted = add_locale(&mut room, canonicalizer, line)?;
+    Ok(Answer {
+        text: room,
+        accepted,
+    })
 }
 
-/// The answer to a line that lists requests.
+/// The answer to a line that lists requests, in the room of an earlier one.
 ///
 /// # Errors
 ///
 /// `Memory` where memory was refused.
 pub fn answer_requests(
-    room: Vec<u8>,
+    mut room: Vec<u8>,
     negotiator: &Negotiator<'_>,
     line: &[u8],
 ) -> Result<Answer, CliError>
@@ -151,39 +303,10 @@ pub fn answer_requests(
         a.accepted) }
     ensures refused { IfErr result (λ e. e ≡ CliError.Memory) }
 {
-    match read_list(*room.allocator(), line) {
-        Ok(requests) => negotiated(room, negotiator, &requests),
-        Err(ParseError::Memory) => Err(CliError::Memory),
-        Err(refusal) => refused(room, refusal),
-    }
-}
-
-// The line of requests: the place of the first that is met, and the identifier that meets it.
-fn negotiated(
-    room: Vec<u8>,
-    negotiator: &Negotiator<'_>,
-    requests: &[LanguageIdentifier],
-) -> Result<Answer, CliError>
-    ensures answer { IfOk result (λ a. IsNegotiatedLine negotiator.now requests.now
-        a.text.items × (a.accepted ≡ true)) }
-    ensures refused { IfErr result (λ e. e ≡ CliError.Memory) }
-{
-    match negotiator.negotiate(requests) {
-        Some((asked, found)) => matched(room, asked, &negotiator.available()[found]),
-        None => known_line(room, "none\n"),
-    }
-}
-
-// The line of a request's place and the available identifier that means it.
-fn matched(room: Vec<u8>, asked: usize, identifier: &LanguageIdentifier) -> Result<Answer, CliError>
-    ensures answer { IfOk result (λ a. (a.text.items ≡ matched_line asked identifier.now)
-        × (a.accepted ≡ true)) }
-    ensures refused { IfErr result (λ e. e ≡ CliError.Memory) }
-{
-    let mut text = cleared(room);
-    write!(text, "{asked}\t{identifier}\n")?;
+    room.clear();
+    let accepted = add_requests(&mut room, negotiator, line)?;
     Ok(Answer {
-        text: text.into_bytes(),
-        accepted: true,
+        text: room,
+        accepted,
     })
 }

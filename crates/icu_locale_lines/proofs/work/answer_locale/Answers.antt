@@ -1,7 +1,10 @@
+use Rattle.std.proofs.Common.{sym, ap, subst, ◌∙◌, ◌++◌}
 use Rattle.icu_locale.specs.LikelyTable.{likely}
-use Rattle.icu_locale_lines.proofs.LineAnswers.{answer_from_locale}
+use Rattle.icu_locale_lines.specs.Answers.{IsLocaleAnswer}
 use Rattle.icu_locale_lines.proofs.work.answer_locale.Goals as goal
 
-pub returns-in-Ok-clause-answer : goal.returns-in-Ok-clause-answer
-returns-in-Ok-clause-answer c =
-    answer_from_locale (likely c.args.canonicalizer.now.expander) c.args.canonicalizer.now.rules c.in-Ok.locale c.args.line.now c.in-Ok.ensures.read c.canonicalized.result c.canonicalized.ensures.answer
+-- the room was empty
+pub returns-clause-answer : goal.returns-clause-answer
+returns-clause-answer c =
+    let added = c.in_ok-accepted.ensures.answer in
+    subst (λ t. IsLocaleAnswer (likely c.args.canonicalizer.now.expander) c.args.canonicalizer.now.rules c.args.line.now t c.in_ok-accepted.accepted) (sym (added.added ∙ ap (λ old. old ++ added.line) c.clear.ensures.items)) added.is

@@ -1,6 +1,6 @@
 use Rattle.std.proofs.Common.{Some}
 use Rattle.icu_locale_lines.proofs.LocaleLines.{readable_from_read, refused_from_read, overridden_from_parts, memory_alone}
-use Rattle.icu_locale_lines.proofs.locales.overridden.Goals as goal
+use Rattle.icu_locale_lines.proofs.locales.with_value.Goals as goal
 
 pub returns-in-Ok-clause-made : goal.returns-in-Ok-clause-made
 returns-in-Ok-clause-made c =

@@ -1,0 +1,8 @@
+use Rattle.std.proofs.Common.{subst, sym}
+use Rattle.icu_locale_lines.specs.Answers.{IsAnswer}
+use Rattle.icu_locale_lines.proofs.LineAnswers.{if_adds}
+use Rattle.icu_locale_lines.proofs.work.Work.add.Goals as goal
+
+pub returns-in-Transform-clause-answer : goal.returns-in-Transform-clause-answer
+returns-in-Transform-clause-answer c =
+    if_adds _ _ (λ t a h. subst (λ work. IsAnswer work c.args.line.now t a) (sym c.in-Transform.is) h) _ _ c.add_form.result c.add_form.ensures.answer
