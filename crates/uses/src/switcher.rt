@@ -4,7 +4,7 @@ ghost use Rattle.std.specs.List.{Contains};
 ghost use Rattle.icu_locale_core.specs.declared.langid.LanguageIdentifier.{LanguageIdentifier};
 ghost use Rattle.icu_locale.specs.LikelySubtags.{maximal};
 ghost use Rattle.icu_locale.specs.LikelyTable.{likely};
-ghost use Rattle.uses.specs.Fallback.{plain_form, wide_form, HasScript, AreReadAlike};
+ghost use Rattle.uses.specs.Fallback.{plain_form, wide_form, HasScript, AreReadAlike, IsServed};
 ghost use Rattle.uses.specs.Meaning.{MeanTheSame, NoneMeans};
 
 use crate::negotiation::find_served;
@@ -27,6 +27,8 @@ pub fn serve<'n>(
         → MeanTheSame (likely negotiator.now.expander) request.now x
         → IsSomeAnd result (λ served.
         MeanTheSame (likely negotiator.now.expander) request.now served.now) }
+    ensures served { IfSome result (λ served. IsServed (likely negotiator.now.expander)
+        negotiator.now.available request.now served.now) }
     ensures none { IfNone result
         (NoneMeans (likely negotiator.now.expander) negotiator.now.available request.now) }
     ensures none_plain { IfNone result (NoneMeans (likely negotiator.now.expander)
