@@ -17,8 +17,7 @@ pub record ShowsPieces (pieces : List Piece) (line : MenuLine) : Type 0 where
   pub text : line.text.items ≡ text_of pieces
   pub raw : line.raw.items ≡ spans pieces
 
--- the line shows the pieces; or it was not written, as too long only where its text is. That it is
--- refused only where there was no room is tested
+-- the line shows the pieces; or it was not written, and as too long only where its text is
 abbrev pub Shows : List Piece → Result MenuLine MenuError → Type 0
 Shows pieces (Ok line) = ShowsPieces pieces line
 Shows pieces (Err (Refused e)) = ⊥
