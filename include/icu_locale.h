@@ -131,7 +131,7 @@ int32_t icu_locale_share(struct icu_locale *from, struct icu_locale *to);
  * and `written` is 0.
  *
  * The tables stay. The answer is made in a list that the handle keeps, and then copied to `out`: the first calls take
- * memory for it, and later ones where they want a longer one, or come behind a call that gave no answer. What is taken
+ * memory for it, and later ones where they want a longer one, or come behind a call that found no memory. What is taken
  * besides is what the program takes: memory for an identifier's variants, for a value and for a list of requests. The
  * first `canonicalize` on a handle also reads the rules, which takes about as long as some hundred calls and is kept
  * until the handle is closed.

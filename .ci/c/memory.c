@@ -115,6 +115,35 @@ static int run(void) {
     return refusals;
 }
 
+// Asks with so much room, and tells how many requests the call makes.
+static long requests_of(struct icu_locale *handle, const char *command, const char *line, size_t room, int32_t number) {
+    static uint8_t out[64];
+    size_t written;
+    requests = 0;
+    want(icu_locale_answer(handle, (const uint8_t *)command, strlen(command), (const uint8_t *)line, strlen(line), out, room,
+                           &written) == number, command);
+    return requests;
+}
+
+// The room of answers and the rules stay: behind a refused line, behind too little room, where no list is held, and where
+// tables are left out.
+static void stays_kept(struct icu_locale *handle) {
+    struct icu_locale bare = {0};
+    const char *likely = "{\"likely_language\":{\"und\":[\"en\",\"Latn\",\"US\"]},\"likely_script_region\":{}}";
+    requests_of(handle, "canonicalize", "e", 64, ICU_LOCALE_REFUSED);
+    want(requests_of(handle, "canonicalize", "sh", 64, ICU_LOCALE_ACCEPTED) == 0, "a refused line loses what is kept");
+    requests_of(handle, "canonicalize", "sh", 3, ICU_LOCALE_ROOM);
+    want(requests_of(handle, "canonicalize", "sh", 64, ICU_LOCALE_ACCEPTED) == 0, "too little room loses what is kept");
+    requests_of(handle, "negotiate", "sh", 64, ICU_LOCALE_NEGOTIATE);
+    want(requests_of(handle, "canonicalize", "sh", 64, ICU_LOCALE_ACCEPTED) == 0, "a call without a list loses what is kept");
+    want(icu_locale_open((const uint8_t *)likely, strlen(likely), &bare) == ICU_LOCALE_DONE, "likely tables alone");
+    requests_of(&bare, "maximize", "zh-TW", 64, ICU_LOCALE_ACCEPTED);
+    requests_of(&bare, "direction", "zh-TW", 64, ICU_LOCALE_TABLE);
+    requests_of(&bare, "canonicalize", "zh-TW", 64, ICU_LOCALE_TABLE);
+    want(requests_of(&bare, "maximize", "zh-TW", 64, ICU_LOCALE_ACCEPTED) == 0, "a table that is left out loses what is kept");
+    icu_locale_close(&bare);
+}
+
 // What is prepared is kept: behind the first call of a command, calls on an identifier without variants take no memory.
 static void kept(void) {
     struct icu_locale handle = {0};
@@ -129,6 +158,7 @@ static void kept(void) {
                                    out, sizeof out, &written) == ICU_LOCALE_ACCEPTED, commands[place]);
             want(time == 0 || requests == 0, "a later call takes memory");
         }
+    stays_kept(&handle);
     icu_locale_close(&handle);
 }
 
