@@ -14,7 +14,6 @@ use crate::work::Work;
 use icu_locale_core::ParseError;
 use icu_locale_names::write_whole;
 use itoa::Buffer;
-use std::alloc::Global;
 use std::io::Write;
 
 // How many bytes of answers are written at once.
@@ -77,11 +76,11 @@ pub fn add_fault(text: &mut Vec<u8>, refusal: ParseError) -> Result<bool, CliErr
     }
 }
 
-// The answers to all lines, put behind one another in a list that is written when it is full. Where memory is refused,
-// the lines that are whole are written all the same.
+// The answers to all lines, put behind one another in a list that is written when it is full, and at the end. Where
+// memory is refused, the lines that are whole are written all the same. What the list held before is lost.
 pub fn write_answers<W: Write>(
-    alloc: Global,
     work: &Work<'_>,
+    text: &mut Vec<u8>,
     input: &[u8],
     writer: &mut W,
 ) -> Result<Status, CliError>
@@ -94,9 +93,9 @@ pub fn write_answers<W: Write>(
     ensures refused { IfErr result (λ e. (e ≡ CliError.Memory) ⊎ (e ≡ CliError.Write)) }
 {
     let mut status = Status::Accepted;
-    let mut text = Vec::new(alloc);
+    text.clear();
     for line in Lines::new(input) {
-        match work.add_answer(&mut text, line) {
+        match work.add_answer(text, line) {
             Ok(accepted) => status = status.after(accepted),
             Err(refusal) => {
                 write_bytes(writer, text.as_slice())?;

@@ -36,7 +36,8 @@ pub fn stream_lines<R: Read, W: Write>(
         (W.contents writer.old) (W.contents writer.new)) }
 {
     let mut carry = Vec::new(alloc);
-    let mut status = answer_part(alloc, work, &mut carry, first, writer)?;
+    let mut text = Vec::new(alloc);
+    let mut status = answer_part(work, &mut text, &mut carry, first, writer)?;
     let mut buffer = [0; PART];
     for _ in 0..MOST_READS {
         if writer.flush().is_err() {
@@ -44,12 +45,12 @@ pub fn stream_lines<R: Read, W: Write>(
         }
         match reader.read(&mut buffer) {
             Ok(0) => {
-                let last = write_answers(alloc, work, carry.as_slice(), writer)?;
+                let last = write_answers(work, &mut text, carry.as_slice(), writer)?;
                 return Ok(status.and(last));
             }
             Ok(count) => {
                 let (part, _) = buffer.split_at(count);
-                let ended = answer_part(alloc, work, &mut carry, part, writer)?;
+                let ended = answer_part(work, &mut text, &mut carry, part, writer)?;
                 status = status.and(ended);
             }
             Err(_) => return Err(CliError::Read),
@@ -60,8 +61,8 @@ pub fn stream_lines<R: Read, W: Write>(
 
 // Answers the lines that a part ends, of which what was carried begins the first, and carries what is behind the last.
 fn answer_part<W: Write>(
-    alloc: Global,
     work: &Work<'_>,
+    text: &mut Vec<u8>,
     carry: &mut Vec<u8>,
     part: &[u8],
     writer: &mut W,
@@ -82,7 +83,7 @@ fn answer_part<W: Write>(
         return Ok(Status::Accepted);
     }
     carry.extend_from_slice(front)?;
-    let status = write_answers(alloc, work, carry.as_slice(), writer)?;
+    let status = write_answers(work, text, carry.as_slice(), writer)?;
     carry.clear();
     carry.extend_from_slice(rest)?;
     Ok(status)

@@ -123,7 +123,7 @@ impl<'d> Loaded<'d> {
             (W.contents writer.new)) }
     {
         let (work, text) = self.over(alloc, input)?;
-        write_answers(alloc, &work, text, writer)
+        write_answers(&work, &mut Vec::new(alloc), text, writer)
     }
 }
 

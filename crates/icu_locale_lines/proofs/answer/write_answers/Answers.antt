@@ -7,7 +7,7 @@ use Rattle.icu_locale_lines.proofs.answer.write_answers.Goals as goal
 
 pub loop-line-init : goal.loop-line-init
 loop-line-init g c =
-    rw (c.new-text.ensures.items, c.into_iter-line-iterator.ensures.into_iter_gives, c.new-line-items.ensures) (Progress-start c.args.work.now c.args.input.now (g.W.Write.contents c.args.writer.now))
+    rw (c.clear.ensures.items, c.into_iter-line-iterator.ensures.into_iter_gives, c.new-line-items.ensures) (Progress-start c.args.work.now c.args.input.now (g.W.Write.contents c.args.writer.now))
 
 -- what was answered before a line for which memory was refused is written in part
 pub returns-in_err-write_bytes-in-Err-clause-write : goal.returns-in_err-write_bytes-in-Err-clause-write
@@ -32,7 +32,7 @@ loop-line-preserved-then-len-ge-FULL g c =
     let before = subst (Progress c.args.work.now c.args.input.now (contents c.args.writer.now) (contents c.loop-line.writer) c.loop-line.text.items c.loop-line.status) c.in-Some.ensures.steps c.loop-line.invariant in
     let more = Progress-more c.args.work.now c.args.input.now (contents c.args.writer.now) (contents c.loop-line.writer) c.loop-line.text.items c.loop-line.status c.in-Some.line.now c.next.new.self before c.in-Ok.accepted c.add_answer.new.text.items c.in-Ok.ensures.answer c.after-status.result c.after-status.ensures in
     let whole = subst (Appends (contents c.loop-line.writer) (contents c.write_bytes-then-len-ge-FULL.new.writer)) c.as_slice-then-len-ge-FULL.ensures.value c.in_ok-write_bytes.ensures.whole in
-    Progress-sent c.args.work.now c.args.input.now (contents c.args.writer.now) (contents c.loop-line.writer) c.add_answer.new.text.items c.after-status.result c.next.new.self more (contents c.write_bytes-then-len-ge-FULL.new.writer) whole c.clear.new.self.items c.clear.ensures.items
+    Progress-sent c.args.work.now c.args.input.now (contents c.args.writer.now) (contents c.loop-line.writer) c.add_answer.new.text.items c.after-status.result c.next.new.self more (contents c.write_bytes-then-len-ge-FULL.new.writer) whole c.clear-then-len-ge-FULL.new.self.items c.clear-then-len-ge-FULL.ensures.items
 
 -- or kept
 pub loop-line-preserved : goal.loop-line-preserved
