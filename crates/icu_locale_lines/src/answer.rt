@@ -16,8 +16,8 @@ use icu_locale_names::write_whole;
 use itoa::Buffer;
 use std::io::Write;
 
-// How many bytes of answers are written at once.
-const FULL: usize = 65536;
+// How many bytes of answers are written at once: with one line more they mostly fit into 64 KiB.
+const FULL: usize = 60 * 1024;
 
 /// The line that is written for one that was read, and whether that one was accepted.
 #[derive(Debug, Drop)]
