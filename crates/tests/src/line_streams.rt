@@ -10,19 +10,31 @@ use std::io::{Read, Write};
 use std::process::Abort;
 use std::test::Fail;
 
-// A reader that gives so many bytes at a time, or each time what is left of a line, and then fails or ends.
+/// A reader that gives so many bytes at a time, or at 0 each time what is left of a line, and then fails or ends. Behind
+/// its end it fails. It counts how often it is read.
 #[derive(Drop)]
-struct PartReader<'a> {
+pub struct PartReader<'a> {
     bytes: &'a [u8],
     at_once: usize,
-    by_lines: bool,
     fails: bool,
+    ended: bool,
+    reads: usize,
 }
 
 impl PartReader<'_> {
+    pub fn new(bytes: &[u8], at_once: usize, fails: bool) -> PartReader<'_> {
+        PartReader {
+            bytes,
+            at_once,
+            fails,
+            ended: false,
+            reads: 0,
+        }
+    }
+
     // How many bytes come next.
     fn next_count(&self) -> usize {
-        if !self.by_lines {
+        if self.at_once > 0 {
             return self.at_once;
         }
         match self.bytes.iter().position(|byte| *byte == b'\n') {
@@ -34,9 +46,11 @@ impl PartReader<'_> {
 
 impl Read for PartReader<'_> {
     fn read(&mut self, buf: &mut [u8]) -> io::Result<usize> {
-        if self.fails && self.bytes.is_empty() {
+        if self.ended || (self.fails && self.bytes.is_empty()) {
             return Err(io::Error::from(io::ErrorKind::Other));
         }
+        self.ended = self.bytes.is_empty();
+        self.reads = self.reads.saturating_add(1);
         let count = buf.len().min(self.next_count());
         let (first, _) = buf.split_at_mut(count);
         self.bytes.read(first)
@@ -92,12 +106,7 @@ fn one_stream(
     at_once: usize,
 ) -> Result<(), Fail> {
     let row = read_row(alloc, line)?;
-    let mut reader = PartReader {
-        bytes: row.input.as_bytes(),
-        at_once,
-        by_lines: at_once == 0,
-        fails: false,
-    };
+    let mut reader = PartReader::new(row.input.as_bytes(), at_once, false);
     let mut written = Vec::new(alloc);
     let ended = streamed(alloc, tables, &row.words, &mut reader, &mut written)?;
     assert_eq!(rt; written.as_slice(), row.output.as_bytes(), "at {line}");
@@ -147,12 +156,7 @@ fn each_line_that_came_whole_is_answered(rt: HostRuntime) -> Result<(), Fail> {
     for (input, ended, output) in &ENDS {
         for fails in [false, true] {
             for at_once in 0..6 {
-                let mut reader = PartReader {
-                    bytes: input.as_bytes(),
-                    at_once,
-                    by_lines: at_once == 0,
-                    fails,
-                };
+                let mut reader = PartReader::new(input.as_bytes(), at_once, fails);
                 let mut written = Vec::new(rt.alloc());
                 let refused = stream(
                     rt.alloc(),
@@ -179,12 +183,7 @@ fn a_first_line_that_does_not_end(rt: HostRuntime) -> Result<(), Fail> {
         "negotiate json",
         "settled json",
     ] {
-        let mut reader = PartReader {
-            bytes: b"{",
-            at_once: 1,
-            by_lines: false,
-            fails: true,
-        };
+        let mut reader = PartReader::new(b"{", 1, true);
         let mut written = Vec::new(rt.alloc());
         let ended = streamed(rt.alloc(), &tables, words, &mut reader, &mut written)?;
         assert!(rt; ended == Err(CliError::Read));
@@ -198,12 +197,7 @@ fn a_writer_that_takes_one_byte(rt: HostRuntime) -> Result<(), Fail> {
     let tables = sample(rt.alloc())?;
     let whole = "zh-Hans-CN\tM\nde-Latn-DE\tM\n";
     for room in 0..30 {
-        let mut reader = PartReader {
-            bytes: b"zh-CN\nde\n",
-            at_once: 6,
-            by_lines: false,
-            fails: false,
-        };
+        let mut reader = PartReader::new(b"zh-CN\nde\n", 6, false);
         let mut writer = ByteWriter {
             bytes: Vec::new(rt.alloc()),
             room,
@@ -227,12 +221,7 @@ fn a_flush_before_each_read(rt: HostRuntime) -> Result<(), Fail> {
         (1, "zh-Hans-CN\tM\n"),
         (2, "zh-Hans-CN\tM\nde-Latn-DE\tM\n"),
     ] {
-        let mut reader = PartReader {
-            bytes: b"zh-CN\nde\n",
-            at_once: 0,
-            by_lines: true,
-            fails: false,
-        };
+        let mut reader = PartReader::new(b"zh-CN\nde\n", 0, false);
         let mut writer = ByteWriter {
             bytes: Vec::new(rt.alloc()),
             room: 99,
@@ -257,5 +246,80 @@ fn words_of_a_stream(rt: HostRuntime) -> Result<(), Fail> {
     words.push(String::from_str(rt.alloc(), "jsn")?)?;
     let ended = stream_words(rt.alloc(), &words, &mut input, &mut written);
     assert!(rt; ended == Err(CliError::Usage));
+    Ok(())
+}
+
+// Words, a whole first line behind which every read fails, what is written, and how it ends.
+const FIRST_LINES: [(&str, &str, &str, &str); 5] = [
+    ("maximize json", "{}\n", "", "data: IdentifierNotFound"),
+    ("negotiate json", "{}\n", "", "data: IdentifierNotFound"),
+    ("settled json", "{}\n", "", "data: IdentifierNotFound"),
+    ("settled json", "{\"colour\":1}\n", "", "tables: Shape"),
+    (
+        "settled json",
+        "{\"likely_language\":{\"und\":[\"en\",\"Latn\",\"US\"]},\"likely_script_region\":{}}\n",
+        "yes\n",
+        "0",
+    ),
+];
+
+#[test]
+fn tables_are_loaded_when_the_first_line_has_come(rt: HostRuntime) -> Result<(), Fail> {
+    let tables = sample(rt.alloc())?;
+    for (words, line, output, status) in &FIRST_LINES {
+        for at_once in [0, 1, 4096] {
+            let mut reader = PartReader::new(line.as_bytes(), at_once, true);
+            let mut written = Vec::new(rt.alloc());
+            let ended = streamed(rt.alloc(), &tables, words, &mut reader, &mut written)?;
+            assert_eq!(rt; written.as_slice(), output.as_bytes(), "at {words}");
+            assert_eq!(rt; told(rt.alloc(), ended)?.as_str(), *status, "at {words}");
+        }
+    }
+    Ok(())
+}
+
+// So many lines, streamed by a reader, and how often it was read.
+fn many_lines(rt: &impl Abort, alloc: Global, count: usize, at_once: usize) -> Result<usize, Fail> {
+    let tables = sample(alloc)?;
+    let mut input = String::new(alloc);
+    for _ in 0..count {
+        input.push_str("en\n")?;
+    }
+    let mut reader = PartReader::new(input.as_bytes(), at_once, false);
+    let mut written = Vec::new(alloc);
+    let ended = stream(alloc, &MAXIMIZE, &tables, &mut reader, &mut written);
+    assert!(rt; ended == Ok(Status::Accepted));
+    assert!(rt; written.len() == "en-Latn-US\tM\n".len().saturating_mul(count));
+    Ok(reader.reads)
+}
+
+#[test]
+fn a_stream_that_is_kept_for_long(rt: HostRuntime) -> Result<(), Fail> {
+    assert!(rt; many_lines(&rt, rt.alloc(), 200_000, 0)? == 200_001);
+    Ok(())
+}
+
+// 120,000 bytes come in eight reads and an end.
+#[test]
+fn much_is_read_at_once(rt: HostRuntime) -> Result<(), Fail> {
+    assert!(rt; many_lines(&rt, rt.alloc(), 40_000, 1_000_000)? == 9);
+    Ok(())
+}
+
+// Where the work and the last flush both fail, the failed flush is told.
+#[test]
+fn a_failed_flush_behind_a_failed_read(rt: HostRuntime) -> Result<(), Fail> {
+    let mut words = Vec::new(rt.alloc());
+    words.push(String::from_str(rt.alloc(), "maximize")?)?;
+    for (flushes, wanted) in [(2, CliError::Write), (3, CliError::Read)] {
+        let mut reader = PartReader::new(b"zh-CN", 0, true);
+        let writer = ByteWriter {
+            bytes: Vec::new(rt.alloc()),
+            room: 99,
+            flushes,
+        };
+        let ended = stream_words(rt.alloc(), &words, &mut reader, writer);
+        assert!(rt; ended == Err(wanted));
+    }
     Ok(())
 }

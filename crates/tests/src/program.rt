@@ -54,6 +54,8 @@ settled json | {"likely_language":{"und":["en","Latn","US"],"language":{"xx":["Z
 settled json | {"likely_language":{"und":["en","Latn","US"]},"likely_script_region":{}}\n | yes\n | 0
 negotiate json | {}\nen\n | | data: IdentifierNotFound
 negotiate json | {"likely_language":{"und":["en","Latn","US"],"language":{"xx":["Zzzz","DE"]}},"likely_script_region":{}}\n | | tables not settled
+negotiate json | {}\nen-\nen\n | | data: IdentifierNotFound
+negotiate json | {"likely_language":{"und":["en","Latn","US"],"language":{"xx":["Zzzz","DE"]}},"likely_script_region":{}}\nen-\nen\n | | tables not settled
 negotiate json | {"likely_language":{"und":["en","Latn","US"]},"likely_script_region":{}}\nde en-Latn-US\nfr und-US\n | 1\ten-Latn-US\n | 0
 maximize json | {"likely_language":{"und":["en","Latn","US"]},"likely_script_region":{},"likely_extended":{"language":{"az":["Latn","AZ"]}},"aliases":{"language_len2":{"aa":"bb","bb":"aa"}},"direction":{"ltr":["Latn"]}}\naz\naa\n | az-Latn-AZ\tM\naa\tU\n | 0
 minimize json | {"likely_language":{"und":["en","Latn","US"]},"likely_script_region":{},"likely_extended":{"language":{"az":["Latn","AZ"]}},"aliases":{"language_len2":{"aa":"bb","bb":"aa"}},"direction":{"ltr":["Latn"]}}\naz\naa\n | az\tU\naa\tU\n | 0

@@ -1,8 +1,9 @@
 //! A provider that refuses some loads.
-ghost use Rattle.std.specs.Prelude.{◌≡◌, Err, if◌then◌else◌, true};
+ghost use Rattle.std.specs.Prelude.{◌≡◌, Err, if◌then◌else◌, true, ◌&&◌};
 ghost use Rattle.std.specs.Option.{option_map, unwrap_or};
 ghost use Rattle.icu_locale_core.specs.Maps.{value_at};
 ghost use Rattle.icu_provider.specs.Requests.{exemplar_cmp, locale_cmp, menu_cmp};
+ghost use Rattle.icu_provider.specs.contracts.names.NameKeyPartialEq.TheImpl as name_key;
 ghost use Rattle.icu_provider.specs.contracts.names.NameMarkerPartialEq.TheImpl as name_marker;
 ghost use Rattle.icu_tables.specs.Tables.{held, name_in};
 
@@ -26,18 +27,39 @@ pub struct Refusing<'t> {
     pub exemplars: Option<DataError>,
     pub names: Option<DataError>,
     pub names_at: Option<NameMarker>,
+    pub names_of: Option<NameKey>,
     pub menus: Option<DataError>,
     pub essentials: Option<DataError>,
 }
 
 impl Refusing<'_> {
-    // Whether the names of a marker are among those that may be refused: of one marker, or of each.
-    fn refuses_name(&self, marker: NameMarker) -> bool
+    // Whether a name is among those that may be refused.
+    fn refuses_name(&self, marker: NameMarker, key: &NameKey) -> bool
+        ensures { result ≡ (unwrap_or (option_map (λ at. name_marker.ghosts.eq at marker)
+            self.now.names_at) true && unwrap_or (option_map (λ of. name_key.ghosts.eq of key.now)
+            self.now.names_of) true) }
+    {
+        self.refuses_marker(marker) && self.refuses_key(key)
+    }
+
+    // The names of one marker, or of each.
+    fn refuses_marker(&self, marker: NameMarker) -> bool
         ensures { result ≡ unwrap_or (option_map (λ at. name_marker.ghosts.eq at marker)
             self.now.names_at) true }
     {
         match self.names_at {
             Some(at) => at == marker,
+            None => true,
+        }
+    }
+
+    // The names of one key, or of each.
+    fn refuses_key(&self, key: &NameKey) -> bool
+        ensures { result ≡ unwrap_or (option_map (λ of. name_key.ghosts.eq of key.now)
+            self.now.names_of) true }
+    {
+        match self.names_of {
+            Some(of) => of == *key,
             None => true,
         }
     }
@@ -64,6 +86,7 @@ impl DataProvider for Refusing<'_> {
 
     ghost name = { λ p marker locale key.
         if unwrap_or (option_map (λ at. name_marker.ghosts.eq at marker) p.names_at) true
+        && unwrap_or (option_map (λ of. name_key.ghosts.eq of key) p.names_of) true
         then unwrap_or (option_map (λ e. Err e) p.names)
         (held (name_in p.tables.now.names marker locale key))
         else held (name_in p.tables.now.names marker locale key) };
@@ -127,7 +150,7 @@ impl DataProvider for Refusing<'_> {
         key: NameKey,
     ) -> Result<&str, DataError> {
         match self.names {
-            Some(refusal) if self.refuses_name(marker) => Err(refusal),
+            Some(refusal) if self.refuses_name(marker, &key) => Err(refusal),
             _ => self.tables.load_name(marker, locale, key),
         }
     }
@@ -174,6 +197,7 @@ pub fn willing(tables: &Tables) -> Refusing<'_> {
         exemplars: None,
         names: None,
         names_at: None,
+        names_of: None,
         menus: None,
         essentials: None,
     }

@@ -2,12 +2,12 @@
 use crate::languages::{RAW, english, named, patterns};
 use crate::memory::budget::{Answered, Call, HeldWriter, by_budget, take_all};
 use crate::refusing::{refusal, willing};
-use icu_locale_core::LanguageIdentifier;
+use icu_locale_core::{LanguageIdentifier, Variant};
 use icu_locale_lines::sample;
 use icu_locale_names::{
     DisplayNamesPreferences, LanguageIdentifierDisplayNameBorrowed, NameChain, NameWriteError,
 };
-use icu_provider::{DataError, DataErrorKind, NameMarker};
+use icu_provider::{DataError, DataErrorKind, NameKey, NameMarker};
 use icu_tables::Tables;
 use std::alloc::Global;
 use std::test::Fail;
@@ -30,23 +30,36 @@ fn without_memory(
 }
 
 #[test]
-fn memory_lacks_only_where_no_part_is_refused(rt: HostRuntime) -> Result<(), Fail> {
+fn memory_lacks_behind_the_region_and_before_the_variants(rt: HostRuntime) -> Result<(), Fail> {
     let tables = patterns(rt.alloc())?;
-    let two = LanguageIdentifier::try_from_str(rt.alloc(), "it-Latn-US-fonipa-posix")?;
+    let two = LanguageIdentifier::try_from_str(rt.alloc(), "it-fonipa-posix")?;
+    let behind_a_region = LanguageIdentifier::try_from_str(rt.alloc(), "it-US-fonipa-posix")?;
     let one = LanguageIdentifier::try_from_str(rt.alloc(), "it-Latn-US-fonipa")?;
+    let custom = refusal(DataErrorKind::Custom);
+    let memory = refusal(DataErrorKind::Memory);
     let region = NameMarker::RegionMediumLight;
     let variant = NameMarker::VariantMediumHeavy;
     let short = NameMarker::RegionShortTiny;
-    assert!(rt;
-        without_memory(rt.alloc(), &tables, &two, region)? == refusal(DataErrorKind::Custom)
-    );
-    assert!(rt;
-        without_memory(rt.alloc(), &tables, &two, variant)? == refusal(DataErrorKind::Custom)
-    );
-    assert!(rt;
-        without_memory(rt.alloc(), &tables, &two, short)? == refusal(DataErrorKind::Memory)
-    );
+    assert!(rt; without_memory(rt.alloc(), &tables, &behind_a_region, region)? == custom);
+    assert!(rt; without_memory(rt.alloc(), &tables, &two, variant)? == memory);
+    assert!(rt; without_memory(rt.alloc(), &tables, &two, short)? == memory);
+    assert!(rt; without_memory(rt.alloc(), &tables, &one, variant)? == custom);
     assert!(rt; without_memory(rt.alloc(), &tables, &one, short)?.is_none());
+    Ok(())
+}
+
+// What a name answers where there is memory, and the name of one variant is refused.
+#[test]
+fn a_refused_variant_is_no_want_of_memory(rt: HostRuntime) -> Result<(), Fail> {
+    let tables = patterns(rt.alloc())?;
+    let two = LanguageIdentifier::try_from_str(rt.alloc(), "it-fonipa-posix")?;
+    for variant in ["fonipa", "posix"] {
+        let mut provider = willing(&tables);
+        provider.names = refusal(DataErrorKind::Custom);
+        provider.names_of = Some(NameKey::Variant(Variant::try_from_str(variant)?));
+        let refused = named(rt.alloc(), &provider, english()?, &two, NameChain::Light).err();
+        assert!(rt; refused == refusal(DataErrorKind::Custom));
+    }
     Ok(())
 }
 

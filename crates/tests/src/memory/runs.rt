@@ -1,7 +1,9 @@
-//! Runs of the program: whole lines alone are written.
+//! Runs and streams of the programs: whole lines alone are written.
+use crate::line_streams::PartReader;
 use crate::memory::budget::{Answered, Call, HeldWriter, at_budget, by_budget};
 use icu_locale_lines::{
     CliError, Command, LineCommand, SAMPLE, Status, Transform, run, run_buffered, run_json, sample,
+    stream, stream_json, stream_words,
 };
 use icu_tables::Tables;
 use std::alloc::Global;
@@ -78,6 +80,66 @@ impl Call for RunJson<'_> {
     }
 }
 
+// A stream over tables, which comes by parts of so many bytes.
+#[derive(Drop)]
+struct Streamed<'r> {
+    tables: &'r Tables,
+    row: &'r (Command, &'r str, &'r str),
+    at_once: usize,
+}
+
+impl Call for Streamed<'_> {
+    fn answer(&self, alloc: Global) -> Answered {
+        let (command, input, answers) = self.row;
+        let mut writer = HeldWriter::new(128);
+        let mut reader = PartReader::new(input.as_bytes(), self.at_once, false);
+        let status = stream(alloc, command, self.tables, &mut reader, &mut writer);
+        ended(status, &writer, answers)
+    }
+}
+
+// A stream over the tables of its first line.
+#[derive(Drop)]
+struct StreamedJson<'r> {
+    command: &'r Command,
+    text: &'r str,
+    answers: &'r str,
+}
+
+impl Call for StreamedJson<'_> {
+    fn answer(&self, alloc: Global) -> Answered {
+        let mut writer = HeldWriter::new(128);
+        let mut reader = PartReader::new(self.text.as_bytes(), 7, false);
+        let status = stream_json(alloc, self.command, &mut reader, &mut writer);
+        ended(status, &writer, self.answers)
+    }
+}
+
+#[test]
+fn a_stream_writes_whole_lines(rt: HostRuntime) -> Result<(), Fail> {
+    let tables = sample(rt.alloc())?;
+    for row in &RUNS {
+        let (command, input, answers) = row;
+        for at_once in [7, 4096] {
+            let streamed = Streamed {
+                tables: &tables,
+                row,
+                at_once,
+            };
+            assert!(rt; by_budget(rt.alloc(), &streamed)?.is_good());
+        }
+        let text = format!(in rt.alloc(); "{SAMPLE}\n{input}")?;
+        let text = text.as_str();
+        let of_text = StreamedJson {
+            command,
+            text,
+            answers,
+        };
+        assert!(rt; by_budget(rt.alloc(), &of_text)?.is_good());
+    }
+    Ok(())
+}
+
 #[test]
 fn a_run_writes_whole_lines(rt: HostRuntime) -> Result<(), Fail> {
     let tables = sample(rt.alloc())?;
@@ -119,12 +181,16 @@ impl Call for BufferedRun<'_> {
             &mut reader,
             &mut writer,
         );
-        match ended {
-            Ok(Status::Refused) if writer.written() == BOTH.as_bytes() => Answered::Whole,
-            Err(CliError::Memory) if writer.written() == FIRST.as_bytes() => Answered::Partly,
-            Err(CliError::Memory) if writer.written().is_empty() => Answered::Refused,
-            _ => Answered::Wrong,
-        }
+        written_out(ended, &writer)
+    }
+}
+
+fn written_out(ended: Result<Status, CliError>, writer: &HeldWriter) -> Answered {
+    match ended {
+        Ok(Status::Refused) if writer.written() == BOTH.as_bytes() => Answered::Whole,
+        Err(CliError::Memory) if writer.written() == FIRST.as_bytes() => Answered::Partly,
+        Err(CliError::Memory) if writer.written().is_empty() => Answered::Refused,
+        _ => Answered::Wrong,
     }
 }
 
@@ -140,6 +206,44 @@ fn two_lines(alloc: Global) -> Result<String, Fail> {
     }
     text.push_str("-x\n")?;
     Ok(text)
+}
+
+// The same as a stream, whose output is kept in a buffer until more is read.
+#[derive(Drop)]
+struct BufferedStream<'r> {
+    words: &'r [String],
+    input: &'r str,
+}
+
+impl Call for BufferedStream<'_> {
+    fn answer(&self, alloc: Global) -> Answered {
+        let mut writer = HeldWriter::new(128);
+        let mut reader = self.input.as_bytes();
+        let ended = stream_words(alloc, self.words, &mut reader, &mut writer);
+        written_out(ended, &writer)
+    }
+}
+
+// At some budget all but the list of the last line's variants has room.
+#[test]
+fn a_stream_that_ends_early_writes_out_its_lines(rt: HostRuntime) -> Result<(), Fail> {
+    let mut words = Vec::new(rt.alloc());
+    words.push(String::from_str(rt.alloc(), "maximize")?)?;
+    words.push(String::from_str(rt.alloc(), "json")?)?;
+    let input = two_lines(rt.alloc())?;
+    let call = BufferedStream {
+        words: &words,
+        input: input.as_str(),
+    };
+    let mut partly = false;
+    for size in 4..20_usize {
+        let answered = at_budget(rt.alloc(), &call, size.saturating_mul(4_096))?;
+        assert!(rt; answered != Answered::Wrong);
+        partly = partly || answered == Answered::Partly;
+    }
+    assert!(rt; partly);
+    assert!(rt; call.answer(rt.alloc()) == Answered::Whole);
+    Ok(())
 }
 
 #[test]
