@@ -237,7 +237,7 @@ static void left_out(struct icu_locale *handle, struct icu_locale *other) {
     want(icu_locale_is_settled(handle) == ICU_LOCALE_TABLE, "is_settled without likely tables");
     want(open_text("{\"likely_language\":{\"und\":[\"en\",\"Latn\",\"US\"]},\"likely_script_region\":{}}", handle)
              == ICU_LOCALE_DONE, "likely tables alone");
-    answers(handle, "maximize", "en", ICU_LOCALE_ACCEPTED, "en-Latn-US\tM");
+    answers(handle, "maximize", "und-US", ICU_LOCALE_ACCEPTED, "en-Latn-US\tM");
     answers(handle, "canonicalize", "en", ICU_LOCALE_TABLE, "");
     answers(handle, "canonicalize", "en-1996-fonipa", ICU_LOCALE_TABLE, "");
     answers(handle, "direction", "en", ICU_LOCALE_TABLE, "");
