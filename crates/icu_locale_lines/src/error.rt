@@ -19,7 +19,7 @@ pub enum CliError {
     Tables(TableError),
     /// A table that the command needs cannot be loaded. Nothing was written.
     Data(DataError),
-    /// A read failed, or the input did not end. Nothing was written.
+    /// A read failed, or the input did not end. A run has written nothing, and a stream the lines that had come whole.
     Read,
     /// A write failed, or took no byte. The earlier lines were written, and a beginning of the one in hand.
     Write,
