@@ -109,7 +109,7 @@ struct StreamedJson<'r> {
 impl Call for StreamedJson<'_> {
     fn answer(&self, alloc: Global) -> Answered {
         let mut writer = HeldWriter::new(128);
-        let mut reader = PartReader::new(self.text.as_bytes(), 7, false);
+        let mut reader = PartReader::new(self.text.as_bytes(), 4096, false);
         let status = stream_json(alloc, self.command, &mut reader, &mut writer);
         ended(status, &writer, self.answers)
     }
