@@ -76,6 +76,11 @@ class Aliases:
         else:
             self.account.note(NO_REPLACEMENT if subdivision else NO_TYPE, f"{source} to {target}")
 
+    def first_region(self, region):
+        """What a region is now: the first one of several, and itself where no rule speaks of it."""
+        several = self.maps["complex_region"].get(region, [region])
+        return self.maps["region_alpha"].get(region, several[0])
+
     def close(self):
         """Closes the rules of variants under the aliases of a language alone, until none is added.
 

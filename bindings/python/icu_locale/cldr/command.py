@@ -7,6 +7,7 @@ from typing import Iterable, Optional, Union
 
 from .account import Account
 from .aliases import read_aliases
+from .completion import complete
 from .directions import directions
 from .exemplars import add_exemplars, exemplar_rows
 from .inheritance import Inheritance
@@ -42,11 +43,12 @@ def arguments(parser_type, name, words):
 
 def tables_of(common, locales, is_settled, account):
     """The tables of a file."""
-    likely = read_likely(common, account)
+    likely, aliases = read_likely(common, account), read_aliases(common, account)
+    complete(likely, aliases, common, account)
     if is_settled:
         likely.settle(account)
     tables = likely.tables() | {
-        "aliases": read_aliases(common, account).table(),
+        "aliases": aliases.table(),
         "direction": directions(common, account),
     }
     return tables | tables_of_locales(common, locales, account) if locales else tables

@@ -47,22 +47,21 @@ class Likely:
             lacking = [kind for kind in ("language", "script", "region") if kind not in own]
             self.maps[name]["-".join(own.values())] = {kind: getattr(value, kind) for kind in lacking}
 
-    def first_language(self, script, region):
-        """The language that the first key of a script and a region gives, the triple's rows too."""
-        if found := self.maps["script_region"].get(f"{script}-{region}"):
-            return found["language"]
-        if (script, region) == (self.und.script, self.und.region):
-            return self.und.language
-        if found := self.maps["script"].get(script):
-            return found["language"]
-        return self.und.language if script == self.und.script else None
+    def served(self):
+        """The maps without a language as the program asks them: where they have no row, the triple of `und` serves."""
+        language, script, region = self.und[:3]
+        return {
+            "script_region": {f"{script}-{region}": {"language": language}} | self.maps["script_region"],
+            "script": {script: {"language": language, "region": region}} | self.maps["script"],
+            "region": {region: {"language": language, "script": script}} | self.maps["region"],
+        }
 
     def leads_on(self, name, key, value):
         """A row gives no language, and maximizing what it gives finds one."""
         if name not in ("script", "region") or value["language"] != UNKNOWN_LANGUAGE:
             return False
         script, region = (key, value["region"]) if name == "script" else (value["script"], key)
-        return self.first_language(script, region) not in (None, UNKNOWN_LANGUAGE)
+        return first_row(self.served(), script, region)["language"] != UNKNOWN_LANGUAGE
 
     def unsettled_rows(self):
         """The rows that keep the table from being settled: those that give a placeholder, and those that lead on."""
@@ -84,6 +83,12 @@ class Likely:
             "likely_language": {"und": list(self.und[:3])} | {name: shown[name] for name in BY_LANGUAGE},
             "likely_script_region": {name: shown[name] for name in BY_SCRIPT_REGION},
         }
+
+
+def first_row(maps, script, region):
+    """The row of the first key that a script and a region have in some maps, or None. Either may be None."""
+    keys = {"script_region": f"{script}-{region}", "script": script, "region": region}
+    return next((maps[name][key] for name, key in keys.items() if key in maps[name]), None)
 
 
 def values(row):

@@ -33,8 +33,11 @@ class Common:
         except ElementTree.ParseError as fault:
             raise NoCldr(f"{self.folder / name} is no XML: {fault}") from fault
 
+    def has(self, name):
+        return (self.folder / name).is_file()
+
     def has_locale(self, name):
-        return (self.folder / "main" / f"{name}.xml").is_file()
+        return self.has(f"main/{name}.xml")
 
     def locale(self, name):
         """The file of a locale, by its name in CLDR."""
