@@ -1,15 +1,18 @@
 """How the cost of a line grows with the lines and with the rows of tables, and memory with the input."""
+from statistics import median
+
 from .inputs import joined, made_lines, made_tables, repeated
-from .programs import cost_of, has_valgrind
-from .speed import instructions, nanoseconds, shown
+from .measure import in_rounds
+from .programs import cost_of, counts_of, has_valgrind
+from .speed import INSTRUCTIONS, TIME
 
 LINES = [1_000, 10_000, 100_000]
 ROWS = [100, 1_000, 8_000]
 COMMANDS = ["maximize", "minimize", "canonicalize", "name"]
 MEGABYTE = 1_000_000
-# Short runs are timed more often, and runs of fewer lines not at all: what they take beside their lines is more.
-SHORT_TURNS = 10
+# Runs of fewer lines are not timed: what they take beside their lines is more.
 TIMED = 10_000
+ROUNDS = 10
 
 
 def costs(program, work, command, rows, count):
@@ -17,15 +20,14 @@ def costs(program, work, command, rows, count):
     tables = made_tables(work / "made.json", rows)
     both = joined(work / "made", tables, made_lines(work / "made-lines", rows, count))
     runs = [(program, command, path) for path in (both, tables)]
-    counted = shown(difference(instructions(runs), count) if has_valgrind() else None)
-    if count < TIMED:
-        return counted
-    return f"{counted} | {shown(difference(nanoseconds(runs, turns=SHORT_TURNS), count))}"
+    counted = a_line(runs, counts_of, 1, INSTRUCTIONS, count) if has_valgrind() else "–"
+    return counted if count < TIMED else f"{counted} | {a_line(runs, cost_of, ROUNDS, TIME, count)}"
 
 
-def difference(measured, count):
-    whole, part = measured
-    return (whole - part) / count
+def a_line(runs, cost, rounds, unit, count):
+    """What each of so many lines costs: a run with them beyond one without, as the median of some rounds."""
+    found = zip(*in_rounds(runs, cost, rounds))
+    return f"{median(unit.of(whole) - unit.of(part) for whole, part in found) / count:,.0f}"
 
 
 def table(program, work, counts, what, sizes):

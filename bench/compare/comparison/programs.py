@@ -40,6 +40,7 @@ class Program:
     commands: list
     takes_tables: bool = False
     is_counted: bool = True
+    is_slow: bool = False
     name_word: str = "name"
 
     def run_words(self, command, locale=NAMED_IN):
@@ -56,6 +57,14 @@ class Cost:
 
     seconds: float
     memory: int
+
+
+@dataclass
+class Counts:
+    """What was counted of a run."""
+
+    instructions: int
+    mispredicted: int
 
 
 def need(found, package):
@@ -89,12 +98,22 @@ def this_program():
     return Program("this program", [str(path)], COMMANDS, takes_tables=True)
 
 
+def built(work, name):
+    """A program of plain Rust in a folder beside this one, built: its path."""
+    path = work / name
+    subprocess.run(["rustc", "--edition", "2024", "-O", "-o", path, HERE / name / "main.rs"], check=True)
+    return str(path)
+
+
 def plain_program(work):
-    """The plain Rust program, built."""
-    path = work / "plain"
-    source = HERE / "plain" / "main.rs"
-    subprocess.run(["rustc", "--edition", "2024", "-O", "-o", path, source], check=True)
-    return Program("plain Rust", [str(path)], COMMANDS, takes_tables=True)
+    """The plain Rust program."""
+    return Program("plain Rust", [built(work, "plain")], COMMANDS, takes_tables=True)
+
+
+def floor_program(work):
+    """Plain Rust over subtags that are packed into numbers."""
+    commands = ["maximize", "minimize", "minimize-script", "direction"]
+    return Program("the floor", [built(work, "floor")], commands, takes_tables=True)
 
 
 def by_arrays(plain):
@@ -108,8 +127,8 @@ def icu_programs(work):
     words = ["g++", "-std=c++17", "-O2", "-o", path, HERE / "icu.cpp", "-licuuc", "-licui18n"]
     subprocess.run(words, check=True)
     commands = [command for command in COMMANDS if command != "minimize-script"]
-    by_tags = Program("ICU4C", [str(path)], commands)
-    return by_tags, Program("ICU4C, own form", [str(path), "own"], commands)
+    by_tags = Program("ICU4C", [str(path)], commands, is_slow=True)
+    return by_tags, Program("ICU4C, own form", [str(path), "own"], commands, is_slow=True)
 
 
 def node_program():
@@ -117,7 +136,7 @@ def node_program():
     if not shutil.which("node"):
         return None
     commands = [command for command in COMMANDS if command not in ("minimize-script", "negotiate")]
-    return Program("Node.js", ["node", str(HERE / "intl.mjs")], commands, is_counted=False)
+    return Program("Node.js", ["node", str(HERE / "intl.mjs")], commands, is_counted=False, is_slow=True)
 
 
 def langid_program(work):
@@ -143,7 +162,7 @@ def golang_program(work):
     paths = {"GO111MODULE": "off", "GOPATH": str(GO_SOURCES), "GOCACHE": str(work / "golang-cache"), "GOFLAGS": ""}
     words = ["go", "build", "-o", path, HERE / "golang" / "main.go"]
     subprocess.run(words, env={**os.environ, **paths}, check=True)
-    return Program("Go", [str(path)], ["canonicalize", "negotiate", "name"], is_counted=False)
+    return Program("Go", [str(path)], ["canonicalize", "negotiate", "name"], is_counted=False, is_slow=True)
 
 
 def output_of(program, command, path, locale=NAMED_IN):
@@ -172,12 +191,14 @@ def cost_of(program, command, path):
     return Cost(float(seconds), int(memory))
 
 
-def instructions_of(program, command, path):
-    """The instructions of a run, as valgrind counts them."""
-    words = ["valgrind", "--tool=callgrind", "--callgrind-out-file=/dev/null", *program.run_words(command)]
+def counts_of(program, command, path):
+    """The instructions of a run, and how many branches were mispredicted, as valgrind counts them."""
+    words = ["valgrind", "--tool=cachegrind", "--cachegrind-out-file=/dev/null", "--cache-sim=no", "--branch-sim=yes"]
     with open(path, "rb") as stdin:
-        ran = subprocess.run(words, stdin=stdin, stdout=subprocess.DEVNULL, stderr=subprocess.PIPE, text=True)
-    return int(re.search(r"Collected : (\d+)", ran.stderr)[1])
+        ran = subprocess.run([*words, *program.run_words(command)], stdin=stdin, stdout=subprocess.DEVNULL,
+                             stderr=subprocess.PIPE, text=True)
+    found = (re.search(rf"{name}: +([0-9,]+)", ran.stderr) for name in ("I +refs", "Mispredicts"))
+    return Counts(*(int(number[1].replace(",", "")) for number in found))
 
 
 def first_line_of(words):
