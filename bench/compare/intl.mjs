@@ -3,7 +3,8 @@
 //     node intl.mjs COMMAND [LOCALE]
 //
 // The commands are those of icu_locale_cli, as far as Intl has them: maximize, minimize, canonicalize, direction and
-// `name LOCALE`. `versions` says what is asked.
+// `name LOCALE`. `languages`, `scripts` and `regions` write the subtags that Intl names in English and does not replace.
+// `versions` says what is asked.
 import { readFileSync, writeSync } from "node:fs";
 
 const REFUSED = "?";
@@ -43,6 +44,26 @@ function answers(command, locale) {
   }
 }
 
+const LETTERS = [..."abcdefghijklmnopqrstuvwxyz"];
+const DIGITS = [..."0123456789"];
+
+// Every text of so many signs.
+function texts(signs, length) {
+  return length === 0 ? [""] : texts(signs, length - 1).flatMap((text) => signs.map((sign) => text + sign));
+}
+
+// What a kind of subtag may be, in its written form, and what stands before it in an identifier.
+const KINDS = {
+  languages: { type: "language", before: "", all: () => [...texts(LETTERS, 2), ...texts(LETTERS, 3)] },
+  scripts: { type: "script", before: "und-", all: () => texts(LETTERS, 4).map((text) => text[0].toUpperCase() + text.slice(1)) },
+  regions: { type: "region", before: "und-", all: () => [...texts(LETTERS, 2).map((text) => text.toUpperCase()), ...texts(DIGITS, 3)] },
+};
+
+function named({ type, before, all }) {
+  const names = new Intl.DisplayNames(["en"], { type, fallback: "none" });
+  return all().filter((subtag) => names.of(subtag) && Intl.getCanonicalLocales(before + subtag)[0] === before + subtag);
+}
+
 // A pipe takes a part of a large buffer at a time.
 function writeAll(text) {
   const bytes = Buffer.from(text);
@@ -56,6 +77,8 @@ const [command, locale] = process.argv.slice(2);
 if (command === "versions") {
   const { node, icu, cldr } = process.versions;
   console.log(`Node.js ${node} with ICU ${icu} and CLDR ${cldr}`);
+} else if (command in KINDS) {
+  writeAll(named(KINDS[command]).join("\n") + "\n");
 } else {
   const call = answers(command, locale ?? "en");
   if (call === undefined) {

@@ -1,13 +1,12 @@
 """What the program and ICU4C answer over CLDR's own lists, and why they differ where they do."""
 import json
-import re
 import subprocess
-import xml.etree.ElementTree
 from collections import Counter
-from dataclasses import dataclass, field
 
+from . import subtags
+from .asking import Comparison, answers, macro_regions, parsed, spelled, table_of_counts, table_of_kinds, with_region
 from .inputs import LOCALES
-from .programs import COMMON, Stop, output_of
+from .programs import COMMON
 
 # So many of the realistic identifiers are asked of unic-langid.
 LANGID_LINES = 20_000
@@ -30,50 +29,10 @@ KINDS = {
 LANGID_KINDS = {
     "reading": ("read by one alone",
                 "unic-langid reads a language of 5 to 8 letters, and a variant of 4 letters; here both are refused."),
-    "und": ("`und` that CLDR takes for English", "unic-langid leaves it as it is: it has no such row."),
+    "und": ("`und` that CLDR fills in", "unic-langid leaves it as it is: it has no such row."),
     "data": ("other data", "unic-langid's own maximal form of a key of the identifier is another one."),
     "unexplained": ("unexplained", ""),
 }
-
-
-@dataclass
-class Comparison:
-    """One list: how many were asked, and those that differ by kind, with both answers. Lists of a group are alike."""
-
-    title: str
-    group: str
-    asked: int = 0
-    differing: dict = field(default_factory=dict)
-
-    def add(self, kind, question, ours, theirs):
-        self.asked += 1
-        if kind is not None:
-            self.differing.setdefault(kind, []).append((question, ours, theirs))
-
-    @property
-    def agreeing(self):
-        return self.asked - sum(len(found) for found in self.differing.values())
-
-
-def parsed(name):
-    return xml.etree.ElementTree.parse(COMMON / name).getroot()
-
-
-def answers(program, command, questions, inputs, locale="en"):
-    """The answer to each identifier, without the mark behind it."""
-    path = inputs.work / "questions"
-    tables = inputs.tables.read_text() if program.takes_tables else ""
-    path.write_text(tables + "".join(f"{question}\n".replace("_", "-") for question in questions))
-    found = [line.split("\t")[0] for line in output_of(program, command, path, locale)]
-    if len(found) != len(questions):
-        raise Stop(f"{program.name} gave {len(found)} answers to {len(questions)} lines of {command}")
-    return found
-
-
-def spelled(identifier):
-    """One spelling for what ICU and CLDR spell otherwise."""
-    pieces = re.split("[-_]", identifier.lower())
-    return "-".join([pieces[0] or "und", *(piece for piece in pieces[1:] if piece)])
 
 
 def icu_rows(icu, *words):
@@ -81,16 +40,6 @@ def icu_rows(icu, *words):
     ran = subprocess.run([*icu.words, *words], capture_output=True, text=True, check=True)
     rows = (line.split("\t") for line in ran.stdout.split("\n") if line)
     return {(kind, key): text for kind, key, text in rows}
-
-
-def macro_regions():
-    """The regions that contain others."""
-    return {group.get("type") for group in parsed("supplemental/supplementalData.xml").iter("group")}
-
-
-def with_region(identifier, region):
-    """A full identifier of three subtags, with another region."""
-    return "-".join([*identifier.split("-")[:2], region])
 
 
 def read_kind(ours, theirs, own):
@@ -201,7 +150,7 @@ def langid_kind(ours, theirs, maximal):
     """Why answers differ for one question: maximal has both programs' maximal forms of its keys."""
     if "?" in (ours, theirs):
         return "reading"
-    if theirs.startswith("und-") and ours.split("-")[0] == "en":
+    if theirs.startswith("und-") and not ours.startswith("und"):
         return "und"
     return "data" if any(spelled(one) != spelled(other) for one, other in maximal) else "unexplained"
 
@@ -220,45 +169,23 @@ def compare_langid(program, langid, inputs, command, title):
     return found
 
 
-def table_of_counts(comparisons):
-    yield "| | asked | agree | differ | unexplained |"
-    yield "|---|---|---|---|---|"
-    for found in comparisons:
-        unexplained = len(found.differing.get("unexplained", []))
-        yield f"| {found.title} | {found.asked} | {found.agreeing} | {found.asked - found.agreeing} | {unexplained} |"
-
-
-def by_kind(comparisons):
-    """All that differ, by group and kind."""
-    found = {}
-    for comparison in comparisons:
-        for kind, differing in comparison.differing.items():
-            found.setdefault((comparison.group, kind), []).extend(differing)
-    return found
-
-
-def table_of_kinds(comparisons, kinds, other):
-    yield f"| where | kind of difference | how many | cause | for example: here, {other} |"
-    yield "|---|---|---|---|---|"
-    for (group, kind), differing in by_kind(comparisons).items():
-        title, cause = kinds[kind]
-        question, ours, theirs = differing[0]
-        yield f"| {group} | {title} | {len(differing)} | {cause} | `{question}`: `{ours}`, `{theirs}` |"
-
-
-def report(program, icu, own, langid, inputs):
+def report(program, icu, own, node, langid, inputs):
     """The section of answers, as lines of Markdown."""
     titles = {"maximize": "maximal forms", "minimize": "minimal forms"} if langid else {}
     by_langid = [compare_langid(program, langid, inputs, command, title) for command, title in titles.items()]
     canonical, right, whole = compare_canonical(program, icu, own, inputs)
     comparisons = [compare_maximal(program, icu, own, inputs), canonical]
     comparisons += [compare_names(program, icu, own, inputs, locale) for locale in LOCALES]
-    yield from table_of_counts(comparisons + by_langid)
+    of_subtags = list(subtags.compare(program, icu, node, inputs)) if node else []
+    yield from table_of_counts(comparisons + of_subtags + by_langid)
     yield ""
     suite = " and ".join(f"{right[name]} by {name}" for name in (program.name, icu.name))
     yield f"Of the {whole} canonical forms that the suite itself wants, {suite} are those."
     yield ""
     yield from table_of_kinds(comparisons, KINDS, "ICU4C")
+    if of_subtags:
+        yield ""
+        yield from table_of_kinds(of_subtags, subtags.KINDS, "there")
     if by_langid:
         yield ""
         yield from table_of_kinds(by_langid, LANGID_KINDS, "unic-langid")
