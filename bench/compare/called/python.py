@@ -3,6 +3,7 @@ a command, what it costs by the package of this repository, and by PyICU where t
 import sys
 import time
 from pathlib import Path
+from statistics import median
 
 sys.path.insert(0, str(Path(__file__).resolve().parents[3] / "bindings" / "python"))
 sys.dont_write_bytecode = True
@@ -17,15 +18,18 @@ except ImportError:
 TIMES = 20
 
 
-def cost(call, lines):
-    """The least of some passes, in nanoseconds a call."""
-    passes = []
-    for _ in range(TIMES):
-        begin = time.process_time_ns()
-        for line in lines:
-            call(line)
-        passes.append((time.process_time_ns() - begin) / len(lines))
-    return min(passes)
+def one_pass(call, lines):
+    """Nanoseconds a call."""
+    begin = time.process_time_ns()
+    for line in lines:
+        call(line)
+    return (time.process_time_ns() - begin) / len(lines)
+
+
+def costs(calls):
+    """The median of some passes of each call with its lines. The calls pass in turn."""
+    passes = [[one_pass(*call) for call in calls] for _ in range(TIMES)]
+    return [str(round(median(found))) for found in zip(*passes)]
 
 
 def main():
@@ -38,7 +42,7 @@ def main():
     }
     print(f"PyICU {icu.VERSION}" if icu else "-")
     for command, call in theirs.items():
-        print(command, round(cost(getattr(tables, command), lines)), round(cost(call, own)) if icu else "-")
+        print(command, *costs([(getattr(tables, command), lines), *([(call, own)] if icu else [])]), "" if icu else "-")
 
 
 if __name__ == "__main__":

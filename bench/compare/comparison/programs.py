@@ -191,14 +191,20 @@ def cost_of(program, command, path):
     return Cost(float(seconds), int(memory))
 
 
-def counts_of(program, command, path):
+def counted(words, stdin=subprocess.DEVNULL):
     """The instructions of a run, and how many branches were mispredicted, as valgrind counts them."""
-    words = ["valgrind", "--tool=cachegrind", "--cachegrind-out-file=/dev/null", "--cache-sim=no", "--branch-sim=yes"]
-    with open(path, "rb") as stdin:
-        ran = subprocess.run([*words, *program.run_words(command)], stdin=stdin, stdout=subprocess.DEVNULL,
-                             stderr=subprocess.PIPE, text=True)
+    tool = ["valgrind", "--tool=cachegrind", "--cachegrind-out-file=/dev/null", "--cache-sim=no", "--branch-sim=yes"]
+    ran = subprocess.run([*tool, *words], stdin=stdin, stdout=subprocess.DEVNULL, stderr=subprocess.PIPE, text=True)
+    if ran.returncode not in ACCEPTED:
+        raise Stop(f"{words[0]} ended with status {ran.returncode} under valgrind: {ran.stderr}")
     found = (re.search(rf"{name}: +([0-9,]+)", ran.stderr) for name in ("I +refs", "Mispredicts"))
     return Counts(*(int(number[1].replace(",", "")) for number in found))
+
+
+def counts_of(program, command, path):
+    """What is counted of a run of lines."""
+    with open(path, "rb") as stdin:
+        return counted(program.run_words(command), stdin)
 
 
 def first_line_of(words):

@@ -1,5 +1,5 @@
 """What a line costs, command by command, in each program."""
-from .measure import COUNTED, ROUNDS, Costs, Runs, Unit, fewer
+from .measure import COUNTED, Costs, Runs, Unit, fewer
 from .programs import COMMANDS, Stop, by_arrays, cost_of, counts_of, has_valgrind, write_output
 
 # The goals: at most so much of what a line costs in plain Rust, so many mispredicted branches, and so many times ahead.
@@ -91,15 +91,15 @@ def branches(costs, program, plain, others):
         yield f"| `{command}` | {MOST_MISPREDICTED.get(command, '–')} | {' | '.join(cells)} |"
 
 
-def report(program, plain, others, beside, inputs, lines):
+def report(program, plain, others, beside, inputs, lines, rounds):
     """The section of speed, as lines of Markdown. `beside` has the programs that have tables of their own."""
     beside = [*beside, by_arrays(plain)]
     for other in [plain, *(it for it in beside if it.takes_tables)]:
         for command in other.commands:
             check_equal(program, other, inputs, command, lines)
-    runs = Runs([program, plain, *beside, *others], inputs, lines, cost_of, ROUNDS)
+    runs = Runs([program, plain, *beside, *others], inputs, lines, cost_of, rounds)
     yield f"Nanoseconds of processor time a line, over {lines:,} lines, or a tenth of them for ICU4C, Node.js and Go. Each"
-    yield f"figure is the median of {ROUNDS} rounds, and so is each ratio, with its quartiles:"
+    yield f"figure is the median of {rounds} rounds, and so is each ratio, with its quartiles:"
     yield ""
     yield from section(Costs(runs, TIME), program, plain, others, beside)
     if not has_valgrind():
