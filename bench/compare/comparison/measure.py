@@ -16,12 +16,12 @@ FEWEST = 1_000
 
 @dataclass
 class Unit:
-    """What is measured: its name, what it is of a cost, how many decimals are shown, and the goals by command."""
+    """What is measured: what it is of a cost, how many decimals are shown, and the goals, by command and by program."""
 
-    name: str
     of: Callable
     decimals: int
     goals: dict
+    ahead: dict
 
 
 def fewer(lines, share):

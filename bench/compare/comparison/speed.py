@@ -2,15 +2,14 @@
 from .measure import COUNTED, Costs, Runs, Unit, fewer
 from .programs import COMMANDS, Stop, by_arrays, cost_of, counts_of, has_valgrind, write_output
 
-# The goals: at most so much of what a line costs in plain Rust, so many mispredicted branches, and so many times ahead.
-TIME = Unit("nanoseconds", lambda cost: cost.seconds * 1e9, 0,
-            {"maximize": 0.75, "minimize": 0.50, "canonicalize": 0.90, "name": 0.60})
-INSTRUCTIONS = Unit("instructions", lambda counts: counts.instructions, 0,
+# The goals: at most so much of what a line costs in plain Rust, or so many branches, and so many times ahead of others.
+AHEAD = {"ICU4C": 40, "ICU4C, own form": 40, "Node.js": 40}
+TIME = Unit(lambda cost: cost.seconds * 1e9, 0,
+            {"maximize": 0.75, "minimize": 0.50, "canonicalize": 0.90, "name": 0.60}, AHEAD | {"unic-langid": 1.35})
+INSTRUCTIONS = Unit(lambda counts: counts.instructions, 0,
                     {"maximize": 0.80, "minimize": 0.48, "minimize-script": 0.48, "canonicalize": 0.95, "direction": 0.90,
-                     "negotiate": 0.52, "name": 0.52})
-BRANCHES = Unit("mispredicted branches", lambda counts: counts.mispredicted, 1, {})
-MOST_MISPREDICTED = {"maximize": 5, "canonicalize": 7}
-AHEAD = {"ICU4C": 40, "ICU4C, own form": 40, "Node.js": 40, "unic-langid": 1.35}
+                     "negotiate": 0.52, "name": 0.52}, AHEAD)
+BRANCHES = Unit(lambda counts: counts.mispredicted, 1, {"maximize": 5, "canonicalize": 7}, {})
 
 
 def check_equal(program, other, inputs, command, lines):
@@ -67,7 +66,7 @@ def goals(costs, program, plain, others):
     reached = [command for command, found in ratios.items() if found and found[1] <= wanted[command]]
     yield f"- {program.name} beside {plain.name}: {listed(reached, wanted)}"
     for other in others:
-        least = AHEAD[other.name]
+        least = costs.unit.ahead[other.name]
         behind = {command: costs.ratio(other, program, command) for command in other.commands}
         ahead = [command for command, found in behind.items() if found and found[1] >= least]
         yield f"- {program.name} at least {least} times ahead of {other.name}: {listed(ahead, other.commands)}"
@@ -78,7 +77,7 @@ def section(costs, program, plain, others, beside):
     yield from table(costs, program, plain, others)
     for other in beside:
         yield from table_beside(costs, program, plain, other)
-    yield from goals(costs, program, plain, [it for it in (*others, *beside) if it.name in AHEAD])
+    yield from goals(costs, program, plain, [it for it in (*others, *beside) if it.name in costs.unit.ahead])
 
 
 def branches(costs, program, plain, others):
@@ -88,7 +87,7 @@ def branches(costs, program, plain, others):
     yield "|---|---|" + "---|" * (2 + len(others))
     for command in COMMANDS:
         cells = [costs.shown(it, command) for it in (program, plain, *others)]
-        yield f"| `{command}` | {MOST_MISPREDICTED.get(command, '–')} | {' | '.join(cells)} |"
+        yield f"| `{command}` | {costs.unit.goals.get(command, '–')} | {' | '.join(cells)} |"
 
 
 def report(program, plain, others, beside, inputs, lines, rounds):
