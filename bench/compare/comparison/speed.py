@@ -64,7 +64,7 @@ def goals(costs, program, plain, others):
     wanted = costs.unit.goals
     ratios = {command: costs.ratio(program, plain, command) for command in wanted}
     reached = [command for command, found in ratios.items() if found and found[1] <= wanted[command]]
-    yield f"- {program.name} beside {plain.name}: {listed(reached, wanted)}"
+    yield f"- {program.name} within its goal beside {plain.name}: {listed(reached, wanted)}"
     for other in others:
         least = costs.unit.ahead[other.name]
         behind = {command: costs.ratio(other, program, command) for command in other.commands}

@@ -1,5 +1,5 @@
 //! What the machine can do: likely subtags and directions of identifiers by line, over subtags that are packed into numbers.
-//! The words, the tables and the bytes that are written are those of `icu_locale_cli COMMAND json`.
+//! The words, the tables and the bytes that are written are those of `icu_locale_cli COMMAND json`. A line has at most 64 KB.
 #[path = "../plain/json.rs"]
 #[allow(dead_code)]
 mod json;
