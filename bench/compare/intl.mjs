@@ -52,11 +52,14 @@ function texts(signs, length) {
   return length === 0 ? [""] : texts(signs, length - 1).flatMap((text) => signs.map((sign) => text + sign));
 }
 
+const inCapitals = (text) => text.toUpperCase();
+const withCapital = (text) => inCapitals(text[0]) + text.slice(1);
+
 // What a kind of subtag may be, in its written form, and what stands before it in an identifier.
 const KINDS = {
   languages: { type: "language", before: "", all: () => [...texts(LETTERS, 2), ...texts(LETTERS, 3)] },
-  scripts: { type: "script", before: "und-", all: () => texts(LETTERS, 4).map((text) => text[0].toUpperCase() + text.slice(1)) },
-  regions: { type: "region", before: "und-", all: () => [...texts(LETTERS, 2).map((text) => text.toUpperCase()), ...texts(DIGITS, 3)] },
+  scripts: { type: "script", before: "und-", all: () => texts(LETTERS, 4).map(withCapital) },
+  regions: { type: "region", before: "und-", all: () => [...texts(LETTERS, 2).map(inCapitals), ...texts(DIGITS, 3)] },
 };
 
 function named({ type, before, all }) {

@@ -6,7 +6,8 @@ UNKNOWN = ("und", "Zzzz", "ZZ")
 # The row of `und` in CLDR, where a script stands in the place of its own.
 OF_UND = "en-{}-us"
 KINDS = {
-    "macro region": ("macro regions", "ICU4C replaces the region by that of the row; here no subtag that is given is replaced."),
+    "macro region": ("macro regions",
+                     "ICU4C replaces the region by that of the row; here no subtag that is given is replaced."),
     "no row": ("no row of the script",
                "CLDR has none, and its look-up ends at the row of `und`; here the script stays as it is."),
     "no language": ("no language", "CLDR's own row of the region names no language; here the script is `und`'s."),
