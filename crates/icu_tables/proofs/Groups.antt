@@ -37,15 +37,15 @@ module _ {G : Type 0} {by_group : G → G → Ordering} (total : IsTotalOrder by
   below_later g h [] less above = tt
   below_later g h (other ∷ groups) less above = (total.trans g h other less above.0, below_later g h groups less above.1)
 
-module _ {G K V : Type 0} (by_group : G → G → Ordering) (by_key : K → K → Ordering) where
-  -- the keys of each group still rise
-  pub each_rises-insert_entry : (groups : List (G × List (K × V))) (g : G) (rows : List (K × V)) → AllByRecursion (λ group. IsSortedMap by_key group.1) groups → IsSortedMap by_key rows → AllByRecursion (λ group. IsSortedMap by_key group.1) (insert_entry by_group groups g rows)
-  each_rises-insert_entry [] g rows each rises = (rises, tt)
-  each_rises-insert_entry (group ∷ groups) g rows each rises = by (by_group g group.0) (each_rises-insert_entry groups g rows each.1 rises)
+module _ {G K V : Type 0} (by_group : G → G → Ordering) (P : List (K × V) → Type 0) where
+  -- what holds of each group's rows still does
+  pub each-insert_entry : (groups : List (G × List (K × V))) (g : G) (rows : List (K × V)) → AllByRecursion (λ group. P group.1) groups → P rows → AllByRecursion (λ group. P group.1) (insert_entry by_group groups g rows)
+  each-insert_entry [] g rows each one = (one, tt)
+  each-insert_entry (group ∷ groups) g rows each one = by (by_group g group.0) (each-insert_entry groups g rows each.1 one)
     where
-      by : (answer : Ordering) → AllByRecursion (λ group. IsSortedMap by_key group.1) (insert_entry by_group groups g rows) → AllByRecursion (λ group. IsSortedMap by_key group.1) (match_ordering answer ((g, rows) ∷ group ∷ groups) ((group.0, rows) ∷ groups) (group ∷ insert_entry by_group groups g rows))
-      by Less later = (rises, each)
-      by Equal later = (rises, each.1)
+      by : (answer : Ordering) → AllByRecursion (λ group. P group.1) (insert_entry by_group groups g rows) → AllByRecursion (λ group. P group.1) (match_ordering answer ((g, rows) ∷ group ∷ groups) ((group.0, rows) ∷ groups) (group ∷ insert_entry by_group groups g rows))
+      by Less later = (one, each)
+      by Equal later = (one, each.1)
       by Greater later = (each.0, later)
 
 module _ {G K R V : Type 0} (whole : G → K → R) {by_group : G → G → Ordering} (by_key : K → K → Ordering) (by_whole : R → R → Ordering) (total_group : IsTotalOrder by_group) (parts : (g h : G) (k l : K) → by_whole (whole g k) (whole h l) ≡ ordering_then (by_group g h) (by_key k l)) where

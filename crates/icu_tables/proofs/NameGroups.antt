@@ -1,5 +1,5 @@
 -- Names in groups: what a look-up finds, and what a row that is put into its group does to the one list.
-use Rattle.std.proofs.Common.{◌≡◌, ℕ, ◌<◌, List, [], length, get_or, set, unwrap_or, String, Option, Some, None, option_and_then, Result, Ok, Err, IsSome, refl, sym, ap, ◌∙◌, subst}
+use Rattle.std.proofs.Common.{◌≡◌, ◌≢◌, ℕ, ◌<◌, List, [], length, get_or, set, unwrap_or, String, Option, Some, None, option_and_then, Result, Ok, Err, IsSome, refl, sym, ap, ◌∙◌, subst}
 use Rattle.std.specs.Global.{Global}
 use Rattle.std.specs.Cmp.{IsTotalOrder}
 use Rattle.std.specs.List.{insert}
@@ -9,6 +9,7 @@ use Rattle.std.specs.Ordering.{ordering_then}
 use Rattle.std.specs.declared.cmp.Ordering.TheVariants.{Equal}
 use Rattle.std.proofs.lemmas.Cmp.{on_total, then_total, tied_itself}
 use Rattle.std.proofs.lemmas.List.{set-get_or}
+use Rattle.std.proofs.lemmas.Option.{none-some}
 use Rattle.std.proofs.lemmas.List.Elements.{All-from_recursion}
 use Rattle.icu_locale_core.specs.Maps.{IsSortedMap, value_at}
 use Rattle.icu_provider.specs.SortedMaps.{Holds, Inserts, TiesEqualAlone}
@@ -23,7 +24,7 @@ use Rattle.icu_provider.specs.declared.names.NameMarker.{NameMarker}
 use Rattle.icu_provider.specs.Places.{IsAt, IsGapFor}
 use Rattle.icu_tables.specs.Groups.{NameGroup, RiseInGroups, flat_names, group_cmp, key_cmp, request_of, rows_at}
 use Rattle.icu_provider.specs.laws.SortedMaps.{IsSortedMap-insert_entry, lookup_at, lookup_in_gap, insert_entry-at, insert_entry-in_gap, inserts_from_rows}
-use Rattle.icu_tables.proofs.Groups.{each_rises-insert_entry, flat_rises, insert_entry-flat, value_at-flat}
+use Rattle.icu_tables.proofs.Groups.{each-insert_entry, flat_rises, insert_entry-flat, value_at-flat}
 
 abbrev Names : Type 0
 Names = List (NameKey × String Global)
@@ -63,10 +64,11 @@ pub names_rise : (groups : Groups) → RiseInGroups group_cmp key_cmp groups →
 names_rise groups rise = flat_rises request_of key_cmp name_cmp group_total (λ g h k l. refl) groups rise.groups_rise rise.keys_rise
 
 -- groups with the rows of one replaced still rise
-pub rise_after : (groups new : Groups) (g : NameGroup) (names : Names) → RiseInGroups group_cmp key_cmp groups → IsSortedMap key_cmp names → new ≡ insert_entry group_cmp groups g names → RiseInGroups group_cmp key_cmp new
-rise_after groups new g names rise sorted is = subst (RiseInGroups group_cmp key_cmp) (sym is) (record {
+pub rise_after : (groups new : Groups) (g : NameGroup) (names : Names) → RiseInGroups group_cmp key_cmp groups → IsSortedMap key_cmp names → names ≢ [] → new ≡ insert_entry group_cmp groups g names → RiseInGroups group_cmp key_cmp new
+rise_after groups new g names rise sorted some is = subst (RiseInGroups group_cmp key_cmp) (sym is) (record {
   groups_rise = IsSortedMap-insert_entry group_total groups g names rise.groups_rise;
-  keys_rise = each_rises-insert_entry group_cmp key_cmp groups g names rise.keys_rise sorted;
+  each_some = each-insert_entry group_cmp (λ rows. rows ≢ []) groups g names rise.each_some some;
+  keys_rise = each-insert_entry group_cmp (IsSortedMap key_cmp) groups g names rise.keys_rise sorted;
 })
 
 -- a row that is put into its group is put into the one list
@@ -85,6 +87,17 @@ sorted_after : (old names : Names) (key : NameKey) (name : String Global) (resul
 sorted_after old names key name (Ok done) sorted inserts = inserts.holds.sorted
 sorted_after old names key name (Err e) sorted inserts = subst (IsSortedMap key_cmp) (sym inserts.refuses.unchanged) sorted
 
+-- nor are they none
+some_names : (old names : Names) (key : NameKey) (name : String Global) → Inserts key_cmp old names key name (Ok tt) → names ≢ []
+some_names old names key name inserts none = absurd (none-some name (subst (λ (rows : Names). value_at key_cmp rows key ≡ Some name) none inserts.holds.found))
+
+some_after : (old names : Names) (key : NameKey) (name : String Global) (result : Result (Unit {0}) DataError) → old ≢ [] → Inserts key_cmp old names key name result → names ≢ []
+some_after old names key name (Ok done) some inserts = some_names old names key name inserts
+some_after old names key name (Err e) some inserts = subst (λ (rows : Names). rows ≢ []) (sym inserts.refuses.unchanged) some
+
+row_some : (groups : Groups) (at : ℕ) (row : NameGroup × Names) → RiseInGroups group_cmp key_cmp groups → at < length groups → row ≡ get_or groups at row → row.1 ≢ []
+row_some groups at row rise in_range here = subst (λ (r : NameGroup × Names). r.1 ≢ []) (sym here) (All-from_recursion _ _ rise.each_some at row in_range)
+
 -- a group that is there stands where the search found it
 stands : (groups : Groups) (g : NameGroup) (at : ℕ) (row : NameGroup × Names) → RiseInGroups group_cmp key_cmp groups → IsAt group_cmp groups g at → row ≡ get_or groups at row → value_at group_cmp groups g ≡ Some row.1
 stands groups g at row rise is here = lookup_at group_total groups g at row rise.groups_rise is ∙ sym (ap (λ (r : NameGroup × Names). Some r.1) here)
@@ -101,7 +114,8 @@ missing_in_gap groups g key at rise gap = name_missing groups g key rise (lookup
 pub rise_at : (groups : Groups) (g : NameGroup) (key : NameKey) (name : String Global) (at : ℕ) (row : NameGroup × Names) (names : Names) (result : Result (Unit {0}) DataError) → RiseInGroups group_cmp key_cmp groups → IsAt group_cmp groups g at → row ≡ get_or groups at row → Inserts key_cmp row.1 names key name result → RiseInGroups group_cmp key_cmp (set groups at (row.0, names))
 rise_at groups g key name at row names result rise is here inserts =
     let sorted = sorted_after row.1 names key name result (row_rises groups at row rise is.in_range here) inserts in
-    rise_after groups _ g names rise sorted (insert_entry-at group_total groups g names at row rise.groups_rise is here)
+    let some = some_after row.1 names key name result (row_some groups at row rise is.in_range here) inserts in
+    rise_after groups _ g names rise sorted some (insert_entry-at group_total groups g names at row rise.groups_rise is here)
 
 pub inserts_at : (groups : Groups) (g : NameGroup) (key : NameKey) (name : String Global) (at : ℕ) (row : NameGroup × Names) (names : Names) (result : Result (Unit {0}) DataError) → TiesEqualAlone name_cmp → RiseInGroups group_cmp key_cmp groups → IsAt group_cmp groups g at → row ≡ get_or groups at row → Inserts key_cmp row.1 names key name result → Inserts name_cmp (flat_names groups) (flat_names (set groups at (row.0, names))) (request_of g key) name result
 inserts_at groups g key name at row names (Ok done) ties rise is here inserts =
@@ -124,7 +138,7 @@ inserts_at groups g key name at row names (Err e) ties rise is here inserts =
 
 -- a new group of one row
 pub rise_in_gap : (groups : Groups) (g : NameGroup) (key : NameKey) (name : String Global) (at : ℕ) (names : Names) → RiseInGroups group_cmp key_cmp groups → IsGapFor group_cmp groups g at → Inserts key_cmp [] names key name (Ok tt) → RiseInGroups group_cmp key_cmp (insert groups at (g, names))
-rise_in_gap groups g key name at names rise gap inserts = rise_after groups _ g names rise inserts.holds.sorted (insert_entry-in_gap group_total groups g names at gap)
+rise_in_gap groups g key name at names rise gap inserts = rise_after groups _ g names rise inserts.holds.sorted (some_names [] names key name inserts) (insert_entry-in_gap group_total groups g names at gap)
 
 pub inserts_in_gap : (groups : Groups) (g : NameGroup) (key : NameKey) (name : String Global) (at : ℕ) (names : Names) → TiesEqualAlone name_cmp → RiseInGroups group_cmp key_cmp groups → IsGapFor group_cmp groups g at → Inserts key_cmp [] names key name (Ok tt) → Inserts name_cmp (flat_names groups) (flat_names (insert groups at (g, names))) (request_of g key) name (Ok tt)
 inserts_in_gap groups g key name at names ties rise gap inserts =
@@ -140,4 +154,4 @@ inserts_in_gap groups g key name at names ties rise gap inserts =
 -- no groups
 pub rise_where_none : (groups : Groups) → groups ≡ [] → RiseInGroups group_cmp key_cmp groups
 unfolding IsStrictlySortedBy
-rise_where_none groups is = subst (RiseInGroups group_cmp key_cmp) (sym is) (record { groups_rise = tt; keys_rise = tt })
+rise_where_none groups is = subst (RiseInGroups group_cmp key_cmp) (sym is) (record { groups_rise = tt; each_some = tt; keys_rise = tt })
