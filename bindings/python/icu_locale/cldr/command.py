@@ -10,6 +10,7 @@ from .aliases import read_aliases
 from .completion import complete
 from .directions import directions
 from .exemplars import add_exemplars, exemplar_rows
+from .further import further_forms
 from .inheritance import Inheritance
 from .likely import read_likely
 from .names import Names, name_rows, note_others
@@ -23,7 +24,10 @@ LOCALE its names, its names in menus, the patterns that put them together, and i
 says what is left out and why: a reason, how many there are, and their names.
 
 The program looks up what it is asked and falls back from no locale to another. So what a locale inherits in CLDR,
-from its parents up to `root`, is written as its own."""
+from its parents up to `root`, is written as its own.
+
+With --further it writes no tables, but the further forms by which a request may be served: as JSON on one line, an
+object with a list for each request that has some. The packages for Python and Node.js take it where they serve readers."""
 EPILOG = """\
 status: 0, or 2 where the words are wrong, or where the folder or a locale is not there
 example: ({name} /usr/share/unicode/cldr/common en; echo zh-TW) | ./icu_locale_cli name light en json"""
@@ -35,10 +39,15 @@ def arguments(parser_type, name, words):
                          formatter_class=argparse.RawDescriptionHelpFormatter)
     parser.add_argument("--settled", action="store_true",
                         help="leave out the likely subtags that keep the table from being settled")
+    parser.add_argument("--further", action="store_true",
+                        help="write the further forms of requests instead of tables; there is no LOCALE then")
     parser.add_argument("common", metavar="COMMON",
                         help="CLDR's folder `common`, such as /usr/share/unicode/cldr/common of unicode-cldr-core")
     parser.add_argument("locales", metavar="LOCALE", nargs="*", help="a locale of CLDR, such as en or zh-Hant-HK")
-    return parser.parse_args(words)
+    chosen = parser.parse_args(words)
+    if chosen.further and (chosen.locales or chosen.settled):
+        parser.error("--further goes with no LOCALE and not with --settled")
+    return chosen
 
 
 def tables_of(common, locales, is_settled, account):
@@ -68,7 +77,7 @@ def tables_of_locales(common, locales, account):
 
 
 def on_one_line(tables):
-    """The JSON text of tables, as bytes."""
+    """The JSON text of tables or of further forms, as bytes."""
     return json.dumps(tables, ensure_ascii=False, separators=(",", ":")).encode()
 
 
@@ -91,7 +100,10 @@ def main(parser_type, name, words):
     """Runs the command, and answers its status."""
     chosen, account = arguments(parser_type, name, words), Account()
     try:
-        text = json_of(chosen.common, chosen.locales, chosen.settled, account)
+        if chosen.further:
+            text = on_one_line(further_forms(Common(chosen.common), account))
+        else:
+            text = json_of(chosen.common, chosen.locales, chosen.settled, account)
     except NoCldr as fault:
         print(f"cldr-tables: {fault}", file=sys.stderr)
         return 2
