@@ -18,6 +18,7 @@ leaves it, and then where the system looks for libraries. It is loaded where it 
 """
 from ._accept import Headers
 from ._calls import version
+from ._forms import Further
 from ._negotiator import Match, Negotiator
 from ._refusals import (Closed, InvalidLanguage, InvalidList, InvalidSubtag, LineRefused, MemoryRefused, NameMissing, NoCldr,
                         NoCommand, NoFixedPoint, NoJson, NoList, NoSubdivisionFixedPoint, NoTables, NotSettled, Refused,
@@ -25,7 +26,7 @@ from ._refusals import (Closed, InvalidLanguage, InvalidList, InvalidSubtag, Lin
 from ._switcher import Switcher
 from ._tables import Canonical, Direction, Tables
 
-__all__ = ["Tables", "Negotiator", "Switcher", "Match", "Canonical", "Direction", "Headers", "Text", "Refused", "Closed",
+__all__ = ["Tables", "Negotiator", "Switcher", "Match", "Canonical", "Direction", "Headers", "Further", "Text", "Refused", "Closed",
            "MemoryRefused", "NoJson", "NoTables", "NoCommand", "TableMissing", "NoList", "InvalidList", "NotSettled", "NoCldr",
            "LineRefused", "InvalidLanguage", "InvalidSubtag", "NoFixedPoint", "NoSubdivisionFixedPoint", "NameMissing"]
 

@@ -1,13 +1,13 @@
 """What is served to a reader, by the headers of a request."""
 import re
-from typing import List, Optional, Tuple
+from typing import Optional, Tuple
 
 from ._accept import Headers, read_headers
+from ._forms import Forms, Further
 from ._held import NoCopies
 from ._negotiator import Negotiator
 from ._refusals import LineRefused, Text
 
-VARIANT = re.compile(r"[A-Za-z0-9]{5,8}|[0-9][A-Za-z0-9]{3}")
 EXTENSIONS = re.compile(r"[-_][A-Za-z0-9][-_].*", re.DOTALL)
 
 
@@ -19,7 +19,7 @@ def without_extensions(tag: str) -> str:
 class Switcher(NoCopies):
     """What is available, by `Tables.switcher`, and which of it is served. Any number of threads may use it at once.
 
-    It never serves another language or another script than a tag asks for, but for `*`.
+    It never serves another script than a tag asks for, but for `*`, and another language only where `further` says so.
 
     >>> from icu_locale.example import TABLES
     >>> switcher = Tables.from_json(TABLES).switcher(["en", "zh-Hant", "sr_latn"])
@@ -27,9 +27,10 @@ class Switcher(NoCopies):
     ('sr_latn', 'zh-Hant', None)
     """
 
-    def __init__(self, negotiator: Negotiator, available: Tuple[Text, ...]) -> None:
+    def __init__(self, negotiator: Negotiator, available: Tuple[Text, ...], further: Optional[Further] = None) -> None:
         """`negotiator` holds the canonical forms of what is available; `Tables.switcher` makes both."""
-        self._negotiator, self._available = negotiator, available
+        self._negotiator, self._available, self._further = negotiator, available, further
+        self._forms = Forms(self._told, further)
 
     @property
     def available(self) -> Tuple[Text, ...]:
@@ -49,13 +50,17 @@ class Switcher(NoCopies):
                 return self._available[place]
         return None
 
+    def is_over(self, available: Tuple[Text, ...], further: Optional[Further]) -> bool:
+        """Whether it was made with these identifiers, and with this very object of further forms."""
+        return self._available == available and self._further is further
+
     def close(self) -> None:
         """Lets the list and the tables go. A second call does nothing."""
         self._negotiator.close()
 
     def _met(self, tag: str) -> Optional[int]:
         canonical = self._canonical(tag)
-        match = self._negotiator.negotiate(self._forms(canonical)) if canonical else None
+        match = self._negotiator.negotiate(self._forms.of(canonical)) if canonical else None
         return match.available if match else None
 
     def _canonical(self, tag: str) -> Optional[str]:
@@ -65,18 +70,8 @@ class Switcher(NoCopies):
         except LineRefused:
             return None
 
-    def _told(self, command: str, identifier: str) -> str:
+    def _told(self, command: str, identifier: Text) -> str:
         return self._negotiator.answer(command, identifier).partition("\t")[0]
-
-    def _forms(self, canonical: str) -> List[str]:
-        """What may be served for a request, the best first: itself, itself without variants, and the language and the
-        script of its maximal form. Each has the language and the script that the request means."""
-        language, *others = canonical.split("-")
-        plain = "-".join([language, *(each for each in others if not VARIANT.fullmatch(each))])
-        language, *others = self._told("maximize", plain).split("-")
-        script = [each for each in others if len(each) == 4 and each.isalpha()]
-        wide = [f"{language}-{script[0]}"] if script and language != "und" else []
-        return [canonical, plain, *wide]
 
     def _first_but(self, refused: Tuple[str, ...]) -> Optional[int]:
         """The first of what is available that no refused tag is the beginning of."""

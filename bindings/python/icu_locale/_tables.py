@@ -3,6 +3,7 @@ from os import PathLike
 from typing import Iterable, Literal, NamedTuple, Optional, Union
 
 from ._accept import Headers
+from ._forms import Further
 from ._held import Held
 from ._negotiator import Negotiator, line_of, listed
 from ._refusals import (InvalidLanguage, InvalidList, InvalidSubtag, NameMissing, Text, as_bytes, line_refusal,
@@ -108,12 +109,17 @@ class Tables(Held):
         made._is_open = True
         return made
 
-    def switcher(self, available: Iterable[Text]) -> Switcher:
-        """What serves a reader by the headers Accept-Language of a request. It holds these tables too.
+    def switcher(self, available: Iterable[Text], *, further: Optional[Further] = None) -> Switcher:
+        """What serves a reader by the headers Accept-Language of a request. It holds these tables too. `further` has further
+        forms of requests: locales of the same language for a locale, and other languages for a language.
 
         >>> from icu_locale.example import TABLES
-        >>> switcher = Tables.from_json(TABLES).switcher(["en", "zh-Hant"])
+        >>> tables = Tables.from_json(TABLES)
+        >>> switcher = tables.switcher(["en", "zh-Hant"])
         >>> switcher.serve("fr, zh-TW;q=0.5"), switcher.serve("fr")
+        ('zh-Hant', None)
+        >>> switcher = tables.switcher(["en", "zh-Hant"], further={"yue": ["zh"]})
+        >>> switcher.serve("yue, en;q=0.5"), switcher.serve("yue-Hans")
         ('zh-Hant', None)
         """
         found, canonical = listed(available), []
@@ -122,11 +128,12 @@ class Tables(Held):
                 canonical.append(self.canonicalize(without_extensions(as_bytes(tag).decode(errors="replace"))))
             except (InvalidLanguage, InvalidSubtag):
                 raise list_refusal(place, tag) from None
-        return Switcher(self.negotiator(canonical), found)
+        return Switcher(self.negotiator(canonical), found, further)
 
-    def serve(self, headers: Headers, available: Iterable[Text]) -> Optional[Text]:
+    def serve(self, headers: Headers, available: Iterable[Text], *, further: Optional[Further] = None) -> Optional[Text]:
         """What is served of the available identifiers, in their own spelling, for the headers Accept-Language of a request:
-        one, or several. None where nothing is met. What was last available is kept, so that it is read once.
+        one, or several. None where nothing is met. `further` is as `switcher` has it. What was last available is kept with
+        the object of further forms, so that both are read once.
 
         >>> from icu_locale.example import TABLES
         >>> tables = Tables.from_json(TABLES)
@@ -136,8 +143,8 @@ class Tables(Held):
         'en'
         """
         found, kept = listed(available), self._switcher
-        if kept is None or kept.available != found:
-            kept = self._switcher = self.switcher(found)
+        if kept is None or not kept.is_over(found, further):
+            kept = self._switcher = self.switcher(found, further=further)
         return kept.serve(headers)
 
     def close(self) -> None:

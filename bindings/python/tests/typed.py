@@ -1,7 +1,7 @@
 """Each call with the types that it takes and gives: mypy --strict reads it, and a run of it tries it."""
 from typing import List, Optional
 
-from icu_locale import Canonical, Direction, Match, Negotiator, Refused, Switcher, Tables, Text, __version__
+from icu_locale import Canonical, Direction, Further, Match, Negotiator, Refused, Switcher, Tables, Text, __version__
 from icu_locale.example import TABLES
 
 
@@ -19,7 +19,9 @@ def served(tables: Tables, header: str) -> List[str]:
     match: Optional[Match] = negotiator.negotiate(["fr", "zh-TW"])
     switcher: Switcher = tables.switcher(negotiator.available)
     found: Optional[Text] = switcher.serve([header])
-    return [str(match and match.available), str(found), str(tables.serve(header, ["en", "zh-Hant"]))]
+    further: Further = {"yue": ["zh"]}
+    wide: Optional[Text] = tables.switcher(["zh-Hant"], further=further).serve("yue")
+    return [str(match and match.available), str(found), str(tables.serve(header, ["en", "zh-Hant"], further=further)), str(wide)]
 
 
 def main() -> None:

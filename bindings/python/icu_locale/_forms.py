@@ -1,0 +1,56 @@
+"""What a request stands for."""
+import re
+from typing import Callable, Dict, Iterable, List, Mapping, Optional, Tuple
+
+from ._negotiator import listed
+from ._refusals import Text
+
+# Further forms of requests, as `python3 -m icu_locale.cldr --further` writes them: the best first, of each that has some.
+Further = Mapping[str, Iterable[str]]
+
+VARIANT = re.compile(r"[A-Za-z0-9]{5,8}|[0-9][A-Za-z0-9]{3}")
+SCRIPT = re.compile(r"[A-Za-z]{4}")
+
+
+class Forms:
+    """The forms by which a request may be served, over what canonicalizes and maximizes.
+
+    A further form of a locale is asked where it has the language and the script of the locale's maximal form, and is
+    passed over where it has others. Those of a language alone are other languages: each is asked with the script and the
+    region of the request's maximal form, where that has a script. So none is of another script than the request.
+    """
+
+    def __init__(self, told: Callable[[str, Text], str], further: Optional[Further] = None) -> None:
+        """`told` answers a command for an identifier."""
+        self._told = told
+        self._of_locales: Dict[str, List[str]] = {}
+        self._of_languages: Dict[str, List[str]] = {}
+        for request, forms in (further or {}).items():
+            self._add(*(told("canonicalize", text) for text in (request, *listed(forms))))
+
+    def _add(self, request: str, *forms: str) -> None:
+        """Adds the further forms of a request."""
+        if "-" not in request:
+            self._of_languages[request] = [form for form in forms if "-" not in form]
+            return
+        own, *others = (self._told("maximize", form) for form in (request, *forms))
+        self._of_locales[own] = [form for form in others if tongue(form) == tongue(own)]
+
+    def of(self, canonical: str) -> List[str]:
+        """The forms of a canonical identifier, the best first: itself, its maximal form without variants, the further forms
+        of that, and its language and script. The same follows in each other language that its own has."""
+        language, *others = canonical.split("-")
+        plain = "-".join([language, *(each for each in others if not VARIANT.fullmatch(each))])
+        language, *rest = self._told("maximize", plain).split("-")
+        if language == "und" or not rest or not SCRIPT.fullmatch(rest[0]):
+            return [canonical, plain]
+        found = [canonical]
+        for each in (language, *self._of_languages.get(language, ())):
+            maximal = "-".join([each, *rest])
+            found += [maximal, *self._of_locales.get(maximal, ()), "-".join(tongue(maximal))]
+        return found
+
+
+def tongue(maximal: str) -> Tuple[str, ...]:
+    """The language and the script of a maximal form."""
+    return tuple(maximal.split("-")[:2])
