@@ -8,6 +8,9 @@ export type Code =
   | 'Closed' | 'Memory' | 'Json' | 'Shape' | 'Command' | 'Table' | 'Negotiate' | 'List' | 'Unsettled'
   | 'InvalidLanguage' | 'InvalidSubtag' | 'NoFixedPoint' | 'NoSubdivisionFixedPoint' | 'IdentifierNotFound';
 
+/** Further forms of requests, as `cldr-tables --further` writes them: the best first, of each that has some. */
+export type Further = Readonly<Record<string, readonly string[]>>;
+
 /** A call that gives no answer. */
 export class Refused extends Error {
   constructor(code: Code, message?: string, place?: number);
@@ -38,13 +41,19 @@ export class Tables {
   static borrow(number: bigint): Tables;
   /** What serves a reader one of the identifiers that are available. It holds these tables too. */
   negotiator(available: readonly string[]): Negotiator;
-  /** What serves a reader by the headers Accept-Language of a request. It holds these tables too. */
-  switcher(available: readonly string[]): Switcher;
+  /**
+   * What serves a reader by the headers Accept-Language of a request. It holds these tables too. `further` has further forms
+   * of requests: an array of locales of the same language for a locale, and of other languages for a language.
+   */
+  switcher(available: readonly string[], options?: { further?: Further }): Switcher;
   /**
    * What is served of the available identifiers, in their own spelling, for the headers Accept-Language of a request: one,
-   * or several. Null where nothing is met. What was last available is kept, so that it is read once.
+   * or several. Null where nothing is met. `further` is as `switcher` has it. What was last available is kept with the
+   * object of further forms, so that both are read once.
    */
-  serve(headers: string | readonly string[] | undefined, available: readonly string[]): string | null;
+  serve(
+    headers: string | readonly string[] | undefined, available: readonly string[], options?: { further?: Further },
+  ): string | null;
   /** What the program icu_locale_cli answers to a line, by the words of a command. */
   answer(command: Text, line: Text): string;
   /** The maximal form: with the likely script and region. */

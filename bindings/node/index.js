@@ -71,6 +71,14 @@ function listed(identifiers) {
   return list;
 }
 
+// Further forms of requests: an object with a list for each.
+function formsListed(further) {
+  if (further === undefined) return further;
+  if (further === null || typeof further !== 'object') throw new TypeError('further forms are handed in as an object of arrays');
+  Object.values(further).forEach(listed);
+  return further;
+}
+
 // What a call tells that is handed a list: where the list is refused, the first that is refused as a line is named.
 function overList(held, list, call) {
   const told = call(Buffer.from(list.join(' ')));
@@ -133,8 +141,11 @@ class Tables {
     return new Negotiator(made(overList(held, list, (line) => calls.available(held, line))), list);
   }
 
-  /** What serves a reader by the headers Accept-Language of a request. It holds these tables too. */
-  switcher(available) {
+  /**
+   * What serves a reader by the headers Accept-Language of a request. It holds these tables too. `further` has further forms
+   * of requests: an array of locales of the same language for a locale, and of other languages for a language.
+   */
+  switcher(available, { further } = {}) {
     const list = listed(available);
     const canonical = list.map((tag, place) => {
       try {
@@ -143,19 +154,17 @@ class Tables {
         throw /^Invalid/.test(refused.code) ? noIdentifier(place, tag) : refused;
       }
     });
-    return new Switcher(this.negotiator(canonical), list);
+    return new Switcher(this.negotiator(canonical), list, formsListed(further));
   }
 
   /**
    * What is served of the available identifiers, in their own spelling, for the headers Accept-Language of a request: one,
-   * or several. Null where nothing is met. What was last available is kept, so that it is read once.
+   * or several. Null where nothing is met. `further` is as `switcher` has it. What was last available is kept with the
+   * object of further forms, so that both are read once.
    */
-  serve(headers, available) {
-    const kept = this.#switcher;
+  serve(headers, available, { further } = {}) {
     const list = listed(available);
-    if (!kept || kept.available.length !== list.length || list.some((tag, place) => tag !== kept.available[place])) {
-      this.#switcher = this.switcher(list);
-    }
+    if (!this.#switcher || !this.#switcher.isOver(list, further)) this.#switcher = this.switcher(list, { further });
     return this.#switcher.serve(headers);
   }
 

@@ -1,12 +1,11 @@
 'use strict';
 // What is served to a reader, by the headers Accept-Language of a request (RFC 9110, section 12.5.4).
+const { Forms } = require('./forms.js');
 
 // How many tags of a request are read: who sends more is no reader.
 const MOST_TAGS = 100;
 const FOLD = /\r?\n[ \t]+/g;
 const WEIGHT = /^([01](\.[0-9]*)?|\.[0-9]+)$/;
-const VARIANT = /^([A-Za-z0-9]{5,8}|[0-9][A-Za-z0-9]{3})$/;
-const SCRIPT = /^[A-Za-z]{4}$/;
 
 // A tag up to its first extension, or to what is for private use.
 function withoutExtensions(tag) {
@@ -41,11 +40,15 @@ function readHeaders(headers) {
 class Switcher {
   #negotiator;
   #available;
+  #further;
+  #forms;
 
   /** `negotiator` holds the canonical forms of what is available, as it was handed in. */
-  constructor(negotiator, available) {
+  constructor(negotiator, available, further) {
     this.#negotiator = negotiator;
     this.#available = Object.freeze(available);
+    this.#further = further;
+    this.#forms = new Forms((command, identifier) => this.#told(command, identifier), further);
   }
 
   /** The identifiers that are available, as they were handed in. */
@@ -67,6 +70,12 @@ class Switcher {
     return null;
   }
 
+  /** Whether it was made with these identifiers, and with this very object of further forms. */
+  isOver(available, further) {
+    return this.#further === further && this.#available.length === available.length
+      && this.#available.every((tag, place) => tag === available[place]);
+  }
+
   /** Lets the list and the tables go. A second call does nothing. */
   close() {
     this.#negotiator.close();
@@ -74,7 +83,7 @@ class Switcher {
 
   #met(tag) {
     const canonical = this.#canonical(tag);
-    const match = canonical === null ? null : this.#negotiator.negotiate(this.#forms(canonical));
+    const match = canonical === null ? null : this.#negotiator.negotiate(this.#forms.of(canonical));
     return match && match.available;
   }
 
@@ -91,16 +100,6 @@ class Switcher {
 
   #told(command, identifier) {
     return this.#negotiator.answer(command, identifier).split('\t')[0];
-  }
-
-  // What may be served for a request, the best first: itself, itself without variants, and the language and the script of
-  // its maximal form. Each has the language and the script that the request means.
-  #forms(canonical) {
-    const [first, ...others] = canonical.split('-');
-    const plain = [first, ...others.filter((it) => !VARIANT.test(it))].join('-');
-    const [language, ...rest] = this.#told('maximize', plain).split('-');
-    const script = rest.find((it) => SCRIPT.test(it));
-    return script && language !== 'und' ? [canonical, plain, `${language}-${script}`] : [canonical, plain];
   }
 
   // The first of what is available that no refused tag is the beginning of.

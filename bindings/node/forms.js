@@ -1,0 +1,57 @@
+'use strict';
+// What a request stands for.
+
+const VARIANT = /^([A-Za-z0-9]{5,8}|[0-9][A-Za-z0-9]{3})$/;
+const SCRIPT = /^[A-Za-z]{4}$/;
+
+// The language and the script of a maximal form.
+function tongue(maximal) {
+  return maximal.split('-', 2).join('-');
+}
+
+/**
+ * The forms by which a request may be served, over what canonicalizes and maximizes. A further form of a locale is asked
+ * where it has the language and the script of the locale's maximal form, and is passed over where it has others. Those of
+ * a language alone are other languages: each is asked with the script and the region of the request's maximal form, where
+ * that has a script. So none is of another script than the request.
+ */
+class Forms {
+  #told;
+  #ofLocales = new Map();
+  #ofLanguages = new Map();
+
+  /** `told` answers a command for an identifier; `further` has an array for each request. */
+  constructor(told, further = {}) {
+    this.#told = told;
+    for (const [request, forms] of Object.entries(further)) {
+      this.#add(...[request, ...forms].map((text) => told('canonicalize', text)));
+    }
+  }
+
+  #add(request, ...forms) {
+    if (!request.includes('-')) {
+      this.#ofLanguages.set(request, forms.filter((form) => !form.includes('-')));
+      return;
+    }
+    const [own, ...others] = [request, ...forms].map((form) => this.#told('maximize', form));
+    this.#ofLocales.set(own, others.filter((form) => tongue(form) === tongue(own)));
+  }
+
+  /**
+   * The forms of a canonical identifier, the best first: itself, its maximal form without variants, the further forms of
+   * that, and its language and script. The same follows in each other language that its own has.
+   */
+  of(canonical) {
+    const [first, ...others] = canonical.split('-');
+    const plain = [first, ...others.filter((it) => !VARIANT.test(it))].join('-');
+    const [language, ...rest] = this.#told('maximize', plain).split('-');
+    if (language === 'und' || !rest.length || !SCRIPT.test(rest[0])) return [canonical, plain];
+    const near = (each) => {
+      const maximal = [each, ...rest].join('-');
+      return [maximal, ...(this.#ofLocales.get(maximal) || []), tongue(maximal)];
+    };
+    return [canonical, ...[language, ...(this.#ofLanguages.get(language) || [])].flatMap(near)];
+  }
+}
+
+module.exports = { Forms };
