@@ -19,12 +19,17 @@ class Forms {
   #told;
   #ofLocales = new Map();
   #ofLanguages = new Map();
+  #firstAvailable = new Map();
 
-  /** `told` answers a command for an identifier; `further` has an array for each request. */
-  constructor(told, further = {}) {
+  /** `told` answers a command for an identifier; `available` are canonical; `further` has an array for each request. */
+  constructor(told, available, further) {
     this.#told = told;
+    if (further === undefined) return;
     for (const [request, forms] of Object.entries(further)) {
       this.#add(...[request, ...forms].map((text) => told('canonicalize', text)));
+    }
+    for (const maximal of available.map((tag) => told('maximize', tag)).reverse()) {
+      if (maximal.split('-').length === 3) this.#firstAvailable.set(tongue(maximal), maximal); // without variants
     }
   }
 
@@ -38,19 +43,24 @@ class Forms {
   }
 
   /**
-   * The forms of a canonical identifier, the best first: itself, its maximal form without variants, the further forms of
-   * that, and its language and script. The same follows in each other language that its own has.
+   * The forms of a canonical identifier, the best first: itself, and those near to its maximal form without variants; then
+   * those near to the same in each other language that its own has.
    */
   of(canonical) {
     const [first, ...others] = canonical.split('-');
     const plain = [first, ...others.filter((it) => !VARIANT.test(it))].join('-');
     const [language, ...rest] = this.#told('maximize', plain).split('-');
     if (language === 'und' || !rest.length || !SCRIPT.test(rest[0])) return [canonical, plain];
-    const near = (each) => {
-      const maximal = [each, ...rest].join('-');
-      return [maximal, ...(this.#ofLocales.get(maximal) || []), tongue(maximal)];
-    };
-    return [canonical, ...[language, ...(this.#ofLanguages.get(language) || [])].flatMap(near)];
+    const languages = [language, ...(this.#ofLanguages.get(language) || [])];
+    return [canonical, ...languages.flatMap((each) => this.#near([each, ...rest].join('-')))];
+  }
+
+  // A maximal form, its further forms, its language and script in their likely region, and in the first region where they
+  // are available.
+  #near(maximal) {
+    const own = tongue(maximal);
+    const available = this.#firstAvailable.get(own);
+    return [maximal, ...(this.#ofLocales.get(maximal) || []), own, ...(available ? [available] : [])];
   }
 }
 

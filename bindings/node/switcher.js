@@ -48,7 +48,8 @@ class Switcher {
     this.#negotiator = negotiator;
     this.#available = Object.freeze(available);
     this.#further = further;
-    this.#forms = new Forms((command, identifier) => this.#told(command, identifier), further);
+    this.#forms = new Forms((command, identifier) => this.#told(command, identifier),
+      negotiator.available, further);
   }
 
   /** The identifiers that are available, as they were handed in. */

@@ -1,6 +1,6 @@
 """What a request stands for."""
 import re
-from typing import Callable, Dict, Iterable, List, Mapping, Optional, Tuple
+from typing import Callable, Dict, Iterable, Iterator, List, Mapping, Optional, Tuple
 
 from ._negotiator import listed
 from ._refusals import Text
@@ -20,13 +20,18 @@ class Forms:
     region of the request's maximal form, where that has a script. So none is of another script than the request.
     """
 
-    def __init__(self, told: Callable[[str, Text], str], further: Optional[Further] = None) -> None:
-        """`told` answers a command for an identifier."""
+    def __init__(self, told: Callable[[str, Text], str], available: Iterable[Text], further: Optional[Further]) -> None:
+        """`told` answers a command for an identifier; `available` are canonical."""
         self._told = told
         self._of_locales: Dict[str, List[str]] = {}
         self._of_languages: Dict[str, List[str]] = {}
-        for request, forms in (further or {}).items():
-            self._add(*(told("canonicalize", text) for text in (request, *listed(forms))))
+        self._first_available: Dict[Tuple[str, ...], str] = {}
+        if further is not None:
+            for request, forms in further.items():
+                self._add(*(told("canonicalize", text) for text in (request, *listed(forms))))
+            for maximal in (told("maximize", tag) for tag in available):
+                if maximal.count("-") == 2:  # without variants
+                    self._first_available.setdefault(tongue(maximal), maximal)
 
     def _add(self, request: str, *forms: str) -> None:
         """Adds the further forms of a request."""
@@ -37,18 +42,24 @@ class Forms:
         self._of_locales[own] = [form for form in others if tongue(form) == tongue(own)]
 
     def of(self, canonical: str) -> List[str]:
-        """The forms of a canonical identifier, the best first: itself, its maximal form without variants, the further forms
-        of that, and its language and script. The same follows in each other language that its own has."""
+        """The forms of a canonical identifier, the best first: itself, and those near to its maximal form without variants;
+        then those near to the same in each other language that its own has."""
         language, *others = canonical.split("-")
         plain = "-".join([language, *(each for each in others if not VARIANT.fullmatch(each))])
         language, *rest = self._told("maximize", plain).split("-")
         if language == "und" or not rest or not SCRIPT.fullmatch(rest[0]):
             return [canonical, plain]
-        found = [canonical]
-        for each in (language, *self._of_languages.get(language, ())):
-            maximal = "-".join([each, *rest])
-            found += [maximal, *self._of_locales.get(maximal, ()), "-".join(tongue(maximal))]
-        return found
+        languages = [language, *self._of_languages.get(language, ())]
+        return [canonical, *(form for each in languages for form in self._near("-".join([each, *rest])))]
+
+    def _near(self, maximal: str) -> Iterator[str]:
+        """A maximal form, its further forms, its language and script in their likely region, and in the first region where
+        they are available."""
+        yield maximal
+        yield from self._of_locales.get(maximal, ())
+        yield "-".join(tongue(maximal))
+        if tongue(maximal) in self._first_available:
+            yield self._first_available[tongue(maximal)]
 
 
 def tongue(maximal: str) -> Tuple[str, ...]:

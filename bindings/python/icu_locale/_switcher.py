@@ -30,7 +30,7 @@ class Switcher(NoCopies):
     def __init__(self, negotiator: Negotiator, available: Tuple[Text, ...], further: Optional[Further] = None) -> None:
         """`negotiator` holds the canonical forms of what is available; `Tables.switcher` makes both."""
         self._negotiator, self._available, self._further = negotiator, available, further
-        self._forms = Forms(self._told, further)
+        self._forms = Forms(self._told, negotiator.available, further)
 
     @property
     def available(self) -> Tuple[Text, ...]:

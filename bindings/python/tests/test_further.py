@@ -15,21 +15,23 @@ MADE_UP = {"de-at": ["de-ch"], "yue": ["zh", "de"], "ar": ["de"], "zh": ["yue"],
 # A header, what is available, and what is served by the forms that are made up.
 BY_MADE_UP = [
     ("de-AT", ["de", "de_CH"], "de_CH"), ("de-Latn-AT", ["de", "de-CH"], "de-CH"), ("de-AT", ["de-CH", "de-AT"], "de-AT"),
-    ("de-AT-1996, en", ["en", "de-CH"], "de-CH"), ("de", ["de-CH"], None), ("de-CH", ["de-AT"], None),
+    ("de-AT-1996, en", ["en", "de-CH"], "de-CH"), ("de", ["en", "de-CH", "de-AT"], "de-CH"),
+    ("de-CH", ["de-1996"], None), ("de-AT", ["de-DE-1996", "de-LI"], "de-LI"),
     ("yue", ["en", "zh-Hant"], "zh-Hant"), ("yue", ["zh-TW", "zh-Hant-HK"], "zh-Hant-HK"), ("yue", ["zh-Hant", "yue-Hant"], "yue-Hant"),
     ("yue", ["zh", "zh-Hans"], None), ("yue-CN", ["zh-Hant", "zh"], "zh"), ("yue", ["de"], None), ("ar", ["de", "en"], None),
     ("zh", ["yue"], None), ("zh-TW", ["zh-Hans", "yue-Hant"], "yue-Hant"), ("zh-TW", ["zh-Hant-HK", "yue-Hant"], "zh-Hant-HK"),
     ("yue;q=0.5, en", ["zh-Hant", "en"], "en"), ("yue, en", ["en", "zh-Hant"], "zh-Hant"), ("und-TW", ["zh"], None),
+    ("zh-Hant", ["zh", "zh-HK", "zh-Hant-HK"], "zh-Hant-HK"), ("zh-Hant", ["zh", "zh-HK"], None),
 ]
 # By CLDR's own text, of version 41 and later: parentLocale, languageMatch in languageInfo.xml, and likelySubtag for scripts.
 BY_CLDR = [
     ("no", ["en", "nb"], "nb"), ("nn", ["en", "nb"], "nb"), ("nb", ["en", "no"], "no"), ("nn", ["da", "en"], None),
     ("da", ["en", "nb"], "nb"), ("da", ["nb", "no"], "no"), ("no", ["nn", "da", "nb"], "nb"), ("no", ["nn", "da"], "da"),
-    ("en-AU", ["en", "en-GB"], "en-GB"), ("en-AU", ["en-GB", "en-001"], "en-001"), ("en-AU", ["en", "en-NZ"], "en"),
+    ("en-AU", ["en", "en-GB"], "en-GB"), ("en-AU", ["en-GB", "en-001"], "en-001"), ("en-AU", ["en", "en-NZ"], "en"), ("en-AU", ["en-NZ", "en-CA"], "en-NZ"),
     ("en-150", ["en", "en-GB"], "en-GB"), ("en-DE", ["en-GB", "en-001", "en-150"], "en-150"), ("en-FR", ["en", "en-GB"], "en-GB"),
-    ("en-PR", ["en", "en-GB"], "en"), ("en-US", ["en-GB"], None), ("en-001", ["en-GB", "en"], "en"), ("en-GB", ["en", "en-AU"], "en"),
-    ("es-MX", ["es", "es-419"], "es-419"), ("es-Latn-MX", ["es", "es-419"], "es-419"), ("es-GQ", ["es-419", "es"], "es"),
-    ("pt-AO", ["pt", "pt-PT"], "pt-PT"), ("pt", ["pt-PT", "pt"], "pt"), ("pt-BR", ["pt-PT"], None),
+    ("en-PR", ["en", "en-GB"], "en"), ("en-US", ["de", "en-GB"], "en-GB"), ("en-001", ["en-GB", "en"], "en"), ("en-GB", ["en", "en-AU"], "en"),
+    ("es-MX", ["es", "es-419"], "es-419"), ("es-Latn-MX", ["es", "es-419"], "es-419"), ("es-GQ", ["es-419", "es"], "es"), ("gsw", ["en", "de-AT"], "de-AT"),
+    ("pt-AO", ["pt", "pt-PT"], "pt-PT"), ("pt", ["pt-PT", "pt"], "pt"), ("pt-BR", ["es", "pt-PT"], "pt-PT"),
     ("zh-MO", ["zh-Hant", "zh-Hant-HK"], "zh-Hant-HK"), ("yue", ["zh", "zh-Hant"], "zh-Hant"), ("yue-Hans", ["zh-Hant", "zh"], "zh"),
     ("gsw", ["en", "de"], "de"), ("lb", ["en", "de"], "de"), ("arz", ["en", "ar"], "ar"), ("cs", ["en", "sk"], "sk"),
     ("sk", ["en", "cs"], "cs"), ("hr", ["en", "bs"], "bs"), ("bs-Cyrl", ["hr", "hr-Cyrl"], "hr-Cyrl"),
@@ -54,6 +56,7 @@ class Further(unittest.TestCase):
             switcher = tables.switcher(["zh-Hant"], further=MADE_UP)
             self.assertEqual((switcher.serve("yue"), tables.serve("yue", ["zh-Hant"])), ("zh-Hant", None))
             self.assertEqual(tables.serve("yue", ["zh-Hant"], further={}), None)
+            self.assertEqual((tables.serve("de", ["de-CH"]), tables.serve("de", ["de-CH"], further={})), (None, "de-CH"))
 
     def test_refused(self):
         with Tables.from_json(TABLES) as tables:
