@@ -1,24 +1,28 @@
 """Further forms of a request, of CLDR's parents of locales and of its matches of languages (UTS #35 Part 1, section 4.4).
 
-The rule. A request is served by its further forms in this order, and never in another script than its own likely one:
+The rule. A request is served by the first of these that is available, and never in another script than its own likely one:
 
-1. its parents, of the elements `parentLocale`, one after another, while they spell the same language and script;
-2. the one region that a row of `languageMatch` prefers for its own: `en-AU` has `en-GB`;
-3. other languages, of the rows of `languageMatch` that name two languages, by rising distance. A row that holds one way is
-   taken up to distance 10: dialects, and languages that another one encompasses. One that holds both ways is taken up
-   to 20: Czech and Slovak read each other. Rows one way of 20 and 30 tell which other language readers learn.
+1. itself, and itself without variants;
+2. its parents by the elements `parentLocale`, one after another, while they spell the same language and script;
+3. the one region that a row of `languageMatch` prefers for its own: `en-AU` has `en-GB`;
+4. its language and script in their likely region, and then in the first region where they are available;
+5. the same in other languages, by the rows of `languageMatch` that name two languages, by rising distance. A row that
+   holds one way is taken up to distance 10: dialects, and languages that another one encompasses. One that holds both ways
+   is taken up to 20: Czech and Slovak read each other. Rows one way of 20 and 30 tell which other language readers learn.
 
-Rows of two scripts are left out, and so are those of a language that an alias replaces, or whose likely script CLDR does
-not know: whether it is the script of the other language cannot be told.
+The second, the third and the languages of the fifth are written here; the packages take the steps. Rows of two scripts are
+left out, and so are those of a language that an alias replaces, or whose likely script CLDR does not know.
 """
 from .account import Account
 from .aliases import read_aliases
-from .completion import STATES, known
+from .completion import known
 from .inheritance import Inheritance
 from .likely import read_likely
 from .source import NoCldr
 from .subtags import UNKNOWN_SCRIPT, read_locale, read_subtag
 
+# Whose regions have a row, of the states in a validity file: a request is canonical, so a deprecated region is in none.
+IN_USE = ("regular", "macroregion", "special")
 FARTHEST_ONE_WAY, FARTHEST_BOTH_WAYS = 10, 20
 OTHER_PARENT = "further forms: parents of another language or script"
 FAR = "further forms: matches of languages that are too far apart"
@@ -65,7 +69,7 @@ def regions(matches, common, account):
             continue
         before = "-".join(subtag for subtag in desired[:2] if subtag != "*")
         members, is_outside = within(groups, sets[variable]), "!" in desired[2]
-        for own in known(common, "region", STATES["region"]):
+        for own in known(common, "region", IN_USE):
             inside = within(groups, [own])
             if own != region and (inside.isdisjoint(members) if is_outside else inside <= members):
                 yield f"{before}-{own}", [f"{before}-{region}"]
