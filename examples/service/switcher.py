@@ -12,7 +12,7 @@ from pathlib import Path
 
 sys.path.insert(0, str(Path(__file__).resolve().parents[2] / "bindings" / "python"))
 
-from icu_locale import Tables  # noqa: E402
+from icu_locale import Further, Tables  # noqa: E402
 
 # How long a process may take to read its tables, or to answer a question.
 SECONDS = 5.0
@@ -72,13 +72,14 @@ class Stream:
 
 
 class Switcher:
-    """Serves one of some locales. `settled` and `names` are JSON tables on one line each."""
+    """Serves one of some locales. `settled` and `names` are JSON tables on one line each; `further` are further forms by
+    which a reader may be served."""
 
-    def __init__(self, program: str, settled: str, names: str, available: list[str]) -> None:
+    def __init__(self, program: str, settled: str, names: str, available: list[str], further: Further | None = None) -> None:
         names = names.strip() + "\n"
         with Tables.from_json(settled) as tables:
             self.available = [tables.canonicalize(tag) for tag in available]
-            self.switcher = tables.switcher(self.available)
+            self.switcher = tables.switcher(self.available, further=further)
         self.direction = Stream([program, "direction", "json"], names)
         self.named = {tag: Stream([program, "name", "light", tag, "json"], names) for tag in self.available}
 

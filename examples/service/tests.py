@@ -1,13 +1,14 @@
 #!/usr/bin/env python3
 """Tests the switcher and the service over tables of CLDR.
 
-    examples/service/tests.py STREAM PROGRAM SETTLED NAMES [PICTURE]
+    examples/service/tests.py STREAM PROGRAM SETTLED NAMES FURTHER [PICTURE]
 
 STREAM is icu_locale_stream and PROGRAM icu_locale_cli; SETTLED and NAMES are files of tables as the service reads them,
-the second with the locales of LOCALES. Each answer of a process that is kept is compared with that of one run of
-PROGRAM: one question after another, from eight threads, and while the process is killed again and again. Then the
-service is asked by HTTP, and by headless Chromium where there is one, which leaves PICTURE where it is named. The last
-line says how long a question takes beside one that starts a process. The status is 1 where something is wrong.
+the second with the locales of LOCALES, and FURTHER has further forms. Each answer of a process that is kept is compared
+with that of one run of PROGRAM: one question after another, from eight threads, and while the process is killed again and
+again. Then the service is asked by HTTP, without further forms and with them, and by headless Chromium where there is one,
+which leaves PICTURE where it is named. The last line says how long a question takes beside one that starts a process. The
+status is 1 where something is wrong.
 """
 from __future__ import annotations
 
@@ -40,6 +41,9 @@ SERVED = [
     ("sh", "sr-Latn", "ltr"), ("de-1996", "de", "ltr"), ("zz-zz-zz, *", "en", "ltr"), ("", "en", "ltr"),
     ("de;q=0, ja;q=0.2", "ja", "ltr"), ("de;q=x, ja", "ja", "ltr"), ("fr-u-ca-buddhist, ar-u-nu-latn", "ar", "rtl"),
 ]
+# A header, what is served by further forms, and without them.
+FURTHER = [("gsw, en;q=0.5", "de", "en"), ("lb", "de", "en"), ("yue-HK", "zh-Hant", "en"), ("arz", "ar", "en"),
+           ("yue-Hans, ja;q=0.1", "ja", "ja"), ("sr-Cyrl, ja;q=0.1", "ja", "ja"), ("zh-CN, ja;q=0.1", "ja", "ja")]
 # Header lines as they come, and what is served.
 LINES = [
     ("Accept-Language: fr,\r\n ja", "ja"), ("Accept-Language: fr\r\nHost: x\r\naccept-language: ja", "ja"),
@@ -121,6 +125,12 @@ def check_service(address: str) -> list[str]:
     return faults + [f"{header!r}: another answer, by threads" for header, it in zip(headers, answers) if it != first[header]]
 
 
+def check_further(address: str, column: int) -> list[str]:
+    """What is wrong with what is served by further forms, or without them: a column of FURTHER."""
+    served = {row[0]: fetched(address, row[0])["locale"] for row in FURTHER}
+    return [f"{row[0]!r}: {served[row[0]]} is served" for row in FURTHER if served[row[0]] != row[column]]
+
+
 def check_page(address: str, picture: str | None) -> list[str]:
     """What is wrong with the page in four languages, as Chromium shows it."""
     browser = shutil.which("chromium")
@@ -157,18 +167,20 @@ def times(stream: str, program: str, tables: str) -> str:
 
 def main() -> int:
     parser = Words("examples/service/tests.py", __doc__)
-    for word in ("stream", "program", "settled", "names"):
+    for word in ("stream", "program", "settled", "names", "further"):
         parser.add_argument(word, metavar=word.upper())
     parser.add_argument("picture", metavar="PICTURE", nargs="?")
     words = parser.parse_args()
-    stream, program, settled, names = words.stream, words.program, words.settled, words.names
-    tables = Path(settled).read_text(encoding="utf-8").strip() + "\n"
+    stream, program = words.stream, words.program
+    tables = Path(words.settled).read_text(encoding="utf-8").strip() + "\n"
     faults = check_stream(stream, program, tables)
-    command = [sys.executable, HERE / "service", stream, settled, names, "0", *LOCALES]
-    with subprocess.Popen(command, stdout=subprocess.PIPE, text=True) as service:
-        address = service.stdout.readline().strip()
-        faults += check_service(address) + check_page(address, words.picture)
-        service.terminate()
+    for chosen, column in (([], 2), (["--further", words.further], 1)):
+        command = [sys.executable, HERE / "service", *chosen, stream, words.settled, words.names, "0", *LOCALES]
+        with subprocess.Popen(command, stdout=subprocess.PIPE, text=True) as service:
+            address = service.stdout.readline().strip()
+            faults += check_service(address) + check_further(address, column)
+            faults += check_page(address, words.picture) if chosen else []
+            service.terminate()
     for fault in faults[:20]:
         print(fault)
     print(times(stream, program, tables))

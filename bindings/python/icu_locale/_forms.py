@@ -27,6 +27,8 @@ class Forms:
         self._of_languages: Dict[str, List[str]] = {}
         self._first_available: Dict[Tuple[str, ...], str] = {}
         if further is not None:
+            if not isinstance(further, Mapping):
+                raise TypeError("further forms are handed in as a mapping of lists")
             for request, forms in further.items():
                 self._add(*(told("canonicalize", text) for text in (request, *listed(forms))))
             for maximal in (told("maximize", tag) for tag in available):

@@ -60,7 +60,7 @@ class Further(unittest.TestCase):
 
     def test_refused(self):
         with Tables.from_json(TABLES) as tables:
-            for wrong in ({"de": "ch"}, {"de": 5}, {5: ["de"]}, {"de": [5]}, {"de": None}):
+            for wrong in ({"de": "ch"}, {"de": 5}, {5: ["de"]}, {"de": [5]}, {"de": None}, [], "de"):
                 self.assertRaises(TypeError, tables.switcher, ["en"], further=wrong)
             for wrong in ({"e": ["de"]}, {"de": ["e"]}, {"": ["de"]}):
                 self.assertRaises(InvalidLanguage, tables.switcher, ["en"], further=wrong)
