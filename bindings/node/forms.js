@@ -44,15 +44,15 @@ class Forms {
 
   /**
    * The forms of a canonical identifier, the best first: itself, and those near to its maximal form without variants; then
-   * those near to the same in each other language that its own has.
+   * those near to the same in each other language that its own has and that is not unwanted.
    */
-  of(canonical) {
-    const [first, ...others] = canonical.split('-');
-    const plain = [first, ...others.filter((it) => !VARIANT.test(it))].join('-');
+  of(canonical, unwanted) {
+    const [first, ...behind] = canonical.split('-');
+    const plain = [first, ...behind.filter((it) => !VARIANT.test(it))].join('-');
     const [language, ...rest] = this.#told('maximize', plain).split('-');
     if (language === 'und' || !rest.length || !SCRIPT.test(rest[0])) return [canonical, plain];
-    const languages = [language, ...(this.#ofLanguages.get(language) || [])];
-    return [canonical, ...languages.flatMap((each) => this.#near([each, ...rest].join('-')))];
+    const others = (this.#ofLanguages.get(language) || []).filter((each) => !unwanted.includes(each));
+    return [canonical, ...[language, ...others].flatMap((each) => this.#near([each, ...rest].join('-')))];
   }
 
   // A maximal form, its further forms, its language and script in their likely region, and in the first region where they

@@ -64,8 +64,9 @@ class Switcher {
    */
   serve(headers) {
     const { wanted, refused } = readHeaders(headers);
+    const unwanted = refused.map((tag) => this.#canonical(tag)).filter((tag) => tag !== null);
     for (const tag of wanted) {
-      const place = tag === '*' ? this.#firstBut(refused) : this.#met(tag);
+      const place = tag === '*' ? this.#firstBut(unwanted) : this.#met(tag, unwanted);
       if (place !== null) return this.#available[place];
     }
     return null;
@@ -82,9 +83,9 @@ class Switcher {
     this.#negotiator.close();
   }
 
-  #met(tag) {
+  #met(tag, unwanted) {
     const canonical = this.#canonical(tag);
-    const match = canonical === null ? null : this.#negotiator.negotiate(this.#forms.of(canonical));
+    const match = canonical === null ? null : this.#negotiator.negotiate(this.#forms.of(canonical, unwanted));
     return match && match.available;
   }
 
@@ -103,9 +104,8 @@ class Switcher {
     return this.#negotiator.answer(command, identifier).split('\t')[0];
   }
 
-  // The first of what is available that no refused tag is the beginning of.
-  #firstBut(refused) {
-    const unwanted = refused.map((tag) => this.#canonical(tag)).filter((tag) => tag !== null);
+  // The first of what is available that no unwanted tag is the beginning of.
+  #firstBut(unwanted) {
     const begins = (tag) => unwanted.some((each) => `${tag}-`.startsWith(`${each}-`));
     const place = this.#negotiator.available.findIndex((tag) => !begins(tag));
     return place < 0 ? null : place;

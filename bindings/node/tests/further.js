@@ -16,6 +16,8 @@ const SERVED = [
   ['yue', ['de'], null], ['ar', ['de', 'en'], null], ['zh', ['yue'], null], ['zh-TW', ['zh-Hans', 'yue-Hant'], 'yue-Hant'],
   ['zh-TW', ['zh-Hant-HK', 'yue-Hant'], 'zh-Hant-HK'], ['yue;q=0.5, en', ['zh-Hant', 'en'], 'en'],
   ['yue, en', ['en', 'zh-Hant'], 'zh-Hant'], ['und-TW', ['zh'], null],
+  ['yue, zh;q=0, en;q=0.1', ['zh-Hant', 'en'], 'en'], ['yue, ZH-hant;q=0', ['zh-Hant'], 'zh-Hant'],
+  ['de-AT, de;q=0', ['de-CH'], 'de-CH'],
   ['zh-Hant', ['zh', 'zh-HK', 'zh-Hant-HK'], 'zh-Hant-HK'], ['zh-Hant', ['zh', 'zh-HK'], null],
 ];
 

@@ -1,6 +1,6 @@
 """What a request stands for."""
 import re
-from typing import Callable, Dict, Iterable, Iterator, List, Mapping, Optional, Tuple
+from typing import Callable, Collection, Dict, Iterable, Iterator, List, Mapping, Optional, Tuple
 
 from ._negotiator import listed
 from ._refusals import Text
@@ -43,15 +43,15 @@ class Forms:
         own, *others = (self._told("maximize", form) for form in (request, *forms))
         self._of_locales[own] = [form for form in others if tongue(form) == tongue(own)]
 
-    def of(self, canonical: str) -> List[str]:
+    def of(self, canonical: str, unwanted: Collection[str]) -> List[str]:
         """The forms of a canonical identifier, the best first: itself, and those near to its maximal form without variants;
-        then those near to the same in each other language that its own has."""
+        then those near to the same in each other language that its own has and that is not unwanted."""
         language, *others = canonical.split("-")
         plain = "-".join([language, *(each for each in others if not VARIANT.fullmatch(each))])
         language, *rest = self._told("maximize", plain).split("-")
         if language == "und" or not rest or not SCRIPT.fullmatch(rest[0]):
             return [canonical, plain]
-        languages = [language, *self._of_languages.get(language, ())]
+        languages = [language, *(each for each in self._of_languages.get(language, ()) if each not in unwanted)]
         return [canonical, *(form for each in languages for form in self._near("-".join([each, *rest])))]
 
     def _near(self, maximal: str) -> Iterator[str]:

@@ -1,6 +1,6 @@
 """What is served to a reader, by the headers of a request."""
 import re
-from typing import Optional, Tuple
+from typing import List, Optional, Tuple
 
 from ._accept import Headers, read_headers
 from ._forms import Forms, Further
@@ -44,8 +44,9 @@ class Switcher(NoCopies):
         begins with a tag of `q=0`. What is no tag is passed over, and so is what stands behind the hundredth tag.
         """
         wishes = read_headers(headers)
+        unwanted = [tag for tag in map(self._canonical, wishes.refused) if tag]
         for tag in wishes.wanted:
-            place = self._first_but(wishes.refused) if tag == "*" else self._met(tag)
+            place = self._first_but(unwanted) if tag == "*" else self._met(tag, unwanted)
             if place is not None:
                 return self._available[place]
         return None
@@ -58,9 +59,9 @@ class Switcher(NoCopies):
         """Lets the list and the tables go. A second call does nothing."""
         self._negotiator.close()
 
-    def _met(self, tag: str) -> Optional[int]:
+    def _met(self, tag: str, unwanted: List[str]) -> Optional[int]:
         canonical = self._canonical(tag)
-        match = self._negotiator.negotiate(self._forms.of(canonical)) if canonical else None
+        match = self._negotiator.negotiate(self._forms.of(canonical, unwanted)) if canonical else None
         return match.available if match else None
 
     def _canonical(self, tag: str) -> Optional[str]:
@@ -73,9 +74,8 @@ class Switcher(NoCopies):
     def _told(self, command: str, identifier: Text) -> str:
         return self._negotiator.answer(command, identifier).partition("\t")[0]
 
-    def _first_but(self, refused: Tuple[str, ...]) -> Optional[int]:
-        """The first of what is available that no refused tag is the beginning of."""
-        unwanted = [tag for tag in map(self._canonical, refused) if tag]
+    def _first_but(self, unwanted: List[str]) -> Optional[int]:
+        """The first of what is available that no unwanted tag is the beginning of."""
         for place, tag in enumerate(self._negotiator.available):
             if not any(f"{tag!s}-".startswith(f"{each}-") for each in unwanted):
                 return place

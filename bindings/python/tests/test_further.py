@@ -21,6 +21,8 @@ BY_MADE_UP = [
     ("yue", ["zh", "zh-Hans"], None), ("yue-CN", ["zh-Hant", "zh"], "zh"), ("yue", ["de"], None), ("ar", ["de", "en"], None),
     ("zh", ["yue"], None), ("zh-TW", ["zh-Hans", "yue-Hant"], "yue-Hant"), ("zh-TW", ["zh-Hant-HK", "yue-Hant"], "zh-Hant-HK"),
     ("yue;q=0.5, en", ["zh-Hant", "en"], "en"), ("yue, en", ["en", "zh-Hant"], "zh-Hant"), ("und-TW", ["zh"], None),
+    ("yue, zh;q=0, en;q=0.1", ["zh-Hant", "en"], "en"), ("yue, ZH-hant;q=0", ["zh-Hant"], "zh-Hant"),
+    ("de-AT, de;q=0", ["de-CH"], "de-CH"),
     ("zh-Hant", ["zh", "zh-HK", "zh-Hant-HK"], "zh-Hant-HK"), ("zh-Hant", ["zh", "zh-HK"], None),
 ]
 # By CLDR's own text, of version 41 and later: parentLocale, languageMatch in languageInfo.xml, and likelySubtag for scripts.

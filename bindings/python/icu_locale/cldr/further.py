@@ -6,9 +6,10 @@ The rule. A request is served by the first of these that is available, and never
 2. its parents by the elements `parentLocale`, one after another, while they spell the same language and script;
 3. the one region that a row of `languageMatch` prefers for its own: `en-AU` has `en-GB`;
 4. its language and script in their likely region, and then in the first region where they are available;
-5. the same in other languages, by the rows of `languageMatch` that name two languages, by rising distance. A row that
-   holds one way is taken up to distance 10: dialects, and languages that another one encompasses. One that holds both ways
-   is taken up to 20: Czech and Slovak read each other. Rows one way of 20 and 30 tell which other language readers learn.
+5. the same in other languages that are not refused by `q=0`, of the rows of `languageMatch` that name two languages, by
+   rising distance. A row that holds one way is taken up to distance 10: dialects, and languages that another one
+   encompasses. One that holds both ways is taken up to 20: Czech and Slovak read each other. Rows one way of 20 and 30
+   tell which other language readers learn.
 
 The second, the third and the languages of the fifth are written here; the packages take the steps. Rows of two scripts are
 left out, and so are those of a language that an alias replaces, or whose likely script CLDR does not know.
