@@ -36,7 +36,7 @@ def further_forms(common, account):
     """The further forms of each request that has some; those of a language alone are other languages."""
     matches = common.document("supplemental/languageInfo.xml").find(".//languageMatches[@type='written_new']")
     if matches is None:
-        raise NoCldr("languageInfo.xml has no matches of languages by distance, which CLDR has from version 30 on")
+        raise NoCldr("languageInfo.xml has no matches by distance, those of the type `written_new`")
     found = {}
     for rows in (parents(common, account), regions(matches, common, account), languages(matches, common, account)):
         for request, forms in rows:
