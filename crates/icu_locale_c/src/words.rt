@@ -41,7 +41,8 @@ fn command_in(alloc: Global, text: &str) -> Result<LineCommand, Refusal>
 
 fn one_word(word: &str) -> Result<LineCommand, Refusal>
     ensures named { IfOk result (λ c. AreCommandWords (word.now ∷ []) (Lines c)) }
-    ensures refused { IfErr result (λ e. (e ≡ Refusal.Command) × AreNoCommand (word.now ∷ [])) }
+    ensures refused { IfErr result
+        (λ e. (e ≡ Refusal.Command) × AreNoCommand (word.now ∷ [])) }
 {
     match Command::from_word(word) {
         Ok(Command::Lines(command)) => Ok(command),

@@ -1,4 +1,4 @@
-// The classes of subtags: which texts belong to each, and how each is written.
+//! The classes of subtags: which texts belong to each, and how each is written.
 ghost use Rattle.std.specs.Prelude.{◌≡◌, ◌≤◌, length, IfSome};
 ghost use Rattle.icu_locale_core.specs.inner.Class.{is_member, written_byte, longest, is_character, consists_of};
 

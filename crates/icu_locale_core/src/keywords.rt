@@ -154,7 +154,8 @@ impl fmt::Display for Keywords {
 
 // A key and the pieces of its value, with `-` before each.
 fn write_keyword<W: fmt::Write>(key: &Key, value: &Value, f: &mut fmt::Formatter<W>) -> fmt::Result
-    ensures { WritesOnOk W.write_str_gives f.old result (written_keyword (key.now, value.now)) f.new }
+    ensures { WritesOnOk W.write_str_gives f.old result
+        (written_keyword (key.now, value.now)) f.new }
 {
     write_after_dash(key.as_str(), f)?;
     write_pieces(value.as_slice(), f)

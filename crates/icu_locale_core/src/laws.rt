@@ -111,7 +111,8 @@ pub fn written_values_read_back()
 #[tactic(auto, using(crate::proofs::TextSets::rising_rises, crate::proofs::TextSets::members_of_walk))]
 pub fn sets_rise()
     ensures rises { (s : TextSet) → IsStrictlySortedBy text_cmp (rising s) }
-    ensures members { (s : TextSet) (t : List ℕ) → (contains s t ≡ true) ↔ Contains (rising s) t }
+    ensures members { (s : TextSet) (t : List ℕ)
+        → (contains s t ≡ true) ↔ Contains (rising s) t }
 {}
 
 /// Which variants are members of a list's set, of a union and of what is left where some are taken out.
@@ -128,7 +129,8 @@ pub fn members_of_sets()
 /// fewer members.
 #[tactic(auto, using(crate::specs::laws::TextSets::same_set, crate::proofs::TextSets::fewer_members))]
 pub fn sets_are_their_members()
-    ensures same { (s u : TextSet) → ((t : List ℕ) → contains s t ≡ contains u t) → s ≡ u }
+    ensures same { (s u : TextSet)
+        → ((t : List ℕ) → contains s t ≡ contains u t) → s ≡ u }
     ensures fewer { (s u : TextSet) (t : List ℕ) → is_subset s u ≡ true
         → contains u t ≡ true → contains s t ≡ false → len s < len u }
 {}

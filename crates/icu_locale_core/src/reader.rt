@@ -1,4 +1,4 @@
-// The reader of identifiers, piece by piece from the left.
+//! The reader of identifiers, piece by piece from the left.
 ghost use Rattle.std.specs.Prelude.{◌≡◌, ◌⊎◌, true, [], slice_index_or, Err};
 ghost use Rattle.std.specs.List.{list_any};
 ghost use Rattle.icu_locale_core.specs.Subtag.{is_language, is_script, is_region, is_variant, titlecase, uppercase};

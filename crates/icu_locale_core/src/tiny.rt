@@ -1,4 +1,4 @@
-// A short text of letters and digits, in an array and behind no pointer.
+//! A short text of letters and digits, in an array and behind no pointer.
 ghost use Rattle.std.specs.Prelude.{◌≡◌, ◌≤◌, ◌+◌, ◌++◌, ◌∷◌, [], take, codes, IsTrue, IfSome, is_some, length, List, ℕ, nat_eq};
 ghost use Rattle.std.proofs.Common.{rules};
 ghost use Rattle.std.specs.Cmp.{partial_order_from_own_ties};

@@ -16,6 +16,7 @@ use std::fmt;
 use std::marker::Model;
 
 /// The value of a keyword (type of UTS #35, section 3.6.1): a list of pieces of 3 to 8 letters or digits, in lower case.
+/// Only reading and copying pieces takes memory.
 #[derive(Drop)]
 pub struct Value {
     pieces: Vec<Subtag>,
@@ -31,7 +32,7 @@ impl Model for Value {
 
 impl Value {
     /// Reads a value in any case, its pieces apart by `-` or `_`. A piece `true` is dropped, and the empty text is the
-    /// value without pieces. It takes memory for its pieces alone.
+    /// value without pieces.
     ///
     /// # Errors
     ///
@@ -64,7 +65,7 @@ impl Value {
         })
     }
 
-    /// The piece of a value that has exactly one, else none. It takes no memory.
+    /// The piece of a value that has exactly one, else none.
     pub fn as_single_subtag(&self) -> Option<Subtag>
         ensures only { result ≡ only_piece self.now }
         ensures known { IsValue self.now }
@@ -75,14 +76,14 @@ impl Value {
         }
     }
 
-    /// The pieces. It takes no memory.
+    /// The pieces.
     pub fn as_slice(&self) -> &[Subtag]
         ensures { result.now ≡ self.now }
     {
         self.pieces.as_slice()
     }
 
-    /// An equal value. Without pieces it takes no memory.
+    /// An equal value.
     ///
     /// # Errors
     ///

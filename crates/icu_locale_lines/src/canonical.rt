@@ -1,4 +1,4 @@
-// The lines of canonical locales, and of those that have no canonical form.
+//! The lines of canonical locales, and of those that have no canonical form.
 ghost use Rattle.std.specs.Prelude.{◌≡◌, ◌++◌, codes, Some, IfOk, IfErr, OnOk, OnErr, true};
 ghost use Rattle.std.specs.List.{flat_map};
 ghost use Rattle.icu_locale.specs.Canonical.{without_extensions};

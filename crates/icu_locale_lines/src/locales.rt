@@ -1,4 +1,4 @@
-// Lines that are locales: an identifier, or an identifier, a tab and a value for `rg`.
+//! Lines that are locales: an identifier, or an identifier, a tab and a value for `rg`.
 ghost use Rattle.std.specs.Prelude.{◌≡◌, ◌⊎◌, Some, IfOk, IfErr};
 ghost use Rattle.std.specs.List.{position};
 ghost use Rattle.std.specs.Option.{option_copied};

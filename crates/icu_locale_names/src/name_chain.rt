@@ -75,7 +75,8 @@ impl NameChain {
     /// The chain that a word names: its constructor's name, with `-` for `_`. None where the word is that of no chain.
     pub fn from_word(word: &str) -> Option<NameChain>
         ensures named { IfSome result (λ chain. word.now ≡ chain_word chain) }
-        ensures only { (chain : NameChain) → word.now ≡ chain_word chain → result ≡ Some chain }
+        ensures only { (chain : NameChain)
+            → word.now ≡ chain_word chain → result ≡ Some chain }
     {
         match word {
             "tiny" => Some(NameChain::Tiny),

@@ -29,6 +29,7 @@ pub enum ExemplarMarker {
 }
 
 /// The exemplar characters of a language (UTS #35 Part 2, "Exemplars"): characters, and texts of several characters.
+/// No call here takes memory.
 #[derive(Debug)]
 pub struct ExemplarCharactersData {
     /// The characters.
@@ -47,7 +48,7 @@ impl Drop for ExemplarCharactersData {
 }
 
 impl ExemplarCharactersData {
-    /// The characters of an inversion list, and a set of texts of any content. It takes no memory.
+    /// The characters of an inversion list, and a set of texts of any content.
     ///
     /// # Errors
     ///
@@ -67,7 +68,7 @@ impl ExemplarCharactersData {
         })
     }
 
-    /// Whether the character is in: whether some pair of the list has it. It takes no memory.
+    /// Whether the character is in: whether some pair of the list has it.
     pub fn contains(&self, character: char) -> bool
         ensures { result ≡ has_character self.now.ranges character }
     {
@@ -75,7 +76,7 @@ impl ExemplarCharactersData {
     }
 
     /// Whether the text is in: of one character, whether the character is; of any other, the empty one too, whether
-    /// the set of texts has it. It takes no memory.
+    /// the set of texts has it.
     pub fn contains_str(&self, text: &str) -> bool
         ensures { result ≡ has_text self.now text.now }
     {

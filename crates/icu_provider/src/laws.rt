@@ -17,7 +17,8 @@ use std::cmp::{Ord, PartialEq};
 /// Requests are in order by their parts: locales by language, script and region, kinds by their places, and keys of one
 /// kind by their texts.
 pub fn requests_in_order()
-    ensures locales { (a b : DataLocale) → ⟦<DataLocale as Ord>⟧.cmp a b ≡ locale_order a b }
+    ensures locales { (a b : DataLocale)
+        → ⟦<DataLocale as Ord>⟧.cmp a b ≡ locale_order a b }
     ensures exemplars { (a b : ExemplarMarker) → ⟦<ExemplarMarker as Ord>⟧.cmp a b
         ≡ nat_cmp (exemplar_place a) (exemplar_place b) }
     ensures menus { (a b : MenuMarker) → ⟦<MenuMarker as Ord>⟧.cmp a b

@@ -6,7 +6,7 @@ use crate::DataError;
 use std::alloc::Global;
 use std::marker::Model;
 
-/// Rows in the order in which they were pushed. A contract sees the list of them.
+/// Rows in the order in which they were pushed. A contract sees the list of them. Only `push` takes memory.
 #[derive(Debug, Drop)]
 pub struct RowList<T> {
     rows: Vec<T>,
@@ -19,7 +19,7 @@ impl<T> Model for RowList<T> {
 }
 
 impl<T> RowList<T> {
-    /// A list without rows. It takes no memory.
+    /// A list without rows.
     pub fn new(alloc: Global) -> Self
         ensures { result ≡ [] }
     {
@@ -28,7 +28,7 @@ impl<T> RowList<T> {
         }
     }
 
-    /// The rows of a list, in its order. It takes no memory.
+    /// The rows of a list, in its order.
     pub fn from_vec(rows: Vec<T>) -> Self
         ensures { result ≡ rows.items }
     {
@@ -48,7 +48,7 @@ impl<T> RowList<T> {
         Ok(self.rows.push(row)?)
     }
 
-    /// The rows in order. It takes no memory.
+    /// The rows in order.
     pub fn as_slice(&self) -> &[T]
         ensures { result.now ≡ self.now }
     {

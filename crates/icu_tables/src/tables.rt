@@ -16,7 +16,8 @@ use icu_provider::{
 };
 use std::alloc::Global;
 
-/// Data in memory. A load of what is not held is refused by `IdentifierNotFound`.
+/// Data in memory. A load of what is not held is refused by `IdentifierNotFound`. Only an insert of a key that is not
+/// there yet takes memory.
 #[derive(Debug)]
 pub struct Tables {
     /// The likely subtags by language, if any are held.
@@ -56,7 +57,7 @@ impl Drop for Tables {
 }
 
 impl Tables {
-    /// Tables that hold nothing. It takes no memory.
+    /// Tables that hold nothing.
     pub fn new(alloc: Global) -> Self
         ensures { result ≡ record {
           likely_language = None;
@@ -83,44 +84,42 @@ impl Tables {
         }
     }
 
-    /// Takes the likely subtags by language, in place of what was held. It takes no memory.
+    /// Takes the likely subtags by language, in place of what was held.
     pub fn set_likely_language(&mut self, table: LikelySubtagsForLanguage)
         ensures { self.new ≡ record self.old { likely_language = Some table } }
     {
         self.likely_language = Some(table);
     }
 
-    /// Takes the likely subtags by script and region, in place of what was held. It takes no
-    /// memory.
+    /// Takes the likely subtags by script and region, in place of what was held.
     pub fn set_likely_script_region(&mut self, table: LikelySubtagsForScriptRegion)
         ensures { self.new ≡ record self.old { likely_script_region = Some table } }
     {
         self.likely_script_region = Some(table);
     }
 
-    /// Takes the further likely subtags, in place of what was held. It takes no memory.
+    /// Takes the further likely subtags, in place of what was held.
     pub fn set_likely_extended(&mut self, table: LikelySubtagsExtended)
         ensures { self.new ≡ record self.old { likely_extended = Some table } }
     {
         self.likely_extended = Some(table);
     }
 
-    /// Takes the rules of canonicalization, in place of what was held. It takes no memory.
+    /// Takes the rules of canonicalization, in place of what was held.
     pub fn set_aliases(&mut self, table: Aliases)
         ensures { self.new ≡ record self.old { aliases = Some table } }
     {
         self.aliases = Some(table);
     }
 
-    /// Takes which way scripts run, in place of what was held. It takes no memory.
+    /// Takes which way scripts run, in place of what was held.
     pub fn set_script_direction(&mut self, table: ScriptDirection)
         ensures { self.new ≡ record self.old { script_direction = Some table } }
     {
         self.script_direction = Some(table);
     }
 
-    /// Sets the exemplar characters of a marker and a locale. A set that is there gives way, and no
-    /// memory is taken.
+    /// Sets the exemplar characters of a marker and a locale. A set that is there gives way.
     ///
     /// # Errors
     ///
@@ -139,8 +138,8 @@ impl Tables {
         self.exemplars.insert((marker, locale), set)
     }
 
-    /// Sets the name of a marker, a locale and a key. A name that is there gives way, and no memory
-    /// is taken. A key of another kind than its marker is kept, and no load finds it.
+    /// Sets the name of a marker, a locale and a key. A name that is there gives way.
+    /// A key of another kind than its marker is kept, and no load finds it.
     ///
     /// # Errors
     ///
@@ -160,8 +159,8 @@ impl Tables {
         self.names.insert(marker, locale, key, name)
     }
 
-    /// Sets the name in menus of a marker, a locale and a language. A name that is there gives way,
-    /// and no memory is taken.
+    /// Sets the name in menus of a marker, a locale and a language. A name that is there gives
+    /// way.
     ///
     /// # Errors
     ///
@@ -182,7 +181,7 @@ impl Tables {
     }
 
     /// Sets how the parts of names are put together in the language of a locale. What is there
-    /// gives way, and no memory is taken.
+    /// gives way.
     ///
     /// # Errors
     ///

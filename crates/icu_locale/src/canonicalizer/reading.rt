@@ -170,7 +170,8 @@ fn read_variants(alloc: Global, text: &str) -> Result<Option<Variants>, DataErro
 }
 
 fn variant_pieces(alloc: Global, text: &str) -> Result<Vec<&str>, AllocError>
-    ensures { IfOk result (λ pieces. map (λ p. p.now) pieces.items ≡ pieces_of_variants text.now) }
+    ensures { IfOk result
+        (λ pieces. map (λ p. p.now) pieces.items ≡ pieces_of_variants text.now) }
 {
     text.split('-').collect(alloc)
 }

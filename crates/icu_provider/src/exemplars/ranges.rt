@@ -8,7 +8,7 @@ use crate::{DataError, DataErrorKind};
 use std::marker::Model;
 
 /// A set of characters as an inversion list: rising bounds, two by two, where each first one is in and each second one
-/// is not.
+/// is not. No call here takes memory.
 #[derive(Debug)]
 pub struct CharacterRanges {
     bounds: Vec<u32>,
@@ -32,7 +32,7 @@ impl Model for CharacterRanges {
 }
 
 impl CharacterRanges {
-    /// The set of an inversion list. It takes no memory.
+    /// The set of an inversion list.
     ///
     /// # Errors
     ///
@@ -51,7 +51,7 @@ impl CharacterRanges {
         }
     }
 
-    /// Whether some pair of bounds has the character, found by binary search. It takes no memory.
+    /// Whether some pair of bounds has the character, found by binary search.
     pub fn contains(&self, character: char) -> bool
         ensures { result ≡ has_character self.now character }
     {

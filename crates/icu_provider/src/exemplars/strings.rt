@@ -5,7 +5,7 @@ ghost use Rattle.icu_locale_core.specs.TextSet.{contains, from_list, text_cmp};
 use std::cmp::Ordering;
 use std::marker::Model;
 
-/// A set of texts, in a sorted list.
+/// A set of texts, in a sorted list. No call here takes memory.
 #[derive(Debug)]
 pub struct ExemplarStrings {
     texts: Vec<String>,
@@ -32,7 +32,7 @@ impl Model for ExemplarStrings {
 }
 
 impl ExemplarStrings {
-    /// The set of the texts of a list. It takes no memory.
+    /// The set of the texts of a list.
     pub fn new(mut texts: Vec<String>) -> Self
         ensures { result ≡ from_list (map string_bytes texts.items) }
     {
@@ -40,7 +40,7 @@ impl ExemplarStrings {
         ExemplarStrings { texts }
     }
 
-    /// Whether the text is one of them, found by binary search. It takes no memory.
+    /// Whether the text is one of them, found by binary search.
     pub fn contains(&self, text: &str) -> bool
         ensures { result ≡ contains self.now text.now }
     {
