@@ -1,4 +1,5 @@
 -- What only private functions cite.
+pub mod Appended
 pub mod LanguageParts
 pub mod Shown
 pub mod Walk

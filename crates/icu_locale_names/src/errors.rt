@@ -22,7 +22,7 @@ impl std::error::Error for LanguageIdentifierNameFallbackError {}
 /// Why a name is not written: `Display` writes the name of the refusal. The list of spans is unchanged after each.
 #[derive(Clone, Copy, Debug, PartialEq, Eq, Error)]
 pub enum NameWriteError {
-    /// Memory for the spans was asked for and refused. Nothing was written.
+    /// Memory for the spans, or for the text, was asked for and refused. Nothing was written.
     #[error("Memory")]
     Memory = 1,
     /// A write failed or took no byte. A beginning of the text was written, and not the whole.

@@ -5,6 +5,7 @@ ghost use Rattle.icu_locale_names.specs.LanguageNames.{GivesName, in_locale, dis
 ghost use Rattle.icu_locale_names.specs.LentNames.{pieces_of};
 ghost use Rattle.icu_provider.specs.Names.{part_of};
 
+mod appending;
 mod base;
 mod borrowed;
 mod named;

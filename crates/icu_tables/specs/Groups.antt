@@ -1,10 +1,12 @@
 -- Names in groups, one for each marker and locale, and the one list that a contract sees.
-use Rattle.std.specs.Prelude.{◌≢◌, List, [], ◌∷◌, ◌++◌, map, unwrap_or, String}
+use Rattle.std.specs.Prelude.{◌≡◌, ◌≢◌, List, [], ◌∷◌, ◌++◌, map, get_or, unwrap_or, Option, None, option_and_then, String}
+use Rattle.std.specs.Borrow.{Bor}
 use Rattle.std.specs.Global.{Global}
 use Rattle.std.specs.List.{AllByRecursion}
 use Rattle.std.specs.Ordering.{ordering_then}
 use Rattle.std.specs.declared.cmp.Ordering.{Ordering}
 use Rattle.icu_locale_core.specs.Maps.{IsSortedMap, value_at}
+use Rattle.icu_provider.specs.Requests.{name_cmp, name_place}
 use Rattle.icu_provider.specs.contracts.data_locale.DataLocaleOrd.TheImpl as data_locale
 use Rattle.icu_provider.specs.contracts.names.NameKeyOrd.TheImpl as name_key
 use Rattle.icu_provider.specs.contracts.names.NameMarkerOrd.TheImpl as name_marker
@@ -53,3 +55,18 @@ key_cmp a b = name_key.ghosts.cmp a b
 abbrev pub flat_names : List (NameGroup × List (NameKey × String Global))
     → List ((NameMarker × DataLocale × NameKey) × String Global)
 flat_names groups = flat request_of groups
+
+-- the names of a group that is lent, by key
+abbrev pub Names : Type 0
+Names = List (NameKey × String Global)
+
+-- the name at a key in a group, if both are there
+abbrev pub name_in_group : Option (Bor Names) → NameKey → Option (String Global)
+name_in_group group key = option_and_then (λ names. value_at key_cmp names.now key) group
+
+-- the groups of a locale, each at the place of its marker
+abbrev pub AreGroupsIn : List ((NameMarker × DataLocale × NameKey) × String Global) → DataLocale
+    → List (Option (Bor Names)) → Type 0
+AreGroupsIn rows locale groups = (marker : NameMarker) (key : NameKey)
+    → name_in_group (get_or groups (name_place marker) None) key
+    ≡ value_at name_cmp rows (marker, locale, key)

@@ -5,9 +5,13 @@ mod error;
 mod file;
 mod kinds;
 pub mod laws;
+mod locale_names;
+mod locale_tables;
 mod name_rows;
 mod tables;
 
 pub use error::TableError;
+pub use locale_names::LocaleNames;
+pub use locale_tables::LocaleTables;
 pub use name_rows::NameRows;
 pub use tables::Tables;

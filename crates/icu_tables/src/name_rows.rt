@@ -4,8 +4,9 @@ ghost use Rattle.icu_locale_core.specs.Maps.{value_at};
 ghost use Rattle.icu_provider.specs.SortedMaps.{Inserts, IsSortedMap};
 ghost use Rattle.icu_provider.specs.Requests.{name_cmp};
 ghost use Rattle.icu_provider.specs.Places.{IsAt, IsGapFor};
-ghost use Rattle.icu_tables.specs.Groups.{flat_names, group_cmp};
+ghost use Rattle.icu_tables.specs.Groups.{flat_names, group_cmp, name_in_group};
 
+use crate::LocaleNames;
 use icu_provider::laws::keys_are_told_apart;
 use icu_provider::{DataError, DataLocale, NameKey, NameMarker, SortedMap};
 use std::alloc::Global;
@@ -75,10 +76,30 @@ impl NameRows {
         ensures { option_copied result
             ≡ value_at name_cmp self.now (marker, locale, key.now) }
     {
-        match place_of(&self.groups, &(marker, locale)) {
-            Ok(at) => self.groups[at].1.get(key),
+        self.group(marker, &locale)?.get(key)
+    }
+
+    // The names of a marker and a locale, if there are any, found by binary search.
+    #[inline]
+    pub(crate) fn group(
+        &self,
+        marker: NameMarker,
+        locale: &DataLocale,
+    ) -> Option<&SortedMap<NameKey, String>>
+        ensures { (key : NameKey)
+            → name_in_group result key ≡ value_at name_cmp self.now (marker, locale.now, key) }
+    {
+        match place_of(&self.groups, &(marker, *locale)) {
+            Ok(at) => Some(&self.groups[at].1),
             Err(_) => None,
         }
+    }
+
+    /// The same names, to be asked in one locale again and again. It takes no memory.
+    pub fn in_locale(&self, locale: DataLocale) -> LocaleNames<'_>
+        ensures { result ≡ self.now }
+    {
+        LocaleNames::new(self, locale)
     }
 
     /// Sets the name at a marker, a locale and a key. A key that is there stays and takes the name, with no memory

@@ -221,7 +221,7 @@ impl Tables {
     }
 }
 
-const NOT_FOUND: DataError = DataError {
+pub(crate) const NOT_FOUND: DataError = DataError {
     kind: DataErrorKind::IdentifierNotFound,
 };
 

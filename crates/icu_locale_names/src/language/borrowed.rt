@@ -6,6 +6,7 @@ ghost use Rattle.icu_locale_names.specs.Pieces.{text_of, spans, has_raw, Appends
 ghost use Rattle.icu_locale_names.specs.inner.Walk.{pieces_left};
 
 use crate::errors::{LanguageIdentifierNameFallbackError, NameWriteError};
+use crate::language::appending::append_name;
 use crate::language::parts::Parts;
 use crate::language::walk::PieceWalk;
 use crate::language::writing::{format_pieces, measured, spans_of, write_pieces};
@@ -13,8 +14,8 @@ use crate::shown::Shown;
 use icu_provider::PatternItem;
 use std::{fmt, io};
 
-/// The name of an identifier that is lent (UTS #35 Part 2, "Locale Display Name Algorithm"): `Display` writes its text. No
-/// call but `try_write_to_parts` takes memory.
+/// The name of an identifier that is lent (UTS #35 Part 2, "Locale Display Name Algorithm"): `Display` writes its text.
+/// Only `try_write_to_parts` and `append_to` take memory.
 #[derive(Clone, Copy, Debug)]
 pub struct LanguageIdentifierDisplayNameBorrowed<'a> {
     pub(super) parts: &'a Parts<'a>,
@@ -65,6 +66,30 @@ impl<'a> LanguageIdentifierDisplayNameBorrowed<'a> {
         }
         write_pieces(self, sink)?;
         Ok(Ok(()))
+    }
+
+    /// Puts the text behind `text`, and tells whether a raw subtag stands in it. It takes memory where `text` has no
+    /// room.
+    ///
+    /// # Errors
+    ///
+    /// `Memory` where `text` could not grow. It is as it was then.
+    #[tactic(auto, using(crate::proofs::Appending::take_grown))]
+    pub fn append_to(&self, text: &mut Vec<u8>) -> Result<bool, NameWriteError>
+        ensures text { OnOk result (text.new.items
+            ≡ text.old.items ++ text_of (pieces_of self.now)) }
+        ensures raw { IfOk result (λ is_raw. is_raw ≡ has_raw (pieces_of self.now)) }
+        ensures refused { IfErr result (λ e. e ≡ NameWriteError.Memory) }
+        ensures unchanged { OnErr result (text.new.items ≡ text.old.items) }
+    {
+        let before = text.as_slice().len();
+        match append_name(self, text) {
+            Ok(is_raw) => Ok(is_raw),
+            Err(_) => {
+                text.truncate(before);
+                Err(NameWriteError::Memory)
+            }
+        }
     }
 
     // Writes the text, and puts the span of each raw subtag behind `parts`, which is unchanged after a refusal.

@@ -1,0 +1,175 @@
+//! The text of a name, put behind a text in one walk.
+ghost use Rattle.std.specs.Prelude.{◌≡◌, ◌≢◌, ◌∷◌, [], map, true, false, OnErr, IfOk};
+ghost use Rattle.std.specs.List.{flat_map};
+ghost use Rattle.icu_provider.specs.Names.{part_of};
+ghost use Rattle.icu_locale_names.specs.LanguageNames.{joined};
+ghost use Rattle.icu_locale_names.specs.LentNames.{pieces_of};
+ghost use Rattle.icu_locale_names.specs.inner.Appended.{AddsPieces, IsGrown, Joins, filled_in, qualifiers_of};
+ghost use Rattle.icu_locale_names.specs.inner.Shown.{piece_of, shown_pieces};
+
+use crate::language::LanguageIdentifierDisplayNameBorrowed;
+use crate::shown::Shown;
+use icu_provider::PatternItem;
+use std::alloc::AllocError;
+
+// Of qualifiers that stand behind a text: whether there is one, and whether one is a raw subtag.
+#[derive(Clone, Copy, Debug)]
+pub struct Joined {
+    pub is_any: bool,
+    pub is_raw: bool,
+}
+
+// The text of a name behind a text, and whether a raw subtag stands in it.
+pub fn append_name(
+    name: &LanguageIdentifierDisplayNameBorrowed<'_>,
+    text: &mut Vec<u8>,
+) -> Result<bool, AllocError>
+    ensures added { IfOk result
+        (AddsPieces (pieces_of name.now) text.old.items text.new.items) }
+    ensures part { OnErr result (IsGrown text.old.items text.new.items) }
+{
+    if has_qualifier(name) {
+        append_pattern(name, text)
+    } else {
+        append_shown(&name.parts.base, text)
+    }
+}
+
+// Whether something stands behind the base.
+fn has_qualifier(name: &LanguageIdentifierDisplayNameBorrowed<'_>) -> bool
+    ensures none { result ≡ false → qualifiers_of name.now ≡ [] }
+    ensures some { result ≡ true → qualifiers_of name.now ≢ [] }
+{
+    name.parts.extension.is_some()
+        || name.parts.script.is_some()
+        || name.parts.region.is_some()
+        || !name.variants.is_empty()
+}
+
+// The pattern, filled item by item.
+fn append_pattern(
+    name: &LanguageIdentifierDisplayNameBorrowed<'_>,
+    text: &mut Vec<u8>,
+) -> Result<bool, AllocError>
+    ensures added { IfOk result (AddsPieces
+        (flat_map (filled_in name.now) (map part_of name.now.pattern.now))
+        text.old.items text.new.items) }
+    ensures part { OnErr result (IsGrown text.old.items text.new.items) }
+{
+    let mut is_raw = false;
+    for item in name.pattern {
+        let more = append_item(name, item, text)?;
+        is_raw |= more;
+    }
+    Ok(is_raw)
+}
+
+// What an item of the pattern stands for.
+fn append_item(
+    name: &LanguageIdentifierDisplayNameBorrowed<'_>,
+    item: &PatternItem,
+    text: &mut Vec<u8>,
+) -> Result<bool, AllocError>
+    ensures added { IfOk result
+        (AddsPieces (filled_in name.now (part_of item.now)) text.old.items text.new.items) }
+    ensures part { OnErr result (IsGrown text.old.items text.new.items) }
+{
+    match item {
+        PatternItem::Literal(literal) => {
+            text.extend_from_slice(literal.as_bytes())?;
+            Ok(false)
+        }
+        PatternItem::First => append_shown(&name.parts.base, text),
+        PatternItem::Second => append_qualifiers(name, text),
+    }
+}
+
+// The qualifiers, with the separator between each two.
+fn append_qualifiers(
+    name: &LanguageIdentifierDisplayNameBorrowed<'_>,
+    text: &mut Vec<u8>,
+) -> Result<bool, AllocError>
+    ensures added { IfOk result (AddsPieces
+        (joined name.now.separator.now (qualifiers_of name.now)) text.old.items text.new.items) }
+    ensures part { OnErr result (IsGrown text.old.items text.new.items) }
+{
+    let none = Joined {
+        is_any: false,
+        is_raw: false,
+    };
+    let separator = name.separator;
+    let extension = append_if_any(text, separator, &name.parts.extension, none)?;
+    let script = append_if_any(text, separator, &name.parts.script, extension)?;
+    let region = append_if_any(text, separator, &name.parts.region, script)?;
+    let all = append_each(text, separator, name.variants, region)?;
+    Ok(all.is_raw)
+}
+
+// Qualifiers, each behind those before it.
+fn append_each(
+    text: &mut Vec<u8>,
+    separator: &str,
+    qualifiers: &[Shown<'_>],
+    before: Joined,
+) -> Result<Joined, AllocError>
+    ensures joined { IfOk result (Joins separator.now (map piece_of qualifiers.now)
+        text.old.items before text.new.items) }
+    ensures part { OnErr result (IsGrown text.old.items text.new.items) }
+{
+    let mut so_far = before;
+    for shown in qualifiers {
+        so_far = append_next(text, separator, shown, so_far)?;
+    }
+    Ok(so_far)
+}
+
+// A qualifier, if there is one.
+#[inline(always)]
+fn append_if_any(
+    text: &mut Vec<u8>,
+    separator: &str,
+    shown: &Option<Shown<'_>>,
+    before: Joined,
+) -> Result<Joined, AllocError>
+    ensures joined { IfOk result (Joins separator.now (shown_pieces shown.now)
+        text.old.items before text.new.items) }
+    ensures part { OnErr result (IsGrown text.old.items text.new.items) }
+{
+    match shown {
+        Some(shown) => append_next(text, separator, shown, before),
+        None => Ok(before),
+    }
+}
+
+// A qualifier: after a separator, unless it is the first.
+fn append_next(
+    text: &mut Vec<u8>,
+    separator: &str,
+    shown: &Shown<'_>,
+    before: Joined,
+) -> Result<Joined, AllocError>
+    ensures joined { IfOk result (Joins separator.now (piece_of shown.now ∷ [])
+        text.old.items before text.new.items) }
+    ensures part { OnErr result (IsGrown text.old.items text.new.items) }
+{
+    if before.is_any {
+        text.extend_from_slice(separator.as_bytes())?;
+    }
+    let is_raw = append_shown(shown, text)?;
+    Ok(Joined {
+        is_any: true,
+        is_raw: before.is_raw || is_raw,
+    })
+}
+
+// What is shown, and whether it is a raw subtag.
+#[inline(always)]
+fn append_shown(shown: &Shown<'_>, text: &mut Vec<u8>) -> Result<bool, AllocError>
+    ensures added { IfOk result
+        (AddsPieces (piece_of shown.now ∷ []) text.old.items text.new.items) }
+    ensures part { OnErr result (IsGrown text.old.items text.new.items) }
+{
+    let piece = shown.lend();
+    text.extend_from_slice(piece.text.as_bytes())?;
+    Ok(piece.is_raw)
+}
