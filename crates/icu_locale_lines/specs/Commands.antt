@@ -94,7 +94,8 @@ IsWorkOf Direction t input (work.Direction d) =
 IsWorkOf Negotiate t input (work.Negotiate n) = IsExpanderOf t n.expander
     × AreSettled (likely n.expander) × SpellsAll (listed (first_line input)) n.available
 IsWorkOf (Name chain preferences) t input (work.Name n) =
-    (n.tables.now ≡ t) × (n.chain ≡ chain) × (n.preferences ≡ preferences)
+    ((n.tables.tables.now ≡ t) × (n.tables.names ≡ t.names))
+    × (n.chain ≡ chain) × (n.preferences ≡ preferences)
 IsWorkOf c t input other = ⊥
 
 -- the text whose lines a command answers: for `negotiate` without its first

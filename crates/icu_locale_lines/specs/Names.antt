@@ -11,20 +11,20 @@ use Rattle.icu_provider.specs.Requests.{menu_cmp, locale_cmp}
 use Rattle.icu_provider.specs.declared.data_locale.DataLocale.{DataLocale}
 use Rattle.icu_provider.specs.declared.error.DataError.{DataError}
 use Rattle.icu_tables.specs.Tables.{held, name_in}
-use Rattle.icu_tables.specs.declared.tables.Tables.{Tables}
+use Rattle.icu_tables.specs.declared.locale_tables.LocaleTables.{LocaleTables}
 use Rattle.icu_locale_lines.specs.declared.naming.Naming.{Naming}
 use Rattle.icu_locale_lines.specs.Texts.{named_line, refused_line}
 
 -- what tables answer in the language of a locale
-abbrev pub answers_in : Tables → DataLocale → LocaleAnswers
+abbrev pub answers_in : LocaleTables → DataLocale → LocaleAnswers
 answers_in t locale = in_locale (λ marker at key. held (name_in t.names marker at key))
-    (λ marker at language. held (value_at menu_cmp t.menus (marker, at, language)))
-    (λ at. held (value_at locale_cmp t.essentials at)) locale
+    (λ marker at language. held (value_at menu_cmp t.tables.now.menus (marker, at, language)))
+    (λ at. held (value_at locale_cmp t.tables.now.essentials at)) locale
 
 -- the name of an identifier, where names of dialects are asked for
 abbrev pub name_asked : Naming → LanguageIdentifier → Result (List Piece) DataError
 name_asked n x =
-    name_of (answers_in n.tables.now n.preferences.locale) (chain_of n.chain) Dialect x
+    name_of (answers_in n.tables n.preferences.locale) (chain_of n.chain) Dialect x
 
 -- a name gives its line, and a refused one the kind of its refusal
 abbrev pub IsNamedLine : Result (List Piece) DataError → List ℕ → Bool → Type 0

@@ -24,7 +24,7 @@ use icu_locale::{
 };
 use icu_locale_core::ParseError;
 use icu_provider::DataProvider;
-use icu_tables::Tables;
+use icu_tables::{LocaleTables, Tables};
 use std::alloc::Global;
 use std::io::Write;
 
@@ -78,7 +78,7 @@ impl<'d> Loaded<'d> {
                 Ok(Loaded::Negotiate(expander))
             }
             LineCommand::Name(chain, preferences) => Ok(Loaded::Ready(Work::Name(Naming {
-                tables,
+                tables: LocaleTables::new(tables, preferences.locale),
                 chain: *chain,
                 preferences: *preferences,
             }))),

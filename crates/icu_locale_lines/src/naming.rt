@@ -18,7 +18,7 @@ use icu_locale_names::{
     NameChain,
 };
 use icu_provider::{DataError, DataErrorKind};
-use icu_tables::Tables;
+use icu_tables::LocaleTables;
 use std::alloc::Global;
 
 // The preferences that a text names: an identifier without variants. Where memory for variants is refused there are some.
@@ -38,10 +38,10 @@ pub fn read_preferences(alloc: Global, text: &str) -> Result<DisplayNamesPrefere
 }
 
 /// What gives names: tables, a chain, and the preferences in whose language names are asked for.
-#[derive(Clone, Copy, Debug)]
+#[derive(Debug, Drop)]
 pub struct Naming<'d> {
-    /// The tables that are asked.
-    pub tables: &'d Tables,
+    /// The tables that are asked, mostly in the locale of the preferences.
+    pub tables: LocaleTables<'d>,
     /// The chain.
     pub chain: NameChain,
     /// The preferences.
@@ -67,13 +67,13 @@ impl<'d> Naming<'d> {
         &self,
         alloc: Global,
         identifier: &LanguageIdentifier,
-    ) -> Result<LanguageIdentifierDisplayName<'d>, DataError>
-        ensures { GivesName (answers_in self.now.tables.now self.now.preferences.locale)
+    ) -> Result<LanguageIdentifierDisplayName<'_>, DataError>
+        ensures { GivesName (answers_in self.now.tables self.now.preferences.locale)
             (chain_of self.now.chain) Dialect identifier.now result }
     {
         LanguageIdentifierDisplayName::try_new_unstable(
             alloc,
-            self.tables,
+            &self.tables,
             self.chain,
             self.preferences,
             identifier,
@@ -82,19 +82,18 @@ impl<'d> Naming<'d> {
     }
 }
 
-// The line of a name: its text, and whether a raw subtag was written. A text that is too long finds no memory.
+// The line of a name: its text, and whether a raw subtag was written.
 fn add_named(text: &mut Vec<u8>, name: &LanguageIdentifierDisplayName<'_>) -> Result<bool, CliError>
     ensures answer { IfOk result (AddsLine (λ t a. (t ≡ named_line name.now) × (a ≡ true))
         text.old.items text.new.items) }
     ensures refused { IfErr result (λ e. e ≡ CliError.Memory) }
     ensures kept { OnErr result (Keeps text.old.items text.new.items) }
 {
-    let mut spans = Vec::new(*text.allocator());
-    let report = match name.as_borrowed().try_write_to_parts(text, &mut spans) {
-        Ok(report) => report,
+    let is_raw = match name.as_borrowed().append_to(text) {
+        Ok(is_raw) => is_raw,
         Err(_) => return Err(CliError::Memory),
     };
-    let mark = if report.is_ok() { "\tN\n" } else { "\tR\n" };
+    let mark = if is_raw { "\tR\n" } else { "\tN\n" };
     add_text(text, mark)?;
     Ok(true)
 }

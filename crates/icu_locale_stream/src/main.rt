@@ -5,6 +5,30 @@ use icu_locale_lines::{CliError, Status, program_words, stream_words};
 use std::io;
 use std::process::ExitCode;
 
+// What `--help` writes.
+const HELP: &str = "\
+usage: icu_locale_stream COMMAND [json]
+       icu_locale_stream --help | --version
+
+Answers each line of standard input before it reads more. With json, the first line holds the tables; without it they
+are a small sample.
+
+  maximize                 the maximal form of each identifier
+  minimize                 the minimal form, with the region kept before the script
+  minimize-script          the minimal form, with the script kept before the region
+  canonicalize             the canonical form
+  direction                which way the likely script runs: ltr, rtl or none
+  negotiate                what is served for each line of requests; the first line lists what is available
+  name CHAIN PREFERENCES   what each identifier is called, as in: name light en
+  settled                  whether the tables are settled: yes or no
+
+CHAIN is tiny, light, short-light, long-light, menu-light, short-menu-light, heavy, short-heavy, long-heavy, menu-heavy
+or short-menu-heavy. The status is 0 where each line was accepted, 1 where one was refused, 2 where the run was.
+";
+
+// What `--version` writes.
+const VERSION: &str = "icu_locale_stream 0.4.0\n";
+
 fn main(rt: HostRuntime) -> ExitCode {
     match start(&rt) {
         Ok(Status::Accepted) => ExitCode::SUCCESS,
@@ -22,5 +46,20 @@ fn main(rt: HostRuntime) -> ExitCode {
 
 fn start(rt: &HostRuntime) -> Result<Status, CliError> {
     let words = program_words(rt)?;
-    stream_words(rt.alloc(), &words, &mut rt.reader(), io::writer(rt))
+    match asked_text(&words) {
+        Some(text) => match rt.print(text) {
+            Ok(()) => Ok(Status::Accepted),
+            Err(_) => Err(CliError::Write),
+        },
+        None => stream_words(rt.alloc(), &words, &mut rt.reader(), io::writer(rt)),
+    }
+}
+
+// The text that the words ask for, if that is all they ask.
+fn asked_text(words: &[String]) -> Option<&'static str> {
+    match words {
+        [word] if word.as_str() == "--help" => Some(HELP),
+        [word] if word.as_str() == "--version" => Some(VERSION),
+        _ => None,
+    }
 }

@@ -19,7 +19,7 @@ use icu_provider::{
     Aliases, DataError, DataErrorKind, DataProvider, ExemplarMarker, LikelySubtagsExtended,
     MenuMarker, NameKey, NameMarker, PatternItem,
 };
-use icu_tables::{TableError, Tables};
+use icu_tables::{LocaleTables, TableError, Tables};
 use std::alloc::Global;
 use std::fmt;
 use std::process::Abort;
@@ -223,7 +223,7 @@ fn variants(rt: &impl Abort, alloc: Global, tables: &Tables) -> Result<(), Fail>
 fn names_of_identifiers(rt: &impl Abort, alloc: Global, tables: &Tables) -> Result<(), Fail> {
     let (preferences, chain) = (english()?, NameChain::Light);
     let naming = Naming {
-        tables,
+        tables: LocaleTables::new(tables, preferences.locale),
         chain,
         preferences,
     };
