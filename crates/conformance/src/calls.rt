@@ -58,7 +58,7 @@ pub enum Call {
     JsonCuts,
 }
 
-const CALLS: [(&str, Call); 36] = [
+const CALLS: [(&str, Call); 37] = [
     ("read", Call::Read(Kind::Identifier)),
     ("language", Call::Read(Kind::Language)),
     ("script", Call::Read(Kind::Script)),
@@ -67,6 +67,7 @@ const CALLS: [(&str, Call); 36] = [
     ("key", Call::Read(Kind::Key)),
     ("subtag", Call::Read(Kind::Subtag)),
     ("value", Call::Read(Kind::Value)),
+    ("locale", Call::Read(Kind::Locale)),
     ("maximize", Call::Likely(Likely::Maximize)),
     ("minimize", Call::Likely(Likely::Minimize)),
     ("minimize-script", Call::Likely(Likely::MinimizeScript)),

@@ -4,6 +4,7 @@ use icu_locale_core::{
     Key, Keywords, Language, LanguageIdentifier, ParseError, Region, Script, Subtag, Value,
     Variant, Variants,
 };
+use icu_locale_extensions::LocaleIdentifier;
 use std::alloc::Global;
 use std::cmp::Ordering;
 use std::fmt;
@@ -27,6 +28,8 @@ pub enum Kind {
     Subtag,
     /// A value.
     Value,
+    /// A locale identifier.
+    Locale,
 }
 
 // What was read, as it is written, or the refusal's name.
@@ -45,6 +48,7 @@ pub fn read(alloc: Global, kind: Kind, text: &[u8]) -> Result<String, Fault> {
     match kind {
         Kind::Identifier => identifier(alloc, LanguageIdentifier::try_from_utf8(alloc, text)),
         Kind::Value => value(alloc, Value::try_from_utf8(alloc, text)),
+        Kind::Locale => locale(alloc, LocaleIdentifier::try_from_utf8(alloc, text)),
         _ => match str::from_utf8(text) {
             Ok(text) => read_str(alloc, kind, text),
             Err(_) => Err(Fault::Row),
@@ -62,6 +66,7 @@ fn read_str(alloc: Global, kind: Kind, text: &str) -> Result<String, Fault> {
         Kind::Key => shown(alloc, Key::try_from_str(text)),
         Kind::Subtag => shown(alloc, Subtag::try_from_str(text)),
         Kind::Value => value(alloc, Value::try_from_str(alloc, text)),
+        Kind::Locale => locale(alloc, LocaleIdentifier::try_from_str(alloc, text)),
     }
 }
 
@@ -80,6 +85,14 @@ fn identifier(
 fn value(alloc: Global, read: Result<Value, ParseError>) -> Result<String, Fault> {
     if let Ok(value) = &read {
         compare(value, value.try_clone()?)?;
+    }
+    shown(alloc, read)
+}
+
+// A locale identifier, whose copy has to be equal.
+fn locale(alloc: Global, read: Result<LocaleIdentifier, ParseError>) -> Result<String, Fault> {
+    if let Ok(locale) = &read {
+        compare(locale, locale.try_clone()?)?;
     }
     shown(alloc, read)
 }

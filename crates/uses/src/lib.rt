@@ -10,6 +10,7 @@ mod meaning;
 mod menu;
 mod negotiation;
 mod rows;
+mod same_locale;
 mod spelling;
 mod switcher;
 
@@ -22,5 +23,6 @@ pub use meaning::mean_the_same;
 pub use menu::{MenuError, MenuLine, menu_line, menu_lines};
 pub use negotiation::find_served;
 pub use rows::table_with_row;
+pub use same_locale::are_same_locale;
 pub use spelling::is_spelling;
 pub use switcher::serve;

@@ -1,0 +1,71 @@
+-- Extensions written behind their marks, and the whole of an identifier.
+use Rattle.std.proofs.Common.{◌≡◌, ℕ, true, false, List, [], ◌∷◌, ◌++◌, codes, refl, ap, sym, ◌∙◌, append_assoc}
+use Rattle.std.proofs.lemmas.Bool.{false≢true}
+use Rattle.icu_locale_core.specs.Identifier.{subtags}
+use Rattle.icu_locale_core.specs.TextSet.{rising}
+use Rattle.icu_locale_core.specs.declared.langid.LanguageIdentifier.{LanguageIdentifier}
+use Rattle.icu_locale_extensions.specs.Extensions.{any_piece}
+use Rattle.icu_locale_extensions.specs.Locales.{marked, marked_if_any, extension_pieces, written, lower_subtags, transform_pieces, unicode_pieces}
+use Rattle.icu_locale_extensions.specs.Rows.{flat, dashed, below_t, above_t}
+use Rattle.icu_locale_extensions.specs.declared.identifier.LocaleIdentifier.{LocaleIdentifier}
+use Rattle.icu_locale_extensions.proofs.Dashes.{dashed-append, dashed-keywords}
+use Rattle.icu_locale_core.specs.Identifier as core
+use Rattle.icu_locale_core.specs.Keywords.{written_keywords}
+
+-- nothing is written where there is no piece
+pub dashed_none : (mark : List ℕ) (ps : List (List ℕ)) → any_piece ps ≡ false → dashed (marked mark ps) ≡ []
+dashed_none mark [] none = refl
+dashed_none mark (p ∷ ps) none = absurd (false≢true (sym none))
+
+-- else the mark and the pieces
+pub dashed_marked : (mark : List ℕ) (ps : List (List ℕ)) → any_piece ps ≡ true → dashed (marked mark ps) ≡ (codes "-" ++ mark) ++ dashed ps
+dashed_marked mark [] some = absurd (false≢true some)
+dashed_marked mark (p ∷ ps) some = refl
+
+pub dashed_transform : (x : LocaleIdentifier) → any_piece (transform_pieces x) ≡ true
+    → codes "-t" ++ (dashed (lower_subtags x.locale.extensions.transform.lang) ++ dashed (flat x.fields)) ≡ dashed (marked (codes "t") (transform_pieces x))
+dashed_transform x some =
+    ap (λ t. codes "-t" ++ t) (sym (dashed-append (lower_subtags x.locale.extensions.transform.lang) (flat x.fields)))
+    ∙ sym (dashed_marked (codes "t") (transform_pieces x) some)
+
+pub dashed_unicode : (x : LocaleIdentifier) → any_piece (unicode_pieces x) ≡ true
+    → codes "-u" ++ (dashed x.attributes ++ written_keywords x.locale.extensions.unicode.keywords) ≡ dashed (marked (codes "u") (unicode_pieces x))
+dashed_unicode x some =
+    ap (λ t. codes "-u" ++ (dashed x.attributes ++ t)) (dashed-keywords x.locale.extensions.unicode.keywords)
+    ∙ ap (λ t. codes "-u" ++ t) (sym (dashed-append x.attributes (flat x.locale.extensions.unicode.keywords)))
+    ∙ sym (dashed_marked (codes "u") (unicode_pieces x) some)
+
+-- the extensions, one by one
+pub dashed_extensions : (x : LocaleIdentifier)
+    → dashed (flat (below_t x.others)) ++ (dashed (marked (codes "t") (transform_pieces x)) ++ (dashed (marked (codes "u") (unicode_pieces x))
+    ++ (dashed (flat (above_t x.others)) ++ dashed (marked_if_any (codes "x") x.private_use)))) ≡ dashed (extension_pieces x)
+dashed_extensions x =
+    let b = flat (below_t x.others) in
+    let t = marked (codes "t") (transform_pieces x) in
+    let u = marked (codes "u") (unicode_pieces x) in
+    let a = flat (above_t x.others) in
+    let p = marked_if_any (codes "x") x.private_use in
+    ap (λ r. dashed b ++ (dashed t ++ (dashed u ++ r))) (sym (dashed-append a p))
+    ∙ ap (λ r. dashed b ++ (dashed t ++ r)) (sym (dashed-append u (a ++ p)))
+    ∙ ap (λ r. dashed b ++ r) (sym (dashed-append t (u ++ (a ++ p))))
+    ∙ sym (dashed-append b (t ++ (u ++ (a ++ p))))
+
+-- the identifier, and then the extensions
+pub written_parts : (x : LocaleIdentifier) → core.written x.locale.id ++ dashed (extension_pieces x) ≡ written x
+written_parts x =
+    let l = x.locale.id.language in
+    let rest = subtags_behind x.locale.id in
+    append_assoc l (dashed rest) (dashed (extension_pieces x)) ∙ ap (λ t. l ++ t) (sym (dashed-append rest (extension_pieces x)))
+  where
+    subtags_behind : LanguageIdentifier → List (List ℕ)
+    subtags_behind id = behind_first (subtags id (rising id.variants))
+      where
+        behind_first : List (List ℕ) → List (List ℕ)
+        behind_first [] = []
+        behind_first (p ∷ ps) = ps
+
+-- the whole of an identifier, part by part
+pub written_all : (x : LocaleIdentifier)
+    → core.written x.locale.id ++ (dashed (flat (below_t x.others)) ++ (dashed (marked (codes "t") (transform_pieces x)) ++ (dashed (marked (codes "u") (unicode_pieces x))
+    ++ (dashed (flat (above_t x.others)) ++ dashed (marked_if_any (codes "x") x.private_use))))) ≡ written x
+written_all x = ap (λ t. core.written x.locale.id ++ t) (dashed_extensions x) ∙ written_parts x

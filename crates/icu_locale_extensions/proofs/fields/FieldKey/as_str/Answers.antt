@@ -1,0 +1,5 @@
+use Rattle.icu_locale_extensions.proofs.Marks.{IsUtf8-tkey}
+use Rattle.icu_locale_extensions.proofs.fields.FieldKey.as_str.Goals as goal
+
+pub from_utf8_unchecked-requires : goal.from_utf8_unchecked-requires
+from_utf8_unchecked-requires c = IsUtf8-tkey c.self.inside.0 c.self.invariant.member

@@ -1,0 +1,6 @@
+-- What only private functions and invariants cite.
+pub mod Lent
+pub mod Marks
+pub mod Places
+pub mod Readings
+pub mod Texts

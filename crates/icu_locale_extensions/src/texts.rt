@@ -1,0 +1,174 @@
+//! The pieces of a field, of another extension and of private use.
+ghost use Rattle.std.specs.Prelude.{◌≡◌, true, map, Some, IfOk, IfErr, IsOk, List, ℕ, nat_eq};
+ghost use Rattle.std.proofs.Common.{rules};
+ghost use Rattle.std.specs.Cmp.Lexicographic.{pointwise};
+ghost use Rattle.std.specs.Cmp.Rules.{comparing};
+ghost use Rattle.std.specs.List.{list_all};
+ghost use Rattle.icu_locale_core.specs.Identifier.{pieces};
+ghost use Rattle.icu_locale_core.specs.Subtag.{is_alphanumeric};
+ghost use Rattle.icu_locale_core.specs.Value.{written_value};
+ghost use Rattle.icu_locale_extensions.specs.Extensions.{is_piece, are_pieces, ArePieces, ReadsPieces};
+ghost use Rattle.icu_locale_extensions.specs.inner.Texts.{IsPiecesText, spelled};
+
+use icu_locale_core::{ParseError, Pieces};
+use std::alloc::{AllocError, Global};
+use std::fmt;
+use std::marker::Model;
+
+/// One piece or more, each of `LOW` to 8 letters or digits in lower case. A contract sees the list of the pieces.
+///
+/// They are kept as one text with `-` between them.
+#[derive(Drop)]
+pub struct Subtags<const LOW: usize> {
+    text: Vec<u8>,
+}
+
+impl<const LOW: usize> Model for Subtags<LOW> {
+    ghost Value = { List (List ℕ) };
+
+    ghost view = { λ a. pieces a.text.items };
+
+    ghost invariant = { λ a. IsPiecesText LOW a.text.items };
+}
+
+impl<const LOW: usize> Subtags<LOW> {
+    /// Reads pieces in any case, apart by `-` or `_`. It takes memory for their text.
+    ///
+    /// # Errors
+    ///
+    /// - `InvalidSubtag` exactly where some piece is not of `LOW` to 8 letters or digits.
+    /// - `Memory` where the text could not grow.
+    pub fn try_from_str(alloc: Global, text: &str) -> Result<Self, ParseError>
+        ensures { ReadsPieces LOW text.now result }
+    {
+        Subtags::try_from_utf8(alloc, text.as_bytes())
+    }
+
+    /// Reads pieces as `try_from_str` does. A byte past ASCII belongs to no piece.
+    ///
+    /// # Errors
+    ///
+    /// Those of `try_from_str`.
+    pub fn try_from_utf8(alloc: Global, text: &[u8]) -> Result<Self, ParseError>
+        ensures { ReadsPieces LOW text.now result }
+    {
+        if !are_pieces(Pieces::new(text), LOW) {
+            return Err(ParseError::InvalidSubtag);
+        }
+        Ok(Subtags {
+            text: lowered(alloc, text)?,
+        })
+    }
+
+    /// The pieces with `-` between them. It takes no memory.
+    pub fn as_str(&self) -> &str
+        ensures text { result.now ≡ written_value self.now }
+        ensures known { ArePieces LOW self.now }
+    {
+        unsafe { str::from_utf8_unchecked(&self.text) }
+    }
+
+    /// Equal pieces.
+    ///
+    /// # Errors
+    ///
+    /// `Memory` where the text could not be copied.
+    pub fn try_clone(&self) -> Result<Self, ParseError>
+        ensures same { IfOk result (λ ps. ps ≡ self.now) }
+        ensures refused { IfErr result (λ e. e ≡ ParseError.Memory) }
+    {
+        Ok(Subtags {
+            text: Vec::from_slice(*self.text.allocator(), &self.text)?,
+        })
+    }
+}
+
+impl<const LOW: usize> Clone for Subtags<LOW> {
+    ghost is_clone = { λ v w. w ≡ v };
+
+    fn clone(&self) -> Result<Self, AllocError> {
+        self.try_clone().map_err(|_| AllocError)
+    }
+}
+
+impl<const LOW: usize> PartialEq for Subtags<LOW> {
+    ghost eq = { pointwise (pointwise nat_eq) };
+
+    ghost laws = { Prim.search (comparing, rules) };
+
+    fn eq(&self, other: &Self) -> bool {
+        self.text == other.text
+    }
+}
+
+impl<const LOW: usize> Eq for Subtags<LOW> {
+    ghost laws = { Prim.search (comparing, rules) };
+}
+
+impl<const LOW: usize> fmt::Display for Subtags<LOW> {
+    ghost output = { λ ps. Some (written_value ps) };
+
+    fn fmt<W: fmt::Write>(&self, f: &mut fmt::Formatter<W>) -> fmt::Result {
+        f.write_str(self.as_str())
+    }
+}
+
+impl<const LOW: usize> fmt::Debug for Subtags<LOW> {
+    fn fmt<W: fmt::Write>(&self, f: &mut fmt::Formatter<W>) -> fmt::Result {
+        f.write_str(self.as_str())
+    }
+}
+
+// Whether each piece has low to 8 letters or digits.
+pub(crate) fn are_pieces(pieces: Pieces<'_>, low: usize) -> bool
+    ensures { result ≡ are_pieces low pieces.entry }
+{
+    for piece in pieces {
+        if !is_piece(piece, low) {
+            return false;
+        }
+    }
+    true
+}
+
+// Whether a piece has low to 8 letters or digits.
+fn is_piece(piece: &[u8], low: usize) -> bool
+    ensures { result ≡ is_piece low piece.now }
+{
+    low <= piece.len() && piece.len() <= 8 && is_alphanumeric(piece)
+}
+
+// Whether a piece has letters and digits alone.
+pub(crate) fn is_alphanumeric(piece: &[u8]) -> bool
+    ensures { result ≡ is_alphanumeric piece.now }
+{
+    for byte in piece {
+        if !byte.is_ascii_alphanumeric() {
+            return false;
+        }
+    }
+    true
+}
+
+// A text in lower case, with `-` for each separator.
+fn lowered(alloc: Global, text: &[u8]) -> Result<Vec<u8>, ParseError>
+    ensures read { IfOk result (λ list. list.items ≡ map spelled text.now) }
+    ensures refused { IfErr result (λ e. e ≡ ParseError.Memory) }
+{
+    let mut list = Vec::with_capacity(alloc, text.len())?;
+    for byte in text {
+        list.push(spelled(*byte))?;
+    }
+    Ok(list)
+}
+
+// A character in lower case, and `-` for a separator.
+fn spelled(byte: u8) -> u8
+    ensures { result ≡ spelled byte }
+{
+    if byte == b'_' {
+        b'-'
+    } else {
+        byte.to_ascii_lowercase()
+    }
+}
