@@ -18,7 +18,6 @@ use std::marker::Model;
 /// The attributes of the Unicode extension (attribute of UTS #35, section 3.6.1): a set.
 ///
 /// A contract sees their rising list. Only `insert` and `try_clone` take memory.
-#[derive(Drop)]
 pub struct Attributes {
     set: BTreeSet<Subtag>,
     alloc: Global,
@@ -120,6 +119,13 @@ impl Attributes {
             set: self.set.clone()?,
             alloc: self.alloc,
         })
+    }
+}
+
+// Written out, so that a caller drops it by one call at each exit.
+impl Drop for Attributes {
+    fn drop(self) {
+        let Attributes { set: _, alloc: _ } = self;
     }
 }
 
