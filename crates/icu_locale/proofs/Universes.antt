@@ -33,14 +33,14 @@ has_value f rows k v found = Contains-map (λ row. f row.1) rows (k, v) (has_row
 record HasParts (rules : Rules) (ps : List LanguageIdentifier) : Type 0 where
   rule : (r : Rule) → Contains rules.language r → Contains ps r.replacement
   variant_rule : (r : Rule) → Contains rules.language_variants r → Contains ps r.replacement
-  sign : (k l : List ℕ) → value_at text_cmp rules.aliases.now.sgn_region k ≡ Some l → Contains ps (of_language l)
+  sign : (k l : List ℕ) → value_at text_cmp rules.aliases.sgn_region k ≡ Some l → Contains ps (of_language l)
   len2 : (k : List ℕ) (b : LanguageIdentifier) → value_at text_cmp rules.language_len2 k ≡ Some b → Contains ps b
   len3 : (k : List ℕ) (b : LanguageIdentifier) → value_at text_cmp rules.language_len3 k ≡ Some b → Contains ps b
-  script : (k s : List ℕ) → value_at text_cmp rules.aliases.now.script k ≡ Some s → Contains ps (of_script s)
-  alpha : (k r : List ℕ) → value_at text_cmp rules.aliases.now.region_alpha k ≡ Some r → Contains ps (of_region r)
-  num : (k r : List ℕ) → value_at text_cmp rules.aliases.now.region_num k ≡ Some r → Contains ps (of_region r)
-  complex : (k r : List ℕ) (row : List ℕ × Vec (List ℕ) Global) → Contains rules.aliases.now.complex_region row → Contains row.1.items r → Contains ps (of_region r)
-  variant : (k w : List ℕ) → value_at text_cmp rules.aliases.now.variant k ≡ Some w → Contains ps (of_variant w)
+  script : (k s : List ℕ) → value_at text_cmp rules.aliases.script k ≡ Some s → Contains ps (of_script s)
+  alpha : (k r : List ℕ) → value_at text_cmp rules.aliases.region_alpha k ≡ Some r → Contains ps (of_region r)
+  num : (k r : List ℕ) → value_at text_cmp rules.aliases.region_num k ≡ Some r → Contains ps (of_region r)
+  complex : (k r : List ℕ) (row : List ℕ × Vec (List ℕ) Global) → Contains rules.aliases.complex_region row → Contains row.1.items r → Contains ps (of_region r)
+  variant : (k w : List ℕ) → value_at text_cmp rules.aliases.variant k ≡ Some w → Contains ps (of_variant w)
 
 -- a part of one kind is one of all
 part_of : (rules : Rules) (x : LanguageIdentifier) (ps : List LanguageIdentifier) (y : LanguageIdentifier) → Contains (parts_by_kind rules x) ps → Contains ps y → Contains (parts rules x) y
@@ -54,14 +54,14 @@ parts-HasParts : (rules : Rules) (x : LanguageIdentifier) → HasParts rules (pa
 parts-HasParts rules x = record {
   rule = λ r here. part_of rules x (map (λ r. r.replacement) rules.language) (r.replacement) (1, omega arith, refl) (Contains-map (λ r. r.replacement) rules.language r here);
   variant_rule = λ r here. part_of rules x (map (λ r. r.replacement) rules.language_variants) (r.replacement) (2, omega arith, refl) (Contains-map (λ r. r.replacement) rules.language_variants r here);
-  sign = λ k l found. part_of rules x (map (λ row. of_language row.1) rules.aliases.now.sgn_region) (of_language l) (3, omega arith, refl) (has_value of_language rules.aliases.now.sgn_region k l found);
+  sign = λ k l found. part_of rules x (map (λ row. of_language row.1) rules.aliases.sgn_region) (of_language l) (3, omega arith, refl) (has_value of_language rules.aliases.sgn_region k l found);
   len2 = λ k b found. part_of rules x (map (λ row. row.1) rules.language_len2) (b) (4, omega arith, refl) (has_value (λ b. b) rules.language_len2 k b found);
   len3 = λ k b found. part_of rules x (map (λ row. row.1) rules.language_len3) (b) (5, omega arith, refl) (has_value (λ b. b) rules.language_len3 k b found);
-  script = λ k s found. part_of rules x (map (λ row. of_script row.1) rules.aliases.now.script) (of_script s) (6, omega arith, refl) (has_value of_script rules.aliases.now.script k s found);
-  alpha = λ k r found. part_of rules x (map (λ row. of_region row.1) rules.aliases.now.region_alpha) (of_region r) (7, omega arith, refl) (has_value of_region rules.aliases.now.region_alpha k r found);
-  num = λ k r found. part_of rules x (map (λ row. of_region row.1) rules.aliases.now.region_num) (of_region r) (8, omega arith, refl) (has_value of_region rules.aliases.now.region_num k r found);
-  complex = λ k r row here inside. part_of rules x (flat_map (λ row. map of_region row.1.items) rules.aliases.now.complex_region) (of_region r) (9, omega arith, refl) (Contains-flat_map (λ row. map of_region row.1.items) rules.aliases.now.complex_region row (of_region r) here (Contains-map of_region row.1.items r inside));
-  variant = λ k w found. part_of rules x (map (λ row. of_variant row.1) rules.aliases.now.variant) (of_variant w) (10, omega arith, refl) (has_value of_variant rules.aliases.now.variant k w found);
+  script = λ k s found. part_of rules x (map (λ row. of_script row.1) rules.aliases.script) (of_script s) (6, omega arith, refl) (has_value of_script rules.aliases.script k s found);
+  alpha = λ k r found. part_of rules x (map (λ row. of_region row.1) rules.aliases.region_alpha) (of_region r) (7, omega arith, refl) (has_value of_region rules.aliases.region_alpha k r found);
+  num = λ k r found. part_of rules x (map (λ row. of_region row.1) rules.aliases.region_num) (of_region r) (8, omega arith, refl) (has_value of_region rules.aliases.region_num k r found);
+  complex = λ k r row here inside. part_of rules x (flat_map (λ row. map of_region row.1.items) rules.aliases.complex_region) (of_region r) (9, omega arith, refl) (Contains-flat_map (λ row. map of_region row.1.items) rules.aliases.complex_region row (of_region r) here (Contains-map of_region row.1.items r inside));
+  variant = λ k w found. part_of rules x (map (λ row. of_variant row.1) rules.aliases.variant) (of_variant w) (10, omega arith, refl) (has_value of_variant rules.aliases.variant k w found);
 }
 
 -- ---- one turn
@@ -103,8 +103,8 @@ module _ (likely : LikelySubtags) (rules : Rules) (ps : List LanguageIdentifier)
   made_by_sign_region y z made e =
       let source : LanguageIdentifier = record { language = codes "sgn"; script = None; region = y.region; variants = empty } in
       let found = some_map (λ l. replaced y source (of_language l)) (sign_language rules y) z e in
-      let looked = some_guarded (bytes_eq y.language (codes "sgn")) (option_and_then (value_at text_cmp rules.aliases.now.sgn_region) y.region) found.0 found.1 in
-      let here : Contains ps (of_language found.0) = option_and_then_some (value_at text_cmp rules.aliases.now.sgn_region) y.region found.0 looked (λ k is at. has.sign k found.0 at) in
+      let looked = some_guarded (bytes_eq y.language (codes "sgn")) (option_and_then (value_at text_cmp rules.aliases.sgn_region) y.region) found.0 found.1 in
+      let here : Contains ps (of_language found.0) = option_and_then_some (value_at text_cmp rules.aliases.sgn_region) y.region found.0 looked (λ k is at. has.sign k found.0 at) in
       subst (IsMadeOf ps) found.2 (IsMadeOf-replaced ps y source (of_language found.0) made (IsMadeOf-itself ps (of_language found.0) here))
 
   alias_among : (test : Bool) (k : List ℕ) (b : LanguageIdentifier) → value_at text_cmp (cond test rules.language_len2 rules.language_len3) k ≡ Some b → Contains ps b
@@ -120,11 +120,11 @@ module _ (likely : LikelySubtags) (rules : Rules) (ps : List LanguageIdentifier)
 
   made_by_script : (y z : LanguageIdentifier) → IsMadeOf ps y → by_script rules y ≡ Some z → IsMadeOf ps z
   made_by_script y z made e =
-      let found = some_map (λ s. record y { script = Some s }) (option_and_then (value_at text_cmp rules.aliases.now.script) y.script) z e in
-      let here : Contains ps (of_script found.0) = option_and_then_some (value_at text_cmp rules.aliases.now.script) y.script found.0 found.1 (λ k is at. has.script k found.0 at) in
+      let found = some_map (λ s. record y { script = Some s }) (option_and_then (value_at text_cmp rules.aliases.script) y.script) z e in
+      let here : Contains ps (of_script found.0) = option_and_then_some (value_at text_cmp rules.aliases.script) y.script found.0 found.1 (λ k is at. has.script k found.0 at) in
       subst (IsMadeOf ps) found.2 (IsMadeOf-script ps y found.0 made here)
 
-  region_among : (test : Bool) (k r : List ℕ) → value_at text_cmp (cond test rules.aliases.now.region_alpha rules.aliases.now.region_num) k ≡ Some r → Contains ps (of_region r)
+  region_among : (test : Bool) (k r : List ℕ) → value_at text_cmp (cond test rules.aliases.region_alpha rules.aliases.region_num) k ≡ Some r → Contains ps (of_region r)
   region_among true k r e = has.alpha k r e
   region_among false k r e = has.num k r e
 
@@ -137,9 +137,9 @@ module _ (likely : LikelySubtags) (rules : Rules) (ps : List LanguageIdentifier)
   made_by_complex_region : (y z : LanguageIdentifier) → IsMadeOf ps y → by_complex_region likely rules y ≡ Some z → IsMadeOf ps z
   made_by_complex_region y z made e =
       let found = some_map (λ r. record y { region = Some r }) (complex_region likely rules y) z e in
-      let here : Contains ps (of_region found.0) = option_and_then_some (λ (rs : Vec (List ℕ) Global). chosen (likely_region likely y) rs.items) (option_and_then (value_at text_cmp rules.aliases.now.complex_region) y.region) found.0 found.1 (λ rs looked chose.
-      option_and_then_some (value_at text_cmp rules.aliases.now.complex_region) y.region rs looked (λ k is at.
-      has.complex k found.0 (k, rs) (has_row rules.aliases.now.complex_region k rs at) (chosen_among (likely_region likely y) rs.items found.0 chose))) in
+      let here : Contains ps (of_region found.0) = option_and_then_some (λ (rs : Vec (List ℕ) Global). chosen (likely_region likely y) rs.items) (option_and_then (value_at text_cmp rules.aliases.complex_region) y.region) found.0 found.1 (λ rs looked chose.
+      option_and_then_some (value_at text_cmp rules.aliases.complex_region) y.region rs looked (λ k is at.
+      has.complex k found.0 (k, rs) (has_row rules.aliases.complex_region k rs at) (chosen_among (likely_region likely y) rs.items found.0 chose))) in
       subst (IsMadeOf ps) found.2 (IsMadeOf-region ps y found.0 made here)
 
   made_by_variant_test : (y z : LanguageIdentifier) (test : Bool) → IsMadeOf ps y → cond test (Some (record y { variants = image (λ v. unwrap_or (variant_alias rules v) v) y.variants })) None ≡ Some z → IsMadeOf ps z

@@ -100,7 +100,7 @@ module _ (likely : LikelySubtags) (rules : Rules) where
       by (by_rule rules y) _ e (plain_rule (len y.variants == 0) y z (ap (λ s. length (rising s) == 0) bare ∙ ap (λ n. n == 0) length-rising_empty) adds bare) (λ e.
       by (by_sign_region rules y) _ e (λ e. sign e) (λ e.
       by (by_language_alias rules y) _ e (bare_alias y z bare) (λ e.
-      by (by_script rules y) _ e (same_variants y z (λ s. record y { script = Some s }) (option_and_then (value_at text_cmp rules.aliases.now.script) y.script) (λ t. refl) bare) (λ e.
+      by (by_script rules y) _ e (same_variants y z (λ s. record y { script = Some s }) (option_and_then (value_at text_cmp rules.aliases.script) y.script) (λ t. refl) bare) (λ e.
       by (by_region rules y) _ e (same_variants y z (λ r. record y { region = Some r }) (option_and_then (region_alias rules) y.region) (λ t. refl) bare) (λ e.
       by (by_complex_region likely rules y) (by_variant rules y) e (same_variants y z (λ r. record y { region = Some r }) (complex_region likely rules y) (λ t. refl) bare) (bare_variant y z (list_any (λ v. is_some (variant_alias rules v)) (rising y.variants)) bare))))))
     where

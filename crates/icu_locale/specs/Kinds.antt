@@ -24,7 +24,7 @@ by_rule rules x = option_map (λ r. replaced x r.source r.replacement)
 -- the language that stands for `sgn` in a region
 abbrev pub sign_language : Rules → LanguageIdentifier → Option (List ℕ)
 sign_language rules x = if bytes_eq x.language (codes "sgn")
-    then option_and_then (value_at text_cmp rules.aliases.now.sgn_region) x.region else None
+    then option_and_then (value_at text_cmp rules.aliases.sgn_region) x.region else None
 
 -- kind 2: the language `sgn` with a region that is a key of `sgn_region` becomes the language of that region
 abbrev pub by_sign_region : Rules → LanguageIdentifier → Option LanguageIdentifier
@@ -49,12 +49,12 @@ by_language_alias rules x = option_map
 -- kind 4: a script that is a key of `script` is replaced
 abbrev pub by_script : Rules → LanguageIdentifier → Option LanguageIdentifier
 by_script rules x = option_map (λ s. record x { script = Some s })
-    (option_and_then (value_at text_cmp rules.aliases.now.script) x.script)
+    (option_and_then (value_at text_cmp rules.aliases.script) x.script)
 
 -- the region that stands for one of letters or of digits
 abbrev pub region_alias : Rules → List ℕ → Option (List ℕ)
 region_alias rules r = value_at text_cmp
-    (if is_alphabetic r then rules.aliases.now.region_alpha else rules.aliases.now.region_num) r
+    (if is_alphabetic r then rules.aliases.region_alpha else rules.aliases.region_num) r
 
 -- kind 5: a region that is a key of `region_alpha` or `region_num` is replaced
 abbrev pub by_region : Rules → LanguageIdentifier → Option LanguageIdentifier
@@ -76,7 +76,7 @@ likely_region likely x = (maximal likely
 abbrev pub complex_region : LikelySubtags → Rules → LanguageIdentifier → Option (List ℕ)
 complex_region likely rules x =
     option_and_then (λ rs. chosen (likely_region likely x) rs.items)
-    (option_and_then (value_at text_cmp rules.aliases.now.complex_region) x.region)
+    (option_and_then (value_at text_cmp rules.aliases.complex_region) x.region)
 
 -- kind 6: a region that is a key of `complex_region`, with a list that is not empty, is replaced by one of the list
 abbrev pub by_complex_region : LikelySubtags → Rules → LanguageIdentifier
@@ -86,7 +86,7 @@ by_complex_region likely rules x =
 
 -- the variant that stands for another
 abbrev pub variant_alias : Rules → List ℕ → Option (List ℕ)
-variant_alias rules v = value_at text_cmp rules.aliases.now.variant v
+variant_alias rules v = value_at text_cmp rules.aliases.variant v
 
 -- kind 7: where some variant is a key of `variant`, every variant that is one is replaced
 abbrev pub by_variant : Rules → LanguageIdentifier → Option LanguageIdentifier

@@ -10,6 +10,7 @@ pub mod LikelyTable
 pub mod Minimal
 pub mod Negotiation
 pub mod Refusals
+pub mod RuleSet
 pub mod Rules
 pub mod Run
 pub mod TableKeys

@@ -75,7 +75,7 @@ pub record AreRules (table : Aliases) (rules : Rules) : Type 0 where
   pub language_len2 : AreRead ReadsLanguage table.language_len2 rules.language_len2
   pub language_len3 : AreRead ReadsLanguage table.language_len3 rules.language_len3
   pub subdivision : AreRead ReadsSubdivision table.subdivision rules.subdivision
-  pub others : rules.aliases.now ≡ table
+  pub others : rules.aliases ≡ table
 
 -- no row of the table has a text that is read
 pub record HasNoTexts (table : Aliases) : Type 0 where

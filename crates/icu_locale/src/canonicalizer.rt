@@ -1,12 +1,11 @@
 //! Canonicalization of locales (UTS #35 Part 1, Annex C, "LocaleId Canonicalization").
-ghost use Rattle.std.specs.Prelude.{Some, IfOk, IfErr, IfSome};
-ghost use Rattle.icu_locale.specs.Kinds.{by_language_alias};
+ghost use Rattle.std.specs.Prelude.{◌≡◌, Some};
+ghost use Rattle.icu_locale.specs.LikelyTable.{likely};
+ghost use Rattle.icu_locale.specs.RuleSet.{lent, rules_over};
 ghost use Rattle.icu_locale.specs.Canonical.{without_extensions};
 ghost use Rattle.icu_locale.specs.Canonicalization.{Canonicalizes};
-ghost use Rattle.icu_locale.specs.Refusals.{IsRefusal, IsOutOfMemory, canonicalize_error_name};
-ghost use Rattle.icu_locale.specs.Cost.{CountsRuns, NeedsNoMemory, AddsNoVariants};
-ghost use Rattle.icu_locale.specs.Run.{IsLaterEndOf};
-ghost use Rattle.icu_locale.specs.inner.CanonicalParts.{IsRunRefusalOf, IsIdentifierRefusal, CountsSearchesOf, AreLaterEnds, AreChanges};
+ghost use Rattle.icu_locale.specs.Refusals.{canonicalize_error_name};
+ghost use Rattle.icu_locale.specs.Cost.{CountsRuns};
 
 use crate::{AsExpander, LocaleExpander, TransformResult, Turns};
 use icu_locale_core::{LanguageIdentifier, Locale, Value};
@@ -16,16 +15,15 @@ use std::fmt;
 mod changes;
 pub mod identifiers;
 mod kinds;
+pub mod lending;
 mod making;
 mod reading;
 pub mod replacing;
 pub mod rules;
 mod values;
 
-use changes::Changes;
-use identifiers::{later_end, matching};
-use rules::Rules;
-use values::later_values;
+use lending::CanonicalizerRef;
+use rules::{ReadRules, Rules};
 
 /// Canonicalizes locales by the rules of a table of aliases (UTS #35 Part 1, Annex C, "LocaleId Canonicalization").
 #[derive(Debug)]
@@ -70,7 +68,30 @@ impl fmt::Display for CanonicalizeError {
 
 impl Error for CanonicalizeError {}
 
+impl<'d, E: Drop> LocaleCanonicalizer<'d, E> {
+    /// What the canonicalizer owns of its rules, for a program that keeps it beside its tables. It takes no memory.
+    pub fn into_rules(self) -> ReadRules
+        ensures { rules_over result self.entry.rules.aliases ≡ self.entry.rules }
+    {
+        let LocaleCanonicalizer { rules, expander: _ } = self;
+        rules.into_read()
+    }
+}
+
 impl<'d, E: AsExpander<'d>> LocaleCanonicalizer<'d, E> {
+    /// The canonicalizer, lent. It takes no memory.
+    #[inline(always)]
+    pub fn lend(&self) -> CanonicalizerRef<'_>
+        ensures rules { lent result.rules ≡ self.now.rules }
+        ensures expander { result.expander ≡ E.expander self.now.expander }
+        ensures table { likely result.expander ≡ E.table self.now.expander }
+    {
+        CanonicalizerRef {
+            rules: self.rules.lend(),
+            expander: self.expander.as_expander(),
+        }
+    }
+
     /// Brings a locale to its canonical form (UTS #35 Part 1, Annex C): its identifier to the end of its run, its
     /// transform language to the end of its run by language aliases alone, and the values at `rg` and `sd` to the ends
     /// of theirs by the rows of subdivisions. The answer is `Modified` exactly where a rule or a row was applied, and
@@ -92,7 +113,7 @@ impl<'d, E: AsExpander<'d>> LocaleCanonicalizer<'d, E> {
         ensures outcome { Canonicalizes (E.table self.now.expander) self.now.rules
             locale.old locale.new result }
     {
-        self.canonicalize_counted(locale, &mut Turns::new())
+        self.lend().canonicalize(locale)
     }
 
     /// The same as `canonicalize`, with a count of the searches for a rule that matches. For each different identifier of
@@ -112,8 +133,7 @@ impl<'d, E: AsExpander<'d>> LocaleCanonicalizer<'d, E> {
         ensures count { CountsRuns (E.table self.now.expander) self.now.rules locale.old
             result turns.old turns.new }
     {
-        let changes = self.find_changes(locale, turns)?;
-        Ok(changes.write(locale))
+        self.lend().canonicalize_counted(locale, turns)
     }
 
     /// Brings an identifier to its canonical form, as `canonicalize` does of the locale with that identifier and no
@@ -130,86 +150,6 @@ impl<'d, E: AsExpander<'d>> LocaleCanonicalizer<'d, E> {
         ensures { Canonicalizes (E.table self.now.expander) self.now.rules
             (without_extensions id.old) (without_extensions id.new) result }
     {
-        let mut turns = Turns::new();
-        if matching(self, id, false, &mut turns).is_none() {
-            return Ok(TransformResult::Unmodified);
-        }
-        match later_end(self, id, false, &mut turns)? {
-            Some(last) => {
-                *id = last;
-                Ok(TransformResult::Modified)
-            }
-            None => Ok(TransformResult::Unmodified),
-        }
-    }
-
-    // What is to be changed of a locale, found before anything is written.
-    #[inline(always)]
-    fn find_changes(&self, locale: &Locale, turns: &mut Turns) -> Result<Changes, CanonicalizeError>
-        ensures found { IfOk result
-            (AreChanges (E.table self.now.expander) self.now.rules locale.now) }
-        ensures refusal { IfErr result
-            (IsRefusal (E.table self.now.expander) self.now.rules locale.now) }
-        ensures free { NeedsNoMemory (E.table self.now.expander) self.now.rules locale.now
-            → ¬ (IsOutOfMemory result) }
-        ensures count { CountsRuns (E.table self.now.expander) self.now.rules locale.now
-            result turns.old turns.new }
-    {
-        let (id, transform) = self.find_ends(locale, turns)?;
-        let keywords = &locale.extensions.unicode.keywords;
-        let (region_override, subdivision) = later_values(
-            &self.rules,
-            keywords,
-            &mut Turns::new(),
-        )?;
-        Ok(Changes {
-            id,
-            transform,
-            region_override,
-            subdivision,
-        })
-    }
-
-    // Where the runs of the identifier and then of the transform language end, each if that is at a later place than its
-    // start.
-    #[inline(always)]
-    fn find_ends(
-        &self,
-        locale: &Locale,
-        turns: &mut Turns,
-    ) -> Result<(Option<LanguageIdentifier>, Option<LanguageIdentifier>), CanonicalizeError>
-        ensures ends { IfOk result
-            (AreLaterEnds (E.table self.now.expander) self.now.rules locale.now) }
-        ensures refusal { IfErr result
-            (IsIdentifierRefusal (E.table self.now.expander) self.now.rules locale.now) }
-        ensures free { NeedsNoMemory (E.table self.now.expander) self.now.rules locale.now
-            → ¬ (IsOutOfMemory result) }
-        ensures count { CountsRuns (E.table self.now.expander) self.now.rules locale.now
-            result turns.old turns.new }
-    {
-        let id = later_end(self, &locale.id, false, turns)?;
-        let transform = self.transform_end(&locale.extensions.transform.lang, turns)?;
-        Ok((id, transform))
-    }
-
-    // Where the run of a transform language ends, if there is one and its end is at a later place than its start.
-    #[inline(always)]
-    fn transform_end(
-        &self,
-        lang: &Option<LanguageIdentifier>,
-        turns: &mut Turns,
-    ) -> Result<Option<LanguageIdentifier>, CanonicalizeError>
-        ensures end { IfOk result (IsLaterEndOf (by_language_alias self.now.rules) lang.now) }
-        ensures refused { IfErr result
-            (IsRunRefusalOf (by_language_alias self.now.rules) lang.now) }
-        ensures free { IfSome lang.now (AddsNoVariants (by_language_alias self.now.rules))
-            → ¬ (IsOutOfMemory result) }
-        ensures count { CountsSearchesOf (by_language_alias self.now.rules) lang.now result
-            turns.old turns.new }
-    {
-        match lang {
-            Some(lang) => later_end(self, lang, true, turns),
-            None => Ok(None),
-        }
+        self.lend().canonicalize_identifier(id)
     }
 }

@@ -12,7 +12,8 @@ mod rewriting;
 mod settled;
 
 pub use as_expander::AsExpander;
-pub use canonicalizer::rules::{Rule, Rules};
+pub use canonicalizer::lending::CanonicalizerRef;
+pub use canonicalizer::rules::{ReadRules, Rule, Rules, RulesRef};
 pub use canonicalizer::{CanonicalizeError, LocaleCanonicalizer};
 pub use directionality::{Direction, LocaleDirectionality};
 pub use expander::{LocaleExpander, TransformResult};

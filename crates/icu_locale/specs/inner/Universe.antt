@@ -32,14 +32,14 @@ parts_by_kind rules x =
     (x ∷ []) ∷
     (map (λ r. r.replacement) rules.language) ∷
     (map (λ r. r.replacement) rules.language_variants) ∷
-    (map (λ row. of_language row.1) rules.aliases.now.sgn_region) ∷
+    (map (λ row. of_language row.1) rules.aliases.sgn_region) ∷
     (map (λ row. row.1) rules.language_len2) ∷
     (map (λ row. row.1) rules.language_len3) ∷
-    (map (λ row. of_script row.1) rules.aliases.now.script) ∷
-    (map (λ row. of_region row.1) rules.aliases.now.region_alpha) ∷
-    (map (λ row. of_region row.1) rules.aliases.now.region_num) ∷
-    (flat_map (λ row. map of_region row.1.items) rules.aliases.now.complex_region) ∷
-    (map (λ row. of_variant row.1) rules.aliases.now.variant) ∷ []
+    (map (λ row. of_script row.1) rules.aliases.script) ∷
+    (map (λ row. of_region row.1) rules.aliases.region_alpha) ∷
+    (map (λ row. of_region row.1) rules.aliases.region_num) ∷
+    (flat_map (λ row. map of_region row.1.items) rules.aliases.complex_region) ∷
+    (map (λ row. of_variant row.1) rules.aliases.variant) ∷ []
 
 -- all of these
 unfoldable pub parts : Rules → LanguageIdentifier → List LanguageIdentifier

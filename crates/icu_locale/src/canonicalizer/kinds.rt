@@ -4,6 +4,7 @@ ghost use Rattle.std.specs.Option.{option_map};
 ghost use Rattle.std.specs.List.{find, list_any};
 ghost use Rattle.icu_locale_core.specs.TextSet.{rising};
 ghost use Rattle.icu_locale.specs.LikelyTable.{likely};
+ghost use Rattle.icu_locale.specs.RuleSet.{lent};
 ghost use Rattle.icu_locale.specs.Rules.{matches};
 ghost use Rattle.icu_locale.specs.Kinds.{
   rules_for,
@@ -26,7 +27,7 @@ ghost use Rattle.icu_locale.specs.Kinds.{
 ghost use Rattle.icu_locale.specs.inner.CanonicalParts.{rewritten};
 
 use super::replacing::{is_known, rule_matches};
-use crate::{LocaleExpander, Rule, Rules};
+use crate::{LocaleExpander, Rule, RulesRef};
 use icu_locale_core::{Language, LanguageIdentifier, Region, Script, Variant, Variants};
 use icu_provider::DataLocale;
 
@@ -43,12 +44,12 @@ pub enum Rewrite<'r> {
 
 // The rewrite of the first kind that matches.
 pub fn find_rewrite<'r>(
-    rules: &'r Rules<'_>,
+    rules: &RulesRef<'r>,
     expander: &LocaleExpander<'_>,
     x: &LanguageIdentifier,
 ) -> Option<Rewrite<'r>>
-    ensures { option_map (rewritten rules.now x.now) result ≡ next (likely expander.now) rules.now
-        x.now }
+    ensures { option_map (rewritten (lent rules.now) x.now) result
+        ≡ next (likely expander.now) (lent rules.now) x.now }
 {
     if let Some(rewrite) = by_rule(rules, x) {
         return Some(rewrite);
@@ -71,19 +72,20 @@ pub fn find_rewrite<'r>(
     by_variant(rules, x)
 }
 
-fn by_rule<'r>(rules: &'r Rules<'_>, x: &LanguageIdentifier) -> Option<Rewrite<'r>>
-    ensures { option_map (rewritten rules.now x.now) result ≡ by_rule rules.now x.now }
+fn by_rule<'r>(rules: &RulesRef<'r>, x: &LanguageIdentifier) -> Option<Rewrite<'r>>
+    ensures { option_map (rewritten (lent rules.now) x.now) result
+        ≡ by_rule (lent rules.now) x.now }
 {
     Some(Rewrite::Rule(first_match(rules_for(rules, x), x)?))
 }
 
-fn rules_for<'r>(rules: &'r Rules<'_>, x: &LanguageIdentifier) -> &'r [Rule]
-    ensures { result.now ≡ rules_for rules.now x.now }
+fn rules_for<'r>(rules: &RulesRef<'r>, x: &LanguageIdentifier) -> &'r [Rule]
+    ensures { result.now ≡ rules_for (lent rules.now) x.now }
 {
     if x.variants.len() == 0 {
-        rules.language.as_slice()
+        rules.read.language.as_slice()
     } else {
-        rules.language_variants.as_slice()
+        rules.read.language_variants.as_slice()
     }
 }
 
@@ -93,15 +95,16 @@ fn first_match<'r>(rules: &'r [Rule], x: &LanguageIdentifier) -> Option<&'r Rule
     rules.iter().find(|rule| rule_matches(x, &rule.source))
 }
 
-fn by_sign_region<'r>(rules: &'r Rules<'_>, x: &LanguageIdentifier) -> Option<Rewrite<'r>>
-    ensures { option_map (rewritten rules.now x.now) result ≡ by_sign_region rules.now x.now }
+fn by_sign_region<'r>(rules: &RulesRef<'r>, x: &LanguageIdentifier) -> Option<Rewrite<'r>>
+    ensures { option_map (rewritten (lent rules.now) x.now) result
+        ≡ by_sign_region (lent rules.now) x.now }
 {
     let language = sign_language(rules, x)?;
     Some(Rewrite::Subtags(language, x.script, None))
 }
 
-fn sign_language(rules: &Rules<'_>, x: &LanguageIdentifier) -> Option<Language>
-    ensures { result ≡ sign_language rules.now x.now }
+fn sign_language(rules: &RulesRef<'_>, x: &LanguageIdentifier) -> Option<Language>
+    ensures { result ≡ sign_language (lent rules.now) x.now }
 {
     if x.language == Language::SIGN {
         rules.aliases.get_sgn_region(x.region?)
@@ -112,8 +115,9 @@ fn sign_language(rules: &Rules<'_>, x: &LanguageIdentifier) -> Option<Language>
 
 // The rewrite by a language alias.
 #[inline(always)]
-pub fn by_language_alias<'r>(rules: &'r Rules<'_>, x: &LanguageIdentifier) -> Option<Rewrite<'r>>
-    ensures { option_map (rewritten rules.now x.now) result ≡ by_language_alias rules.now x.now }
+pub fn by_language_alias<'r>(rules: &RulesRef<'r>, x: &LanguageIdentifier) -> Option<Rewrite<'r>>
+    ensures { option_map (rewritten (lent rules.now) x.now) result
+        ≡ by_language_alias (lent rules.now) x.now }
 {
     let alias = language_alias(rules, &x.language)?;
     Some(Rewrite::Subtags(
@@ -123,34 +127,36 @@ pub fn by_language_alias<'r>(rules: &'r Rules<'_>, x: &LanguageIdentifier) -> Op
     ))
 }
 
-fn language_alias<'r>(rules: &'r Rules<'_>, language: &Language) -> Option<&'r LanguageIdentifier>
-    ensures { option_copied result ≡ language_alias rules.now language.now }
+fn language_alias<'r>(rules: &RulesRef<'r>, language: &Language) -> Option<&'r LanguageIdentifier>
+    ensures { option_copied result ≡ language_alias (lent rules.now) language.now }
 {
     if !is_known(language) {
         None
     } else if language.as_str().len() == 2 {
-        rules.language_len2.get_numbered(language)
+        rules.read.language_len2.get_numbered(language)
     } else {
-        rules.language_len3.get_numbered(language)
+        rules.read.language_len3.get_numbered(language)
     }
 }
 
-fn by_script<'r>(rules: &'r Rules<'_>, x: &LanguageIdentifier) -> Option<Rewrite<'r>>
-    ensures { option_map (rewritten rules.now x.now) result ≡ by_script rules.now x.now }
+fn by_script<'r>(rules: &RulesRef<'r>, x: &LanguageIdentifier) -> Option<Rewrite<'r>>
+    ensures { option_map (rewritten (lent rules.now) x.now) result
+        ≡ by_script (lent rules.now) x.now }
 {
     let script = rules.aliases.get_script(x.script?)?;
     Some(Rewrite::Subtags(x.language, Some(script), x.region))
 }
 
-fn by_region<'r>(rules: &'r Rules<'_>, x: &LanguageIdentifier) -> Option<Rewrite<'r>>
-    ensures { option_map (rewritten rules.now x.now) result ≡ by_region rules.now x.now }
+fn by_region<'r>(rules: &RulesRef<'r>, x: &LanguageIdentifier) -> Option<Rewrite<'r>>
+    ensures { option_map (rewritten (lent rules.now) x.now) result
+        ≡ by_region (lent rules.now) x.now }
 {
     let region = region_alias(rules, x.region?)?;
     Some(Rewrite::Subtags(x.language, x.script, Some(region)))
 }
 
-fn region_alias(rules: &Rules<'_>, region: Region) -> Option<Region>
-    ensures { result ≡ region_alias rules.now region }
+fn region_alias(rules: &RulesRef<'_>, region: Region) -> Option<Region>
+    ensures { result ≡ region_alias (lent rules.now) region }
 {
     if region.is_alphabetic() {
         rules.aliases.get_region_alpha(region)
@@ -160,23 +166,23 @@ fn region_alias(rules: &Rules<'_>, region: Region) -> Option<Region>
 }
 
 fn by_complex_region<'r>(
-    rules: &'r Rules<'_>,
+    rules: &RulesRef<'r>,
     expander: &LocaleExpander<'_>,
     x: &LanguageIdentifier,
 ) -> Option<Rewrite<'r>>
-    ensures { option_map (rewritten rules.now x.now) result ≡ by_complex_region
-        (likely expander.now) rules.now x.now }
+    ensures { option_map (rewritten (lent rules.now) x.now) result
+        ≡ by_complex_region (likely expander.now) (lent rules.now) x.now }
 {
     let region = complex_region(rules, expander, x)?;
     Some(Rewrite::Subtags(x.language, x.script, Some(region)))
 }
 
 fn complex_region(
-    rules: &Rules<'_>,
+    rules: &RulesRef<'_>,
     expander: &LocaleExpander<'_>,
     x: &LanguageIdentifier,
 ) -> Option<Region>
-    ensures { result ≡ complex_region (likely expander.now) rules.now x.now }
+    ensures { result ≡ complex_region (likely expander.now) (lent rules.now) x.now }
 {
     let regions = rules.aliases.get_complex_region(x.region?)?;
     chosen(likely_region(expander, x), regions)
@@ -210,8 +216,9 @@ fn chosen(likely: Option<Region>, regions: &[Region]) -> Option<Region>
     }
 }
 
-fn by_variant<'r>(rules: &'r Rules<'_>, x: &LanguageIdentifier) -> Option<Rewrite<'r>>
-    ensures { option_map (rewritten rules.now x.now) result ≡ by_variant rules.now x.now }
+fn by_variant<'r>(rules: &RulesRef<'r>, x: &LanguageIdentifier) -> Option<Rewrite<'r>>
+    ensures { option_map (rewritten (lent rules.now) x.now) result
+        ≡ by_variant (lent rules.now) x.now }
 {
     if has_variant_alias(rules, &x.variants) {
         Some(Rewrite::Variants)
@@ -220,8 +227,8 @@ fn by_variant<'r>(rules: &'r Rules<'_>, x: &LanguageIdentifier) -> Option<Rewrit
     }
 }
 
-fn has_variant_alias(rules: &Rules<'_>, variants: &Variants) -> bool
-    ensures { result ≡ list_any (λ v. is_some (variant_alias rules.now v))
+fn has_variant_alias(rules: &RulesRef<'_>, variants: &Variants) -> bool
+    ensures { result ≡ list_any (λ v. is_some (variant_alias (lent rules.now) v))
         (rising variants.now) }
 {
     for variant in variants.iter() {
@@ -232,8 +239,8 @@ fn has_variant_alias(rules: &Rules<'_>, variants: &Variants) -> bool
     false
 }
 
-pub fn variant_alias(rules: &Rules<'_>, variant: Variant) -> Option<Variant>
-    ensures { result ≡ variant_alias rules.now variant }
+pub fn variant_alias(rules: &RulesRef<'_>, variant: Variant) -> Option<Variant>
+    ensures { result ≡ variant_alias (lent rules.now) variant }
 {
     rules.aliases.get_variant(variant)
 }

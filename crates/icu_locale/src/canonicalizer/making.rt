@@ -1,11 +1,12 @@
 //! Canonicalizers over tables or a provider.
 ghost use Rattle.std.specs.Prelude.{◌≡◌, Ok, IsOk, IfOk, IfErr};
 ghost use Rattle.icu_locale.specs.Construction.{common, with_extended, both_or_refusal, loaded_common, loaded_extended, RewritesOver, ReadsNoTexts, IsMadeInMemory};
+ghost use Rattle.icu_locale.specs.RuleSet.{rules_over};
 ghost use Rattle.icu_locale.specs.Rules.{AreRules, HasNoTexts};
 
 use super::LocaleCanonicalizer;
 use super::reading::read_all;
-use super::rules::Rules;
+use super::rules::{ReadRules, Rules};
 use crate::LocaleExpander;
 use icu_provider::{
     Aliases, DataError, DataErrorKind, DataProvider, LikelySubtagsExtended,
@@ -14,6 +15,19 @@ use icu_provider::{
 use std::alloc::Global;
 
 impl<'d, E> LocaleCanonicalizer<'d, E> {
+    /// Over what was read of a table of aliases, the table and an expander. It takes no memory.
+    pub fn over(read: ReadRules, aliases: &'d Aliases, expander: E) -> Self
+    where
+        E: Drop,
+        ensures rules { result.rules ≡ rules_over read aliases.now }
+        ensures expander { result.expander ≡ expander }
+    {
+        LocaleCanonicalizer {
+            rules: Rules { read, aliases },
+            expander,
+        }
+    }
+
     /// Over a table of aliases, whose texts are read here, and an expander. A row that cannot be read is left out. It
     /// takes memory for the rules that are read.
     ///
@@ -32,8 +46,8 @@ impl<'d, E> LocaleCanonicalizer<'d, E> {
         ensures refused { IfErr result (λ e. e.kind ≡ DataErrorKind.Memory) }
         ensures free { HasNoTexts aliases.now → IsOk result }
     {
-        let rules = read_rules(alloc, aliases)?;
-        Ok(LocaleCanonicalizer { rules, expander })
+        let read = ReadRules::read(alloc, aliases)?;
+        Ok(LocaleCanonicalizer::over(read, aliases, expander))
     }
 
     /// Over the aliases of a provider, whose texts are read here, and an expander. It takes memory for the rules that
@@ -139,24 +153,30 @@ impl<'d> LocaleCanonicalizer<'d, LocaleExpander<'d>> {
     }
 }
 
-// The rules that can be read of a table.
-fn read_rules<'d>(alloc: Global, aliases: &'d Aliases) -> Result<Rules<'d>, DataError>
-    ensures rules { IfOk result (AreRules aliases.now) }
-    ensures refused { IfErr result (λ e. e.kind ≡ DataErrorKind.Memory) }
-    ensures free { HasNoTexts aliases.now → IsOk result }
-{
-    let language = read_all(alloc, aliases.language.as_slice())?;
-    let language_variants = read_all(alloc, aliases.language_variants.as_slice())?;
-    let language_len2 = read_all(alloc, aliases.language_len2.as_slice())?;
-    let language_len3 = read_all(alloc, aliases.language_len3.as_slice())?;
-    let subdivision = read_all(alloc, aliases.subdivision.as_slice())?;
-    Ok(Rules {
-        language: RowList::from_vec(language),
-        language_variants: RowList::from_vec(language_variants),
-        language_len2: SortedMap::from_sorted(language_len2),
-        language_len3: SortedMap::from_sorted(language_len3),
-        subdivision: SortedMap::from_sorted(subdivision),
-        aliases,
-        alloc,
-    })
+impl ReadRules {
+    /// What can be read of the texts of a table of aliases. A row that cannot be read is left out. It takes memory for
+    /// the rules that are read.
+    ///
+    /// # Errors
+    ///
+    /// `Memory` where the rules that were read found no room: never where the table has no text.
+    pub fn read(alloc: Global, aliases: &Aliases) -> Result<ReadRules, DataError>
+        ensures rules { IfOk result (λ read. AreRules aliases.now (rules_over read aliases.now)) }
+        ensures refused { IfErr result (λ e. e.kind ≡ DataErrorKind.Memory) }
+        ensures free { HasNoTexts aliases.now → IsOk result }
+    {
+        let language = read_all(alloc, aliases.language.as_slice())?;
+        let language_variants = read_all(alloc, aliases.language_variants.as_slice())?;
+        let language_len2 = read_all(alloc, aliases.language_len2.as_slice())?;
+        let language_len3 = read_all(alloc, aliases.language_len3.as_slice())?;
+        let subdivision = read_all(alloc, aliases.subdivision.as_slice())?;
+        Ok(ReadRules {
+            language: RowList::from_vec(language),
+            language_variants: RowList::from_vec(language_variants),
+            language_len2: SortedMap::from_sorted(language_len2),
+            language_len3: SortedMap::from_sorted(language_len3),
+            subdivision: SortedMap::from_sorted(subdivision),
+            alloc,
+        })
+    }
 }

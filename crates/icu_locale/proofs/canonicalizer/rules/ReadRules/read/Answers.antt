@@ -1,7 +1,7 @@
 use Rattle.std.proofs.Common.{subst}
 use Rattle.icu_locale.specs.Rules.{AreRead, ReadsLanguage, ReadsSubdivision}
 use Rattle.icu_locale.proofs.Readings.{IsSortedMap-from_read}
-use Rattle.icu_locale.proofs.canonicalizer.making.read_rules.Goals as goal
+use Rattle.icu_locale.proofs.canonicalizer.rules.ReadRules.read.Goals as goal
 
 pub from_sorted-requires : goal.from_sorted-requires
 from_sorted-requires c =

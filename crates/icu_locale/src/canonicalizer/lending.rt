@@ -1,0 +1,159 @@
+//! Canonicalization by rules and an expander that are lent: all the work.
+ghost use Rattle.std.specs.Prelude.{Some, IfOk, IfErr, IfSome};
+ghost use Rattle.icu_locale.specs.Kinds.{by_language_alias};
+ghost use Rattle.icu_locale.specs.LikelyTable.{likely};
+ghost use Rattle.icu_locale.specs.RuleSet.{lent};
+ghost use Rattle.icu_locale.specs.Canonical.{without_extensions};
+ghost use Rattle.icu_locale.specs.Canonicalization.{Canonicalizes};
+ghost use Rattle.icu_locale.specs.Refusals.{IsRefusal, IsOutOfMemory};
+ghost use Rattle.icu_locale.specs.Cost.{CountsRuns, NeedsNoMemory, AddsNoVariants};
+ghost use Rattle.icu_locale.specs.Run.{IsLaterEndOf};
+ghost use Rattle.icu_locale.specs.inner.CanonicalParts.{IsRunRefusalOf, IsIdentifierRefusal, CountsSearchesOf, AreLaterEnds, AreChanges};
+
+use super::changes::Changes;
+use super::identifiers::{later_end, matching};
+use super::values::later_values;
+use crate::{CanonicalizeError, LocaleExpander, RulesRef, TransformResult, Turns};
+use icu_locale_core::{LanguageIdentifier, Locale};
+
+/// A canonicalizer that is lent: rules and an expander, whoever owns what was read and the tables.
+/// `LocaleCanonicalizer::lend` gives one, and a program that keeps `ReadRules` beside its tables makes one at each call.
+/// That takes no memory.
+#[derive(Clone, Copy, Debug)]
+pub struct CanonicalizerRef<'r> {
+    /// The rules.
+    pub rules: RulesRef<'r>,
+    /// What gives likely regions.
+    pub expander: LocaleExpander<'r>,
+}
+
+impl<'r> CanonicalizerRef<'r> {
+    /// Brings a locale to its canonical form, as `LocaleCanonicalizer::canonicalize` says.
+    ///
+    /// # Errors
+    ///
+    /// Those of `LocaleCanonicalizer::canonicalize`. The locale is unchanged then.
+    pub fn canonicalize(&self, locale: &mut Locale) -> Result<TransformResult, CanonicalizeError>
+        ensures outcome { Canonicalizes (likely self.now.expander) (lent self.now.rules)
+            locale.old locale.new result }
+    {
+        self.canonicalize_counted(locale, &mut Turns::new())
+    }
+
+    /// The same as `canonicalize`, with a count of the searches for a rule that matches, as
+    /// `LocaleCanonicalizer::canonicalize_counted` says.
+    ///
+    /// # Errors
+    ///
+    /// Those of `canonicalize`.
+    pub fn canonicalize_counted(
+        &self,
+        locale: &mut Locale,
+        turns: &mut Turns,
+    ) -> Result<TransformResult, CanonicalizeError>
+        ensures outcome { Canonicalizes (likely self.now.expander) (lent self.now.rules)
+            locale.old locale.new result }
+        ensures count { CountsRuns (likely self.now.expander) (lent self.now.rules) locale.old
+            result turns.old turns.new }
+    {
+        let changes = self.find_changes(locale, turns)?;
+        Ok(changes.write(locale))
+    }
+
+    /// Brings an identifier to its canonical form, as `LocaleCanonicalizer::canonicalize_identifier` says.
+    ///
+    /// # Errors
+    ///
+    /// Those of `canonicalize`, but for `NoSubdivisionFixedPoint`. The identifier is unchanged then.
+    #[inline(always)]
+    pub fn canonicalize_identifier(
+        &self,
+        id: &mut LanguageIdentifier,
+    ) -> Result<TransformResult, CanonicalizeError>
+        ensures { Canonicalizes (likely self.now.expander) (lent self.now.rules)
+            (without_extensions id.old) (without_extensions id.new) result }
+    {
+        let mut turns = Turns::new();
+        if matching(self, id, false, &mut turns).is_none() {
+            return Ok(TransformResult::Unmodified);
+        }
+        match later_end(self, id, false, &mut turns)? {
+            Some(last) => {
+                *id = last;
+                Ok(TransformResult::Modified)
+            }
+            None => Ok(TransformResult::Unmodified),
+        }
+    }
+
+    // What is to be changed of a locale, found before anything is written.
+    #[inline(always)]
+    fn find_changes(&self, locale: &Locale, turns: &mut Turns) -> Result<Changes, CanonicalizeError>
+        ensures found { IfOk result
+            (AreChanges (likely self.now.expander) (lent self.now.rules) locale.now) }
+        ensures refusal { IfErr result
+            (IsRefusal (likely self.now.expander) (lent self.now.rules) locale.now) }
+        ensures free { NeedsNoMemory (likely self.now.expander) (lent self.now.rules) locale.now
+            → ¬ (IsOutOfMemory result) }
+        ensures count { CountsRuns (likely self.now.expander) (lent self.now.rules) locale.now
+            result turns.old turns.new }
+    {
+        let (id, transform) = self.find_ends(locale, turns)?;
+        let keywords = &locale.extensions.unicode.keywords;
+        let (region_override, subdivision) = later_values(
+            &self.rules,
+            keywords,
+            &mut Turns::new(),
+        )?;
+        Ok(Changes {
+            id,
+            transform,
+            region_override,
+            subdivision,
+        })
+    }
+
+    // Where the runs of the identifier and then of the transform language end, each if that is at a later place than its
+    // start.
+    #[inline(always)]
+    fn find_ends(
+        &self,
+        locale: &Locale,
+        turns: &mut Turns,
+    ) -> Result<(Option<LanguageIdentifier>, Option<LanguageIdentifier>), CanonicalizeError>
+        ensures ends { IfOk result
+            (AreLaterEnds (likely self.now.expander) (lent self.now.rules) locale.now) }
+        ensures refusal { IfErr result
+            (IsIdentifierRefusal (likely self.now.expander) (lent self.now.rules) locale.now) }
+        ensures free { NeedsNoMemory (likely self.now.expander) (lent self.now.rules) locale.now
+            → ¬ (IsOutOfMemory result) }
+        ensures count { CountsRuns (likely self.now.expander) (lent self.now.rules) locale.now
+            result turns.old turns.new }
+    {
+        let id = later_end(self, &locale.id, false, turns)?;
+        let transform = self.transform_end(&locale.extensions.transform.lang, turns)?;
+        Ok((id, transform))
+    }
+
+    // Where the run of a transform language ends, if there is one and its end is at a later place than its start.
+    #[inline(always)]
+    fn transform_end(
+        &self,
+        lang: &Option<LanguageIdentifier>,
+        turns: &mut Turns,
+    ) -> Result<Option<LanguageIdentifier>, CanonicalizeError>
+        ensures end { IfOk result
+            (IsLaterEndOf (by_language_alias (lent self.now.rules)) lang.now) }
+        ensures refused { IfErr result
+            (IsRunRefusalOf (by_language_alias (lent self.now.rules)) lang.now) }
+        ensures free { IfSome lang.now (AddsNoVariants (by_language_alias (lent self.now.rules)))
+            → ¬ (IsOutOfMemory result) }
+        ensures count { CountsSearchesOf (by_language_alias (lent self.now.rules)) lang.now result
+            turns.old turns.new }
+    {
+        match lang {
+            Some(lang) => later_end(self, lang, true, turns),
+            None => Ok(None),
+        }
+    }
+}
