@@ -18,5 +18,6 @@ pub use canonicalizer::{CanonicalizeError, LocaleCanonicalizer};
 pub use directionality::{Direction, LocaleDirectionality};
 pub use expander::{LocaleExpander, TransformResult};
 pub use negotiator::available::Available;
+pub use negotiator::lending::NegotiatorRef;
 pub use negotiator::{Negotiator, NegotiatorError};
 pub use rewriting::Turns;

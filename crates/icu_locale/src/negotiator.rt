@@ -9,11 +9,11 @@ ghost use Rattle.icu_locale.specs.LikelyTable.{likely};
 ghost use Rattle.icu_locale.specs.LikelySubtags.{AreSettled};
 ghost use Rattle.icu_locale.specs.Negotiation.{identifiers_of, IsMadeOver, Negotiation, IsNegotiated, refusal_name};
 ghost use Rattle.icu_locale.specs.Index.{IsPlainForm, row_cmp, IsIndex};
-ghost use Rattle.icu_locale.specs.inner.Index.{IsPartOf, IsFirstRow, IsFirstPlace};
+ghost use Rattle.icu_locale.specs.inner.Index.{IsPartOf, IsFirstRow};
 ghost use Rattle.icu_locale.specs.declared.negotiator.NegotiatorError.TheVariants.{Memory};
 
+use crate::LocaleExpander;
 use crate::expander::{Favor, locale_of};
-use crate::{LocaleExpander, laws};
 use icu_locale_core::{LanguageIdentifier, Variants};
 use icu_provider::DataLocale;
 use std::alloc::{AllocError, Global};
@@ -22,8 +22,10 @@ use std::fmt;
 use std::marker::Model;
 
 pub mod available;
+pub mod lending;
 
 use available::{Available, Row};
+use lending::NegotiatorRef;
 
 /// Why a negotiator is not made.
 #[derive(Clone, Copy, Debug, PartialEq, Eq)]
@@ -153,6 +155,14 @@ impl<'d> Negotiator<'d> {
         &self.expander
     }
 
+    /// The negotiator, lent. It takes no memory.
+    #[inline(always)]
+    pub fn lend(&self) -> NegotiatorRef<'_>
+        ensures { result ≡ self.now }
+    {
+        NegotiatorRef::over(self.expander, &self.available)
+    }
+
     /// The available identifiers, as they were handed in. It takes no memory.
     pub fn available(&self) -> &[LanguageIdentifier]
         ensures { result.now ≡ self.now.available }
@@ -165,24 +175,7 @@ impl<'d> Negotiator<'d> {
     pub fn negotiate(&self, requests: &[LanguageIdentifier]) -> Option<(usize, usize)>
         ensures { IsNegotiated (likely self.now.expander) requests.now self.now.available result }
     {
-        for (asked, request) in requests.iter().enumerate() {
-            if let Some(place) = self.find(request) {
-                return Some((asked, place));
-            }
-        }
-        None
-    }
-
-    // The place of the first available identifier with the maximal form of a request.
-    fn find(&self, request: &LanguageIdentifier) -> Option<usize>
-        ensures { IsFirstPlace (likely self.now.expander) self.now.available request.now result }
-    {
-        // laws for the proof: no code runs
-        laws::minimal_forms_are_canonical();
-        laws::maximal_forms_by_parts();
-        let minimal = plain_form(&self.expander, request);
-        let part = rows_with(&self.available.rows, &minimal);
-        first_row(part, &self.available.identifiers, &request.variants)
+        self.lend().negotiate(requests)
     }
 }
 

@@ -1,7 +1,7 @@
 use Rattle.std.proofs.Common.{refl, length}
 use Rattle.std.proofs.lemmas.Option.{slice_get_read}
 use Rattle.icu_locale.proofs.Negotiating.{IsFirstMatch-found, no_match_more, no_match}
-use Rattle.icu_locale.proofs.negotiator.Negotiator.negotiate.Goals as goal
+use Rattle.icu_locale.proofs.negotiator.lending.NegotiatorRef.negotiate.Goals as goal
 
 pub returns-in-Some : goal.returns-in-Some
 returns-in-Some c =

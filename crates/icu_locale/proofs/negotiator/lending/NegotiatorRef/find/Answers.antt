@@ -2,7 +2,7 @@ use Rattle.std.proofs.Common.{List, subst}
 use Rattle.icu_locale.specs.declared.negotiator.available.Row.{Row}
 use Rattle.icu_locale.specs.inner.Index.{IsPartOf}
 use Rattle.icu_locale.proofs.Negotiating.{places_in_range, IsFirstPlace-row}
-use Rattle.icu_locale.proofs.negotiator.Negotiator.find.Goals as goal
+use Rattle.icu_locale.proofs.negotiator.lending.NegotiatorRef.find.Goals as goal
 
 pub first_row-requires : goal.first_row-requires
 first_row-requires c =
