@@ -1,8 +1,8 @@
 //! Canonicalization by rules and an expander that are lent: all the work.
-ghost use Rattle.std.specs.Prelude.{Some, IfOk, IfErr, IfSome};
+ghost use Rattle.std.specs.Prelude.{◌≡◌, Some, IfOk, IfErr, IfSome};
 ghost use Rattle.icu_locale.specs.Kinds.{by_language_alias};
 ghost use Rattle.icu_locale.specs.LikelyTable.{likely};
-ghost use Rattle.icu_locale.specs.RuleSet.{lent};
+ghost use Rattle.icu_locale.specs.RuleSet.{lent, rules_over};
 ghost use Rattle.icu_locale.specs.Canonical.{without_extensions};
 ghost use Rattle.icu_locale.specs.Canonicalization.{Canonicalizes};
 ghost use Rattle.icu_locale.specs.Refusals.{IsRefusal, IsOutOfMemory};
@@ -13,12 +13,13 @@ ghost use Rattle.icu_locale.specs.inner.CanonicalParts.{IsRunRefusalOf, IsIdenti
 use super::changes::Changes;
 use super::identifiers::{later_end, matching};
 use super::values::later_values;
-use crate::{CanonicalizeError, LocaleExpander, RulesRef, TransformResult, Turns};
+use crate::{CanonicalizeError, LocaleExpander, ReadRules, RulesRef, TransformResult, Turns};
 use icu_locale_core::{LanguageIdentifier, Locale};
+use icu_provider::Aliases;
 
 /// A canonicalizer that is lent: rules and an expander, whoever owns what was read and the tables.
-/// `LocaleCanonicalizer::lend` gives one, and a program that keeps `ReadRules` beside its tables makes one at each call.
-/// That takes no memory.
+/// `LocaleCanonicalizer::lend` gives one, and a program that keeps `ReadRules` beside its tables makes one at each call,
+/// by `CanonicalizerRef::over`. Neither takes memory.
 #[derive(Clone, Copy, Debug)]
 pub struct CanonicalizerRef<'r> {
     /// The rules.
@@ -28,6 +29,22 @@ pub struct CanonicalizerRef<'r> {
 }
 
 impl<'r> CanonicalizerRef<'r> {
+    /// Over what was read of a table of aliases, the table and an expander. It takes no memory.
+    #[inline(always)]
+    pub fn over(
+        read: &'r ReadRules,
+        aliases: &'r Aliases,
+        expander: LocaleExpander<'r>,
+    ) -> CanonicalizerRef<'r>
+        ensures rules { lent result.rules ≡ rules_over read.now aliases.now }
+        ensures expander { result.expander ≡ expander.entry }
+    {
+        CanonicalizerRef {
+            rules: RulesRef { read, aliases },
+            expander,
+        }
+    }
+
     /// Brings a locale to its canonical form, as `LocaleCanonicalizer::canonicalize` says.
     ///
     /// # Errors
