@@ -1,5 +1,5 @@
 -- The answer to one line.
-use Rattle.std.proofs.Common.{◌≡◌, ◌≢◌, ◌⊎◌, Bool, true, false, None, refl, sym, List, [], ◌∷◌, Some, ℕ, zero, suc, get_or, Result, Ok, Err, IfOk, inl, inr, subst, ap, ◌∙◌}
+use Rattle.std.proofs.Common.{◌≡◌, ◌≢◌, ◌⊎◌, Bool, true, false, None, refl, sym, List, [], ◌∷◌, ◌++◌, Some, ℕ, zero, suc, get_or, Result, Ok, Err, IfOk, inl, inr, subst, ap, ◌∙◌}
 use Rattle.std.specs.List.{slice_get, position}
 use Rattle.std.proofs.lemmas.Option.{same_Some, none-some}
 use Rattle.icu_locale.specs.LikelyTable.{likely}
@@ -32,6 +32,11 @@ use Rattle.icu_locale_lines.proofs.LocaleLines.{value_text-no_position}
 pub if_adds : (P Q : List ℕ → Bool → Type 0) → ((t : List ℕ) (a : Bool) → P t a → Q t a) → (old new : List ℕ) (r : Result Bool CliError) → IfOk r (AddsLine P old new) → IfOk r (AddsLine Q old new)
 if_adds P Q more old new (Ok a) h = record { line = h.line; added = h.added; is = more h.line a h.is }
 if_adds P Q more old new (Err e) h = tt
+
+-- a line that is put behind none stands alone
+pub if_alone : (P : List ℕ → Bool → Type 0) (old new : List ℕ) → old ≡ [] → (r : Result Bool CliError) → IfOk r (AddsLine P old new) → IfOk r (P new)
+if_alone P old new none (Ok a) h = subst (λ t. P t a) (sym (h.added ∙ ap (λ t. t ++ h.line) none)) h.is
+if_alone P old new none (Err e) h = tt
 
 -- the line of a refusal
 pub if_fault : (Q : List ℕ → Bool → Type 0) (e : ParseError) → (IsFault : Type 0) → (e ≡ parse_error.Memory) ⊎ IsFault → ((t : List ℕ) (a : Bool) → IsFault → (t ≡ refused_line (parse_error_name e)) → (a ≡ false) → Q t a) → (old new : List ℕ) (r : Result Bool CliError)

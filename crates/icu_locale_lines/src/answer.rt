@@ -19,15 +19,6 @@ use std::io::Write;
 // How many bytes of answers are written at once: with one line more they mostly fit into 64 KiB.
 const FULL: usize = 60 * 1024;
 
-/// The line that is written for one that was read, and whether that one was accepted.
-#[derive(Debug, Drop)]
-pub struct Answer {
-    /// The line, with its line feed.
-    pub text: Vec<u8>,
-    /// Whether the line that was read was accepted.
-    pub accepted: bool,
-}
-
 // A text is put behind another.
 #[inline(always)]
 pub fn add_text(text: &mut Vec<u8>, more: &str) -> Result<(), CliError>

@@ -3,6 +3,7 @@ ghost use Rattle.std.specs.Prelude.{◌≡◌, ◌++◌, codes, Some, IfOk, IfEr
 ghost use Rattle.std.specs.List.{flat_map};
 ghost use Rattle.icu_locale.specs.Canonical.{without_extensions};
 ghost use Rattle.icu_locale.specs.LikelyTable.{likely};
+ghost use Rattle.icu_locale.specs.RuleSet.{lent};
 ghost use Rattle.icu_locale_core.specs.Value.{written_value};
 ghost use Rattle.icu_locale_lines.specs.Answers.{IsCanonicalized, AddsLine, Keeps};
 ghost use Rattle.icu_locale_lines.specs.Texts.{override_line, canonical_line};
@@ -11,18 +12,18 @@ ghost use Rattle.icu_locale_lines.specs.inner.Parts.{TellsRefusal};
 use crate::answer::{add_known, add_text};
 use crate::error::CliError;
 use crate::transform::{add_identifier, add_transformed, ending};
-use icu_locale::{CanonicalizeError, LocaleCanonicalizer, TransformResult};
+use icu_locale::{CanonicalizeError, CanonicalizerRef, TransformResult};
 use icu_locale_core::{Key, LanguageIdentifier, Locale, Subtag, Value};
 
 // The line of an identifier with no extensions that is brought to its canonical form.
 #[inline(always)]
 pub fn add_canonical_identifier(
     text: &mut Vec<u8>,
-    canonicalizer: &LocaleCanonicalizer<'_>,
+    canonicalizer: &CanonicalizerRef<'_>,
     identifier: &mut LanguageIdentifier,
 ) -> Result<bool, CliError>
     ensures answer { IfOk result (AddsLine (IsCanonicalized (likely canonicalizer.now.expander)
-        canonicalizer.now.rules (without_extensions identifier.old))
+        (lent canonicalizer.now.rules) (without_extensions identifier.old))
         text.old.items text.new.items) }
     ensures refused { IfErr result (λ e. e ≡ CliError.Memory) }
     ensures kept { OnErr result (Keeps text.old.items text.new.items) }
@@ -36,11 +37,11 @@ pub fn add_canonical_identifier(
 // The line of a locale that is brought to its canonical form.
 pub fn add_canonical(
     text: &mut Vec<u8>,
-    canonicalizer: &LocaleCanonicalizer<'_>,
+    canonicalizer: &CanonicalizerRef<'_>,
     locale: &mut Locale,
 ) -> Result<bool, CliError>
     ensures answer { IfOk result (AddsLine (IsCanonicalized (likely canonicalizer.now.expander)
-        canonicalizer.now.rules locale.old) text.old.items text.new.items) }
+        (lent canonicalizer.now.rules) locale.old) text.old.items text.new.items) }
     ensures refused { IfErr result (λ e. e ≡ CliError.Memory) }
     ensures kept { OnErr result (Keeps text.old.items text.new.items) }
 {

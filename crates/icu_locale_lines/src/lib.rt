@@ -21,7 +21,6 @@ mod streams;
 mod transform;
 mod work;
 
-pub use answer::Answer;
 pub use command::{Command, LineCommand};
 pub use error::CliError;
 pub use input::read_all;

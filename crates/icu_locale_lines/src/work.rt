@@ -2,12 +2,13 @@
 ghost use Rattle.std.specs.Prelude.{◌≡◌, IfOk, IfErr, OnErr, None, true};
 ghost use Rattle.std.specs.List.{position};
 ghost use Rattle.icu_locale.specs.LikelyTable.{likely};
+ghost use Rattle.icu_locale.specs.RuleSet.{lent};
 ghost use Rattle.icu_locale_lines.specs.Answers.{AddsLine, Keeps, IsAnswer, IsTransformed, IsDirected, IsNamed, IsIdentifierAnswer, IsLocaleAnswer, IsListAnswer};
 ghost use Rattle.icu_locale_lines.specs.Locales.{is_tab};
 ghost use Rattle.icu_locale_lines.specs.Lists.{IsNegotiatedLine};
 ghost use Rattle.icu_locale_lines.specs.Texts.{matched_line, direction_line};
 
-use crate::answer::{Answer, add_fault, add_known, add_number, add_text};
+use crate::answer::{add_fault, add_known, add_number, add_text};
 use crate::canonical::{add_canonical, add_canonical_identifier};
 use crate::error::CliError;
 use crate::lists::read_list;
@@ -15,7 +16,8 @@ use crate::locales::{first_tab, read_locale};
 use crate::naming::Naming;
 use crate::transform::{Transform, add_identifier, add_transformed};
 use icu_locale::{
-    Direction, LocaleCanonicalizer, LocaleDirectionality, LocaleExpander, Negotiator,
+    CanonicalizerRef, Direction, LocaleCanonicalizer, LocaleDirectionality, LocaleExpander,
+    Negotiator, NegotiatorRef,
 };
 use icu_locale_core::LanguageIdentifier;
 
@@ -57,22 +59,17 @@ impl<'d> Work<'d> {
         }
     }
 
-    /// The answer to one line, in the room of an earlier one.
+    /// The answer to one line, in the room of an earlier one, and whether the line was accepted.
     ///
     /// # Errors
     ///
     /// `Memory` where memory was refused.
-    pub fn answer(&self, mut room: Vec<u8>, line: &[u8]) -> Result<Answer, CliError>
-        ensures answer { IfOk result (λ a. IsAnswer self.now line.now a.text.items
-            a.accepted) }
+    pub fn answer(&self, room: &mut Vec<u8>, line: &[u8]) -> Result<bool, CliError>
+        ensures answer { IfOk result (IsAnswer self.now line.now room.new.items) }
         ensures refused { IfErr result (λ e. e ≡ CliError.Memory) }
     {
         room.clear();
-        let accepted = self.add(&mut room, line)?;
-        Ok(Answer {
-            text: room,
-            accepted,
-        })
+        self.add(room, line)
     }
 
     // Puts the answer behind the others, or a part of it where memory is refused.
@@ -84,9 +81,9 @@ impl<'d> Work<'d> {
     {
         match self {
             Work::Transform(form, expander) => add_form(text, *form, expander, line),
-            Work::Canonicalize(canonicalizer) => add_locale(text, canonicalizer, line),
+            Work::Canonicalize(canonicalizer) => add_locale(text, &canonicalizer.lend(), line),
             Work::Direction(directionality) => add_direction(text, directionality, line),
-            Work::Negotiate(negotiator) => add_requests(text, negotiator, line),
+            Work::Negotiate(negotiator) => add_requests(text, &negotiator.lend(), line),
             Work::Name(naming) => add_name(text, naming, line),
         }
     }
@@ -160,11 +157,11 @@ fn add_name(text: &mut Vec<u8>, naming: &Naming<'_>, line: &[u8]) -> Result<bool
 #[inline(always)]
 fn add_locale(
     text: &mut Vec<u8>,
-    canonicalizer: &LocaleCanonicalizer<'_>,
+    canonicalizer: &CanonicalizerRef<'_>,
     line: &[u8],
 ) -> Result<bool, CliError>
     ensures answer { IfOk result (AddsLine (IsLocaleAnswer (likely canonicalizer.now.expander)
-        canonicalizer.now.rules line.now)
+        (lent canonicalizer.now.rules) line.now)
         text.old.items text.new.items) }
     ensures refused { IfErr result (λ e. e ≡ CliError.Memory) }
     ensures kept { OnErr result (Keeps text.old.items text.new.items) }
@@ -179,12 +176,12 @@ fn add_locale(
 #[inline(always)]
 fn add_identifier_alone(
     text: &mut Vec<u8>,
-    canonicalizer: &LocaleCanonicalizer<'_>,
+    canonicalizer: &CanonicalizerRef<'_>,
     line: &[u8],
 ) -> Result<bool, CliError>
     requires { position is_tab line.now ≡ None }
     ensures answer { IfOk result (AddsLine (IsLocaleAnswer (likely canonicalizer.now.expander)
-        canonicalizer.now.rules line.now)
+        (lent canonicalizer.now.rules) line.now)
         text.old.items text.new.items) }
     ensures refused { IfErr result (λ e. e ≡ CliError.Memory) }
     ensures kept { OnErr result (Keeps text.old.items text.new.items) }
@@ -198,11 +195,11 @@ fn add_identifier_alone(
 // The same of a line with a tab, which has a value too.
 fn add_with_value(
     text: &mut Vec<u8>,
-    canonicalizer: &LocaleCanonicalizer<'_>,
+    canonicalizer: &CanonicalizerRef<'_>,
     line: &[u8],
 ) -> Result<bool, CliError>
     ensures answer { IfOk result (AddsLine (IsLocaleAnswer (likely canonicalizer.now.expander)
-        canonicalizer.now.rules line.now)
+        (lent canonicalizer.now.rules) line.now)
         text.old.items text.new.items) }
     ensures refused { IfErr result (λ e. e ≡ CliError.Memory) }
     ensures kept { OnErr result (Keeps text.old.items text.new.items) }
@@ -216,7 +213,7 @@ fn add_with_value(
 // The answer to a line that lists requests.
 fn add_requests(
     text: &mut Vec<u8>,
-    negotiator: &Negotiator<'_>,
+    negotiator: &NegotiatorRef<'_>,
     line: &[u8],
 ) -> Result<bool, CliError>
     ensures answer { IfOk result (AddsLine (IsListAnswer negotiator.now line.now)
@@ -233,7 +230,7 @@ fn add_requests(
 // The line of requests: the place of the first that is met, and the identifier that meets it.
 fn add_negotiated(
     text: &mut Vec<u8>,
-    negotiator: &Negotiator<'_>,
+    negotiator: &NegotiatorRef<'_>,
     requests: &[LanguageIdentifier],
 ) -> Result<bool, CliError>
     ensures answer { IfOk result (AddsLine (λ t a. IsNegotiatedLine negotiator.now
@@ -267,46 +264,38 @@ fn add_match(
     Ok(true)
 }
 
-/// The answer to a line that is a locale, in the room of an earlier one: the line of its canonical form.
+/// The answer to a line that is a locale, in the room of an earlier one: the line of its canonical form, and whether the
+/// line was accepted.
 ///
 /// # Errors
 ///
 /// `Memory` where memory was refused.
 pub fn answer_locale(
-    mut room: Vec<u8>,
-    canonicalizer: &LocaleCanonicalizer<'_>,
+    room: &mut Vec<u8>,
+    canonicalizer: &CanonicalizerRef<'_>,
     line: &[u8],
-) -> Result<Answer, CliError>
-    ensures answer { IfOk result (λ a. IsLocaleAnswer (likely canonicalizer.now.expander)
-        canonicalizer.now.rules line.now a.text.items a.accepted) }
+) -> Result<bool, CliError>
+    ensures answer { IfOk result (IsLocaleAnswer (likely canonicalizer.now.expander)
+        (lent canonicalizer.now.rules) line.now room.new.items) }
     ensures refused { IfErr result (λ e. e ≡ CliError.Memory) }
 {
     room.clear();
-    let accepted = add_locale(&mut room, canonicalizer, line)?;
-    Ok(Answer {
-        text: room,
-        accepted,
-    })
+    add_locale(room, canonicalizer, line)
 }
 
-/// The answer to a line that lists requests, in the room of an earlier one.
+/// The answer to a line that lists requests, in the room of an earlier one, and whether the line was accepted.
 ///
 /// # Errors
 ///
 /// `Memory` where memory was refused.
 pub fn answer_requests(
-    mut room: Vec<u8>,
-    negotiator: &Negotiator<'_>,
+    room: &mut Vec<u8>,
+    negotiator: &NegotiatorRef<'_>,
     line: &[u8],
-) -> Result<Answer, CliError>
-    ensures answer { IfOk result (λ a. IsListAnswer negotiator.now line.now a.text.items
-        a.accepted) }
+) -> Result<bool, CliError>
+    ensures answer { IfOk result (IsListAnswer negotiator.now line.now room.new.items) }
     ensures refused { IfErr result (λ e. e ≡ CliError.Memory) }
 {
     room.clear();
-    let accepted = add_requests(&mut room, negotiator, line)?;
-    Ok(Answer {
-        text: room,
-        accepted,
-    })
+    add_requests(room, negotiator, line)
 }
