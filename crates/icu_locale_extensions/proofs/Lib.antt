@@ -9,10 +9,14 @@ mod Lengths
 mod Lowered
 mod Marked
 mod Marks
+mod Modifiers
+mod Names
+mod PrivateTags
 mod ReadParts
 mod Separators
 mod Sets
 mod Spellings
+mod Tags
 mod TextsOnce
 mod Unmarked
 mod Walks

@@ -5,4 +5,5 @@ pub mod Extensions
 pub mod Locales
 pub mod Reads
 pub mod Rows
+pub mod Syntaxes
 pub mod inner

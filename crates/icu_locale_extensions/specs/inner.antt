@@ -3,4 +3,5 @@ pub mod Lent
 pub mod Marks
 pub mod Places
 pub mod Readings
+pub mod Tables
 pub mod Texts

@@ -1,7 +1,7 @@
 //! Texts cut before marked pieces: where an extension, a keyword or a field begins.
-ghost use Rattle.std.specs.Prelude.{◌≡◌, ◌≤◌, ◌∷◌, [], length, MatchOption};
+ghost use Rattle.std.specs.Prelude.{◌≡◌, ◌≤◌, ◌∷◌, [], length, IfSome, MatchOption};
 ghost use Rattle.std.specs.Iterator.{item_count};
-ghost use Rattle.std.specs.List.{position};
+ghost use Rattle.std.specs.List.{after_first, position};
 ghost use Rattle.icu_locale_core.specs.Identifier.{is_separator, pieces};
 ghost use Rattle.icu_locale_core.specs.Subtag.{lowercase};
 ghost use Rattle.icu_locale_core.specs.laws.Identifiers.{same_text};
@@ -164,6 +164,7 @@ pub fn cut(text: &[u8]) -> (&[u8], Option<&[u8]>)
     ensures pieces { pieces text.now ≡ result.0.now ∷ pieces_of result.1 }
     ensures one { pieces result.0.now ≡ result.0.now ∷ [] }
     ensures place { IsCut text.now result.0.now result.1 }
+    ensures behind { IfSome result.1 (λ rest. rest.now ≡ after_first is_separator text.now) }
 {
     match separator(text) {
         Some(place) => {

@@ -53,7 +53,7 @@ impl LocaleIdentifier {
     }
 }
 
-fn read_locale(alloc: Global, text: &[u8]) -> Result<LocaleIdentifier, ParseError>
+pub fn read_locale(alloc: Global, text: &[u8]) -> Result<LocaleIdentifier, ParseError>
     ensures { ReadsLocale text.now result }
 {
     let (head, private_use) = split(Some(text), Mark::PrivateUse);
@@ -92,7 +92,7 @@ fn bare(alloc: Global, id: LanguageIdentifier) -> LocaleIdentifier
 }
 
 // The identifier before the first singleton.
-fn read_front(alloc: Global, text: Option<&[u8]>) -> Result<LanguageIdentifier, ParseError>
+pub fn read_front(alloc: Global, text: Option<&[u8]>) -> Result<LanguageIdentifier, ParseError>
     ensures { ReadsFront (pieces_of text.entry) result }
 {
     match text {
@@ -102,7 +102,7 @@ fn read_front(alloc: Global, text: Option<&[u8]>) -> Result<LanguageIdentifier, 
 }
 
 // What stands behind the identifier.
-fn read_behind(
+pub fn read_behind(
     alloc: Global,
     id: LanguageIdentifier,
     blocks: Blocks<'_>,

@@ -163,7 +163,7 @@ fn lowered(alloc: Global, text: &[u8]) -> Result<Vec<u8>, ParseError>
 }
 
 // A character in lower case, and `-` for a separator.
-fn spelled(byte: u8) -> u8
+pub fn spelled(byte: u8) -> u8
     ensures { result ≡ spelled byte }
 {
     if byte == b'_' {

@@ -2,6 +2,7 @@ use Rattle.std.proofs.Common.{◌∙◌, sym, ◌∷◌, ap, take}
 use Rattle.std.proofs.lemmas.List.{drop-drop}
 use Rattle.icu_locale_core.specs.Identifier.{is_separator, pieces}
 use Rattle.icu_locale_core.specs.laws.Cuts.{slice_split-position, slice_split-no_position}
+use Rattle.icu_locale_extensions.proofs.Names.{after_some}
 use Rattle.icu_locale_extensions.proofs.Separators.{one_before, parted_at}
 use Rattle.icu_locale_extensions.proofs.blocks.cut.Goals as goal
 
@@ -15,6 +16,7 @@ returns-in-Some c =
           ∙ rw (c.split_at.ensures.front, c.split_at-in-Some.ensures.back, c.split_at.ensures.back) (ap (λ r. take place text ∷ pieces r) (sym (drop-drop 1 place text)));
       one = rw c.split_at.ensures.front (one_before is_separator text place at);
       place = rw (c.split_at.ensures.front, c.split_at-in-Some.ensures.back, c.split_at.ensures.back, drop-drop 1 place text) (parted_at is_separator text place at);
+      behind = rw (c.split_at-in-Some.ensures.back, c.split_at.ensures.back, drop-drop 1 place text) (after_some is_separator text place at);
     }
 
 pub returns-in-None-clause-pieces : goal.returns-in-None-clause-pieces

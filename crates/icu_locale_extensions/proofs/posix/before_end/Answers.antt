@@ -1,0 +1,10 @@
+use Rattle.std.proofs.Common.{sym, ◌∙◌}
+use Rattle.icu_locale_extensions.specs.Syntaxes.{ends_base}
+use Rattle.icu_locale_extensions.proofs.Names.{before_none, before_some}
+use Rattle.icu_locale_extensions.proofs.posix.before_end.Goals as goal
+
+pub returns-in-Some : goal.returns-in-Some
+returns-in-Some c = c.split_at.ensures.front ∙ before_some ends_base c.args.text.now c.in-Some.place (sym c.in-Some.ensures)
+
+pub returns-in-None : goal.returns-in-None
+returns-in-None c = before_none ends_base c.args.text.now (sym c.in-None.ensures)

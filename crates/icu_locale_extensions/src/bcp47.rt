@@ -1,0 +1,89 @@
+//! The reader of tags of BCP 47 (RFC 5646).
+ghost use Rattle.std.specs.Prelude.{◌≡◌, ◌∷◌, ◌++◌, ◌&&◌, codes, is_some, IfSome, Some, true};
+ghost use Rattle.icu_locale_core.specs.Identifier.{pieces};
+ghost use Rattle.icu_locale_core.specs.Subtag.{has_length, is_alphabetic, is_language};
+ghost use Rattle.icu_locale_extensions.specs.Reads.{ReadsLocale};
+ghost use Rattle.icu_locale_extensions.specs.Syntaxes.{is_extended, is_private, tag_text, ReadsBy};
+ghost use Rattle.icu_locale_extensions.specs.inner.Lent.{pieces_of};
+
+use crate::blocks::{Blocks, Mark, cut, is_named};
+use crate::identifier::LocaleIdentifier;
+use crate::legacy::preferred;
+use crate::reader::{read_behind, read_front, read_locale};
+use crate::syntax::Syntax;
+use icu_locale_core::ParseError;
+use std::alloc::Global;
+
+impl LocaleIdentifier {
+    /// Reads a tag of BCP 47 (RFC 5646) in any case, its pieces apart by `-` or `_`, as the strict grammar reads what
+    /// the tag stands for: of a legacy tag, as `i-klingon`, the value that is preferred to it; of private use alone, as
+    /// `x-whatever`, that behind `und`; of an extended language, as `zh-yue`, that without its prefix, which is
+    /// dropped; else the tag itself. It takes memory for variants, private use and extensions alone.
+    ///
+    /// # Errors
+    ///
+    /// - `InvalidLanguage` exactly where the first piece of what the tag stands for is no language.
+    /// - `InvalidSubtag` where a later piece is none of a locale identifier, or a variant or an extension comes twice.
+    /// - `Memory` only where one of these is to be kept, and never in place of `InvalidLanguage`.
+    pub fn try_from_bcp47(alloc: Global, text: &[u8]) -> Result<Self, ParseError>
+        ensures { ReadsBy Syntax.Bcp47 text.now result }
+    {
+        read_tag(alloc, text)
+    }
+}
+
+fn read_tag(alloc: Global, text: &[u8]) -> Result<LocaleIdentifier, ParseError>
+    ensures { ReadsLocale (tag_text text.now) result }
+{
+    let (first, behind) = cut(text);
+    if let Some(value) = preferred(first, behind) {
+        return read_locale(alloc, value.as_bytes());
+    }
+    if is_named(first, b'x') {
+        return read_private(alloc, text);
+    }
+    match without_prefix(first, behind) {
+        Some(tag) => read_locale(alloc, tag),
+        None => read_locale(alloc, text),
+    }
+}
+
+// Private use alone, behind `und`.
+fn read_private(alloc: Global, text: &[u8]) -> Result<LocaleIdentifier, ParseError>
+    requires { is_private (pieces text.now) ≡ true }
+    ensures { ReadsLocale (codes "und-" ++ text.now) result }
+{
+    let id = read_front(alloc, Some(b"und"))?;
+    read_behind(alloc, id, Blocks::new(None, Mark::Singleton), Some(text))
+}
+
+// A tag of an extended language without its first piece.
+fn without_prefix<'a>(first: &[u8], behind: Option<&'a [u8]>) -> Option<&'a [u8]>
+    ensures told { is_some result ≡ is_extended (first.now ∷ pieces_of behind.entry) }
+    ensures same { IfSome result (λ tag. behind.entry ≡ Some tag) }
+{
+    let tag = behind?;
+    let (second, _) = cut(tag);
+    if is_language(first) && are_three_letters(second) {
+        return Some(tag);
+    }
+    None
+}
+
+fn is_language(piece: &[u8]) -> bool
+    ensures { result ≡ is_language piece.now }
+{
+    match piece {
+        [a, b] => a.is_ascii_alphabetic() && b.is_ascii_alphabetic(),
+        _ => are_three_letters(piece),
+    }
+}
+
+fn are_three_letters(piece: &[u8]) -> bool
+    ensures { result ≡ (has_length 3 3 piece.now && is_alphabetic piece.now) }
+{
+    match piece {
+        [a, b, c] => a.is_ascii_alphabetic() && b.is_ascii_alphabetic() && c.is_ascii_alphabetic(),
+        _ => false,
+    }
+}
