@@ -1,8 +1,10 @@
 mod AttributeSets
 mod Behind
+mod Begins
 mod Cutting
 mod Dashes
 mod Equality
+mod Faults
 mod Firsts
 mod Languages
 mod Lengths
@@ -11,11 +13,14 @@ mod Marked
 mod Marks
 mod Modifiers
 mod Names
+mod PlainTexts
 mod PrivateTags
 mod ReadParts
 mod Separators
 mod Sets
 mod Spellings
+mod StrictTags
+mod StrictTexts
 mod Tags
 mod TextsOnce
 mod Unmarked

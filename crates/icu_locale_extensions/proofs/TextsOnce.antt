@@ -68,7 +68,7 @@ module _ (once : (t : List ℕ) (x y : LanguageIdentifier) → IsIdentifier x �
 -- ---- no singleton
 
 -- an identifier alone is a locale identifier
-bare_is : (x : LanguageIdentifier) → IsIdentifier x → IsLocaleIdentifier (bare x)
+pub bare_is : (x : LanguageIdentifier) → IsIdentifier x → IsLocaleIdentifier (bare x)
 unfolding IsStrictlySortedBy
 bare_is x is = record {
   id = is;
@@ -129,7 +129,7 @@ module _ (t : List ℕ) (plain : list_any is_singleton (pieces t) ≡ false) whe
       or_false true = refl
       or_false false = refl
 
-  to_bare : (x : LanguageIdentifier) → core.Spells t x → Spells t (bare x)
+  pub to_bare : (x : LanguageIdentifier) → core.Spells t x → Spells t (bare x)
   to_bare x s = record {
     id = record { text = t; cut = sym all_pieces; spells = s };
     each = ap (list_all is_extension) no_extensions;

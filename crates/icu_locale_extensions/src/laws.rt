@@ -1,16 +1,18 @@
 //! Facts about locale identifiers. Each function here takes nothing, answers nothing and carries a proved fact.
-ghost use Rattle.std.specs.Prelude.{◌≡◌, ◌↔◌, false, List, ℕ, Result};
+ghost use Rattle.std.specs.Prelude.{◌≡◌, ◌↔◌, false, List, ℕ, Result, Err};
 ghost use Rattle.std.specs.List.{list_any};
 ghost use Rattle.icu_locale_core.specs.Agreement.{TellsEquality};
-ghost use Rattle.icu_locale_core.specs.Identifier.{pieces, ReadsIdentifier};
+ghost use Rattle.icu_locale_core.specs.Identifier.{pieces, IsIdentifier, ReadsIdentifier};
+ghost use Rattle.icu_locale_core.specs.Identifier as core;
 ghost use Rattle.icu_locale_core.specs.declared.langid.LanguageIdentifier.{LanguageIdentifier};
 ghost use Rattle.icu_locale_core.specs.declared.parse_error.ParseError.{ParseError};
 ghost use Rattle.icu_locale_extensions.specs.Extensions.{is_singleton};
 ghost use Rattle.icu_locale_extensions.specs.Locales.{IsLocaleIdentifier, written};
-ghost use Rattle.icu_locale_extensions.specs.Reads.{as_locale, IsOkUnlessMemory, ReadsLocale, Spells};
+ghost use Rattle.icu_locale_extensions.specs.Reads.{as_locale, bare, IsOkUnlessMemory, ReadsLocale, Spells};
+ghost use Rattle.icu_locale_extensions.specs.Syntaxes.{IsFaultBy, ReadsBy, SpellsBy};
 ghost use Rattle.icu_locale_extensions.specs.declared.identifier.LocaleIdentifier.{LocaleIdentifier};
 
-use crate::{Attributes, Fields, LocaleIdentifier, Others};
+use crate::{Attributes, Fields, LocaleIdentifier, Others, Syntax};
 use std::cmp::PartialEq;
 
 /// What Display writes of a locale identifier spells that locale identifier.
@@ -53,6 +55,34 @@ pub fn plain_texts_read_alike()
 {
     icu_locale_core::laws::spelled_once();
 }
+
+/// What a text spells in the strict grammar it spells in each syntax.
+pub fn strict_texts_read_alike()
+    ensures { (s : Syntax) (t : List ℕ) (x : LocaleIdentifier)
+        → IsLocaleIdentifier x → Spells t x → SpellsBy s t x }
+{}
+
+/// A text spells at most one locale identifier in each syntax.
+pub fn spelled_once_by()
+    ensures { (s : Syntax) (t : List ℕ) (x y : LocaleIdentifier)
+        → IsLocaleIdentifier x → IsLocaleIdentifier y → SpellsBy s t x → SpellsBy s t y → x ≡ y }
+{
+    spelled_once();
+}
+
+/// A text of an identifier alone spells that identifier in each syntax.
+pub fn identifiers_read_alike()
+    ensures { (s : Syntax) (t : List ℕ) (x : LanguageIdentifier)
+        → IsIdentifier x → core.Spells t x → SpellsBy s t (bare x) }
+{}
+
+/// A text that a syntax refuses is at fault for that reason, but for memory, and a text at fault spells nothing in it.
+pub fn refusals_are_faults()
+    ensures told { (s : Syntax) (t : List ℕ) (e : ParseError)
+        → ReadsBy s t (Err e) → ¬ (e ≡ ParseError.Memory) → IsFaultBy s t e }
+    ensures nothing { (s : Syntax) (t : List ℕ) (e : ParseError) (x : LocaleIdentifier)
+        → IsFaultBy s t e → IsLocaleIdentifier x → ¬ (SpellsBy s t x) }
+{}
 
 /// `==` of locale identifiers and of their parts passes exactly where they are equal.
 pub fn equality_is_told()
