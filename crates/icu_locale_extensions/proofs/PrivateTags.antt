@@ -1,5 +1,5 @@
 -- Private use alone, behind `und`.
-use Rattle.std.specs.Prelude.{◌≡◌, ℕ, true, ◌||◌, ◌&&◌, List, [], ◌∷◌, ◌++◌, codes, Result, Ok, Err, if◌then◌else◌}
+use Rattle.std.specs.Prelude.{◌≡◌, ℕ, true, ◌||◌, ◌&&◌, List, [], ◌∷◌, ◌++◌, codes, Option, IfSome, Result, Ok, Err, if◌then◌else◌}
 use Rattle.std.proofs.Common.{refl, ap, sym, ◌∙◌, subst}
 use Rattle.std.specs.List.{list_all, list_any}
 use Rattle.std.proofs.lemmas.Bool.{false≢true}
@@ -8,13 +8,14 @@ use Rattle.icu_locale_core.specs.declared.langid.LanguageIdentifier.{LanguageIde
 use Rattle.icu_locale_core.specs.declared.parse_error.ParseError.{ParseError}
 use Rattle.icu_locale_core.specs.declared.parse_error.ParseError.TheVariants.{Memory}
 use Rattle.icu_locale_extensions.specs.Blocks.{are_once}
-use Rattle.icu_locale_extensions.specs.Cuts.{Block, front, from, blocks}
-use Rattle.icu_locale_extensions.specs.Extensions.{any_piece, is_singleton, is_x, is_extension}
+use Rattle.icu_locale_extensions.specs.Cuts.{front, from, blocks}
+use Rattle.icu_locale_extensions.specs.Extensions.{any_piece, is_singleton, is_x, is_extension, ArePieces}
 use Rattle.icu_locale_extensions.specs.Locales.{IsLocaleIdentifier}
-use Rattle.icu_locale_extensions.specs.Reads.{is_kept, extensions, identifier_pieces, private_pieces, ReadsLocale, SpellParts}
+use Rattle.icu_locale_extensions.specs.Reads.{is_kept, extensions, identifier_pieces, private_pieces, ReadsLocale, SpellParts, SpellPrivateUse}
 use Rattle.icu_locale_extensions.specs.Syntaxes.{is_private}
 use Rattle.icu_locale_extensions.specs.declared.identifier.LocaleIdentifier.{LocaleIdentifier}
 use Rattle.icu_locale_extensions.specs.inner.Readings.{ReadsFront, ReadsPart}
+use Rattle.icu_locale_extensions.proofs.Behind.{whole_refused}
 use Rattle.icu_locale_extensions.proofs.Cutting.{split-joined}
 use Rattle.icu_locale_extensions.proofs.WholeTexts.{extensions_read, front_refused, x_is_singleton}
 
@@ -56,13 +57,22 @@ module _ (t : List ℕ) (is : is_private (pieces t) ≡ true) where
     pub private_refused : (e : ParseError) → r ≡ Err e → ReadsLocale whole (Err e)
     private_refused e was = front_refused whole r front_read e was
 
-    pub private_read : (id : LanguageIdentifier) → r ≡ Ok id → (result : Result LocaleIdentifier ParseError) (es : List Block) → es ≡ []
-        → ReadsPart (λ x. IsLocaleIdentifier x × (x.locale.id ≡ id)) (SpellParts es (pieces t)) result
-        → (result ≡ Err Memory → (list_any is_kept es || any_piece (pieces t)) ≡ true) → ReadsLocale whole result
-    private_read id was result es none part memory =
-        let same : es ≡ extensions whole = none ∙ sym no_extensions in
-        extensions_read whole r front_read id was result
-        (ap (λ bs. list_all is_extension bs && are_once bs) no_extensions)
-        (subst (λ bs. ReadsPart (λ x. IsLocaleIdentifier x × (x.locale.id ≡ id)) (SpellParts bs (private_pieces whole)) result) same
-        (subst (λ ps. ReadsPart (λ x. IsLocaleIdentifier x × (x.locale.id ≡ id)) (SpellParts es ps) result) (sym private-whole) part))
-        (λ f. (λ i. list_any is_kept (sym same i) || any_piece (private-whole i)) ∙ memory f)
+    module _ (id : LanguageIdentifier) (was : r ≡ Ok id) where
+      parts_read : (result : Result LocaleIdentifier ParseError) → ReadsPart (λ x. IsLocaleIdentifier x × (x.locale.id ≡ id)) (SpellParts [] (pieces t)) result
+          → (result ≡ Err Memory → any_piece (pieces t) ≡ true) → ReadsLocale whole result
+      parts_read result part memory =
+          extensions_read whole r front_read id was result
+          (ap (λ bs. list_all is_extension bs && are_once bs) no_extensions)
+          (subst (λ bs. ReadsPart (λ x. IsLocaleIdentifier x × (x.locale.id ≡ id)) (SpellParts bs (private_pieces whole)) result) (sym no_extensions)
+          (subst (λ ps. ReadsPart (λ x. IsLocaleIdentifier x × (x.locale.id ≡ id)) (SpellParts [] ps) result) (sym private-whole) part))
+          (λ f. (λ i. list_any is_kept (no_extensions i) || any_piece (private-whole i)) ∙ memory f)
+
+      -- private use that is refused
+      pub pieces_refused : (q : Result (Option (List (List ℕ))) ParseError) (e : ParseError) → ReadsPart (λ p. IfSome p (ArePieces 1)) (SpellPrivateUse (pieces t)) q → q ≡ Err e
+          → (q ≡ Err Memory → any_piece (pieces t) ≡ true) → ReadsLocale whole (Err e)
+      pieces_refused q e reads_q is memory =
+          parts_read (Err e) (whole_refused [] (pieces t) id (λ x. x.private_use) q e reads_q is (λ x known s. (known.private_use, s.private_use)))
+          (λ f. memory (is ∙ cc f))
+
+      pub private_read : (y : LocaleIdentifier) → ReadsPart (λ x. IsLocaleIdentifier x × (x.locale.id ≡ id)) (SpellParts [] (pieces t)) (Ok y) → ReadsLocale whole (Ok y)
+      private_read y part = parts_read (Ok y) part (λ f. absurd (cc f))

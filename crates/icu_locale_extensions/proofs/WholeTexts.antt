@@ -160,12 +160,19 @@ language_none = record { found = (tt, refl); only = only; language = λ e. cc e 
     only None fits s = inl refl
     only (Some x) fits s = absurd (false≢true (sym (ap any_piece s.cut) ∙ any_piece-pieces s.text))
 
+-- an identifier and private use
+pub private_alone : (private : List (List ℕ)) (y : LocaleIdentifier) (id : LanguageIdentifier) → IsLocaleIdentifier y → y.locale.id ≡ id → y.locale.extensions.unicode.keywords ≡ [] → y.locale.extensions.transform.lang ≡ None
+    → y.attributes ≡ [] → y.fields ≡ [] → y.others ≡ [] → ReadsPart (λ p. IfSome p (ArePieces 1)) (SpellPrivateUse private) (Ok y.private_use)
+    → ReadsPart (λ x. IsLocaleIdentifier x × (x.locale.id ≡ id)) (SpellParts [] private) (Ok y)
+private_alone private y id known same keywords lang attributes fields others private_use =
+    whole_read [] private id y known same private_use
+    (transform_read [] y.locale.extensions.transform.lang y.fields (subst (λ l. ReadsPart (λ l. IfSome l IsIdentifier) (SpellLanguage []) (Ok l)) (sym lang) language_none) (subst (λ rows. HaveFirstOf rows []) (sym fields) (λ q. refl)) known.fields)
+    (unicode_read [] y.attributes y.locale.extensions.unicode.keywords (record { set = attributes ∙ sym rising_none; rows = subst (λ rows. HaveFirstOf rows []) (sym keywords) (λ q. refl) }) known.keywords)
+    (subst (λ rows. HaveFirstOf rows []) (sym others) (λ q. refl))
+
 -- an identifier alone
 pub bare_read : (y : LocaleIdentifier) (id : LanguageIdentifier) → IsLocaleIdentifier y → y.locale.id ≡ id → y.locale.extensions.unicode.keywords ≡ [] → y.locale.extensions.transform.lang ≡ None
     → y.attributes ≡ [] → y.fields ≡ [] → y.others ≡ [] → y.private_use ≡ None → ReadsPart (λ x. IsLocaleIdentifier x × (x.locale.id ≡ id)) (SpellParts [] []) (Ok y)
 bare_read y id known same keywords lang attributes fields others private_use =
-    whole_read [] [] id y known same
+    private_alone [] y id known same keywords lang attributes fields others
     (subst (λ p. ReadsPart (λ p. IfSome p (ArePieces 1)) (SpellPrivateUse []) (Ok p)) (sym private_use) private_none)
-    (transform_read [] y.locale.extensions.transform.lang y.fields (subst (λ l. ReadsPart (λ l. IfSome l IsIdentifier) (SpellLanguage []) (Ok l)) (sym lang) language_none) (subst (λ rows. HaveFirstOf rows []) (sym fields) (λ q. refl)) known.fields)
-    (unicode_read [] y.attributes y.locale.extensions.unicode.keywords (record { set = attributes ∙ sym rising_none; rows = subst (λ rows. HaveFirstOf rows []) (sym keywords) (λ q. refl) }) known.keywords)
-    (subst (λ rows. HaveFirstOf rows []) (sym others) (λ q. refl))

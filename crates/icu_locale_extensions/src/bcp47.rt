@@ -6,10 +6,10 @@ ghost use Rattle.icu_locale_extensions.specs.Reads.{ReadsLocale};
 ghost use Rattle.icu_locale_extensions.specs.Syntaxes.{is_extended, is_private, tag_text, ReadsBy};
 ghost use Rattle.icu_locale_extensions.specs.inner.Lent.{pieces_of};
 
-use crate::blocks::{Blocks, Mark, cut, is_named};
+use crate::blocks::{cut, is_named};
 use crate::identifier::LocaleIdentifier;
 use crate::legacy::preferred;
-use crate::reader::{read_behind, read_front, read_locale};
+use crate::reader::{read_front, read_locale, read_private_use};
 use crate::syntax::Syntax;
 use icu_locale_core::ParseError;
 use std::alloc::Global;
@@ -54,7 +54,11 @@ fn read_private(alloc: Global, text: &[u8]) -> Result<LocaleIdentifier, ParseErr
     ensures { ReadsLocale (codes "und-" ++ text.now) result }
 {
     let id = read_front(alloc, Some(b"und"))?;
-    read_behind(alloc, id, Blocks::new(None, Mark::Singleton), Some(text))
+    let private_use = read_private_use(alloc, Some(text))?;
+    let mut whole = LocaleIdentifier::new(alloc, id);
+    whole.private_use = private_use;
+    whole.known();
+    Ok(whole)
 }
 
 // A tag of an extended language without its first piece.

@@ -70,9 +70,10 @@ pub fn spelled_once_by()
     spelled_once();
 }
 
-/// A text of an identifier alone spells that identifier in each syntax.
+/// An identifier alone is a locale identifier, and a text of it spells that in each syntax.
 pub fn identifiers_read_alike()
-    ensures { (s : Syntax) (t : List ℕ) (x : LanguageIdentifier)
+    ensures known { (x : LanguageIdentifier) → IsIdentifier x → IsLocaleIdentifier (bare x) }
+    ensures alike { (s : Syntax) (t : List ℕ) (x : LanguageIdentifier)
         → IsIdentifier x → core.Spells t x → SpellsBy s t (bare x) }
 {}
 

@@ -102,7 +102,7 @@ pub fn read_front(alloc: Global, text: Option<&[u8]>) -> Result<LanguageIdentifi
 }
 
 // What stands behind the identifier.
-pub fn read_behind(
+fn read_behind(
     alloc: Global,
     id: LanguageIdentifier,
     blocks: Blocks<'_>,
@@ -135,7 +135,10 @@ pub fn read_behind(
 }
 
 // What follows `x`, where it is there.
-fn read_private_use(alloc: Global, text: Option<&[u8]>) -> Result<Option<Subtags<1>>, ParseError>
+pub fn read_private_use(
+    alloc: Global,
+    text: Option<&[u8]>,
+) -> Result<Option<Subtags<1>>, ParseError>
     requires { begins_at_mark is_x (pieces_of text) ≡ true }
     ensures part { ReadsPart (λ p. IfSome p (ArePieces 1))
         (SpellPrivateUse (pieces_of text.entry)) result }
