@@ -56,6 +56,7 @@ impl<'r> NegotiatorRef<'r> {
 
     /// The first request that an available identifier has the maximal form of, and the first such identifier: their
     /// places. None where there is none. It takes no memory.
+    #[inline(always)]
     pub fn negotiate(&self, requests: &[LanguageIdentifier]) -> Option<(usize, usize)>
         ensures { IsNegotiated (likely self.now.expander) requests.now self.now.available result }
     {
