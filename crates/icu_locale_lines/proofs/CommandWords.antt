@@ -8,12 +8,13 @@ use Rattle.icu_locale_core.specs.Identifier.{IsIdentifier, Spells, pieces, subta
 use Rattle.icu_locale_core.specs.Subtag.{has_length, is_alphabetic, lowercase}
 use Rattle.icu_locale_core.specs.declared.langid.LanguageIdentifier.{LanguageIdentifier}
 use Rattle.icu_locale_names.specs.declared.options.DisplayNamesPreferences.{DisplayNamesPreferences}
-use Rattle.icu_locale_lines.specs.Commands.{AreArguments, AreCommandWords, AreWords, SpellsPreferences, command_word}
+use Rattle.icu_locale_lines.specs.Commands.{AreArguments, AreTaskWords, AreCommandWords, AreWords, SpellsPreferences, plain, task_word}
 use Rattle.icu_locale_names.specs.LanguageChains.{chain_word}
-use Rattle.icu_locale_lines.specs.laws.Commands.{alone_or_name, counted, other_word}
+use Rattle.icu_locale_lines.specs.laws.Commands.{alone_or_name, counted, json_apart, not_nil}
 use Rattle.icu_locale_lines.specs.declared.command.Command.{Command}
-use Rattle.icu_locale_lines.specs.declared.command.Command.TheVariants.{Lines}
-use Rattle.icu_locale_lines.specs.declared.command.LineCommand.TheVariants as command
+use Rattle.icu_locale_lines.specs.declared.command.Command.TheVariants.{Lines, Settled}
+use Rattle.icu_locale_lines.specs.declared.command.Task.{Task}
+use Rattle.icu_locale_lines.specs.declared.command.Task.TheVariants as task
 use Rattle.icu_locale_names.specs.declared.name_chain.NameChain.{NameChain}
 
 -- a list of three
@@ -25,19 +26,19 @@ three (u ∷ v ∷ w ∷ []) x y z low high first second third = λ i. sym first
 three (u ∷ v ∷ w ∷ t ∷ ts) x y z low high first second third = absurd (omega arith)
 
 -- two arguments are those of `name`
-pub record IsName (c : Command) (chain text : List ℕ) : Type 0 where
+pub record IsName (t : Task) (chain text : List ℕ) : Type 0 where
   pub kind : NameChain
   pub preferences : DisplayNamesPreferences
-  pub is : c ≡ Lines (command.Name kind preferences)
+  pub is : t ≡ task.Name kind preferences
   pub named : chain ≡ chain_word kind
   pub spelled : SpellsPreferences text preferences
 
 nothing : (a b : List ℕ) → a ∷ b ∷ [] ≡ [] → ⊥
 nothing a b e = absurd (cc)
 
-pub name_only : (chain text : List ℕ) (c : Command) → AreArguments c (chain ∷ text ∷ []) → IsName c chain text
-name_only chain text c are =
-    elim (alone_or_name c (chain ∷ text ∷ []) are) [
+pub name_only : (chain text : List ℕ) (t : Task) → AreArguments t (chain ∷ text ∷ []) → IsName t chain text
+name_only chain text t are =
+    elim (alone_or_name t (chain ∷ text ∷ []) are) [
       | inl none ↦ absurd (nothing chain text none)
       | inr name ↦
           let words = name.words in
@@ -67,37 +68,51 @@ unspelled x is spells =
     first : (order : List (List ℕ)) → map lowercase (pieces (codes "json")) ≡ map lowercase (subtags x order) → lowercase (codes "json") ≡ lowercase x.language
     first order e = cc
 
--- three words of a command are those of a name
-pub three_named : (words : List (List ℕ)) (word chain text : List ℕ) → words ≡ word ∷ chain ∷ text ∷ [] → (c : Command) → AreCommandWords words c → (word ≡ codes "name") × AreArguments c (chain ∷ text ∷ [])
-three_named words word chain text is c (arguments, are, whole) =
+-- three words of a task are those of a name
+pub three_named : (words : List (List ℕ)) (word chain text : List ℕ) → words ≡ word ∷ chain ∷ text ∷ [] → (t : Task) → AreTaskWords words t → (word ≡ codes "name") × AreArguments t (chain ∷ text ∷ [])
+three_named words word chain text is t (arguments, are, whole) =
     let behind : arguments ≡ chain ∷ text ∷ [] = cc in
-    let first : word ≡ command_word c = cc in
-    let these = subst (AreArguments c) behind are in
-    (first ∙ ap command_word (name_only chain text c these).is, these)
+    let first : word ≡ task_word t = cc in
+    let these = subst (AreArguments t) behind are in
+    (first ∙ ap task_word (name_only chain text t these).is, these)
 
-not_nil : {X : Type 0} (xs : List X) (x : X) → xs ++ x ∷ [] ≡ [] → ⊥
-not_nil [] x e = absurd (cc)
-not_nil (y ∷ ys) x e = absurd (cc)
+-- words of a command are one, or three of which the first is `name`
+pub counted_words : (words : List (List ℕ)) (c : Command) → AreCommandWords words c → (length words ≡ 1) ⊎ ((chain : List ℕ) × (text : List ℕ) × (words ≡ codes "name" ∷ chain ∷ text ∷ []))
+counted_words words Settled are = inl (ap length are)
+counted_words words (Lines c) are = counted words c.task are.1
 
--- words that end with `json` are not those of a command without it
-never_json : (front : List (List ℕ)) (c : Command) → AreCommandWords (front ++ codes "json" ∷ []) c → ⊥
-never_json [] c (arguments, are, is) =
-    let none : arguments ≡ [] = cc in
-    let word : codes "json" ≡ command_word c = cc in
-    other_word c (subst (AreArguments c) none are) word
-never_json (w ∷ []) c are = by (counted (w ∷ codes "json" ∷ []) c are)
+-- so three words are those of a name
+pub three_words : (word chain text : List ℕ) (c : Command) → AreCommandWords (word ∷ chain ∷ text ∷ []) c → AreCommandWords (codes "name" ∷ chain ∷ text ∷ []) c × (word ≡ codes "name")
+three_words word chain text Settled are = absurd (cc)
+three_words word chain text (Lines c) are =
+    let name = (three_named (word ∷ chain ∷ text ∷ []) word chain text refl c.task are.1).0 in
+    (subst (λ w. AreCommandWords (w ∷ chain ∷ text ∷ []) (Lines c)) name are, name)
+
+-- words that end with `json` are not those of a task without it
+never_task : (front : List (List ℕ)) (t : Task) → AreTaskWords (front ++ codes "json" ∷ []) t → ⊥
+never_task [] t (arguments, are, is) =
+    let word : codes "json" ≡ task_word t = cc in
+    json_apart t word
+never_task (w ∷ []) t are = by (counted (w ∷ codes "json" ∷ []) t are)
   where
     by : (length (w ∷ codes "json" ∷ []) ≡ 1) ⊎ ((chain : List ℕ) × (text : List ℕ) × (w ∷ codes "json" ∷ [] ≡ codes "name" ∷ chain ∷ text ∷ [])) → ⊥
     by (inl one) = omega (arith, one)
     by (inr (chain, text, is)) = let two : 2 ≡ 3 = ap length is in omega (arith, two)
-never_json (w ∷ v ∷ []) c are =
-    let spells = (name_only v (codes "json") c (three_named (w ∷ v ∷ codes "json" ∷ []) w v (codes "json") refl c are).1).spelled in
+never_task (w ∷ v ∷ []) t are =
+    let spells = (name_only v (codes "json") t (three_named (w ∷ v ∷ codes "json" ∷ []) w v (codes "json") refl t are).1).spelled in
     unspelled spells.0 spells.1 spells.2
-never_json (w ∷ v ∷ u ∷ us) c are = by (counted (w ∷ v ∷ u ∷ (us ++ codes "json" ∷ [])) c are)
+never_task (w ∷ v ∷ u ∷ us) t are = by (counted (w ∷ v ∷ u ∷ (us ++ codes "json" ∷ [])) t are)
   where
     by : (length (w ∷ v ∷ u ∷ (us ++ codes "json" ∷ [])) ≡ 1) ⊎ ((chain : List ℕ) × (text : List ℕ) × (w ∷ v ∷ u ∷ (us ++ codes "json" ∷ []) ≡ codes "name" ∷ chain ∷ text ∷ [])) → ⊥
     by (inl one) = omega (arith, one)
     by (inr (chain, text, is)) = not_nil us (codes "json") (cc)
+
+-- nor of a command
+never_json : (front : List (List ℕ)) (c : Command) → AreCommandWords (front ++ codes "json" ∷ []) c → ⊥
+never_json [] Settled are = absurd (cc)
+never_json (w ∷ []) Settled are = absurd (cc)
+never_json (w ∷ v ∷ vs) Settled are = absurd (cc)
+never_json front (Lines c) are = never_task front c.task are.1
 
 -- words with `json` behind them are those of a command with tables as JSON
 pub with_json : (front : List (List ℕ)) (c : Command × Bool) → AreWords (front ++ codes "json" ∷ []) c.0 c.1 → AreCommandWords front c.0 × (c.1 ≡ true)
@@ -117,3 +132,10 @@ ends_otherwise words before word is other front json = other (ends before front 
 pub no_words : {X : Type 0} (f : X → List ℕ) (words : List X) → length words ≡ 0 → (front : List (List ℕ)) → map f words ≡ front ++ codes "json" ∷ [] → ⊥
 no_words f [] none front e = not_nil front (codes "json") (sym e)
 no_words f (w ∷ ws) none front e = absurd (omega (arith, none))
+
+-- a name's words are those of one command
+pub name_alone : (chain text : List ℕ) (c : Command) → AreCommandWords (codes "name" ∷ chain ∷ text ∷ []) c → (t : Task) × IsName t chain text × (c ≡ Lines (plain t))
+name_alone chain text Settled are = absurd (cc)
+name_alone chain text (Lines c) (none, are) =
+    let these = three_named (codes "name" ∷ chain ∷ text ∷ []) (codes "name") chain text refl c.task are in
+    (c.task, name_only chain text c.task these.1, λ i. Lines (record { syntax = none i; task = c.task }))

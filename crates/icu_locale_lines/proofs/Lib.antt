@@ -1,3 +1,4 @@
+mod Alike
 mod CommandWords
 mod FirstLines
 mod LineAnswers

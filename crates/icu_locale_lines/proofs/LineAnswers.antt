@@ -21,9 +21,9 @@ use Rattle.icu_provider.specs.declared.error.DataError.{DataError}
 use Rattle.icu_provider.specs.declared.error.DataErrorKind.{DataErrorKind}
 use Rattle.icu_provider.specs.declared.error.DataErrorKind.TheVariants as kind
 use Rattle.icu_locale_lines.specs.declared.error.CliError.{CliError}
-use Rattle.icu_locale_lines.specs.Answers.{AddsLine, IsCanonicalized}
+use Rattle.icu_locale_lines.specs.Answers.{AddsLine, IsCanonicalizedTo}
 use Rattle.icu_locale_lines.specs.Locales.{is_tab, is_readable, keywords_of, SpellsLocale}
-use Rattle.icu_locale_lines.specs.Texts.{canonical_line, matched_line, refused_line}
+use Rattle.icu_locale_lines.specs.Texts.{matched_line, refused_line}
 use Rattle.icu_locale_lines.specs.inner.Parts.{TellsRefusal}
 use Rattle.icu_locale_lines.proofs.LineCuts.{before_first-no_position}
 use Rattle.icu_locale_lines.proofs.LocaleLines.{value_text-no_position}
@@ -55,13 +55,13 @@ pub if_unnamed : {T : Type 0} (e : DataError) → ◌≡◌ {A = Result T DataEr
 if_unnamed e lacks Q old new (Ok a) told = absurd (told (ap kind_of lacks))
 if_unnamed e lacks Q old new (Err x) told = tt
 
-module _ (likely : LikelySubtags) (rules : Rules) (old : Locale) where
+module _ (line_of : Locale → TransformResult → List ℕ) (likely : LikelySubtags) (rules : Rules) (old : Locale) where
   -- the line of a canonical locale
-  pub canonicalized_from_line : (new : Locale) (m : TransformResult) → IsCanonical likely rules old new → m ≡ answer_of (is_applied likely rules old) → (t : List ℕ) (a : Bool) → (t ≡ canonical_line new m) × (a ≡ true) → IsCanonicalized likely rules old t a
-  canonicalized_from_line new m canonical answer t a h = inl (new, canonical, subst (λ k. t ≡ canonical_line new k) answer h.0, h.1)
+  pub canonicalized_from_line : (new : Locale) (m : TransformResult) → IsCanonical likely rules old new → m ≡ answer_of (is_applied likely rules old) → (t : List ℕ) (a : Bool) → (t ≡ line_of new m) × (a ≡ true) → IsCanonicalizedTo line_of likely rules old t a
+  canonicalized_from_line new m canonical answer t a h = inl (new, canonical, subst (λ k. t ≡ line_of new k) answer h.0, h.1)
 
   -- the line of what comes again
-  pub refused_from_line : (refusal : CanonicalizeError) → IsRefusal likely rules old refusal → (t : List ℕ) (a : Bool) → TellsRefusal refusal t a → IsCanonicalized likely rules old t a
+  pub refused_from_line : (refusal : CanonicalizeError) → IsRefusal likely rules old refusal → (t : List ℕ) (a : Bool) → TellsRefusal refusal t a → IsCanonicalizedTo line_of likely rules old t a
   refused_from_line Memory why t a h = absurd h
   refused_from_line (NoFixedPoint z) why t a h = inr (inl (z, why, h.0, h.1))
   refused_from_line (NoSubdivisionFixedPoint v) why t a h = inr (inr (v, why, h.0, h.1))

@@ -1,14 +1,17 @@
 -- How a line of identifiers is read, text by text.
-use Rattle.std.proofs.Common.{◌≡◌, ◌⊎◌, ℕ, ◌<◌, Bool, true, false, ◌==◌, List, [], ◌∷◌, ◌++◌, length, get_or, take, drop, Result, Err, inl, inr, refl, ap, sym, subst, ◌∙◌, arith, map, zero, suc}
+use Rattle.std.proofs.Common.{◌≡◌, ◌⊎◌, ℕ, ◌<◌, Bool, true, false, ◌==◌, List, [], ◌∷◌, ◌++◌, length, get_or, take, drop, Option, Result, Err, inl, inr, refl, ap, sym, subst, ◌∙◌, arith, map, zero, suc}
 use Rattle.std.specs.Borrow.{Bor}
 use Rattle.std.proofs.lemmas.Bool.{false≢true}
 use Rattle.std.proofs.lemmas.List.{map-append}
 use Rattle.std.specs.List.{AllZip, slice_split}
-use Rattle.icu_locale_core.specs.Identifier.{IsIdentifier, Spells, ReadsIdentifier, starts_with_language}
+use Rattle.icu_locale_core.specs.Identifier.{ReadsIdentifier, starts_with_language}
 use Rattle.icu_locale_core.specs.declared.langid.LanguageIdentifier.{LanguageIdentifier}
 use Rattle.icu_locale_core.specs.declared.parse_error.ParseError.{ParseError}
 use Rattle.icu_locale_core.specs.declared.parse_error.ParseError.TheVariants.{InvalidLanguage, InvalidSubtag, Memory}
-use Rattle.icu_locale_lines.specs.Lists.{is_space, listed, SpellsAll, IsFault, IsFirstFault}
+use Rattle.icu_locale_extensions.specs.Syntaxes.{ReadsBy, IsFaultBy, starts_by}
+use Rattle.icu_locale_extensions.specs.declared.identifier.LocaleIdentifier.{LocaleIdentifier}
+use Rattle.icu_locale_extensions.specs.declared.syntax.Syntax.{Syntax}
+use Rattle.icu_locale_lines.specs.Lists.{is_space, listed, SpellsAll, SpellsIn, IsFault, IsFaultIn, IsFirstFault}
 
 -- one more at the end of both lists
 pub AllZip-push : {A B : Type 0} (P : A → B → Type 0) (xs : List A) (ys : List B) (x : A) (y : B) → AllZip P xs ys → P x y → AllZip P (xs ++ x ∷ []) (ys ++ y ∷ [])
@@ -18,11 +21,11 @@ AllZip-push P (a ∷ xs) [] x y each one = absurd each
 AllZip-push P (a ∷ xs) (b ∷ ys) x y each one = (each.0, AllZip-push P xs ys x y each.1 one)
 
 -- one more text is read
-pub SpellsAll-push : (texts : List (Bor (List ℕ))) (old new : List LanguageIdentifier) (text : Bor (List ℕ)) (x : LanguageIdentifier) → SpellsAll (map (λ t. t.now) texts) old → IsIdentifier x × Spells text.now x → new ≡ old ++ x ∷ []
-    → SpellsAll (map (λ t. t.now) (texts ++ text ∷ [])) new
-SpellsAll-push texts old new text x each one pushed =
-    subst (λ ts. SpellsAll ts new) (sym (map-append (λ (t : Bor (List ℕ)). t.now) texts (text ∷ [])))
-    (subst (SpellsAll (map (λ t. t.now) texts ++ text.now ∷ [])) (sym pushed) (AllZip-push (λ t y. IsIdentifier y × Spells t y) (map (λ t. t.now) texts) old text.now x each one))
+pub SpellsAll-push : (syntax : Option Syntax) (texts : List (Bor (List ℕ))) (old new : List LanguageIdentifier) (text : Bor (List ℕ)) (x : LanguageIdentifier) → SpellsAll syntax (map (λ t. t.now) texts) old → SpellsIn syntax text.now x → new ≡ old ++ x ∷ []
+    → SpellsAll syntax (map (λ t. t.now) (texts ++ text ∷ [])) new
+SpellsAll-push syntax texts old new text x each one pushed =
+    subst (λ ts. SpellsAll syntax ts new) (sym (map-append (λ (t : Bor (List ℕ)). t.now) texts (text ∷ [])))
+    (subst (SpellsAll syntax (map (λ t. t.now) texts ++ text.now ∷ [])) (sym pushed) (AllZip-push (SpellsIn syntax) (map (λ t. t.now) texts) old text.now x each one))
 
 -- a line that is not empty is cut at each space
 pub listed_some : (line : List ℕ) → false ≡ (length line == 0) → listed line ≡ slice_split is_space line
@@ -39,6 +42,10 @@ is_invalid_subtag : Result LanguageIdentifier ParseError → Type 0
 is_invalid_subtag (Err InvalidSubtag) = Unit {0}
 is_invalid_subtag r = ⊥
 
+is_invalid_whole : Result LocaleIdentifier ParseError → Type 0
+is_invalid_whole (Err InvalidSubtag) = Unit {0}
+is_invalid_whole r = ⊥
+
 -- why reading refuses a text
 pub refusal_from_reading : (t : List ℕ) (e : ParseError) → ReadsIdentifier t (Err e) → (e ≡ Memory) ⊎ IsFault t e
 unfolding is_invalid_subtag
@@ -50,18 +57,27 @@ refusal_from_reading t InvalidSubtag reads = inr (by (starts_with_language t) re
     by false is = absurd (subst is_invalid_subtag (reads.language.1 is) tt)
 refusal_from_reading t Memory reads = inl refl
 
--- the texts before the one in hand were read, and that one is refused
-pub refused_here : (texts : List (List ℕ)) (n : ℕ) (identifiers : List LanguageIdentifier) → SpellsAll (take n texts) identifiers → n < length texts → (t : List ℕ) → t ≡ get_or texts n t → (e : ParseError) → ReadsIdentifier t (Err e) → (e ≡ Memory) ⊎ IsFirstFault texts e
-refused_here texts n identifiers spelled low t here e reads = by (refusal_from_reading t e reads)
+-- the same of a locale identifier
+pub fault_from_reading : (syntax : Syntax) (t : List ℕ) (e : ParseError) → ReadsBy syntax t (Err e) → (e ≡ Memory) ⊎ IsFaultBy syntax t e
+unfolding is_invalid_whole
+fault_from_reading syntax t InvalidLanguage reads = inr (reads.language.0 refl)
+fault_from_reading syntax t InvalidSubtag reads = inr (by (starts_by syntax t) refl, reads.subtag refl)
   where
-    by : (e ≡ Memory) ⊎ IsFault t e → (e ≡ Memory) ⊎ IsFirstFault texts e
-    by (inl memory) = inl memory
-    by (inr refusal) = inr (record {
-      earlier = take n texts;
-      text = t;
-      later = drop (suc n) texts;
-      parted = around texts n t low ∙ ap (λ x. take n texts ++ x ∷ drop (suc n) texts) (sym here);
-      identifiers = identifiers;
-      spelled = spelled;
-      refused = refusal;
-    })
+    by : (b : Bool) → starts_by syntax t ≡ b → starts_by syntax t ≡ true
+    by true is = is
+    by false is = absurd (subst is_invalid_whole (reads.language.1 is) tt)
+fault_from_reading syntax t Memory reads = inl refl
+
+-- the texts before the one in hand were read, and that one is refused
+pub refused_here : (syntax : Option Syntax) (texts : List (List ℕ)) (n : ℕ) (identifiers : List LanguageIdentifier) → SpellsAll syntax (take n texts) identifiers → n < length texts → (t : List ℕ) → t ≡ get_or texts n t → (e : ParseError) → (e ≡ Memory) ⊎ IsFaultIn syntax t e
+    → (e ≡ Memory) ⊎ IsFirstFault syntax texts e
+refused_here syntax texts n identifiers spelled low t here e (inl memory) = inl memory
+refused_here syntax texts n identifiers spelled low t here e (inr refusal) = inr (record {
+  earlier = take n texts;
+  text = t;
+  later = drop (suc n) texts;
+  parted = around texts n t low ∙ ap (λ x. take n texts ++ x ∷ drop (suc n) texts) (sym here);
+  identifiers = identifiers;
+  spelled = spelled;
+  refused = refusal;
+})

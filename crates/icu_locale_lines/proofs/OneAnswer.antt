@@ -29,14 +29,19 @@ use Rattle.icu_locale.specs.declared.canonicalizer.CanonicalizeError.TheVariants
 use Rattle.icu_locale.specs.declared.canonicalizer.rules.Rules.{Rules}
 use Rattle.icu_locale_core.specs.declared.locale.Locale.{Locale}
 use Rattle.icu_locale_lines.specs.declared.work.Work.{Work}
-use Rattle.icu_locale_lines.specs.declared.work.Work.TheVariants as work
+use Rattle.icu_locale_lines.specs.declared.work.Tools.{Tools}
+use Rattle.icu_locale_lines.specs.declared.work.Tools.TheVariants as tools
+use Rattle.icu_locale_extensions.specs.Locales.{IsLocaleIdentifier}
+use Rattle.icu_locale_extensions.specs.Syntaxes.{SpellsBy, IsFaultBy}
+use Rattle.icu_locale_extensions.specs.declared.identifier.LocaleIdentifier.{LocaleIdentifier}
+use Rattle.icu_locale_extensions.specs.declared.syntax.Syntax.{Syntax}
 use Rattle.icu_locale_lines.specs.Locales.{SpellsLocale, SpellsSome, IsLocaleFault, IsValueFault, identifier_text, value_text}
-use Rattle.icu_locale_lines.specs.Lists.{IsNegotiatedLine, TellsMatch, listed, SpellsAll, IsFault}
+use Rattle.icu_locale_lines.specs.Lists.{IsNegotiatedLine, TellsMatch, listed, SpellsAll, SpellsIn, IsFault, IsFaultIn}
 use Rattle.icu_locale_lines.specs.declared.transform.Transform.{Transform}
 use Rattle.icu_locale_lines.specs.declared.transform.Transform.TheVariants.{Maximize, Minimize, MinimizeScript}
-use Rattle.icu_locale_lines.specs.Answers.{IsAnswer, IsForm, IsTransformed, IsDirected, IsNamed, IsCanonicalized, IsIdentifierAnswer, IsLocaleAnswer, IsListAnswer}
+use Rattle.icu_locale_lines.specs.Answers.{IsAnswer, IsPlainAnswer, IsWholeAnswer, IsForm, IsTransformed, IsDirected, IsNamed, IsCanonicalizedTo, IsIdentifierAnswer, IsLocaleAnswer, IsListAnswer, IsSpelledAnswer, IsWholeTransformed, IsWholeCanonicalized, with_id, with_locale}
 use Rattle.icu_locale_lines.specs.Names.{IsNamedLine, name_asked}
-use Rattle.icu_locale_lines.specs.Texts.{transformed_line, canonical_line, refused_line, matched_line}
+use Rattle.icu_locale_lines.specs.Texts.{transformed_line, canonical_line, whole_line, refused_line, matched_line}
 
 -- two answers are the same
 pub record SameAnswer (one two : List ℕ) (a b : Bool) : Type 0 where
@@ -94,7 +99,7 @@ refusal_one t InvalidSubtag Memory p q = absurd q
 refusal_one t Memory f p q = absurd p
 
 -- a text that spells an identifier is not refused
-not_refused : (t : List ℕ) (x : LanguageIdentifier) (e : ParseError) → IsIdentifier x → Spells t x → IsFault t e → ⊥
+pub not_refused : (t : List ℕ) (x : LanguageIdentifier) (e : ParseError) → IsIdentifier x → Spells t x → IsFault t e → ⊥
 not_refused t x InvalidLanguage is_x spells why = false≢true (sym why ∙ begins t x is_x spells)
 not_refused t x InvalidSubtag is_x spells why = why.1 x is_x spells
 not_refused t x Memory is_x spells why = why
@@ -143,11 +148,11 @@ pub record CanonicalFacts (likely : LikelySubtags) (rules : Rules) : Type 0 wher
   pub refused : (old new : Locale) (e : CanonicalizeError) → IsCanonical likely rules old new → IsRefusal likely rules old e → IsMemory e
   pub apart : (old : Locale) (z : LanguageIdentifier) (v : List (List ℕ)) → ComesAgainFirst likely rules old z → ValueComesAgainFirst likely rules old v → ⊥
 
-module _ (likely : LikelySubtags) (rules : Rules) (facts : CanonicalFacts likely rules) (old : Locale) where
-  canonical_line_one : (m : TransformResult) (new other : Locale) → IsCanonical likely rules old new → IsCanonical likely rules old other → canonical_line new m ≡ canonical_line other m
-  canonical_line_one m new other c d = ap (λ l. canonical_line l m) (facts.one old new other c d)
+module _ (line_of : Locale → TransformResult → List ℕ) (likely : LikelySubtags) (rules : Rules) (facts : CanonicalFacts likely rules) (old : Locale) where
+  canonical_line_one : (m : TransformResult) (new other : Locale) → IsCanonical likely rules old new → IsCanonical likely rules old other → line_of new m ≡ line_of other m
+  canonical_line_one m new other c d = ap (λ l. line_of l m) (facts.one old new other c d)
 
-  canonicalized_one : (one two : List ℕ) (a b : Bool) → IsCanonicalized likely rules old one a → IsCanonicalized likely rules old two b → SameAnswer one two a b
+  canonicalized_one : (one two : List ℕ) (a b : Bool) → IsCanonicalizedTo line_of likely rules old one a → IsCanonicalizedTo line_of likely rules old two b → SameAnswer one two a b
   canonicalized_one one two a b (inl h) (inl k) = same h.2 k.2 (canonical_line_one _ h.0 k.0 h.1 k.1) h.3 k.3
   canonicalized_one one two a b (inl h) (inr (inl k)) = absurd (facts.refused old h.0 (NoFixedPoint k.0) h.1 k.1)
   canonicalized_one one two a b (inl h) (inr (inr k)) = absurd (facts.refused old h.0 (NoSubdivisionFixedPoint k.0) h.1 k.1)
@@ -177,14 +182,14 @@ module _ (table : LikelySubtags) (requests available : List LanguageIdentifier) 
 
 module _ (spelled_once : (t : List ℕ) (x y : LanguageIdentifier) → IsIdentifier x → IsIdentifier y → Spells t x → Spells t y → x ≡ y) where
   -- the locale that a line spells is one
-  locale_one : (line : List ℕ) (old other : Locale) → SpellsLocale line old → SpellsLocale line other → old ≡ other
+  pub locale_one : (line : List ℕ) (old other : Locale) → SpellsLocale line old → SpellsLocale line other → old ≡ other
   locale_one line old other p q =
       let ids = spelled_once (identifier_text line) old.id other.id p.known q.known p.id q.id in
       let keywords = p.keywords ∙ sym q.keywords in
       let lang = p.transform ∙ sym q.transform in
       λ i. record { id = ids i; extensions = record { unicode = record { keywords = keywords i }; transform = record { lang = lang i } } }
 
-  no_locale_fault : (line : List ℕ) (old : Locale) (e : ParseError) → SpellsLocale line old → IsLocaleFault line e → ⊥
+  pub no_locale_fault : (line : List ℕ) (old : Locale) (e : ParseError) → SpellsLocale line old → IsLocaleFault line e → ⊥
   no_locale_fault line old e p f = by f.fault
     where
       by : IsFault (identifier_text line) e ⊎ (SpellsSome (identifier_text line) × IsValueFault (value_text line) e) → ⊥
@@ -206,64 +211,122 @@ module _ (spelled_once : (t : List ℕ) (x y : LanguageIdentifier) → IsIdentif
   module _ (one two : List ℕ) (a b : Bool) where
     locale_answer_one : (likely : LikelySubtags) (rules : Rules) → CanonicalFacts likely rules → (line : List ℕ) → IsLocaleAnswer likely rules line one a → IsLocaleAnswer likely rules line two b → SameAnswer one two a b
     locale_answer_one likely rules facts line (inl h) (inl k) =
-        canonicalized_one likely rules facts k.0 one two a b (subst (λ old. IsCanonicalized likely rules old one a) (locale_one line h.0 k.0 h.1 k.1) h.2) k.2
+        canonicalized_one canonical_line likely rules facts k.0 one two a b (subst (λ old. IsCanonicalizedTo canonical_line likely rules old one a) (locale_one line h.0 k.0 h.1 k.1) h.2) k.2
     locale_answer_one likely rules facts line (inl h) (inr k) = absurd (no_locale_fault line h.0 k.0 h.1 k.1)
     locale_answer_one likely rules facts line (inr h) (inl k) = absurd (no_locale_fault line k.0 h.0 k.1 h.1)
     locale_answer_one likely rules facts line (inr h) (inr k) =
         same h.2 k.2 (ap (λ e. refused_line (parse_error_name e)) (locale_fault_one line h.0 k.0 h.1 k.1)) h.3 k.3
 
-  -- the identifiers that texts spell are one list
-  all_one : (texts : List (List ℕ)) (xs ys : List LanguageIdentifier) → SpellsAll texts xs → SpellsAll texts ys → xs ≡ ys
-  all_one [] [] [] p q = refl
-  all_one [] [] (y ∷ ys) p q = absurd q
-  all_one [] (x ∷ xs) ys p q = absurd p
-  all_one (t ∷ ts) [] ys p q = absurd p
-  all_one (t ∷ ts) (x ∷ xs) [] p q = absurd q
-  all_one (t ∷ ts) (x ∷ xs) (y ∷ ys) p q =
-      let e = spelled_once t x y p.0.0 q.0.0 p.0.1 q.0.1 in
-      let others = all_one ts xs ys p.1 q.1 in
-      λ i. e i ∷ others i
+  module _ (whole_once : (s : Syntax) (t : List ℕ) (x y : LocaleIdentifier) → IsLocaleIdentifier x → IsLocaleIdentifier y → SpellsBy s t x → SpellsBy s t y → x ≡ y)
+      (nothing : (s : Syntax) (t : List ℕ) (e : ParseError) (x : LocaleIdentifier) → IsFaultBy s t e → IsLocaleIdentifier x → ¬ (SpellsBy s t x)) where
+    -- why a text spells no locale identifier is told by the text
+    fault_by_one : (s : Syntax) (t : List ℕ) (e f : ParseError) → IsFaultBy s t e → IsFaultBy s t f → e ≡ f
+    fault_by_one s t InvalidLanguage InvalidLanguage p q = refl
+    fault_by_one s t InvalidLanguage InvalidSubtag p q = absurd (false≢true (sym p ∙ q.0))
+    fault_by_one s t InvalidLanguage Memory p q = absurd q
+    fault_by_one s t InvalidSubtag InvalidLanguage p q = absurd (false≢true (sym q ∙ p.0))
+    fault_by_one s t InvalidSubtag InvalidSubtag p q = refl
+    fault_by_one s t InvalidSubtag Memory p q = absurd q
+    fault_by_one s t Memory f p q = absurd p
 
-  -- texts that all spell identifiers have no fault
-  no_fault : (earlier : List (List ℕ)) (text : List ℕ) (later : List (List ℕ)) (e : ParseError) (xs : List LanguageIdentifier) → SpellsAll (earlier ++ text ∷ later) xs → IsFault text e → ⊥
-  no_fault [] text later e [] p why = p
-  no_fault [] text later e (x ∷ xs) p why = not_refused text x e p.0.0 p.0.1 why
-  no_fault (t ∷ ts) text later e [] p why = p
-  no_fault (t ∷ ts) text later e (x ∷ xs) p why = no_fault ts text later e xs p.1 why
+    -- the answer to a locale identifier is one where its line is
+    spelled_one : (one two : List ℕ) (a b : Bool) (s : Syntax) (IsLine : LocaleIdentifier → List ℕ → Bool → Type 0) → ((x : LocaleIdentifier) → IsLine x one a → IsLine x two b → SameAnswer one two a b) → (line : List ℕ) → IsSpelledAnswer s IsLine line one a → IsSpelledAnswer s IsLine line two b → SameAnswer one two a b
+    spelled_one one two a b s IsLine line_one line (inl h) (inl k) =
+        let e = whole_once s line h.0 k.0 h.1 k.1 h.2 k.2 in
+        line_one k.0 (subst (λ x. IsLine x one a) e h.3) k.3
+    spelled_one one two a b s IsLine line_one line (inl h) (inr k) = absurd (nothing s line k.0 h.0 k.1 h.1 h.2)
+    spelled_one one two a b s IsLine line_one line (inr h) (inl k) = absurd (nothing s line h.0 k.0 h.1 k.1 k.2)
+    spelled_one one two a b s IsLine line_one line (inr h) (inr k) =
+        same h.2 k.2 (ap (λ e. refused_line (parse_error_name e)) (fault_by_one s line h.0 k.0 h.1 k.1)) h.3 k.3
 
-  -- the first fault is one
-  fault_one : (ps : List (List ℕ)) (t : List ℕ) (bs cs : List (List ℕ)) (u : List ℕ) (ds : List (List ℕ)) (e f : ParseError) (xs ys : List LanguageIdentifier) → ps ++ t ∷ bs ≡ cs ++ u ∷ ds
-      → SpellsAll ps xs → SpellsAll cs ys → IsFault t e → IsFault u f → e ≡ f
-  fault_one [] t bs [] u ds e f xs ys is p q r s = refusal_one u e f (subst (λ w. IsFault w e) (ap first_of is) r) s
-  fault_one [] t bs (c ∷ cs) u ds e f xs [] is p q r s = absurd q
-  fault_one [] t bs (c ∷ cs) u ds e f xs (y ∷ ys) is p q r s = absurd (not_refused c y e q.0.0 q.0.1 (subst (λ w. IsFault w e) (ap first_of is) r))
-  fault_one (g ∷ ps) t bs [] u ds e f [] ys is p q r s = absurd p
-  fault_one (g ∷ ps) t bs [] u ds e f (x ∷ xs) ys is p q r s = absurd (not_refused g x f p.0.0 p.0.1 (subst (λ w. IsFault w f) (sym (ap first_of is)) s))
-  fault_one (g ∷ ps) t bs (c ∷ cs) u ds e f [] ys is p q r s = absurd p
-  fault_one (g ∷ ps) t bs (c ∷ cs) u ds e f (x ∷ xs) [] is p q r s = absurd q
-  fault_one (g ∷ ps) t bs (c ∷ cs) u ds e f (x ∷ xs) (y ∷ ys) is p q r s = fault_one ps t bs cs u ds e f xs ys (ap others_of is) p.1 q.1 r s
+    -- the identifier of a text is one, and it is not refused too
+    in_one : (s : Option Syntax) (t : List ℕ) (x y : LanguageIdentifier) → SpellsIn s t x → SpellsIn s t y → x ≡ y
+    in_one None t x y p q = spelled_once t x y p.0 q.0 p.1 q.1
+    in_one (Some s) t x y p q = sym p.3 ∙ ap (λ w. w.locale.id) (whole_once s t p.0 q.0 p.1 q.1 p.2 q.2) ∙ q.3
 
-  list_answer_one : (one two : List ℕ) (a b : Bool) (n : Negotiation) (line : List ℕ) → IsListAnswer n line one a → IsListAnswer n line two b → SameAnswer one two a b
-  list_answer_one one two a b n line (inl h) (inl k) =
-      let requests = all_one (listed line) h.0 k.0 h.1 k.1 in
-      let line : IsNegotiatedLine n k.0 one = subst (λ xs. IsNegotiatedLine n xs one) requests h.2 in
-      record { text = negotiated_one (likely n.expander) k.0 n.available one two line.0 k.2.0 line.1 k.2.1 line.2 k.2.2; accepted = h.3 ∙ sym k.3 }
-  list_answer_one one two a b n line (inl h) (inr k) =
-      let f = k.1 in
-      absurd (no_fault f.earlier f.text f.later k.0 h.0 (subst (λ ts. SpellsAll ts h.0) f.parted h.1) f.refused)
-  list_answer_one one two a b n line (inr h) (inl k) =
-      let f = h.1 in
-      absurd (no_fault f.earlier f.text f.later h.0 k.0 (subst (λ ts. SpellsAll ts k.0) f.parted k.1) f.refused)
-  list_answer_one one two a b n line (inr h) (inr k) =
-      let f = h.1 in
-      let g = k.1 in
-      let e = fault_one f.earlier f.text f.later g.earlier g.text g.later h.0 k.0 f.identifiers g.identifiers (sym f.parted ∙ g.parted) f.spelled g.spelled f.refused g.refused in
-      same h.2 k.2 (ap (λ e. refused_line (parse_error_name e)) e) h.3 k.3
+    fault_in_one : (s : Option Syntax) (t : List ℕ) (e f : ParseError) → IsFaultIn s t e → IsFaultIn s t f → e ≡ f
+    fault_in_one None t e f p q = refusal_one t e f p q
+    fault_in_one (Some s) t e f p q = fault_by_one s t e f p q
 
-  pub answer_one : ((favor : Favor) (table : LikelySubtags) (x y z : LanguageIdentifier) → IsMinimalForm favor table x y → IsMinimalForm favor table x z → y ≡ z) → ((likely : LikelySubtags) (rules : Rules) → CanonicalFacts likely rules)
-      → (work : Work) (line one two : List ℕ) (a b : Bool) → IsAnswer work line one a → IsAnswer work line two b → SameAnswer one two a b
-  answer_one minimal_one facts (work.Transform form e) line one two a b h k = identifier_one one two a b spelled_once (IsTransformed form (likely e)) (transformed_one one two a b minimal_one form (likely e)) line h k
-  answer_one minimal_one facts (work.Canonicalize c) line one two a b h k = locale_answer_one one two a b (likely c.expander) c.rules (facts (likely c.expander) c.rules) line h k
-  answer_one minimal_one facts (work.Direction d) line one two a b h k = identifier_one one two a b spelled_once (IsDirected d) (λ x p q. same p.0 q.0 refl p.1 q.1) line h k
-  answer_one minimal_one facts (work.Negotiate n) line one two a b h k = list_answer_one one two a b n line h k
-  answer_one minimal_one facts (work.Name n) line one two a b h k = identifier_one one two a b spelled_once (IsNamed n) (λ x p q. named_one one two a b (name_asked n x) p q) line h k
+    not_refused_in : (s : Option Syntax) (t : List ℕ) (x : LanguageIdentifier) (e : ParseError) → SpellsIn s t x → IsFaultIn s t e → ⊥
+    not_refused_in None t x e p why = not_refused t x e p.0 p.1 why
+    not_refused_in (Some s) t x e p why = nothing s t e p.0 why p.1 p.2
+
+    -- the identifiers that texts spell are one list
+    pub all_one : (s : Option Syntax) (texts : List (List ℕ)) (xs ys : List LanguageIdentifier) → SpellsAll s texts xs → SpellsAll s texts ys → xs ≡ ys
+    all_one s [] [] [] p q = refl
+    all_one s [] [] (y ∷ ys) p q = absurd q
+    all_one s [] (x ∷ xs) ys p q = absurd p
+    all_one s (t ∷ ts) [] ys p q = absurd p
+    all_one s (t ∷ ts) (x ∷ xs) [] p q = absurd q
+    all_one s (t ∷ ts) (x ∷ xs) (y ∷ ys) p q =
+        let e = in_one s t x y p.0 q.0 in
+        let others = all_one s ts xs ys p.1 q.1 in
+        λ i. e i ∷ others i
+
+    -- texts that all spell identifiers have no fault
+    pub no_fault : (s : Option Syntax) (earlier : List (List ℕ)) (text : List ℕ) (later : List (List ℕ)) (e : ParseError) (xs : List LanguageIdentifier) → SpellsAll s (earlier ++ text ∷ later) xs → IsFaultIn s text e → ⊥
+    no_fault s [] text later e [] p why = p
+    no_fault s [] text later e (x ∷ xs) p why = not_refused_in s text x e p.0 why
+    no_fault s (t ∷ ts) text later e [] p why = p
+    no_fault s (t ∷ ts) text later e (x ∷ xs) p why = no_fault s ts text later e xs p.1 why
+
+    -- the first fault is one
+    fault_one : (s : Option Syntax) (ps : List (List ℕ)) (t : List ℕ) (bs cs : List (List ℕ)) (u : List ℕ) (ds : List (List ℕ)) (e f : ParseError) (xs ys : List LanguageIdentifier) → ps ++ t ∷ bs ≡ cs ++ u ∷ ds
+        → SpellsAll s ps xs → SpellsAll s cs ys → IsFaultIn s t e → IsFaultIn s u f → e ≡ f
+    fault_one s [] t bs [] u ds e f xs ys is p q r k = fault_in_one s u e f (subst (λ w. IsFaultIn s w e) (ap first_of is) r) k
+    fault_one s [] t bs (c ∷ cs) u ds e f xs [] is p q r k = absurd q
+    fault_one s [] t bs (c ∷ cs) u ds e f xs (y ∷ ys) is p q r k = absurd (not_refused_in s c y e q.0 (subst (λ w. IsFaultIn s w e) (ap first_of is) r))
+    fault_one s (g ∷ ps) t bs [] u ds e f [] ys is p q r k = absurd p
+    fault_one s (g ∷ ps) t bs [] u ds e f (x ∷ xs) ys is p q r k = absurd (not_refused_in s g x f p.0 (subst (λ w. IsFaultIn s w f) (sym (ap first_of is)) k))
+    fault_one s (g ∷ ps) t bs (c ∷ cs) u ds e f [] ys is p q r k = absurd p
+    fault_one s (g ∷ ps) t bs (c ∷ cs) u ds e f (x ∷ xs) [] is p q r k = absurd q
+    fault_one s (g ∷ ps) t bs (c ∷ cs) u ds e f (x ∷ xs) (y ∷ ys) is p q r k = fault_one s ps t bs cs u ds e f xs ys (ap others_of is) p.1 q.1 r k
+
+    list_answer_one : (s : Option Syntax) (one two : List ℕ) (a b : Bool) (n : Negotiation) (line : List ℕ) → IsListAnswer s n line one a → IsListAnswer s n line two b → SameAnswer one two a b
+    list_answer_one s one two a b n line (inl h) (inl k) =
+        let requests = all_one s (listed line) h.0 k.0 h.1 k.1 in
+        let line : IsNegotiatedLine n k.0 one = subst (λ xs. IsNegotiatedLine n xs one) requests h.2 in
+        record { text = negotiated_one (likely n.expander) k.0 n.available one two line.0 k.2.0 line.1 k.2.1 line.2 k.2.2; accepted = h.3 ∙ sym k.3 }
+    list_answer_one s one two a b n line (inl h) (inr k) =
+        let f = k.1 in
+        absurd (no_fault s f.earlier f.text f.later k.0 h.0 (subst (λ ts. SpellsAll s ts h.0) f.parted h.1) f.refused)
+    list_answer_one s one two a b n line (inr h) (inl k) =
+        let f = h.1 in
+        absurd (no_fault s f.earlier f.text f.later h.0 k.0 (subst (λ ts. SpellsAll s ts k.0) f.parted k.1) f.refused)
+    list_answer_one s one two a b n line (inr h) (inr k) =
+        let f = h.1 in
+        let g = k.1 in
+        let e = fault_one s f.earlier f.text f.later g.earlier g.text g.later h.0 k.0 f.identifiers g.identifiers (sym f.parted ∙ g.parted) f.spelled g.spelled f.refused g.refused in
+        same h.2 k.2 (ap (λ e. refused_line (parse_error_name e)) e) h.3 k.3
+
+    module _ (minimal_one : (favor : Favor) (table : LikelySubtags) (x y z : LanguageIdentifier) → IsMinimalForm favor table x y → IsMinimalForm favor table x z → y ≡ z) (facts : (likely : LikelySubtags) (rules : Rules) → CanonicalFacts likely rules) (line one two : List ℕ) (a b : Bool) where
+      plain_one : (work : Tools) → IsPlainAnswer work line one a → IsPlainAnswer work line two b → SameAnswer one two a b
+      plain_one (tools.Transform form e) h k = identifier_one one two a b spelled_once (IsTransformed form (likely e)) (transformed_one one two a b minimal_one form (likely e)) line h k
+      plain_one (tools.Canonicalize c) h k = locale_answer_one one two a b (likely c.expander) c.rules (facts (likely c.expander) c.rules) line h k
+      plain_one (tools.Direction d) h k = identifier_one one two a b spelled_once (IsDirected d) (λ x p q. same p.0 q.0 refl p.1 q.1) line h k
+      plain_one (tools.Negotiate n) h k = list_answer_one None one two a b n line h k
+      plain_one (tools.Name n) h k = identifier_one one two a b spelled_once (IsNamed n) (λ x p q. named_one one two a b (name_asked n x) p q) line h k
+
+      whole_transformed_one : (form : Transform) (table : LikelySubtags) (x : LocaleIdentifier) → IsWholeTransformed form table x one a → IsWholeTransformed form table x two b → SameAnswer one two a b
+      whole_transformed_one form table x h k =
+          let e = form_one one two a b minimal_one form table x.locale.id h.0 k.0 h.1 k.1 h.2 k.2 in
+          same h.3 k.3 (λ i. whole_line (with_id x (e.0 i)) (e.1 i)) h.4 k.4
+
+      whole_one : (s : Syntax) (work : Tools) → IsWholeAnswer s work line one a → IsWholeAnswer s work line two b → SameAnswer one two a b
+      whole_one s (tools.Transform form e) h k = spelled_one one two a b s (IsWholeTransformed form (likely e)) (whole_transformed_one form (likely e)) line h k
+      whole_one s (tools.Canonicalize c) h k =
+          spelled_one one two a b s (IsWholeCanonicalized (likely c.expander) c.rules) (λ x p q. canonicalized_one (λ new m. whole_line (with_locale x new) m) (likely c.expander) c.rules (facts (likely c.expander) c.rules) x.locale one two a b p q) line h k
+      whole_one s (tools.Direction d) h k = spelled_one one two a b s (λ x. IsDirected d x.locale.id) (λ x p q. same p.0 q.0 refl p.1 q.1) line h k
+      whole_one s (tools.Negotiate n) h k = list_answer_one (Some s) one two a b n line h k
+      whole_one s (tools.Name n) h k = spelled_one one two a b s (λ x. IsNamed n x.locale.id) (λ x p q. named_one one two a b (name_asked n x.locale.id) p q) line h k
+
+      pub answer_one : (work : Work) → IsAnswer work line one a → IsAnswer work line two b → SameAnswer one two a b
+      answer_one work h k = by work.syntax h k
+        where
+          Answer : Option Syntax → List ℕ → Bool → Type 0
+          Answer syntax text accepted = IsAnswer (record { syntax = syntax; tools = work.tools }) line text accepted
+
+          by : (syntax : Option Syntax) → Answer syntax one a → Answer syntax two b → SameAnswer one two a b
+          by None h k = plain_one work.tools h k
+          by (Some s) h k = whole_one s work.tools h k

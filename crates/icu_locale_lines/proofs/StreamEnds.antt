@@ -1,5 +1,5 @@
 -- How the ends of a stream's parts make the ends of the stream.
-use Rattle.std.proofs.Common.{◌≡◌, ℕ, false, List, [], ◌∷◌, ◌++◌, Some, None, Result, Ok, Err, IfOk, IfErr, inr, refl, ap, sym, subst, ◌∙◌, append_assoc, append-nil}
+use Rattle.std.proofs.Common.{◌≡◌, ℕ, false, List, [], ◌∷◌, ◌++◌, Option, Some, None, Result, Ok, Err, IfOk, IfErr, inr, refl, ap, sym, subst, ◌∙◌, append_assoc, append-nil}
 use Rattle.std.specs.List.{list_any}
 use Rattle.std.specs.Io.KnownBytes.{Consumes, IsAtEnd, prepend_known}
 use Rattle.std.proofs.KnownBytes.{Consumes-trans}
@@ -9,14 +9,15 @@ use Rattle.icu_locale.specs.LikelySubtags.{AreSettled}
 use Rattle.icu_tables.specs.declared.tables.Tables.{Tables}
 use Rattle.icu_locale_lines.specs.declared.command.Command.TheVariants as command
 use Rattle.icu_locale_lines.specs.declared.command.LineCommand.{LineCommand}
-use Rattle.icu_locale_lines.specs.declared.command.LineCommand.TheVariants.{Negotiate}
+use Rattle.icu_locale_lines.specs.declared.command.Task.TheVariants.{Negotiate}
 use Rattle.icu_locale_lines.specs.declared.error.CliError.{CliError}
 use Rattle.icu_locale_lines.specs.declared.error.CliError.TheVariants.{Usage, Data, Read, Write, Memory, Available, NotSettled}
 use Rattle.icu_locale_lines.specs.declared.error.CliError.TheVariants as error
 use Rattle.icu_locale_lines.specs.declared.status.Status.{Status}
 use Rattle.icu_locale_lines.specs.declared.status.Status.TheVariants.{Accepted}
 use Rattle.icu_locale_lines.specs.declared.work.Work.{Work}
-use Rattle.icu_locale_lines.specs.declared.work.Work.TheVariants as work
+use Rattle.icu_locale_lines.specs.declared.work.Tools.TheVariants as tools
+use Rattle.icu_locale_extensions.specs.declared.syntax.Syntax.{Syntax}
 use Rattle.icu_locale_lines.specs.Lines.{is_line_feed, first_line, after_first_line, Stream}
 use Rattle.icu_locale_lines.specs.Lists.{listed, SpellsAll}
 use Rattle.icu_locale_lines.specs.Loads.{IsExpanderOf}
@@ -43,18 +44,26 @@ consumed_alone rest None start bs end all = all
 consumed_alone [] (Some xs) start bs end all = all
 consumed_alone (c ∷ rest) (Some xs) start bs end all = absurd (cc)
 
+-- a negotiation in a syntax, and its work
+abbrev pub asked : Option Syntax → LineCommand
+asked syntax = record { syntax = syntax; task = Negotiate }
+
+abbrev pub work_over : Option Syntax → Negotiation → Work
+work_over syntax n = record { syntax = syntax; tools = tools.Negotiate n }
+
 -- the work of a negotiation whose first line lists what is available, and what it answers
-module _ (line : List ℕ) (none : list_any is_line_feed line ≡ false) where
-  pub answered_behind : (text : List ℕ) → text_answered Negotiate ((line ++ 10 ∷ []) ++ text) ≡ text
+module _ (syntax : Option Syntax) (line : List ℕ) (none : list_any is_line_feed line ≡ false) where
+  pub answered_behind : (text : List ℕ) → text_answered (asked syntax) ((line ++ 10 ∷ []) ++ text) ≡ text
   answered_behind text = ap after_first_line (append_assoc line (10 ∷ []) text) ∙ (place_of_end line text none).1
 
-  pub listed_behind : (t : Tables) (n : Negotiation) → IsExpanderOf t n.expander → AreSettled (likely n.expander) → SpellsAll (listed line) n.available → (text : List ℕ) → IsWorkOf Negotiate t ((line ++ 10 ∷ []) ++ text) (work.Negotiate n)
+  pub listed_behind : (t : Tables) (n : Negotiation) → IsExpanderOf t n.expander → AreSettled (likely n.expander) → SpellsAll syntax (listed line) n.available → (text : List ℕ) → IsWorkOf (asked syntax) t ((line ++ 10 ∷ []) ++ text) (work_over syntax n)
   listed_behind t n over settled spelled text =
       let first = ap first_line (append_assoc line (10 ∷ []) text) ∙ (place_of_end line text none).0 in
-      (over, settled, subst (λ l. SpellsAll (listed l) n.available) (sym first) spelled)
+      record { syntax = refl; tools = (over, settled, subst (λ l. SpellsAll syntax (listed l) n.available) (sym first) spelled) }
 
   -- where the input ended with that line, nothing is answered
-  pub ended_run : (t : Tables) (n : Negotiation) → IsExpanderOf t n.expander → AreSettled (likely n.expander) → SpellsAll (listed line) n.available → (start read wrote : Stream) (rest : List ℕ) → IsAtEnd (prepend_known rest read) → Consumes start (prepend_known rest read) (line ++ []) → IsLineRun Negotiate t start read wrote wrote Accepted
+  pub ended_run : (t : Tables) (n : Negotiation) → IsExpanderOf t n.expander → AreSettled (likely n.expander) → SpellsAll syntax (listed line) n.available → (start read wrote : Stream) (rest : List ℕ) → IsAtEnd (prepend_known rest read) → Consumes start (prepend_known rest read) (line ++ [])
+      → IsLineRun (asked syntax) t start read wrote wrote Accepted
   ended_run t n over settled spelled start read wrote rest end all =
       let whole = alone line none in (
         line,
@@ -63,9 +72,9 @@ module _ (line : List ℕ) (none : list_any is_line_feed line ≡ false) where
           ended = ended_alone rest read end;
         },
         record {
-          work = work.Negotiate n;
-          work_of = (over, settled, subst (λ l. SpellsAll (listed l) n.available) (sym whole.0) spelled);
-          all_written = subst (λ x. WritesAll (work.Negotiate n) x wrote wrote Accepted) (sym whole.1) (WritesAll-none (work.Negotiate n) wrote);
+          work = work_over syntax n;
+          work_of = record { syntax = refl; tools = (over, settled, subst (λ l. SpellsAll syntax (listed l) n.available) (sym whole.0) spelled) };
+          all_written = subst (λ x. WritesAll (work_over syntax n) x wrote wrote Accepted) (sym whole.1) (WritesAll-none (work_over syntax n) wrote);
         },
       )
 

@@ -202,6 +202,17 @@ module _ (work : Work) (read mid wrote between : Stream) (status : Status) (carr
     unended = before.unended;
   }
 
+  -- what was carried is left
+  pub StreamProgress-stopped : StopsBetween work read mid wrote between
+  StreamProgress-stopped = record {
+    text = before.done ++ carry;
+    left = carry;
+    status = status;
+    consumed = before.consumed;
+    answered = record { ended = before.done; whole = before.whole; parted = refl; answered = before.answered };
+    unended = before.unended;
+  }
+
   -- the end of the input, whose last line is answered where it is not empty
   pub StreamProgress-end : (new wrote' : Stream) (nothing : List ℕ) → nothing ≡ [] → Consumes mid new nothing → IsAtEnd new → (last whole : Status) → WritesAll work carry between wrote' last → (whole ≡ Accepted) ↔ ((status ≡ Accepted) × (last ≡ Accepted)) → (input : List ℕ) × ReadsAll read new input × WritesAll work input wrote wrote' whole
   StreamProgress-end new wrote' nothing none more ended last whole answers both = (

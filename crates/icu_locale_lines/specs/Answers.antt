@@ -1,5 +1,6 @@
 -- What is written for each line that is read.
-use Rattle.std.specs.Prelude.{◌≡◌, ◌≢◌, ◌↔◌, ◌⊎◌, ℕ, Bool, true, false, List, ◌++◌, take, length, codes}
+use Rattle.std.specs.Prelude.{◌≡◌, ◌≢◌, ◌↔◌, ◌⊎◌, ℕ, Bool, true, false, List, ◌++◌, take, length, codes, Option, None, Some, MatchOption}
+use Rattle.std.specs.List.{position}
 use Rattle.icu_locale_core.specs.Identifier.{IsIdentifier, Spells, parse_error_name}
 use Rattle.icu_locale_core.specs.declared.langid.LanguageIdentifier.{LanguageIdentifier}
 use Rattle.icu_locale_core.specs.declared.locale.Locale.{Locale}
@@ -21,11 +22,16 @@ use Rattle.icu_locale_lines.specs.declared.naming.Naming.{Naming}
 use Rattle.icu_locale_lines.specs.declared.transform.Transform.{Transform}
 use Rattle.icu_locale_lines.specs.declared.transform.Transform.TheVariants.{Maximize, Minimize, MinimizeScript}
 use Rattle.icu_locale_lines.specs.declared.work.Work.{Work}
-use Rattle.icu_locale_lines.specs.declared.work.Work.TheVariants as work
+use Rattle.icu_locale_lines.specs.declared.work.Tools.{Tools}
+use Rattle.icu_locale_lines.specs.declared.work.Tools.TheVariants as tools
 use Rattle.icu_locale_lines.specs.Lists.{listed, SpellsAll, IsFault, IsFirstFault, IsNegotiatedLine}
-use Rattle.icu_locale_lines.specs.Locales.{SpellsLocale, IsLocaleFault}
+use Rattle.icu_locale_lines.specs.Locales.{is_tab, SpellsLocale, IsLocaleFault}
 use Rattle.icu_locale_lines.specs.Names.{name_asked, IsNamedLine}
-use Rattle.icu_locale_lines.specs.Texts.{transformed_line, canonical_line, refused_line, direction_line}
+use Rattle.icu_locale_lines.specs.Texts.{transformed_line, canonical_line, whole_line, refused_line, direction_line}
+use Rattle.icu_locale_extensions.specs.Locales.{IsLocaleIdentifier}
+use Rattle.icu_locale_extensions.specs.Syntaxes.{SpellsBy, IsFaultBy}
+use Rattle.icu_locale_extensions.specs.declared.identifier.LocaleIdentifier.{LocaleIdentifier}
+use Rattle.icu_locale_extensions.specs.declared.syntax.Syntax.{Syntax}
 
 -- a line is put behind what stood before, and it is such a line
 pub record AddsLine (IsLine : List ℕ → Bool → Type 0) (old new : List ℕ) (accepted : Bool)
@@ -63,16 +69,27 @@ IsDirected d x text accepted = (text
 abbrev pub IsNamed : Naming → LanguageIdentifier → List ℕ → Bool → Type 0
 IsNamed n x text accepted = IsNamedLine (name_asked n x) text accepted
 
--- the locale becomes canonical, or the rules come to no end, and that is refused by name
-abbrev pub IsCanonicalized : LikelySubtags → Rules → Locale → List ℕ → Bool → Type 0
-IsCanonicalized likely rules old text accepted =
-    ((new : Locale) × IsCanonical likely rules old new
-    × (text ≡ canonical_line new (answer_of (is_applied likely rules old)))
-    × (accepted ≡ true))
-    ⊎ (((z : LanguageIdentifier) × ComesAgainFirst likely rules old z
+-- the rules come to no end, and that is refused by name
+abbrev pub IsEndless : LikelySubtags → Rules → Locale → List ℕ → Bool → Type 0
+IsEndless likely rules old text accepted =
+    ((z : LanguageIdentifier) × ComesAgainFirst likely rules old z
     × (text ≡ refused_line (codes "NoFixedPoint")) × (accepted ≡ false))
     ⊎ ((v : List (List ℕ)) × ValueComesAgainFirst likely rules old v
-    × (text ≡ refused_line (codes "NoSubdivisionFixedPoint")) × (accepted ≡ false)))
+    × (text ≡ refused_line (codes "NoSubdivisionFixedPoint")) × (accepted ≡ false))
+
+-- the locale becomes canonical and has its line, or the rules come to no end
+abbrev pub IsCanonicalizedTo : (Locale → TransformResult → List ℕ) → LikelySubtags → Rules → Locale
+    → List ℕ → Bool → Type 0
+IsCanonicalizedTo line_of likely rules old text accepted =
+    ((new : Locale) × IsCanonical likely rules old new
+    × (text ≡ line_of new (answer_of (is_applied likely rules old)))
+    × (accepted ≡ true))
+    ⊎ IsEndless likely rules old text accepted
+
+-- the same with the line of an identifier and its value
+abbrev pub IsCanonicalized : LikelySubtags → Rules → Locale → List ℕ → Bool → Type 0
+IsCanonicalized likely rules old text accepted =
+    IsCanonicalizedTo canonical_line likely rules old text accepted
 
 -- a line that spells an identifier gives its line; every other gives the refusal's
 abbrev pub IsIdentifierAnswer : (LanguageIdentifier → List ℕ → Bool → Type 0) → List ℕ → List ℕ
@@ -91,21 +108,91 @@ IsLocaleAnswer likely rules line text accepted =
     × (accepted ≡ false))
 
 -- a line that lists requests gives their line; every other gives the refusal of its first fault
-abbrev pub IsListAnswer : Negotiation → List ℕ → List ℕ → Bool → Type 0
-IsListAnswer negotiation line text accepted =
-    ((requests : List LanguageIdentifier) × SpellsAll (listed line) requests
+abbrev pub IsListAnswer : Option Syntax → Negotiation → List ℕ → List ℕ → Bool → Type 0
+IsListAnswer syntax negotiation line text accepted =
+    ((requests : List LanguageIdentifier) × SpellsAll syntax (listed line) requests
     × IsNegotiatedLine negotiation requests text × (accepted ≡ true))
-    ⊎ ((e : ParseError) × IsFirstFault (listed line) e × (text ≡ refused_line (parse_error_name e))
+    ⊎ ((e : ParseError) × IsFirstFault syntax (listed line) e
+    × (text ≡ refused_line (parse_error_name e)) × (accepted ≡ false))
+
+-- the answer to a line that is an identifier alone, with a value behind it for `canonicalize`, or
+-- lists identifiers
+abbrev pub IsPlainAnswer : Tools → List ℕ → List ℕ → Bool → Type 0
+IsPlainAnswer (tools.Transform form e) line text accepted =
+    IsIdentifierAnswer (IsTransformed form (likely e)) line text accepted
+IsPlainAnswer (tools.Canonicalize c) line text accepted =
+    IsLocaleAnswer (likely c.expander) c.rules line text accepted
+IsPlainAnswer (tools.Direction d) line text accepted =
+    IsIdentifierAnswer (IsDirected d) line text accepted
+IsPlainAnswer (tools.Negotiate negotiation) line text accepted =
+    IsListAnswer None negotiation line text accepted
+IsPlainAnswer (tools.Name n) line text accepted = IsIdentifierAnswer (IsNamed n) line text accepted
+
+-- ---- locale identifiers
+
+-- a locale identifier with another locale, and with another identifier
+abbrev pub with_locale : LocaleIdentifier → Locale → LocaleIdentifier
+with_locale x locale = record {
+  locale = locale;
+  attributes = x.attributes;
+  fields = x.fields;
+  others = x.others;
+  private_use = x.private_use;
+}
+
+abbrev pub with_id : LocaleIdentifier → LanguageIdentifier → LocaleIdentifier
+with_id x id = with_locale x (record { id = id; extensions = x.locale.extensions })
+
+-- the line of a locale identifier whose identifier is brought to a form
+abbrev pub IsWholeTransformed : Transform → LikelySubtags → LocaleIdentifier → List ℕ → Bool
+    → Type 0
+IsWholeTransformed form likely x text accepted = (y : LanguageIdentifier) × (m : TransformResult)
+    × IsForm form likely x.locale.id y m × (text ≡ whole_line (with_id x y) m) × (accepted ≡ true)
+
+-- the line of a locale identifier that becomes canonical, or whose rules come to no end
+abbrev pub IsWholeCanonicalized : LikelySubtags → Rules → LocaleIdentifier → List ℕ → Bool → Type 0
+IsWholeCanonicalized likely rules x text accepted =
+    IsCanonicalizedTo (λ new m. whole_line (with_locale x new) m) likely rules x.locale text
+    accepted
+
+-- a line that spells a locale identifier gives its line; every other gives the refusal's
+abbrev pub IsSpelledAnswer : Syntax → (LocaleIdentifier → List ℕ → Bool → Type 0) → List ℕ → List ℕ
+    → Bool → Type 0
+IsSpelledAnswer syntax IsLine line text accepted =
+    ((x : LocaleIdentifier) × IsLocaleIdentifier x × SpellsBy syntax line x
+    × IsLine x text accepted)
+    ⊎ ((e : ParseError) × IsFaultBy syntax line e × (text ≡ refused_line (parse_error_name e))
     × (accepted ≡ false))
+
+-- the answer to a line that is a locale identifier in a syntax, or lists some: its extensions are
+-- written as they are, and have no part in a direction, a name or a negotiation
+abbrev pub IsWholeAnswer : Syntax → Tools → List ℕ → List ℕ → Bool → Type 0
+IsWholeAnswer syntax (tools.Transform form e) line text accepted =
+    IsSpelledAnswer syntax (IsWholeTransformed form (likely e)) line text accepted
+IsWholeAnswer syntax (tools.Canonicalize c) line text accepted =
+    IsSpelledAnswer syntax (IsWholeCanonicalized (likely c.expander) c.rules) line text accepted
+IsWholeAnswer syntax (tools.Direction d) line text accepted =
+    IsSpelledAnswer syntax (λ x. IsDirected d x.locale.id) line text accepted
+IsWholeAnswer syntax (tools.Negotiate negotiation) line text accepted =
+    IsListAnswer (Some syntax) negotiation line text accepted
+IsWholeAnswer syntax (tools.Name n) line text accepted =
+    IsSpelledAnswer syntax (λ x. IsNamed n x.locale.id) line text accepted
+
+-- the answer to a line that is brought to its canonical form
+abbrev pub IsCanonicalAnswer : Option Syntax → LikelySubtags → Rules → List ℕ → List ℕ → Bool
+    → Type 0
+IsCanonicalAnswer syntax likely rules line text accepted =
+    MatchOption syntax (IsLocaleAnswer likely rules line text accepted)
+    (λ s. IsSpelledAnswer s (IsWholeCanonicalized likely rules) line text accepted)
 
 -- the answer to a line
 abbrev pub IsAnswer : Work → List ℕ → List ℕ → Bool → Type 0
-IsAnswer (work.Transform form e) line text accepted =
-    IsIdentifierAnswer (IsTransformed form (likely e)) line text accepted
-IsAnswer (work.Canonicalize c) line text accepted =
-    IsLocaleAnswer (likely c.expander) c.rules line text accepted
-IsAnswer (work.Direction d) line text accepted =
-    IsIdentifierAnswer (IsDirected d) line text accepted
-IsAnswer (work.Negotiate negotiation) line text accepted =
-    IsListAnswer negotiation line text accepted
-IsAnswer (work.Name n) line text accepted = IsIdentifierAnswer (IsNamed n) line text accepted
+IsAnswer work line text accepted = MatchOption work.syntax (IsPlainAnswer work.tools line text accepted)
+    (λ syntax. IsWholeAnswer syntax work.tools line text accepted)
+
+-- a line holds identifiers alone, without a value: one, or for `negotiate` any number
+abbrev pub HoldsIdentifiers : Tools → List ℕ → Type 0
+HoldsIdentifiers (tools.Negotiate negotiation) line =
+    (xs : List LanguageIdentifier) × SpellsAll None (listed line) xs
+HoldsIdentifiers tools line = (position is_tab line ≡ None)
+    × (x : LanguageIdentifier) × IsIdentifier x × Spells line x

@@ -1,5 +1,5 @@
 -- The commands: by their words, by the tables that each needs, and by what each works with.
-use Rattle.std.specs.Prelude.{◌≡◌, ℕ, Bool, true, false, List, [], ◌∷◌, ◌++◌, codes, ◌&&◌, Some, is_some, IsSomeAnd}
+use Rattle.std.specs.Prelude.{◌≡◌, ◌⊎◌, ℕ, Bool, true, false, List, [], ◌∷◌, ◌++◌, codes, ◌&&◌, Option, None, Some, is_some, IsSomeAnd}
 use Rattle.icu_locale_core.specs.Identifier.{IsIdentifier, Spells}
 use Rattle.icu_locale_core.specs.TextSet.{empty}
 use Rattle.icu_locale_core.specs.declared.langid.LanguageIdentifier.{LanguageIdentifier}
@@ -7,7 +7,10 @@ use Rattle.icu_locale_names.specs.declared.options.DisplayNamesPreferences.{Disp
 use Rattle.icu_locale_lines.specs.declared.command.Command.{Command}
 use Rattle.icu_locale_lines.specs.declared.command.Command.TheVariants.{Settled, Lines}
 use Rattle.icu_locale_lines.specs.declared.command.LineCommand.{LineCommand}
-use Rattle.icu_locale_lines.specs.declared.command.LineCommand.TheVariants.{Transform, Canonicalize, Direction, Negotiate, Name}
+use Rattle.icu_locale_lines.specs.declared.command.Task.{Task}
+use Rattle.icu_locale_lines.specs.declared.command.Task.TheVariants.{Transform, Canonicalize, Direction, Negotiate, Name}
+use Rattle.icu_locale_extensions.specs.declared.syntax.Syntax.{Syntax}
+use Rattle.icu_locale_extensions.specs.declared.syntax.Syntax.TheVariants.{Unicode, Bcp47, Posix}
 use Rattle.icu_locale_lines.specs.declared.transform.Transform.TheVariants.{Maximize, Minimize, MinimizeScript}
 use Rattle.icu_locale_names.specs.LanguageChains.{chain_word}
 use Rattle.icu_locale.specs.LikelyTable.{likely}
@@ -21,22 +24,28 @@ use Rattle.icu_locale_lines.specs.Loads.{IsExpanderOf, has_likely}
 use Rattle.icu_locale_lines.specs.declared.loads.Loaded.{Loaded}
 use Rattle.icu_locale_lines.specs.declared.work.Work.{Work}
 use Rattle.icu_locale_lines.specs.declared.loads.Loaded.TheVariants as loaded
-use Rattle.icu_locale_lines.specs.declared.work.Work.TheVariants as work
+use Rattle.icu_locale_lines.specs.declared.work.Tools.{Tools}
+use Rattle.icu_locale_lines.specs.declared.work.Tools.TheVariants as tools
 
--- the word of each command that answers lines
-abbrev pub line_word : LineCommand → List ℕ
-line_word (Transform Maximize) = codes "maximize"
-line_word (Transform Minimize) = codes "minimize"
-line_word (Transform MinimizeScript) = codes "minimize-script"
-line_word Canonicalize = codes "canonicalize"
-line_word Direction = codes "direction"
-line_word Negotiate = codes "negotiate"
-line_word (Name chain preferences) = codes "name"
+-- the word of each task
+abbrev pub task_word : Task → List ℕ
+task_word (Transform Maximize) = codes "maximize"
+task_word (Transform Minimize) = codes "minimize"
+task_word (Transform MinimizeScript) = codes "minimize-script"
+task_word Canonicalize = codes "canonicalize"
+task_word Direction = codes "direction"
+task_word Negotiate = codes "negotiate"
+task_word (Name chain preferences) = codes "name"
 
--- the word of each command
-abbrev pub command_word : Command → List ℕ
-command_word Settled = codes "settled"
-command_word (Lines c) = line_word c
+-- the word of each syntax
+abbrev pub syntax_word : Syntax → List ℕ
+syntax_word Unicode = codes "locales"
+syntax_word Bcp47 = codes "bcp47"
+syntax_word Posix = codes "posix"
+
+-- a task on lines that are identifiers alone
+abbrev pub plain : Task → LineCommand
+plain task = record { syntax = None; task = task }
 
 -- a text that spells an identifier without variants names the preferences of its subtags
 abbrev pub SpellsPreferences : List ℕ → DisplayNamesPreferences → Type 0
@@ -49,16 +58,21 @@ SpellsPreferences text preferences = (x : LanguageIdentifier) × IsIdentifier x 
       };
     })
 
--- the words behind that of a command: for `name` a chain and preferences
-abbrev pub AreArguments : Command → List (List ℕ) → Type 0
-AreArguments (Lines (Name chain preferences)) words = (text : List ℕ)
+-- the words behind that of a task: for `name` a chain and preferences
+abbrev pub AreArguments : Task → List (List ℕ) → Type 0
+AreArguments (Name chain preferences) words = (text : List ℕ)
     × (words ≡ chain_word chain ∷ text ∷ []) × SpellsPreferences text preferences
-AreArguments c words = words ≡ []
+AreArguments task words = words ≡ []
 
--- the words of a command: its own, and its arguments
+-- the words of a task: its own, and its arguments
+abbrev pub AreTaskWords : List (List ℕ) → Task → Type 0
+AreTaskWords words task = (arguments : List (List ℕ)) × AreArguments task arguments
+    × (words ≡ task_word task ∷ arguments)
+
+-- the words of a command: `settled`, or those of a task
 abbrev pub AreCommandWords : List (List ℕ) → Command → Type 0
-AreCommandWords words c = (arguments : List (List ℕ)) × AreArguments c arguments
-    × (words ≡ command_word c ∷ arguments)
+AreCommandWords words Settled = words ≡ codes "settled" ∷ []
+AreCommandWords words (Lines c) = (c.syntax ≡ None) × AreTaskWords words c.task
 
 -- the words of a command, with `json` behind them for tables as JSON
 abbrev pub AreWords : List (List ℕ) → Command → Bool → Type 0
@@ -66,16 +80,39 @@ AreWords words c false = AreCommandWords words c
 AreWords words c true = (front : List (List ℕ)) × AreCommandWords front c
     × (words ≡ front ++ codes "json" ∷ [])
 
--- the tables that a command needs are held; `name` needs none
+-- the word of a syntax, and then the words of a task
+pub record AreSyntaxWords (words : List (List ℕ)) (c : Command) (json : Bool) : Type 0 where
+  pub syntax : Syntax
+  pub task : Task
+  pub front : List (List ℕ)
+  pub is : c ≡ Lines (record { syntax = Some syntax; task = task })
+  pub of_task : AreWords front (Lines (plain task)) json
+  pub parted : words ≡ syntax_word syntax ∷ front
+
+-- the words of a command, with that of a syntax before them where lines are locale identifiers
+abbrev pub AreStreamWords : List (List ℕ) → Command → Bool → Type 0
+AreStreamWords words c json = AreWords words c json ⊎ AreSyntaxWords words c json
+
+-- the tables that a task needs are held; `name` needs none
+abbrev pub holds_for : Task → Tables → Bool
+holds_for Canonicalize t = has_likely t && is_some t.aliases
+holds_for Direction t = has_likely t && is_some t.script_direction
+holds_for (Name chain preferences) t = true
+holds_for task t = has_likely t
+
+-- the tables that a command needs are held
 abbrev pub has_tables : Command → Tables → Bool
-has_tables (Lines Canonicalize) t = has_likely t && is_some t.aliases
-has_tables (Lines Direction) t = has_likely t && is_some t.script_direction
-has_tables (Lines (Name chain preferences)) t = true
-has_tables c t = has_likely t
+has_tables Settled t = has_likely t
+has_tables (Lines c) t = holds_for c.task t
+
+-- a command negotiates
+abbrev pub Negotiates : Command → Type 0
+Negotiates Settled = ⊥
+Negotiates (Lines c) = c.task ≡ Negotiate
 
 -- `negotiate` is asked over likely tables that are not settled
 pub record IsUnsettled (c : Command) (t : Tables) : Type 0 where
-  pub negotiates : c ≡ Lines Negotiate
+  pub negotiates : Negotiates c
   pub held : has_likely t ≡ true
   pub unsettled : (e : LocaleExpander) → IsExpanderOf t e → ¬ (AreSettled (likely e))
 
@@ -83,28 +120,38 @@ pub record IsUnsettled (c : Command) (t : Tables) : Type 0 where
 abbrev pub HoldsSettled : Tables → Type 0
 HoldsSettled t = (e : LocaleExpander) × IsExpanderOf t e × AreSettled (likely e)
 
--- the work of a command over tables; for `negotiate` these are settled, and the first line of the
--- input lists what is available
-abbrev pub IsWorkOf : LineCommand → Tables → List ℕ → Work → Type 0
-IsWorkOf (Transform form) t input (work.Transform other e) = (other ≡ form) × IsExpanderOf t e
-IsWorkOf Canonicalize t input (work.Canonicalize k) =
+-- the tools of a task over tables; for `negotiate` these are settled, and the first line of the
+-- input lists what is available, each text read as the lines are
+abbrev pub AreToolsOf : Option Syntax → Task → Tables → List ℕ → Tools → Type 0
+AreToolsOf syntax (Transform form) t input (tools.Transform other e) =
+    (other ≡ form) × IsExpanderOf t e
+AreToolsOf syntax Canonicalize t input (tools.Canonicalize k) =
     IsExpanderOf t k.expander × IsSomeAnd t.aliases (λ table. AreRules table k.rules)
-IsWorkOf Direction t input (work.Direction d) =
+AreToolsOf syntax Direction t input (tools.Direction d) =
     IsExpanderOf t d.expander × (t.script_direction ≡ Some d.script_direction.now)
-IsWorkOf Negotiate t input (work.Negotiate n) = IsExpanderOf t n.expander
-    × AreSettled (likely n.expander) × SpellsAll (listed (first_line input)) n.available
-IsWorkOf (Name chain preferences) t input (work.Name n) =
+AreToolsOf syntax Negotiate t input (tools.Negotiate n) = IsExpanderOf t n.expander
+    × AreSettled (likely n.expander) × SpellsAll syntax (listed (first_line input)) n.available
+AreToolsOf syntax (Name chain preferences) t input (tools.Name n) =
     ((n.tables.tables.now ≡ t) × (n.tables.names ≡ t.names))
     × (n.chain ≡ chain) × (n.preferences ≡ preferences)
-IsWorkOf c t input other = ⊥
+AreToolsOf syntax task t input other = ⊥
 
--- the text whose lines a command answers: for `negotiate` without its first
+-- the work of a command over tables
+pub record IsWorkOf (c : LineCommand) (t : Tables) (input : List ℕ) (work : Work) : Type 0 where
+  pub syntax : work.syntax ≡ c.syntax
+  pub tools : AreToolsOf c.syntax c.task t input work.tools
+
+-- the text whose lines a task answers: for `negotiate` without its first
+abbrev pub text_left : Task → List ℕ → List ℕ
+text_left Negotiate input = after_first_line input
+text_left task input = input
+
 abbrev pub text_answered : LineCommand → List ℕ → List ℕ
-text_answered Negotiate input = after_first_line input
-text_answered c input = input
+text_answered c input = text_left c.task input
 
 -- the work of a command that answers every line of any input, or an expander over settled tables
 abbrev pub IsLoaded : LineCommand → Tables → Loaded → Type 0
 IsLoaded c t (loaded.Ready work) =
     (input : List ℕ) → IsWorkOf c t input work × (text_answered c input ≡ input)
-IsLoaded c t (loaded.Negotiate e) = (c ≡ Negotiate) × IsExpanderOf t e × AreSettled (likely e)
+IsLoaded c t (loaded.Negotiate syntax e) = (c ≡ record { syntax = syntax; task = Negotiate })
+    × IsExpanderOf t e × AreSettled (likely e)

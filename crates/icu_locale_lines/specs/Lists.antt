@@ -6,6 +6,10 @@ use Rattle.icu_locale_core.specs.declared.langid.LanguageIdentifier.{LanguageIde
 use Rattle.icu_locale_core.specs.declared.parse_error.ParseError.{ParseError}
 use Rattle.icu_locale_core.specs.declared.parse_error.ParseError.TheVariants.{InvalidLanguage, InvalidSubtag, Memory}
 use Rattle.icu_locale.specs.LikelyTable.{likely}
+use Rattle.icu_locale_extensions.specs.Locales.{IsLocaleIdentifier}
+use Rattle.icu_locale_extensions.specs.Syntaxes.{SpellsBy, IsFaultBy}
+use Rattle.icu_locale_extensions.specs.declared.identifier.LocaleIdentifier.{LocaleIdentifier}
+use Rattle.icu_locale_extensions.specs.declared.syntax.Syntax.{Syntax}
 use Rattle.icu_locale.specs.Negotiation.{Negotiation, IsNegotiated}
 use Rattle.icu_locale_lines.specs.Texts.{matched_line}
 
@@ -18,10 +22,6 @@ abbrev pub listed : List ℕ → List (List ℕ)
 listed [] = []
 listed (c ∷ line) = slice_split is_space (c ∷ line)
 
--- each text spells its identifier, in order
-abbrev pub SpellsAll : List (List ℕ) → List LanguageIdentifier → Type 0
-SpellsAll texts identifiers = AllZip (λ text x. IsIdentifier x × Spells text x) texts identifiers
-
 -- why a text spells no identifier
 abbrev pub IsFault : List ℕ → ParseError → Type 0
 IsFault text InvalidLanguage = starts_with_language text ≡ false
@@ -29,15 +29,33 @@ IsFault text InvalidSubtag = (starts_with_language text ≡ true)
     × ((x : LanguageIdentifier) → IsIdentifier x → ¬ (Spells text x))
 IsFault text Memory = ⊥
 
+-- ---- in a syntax, or as identifiers alone
+
+-- a text spells an identifier, alone or as that of a locale identifier in a syntax
+abbrev pub SpellsIn : Option Syntax → List ℕ → LanguageIdentifier → Type 0
+SpellsIn None text x = IsIdentifier x × Spells text x
+SpellsIn (Some syntax) text x = (whole : LocaleIdentifier) × IsLocaleIdentifier whole
+    × SpellsBy syntax text whole × (whole.locale.id ≡ x)
+
+-- why it spells none
+abbrev pub IsFaultIn : Option Syntax → List ℕ → ParseError → Type 0
+IsFaultIn None text e = IsFault text e
+IsFaultIn (Some syntax) text e = IsFaultBy syntax text e
+
+-- each text spells its identifier, in order
+abbrev pub SpellsAll : Option Syntax → List (List ℕ) → List LanguageIdentifier → Type 0
+SpellsAll syntax texts identifiers = AllZip (SpellsIn syntax) texts identifiers
+
 -- the first text that spells no identifier is refused so
-pub record IsFirstFault (texts : List (List ℕ)) (e : ParseError) : Type 0 where
+pub record IsFirstFault (syntax : Option Syntax) (texts : List (List ℕ)) (e : ParseError)
+    : Type 0 where
   pub earlier : List (List ℕ)
   pub text : List ℕ
   pub later : List (List ℕ)
   pub parted : texts ≡ earlier ++ text ∷ later
   pub identifiers : List LanguageIdentifier
-  pub spelled : SpellsAll earlier identifiers
-  pub refused : IsFault text e
+  pub spelled : SpellsAll syntax earlier identifiers
+  pub refused : IsFaultIn syntax text e
 
 -- the place of the request that is met, and the available identifier that meets it; or `none`
 abbrev pub TellsMatch : List LanguageIdentifier → Option (ℕ × ℕ) → List ℕ → Type 0

@@ -1,10 +1,11 @@
 -- Why a run stops before its first line, and the words of each refusal.
-use Rattle.std.specs.Prelude.{◌≡◌, ◌⊎◌, ℕ, List, Err, codes, ◌++◌}
+use Rattle.std.specs.Prelude.{◌≡◌, ◌⊎◌, ℕ, List, Err, codes, ◌++◌, Option}
 use Rattle.icu_locale.specs.LikelySubtags.{LikelySubtags, AreSettled}
 use Rattle.icu_tables.specs.File.{rows_in}
 use Rattle.icu_locale_lines.specs.declared.error.CliError.{CliError}
 use Rattle.icu_locale_lines.specs.declared.error.CliError.TheVariants.{Tables, Data, Memory, Available, NotSettled, Usage, Read, Write}
 use Rattle.icu_locale_lines.specs.Lists.{listed, SpellsAll, IsFirstFault}
+use Rattle.icu_locale_extensions.specs.declared.syntax.Syntax.{Syntax}
 use Rattle.icu_locale_lines.specs.Loads.{not_found}
 use Rattle.icu_locale_core.specs.Identifier.{parse_error_name}
 use Rattle.icu_locale_core.specs.declared.langid.LanguageIdentifier.{LanguageIdentifier}
@@ -28,12 +29,12 @@ abbrev pub IsRefusedLoad : CliError → Type 0
 IsRefusedLoad e = (e ≡ Data not_found) ⊎ (e ≡ Memory) ⊎ (e ≡ NotSettled)
 
 -- why a line gives no negotiator
-abbrev pub IsRefusedList : LikelySubtags → List ℕ → CliError → Type 0
-IsRefusedList likely line (Available e) = IsFirstFault (listed line) e
-IsRefusedList likely line Memory = Unit {0}
-IsRefusedList likely line NotSettled =
-    ¬ (AreSettled likely) × (list : List LanguageIdentifier) × SpellsAll (listed line) list
-IsRefusedList likely line e = ⊥
+abbrev pub IsRefusedList : Option Syntax → LikelySubtags → List ℕ → CliError → Type 0
+IsRefusedList syntax likely line (Available e) = IsFirstFault syntax (listed line) e
+IsRefusedList syntax likely line Memory = Unit {0}
+IsRefusedList syntax likely line NotSettled =
+    ¬ (AreSettled likely) × (list : List LanguageIdentifier) × SpellsAll syntax (listed line) list
+IsRefusedList syntax likely line e = ⊥
 
 -- the name of a refusal of tables
 abbrev pub table_error_name : TableError → List ℕ

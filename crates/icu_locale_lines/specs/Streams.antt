@@ -10,7 +10,7 @@ use Rattle.icu_tables.specs.declared.tables.Tables.{Tables}
 use Rattle.icu_locale_lines.specs.declared.command.Command.{Command}
 use Rattle.icu_locale_lines.specs.declared.command.Command.TheVariants as command
 use Rattle.icu_locale_lines.specs.declared.command.LineCommand.{LineCommand}
-use Rattle.icu_locale_lines.specs.declared.command.LineCommand.TheVariants.{Negotiate}
+use Rattle.icu_locale_lines.specs.declared.command.Task.TheVariants.{Negotiate}
 use Rattle.icu_locale_lines.specs.declared.error.CliError.{CliError}
 use Rattle.icu_locale_lines.specs.declared.error.CliError.TheVariants as error
 use Rattle.icu_locale_lines.specs.declared.status.Status.{Status}
@@ -111,9 +111,9 @@ pub record StopsAmong (c : LineCommand) (t : Tables) (read read' wrote wrote' : 
 -- over settled tables the first line, which lists what `negotiate` has available, was read and has
 -- a fault
 abbrev pub IsUnavailableLine : LineCommand → Tables → Stream → ParseError → Type 0
-IsUnavailableLine c t read e = (c ≡ Negotiate) × HoldsSettled t × (line : List ℕ)
+IsUnavailableLine c t read e = (c.task ≡ Negotiate) × HoldsSettled t × (line : List ℕ)
     × (has_ended : Bool) × (mid : Stream) × ReadsLine read mid line has_ended
-    × IsFirstFault (listed line) e
+    × IsFirstFault c.syntax (listed line) e
 
 -- what a command leaves that stops once its tables are loaded
 abbrev pub IsStoppedLineStream : LineCommand → Tables → Stream → Stream → Stream → Stream
@@ -121,7 +121,7 @@ abbrev pub IsStoppedLineStream : LineCommand → Tables → Stream → Stream �
 IsStoppedLineStream c t read read' wrote wrote' (error.Available e) =
     IsUnavailableLine c t read e × (wrote' ≡ wrote)
 IsStoppedLineStream c t read read' wrote wrote' error.Read =
-    ((c ≡ Negotiate) × HoldsSettled t × ReadsUnended read read' × (wrote' ≡ wrote))
+    ((c.task ≡ Negotiate) × HoldsSettled t × ReadsUnended read read' × (wrote' ≡ wrote))
     ⊎ StopsAmong c t read read' wrote wrote' error.Read
 IsStoppedLineStream c t read read' wrote wrote' error.Memory =
     (wrote' ≡ wrote) ⊎ StopsAmong c t read read' wrote wrote' error.Memory

@@ -5,6 +5,8 @@ use Rattle.icu_locale.specs.declared.directionality.Direction.{Direction}
 use Rattle.icu_locale.specs.declared.directionality.Direction.TheVariants.{LeftToRight, RightToLeft}
 use Rattle.icu_locale.specs.Canonical.{rg}
 use Rattle.icu_locale_core.specs.Identifier.{written}
+use Rattle.icu_locale_extensions.specs.Locales as whole
+use Rattle.icu_locale_extensions.specs.declared.identifier.LocaleIdentifier.{LocaleIdentifier}
 use Rattle.icu_locale_core.specs.Maps.{value_at}
 use Rattle.icu_locale_core.specs.TextSet.{text_cmp}
 use Rattle.icu_locale_core.specs.Value.{written_value}
@@ -34,6 +36,10 @@ override_line x (Some v) m =
 abbrev pub canonical_line : Locale → TransformResult → List ℕ
 canonical_line locale m =
     override_line locale.id (value_at text_cmp locale.extensions.unicode.keywords rg) m
+
+-- a locale identifier in written case, a tab, and whether anything was changed
+abbrev pub whole_line : LocaleIdentifier → TransformResult → List ℕ
+whole_line x m = whole.written x ++ (codes "\t" ++ (mark m ++ codes "\n"))
 
 -- `?`, a tab, and the name of the refusal
 abbrev pub refused_line : List ℕ → List ℕ

@@ -11,7 +11,7 @@ use Rattle.icu_tables.specs.declared.tables.Tables.{Tables}
 use Rattle.icu_locale_lines.specs.declared.command.Command.{Command}
 use Rattle.icu_locale_lines.specs.declared.command.Command.TheVariants as command
 use Rattle.icu_locale_lines.specs.declared.command.LineCommand.{LineCommand}
-use Rattle.icu_locale_lines.specs.declared.command.LineCommand.TheVariants.{Negotiate}
+use Rattle.icu_locale_lines.specs.declared.command.Task.TheVariants.{Negotiate}
 use Rattle.icu_locale_lines.specs.declared.error.CliError.{CliError}
 use Rattle.icu_locale_lines.specs.declared.error.CliError.TheVariants as error
 use Rattle.icu_locale_lines.specs.declared.status.Status.{Status}
@@ -67,7 +67,7 @@ WritesPartOfSettled t wrote wrote' =
 -- fault
 abbrev pub IsUnavailable : LineCommand → Tables → List ℕ → ParseError → Type 0
 IsUnavailable c t input e =
-    (c ≡ Negotiate) × HoldsSettled t × IsFirstFault (listed (first_line input)) e
+    (c.task ≡ Negotiate) × HoldsSettled t × IsFirstFault c.syntax (listed (first_line input)) e
 
 -- what lines that stop early leave: a table that is not held, tables that are not settled and a fault among the
 -- available identifiers leave the writer as it was; where memory was refused whole lines alone are written; a failed

@@ -117,7 +117,7 @@ fn add_pieces(text: &mut Vec<u8>, pieces: &[Subtag]) -> Result<(), CliError>
 }
 
 // The line of a refusal. Want of memory has none.
-fn add_refusal(text: &mut Vec<u8>, refusal: CanonicalizeError) -> Result<bool, CliError>
+pub fn add_refusal(text: &mut Vec<u8>, refusal: CanonicalizeError) -> Result<bool, CliError>
     ensures answer { IfOk result (AddsLine (TellsRefusal refusal)
         text.old.items text.new.items) }
     ensures refused { IfErr result (λ e. e ≡ CliError.Memory) }

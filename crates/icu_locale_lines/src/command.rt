@@ -1,11 +1,15 @@
 //! What the program is asked to do.
-ghost use Rattle.std.specs.Prelude.{◌≡◌, Bool, Ok, IfOk, IfErr, map, [], ◌∷◌, codes};
+ghost use Rattle.std.specs.Prelude.{◌≡◌, ◌∷◌, [], Bool, None, Ok, Some, IfOk, IfErr, IfSome, map, codes};
 ghost use Rattle.std.specs.String.{string_bytes};
-ghost use Rattle.icu_locale_lines.specs.Commands.{AreArguments, AreCommandWords, AreWords, command_word};
+ghost use Rattle.icu_locale_lines.specs.Commands.{AreArguments, AreCommandWords, AreStreamWords, AreWords, plain, syntax_word, task_word};
+ghost use Rattle.icu_locale_lines.specs.declared.command.Command.TheVariants.{Lines};
+ghost use Rattle.icu_locale_lines.specs.declared.command.Task.{Task};
+ghost use Rattle.icu_locale_extensions.specs.declared.syntax.Syntax.{Syntax};
 
 use crate::error::CliError;
 use crate::naming::read_preferences;
 use crate::transform::Transform;
+use icu_locale_extensions::Syntax;
 use icu_locale_names::{DisplayNamesPreferences, NameChain};
 use std::alloc::Global;
 
@@ -18,12 +22,22 @@ pub enum Command {
     Lines(LineCommand),
 }
 
+/// How each line is read, and what is done with it.
+#[derive(Clone, Copy, Debug, PartialEq, Eq)]
+pub struct LineCommand {
+    /// The syntax of its locale identifiers. Without one a line holds identifiers alone.
+    pub syntax: Option<Syntax>,
+    /// What is done.
+    pub task: Task,
+}
+
 /// What is done with each line.
 #[derive(Clone, Copy, Debug, PartialEq, Eq)]
-pub enum LineCommand {
+pub enum Task {
     /// A form of each identifier over likely subtags.
     Transform(Transform),
-    /// The canonical form of each locale: an identifier, or an identifier, a tab and a value for `rg`.
+    /// The canonical form of each locale. Without a syntax a line is an identifier, or an identifier, a tab and a value
+    /// for `rg`.
     Canonicalize,
     /// Which way the likely script of each identifier runs.
     Direction,
@@ -33,9 +47,18 @@ pub enum LineCommand {
     Name(NameChain, DisplayNamesPreferences),
 }
 
+impl LineCommand {
+    /// A task on lines that hold identifiers alone.
+    pub fn plain(task: Task) -> Self
+        ensures { result ≡ plain task }
+    {
+        LineCommand { syntax: None, task }
+    }
+}
+
 impl Command {
-    /// The command that the words name, and whether the tables come as JSON. Its answer does not depend on memory:
-    /// reading takes some for variants alone, and preferences have none.
+    /// The command that the words name, and whether the tables come as JSON. Its lines hold identifiers alone. Its answer
+    /// does not depend on memory: reading takes some for variants alone, and preferences have none.
     ///
     /// # Errors
     ///
@@ -51,6 +74,36 @@ impl Command {
                 Ok((Command::from_front(alloc, front)?, true))
             }
             _ => Ok((Command::from_front(alloc, words)?, false)),
+        }
+    }
+
+    /// The same, with the word of a syntax before those of a task: `locales`, `bcp47` or `posix`.
+    ///
+    /// # Errors
+    ///
+    /// `Usage` exactly where the words are not those.
+    pub fn from_stream_words(alloc: Global, words: &[String]) -> Result<(Command, bool), CliError>
+        ensures named { IfOk result (λ c. AreStreamWords (map string_bytes words.now) c.0 c.1) }
+        ensures only { (c : Command × Bool)
+            → AreStreamWords (map string_bytes words.now) c.0 c.1 → result ≡ Ok c }
+        ensures refused { IfErr result (λ e. e ≡ CliError.Usage) }
+    {
+        let Some((word, rest)) = words.split_first() else {
+            return Err(CliError::Usage);
+        };
+        let Some(syntax) = syntax_of(word.as_str()) else {
+            return Command::from_words(alloc, words);
+        };
+        let (command, json) = Command::from_words(alloc, rest)?;
+        match command {
+            Command::Lines(plain) => {
+                let asked = LineCommand {
+                    syntax: Some(syntax),
+                    task: plain.task,
+                };
+                Ok((Command::Lines(asked), json))
+            }
+            Command::Settled => Err(CliError::Usage),
         }
     }
 
@@ -76,17 +129,17 @@ impl Command {
     ///
     /// `Usage` exactly where one of the two texts is none.
     pub fn name(alloc: Global, chain: &str, text: &str) -> Result<Command, CliError>
-        ensures named { IfOk result (λ c. (codes "name" ≡ command_word c)
-            × AreArguments c (chain.now ∷ text.now ∷ [])) }
-        ensures only { (c : Command) → AreArguments c (chain.now ∷ text.now ∷ [])
-            → result ≡ Ok c }
+        ensures named { IfOk result (AreCommandWords
+            (codes "name" ∷ chain.now ∷ text.now ∷ [])) }
+        ensures only { (c : Command)
+            → AreCommandWords (codes "name" ∷ chain.now ∷ text.now ∷ []) c → result ≡ Ok c }
         ensures refused { IfErr result (λ e. e ≡ CliError.Usage) }
     {
         let Some(chain) = NameChain::from_word(chain) else {
             return Err(CliError::Usage);
         };
         let preferences = read_preferences(alloc, text)?;
-        Ok(Command::Lines(LineCommand::Name(chain, preferences)))
+        Ok(Command::Lines(LineCommand::plain(Task::Name(chain, preferences))))
     }
 
     /// The command of a word alone.
@@ -95,21 +148,46 @@ impl Command {
     ///
     /// `Usage` exactly where the word is that of no such command.
     pub fn from_word(word: &str) -> Result<Command, CliError>
-        ensures named { IfOk result (λ c. (word.now ≡ command_word c) × AreArguments c []) }
-        ensures only { (c : Command) → word.now ≡ command_word c → AreArguments c []
-            → result ≡ Ok c }
+        ensures named { IfOk result (AreCommandWords (word.now ∷ [])) }
+        ensures only { (c : Command) → AreCommandWords (word.now ∷ []) c → result ≡ Ok c }
         ensures refused { IfErr result (λ e. e ≡ CliError.Usage) }
     {
-        let command = match word {
-            "settled" => return Ok(Command::Settled),
-            "maximize" => LineCommand::Transform(Transform::Maximize),
-            "minimize" => LineCommand::Transform(Transform::Minimize),
-            "minimize-script" => LineCommand::Transform(Transform::MinimizeScript),
-            "canonicalize" => LineCommand::Canonicalize,
-            "direction" => LineCommand::Direction,
-            "negotiate" => LineCommand::Negotiate,
-            _ => return Err(CliError::Usage),
-        };
-        Ok(Command::Lines(command))
+        if word == "settled" {
+            return Ok(Command::Settled);
+        }
+        match task_of(word) {
+            Some(task) => Ok(Command::Lines(LineCommand::plain(task))),
+            None => Err(CliError::Usage),
+        }
+    }
+}
+
+// The task of a word alone.
+fn task_of(word: &str) -> Option<Task>
+    ensures named { IfSome result (λ t. (word.now ≡ task_word t) × AreArguments t []) }
+    ensures only { (t : Task) → word.now ≡ task_word t → AreArguments t []
+        → result ≡ Some t }
+{
+    match word {
+        "maximize" => Some(Task::Transform(Transform::Maximize)),
+        "minimize" => Some(Task::Transform(Transform::Minimize)),
+        "minimize-script" => Some(Task::Transform(Transform::MinimizeScript)),
+        "canonicalize" => Some(Task::Canonicalize),
+        "direction" => Some(Task::Direction),
+        "negotiate" => Some(Task::Negotiate),
+        _ => None,
+    }
+}
+
+/// The syntax of a word.
+pub fn syntax_of(word: &str) -> Option<Syntax>
+    ensures named { IfSome result (λ s. word.now ≡ syntax_word s) }
+    ensures only { (s : Syntax) → word.now ≡ syntax_word s → result ≡ Some s }
+{
+    match word {
+        "locales" => Some(Syntax::Unicode),
+        "bcp47" => Some(Syntax::Bcp47),
+        "posix" => Some(Syntax::Posix),
+        _ => None,
     }
 }

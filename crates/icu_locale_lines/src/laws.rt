@@ -1,12 +1,15 @@
 //! Laws of lines. Each function here takes nothing, answers nothing and carries a proved fact.
-ghost use Rattle.std.specs.Prelude.{◌≡◌, ◌++◌, ◌∷◌, [], Some, ℕ, Bool, List};
+ghost use Rattle.std.specs.Prelude.{◌≡◌, ◌↔◌, ◌++◌, ◌∷◌, [], Some, ℕ, Bool, List};
 ghost use Rattle.icu_locale_lines.specs.declared.status.Status.{Status};
+ghost use Rattle.icu_locale_lines.specs.declared.work.Tools.{Tools};
 ghost use Rattle.icu_locale_lines.specs.declared.work.Work.{Work};
-ghost use Rattle.icu_locale_lines.specs.Answers.{IsAnswer};
+ghost use Rattle.icu_locale_extensions.specs.declared.syntax.Syntax.{Syntax};
+ghost use Rattle.icu_locale_lines.specs.Answers.{HoldsIdentifiers, IsAnswer, IsPlainAnswer, IsWholeAnswer};
 ghost use Rattle.icu_locale_lines.specs.Runs.{WritesAll};
 
 use icu_locale::laws::{canonical_form_is_one, minimal_form_is_one};
 use icu_locale_core::laws::spelled_once;
+use icu_locale_extensions::laws::{identifiers_read_alike, refusals_are_faults, spelled_once_by};
 
 /// A line has one answer at most: what is written for it is told by the line and the work alone.
 pub fn a_line_has_one_answer()
@@ -14,8 +17,22 @@ pub fn a_line_has_one_answer()
         → IsAnswer work line one a → IsAnswer work line two b → (one ≡ two) × (a ≡ b) }
 {
     spelled_once();
+    spelled_once_by();
+    refusals_are_faults();
     minimal_form_is_one();
     canonical_form_is_one();
+}
+
+/// A line that holds identifiers alone is answered alike in each syntax of locale identifiers and without one.
+pub fn syntaxes_answer_alike()
+    ensures { (tools : Tools) (s : Syntax) (line text : List ℕ) (accepted : Bool)
+        → HoldsIdentifiers tools line
+        → IsWholeAnswer s tools line text accepted ↔ IsPlainAnswer tools line text accepted }
+{
+    spelled_once();
+    spelled_once_by();
+    refusals_are_faults();
+    identifiers_read_alike();
 }
 
 /// Behind a line feed, which is 10, an input may be cut: what runs over its parts write, the one behind the other, is

@@ -19,10 +19,12 @@ pub const PART: usize = 16384;
 
 // Answers what is left of a reader, behind what was read of it before. After each part it answers the lines that this
 // part ends, and keeps what is behind the last line feed; at the end it answers what is left. An input that has not ended
-// after the last read that it may take counts as a failed read.
+// after the last read that it may take counts as a failed read, and so does a line that has not ended and has more bytes
+// than are kept.
 pub fn stream_lines<R: Read, W: Write>(
     alloc: Global,
     work: &Work<'_>,
+    longest: usize,
     first: &[u8],
     reader: &mut R,
     writer: &mut W,
@@ -40,6 +42,9 @@ pub fn stream_lines<R: Read, W: Write>(
     let mut status = answer_part(work, &mut text, &mut carry, first, writer)?;
     let mut buffer = [0; PART];
     for _ in 0..MOST_READS {
+        if carry.len() > longest {
+            return Err(CliError::Read);
+        }
         if writer.flush().is_err() {
             return Err(CliError::Write);
         }

@@ -12,17 +12,18 @@ ghost use Rattle.icu_locale_lines.specs.declared.command.LineCommand.{LineComman
 ghost use Rattle.icu_tables.specs.declared.tables.Tables.{Tables};
 
 use crate::answer::write_answers;
-use crate::command::{Command, LineCommand};
+use crate::command::{Command, LineCommand, Task};
 use crate::error::CliError;
 use crate::lines::cut;
 use crate::lists::read_list;
 use crate::naming::Naming;
 use crate::status::Status;
-use crate::work::Work;
+use crate::work::{Tools, Work};
 use icu_locale::{
     LocaleCanonicalizer, LocaleDirectionality, LocaleExpander, Negotiator, NegotiatorError,
 };
 use icu_locale_core::ParseError;
+use icu_locale_extensions::Syntax;
 use icu_provider::DataProvider;
 use icu_tables::{LocaleTables, Tables};
 use std::alloc::Global;
@@ -33,8 +34,8 @@ use std::io::Write;
 pub enum Loaded<'d> {
     /// What it works with.
     Ready(Work<'d>),
-    /// An expander over settled tables, which waits for the identifiers that are available.
-    Negotiate(LocaleExpander<'d>),
+    /// The syntax of the lines and an expander over settled tables, which wait for the identifiers that are available.
+    Negotiate(Option<Syntax>, LocaleExpander<'d>),
 }
 
 impl<'d> Loaded<'d> {
@@ -53,35 +54,41 @@ impl<'d> Loaded<'d> {
             ↔ IsUnsettled (Command.Lines command.now) tables.now }
         ensures refused { IfErr result IsRefusedLoad }
     {
-        match command {
-            LineCommand::Transform(form) => {
-                let expander = load_expander(tables)?;
-                Ok(Loaded::Ready(Work::Transform(*form, expander)))
+        let syntax = command.syntax;
+        match command.task {
+            Task::Transform(form) => {
+                let tools = Tools::Transform(form, load_expander(tables)?);
+                Ok(Loaded::Ready(Work { syntax, tools }))
             }
-            LineCommand::Canonicalize => {
+            Task::Canonicalize => {
                 let expander = load_expander(tables)?;
                 let canonicalizer = load_canonicalizer(alloc, tables, expander)?;
-                Ok(Loaded::Ready(Work::Canonicalize(canonicalizer)))
+                let tools = Tools::Canonicalize(canonicalizer);
+                Ok(Loaded::Ready(Work { syntax, tools }))
             }
-            LineCommand::Direction => {
+            Task::Direction => {
                 let expander = load_expander(tables)?;
                 let directionality = LocaleDirectionality::try_new_with_expander_unstable(
                     tables, expander,
                 )?;
-                Ok(Loaded::Ready(Work::Direction(directionality)))
+                let tools = Tools::Direction(directionality);
+                Ok(Loaded::Ready(Work { syntax, tools }))
             }
-            LineCommand::Negotiate => {
+            Task::Negotiate => {
                 let expander = load_expander(tables)?;
                 if !expander.is_settled() {
                     return Err(CliError::NotSettled);
                 }
-                Ok(Loaded::Negotiate(expander))
+                Ok(Loaded::Negotiate(syntax, expander))
             }
-            LineCommand::Name(chain, preferences) => Ok(Loaded::Ready(Work::Name(Naming {
-                tables: LocaleTables::new(tables, preferences.locale),
-                chain: *chain,
-                preferences: *preferences,
-            }))),
+            Task::Name(chain, preferences) => {
+                let tools = Tools::Name(Naming {
+                    tables: LocaleTables::new(tables, preferences.locale),
+                    chain,
+                    preferences,
+                });
+                Ok(Loaded::Ready(Work { syntax, tools }))
+            }
         }
     }
 
@@ -95,10 +102,11 @@ impl<'d> Loaded<'d> {
     {
         match self {
             Loaded::Ready(work) => Ok((work, input)),
-            Loaded::Negotiate(expander) => {
+            Loaded::Negotiate(syntax, expander) => {
                 let (first, rest) = cut(input);
-                let negotiator = list_available(alloc, expander, first)?;
-                Ok((Work::Negotiate(negotiator), rest))
+                let negotiator = list_available(alloc, expander, syntax, first)?;
+                let tools = Tools::Negotiate(negotiator);
+                Ok((Work { syntax, tools }, rest))
             }
         }
     }
@@ -171,13 +179,14 @@ fn load_canonicalizer<'d>(
 pub fn list_available<'d>(
     alloc: Global,
     expander: LocaleExpander<'d>,
+    syntax: Option<Syntax>,
     line: &[u8],
 ) -> Result<Negotiator<'d>, CliError>
     ensures expander { IfOk result (λ n. n.expander ≡ expander.entry) }
-    ensures available { IfOk result (λ n. SpellsAll (listed line.now) n.available) }
-    ensures refused { IfErr result (IsRefusedList (likely expander.entry) line.now) }
+    ensures available { IfOk result (λ n. SpellsAll syntax (listed line.now) n.available) }
+    ensures refused { IfErr result (IsRefusedList syntax (likely expander.entry) line.now) }
 {
-    let available = match read_list(alloc, line) {
+    let available = match read_list(alloc, syntax, line) {
         Ok(list) => list,
         Err(ParseError::Memory) => return Err(CliError::Memory),
         Err(refusal) => return Err(CliError::Available(refusal)),

@@ -5,7 +5,7 @@ use crate::error::CliError;
 use crate::runs::{run, run_json};
 use crate::sample_tables::sample;
 use crate::status::Status;
-use crate::streams::{stream, stream_json};
+use crate::streams::{stream_json_within, stream_within};
 use std::alloc::Global;
 use std::io::{BufWriter, Read, Write};
 use std::{env, io};
@@ -59,8 +59,9 @@ fn run_over_sample<R: Read, W: Write>(
 }
 
 /// Asks the words, and then streams a command: over the tables of the first line where `json` stands behind it, else over
-/// the sample. What a part of the input answers is kept until more is read, and then written out; so it is at the end,
-/// whatever that is. Tests show what it does.
+/// the sample. Before the command may stand the word of a syntax, and before that `longest` and a number, as
+/// `stream_within` has it. What a part of the input answers is kept until more is read, and then written out; so it is at
+/// the end, whatever that is. Tests show what it does.
 ///
 /// # Errors
 ///
@@ -72,12 +73,13 @@ pub fn stream_words<R: Read, W: Write + Drop>(
     reader: &mut R,
     writer: W,
 ) -> Result<Status, CliError> {
-    let (command, json) = Command::from_words(alloc, words)?;
+    let (longest, words) = longest_of(words)?;
+    let (command, json) = Command::from_stream_words(alloc, words)?;
     let mut writer = BufWriter::new(alloc, writer).map_err(|_| CliError::Memory)?;
     let status = if json {
-        stream_json(alloc, &command, reader, &mut writer)
+        stream_json_within(alloc, &command, longest, reader, &mut writer)
     } else {
-        stream_over_sample(alloc, &command, reader, &mut writer)
+        stream_over_sample(alloc, &command, longest, reader, &mut writer)
     };
     writer.flush().map_err(|_| CliError::Write)?;
     status
@@ -86,11 +88,26 @@ pub fn stream_words<R: Read, W: Write + Drop>(
 fn stream_over_sample<R: Read, W: Write>(
     alloc: Global,
     command: &Command,
+    longest: usize,
     reader: &mut R,
     writer: &mut W,
 ) -> Result<Status, CliError> {
     let tables = sample(alloc)?;
-    stream(alloc, command, &tables, reader, writer)
+    stream_within(alloc, command, &tables, longest, reader, writer)
+}
+
+// How many bytes of a line are kept at most, and the words behind those that say so.
+fn longest_of(words: &[String]) -> Result<(usize, &[String]), CliError> {
+    match words.split_first() {
+        Some((word, rest)) if word.as_str() == "longest" => match rest.split_first() {
+            Some((number, rest)) => match number.as_str().parse() {
+                Ok(longest) => Ok((longest, rest)),
+                Err(_) => Err(CliError::Usage),
+            },
+            None => Err(CliError::Usage),
+        },
+        _ => Ok((usize::MAX, words)),
+    }
 }
 
 /// The words behind a program's name. It takes memory for them.

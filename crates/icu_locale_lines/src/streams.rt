@@ -14,7 +14,7 @@ ghost use Rattle.icu_locale_lines.specs.Streams.{
 };
 ghost use Rattle.icu_locale_lines.specs.WholeRuns.{IsLineRun, IsRun};
 ghost use Rattle.icu_locale_lines.specs.Commands.{IsUnsettled, has_tables};
-ghost use Rattle.icu_locale_lines.specs.declared.command.LineCommand.TheVariants.{Negotiate};
+ghost use Rattle.icu_locale_lines.specs.declared.command.Task.TheVariants.{Negotiate};
 
 use crate::command::{Command, LineCommand};
 use crate::error::CliError;
@@ -23,8 +23,9 @@ use crate::line_stream::stream_lines;
 use crate::loads::{Loaded, list_available};
 use crate::runs::{read_tables, write_settled};
 use crate::status::Status;
-use crate::work::Work;
+use crate::work::{Tools, Work};
 use icu_locale::LocaleExpander;
+use icu_locale_extensions::Syntax;
 use icu_tables::Tables;
 use std::alloc::Global;
 use std::io::{Read, Write};
@@ -57,9 +58,39 @@ pub fn stream<R: Read, W: Write>(
         (R.remaining reader.old) (R.remaining reader.new) (W.contents writer.old)
         (W.contents writer.new)) }
 {
+    stream_within(alloc, command, tables, usize::MAX, reader, writer)
+}
+
+/// Does as `stream`, but a line that has not ended after so many bytes and what was read with them counts as a failed
+/// read, so that an input without line feeds does not fill memory. A line of at most so many bytes is always answered,
+/// and what lists the available identifiers may be of any length.
+///
+/// # Errors
+///
+/// Those of `stream`.
+pub fn stream_within<R: Read, W: Write>(
+    alloc: Global,
+    command: &Command,
+    tables: &Tables,
+    longest: usize,
+    reader: &mut R,
+    writer: &mut W,
+) -> Result<Status, CliError>
+    ensures output { IfOk result (IsRun command.now tables.now (R.remaining reader.old)
+        (R.remaining reader.new) (W.contents writer.old) (W.contents writer.new)) }
+    ensures data { (result ≡ Err (CliError.Data not_found))
+        ↔ (has_tables command.now tables.now ≡ false) }
+    ensures unsettled { (result ≡ Err CliError.NotSettled)
+        ↔ IsUnsettled command.now tables.now }
+    ensures refused { IfErr result (IsRefusedStream command.now tables.now
+        (R.remaining reader.old) (R.remaining reader.new) (W.contents writer.old)
+        (W.contents writer.new)) }
+{
     match command {
         Command::Settled => write_settled(tables, writer),
-        Command::Lines(command) => stream_command(alloc, command, tables, &[], reader, writer),
+        Command::Lines(command) => {
+            stream_command(alloc, command, tables, longest, &[], reader, writer)
+        }
     }
 }
 
@@ -82,12 +113,40 @@ pub fn stream_json<R: Read, W: Write>(
     ensures refused { IfErr result (IsRefusedJsonStream command.now (R.remaining reader.old)
         (R.remaining reader.new) (W.contents writer.old) (W.contents writer.new)) }
 {
+    stream_json_within(alloc, command, usize::MAX, reader, writer)
+}
+
+/// Takes the tables of the first line, however long, and does as `stream_within` with what follows.
+///
+/// # Errors
+///
+/// Those of `stream_json`.
+pub fn stream_json_within<R: Read, W: Write>(
+    alloc: Global,
+    command: &Command,
+    longest: usize,
+    reader: &mut R,
+    writer: &mut W,
+) -> Result<Status, CliError>
+    ensures output { IfOk result (IsJsonStream command.now (R.remaining reader.old)
+        (R.remaining reader.new) (W.contents writer.old) (W.contents writer.new)) }
+    ensures refused { IfErr result (IsRefusedJsonStream command.now (R.remaining reader.old)
+        (R.remaining reader.new) (W.contents writer.old) (W.contents writer.new)) }
+{
     let first = read_first_line(alloc, &[], reader)?;
     let tables = read_tables(alloc, &first.line)?;
     match command {
         Command::Settled => write_settled(&tables, writer),
         Command::Lines(command) => {
-            stream_command(alloc, command, &tables, &first.rest, reader, writer)
+            stream_command(
+                alloc,
+                command,
+                &tables,
+                longest,
+                &first.rest,
+                reader,
+                writer,
+            )
         }
     }
 }
@@ -97,6 +156,7 @@ fn stream_command<R: Read, W: Write>(
     alloc: Global,
     command: &LineCommand,
     tables: &Tables,
+    longest: usize,
     before: &[u8],
     reader: &mut R,
     writer: &mut W,
@@ -113,32 +173,40 @@ fn stream_command<R: Read, W: Write>(
         (R.remaining reader.new) (W.contents writer.old) (W.contents writer.new)) }
 {
     match Loaded::load(alloc, command, tables)? {
-        Loaded::Ready(work) => stream_lines(alloc, &work, before, reader, writer),
-        Loaded::Negotiate(expander) => stream_requests(alloc, expander, before, reader, writer),
+        Loaded::Ready(work) => stream_lines(alloc, &work, longest, before, reader, writer),
+        Loaded::Negotiate(syntax, expander) => {
+            stream_requests(alloc, syntax, expander, longest, before, reader, writer)
+        }
     }
 }
 
 // The answers to lines of requests, behind a first line that lists what is available.
 fn stream_requests<R: Read, W: Write>(
     alloc: Global,
+    syntax: Option<Syntax>,
     expander: LocaleExpander<'_>,
+    longest: usize,
     before: &[u8],
     reader: &mut R,
     writer: &mut W,
 ) -> Result<Status, CliError>
     ensures output { (t : Tables) → IsExpanderOf t expander.entry
-        → AreSettled (likely expander.entry) → IfOk result (IsLineRun Negotiate t
+        → AreSettled (likely expander.entry) → IfOk result (IsLineRun
+        (record { syntax = syntax; task = Negotiate }) t
         (prepend_known before.now (R.remaining reader.old)) (R.remaining reader.new)
         (W.contents writer.old) (W.contents writer.new)) }
     ensures refused { (t : Tables) → IsExpanderOf t expander.entry
-        → AreSettled (likely expander.entry) → IfErr result (IsStoppedLineStream Negotiate t
+        → AreSettled (likely expander.entry) → IfErr result (IsStoppedLineStream
+        (record { syntax = syntax; task = Negotiate }) t
         (prepend_known before.now (R.remaining reader.old)) (R.remaining reader.new)
         (W.contents writer.old) (W.contents writer.new)) }
 {
     let first = read_first_line(alloc, before, reader)?;
-    let work = Work::Negotiate(list_available(alloc, expander, &first.line)?);
+    let negotiator = list_available(alloc, expander, syntax, &first.line)?;
+    let tools = Tools::Negotiate(negotiator);
+    let work = Work { syntax, tools };
     if first.has_ended {
         return Ok(Status::Accepted);
     }
-    stream_lines(alloc, &work, &first.rest, reader, writer)
+    stream_lines(alloc, &work, longest, &first.rest, reader, writer)
 }

@@ -3,7 +3,7 @@ ghost use Rattle.std.specs.Prelude.{◌≡◌, IfOk, IfErr, OnErr, None, true};
 ghost use Rattle.std.specs.List.{position};
 ghost use Rattle.icu_locale.specs.LikelyTable.{likely};
 ghost use Rattle.icu_locale.specs.RuleSet.{lent};
-ghost use Rattle.icu_locale_lines.specs.Answers.{AddsLine, Keeps, IsAnswer, IsTransformed, IsDirected, IsNamed, IsIdentifierAnswer, IsLocaleAnswer, IsListAnswer};
+ghost use Rattle.icu_locale_lines.specs.Answers.{AddsLine, Keeps, IsAnswer, IsPlainAnswer, IsTransformed, IsDirected, IsNamed, IsIdentifierAnswer, IsLocaleAnswer, IsCanonicalAnswer, IsListAnswer};
 ghost use Rattle.icu_locale_lines.specs.Locales.{is_tab};
 ghost use Rattle.icu_locale_lines.specs.Lists.{IsNegotiatedLine};
 ghost use Rattle.icu_locale_lines.specs.Texts.{matched_line, direction_line};
@@ -15,24 +15,35 @@ use crate::lists::read_list;
 use crate::locales::{first_tab, read_locale};
 use crate::naming::Naming;
 use crate::transform::{Transform, add_identifier, add_transformed};
+use crate::wholes::add_whole_locale;
 use icu_locale::{
     CanonicalizerRef, Direction, LocaleCanonicalizer, LocaleDirectionality, LocaleExpander,
     Negotiator, NegotiatorRef,
 };
 use icu_locale_core::LanguageIdentifier;
+use icu_locale_extensions::Syntax;
 
-/// What a command works with, over tables that it borrows.
+/// What a command works with: the syntax of its lines, and what it asks of each.
 #[derive(Debug, Drop)]
-pub enum Work<'d> {
-    /// Each line is an identifier, which is brought to a form.
+pub struct Work<'d> {
+    /// The syntax of locale identifiers. Without one a line holds identifiers alone.
+    pub syntax: Option<Syntax>,
+    /// What each line is brought to.
+    pub tools: Tools<'d>,
+}
+
+/// What a task works with, over tables that it borrows.
+#[derive(Debug, Drop)]
+pub enum Tools<'d> {
+    /// Each identifier is brought to a form.
     Transform(Transform, LocaleExpander<'d>),
-    /// Each line is a locale, which is brought to its canonical form.
+    /// Each locale is brought to its canonical form.
     Canonicalize(LocaleCanonicalizer<'d>),
-    /// Each line is an identifier, whose direction is told.
+    /// The direction of each identifier is told.
     Direction(LocaleDirectionality<'d>),
     /// Each line lists requests.
     Negotiate(Negotiator<'d>),
-    /// Each line is an identifier, which is named.
+    /// Each identifier is named.
     Name(Naming<'d>),
 }
 
@@ -73,18 +84,34 @@ impl<'d> Work<'d> {
     }
 
     // Puts the answer behind the others, or a part of it where memory is refused.
+    #[inline(always)]
     fn add(&self, text: &mut Vec<u8>, line: &[u8]) -> Result<bool, CliError>
         ensures answer { IfOk result (AddsLine (IsAnswer self.now line.now)
             text.old.items text.new.items) }
         ensures refused { IfErr result (λ e. e ≡ CliError.Memory) }
         ensures kept { OnErr result (Keeps text.old.items text.new.items) }
     {
+        match self.syntax {
+            None => self.tools.add(text, line),
+            Some(syntax) => self.tools.add_whole(text, syntax, line),
+        }
+    }
+}
+
+impl<'d> Tools<'d> {
+    // The answer to a line that holds identifiers alone.
+    fn add(&self, text: &mut Vec<u8>, line: &[u8]) -> Result<bool, CliError>
+        ensures answer { IfOk result (AddsLine (IsPlainAnswer self.now line.now)
+            text.old.items text.new.items) }
+        ensures refused { IfErr result (λ e. e ≡ CliError.Memory) }
+        ensures kept { OnErr result (Keeps text.old.items text.new.items) }
+    {
         match self {
-            Work::Transform(form, expander) => add_form(text, *form, expander, line),
-            Work::Canonicalize(canonicalizer) => add_locale(text, &canonicalizer.lend(), line),
-            Work::Direction(directionality) => add_direction(text, directionality, line),
-            Work::Negotiate(negotiator) => add_requests(text, &negotiator.lend(), line),
-            Work::Name(naming) => add_name(text, naming, line),
+            Tools::Transform(form, expander) => add_form(text, *form, expander, line),
+            Tools::Canonicalize(canonicalizer) => add_locale(text, &canonicalizer.lend(), line),
+            Tools::Direction(directionality) => add_direction(text, directionality, line),
+            Tools::Negotiate(negotiator) => add_requests(text, &negotiator.lend(), None, line),
+            Tools::Name(naming) => add_name(text, naming, line),
         }
     }
 }
@@ -130,7 +157,7 @@ fn add_direction(
     }
 }
 
-fn direction_line(direction: Option<Direction>) -> &'static str
+pub fn direction_line(direction: Option<Direction>) -> &'static str
     ensures { result.now ≡ direction_line direction }
 {
     match direction {
@@ -211,17 +238,18 @@ fn add_with_value(
 }
 
 // The answer to a line that lists requests.
-fn add_requests(
+pub fn add_requests(
     text: &mut Vec<u8>,
     negotiator: &NegotiatorRef<'_>,
+    syntax: Option<Syntax>,
     line: &[u8],
 ) -> Result<bool, CliError>
-    ensures answer { IfOk result (AddsLine (IsListAnswer negotiator.now line.now)
+    ensures answer { IfOk result (AddsLine (IsListAnswer syntax negotiator.now line.now)
         text.old.items text.new.items) }
     ensures refused { IfErr result (λ e. e ≡ CliError.Memory) }
     ensures kept { OnErr result (Keeps text.old.items text.new.items) }
 {
-    match read_list(*text.allocator(), line) {
+    match read_list(*text.allocator(), syntax, line) {
         Ok(requests) => add_negotiated(text, negotiator, &requests),
         Err(refusal) => add_fault(text, refusal),
     }
@@ -273,14 +301,18 @@ fn add_match(
 pub fn answer_locale(
     room: &mut Vec<u8>,
     canonicalizer: &CanonicalizerRef<'_>,
+    syntax: Option<Syntax>,
     line: &[u8],
 ) -> Result<bool, CliError>
-    ensures answer { IfOk result (IsLocaleAnswer (likely canonicalizer.now.expander)
+    ensures answer { IfOk result (IsCanonicalAnswer syntax (likely canonicalizer.now.expander)
         (lent canonicalizer.now.rules) line.now room.new.items) }
     ensures refused { IfErr result (λ e. e ≡ CliError.Memory) }
 {
     room.clear();
-    add_locale(room, canonicalizer, line)
+    match syntax {
+        None => add_locale(room, canonicalizer, line),
+        Some(syntax) => add_whole_locale(room, canonicalizer, syntax, line),
+    }
 }
 
 /// The answer to a line that lists requests, in the room of an earlier one, and whether the line was accepted.
@@ -291,11 +323,12 @@ pub fn answer_locale(
 pub fn answer_requests(
     room: &mut Vec<u8>,
     negotiator: &NegotiatorRef<'_>,
+    syntax: Option<Syntax>,
     line: &[u8],
 ) -> Result<bool, CliError>
-    ensures answer { IfOk result (IsListAnswer negotiator.now line.now room.new.items) }
+    ensures answer { IfOk result (IsListAnswer syntax negotiator.now line.now room.new.items) }
     ensures refused { IfErr result (λ e. e ≡ CliError.Memory) }
 {
     room.clear();
-    add_requests(room, negotiator, line)
+    add_requests(room, negotiator, syntax, line)
 }

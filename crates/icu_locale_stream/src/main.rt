@@ -7,11 +7,16 @@ use std::process::ExitCode;
 
 // What `--help` writes.
 const HELP: &str = "\
-usage: icu_locale_stream COMMAND [json]
+usage: icu_locale_stream [longest N] [locales | bcp47 | posix] COMMAND [json]
        icu_locale_stream --help | --version
 
 Answers each line of standard input before it reads more. With json, the first line holds the tables; without it they
 are a small sample.
+
+  locales                  lines hold locale identifiers with extensions, which are written with the answer
+  bcp47                    the same, and tags as browsers send them: i-klingon, zh-cmn-Hans, x-private
+  posix                    the same, and names of POSIX locales: en_US.UTF-8, sr_RS@latin, C
+  longest N                a line that has not ended after N bytes ends the run as a failed read does
 
   maximize                 the maximal form of each identifier
   minimize                 the minimal form, with the region kept before the script
@@ -26,6 +31,9 @@ CHAIN is tiny, light, short-light, long-light, menu-light, short-menu-light, hea
 or short-menu-heavy. The status is 0 where each line was accepted, 1 where one was refused, 2 where the run was.
 ";
 
+// What standard error says of words that are no command.
+const USAGE: &str = "usage: icu_locale_stream [longest N] [locales | bcp47 | posix] COMMAND [json]";
+
 // What `--version` writes.
 const VERSION: &str = "icu_locale_stream 0.4.0\n";
 
@@ -34,7 +42,7 @@ fn main(rt: HostRuntime) -> ExitCode {
         Ok(Status::Accepted) => ExitCode::SUCCESS,
         Ok(Status::Refused) => ExitCode::from(1),
         Err(CliError::Usage) => {
-            let _ = rt.eprintln("usage: icu_locale_stream COMMAND [json]");
+            let _ = rt.eprintln(USAGE);
             ExitCode::from(2)
         }
         Err(refusal) => {

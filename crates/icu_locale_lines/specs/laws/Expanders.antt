@@ -11,10 +11,8 @@ use Rattle.icu_locale.specs.LikelySubtags.{AreSettled}
 use Rattle.icu_locale.specs.declared.expander.LocaleExpander.{LocaleExpander}
 use Rattle.icu_tables.specs.declared.tables.Tables.{Tables}
 use Rattle.icu_locale_lines.specs.Loads.{IsExpanderOf, has_likely}
-use Rattle.icu_locale_lines.specs.Commands.{IsUnsettled}
+use Rattle.icu_locale_lines.specs.Commands.{IsUnsettled, Negotiates}
 use Rattle.icu_locale_lines.specs.declared.command.Command.{Command}
-use Rattle.icu_locale_lines.specs.declared.command.Command.TheVariants.{Lines}
-use Rattle.icu_locale_lines.specs.declared.command.LineCommand.TheVariants.{Negotiate}
 
 same_extension : (x y : Option (Bor LikelySubtagsExtended)) → option_copied x ≡ option_copied y → (k : LikelyKey) → extension_row x k ≡ extension_row y k
 same_extension None None same k = refl
@@ -31,7 +29,7 @@ same_likely t e f over also =
     (option_or (same_extension e.extended f.extended (sym over.extended ∙ also.extended) k i) (und_row ((language i).und) k))
 
 -- one that is not settled tells of all
-pub unsettled_from_one : (c : Command) (t : Tables) (e : LocaleExpander) → c ≡ Lines Negotiate → has_likely t ≡ true → IsExpanderOf t e → ¬ (AreSettled (likely e)) → IsUnsettled c t
+pub unsettled_from_one : (c : Command) (t : Tables) (e : LocaleExpander) → Negotiates c → has_likely t ≡ true → IsExpanderOf t e → ¬ (AreSettled (likely e)) → IsUnsettled c t
 unsettled_from_one c t e negotiates held over unsettled = record {
   negotiates = negotiates;
   held = held;

@@ -3,7 +3,7 @@ use Rattle.std.specs.Io.KnownBytes.{Consumes, IsAtEnd, prepend_known}
 use Rattle.std.proofs.lemmas.Result.{err_from_is_err_and}
 use Rattle.icu_locale_lines.specs.Runs.{WritesAll, WritesWholeLines, WritesPart}
 use Rattle.icu_locale_lines.specs.declared.status.Status.TheVariants.{Accepted}
-use Rattle.icu_locale_lines.proofs.Streaming.{Consumes-prepended, StreamProgress-none, StreamProgress-more, StreamProgress-refused, StreamProgress-unread, StreamProgress-end, StreamProgress-flushed, StreamProgress-unflushed}
+use Rattle.icu_locale_lines.proofs.Streaming.{Consumes-prepended, StreamProgress-none, StreamProgress-more, StreamProgress-refused, StreamProgress-unread, StreamProgress-stopped, StreamProgress-end, StreamProgress-flushed, StreamProgress-unflushed}
 use Rattle.icu_locale_lines.proofs.line_stream.stream_lines.Goals as goal
 
 -- what was read before was refused
@@ -100,3 +100,10 @@ returns-then-is_err-clause-refused g c =
     let wrote = g.W.Write.contents in
     let start = prepend_known c.args.first.now (read c.args.reader.now) in
     inr (StreamProgress-unflushed c.args.work.now start (read c.loop.reader) (wrote c.args.writer.now) (wrote c.loop.writer) (wrote c.flush.new.self) c.loop.status c.loop.carry.items c.loop.invariant c.flush.ensures.bytes)
+
+-- a line that has not ended has more bytes than are kept
+pub returns-then-len-longest-clause-refused : goal.returns-then-len-longest-clause-refused
+returns-then-len-longest-clause-refused g c =
+    let read = g.R.Read.remaining in
+    let wrote = g.W.Write.contents in
+    StreamProgress-stopped c.args.work.now (prepend_known c.args.first.now (read c.args.reader.now)) (read c.loop.reader) (wrote c.args.writer.now) (wrote c.loop.writer) c.loop.status c.loop.carry.items c.loop.invariant

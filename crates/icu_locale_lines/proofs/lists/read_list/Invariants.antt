@@ -4,4 +4,4 @@ use Rattle.icu_locale_lines.proofs.lists.read_list.Given as goal
 
 -- each text so far was read
 abbrev pub invariant-loop-piece : goal.invariant-loop-piece
-invariant-loop-piece l = SpellsAll (map (λ piece. piece.now) l.yielded) l.list.items
+invariant-loop-piece l = SpellsAll l.initial.syntax (map (λ piece. piece.now) l.yielded) l.list.items

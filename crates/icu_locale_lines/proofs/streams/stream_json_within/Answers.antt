@@ -4,7 +4,7 @@ use Rattle.icu_tables.specs.File.{rows_in}
 use Rattle.icu_locale_lines.specs.Streams.{ReadsLine, ReadsTablesLine, LeavesBehind, IsRefusedLineStream}
 use Rattle.icu_locale_lines.specs.WholeRuns.{IsLineRun}
 use Rattle.icu_locale_lines.proofs.StreamEnds.{prepend_none, json_settled, json_settled_refused, json_lines, json_lines_refused}
-use Rattle.icu_locale_lines.proofs.streams.stream_json.Goals as goal
+use Rattle.icu_locale_lines.proofs.streams.stream_json_within.Goals as goal
 
 pub returns-in-Settled-clause-output : goal.returns-in-Settled-clause-output
 returns-in-Settled-clause-output g c =

@@ -1,0 +1,13 @@
+use Rattle.icu_locale_lines.proofs.Alike.{SyntaxFacts, answers_alike}
+use Rattle.icu_locale_lines.proofs.laws.syntaxes_answer_alike.Goals as goal
+
+pub returns : goal.returns
+returns c = λ work s line text a holds.
+    let facts : SyntaxFacts = record {
+      alone = c.spelled_once.ensures;
+      once = c.spelled_once_by.ensures;
+      nothing = c.refusals_are_faults.ensures.nothing;
+      known = c.identifiers_read_alike.ensures.known;
+      alike = c.identifiers_read_alike.ensures.alike;
+    } in
+    answers_alike facts s line text a work holds
