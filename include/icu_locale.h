@@ -123,6 +123,9 @@ int32_t icu_locale_share(struct icu_locale *from, struct icu_locale *to);
  * list of what is available. `line` is one line of the program's input without its line feed: an identifier, or at
  * `canonicalize` an identifier, or an identifier, a tab and a value, or at `negotiate` the requests of one reader.
  *
+ * Before these words may stand `locales`, `bcp47` or `posix`, as in `locales maximize`: the line holds locale identifiers
+ * with extensions, or such tags of RFC 5646, or such names of POSIX locales, and the answer has their extensions.
+ *
  * The answer is the program's line without its line feed, with the marks that it has: `zh-Hant-TW`, a tab and `M`.
  *
  * ICU_LOCALE_ACCEPTED, ICU_LOCALE_REFUSED: `out` begins with the answer, and `written` is how long that is.

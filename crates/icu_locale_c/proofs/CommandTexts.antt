@@ -1,5 +1,5 @@
 -- Words that are those of no command, and a text that is cut at its first space.
-use Rattle.std.proofs.Common.{◌≡◌, ◌≢◌, ℕ, ◌<◌, false, List, [], ◌∷◌, ◌++◌, length, get_or, Option, Some, None, refl, ap, ◌∙◌, arith, ◌⊎◌, ◌≤◌, codes, inl, inr, sym, subst, Result, Ok, Err, IfErr}
+use Rattle.std.proofs.Common.{◌≡◌, ◌≢◌, ℕ, ◌<◌, false, List, [], ◌∷◌, ◌++◌, length, get_or, Option, Some, None, refl, ap, ◌∙◌, arith, ◌⊎◌, ◌≤◌, codes, inl, inr, sym, subst, Result, Ok, Err, IfOk, IfErr}
 use Rattle.std.specs.Borrow.{Bor}
 use Rattle.std.specs.List.{slice_split, All}
 use Rattle.std.specs.Option.{MatchOption}
@@ -7,13 +7,15 @@ use Rattle.std.proofs.lemmas.Bool.Decides.{nat_tests}
 use Rattle.std.proofs.lemmas.List.Elements.{All-from_get_or}
 use Rattle.std.proofs.lemmas.List.Splits.{slice_split_none, slice_split_at, length-slice_split}
 use Rattle.icu_locale_lines.specs.Lists.{is_space}
-use Rattle.icu_locale_lines.specs.Commands.{AreArguments, AreCommandWords, command_word}
-use Rattle.icu_locale_lines.specs.laws.Commands.{counted}
-use Rattle.icu_locale_lines.specs.declared.command.Command.{Command}
+use Rattle.icu_locale_lines.specs.Commands.{AreCommandWords, AreStreamWords, AreTaskWords, plain, syntax_word}
+use Rattle.icu_locale_lines.specs.laws.Commands.{counted, behind_syntax, without_syntax}
 use Rattle.icu_locale_lines.specs.declared.command.Command.TheVariants.{Lines}
 use Rattle.icu_locale_lines.specs.declared.command.LineCommand.{LineCommand}
+use Rattle.icu_locale_lines.specs.declared.command.Task.{Task}
 use Rattle.icu_locale_lines.specs.declared.error.CliError.{CliError}
-use Rattle.icu_locale_c.specs.Calls.{AreNoCommand, NamesNone}
+use Rattle.icu_locale_extensions.specs.declared.syntax.Syntax.{Syntax}
+use Rattle.icu_locale_c.specs.Calls.{AreNoCommand, Names, NamesNone}
+use Rattle.icu_locale_c.specs.inner.Words.{AreNoPlain}
 use Rattle.icu_locale_c.specs.declared.refusal.Refusal.{Refusal}
 use Rattle.icu_locale_c.specs.declared.refusal.Refusal.TheVariants as refusal
 
@@ -34,45 +36,86 @@ cut_words bs (Some x) cut = ap (slice_split is_space) cut.0 ∙ slice_split_at i
 pub some_word : (bs : List ℕ) → 1 ≤ length (slice_split is_space bs)
 some_word bs = omega (arith, length-slice_split is_space bs)
 
-pub none_of_two : (w v : List ℕ) → AreNoCommand (w ∷ v ∷ [])
-none_of_two w v c are = by (counted (w ∷ v ∷ []) (Lines c) are)
+pub none_of_two : (w v : List ℕ) → AreNoPlain (w ∷ v ∷ [])
+none_of_two w v c are = by (counted (w ∷ v ∷ []) c.task are.1)
   where
     by : (length (w ∷ v ∷ []) ≡ 1) ⊎ ((chain : List ℕ) × (text : List ℕ) × (w ∷ v ∷ [] ≡ codes "name" ∷ chain ∷ text ∷ [])) → ⊥
     by (inl one) = omega (arith, one)
     by (inr (chain, text, is)) = let two : 2 ≡ 3 = ap length is in omega (arith, two)
 
-pub none_of_more : (w v u : List ℕ) (rest : List (List ℕ)) → 1 ≤ length rest → AreNoCommand (w ∷ v ∷ u ∷ rest)
-none_of_more w v u rest some c are = by (counted (w ∷ v ∷ u ∷ rest) (Lines c) are)
+pub none_of_more : (w v u : List ℕ) (rest : List (List ℕ)) → 1 ≤ length rest → AreNoPlain (w ∷ v ∷ u ∷ rest)
+none_of_more w v u rest some c are = by (counted (w ∷ v ∷ u ∷ rest) c.task are.1)
   where
     by : (length (w ∷ v ∷ u ∷ rest) ≡ 1) ⊎ ((chain : List ℕ) × (text : List ℕ) × (w ∷ v ∷ u ∷ rest ≡ codes "name" ∷ chain ∷ text ∷ [])) → ⊥
     by (inl one) = omega (arith, one)
     by (inr (chain, text, is)) = let three : length (w ∷ v ∷ u ∷ rest) ≡ 3 = ap length is in omega (arith, three)
 
-pub none_of_others : (w : List ℕ) (rest : List (List ℕ)) → 1 ≤ length rest → w ≢ codes "name" → AreNoCommand (w ∷ rest)
-none_of_others w rest some other c are = by (counted (w ∷ rest) (Lines c) are)
+pub none_of_others : (w : List ℕ) (rest : List (List ℕ)) → 1 ≤ length rest → w ≢ codes "name" → AreNoPlain (w ∷ rest)
+none_of_others w rest some other c are = by (counted (w ∷ rest) c.task are.1)
   where
     by : (length (w ∷ rest) ≡ 1) ⊎ ((chain : List ℕ) × (text : List ℕ) × (w ∷ rest ≡ codes "name" ∷ chain ∷ text ∷ [])) → ⊥
     by (inl one) = omega (arith, one, some)
     by (inr (chain, text, is)) = other (cc)
 
--- where a command has one word, it is named by that
-pub only_word : (word : List ℕ) (r : Result Command CliError) → ((c : Command) → word ≡ command_word c → AreArguments c [] → r ≡ Ok c)
-    → (c : LineCommand) → AreCommandWords (word ∷ []) (Lines c) → r ≡ Ok (Lines c)
-only_word word r only c (arguments, are, is) =
-    let none : arguments ≡ [] = cc in
-    let first : word ≡ command_word (Lines c) = cc in
-    only (Lines c) first (subst (AreArguments (Lines c)) none are)
-
--- where a command has three, it is named by the two behind the first
-pub only_arguments : (word chain text : List ℕ) (r : Result Command CliError) → ((c : Command) → AreArguments c (chain ∷ text ∷ []) → r ≡ Ok c)
-    → (c : LineCommand) → AreCommandWords (word ∷ chain ∷ text ∷ []) (Lines c) → r ≡ Ok (Lines c)
-only_arguments word chain text r only c (arguments, are, is) =
-    let behind : arguments ≡ chain ∷ text ∷ [] = cc in
-    only (Lines c) (subst (AreArguments (Lines c)) behind are)
-
 -- the same of equal words
-pub same_words : {A : Type 0} (words others : List (List ℕ)) → words ≡ others → (r : Result A Refusal) → IfErr r (λ e. (e ≡ refusal.Command) × AreNoCommand others) → IfErr r (λ e. (e ≡ refusal.Command) × AreNoCommand words)
-same_words words others same r none = subst (λ (ws : List (List ℕ)). IfErr r (λ e. (e ≡ refusal.Command) × AreNoCommand ws)) (sym same) none
+pub same_words : {A : Type 0} (words others : List (List ℕ)) → words ≡ others → (r : Result A Refusal) → IfErr r (λ e. (e ≡ refusal.Command) × AreNoPlain others) → IfErr r (λ e. (e ≡ refusal.Command) × AreNoPlain words)
+same_words words others same r none = subst (λ (ws : List (List ℕ)). IfErr r (λ e. (e ≡ refusal.Command) × AreNoPlain ws)) (sym same) none
+
+-- no words are those of a task
+no_task_words : (t : Task) → AreTaskWords [] t → ⊥
+no_task_words t (arguments, are, whole) = absurd (cc)
+
+-- a word alone is none of a syntax
+alone_plain : (word : List ℕ) (c : LineCommand) → AreStreamWords (word ∷ []) (Lines c) false → AreCommandWords (word ∷ []) (Lines c)
+alone_plain word c (inl are) = are
+alone_plain word c (inr these) =
+    let parted = these.parted in
+    let none : these.front ≡ [] = cc in
+    absurd (no_task_words these.task (subst (λ ws. AreTaskWords ws these.task) none these.of_task.1))
+
+-- what is refused without a syntax is refused
+module _ {A : Type 0} (text : List ℕ) (r : Result A Refusal) where
+  with_none : (AreNoPlain (slice_split is_space text) → AreNoCommand (slice_split is_space text)) → IfErr r (λ e. (e ≡ refusal.Command) × AreNoPlain (slice_split is_space text)) → IfErr r (λ e. (e ≡ refusal.Command) × AreNoCommand (slice_split is_space text))
+  with_none more h = by r h
+    where
+      by : (q : Result A Refusal) → IfErr q (λ e. (e ≡ refusal.Command) × AreNoPlain (slice_split is_space text)) → IfErr q (λ e. (e ≡ refusal.Command) × AreNoCommand (slice_split is_space text))
+      by (Ok a) h = tt
+      by (Err e) h = (h.0, more h.1)
+
+  -- a text of one word
+  pub alone_refused : slice_split is_space text ≡ text ∷ [] → IfErr r (λ e. (e ≡ refusal.Command) × AreNoPlain (slice_split is_space text)) → IfErr r (λ e. (e ≡ refusal.Command) × AreNoCommand (slice_split is_space text))
+  alone_refused one h =
+      with_none (λ none c are. none c (subst (λ ws. AreCommandWords ws (Lines c)) (sym one) (alone_plain text c (subst (λ ws. AreStreamWords ws (Lines c) false) one are)))) h
+
+  -- a text whose first word is that of no syntax
+  pub other_refused : (word : List ℕ) (rest : List (List ℕ)) → slice_split is_space text ≡ word ∷ rest → ((s : Syntax) → word ≡ syntax_word s → ⊥) → IfErr r (λ e. (e ≡ refusal.Command) × AreNoPlain (slice_split is_space text)) → IfErr r (λ e. (e ≡ refusal.Command) × AreNoCommand (slice_split is_space text))
+  other_refused word rest cut other h =
+      with_none (λ none c are. none c (subst (λ ws. AreCommandWords ws (Lines c)) (sym cut) (without_syntax word rest other (Lines c) false (subst (λ ws. AreStreamWords ws (Lines c) false) cut are)))) h
+
+-- words behind that of a syntax
+module _ (text rest word : List ℕ) (s : Syntax) (cut : slice_split is_space text ≡ word ∷ slice_split is_space rest) (is : word ≡ syntax_word s) where
+  whole : slice_split is_space text ≡ syntax_word s ∷ slice_split is_space rest
+  whole = cut ∙ ap (λ w. w ∷ slice_split is_space rest) is
+
+  pub syntax_named : (r : Result LineCommand Refusal) → IfOk r (λ c. (c.syntax ≡ Some s) × AreTaskWords (slice_split is_space rest) c.task) → IfOk r (Names text)
+  syntax_named (Ok c) h = inr (record {
+    syntax = s;
+    task = c.task;
+    front = slice_split is_space rest;
+    is = λ i. Lines (record { syntax = h.0 i; task = c.task });
+    of_task = (refl, h.1);
+    parted = whole;
+  })
+  syntax_named (Err e) h = tt
+
+  pub syntax_refused : {A : Type 0} (r : Result A Refusal) → IfErr r (λ e. (e ≡ refusal.Command) × AreNoPlain (slice_split is_space rest)) → IfErr r (λ e. (e ≡ refusal.Command) × AreNoCommand (slice_split is_space text))
+  syntax_refused (Ok a) h = tt
+  syntax_refused (Err e) h = (
+    h.0,
+    λ c are.
+        let of = behind_syntax (slice_split is_space rest) s (Lines c) false (subst (λ ws. AreStreamWords ws (Lines c) false) whole are) in
+        h.1 (plain of.0) of.2,
+  )
 
 pub names_none : {A : Type 0} (text bytes : List ℕ) → text ≡ bytes → (r : Result A Refusal) → IfErr r (λ e. (e ≡ refusal.Command) × AreNoCommand (slice_split is_space text)) → IfErr r (λ e. (e ≡ refusal.Command) × NamesNone bytes)
 names_none text bytes same (Ok a) none = tt

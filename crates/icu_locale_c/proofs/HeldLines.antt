@@ -1,49 +1,58 @@
 -- Lines, lists and canonical forms over what is held.
-use Rattle.std.proofs.Common.{◌≡◌, ℕ, List, Option, Some, Result, Ok, Err, IfOk, sym, subst, [], ◌∷◌, length, refl, ap, ◌∙◌, arith}
+use Rattle.std.proofs.Common.{◌≡◌, ℕ, Bool, List, Option, None, Some, Result, Ok, Err, IfOk, sym, subst, [], ◌∷◌, length, refl, ap, ◌∙◌, arith}
 use Rattle.std.specs.Prelude.{IsSomeAnd}
 use Rattle.icu_locale.specs.Rules.{AreRules}
-use Rattle.icu_locale.specs.declared.canonicalizer.LocaleCanonicalizer.{LocaleCanonicalizer}
+use Rattle.icu_locale.specs.RuleSet.{rules_over}
+use Rattle.icu_locale.specs.declared.canonicalizer.rules.ReadRules.{ReadRules}
 use Rattle.icu_locale.specs.declared.expander.LocaleExpander.{LocaleExpander}
 use Rattle.icu_provider.specs.declared.aliases.Aliases.{Aliases}
 use Rattle.icu_tables.specs.declared.tables.Tables.{Tables}
-use Rattle.icu_locale_lines.specs.Answers.{IsAnswer}
+use Rattle.icu_locale_lines.specs.Answers.{IsAnswer, IsCanonicalAnswer, IsListAnswer}
 use Rattle.icu_locale_lines.specs.Loads.{IsExpanderOf}
-use Rattle.icu_locale_lines.specs.declared.answer.Answer.{Answer}
 use Rattle.icu_locale_c.specs.Asked.{IsLineOf}
-use Rattle.icu_locale_c.specs.Held.{without_list, Held, IsListOver, IsNegotiationOf, IsWorkOver, with_list}
+use Rattle.icu_locale_c.specs.Held.{without_list, Held, IsListOver, IsNegotiationOf, IsWorkOver, AreToolsOver, with_list}
 use Rattle.icu_locale.specs.Negotiation.{IsMadeOver, identifiers_of, Negotiation}
 use Rattle.icu_locale.specs.LikelyTable.{likely}
 use Rattle.icu_locale.specs.LikelySubtags.{AreSettled}
 use Rattle.icu_locale.specs.declared.negotiator.available.Available.{Available}
 use Rattle.icu_locale_lines.specs.Lists.{listed, SpellsAll}
-use Rattle.icu_locale_lines.specs.Commands.{IsWorkOf, text_answered}
+use Rattle.icu_locale_lines.specs.Commands.{IsWorkOf, AreToolsOf, text_answered, text_left}
 use Rattle.icu_locale_lines.specs.declared.command.LineCommand.{LineCommand}
 use Rattle.icu_locale_lines.specs.declared.work.Work.{Work}
 use Rattle.icu_locale_lines.specs.laws.Expanders.{same_likely}
 use Rattle.icu_locale_c.specs.Negotiations.{IsListed}
-use Rattle.icu_locale_lines.specs.declared.command.LineCommand.TheVariants as command
-use Rattle.icu_locale_lines.specs.declared.work.Work.TheVariants as work
+use Rattle.icu_locale_lines.specs.declared.command.Task.{Task}
+use Rattle.icu_locale_lines.specs.declared.command.Task.TheVariants as task
+use Rattle.icu_locale_lines.specs.declared.work.Tools.TheVariants as tools
+use Rattle.icu_locale_extensions.specs.declared.syntax.Syntax.{Syntax}
 
-pub line_over_rules : {E : Type 0} (t : Tables) (e : LocaleExpander) (k : LocaleCanonicalizer LocaleExpander) (table : Aliases) (line : List ℕ)
-    → IsExpanderOf t e → k.expander ≡ e → t.aliases ≡ Some table → AreRules table k.rules
-    → (r : Result Answer E) → IfOk r (λ a. IsAnswer (work.Canonicalize k) line a.text.items a.accepted) → IfOk r (λ a. IsLineOf (without_list t) command.Canonicalize line a.text.items a.accepted)
-line_over_rules t e k table line over same held rules (Ok a) answer = record {
-  work = work.Canonicalize k;
-  work_of = (subst (IsExpanderOf t) (sym same) over, subst (λ (o : Option Aliases). IsSomeAnd o (λ x. AreRules x k.rules)) (sym held) rules);
+pub line_over_rules : {E : Type 0} (t : Tables) (e : LocaleExpander) (read : ReadRules) (table : Aliases) (asked : LineCommand) (line whole : List ℕ)
+    → IsExpanderOf t e → t.aliases ≡ Some table → AreRules table (rules_over read table) → asked.task ≡ task.Canonicalize
+    → (r : Result Bool E) → IfOk r (IsCanonicalAnswer asked.syntax (likely e) (rules_over read table) line whole) → IfOk r (IsLineOf (without_list t) asked line whole)
+line_over_rules t e read table asked line whole over has rules is (Ok a) answer = record {
+  work = record { syntax = asked.syntax; tools = tools.Canonicalize (record { rules = rules_over read table; expander = e }) };
+  work_of = record {
+    syntax = refl;
+    tools = subst (λ k. AreToolsOver asked.syntax k (without_list t) (tools.Canonicalize (record { rules = rules_over read table; expander = e }))) (sym is)
+        (over, subst (λ (o : Option Aliases). IsSomeAnd o (λ x. AreRules x (rules_over read table))) (sym has) rules);
+  };
   answer = answer;
 }
-line_over_rules t e k table line over same held rules (Err f) answer = tt
+line_over_rules t e read table asked line whole over has rules is (Err f) answer = tt
 
 -- the work of a command other than `negotiate` asks for no list
 pub work_without_list : (asked : LineCommand) (t : Tables) (w : Work) → ((input : List ℕ) → IsWorkOf asked t input w × (text_answered asked input ≡ input)) → IsWorkOver asked (without_list t) w
-work_without_list (command.Transform form) t w of = (of []).0
-work_without_list command.Canonicalize t w of = (of []).0
-work_without_list command.Direction t w of = (of []).0
-work_without_list command.Negotiate t w of = absurd (never (of (10 ∷ [])).1)
+work_without_list asked t w of = record { syntax = (of []).0.syntax; tools = by asked.task (of []).0.tools (λ input. (of input).1) }
   where
-    never : text_answered command.Negotiate (10 ∷ []) ≡ 10 ∷ [] → ⊥
+    never : text_left task.Negotiate (10 ∷ []) ≡ 10 ∷ [] → ⊥
     never same = let none : 0 ≡ 1 = ap length same in omega (arith, none)
-work_without_list (command.Name chain preferences) t w of = (of []).0
+
+    by : (k : Task) → AreToolsOf asked.syntax k t [] w.tools → ((input : List ℕ) → text_left k input ≡ input) → AreToolsOver asked.syntax k (without_list t) w.tools
+    by (task.Transform form) are same = are
+    by task.Canonicalize are same = are
+    by task.Direction are same = are
+    by task.Negotiate are same = absurd (never (same (10 ∷ [])))
+    by (task.Name chain preferences) are same = are
 
 -- a list that was made over one expander of tables was made over each
 pub list_over : (t : Tables) (e f : LocaleExpander) (list : Available) → IsExpanderOf t e → f ≡ e → IsMadeOver (likely f) list → IsListOver t list
@@ -61,16 +70,23 @@ negotiation_over t e n a kept over same listed = record {
   available = ap Some (sym listed);
 }
 
-pub line_over_list : {E : Type 0} (t : Tables) (e : LocaleExpander) (n : Negotiation) (a : Available) (line : List ℕ) → IsListOver t a → IsExpanderOf t e → n.expander ≡ e → n.available ≡ identifiers_of a
-    → (r : Result Answer E) → IfOk r (λ x. IsAnswer (work.Negotiate n) line x.text.items x.accepted) → IfOk r (λ x. IsLineOf (with_list t (identifiers_of a)) command.Negotiate line x.text.items x.accepted)
-line_over_list t e n a line kept over same listed (Ok x) answer = record {
-  work = work.Negotiate n;
-  work_of = negotiation_over t e n a kept over same listed;
-  answer = answer;
-}
-line_over_list t e n a line kept over same listed (Err f) answer = tt
+-- the answer to a list is that of the work over it
+list_answered : (syntax : Option Syntax) (n : Negotiation) (line whole : List ℕ) (accepted : Bool) → IsListAnswer syntax n line whole accepted → IsAnswer (record { syntax = syntax; tools = tools.Negotiate n }) line whole accepted
+list_answered None n line whole accepted answer = answer
+list_answered (Some s) n line whole accepted answer = answer
 
-listed_anew : (t : Tables) (a : Available) (line : List ℕ) → IsListOver t a → SpellsAll (listed line) (identifiers_of a) → IsListed t line (with_list t (identifiers_of a))
+pub line_over_list : (t : Tables) (e : LocaleExpander) (n : Negotiation) (a : Available) (asked : LineCommand) (line whole : List ℕ) (accepted : Bool) → IsListOver t a → asked.task ≡ task.Negotiate → IsExpanderOf t e → n.expander ≡ e → n.available ≡ identifiers_of a
+    → IsListAnswer asked.syntax n line whole accepted → IsLineOf (with_list t (identifiers_of a)) asked line whole accepted
+line_over_list t e n a asked line whole accepted kept is over same listed answer = record {
+  work = record { syntax = asked.syntax; tools = tools.Negotiate n };
+  work_of = record {
+    syntax = refl;
+    tools = subst (λ k. AreToolsOver asked.syntax k (with_list t (identifiers_of a)) (tools.Negotiate n)) (sym is) (negotiation_over t e n a kept over same listed);
+  };
+  answer = list_answered asked.syntax n line whole accepted answer;
+}
+
+listed_anew : (t : Tables) (a : Available) (line : List ℕ) → IsListOver t a → SpellsAll None (listed line) (identifiers_of a) → IsListed t line (with_list t (identifiers_of a))
 listed_anew t a line kept spelled = record {
   tables = refl;
   negotiation = record { expander = kept.expander; available = identifiers_of a };
@@ -78,6 +94,6 @@ listed_anew t a line kept spelled = record {
   spelled = spelled;
 }
 
-pub listed_in : {B E : Type 0} (held : B → Held) (t u : Tables) (a : Available) (line : List ℕ) → u ≡ t → IsListOver t a → SpellsAll (listed line) (identifiers_of a) → (r : Result B E) → IfOk r (λ b. held b ≡ with_list u (identifiers_of a)) → IfOk r (λ b. IsListed t line (held b))
+pub listed_in : {B E : Type 0} (held : B → Held) (t u : Tables) (a : Available) (line : List ℕ) → u ≡ t → IsListOver t a → SpellsAll None (listed line) (identifiers_of a) → (r : Result B E) → IfOk r (λ b. held b ≡ with_list u (identifiers_of a)) → IfOk r (λ b. IsListed t line (held b))
 listed_in held t u a line same kept spelled (Ok b) is = subst (IsListed t line) (sym (is ∙ ap (λ x. with_list x (identifiers_of a)) same)) (listed_anew t a line kept spelled)
 listed_in held t u a line same kept spelled (Err f) is = tt

@@ -4,7 +4,7 @@ use Rattle.icu_locale_lines.specs.Answers.{IsAnswer}
 use Rattle.icu_locale_lines.specs.Commands.{has_tables}
 use Rattle.icu_locale_lines.specs.declared.command.Command.TheVariants.{Lines}
 use Rattle.icu_locale_lines.specs.declared.command.LineCommand.{LineCommand}
-use Rattle.icu_locale_lines.specs.declared.command.LineCommand.TheVariants.{Negotiate}
+use Rattle.icu_locale_lines.specs.declared.command.Task.TheVariants.{Negotiate}
 use Rattle.icu_locale_lines.specs.declared.work.Work.{Work}
 use Rattle.icu_locale_c.specs.Held.{Held, IsWorkOver}
 use Rattle.icu_locale_c.specs.declared.refusal.Refusal.{Refusal}
@@ -21,5 +21,5 @@ pub record IsLineOf (h : Held) (asked : LineCommand) (line whole : List ℕ) (ac
 abbrev pub IsRefusedLine : Held → LineCommand → Refusal → Type 0
 IsRefusedLine h asked refusal.Memory = has_tables (Lines asked) h.tables ≡ true
 IsRefusedLine h asked refusal.Table = has_tables (Lines asked) h.tables ≡ false
-IsRefusedLine h asked refusal.Negotiate = (asked ≡ Negotiate) × (h.available ≡ None)
+IsRefusedLine h asked refusal.Negotiate = (asked.task ≡ Negotiate) × (h.available ≡ None)
 IsRefusedLine h asked e = ⊥

@@ -7,24 +7,24 @@ use Rattle.icu_tables.specs.File.{rows_in}
 use Rattle.icu_tables.specs.declared.error.TableError.TheVariants as table
 use Rattle.icu_tables.specs.declared.tables.Tables.{Tables}
 use Rattle.icu_locale_lines.specs.Answers.{IsAnswer}
-use Rattle.icu_locale_lines.specs.Commands.{AreCommandWords, has_tables}
+use Rattle.icu_locale_lines.specs.Commands.{AreStreamWords, has_tables}
 use Rattle.icu_locale_lines.specs.Lists.{is_space}
 use Rattle.icu_locale_lines.specs.WholeRuns.{TellsSettled}
 use Rattle.icu_locale_lines.specs.declared.command.Command.TheVariants.{Settled, Lines}
 use Rattle.icu_locale_lines.specs.declared.command.LineCommand.{LineCommand}
-use Rattle.icu_locale_lines.specs.declared.command.LineCommand.TheVariants.{Negotiate}
+use Rattle.icu_locale_lines.specs.declared.command.Task.TheVariants.{Negotiate}
 use Rattle.icu_locale_lines.specs.declared.work.Work.{Work}
 use Rattle.icu_locale_c.specs.Held.{Held, IsWorkOver, without_list}
 use Rattle.icu_locale_c.specs.declared.refusal.Refusal.{Refusal}
 use Rattle.icu_locale_c.specs.declared.refusal.Refusal.TheVariants as refusal
 
--- a text names a command of the program: its words stand between single spaces
+-- a text names a command of a stream: its words stand between single spaces
 abbrev pub Names : List ℕ → LineCommand → Type 0
-Names command c = AreCommandWords (slice_split is_space command) (Lines c)
+Names command c = AreStreamWords (slice_split is_space command) (Lines c) false
 
 -- the words are those of no command that answers lines
 abbrev pub AreNoCommand : List (List ℕ) → Type 0
-AreNoCommand words = (c : LineCommand) → ¬ (AreCommandWords words (Lines c))
+AreNoCommand words = (c : LineCommand) → ¬ (AreStreamWords words (Lines c) false)
 
 -- a text in UTF-8 that names none
 abbrev pub NamesNone : List ℕ → Type 0
@@ -58,6 +58,10 @@ pub record NeedsTables (t : Tables) (command : List ℕ) (held : Bool) : Type 0 
   pub named : Names command asked
   pub are_held : has_tables (Lines asked) t ≡ held
 
+-- the text names a negotiation, in a syntax or none
+abbrev pub NamesNegotiate : List ℕ → Type 0
+NamesNegotiate command = (c : LineCommand) × Names command c × (c.task ≡ Negotiate)
+
 -- why there is no answer, whatever the room
 abbrev pub HasNoAnswer : Option Held → List ℕ → Refusal → Type 0
 HasNoAnswer held command refusal.Closed = held ≡ None
@@ -65,7 +69,7 @@ HasNoAnswer held command refusal.Memory = IsSomeAnd held (λ h. NeedsTables h.ta
 HasNoAnswer held command refusal.Command = IsSomeAnd held (λ h. NamesNone command)
 HasNoAnswer held command refusal.Table = IsSomeAnd held (λ h. NeedsTables h.tables command false)
 HasNoAnswer held command refusal.Negotiate =
-    IsSomeAnd held (λ h. Names command Negotiate × (h.available ≡ None))
+    IsSomeAnd held (λ h. NamesNegotiate command × (h.available ≡ None))
 HasNoAnswer held command e = ⊥
 
 -- why nothing is answered: too little room tells how much is wanted, and all else tells no length

@@ -1,9 +1,12 @@
 -- What a handle holds: tables, and a list of what is available where one was given.
-use Rattle.std.specs.Prelude.{◌≡◌, List, [], Option, Some, None}
+use Rattle.std.specs.Prelude.{◌≡◌, List, [], Option, Some, None, IsSomeAnd, option_map}
 use Rattle.std.specs.Coded.{Coded, code_by, coded×, coded_list, coded_option}
 use Rattle.icu_locale_core.specs.contracts.langid.LanguageIdentifier.{the_row as identifier_row}
 use Rattle.icu_locale_core.specs.declared.langid.LanguageIdentifier.{LanguageIdentifier}
-use Rattle.icu_locale.specs.Negotiation.{IsMadeOver, Negotiation}
+use Rattle.icu_locale.specs.Negotiation.{IsMadeOver, Negotiation, identifiers_of}
+use Rattle.icu_locale.specs.RuleSet.{rules_over}
+use Rattle.icu_locale.specs.Rules.{AreRules}
+use Rattle.icu_locale.specs.declared.canonicalizer.rules.ReadRules.{ReadRules}
 use Rattle.icu_locale.specs.LikelyTable.{likely}
 use Rattle.icu_locale.specs.LikelySubtags.{AreSettled}
 use Rattle.icu_locale.specs.declared.expander.LocaleExpander.{LocaleExpander}
@@ -11,11 +14,14 @@ use Rattle.icu_locale.specs.declared.negotiator.available.Available.{Available}
 use Rattle.icu_tables.specs.contracts.tables.Tables.{the_row as tables_row}
 use Rattle.icu_tables.specs.declared.tables.Tables.{Tables}
 use Rattle.icu_locale_lines.specs.Loads.{IsExpanderOf}
-use Rattle.icu_locale_lines.specs.Commands.{IsWorkOf}
+use Rattle.icu_locale_lines.specs.Commands.{AreToolsOf}
 use Rattle.icu_locale_lines.specs.declared.command.LineCommand.{LineCommand}
-use Rattle.icu_locale_lines.specs.declared.command.LineCommand.TheVariants.{Negotiate}
+use Rattle.icu_locale_extensions.specs.declared.syntax.Syntax.{Syntax}
+use Rattle.icu_locale_lines.specs.declared.command.Task.{Task}
+use Rattle.icu_locale_lines.specs.declared.command.Task.TheVariants.{Negotiate}
 use Rattle.icu_locale_lines.specs.declared.work.Work.{Work}
-use Rattle.icu_locale_lines.specs.declared.work.Work.TheVariants as work
+use Rattle.icu_locale_lines.specs.declared.work.Tools.{Tools}
+use Rattle.icu_locale_lines.specs.declared.work.Tools.TheVariants as tools
 
 -- tables, and the available identifiers, as they were handed in
 pub record Held : Type 0 where
@@ -30,11 +36,19 @@ without_list t = record { tables = t; available = None }
 abbrev pub with_list : Tables → List LanguageIdentifier → Held
 with_list t list = record { tables = t; available = Some list }
 
+-- tables, and the list that is kept of what is available, if one is
+abbrev pub held : Tables → Option Available → Held
+held t list = record { tables = t; available = option_map identifiers_of list }
+
 -- the code of what is held
 abbrev pub held_code : Coded Held
 held_code = code_by (Tables × Option (List LanguageIdentifier))
     (coded× tables_row.coded (coded_option (coded_list identifier_row.coded)))
     (λ h. (h.tables, h.available)) (λ p. record { tables = p.0; available = p.1 }) (λ h i. h)
+
+-- rules are what can be read of the aliases of the tables, which have some
+abbrev pub AreRulesOf : Tables → ReadRules → Type 0
+AreRulesOf t read = IsSomeAnd t.aliases (λ table. AreRules table (rules_over read table))
 
 -- a list was made over the tables, whatever the expander over them: they have one
 pub record IsListOver (t : Tables) (list : Available) : Type 0 where
@@ -48,7 +62,12 @@ pub record IsNegotiationOf (h : Held) (n : Negotiation) : Type 0 where
   pub settled : AreSettled (likely n.expander)
   pub available : h.available ≡ Some n.available
 
--- the work of a command over what is held; that of `negotiate` is over the list
-abbrev pub IsWorkOver : LineCommand → Held → Work → Type 0
-IsWorkOver Negotiate h (work.Negotiate n) = IsNegotiationOf h n
-IsWorkOver c h w = IsWorkOf c h.tables [] w
+-- the tools of a task over what is held; those of `negotiate` are over the list
+abbrev pub AreToolsOver : Option Syntax → Task → Held → Tools → Type 0
+AreToolsOver syntax Negotiate h (tools.Negotiate n) = IsNegotiationOf h n
+AreToolsOver syntax task h w = AreToolsOf syntax task h.tables [] w
+
+-- the work of a command over what is held
+pub record IsWorkOver (c : LineCommand) (h : Held) (work : Work) : Type 0 where
+  pub syntax : work.syntax ≡ c.syntax
+  pub tools : AreToolsOver c.syntax c.task h work.tools

@@ -7,27 +7,27 @@ use Rattle.icu_locale.specs.Negotiation.{Negotiation, IsNegotiated}
 use Rattle.icu_tables.specs.declared.tables.Tables.{Tables}
 use Rattle.icu_locale_lines.specs.Lists.{listed, SpellsAll, IsFirstFault}
 use Rattle.icu_locale_lines.specs.Loads.{has_likely}
-use Rattle.icu_locale_lines.specs.Commands.{IsUnsettled}
+use Rattle.icu_locale_lines.specs.Commands.{IsUnsettled, plain}
 use Rattle.icu_locale_lines.specs.declared.command.Command.TheVariants.{Lines}
-use Rattle.icu_locale_lines.specs.declared.command.LineCommand.TheVariants.{Negotiate}
+use Rattle.icu_locale_lines.specs.declared.command.Task.TheVariants.{Negotiate}
 use Rattle.icu_locale_c.specs.Held.{Held, IsNegotiationOf}
 use Rattle.icu_locale_c.specs.declared.refusal.Refusal.{Refusal}
 use Rattle.icu_locale_c.specs.declared.refusal.Refusal.TheVariants as refusal
 
 -- some text that a line lists spells no identifier
 abbrev pub HasFault : List ℕ → Type 0
-HasFault line = (e : ParseError) × IsFirstFault (listed line) e
+HasFault line = (e : ParseError) × IsFirstFault None (listed line) e
 
 -- each text that a line lists spells an identifier
 abbrev pub ListsIdentifiers : List ℕ → Type 0
-ListsIdentifiers line = (identifiers : List LanguageIdentifier) × SpellsAll (listed line) identifiers
+ListsIdentifiers line = (identifiers : List LanguageIdentifier) × SpellsAll None (listed line) identifiers
 
 -- the tables are held, with the list of a line over settled likely tables
 pub record IsListed (t : Tables) (list : List ℕ) (h : Held) : Type 0 where
   pub tables : h.tables ≡ t
   pub negotiation : Negotiation
   pub over : IsNegotiationOf h negotiation
-  pub spelled : SpellsAll (listed list) negotiation.available
+  pub spelled : SpellsAll None (listed list) negotiation.available
 
 -- why a line gives no list over tables: a likely table is asked first, then the line is read, and
 -- then the tables are asked whether they are settled
@@ -36,7 +36,7 @@ IsRefusedListing t list refusal.Memory = has_likely t ≡ true
 IsRefusedListing t list refusal.Table = has_likely t ≡ false
 IsRefusedListing t list refusal.List = (has_likely t ≡ true) × HasFault list
 IsRefusedListing t list refusal.Unsettled =
-    IsUnsettled (Lines Negotiate) t × ListsIdentifiers list
+    IsUnsettled (Lines (plain Negotiate)) t × ListsIdentifiers list
 IsRefusedListing t list e = ⊥
 
 -- the tables are held a second time, with a list, or what was held stays
@@ -51,7 +51,7 @@ IsAvailableCall from list old new (Err e) =
 -- a line lists requests, and these are the places of the first that is met and of what meets it
 pub record IsMet (h : Held) (line : List ℕ) (places : Option (ℕ × ℕ)) : Type 0 where
   pub requests : List LanguageIdentifier
-  pub spelled : SpellsAll (listed line) requests
+  pub spelled : SpellsAll None (listed line) requests
   pub negotiation : Negotiation
   pub over : IsNegotiationOf h negotiation
   pub met : IsNegotiated (likely negotiation.expander) requests negotiation.available places

@@ -11,7 +11,6 @@ mod lines;
 mod loose;
 mod negotiations;
 mod refusal;
-mod rules;
 mod shared;
 mod words;
 

@@ -1,86 +1,122 @@
-//! The program's line for a line, over tables without a list of what is available.
+//! The program's line for a line, over what a handle keeps.
 ghost use Rattle.std.specs.Prelude.{◌≡◌, ◌<◌, ◌-◌, take, length, IfOk, IfErr, IfSome};
-ghost use Rattle.icu_locale_lines.specs.Answers.{IsAnswer};
-ghost use Rattle.icu_locale_lines.specs.declared.command.LineCommand.TheVariants as command;
-ghost use Rattle.icu_locale_lines.specs.declared.work.Work.TheVariants as work;
+ghost use Rattle.icu_locale.specs.LikelyTable.{likely};
+ghost use Rattle.icu_locale.specs.RuleSet.{rules_over};
+ghost use Rattle.icu_locale_lines.specs.Answers.{IsCanonicalAnswer};
 ghost use Rattle.icu_locale_c.specs.Asked.{IsLineOf, IsRefusedLine};
 ghost use Rattle.icu_locale_c.specs.Calls.{Writes, unended};
-ghost use Rattle.icu_locale_c.specs.Held.{without_list};
-ghost use Rattle.icu_locale_c.specs.Rules.{AreKeptOf};
+ghost use Rattle.icu_locale_c.specs.Held.{AreRulesOf, IsListOver, held, without_list};
 
+use crate::negotiations::requests_line;
 use crate::refusal::Refusal;
-use crate::rules::{KeptRules, canonicalizer};
-use icu_locale::LocaleCanonicalizer;
-use icu_locale_lines::{Answer, CliError, LineCommand, Loaded, answer_locale, load_expander};
+use icu_locale::{Available, CanonicalizerRef, LocaleExpander, ReadRules};
+use icu_locale_extensions::Syntax;
+use icu_locale_lines::{CliError, LineCommand, Loaded, Task, answer_locale, load_expander};
+use icu_provider::Aliases;
 use icu_tables::Tables;
 use std::alloc::Global;
-use std::mem::replace;
 
-// The line of a command that keeps nothing, in the room of an earlier one.
-pub fn line_over(
+// The line of a command, in the room of an earlier one, and whether the line that was read is accepted. Rules are read
+// where they are asked for and none are kept, and are kept then.
+pub fn line_of(
+    alloc: Global,
+    tables: &Tables,
+    rules: &mut Option<ReadRules>,
+    list: &Option<Available>,
+    asked: &LineCommand,
+    room: &mut Vec<u8>,
+    line: &[u8],
+) -> Result<bool, Refusal>
+    requires rules { IfSome rules.old (AreRulesOf tables.now) }
+    requires list { IfSome list.now (IsListOver tables.now) }
+    ensures rules { IfSome rules.new (AreRulesOf tables.now) }
+    ensures answered { IfOk result (IsLineOf (held tables.now list.now) asked.now line.now
+        room.new.items) }
+    ensures refused { IfErr result (IsRefusedLine (held tables.now list.now) asked.now) }
+{
+    match asked.task {
+        Task::Negotiate => match list {
+            Some(list) => requests_line(tables, list, asked, room, line),
+            None => Err(Refusal::Negotiate),
+        },
+        Task::Canonicalize => locale_line(alloc, tables, rules, asked, room, line),
+        _ => plain_line(alloc, tables, asked, room, line),
+    }
+}
+
+// The line of a command that keeps nothing.
+fn plain_line(
     alloc: Global,
     tables: &Tables,
     asked: &LineCommand,
     room: &mut Vec<u8>,
     line: &[u8],
-) -> Result<Answer, Refusal>
-    ensures answered { IfOk result (λ a. IsLineOf (without_list tables.now) asked.now line.now
-        a.text.items a.accepted) }
+) -> Result<bool, Refusal>
+    ensures answered { IfOk result (IsLineOf (without_list tables.now) asked.now line.now
+        room.new.items) }
     ensures refused { IfErr result (IsRefusedLine (without_list tables.now) asked.now) }
 {
     match Loaded::load(alloc, asked, tables) {
-        Ok(Loaded::Ready(work)) => match work.answer(replace(room, Vec::new(alloc)), line) {
-            Ok(answer) => Ok(answer),
+        Ok(Loaded::Ready(work)) => match work.answer(room, line) {
+            Ok(accepted) => Ok(accepted),
             Err(_) => Err(Refusal::Memory),
         },
-        Ok(Loaded::Negotiate(_)) => Err(Refusal::Negotiate),
+        Ok(Loaded::Negotiate(_, _)) => Err(Refusal::Negotiate),
         Err(CliError::Data(_)) => Err(Refusal::Table),
         Err(CliError::NotSettled) => Err(Refusal::Negotiate),
         Err(_) => Err(Refusal::Memory),
     }
 }
 
-// The line of a locale's canonical form, in the room of an earlier one, and the rules, which are read where none
-// are kept.
-pub fn canonicalize(
+// The line of a locale's canonical form.
+fn locale_line(
     alloc: Global,
     tables: &Tables,
-    kept: Option<KeptRules>,
+    rules: &mut Option<ReadRules>,
+    asked: &LineCommand,
     room: &mut Vec<u8>,
     line: &[u8],
-) -> (Result<Answer, Refusal>, Option<KeptRules>)
-    requires { IfSome kept (AreKeptOf tables.now) }
-    ensures rules { IfSome result.1 (AreKeptOf tables.now) }
-    ensures answered { IfOk result.0 (λ a. IsLineOf (without_list tables.now) command.Canonicalize
-        line.now a.text.items a.accepted) }
-    ensures refused { IfErr result.0 (IsRefusedLine (without_list tables.now)
-        command.Canonicalize) }
+) -> Result<bool, Refusal>
+    requires rules { IfSome rules.old (AreRulesOf tables.now) }
+    requires task { asked.now.task ≡ Task.Canonicalize }
+    ensures rules { IfSome rules.new (AreRulesOf tables.now) }
+    ensures answered { IfOk result (IsLineOf (without_list tables.now) asked.now line.now
+        room.new.items) }
+    ensures refused { IfErr result (IsRefusedLine (without_list tables.now) asked.now) }
 {
     let Ok(expander) = load_expander(tables) else {
-        return (Err(Refusal::Table), kept);
+        return Err(Refusal::Table);
     };
     let Some(aliases) = &tables.aliases else {
-        return (Err(Refusal::Table), kept);
+        return Err(Refusal::Table);
     };
-    let canonicalizer = match canonicalizer(alloc, aliases, expander, kept) {
-        Ok(canonicalizer) => canonicalizer,
-        Err(refusal) => return (Err(refusal), None),
+    if let Some(read) = &*rules {
+        return line_by(read, aliases, expander, asked.syntax, room, line);
+    }
+    let Ok(read) = ReadRules::read(alloc, aliases) else {
+        return Err(Refusal::Memory);
     };
-    let answer = locale_line(replace(room, Vec::new(alloc)), &canonicalizer, line);
-    (answer, Some(KeptRules::of(canonicalizer)))
+    let outcome = line_by(&read, aliases, expander, asked.syntax, room, line);
+    *rules = Some(read);
+    outcome
 }
 
-fn locale_line(
-    room: Vec<u8>,
-    canonicalizer: &LocaleCanonicalizer<'_>,
+// The same by rules that were read.
+fn line_by(
+    read: &ReadRules,
+    aliases: &Aliases,
+    expander: LocaleExpander<'_>,
+    syntax: Option<Syntax>,
+    room: &mut Vec<u8>,
     line: &[u8],
-) -> Result<Answer, Refusal>
-    ensures answered { IfOk result (λ a. IsAnswer (work.Canonicalize canonicalizer.now) line.now
-        a.text.items a.accepted) }
+) -> Result<bool, Refusal>
+    ensures answered { IfOk result (IsCanonicalAnswer syntax (likely expander.entry)
+        (rules_over read.now aliases.now) line.now room.new.items) }
     ensures refused { IfErr result (λ e. e ≡ Refusal.Memory) }
 {
-    match answer_locale(room, canonicalizer, line) {
-        Ok(answer) => Ok(answer),
+    let canonicalizer = CanonicalizerRef::over(read, aliases, expander);
+    match answer_locale(room, &canonicalizer, syntax, line) {
+        Ok(accepted) => Ok(accepted),
         Err(_) => Err(Refusal::Memory),
     }
 }

@@ -1,34 +1,30 @@
 //! A list of what is available, kept beside the tables over which it was made, and negotiation over it.
-ghost use Rattle.std.specs.Prelude.{◌≡◌, IfOk, IfErr};
+ghost use Rattle.std.specs.Prelude.{◌≡◌, None, IfOk, IfErr};
 ghost use Rattle.icu_locale.specs.Negotiation.{identifiers_of};
-ghost use Rattle.icu_locale_lines.specs.Answers.{IsAnswer};
 ghost use Rattle.icu_locale_lines.specs.Lists.{listed, SpellsAll};
-ghost use Rattle.icu_locale_lines.specs.declared.command.LineCommand.TheVariants as command;
-ghost use Rattle.icu_locale_lines.specs.declared.work.Work.TheVariants as work;
 ghost use Rattle.icu_locale_c.specs.Asked.{IsLineOf, IsRefusedLine};
 ghost use Rattle.icu_locale_c.specs.Held.{IsListOver, with_list};
 ghost use Rattle.icu_locale_c.specs.Negotiations.{IsMet, IsRefusedListing, IsRefusedRequests};
 
 use crate::refusal::Refusal;
-use icu_locale::{Available, Negotiator};
+use icu_locale::{Available, NegotiatorRef};
 use icu_locale_core::ParseError;
 use icu_locale_lines::{
-    Answer, CliError, answer_requests, list_available, load_expander, read_list,
+    CliError, LineCommand, Task, answer_requests, list_available, load_expander, read_list,
 };
 use icu_tables::Tables;
 use std::alloc::Global;
-use std::mem::replace;
 
 // The list that a line lists, over tables that have to be settled.
 pub fn read_available(alloc: Global, tables: &Tables, line: &[u8]) -> Result<Available, Refusal>
-    ensures spelled { IfOk result (λ a. SpellsAll (listed line.now) (identifiers_of a)) }
+    ensures spelled { IfOk result (λ a. SpellsAll None (listed line.now) (identifiers_of a)) }
     ensures over { IfOk result (IsListOver tables.now) }
     ensures refused { IfErr result (IsRefusedListing tables.now line.now) }
 {
     let Ok(expander) = load_expander(tables) else {
         return Err(Refusal::Table);
     };
-    match list_available(alloc, expander, line) {
+    match list_available(alloc, expander, None, line) {
         Ok(negotiator) => Ok(negotiator.into_available()),
         Err(CliError::Available(_)) => Err(Refusal::List),
         Err(CliError::NotSettled) => Err(Refusal::Unsettled),
@@ -36,63 +32,49 @@ pub fn read_available(alloc: Global, tables: &Tables, line: &[u8]) -> Result<Ava
     }
 }
 
-// The program's line for a line of requests, in the room of an earlier one, and the list again.
+// The program's line for a line of requests, in the room of an earlier one.
 pub fn requests_line(
-    alloc: Global,
     tables: &Tables,
-    list: Available,
+    list: &Available,
+    asked: &LineCommand,
     room: &mut Vec<u8>,
     line: &[u8],
-) -> (Result<Answer, Refusal>, Available)
-    requires { IsListOver tables.now list }
-    ensures over { IsListOver tables.now result.1 }
-    ensures same { identifiers_of result.1 ≡ identifiers_of list }
-    ensures answered { IfOk result.0 (λ a. IsLineOf (with_list tables.now (identifiers_of list))
-        command.Negotiate line.now a.text.items a.accepted) }
-    ensures refused { IfErr result.0 (IsRefusedLine
-        (with_list tables.now (identifiers_of list)) command.Negotiate) }
+) -> Result<bool, Refusal>
+    requires list { IsListOver tables.now list.now }
+    requires task { asked.now.task ≡ Task.Negotiate }
+    ensures answered { IfOk result (IsLineOf (with_list tables.now (identifiers_of list.now))
+        asked.now line.now room.new.items) }
+    ensures refused { IfErr result (IsRefusedLine
+        (with_list tables.now (identifiers_of list.now)) asked.now) }
 {
     let Ok(expander) = load_expander(tables) else {
-        return (Err(Refusal::Memory), list);
+        return Err(Refusal::Memory);
     };
-    let negotiator = Negotiator::over(expander, list);
-    let answer = list_line(replace(room, Vec::new(alloc)), &negotiator, line);
-    (answer, negotiator.into_available())
-}
-
-fn list_line(room: Vec<u8>, negotiator: &Negotiator<'_>, line: &[u8]) -> Result<Answer, Refusal>
-    ensures answered { IfOk result (λ a. IsAnswer (work.Negotiate negotiator.now) line.now
-        a.text.items a.accepted) }
-    ensures refused { IfErr result (λ e. e ≡ Refusal.Memory) }
-{
-    match answer_requests(room, negotiator, line) {
-        Ok(answer) => Ok(answer),
+    let negotiator = NegotiatorRef::over(expander, list);
+    match answer_requests(room, &negotiator, asked.syntax, line) {
+        Ok(accepted) => Ok(accepted),
         Err(_) => Err(Refusal::Memory),
     }
 }
 
-// The places of the first request of a line that is met and of what meets it, and the list again.
+// The places of the first request of a line that is met and of what meets it.
 pub fn negotiate(
     alloc: Global,
     tables: &Tables,
-    list: Available,
+    list: &Available,
     line: &[u8],
-) -> (Result<Option<(usize, usize)>, Refusal>, Available)
-    requires { IsListOver tables.now list }
-    ensures over { IsListOver tables.now result.1 }
-    ensures same { identifiers_of result.1 ≡ identifiers_of list }
-    ensures met { IfOk result.0 (IsMet (with_list tables.now (identifiers_of list)) line.now) }
-    ensures refused { IfErr result.0 (IsRefusedRequests line.now) }
+) -> Result<Option<(usize, usize)>, Refusal>
+    requires { IsListOver tables.now list.now }
+    ensures met { IfOk result (IsMet (with_list tables.now (identifiers_of list.now)) line.now) }
+    ensures refused { IfErr result (IsRefusedRequests line.now) }
 {
-    let requests = match read_list(alloc, line) {
+    let requests = match read_list(alloc, None, line) {
         Ok(requests) => requests,
-        Err(ParseError::Memory) => return (Err(Refusal::Memory), list),
-        Err(_) => return (Err(Refusal::List), list),
+        Err(ParseError::Memory) => return Err(Refusal::Memory),
+        Err(_) => return Err(Refusal::List),
     };
     let Ok(expander) = load_expander(tables) else {
-        return (Err(Refusal::Memory), list);
+        return Err(Refusal::Memory);
     };
-    let negotiator = Negotiator::over(expander, list);
-    let places = negotiator.negotiate(&requests);
-    (Ok(places), negotiator.into_available())
+    Ok(NegotiatorRef::over(expander, list).negotiate(&requests))
 }

@@ -1,30 +1,25 @@
 //! Tables that several handles have, and what one of them keeps beside them.
-ghost use Rattle.std.specs.Prelude.{◌≡◌, Some, IfOk, IfErr, IfSome, option_map};
-ghost use Rattle.icu_locale.specs.Negotiation.{identifiers_of};
-ghost use Rattle.icu_locale_c.specs.Asked.{IsLineOf, IsRefusedLine};
+ghost use Rattle.std.specs.Prelude.{◌≡◌, Some, IfOk, IfErr, IfSome};
 ghost use Rattle.icu_locale_c.specs.Calls.{IsCall, IsSettledCall};
-ghost use Rattle.icu_locale_c.specs.Held.{Held, IsListOver, held_code, without_list};
+ghost use Rattle.icu_locale_c.specs.Held.{Held, AreRulesOf, IsListOver, held, held_code, without_list};
 ghost use Rattle.icu_locale_c.specs.Negotiations.{IsListed, IsMet, IsRefusedListing, IsRefusedNegotiation};
-ghost use Rattle.icu_locale_c.specs.Rules.{AreKeptOf};
 
-use crate::lines::{canonicalize, line_over, put_line};
-use crate::negotiations::{negotiate, read_available, requests_line};
+use crate::lines::{line_of, put_line};
+use crate::negotiations::{negotiate, read_available};
 use crate::refusal::Refusal;
-use crate::rules::KeptRules;
 use crate::words::read_command;
-use icu_locale::Available;
-use icu_locale_lines::{Answer, LineCommand, load_expander};
+use icu_locale::{Available, ReadRules};
+use icu_locale_lines::load_expander;
 use icu_tables::Tables;
 use std::alloc::Global;
 use std::marker::Model;
-use std::mem::replace;
 use std::sync::Arc;
 
 // Tables, the rules that were read of them and the list of what is available, where there are any, and the room of the
 // last answer.
 pub struct Shared {
     tables: Arc<Tables>,
-    rules: Option<KeptRules>,
+    rules: Option<ReadRules>,
     available: Option<Available>,
     room: Vec<u8>,
 }
@@ -34,12 +29,9 @@ impl Model for Shared {
 
     ghost coded = { held_code };
 
-    ghost view = { λ s. record {
-      tables = s.tables.value;
-      available = option_map identifiers_of s.available;
-    } };
+    ghost view = { λ s. held s.tables.value s.available };
 
-    ghost invariant = { λ s. IfSome s.rules (AreKeptOf s.tables.value)
+    ghost invariant = { λ s. IfSome s.rules (AreRulesOf s.tables.value)
         × IfSome s.available (IsListOver s.tables.value) };
 }
 
@@ -89,21 +81,14 @@ impl Shared {
     }
 
     // The places of the first request of a line that is met and of what meets it.
-    pub fn negotiate(
-        &mut self,
-        alloc: Global,
-        line: &[u8],
-    ) -> Result<Option<(usize, usize)>, Refusal>
-        ensures kept { self.new ≡ self.old }
-        ensures met { IfOk result (IsMet self.old line.now) }
-        ensures refused { IfErr result (IsRefusedNegotiation self.old line.now) }
+    pub fn negotiate(&self, alloc: Global, line: &[u8]) -> Result<Option<(usize, usize)>, Refusal>
+        ensures met { IfOk result (IsMet self.now line.now) }
+        ensures refused { IfErr result (IsRefusedNegotiation self.now line.now) }
     {
-        let Some(list) = replace(&mut self.available, None) else {
+        let Some(list) = &self.available else {
             return Err(Refusal::Negotiate);
         };
-        let (places, list) = negotiate(alloc, &self.tables, list, line);
-        self.available = Some(list);
-        places
+        negotiate(alloc, &self.tables, list, line)
     }
 
     pub fn is_settled(&self) -> Result<bool, Refusal>
@@ -133,53 +118,21 @@ impl Shared {
             Ok(asked) => asked,
             Err(refusal) => return Err(refusal),
         };
-        let Answer { text, accepted } = match self.line(alloc, &asked, line) {
-            Ok(answer) => answer,
+        let accepted = match line_of(
+            alloc,
+            &self.tables,
+            &mut self.rules,
+            &self.available,
+            &asked,
+            &mut self.room,
+            line,
+        ) {
+            Ok(accepted) => accepted,
             Err(refusal) => return Err(refusal),
         };
-        let put = put_line(text.as_slice(), out, written);
-        self.room = text;
-        match put {
+        match put_line(self.room.as_slice(), out, written) {
             Ok(()) => Ok(accepted),
             Err(refusal) => Err(refusal),
-        }
-    }
-
-    // The program's line for a line.
-    fn line(&mut self, alloc: Global, asked: &LineCommand, line: &[u8]) -> Result<Answer, Refusal>
-        ensures kept { self.new ≡ self.old }
-        ensures answered { IfOk result (λ a. IsLineOf self.old asked.now line.now a.text.items
-            a.accepted) }
-        ensures refused { IfErr result (IsRefusedLine self.old asked.now) }
-    {
-        match asked {
-            LineCommand::Negotiate => {
-                let Some(list) = replace(&mut self.available, None) else {
-                    return Err(Refusal::Negotiate);
-                };
-                let (outcome, list) = requests_line(
-                    alloc,
-                    &self.tables,
-                    list,
-                    &mut self.room,
-                    line,
-                );
-                self.available = Some(list);
-                outcome
-            }
-            LineCommand::Canonicalize => {
-                let kept = replace(&mut self.rules, None);
-                let (outcome, rules) = canonicalize(
-                    alloc,
-                    &self.tables,
-                    kept,
-                    &mut self.room,
-                    line,
-                );
-                self.rules = rules;
-                outcome
-            }
-            _ => line_over(alloc, &self.tables, asked, &mut self.room, line),
         }
     }
 }
@@ -190,10 +143,7 @@ fn boxed(
     available: Option<Available>,
 ) -> Result<Box<Shared>, Refusal>
     requires { IfSome available (IsListOver tables.value) }
-    ensures made { IfOk result (λ b. b.value ≡ record {
-      tables = tables.value;
-      available = option_map identifiers_of available;
-    }) }
+    ensures made { IfOk result (λ b. b.value ≡ held tables.value available) }
     ensures refused { IfErr result (λ e. e ≡ Refusal.Memory) }
 {
     let shared = Shared {

@@ -1,17 +1,19 @@
 //! The command that a text names.
-ghost use Rattle.std.specs.Prelude.{◌≡◌, ◌∷◌, [], codes, IfOk, IfErr};
+ghost use Rattle.std.specs.Prelude.{◌≡◌, ◌∷◌, [], Some, codes, IfOk, IfErr};
 ghost use Rattle.std.specs.List.{slice_split};
 ghost use Rattle.std.specs.Option.{MatchOption};
-ghost use Rattle.icu_locale_lines.specs.Commands.{AreCommandWords};
+ghost use Rattle.icu_locale_lines.specs.Commands.{AreCommandWords, AreTaskWords};
 ghost use Rattle.icu_locale_lines.specs.Lists.{is_space};
 ghost use Rattle.icu_locale_lines.specs.declared.command.Command.TheVariants.{Lines};
 ghost use Rattle.icu_locale_c.specs.Calls.{AreNoCommand, Names, NamesNone};
+ghost use Rattle.icu_locale_c.specs.inner.Words.{AreNoPlain};
 
 use crate::refusal::Refusal;
-use icu_locale_lines::{CliError, Command, LineCommand};
+use icu_locale_extensions::Syntax;
+use icu_locale_lines::{Command, LineCommand, syntax_of};
 use std::alloc::Global;
 
-// The command that a text names: the program's words, one space between two.
+// The command that a text names: the stream's words, one space between two.
 pub fn read_command(alloc: Global, text: &[u8]) -> Result<LineCommand, Refusal>
     ensures named { IfOk result (Names text.now) }
     ensures refused { IfErr result (λ e. (e ≡ Refusal.Command) × NamesNone text.now) }
@@ -28,6 +30,36 @@ fn command_in(alloc: Global, text: &str) -> Result<LineCommand, Refusal>
         × AreNoCommand (slice_split is_space text.now)) }
 {
     match cut(text) {
+        Some((word, rest)) => match syntax_of(word) {
+            Some(syntax) => with_syntax(alloc, syntax, rest),
+            None => plain_in(alloc, text),
+        },
+        None => plain_in(alloc, text),
+    }
+}
+
+// The command of the words behind that of a syntax.
+fn with_syntax(alloc: Global, syntax: Syntax, rest: &str) -> Result<LineCommand, Refusal>
+    ensures named { IfOk result (λ c. (c.syntax ≡ Some syntax)
+        × AreTaskWords (slice_split is_space rest.now) c.task) }
+    ensures refused { IfErr result (λ e. (e ≡ Refusal.Command)
+        × AreNoPlain (slice_split is_space rest.now)) }
+{
+    let LineCommand { syntax: _, task } = plain_in(alloc, rest)?;
+    Ok(LineCommand {
+        syntax: Some(syntax),
+        task,
+    })
+}
+
+// The command of the words without that of a syntax.
+fn plain_in(alloc: Global, text: &str) -> Result<LineCommand, Refusal>
+    ensures named { IfOk result (λ c. AreCommandWords (slice_split is_space text.now)
+        (Lines c)) }
+    ensures refused { IfErr result (λ e. (e ≡ Refusal.Command)
+        × AreNoPlain (slice_split is_space text.now)) }
+{
+    match cut(text) {
         Some((word, rest)) => {
             if word == "name" {
                 named_in(alloc, rest)
@@ -42,7 +74,7 @@ fn command_in(alloc: Global, text: &str) -> Result<LineCommand, Refusal>
 fn one_word(word: &str) -> Result<LineCommand, Refusal>
     ensures named { IfOk result (λ c. AreCommandWords (word.now ∷ []) (Lines c)) }
     ensures refused { IfErr result
-        (λ e. (e ≡ Refusal.Command) × AreNoCommand (word.now ∷ [])) }
+        (λ e. (e ≡ Refusal.Command) × AreNoPlain (word.now ∷ [])) }
 {
     match Command::from_word(word) {
         Ok(Command::Lines(command)) => Ok(command),
@@ -55,7 +87,7 @@ fn named_in(alloc: Global, rest: &str) -> Result<LineCommand, Refusal>
     ensures named { IfOk result (λ c. AreCommandWords
         (codes "name" ∷ slice_split is_space rest.now) (Lines c)) }
     ensures refused { IfErr result (λ e. (e ≡ Refusal.Command)
-        × AreNoCommand (codes "name" ∷ slice_split is_space rest.now)) }
+        × AreNoPlain (codes "name" ∷ slice_split is_space rest.now)) }
 {
     match cut(rest) {
         Some((chain, text)) => named_by(alloc, chain, text),
@@ -68,7 +100,7 @@ fn named_by(alloc: Global, chain: &str, text: &str) -> Result<LineCommand, Refus
     ensures named { IfOk result (λ c. AreCommandWords
         (codes "name" ∷ chain.now ∷ slice_split is_space text.now) (Lines c)) }
     ensures refused { IfErr result (λ e. (e ≡ Refusal.Command)
-        × AreNoCommand (codes "name" ∷ chain.now ∷ slice_split is_space text.now)) }
+        × AreNoPlain (codes "name" ∷ chain.now ∷ slice_split is_space text.now)) }
 {
     match cut(text) {
         Some(_) => Err(Refusal::Command),
@@ -80,7 +112,7 @@ fn named(alloc: Global, chain: &str, text: &str) -> Result<LineCommand, Refusal>
     ensures named { IfOk result (λ c. AreCommandWords
         (codes "name" ∷ chain.now ∷ text.now ∷ []) (Lines c)) }
     ensures refused { IfErr result (λ e. (e ≡ Refusal.Command)
-        × AreNoCommand (codes "name" ∷ chain.now ∷ text.now ∷ [])) }
+        × AreNoPlain (codes "name" ∷ chain.now ∷ text.now ∷ [])) }
 {
     match Command::name(alloc, chain, text) {
         Ok(Command::Lines(command)) => Ok(command),

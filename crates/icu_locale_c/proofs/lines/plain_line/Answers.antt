@@ -1,7 +1,7 @@
 use Rattle.std.proofs.Common.{subst}
 use Rattle.icu_locale_lines.specs.Commands.{IsLoaded}
 use Rattle.icu_locale_c.proofs.HeldLines.{work_without_list}
-use Rattle.icu_locale_c.proofs.lines.line_over.Goals as goal
+use Rattle.icu_locale_c.proofs.lines.plain_line.Goals as goal
 
 pub returns-in-Ok-clause-answered : goal.returns-in-Ok-clause-answered
 returns-in-Ok-clause-answered c = record {

@@ -1,19 +1,22 @@
-use Rattle.std.proofs.Common.{rules, refl, ap, codes, ◌≡◌, ◌≢◌, ◌∷◌, ◌∙◌, [], subst, sym}
+use Rattle.std.proofs.Common.{◌≡◌, sym, ◌∙◌, rules}
 use Rattle.std.specs.List.{slice_split}
 use Rattle.icu_locale_lines.specs.Lists.{is_space}
-use Rattle.icu_locale_c.specs.Calls.{AreNoCommand}
-use Rattle.icu_locale_c.proofs.CommandTexts.{none_of_others, some_word, same_words}
+use Rattle.icu_locale_c.proofs.CommandTexts.{alone_refused, other_refused, syntax_named, syntax_refused}
 use Rattle.icu_locale_c.proofs.words.command_in.Goals as goal
 
-pub returns-then-eq-clause-refused : goal.returns-then-eq-clause-refused
-returns-then-eq-clause-refused c =
-    let name : c.in-Some.word.now ≡ codes "name" = search rules in
-    same_words (slice_split is_space c.args.text.now) (codes "name" ∷ slice_split is_space c.in-Some.rest.now) (c.in-Some.ensures ∙ ap (λ w. w ∷ slice_split is_space c.in-Some.rest.now) name) c.named_in.result c.named_in.ensures.refused
+pub returns-in-Some-syntax_of-clause-named : goal.returns-in-Some-syntax_of-clause-named
+returns-in-Some-syntax_of-clause-named c =
+    syntax_named c.args.text.now c.in-Some.rest.now c.in-Some.word.now c.in-Some-syntax_of.syntax c.in-Some.ensures c.in-Some-syntax_of.ensures.named c.with_syntax.result c.with_syntax.ensures.named
 
-pub returns-else-eq-clause-refused : goal.returns-else-eq-clause-refused
-returns-else-eq-clause-refused c =
-    let other : c.in-Some.word.now ≢ codes "name" = search rules in
-    (refl, subst AreNoCommand (sym c.in-Some.ensures) (none_of_others c.in-Some.word.now (slice_split is_space c.in-Some.rest.now) (some_word c.in-Some.rest.now) other))
+pub returns-in-Some-syntax_of-clause-refused : goal.returns-in-Some-syntax_of-clause-refused
+returns-in-Some-syntax_of-clause-refused c =
+    syntax_refused c.args.text.now c.in-Some.rest.now c.in-Some.word.now c.in-Some-syntax_of.syntax c.in-Some.ensures c.in-Some-syntax_of.ensures.named c.with_syntax.result c.with_syntax.ensures.refused
 
+-- the first word is that of no syntax
+pub returns-in-None-syntax_of-clause-refused : goal.returns-in-None-syntax_of-clause-refused
+returns-in-None-syntax_of-clause-refused c =
+    other_refused c.args.text.now c.plain_in.result c.in-Some.word.now (slice_split is_space c.in-Some.rest.now) c.in-Some.ensures (λ s is. let found = c.syntax_of.ensures.only s is in search rules) c.plain_in.ensures.refused
+
+-- there is one word
 pub returns-in-None-clause-refused : goal.returns-in-None-clause-refused
-returns-in-None-clause-refused c = same_words (slice_split is_space c.args.text.now) (c.args.text.now ∷ []) c.in-None.ensures c.one_word.result c.one_word.ensures.refused
+returns-in-None-clause-refused c = alone_refused c.args.text.now c.plain_in-in-None.result c.in-None.ensures c.plain_in-in-None.ensures.refused

@@ -1,0 +1,19 @@
+use Rattle.std.proofs.Common.{rules, refl, ap, codes, ◌≡◌, ◌≢◌, ◌∷◌, ◌∙◌, [], subst, sym}
+use Rattle.std.specs.List.{slice_split}
+use Rattle.icu_locale_lines.specs.Lists.{is_space}
+use Rattle.icu_locale_c.specs.inner.Words.{AreNoPlain}
+use Rattle.icu_locale_c.proofs.CommandTexts.{none_of_others, some_word, same_words}
+use Rattle.icu_locale_c.proofs.words.plain_in.Goals as goal
+
+pub returns-then-eq-clause-refused : goal.returns-then-eq-clause-refused
+returns-then-eq-clause-refused c =
+    let name : c.in-Some.word.now ≡ codes "name" = search rules in
+    same_words (slice_split is_space c.args.text.now) (codes "name" ∷ slice_split is_space c.in-Some.rest.now) (c.in-Some.ensures ∙ ap (λ w. w ∷ slice_split is_space c.in-Some.rest.now) name) c.named_in.result c.named_in.ensures.refused
+
+pub returns-else-eq-clause-refused : goal.returns-else-eq-clause-refused
+returns-else-eq-clause-refused c =
+    let other : c.in-Some.word.now ≢ codes "name" = search rules in
+    (refl, subst AreNoPlain (sym c.in-Some.ensures) (none_of_others c.in-Some.word.now (slice_split is_space c.in-Some.rest.now) (some_word c.in-Some.rest.now) other))
+
+pub returns-in-None-clause-refused : goal.returns-in-None-clause-refused
+returns-in-None-clause-refused c = same_words (slice_split is_space c.args.text.now) (c.args.text.now ∷ []) c.in-None.ensures c.one_word.result c.one_word.ensures.refused
