@@ -3,6 +3,14 @@
 /** A text: a string, or its bytes. */
 export type Text = string | Uint8Array;
 
+/**
+ * How a text is read: a locale identifier of UTS #35, besides a tag of RFC 5646, or besides a name of a POSIX locale.
+ * `locales` where none is named.
+ */
+export interface Reading {
+  syntax?: 'locales' | 'bcp47' | 'posix';
+}
+
 /** Why a call gives no answer. */
 export type Code =
   | 'Closed' | 'Memory' | 'Json' | 'Shape' | 'Command' | 'Table' | 'Negotiate' | 'List' | 'Unsettled'
@@ -56,18 +64,18 @@ export class Tables {
   ): string | null;
   /** What the program icu_locale_cli answers to a line, by the words of a command. */
   answer(command: Text, line: Text): string;
-  /** The maximal form: with the likely script and region. */
-  maximize(identifier: Text): string;
+  /** The maximal form: with the likely script and region. Extensions stay. */
+  maximize(identifier: Text, options?: Reading): string;
   /** The minimal form: the shortest with the same maximal form. */
-  minimize(identifier: Text, options?: { favorScript?: boolean }): string;
-  /** The canonical form. */
-  canonicalize(identifier: Text): string;
-  /** The canonical form, and that of a value at the key `rg`. */
+  minimize(identifier: Text, options?: Reading & { favorScript?: boolean }): string;
+  /** The canonical form, that of the language after `t` and of the values at `rg` and `sd` too. */
+  canonicalize(identifier: Text, options?: Reading): string;
+  /** The canonical form of an identifier alone, and that of a value at the key `rg`. */
   canonicalize(identifier: Text, value: Text): [string, string];
   /** Which way the likely script runs; null where that is not known. */
-  direction(identifier: Text): 'ltr' | 'rtl' | null;
-  /** The name, in the language of the preferences. The chain is `light` where none is named. */
-  name(identifier: Text, preferences: string, chain?: string): string;
+  direction(identifier: Text, options?: Reading): 'ltr' | 'rtl' | null;
+  /** The name without extensions, in the language of the preferences. The chain is `light` where none is named. */
+  name(identifier: Text, preferences: string, chain?: string, options?: Reading): string;
   /** Whether the likely tables are settled. It looks at each row. */
   isSettled(): boolean;
   /** Lets the tables go. A second call does nothing. */

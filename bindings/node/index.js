@@ -13,6 +13,7 @@ const LINE_REFUSED = 1;
 const LIST = 10;
 const NOT_MET = 1;
 const COMMANDS = new Map();
+const SYNTAXES = ['locales', 'bcp47', 'posix'];
 
 function addon() {
   try {
@@ -96,6 +97,11 @@ function answered(held, command, line) {
   throw new Refused(number === LINE_REFUSED ? text.split('\t')[1] : NUMBERS[number]);
 }
 
+// What stands before the mark of an answer.
+function beforeMark(answer) {
+  return answer.slice(0, answer.lastIndexOf('\t'));
+}
+
 /** Tables, by `Tables.fromJson`. */
 class Tables {
   #at;
@@ -148,11 +154,14 @@ class Tables {
   switcher(available, { further } = {}) {
     const list = listed(available);
     const canonical = list.map((tag, place) => {
+      let bare = null;
       try {
-        return this.canonicalize(withoutExtensions(tag));
+        bare = withoutExtensions(this.canonicalize(tag, { syntax: 'bcp47' }));
       } catch (refused) {
-        throw /^Invalid/.test(refused.code) ? noIdentifier(place, tag) : refused;
+        if (!/^Invalid/.test(refused.code)) throw refused;
       }
+      if (bare === null) throw noIdentifier(place, tag);
+      return bare;
     });
     return new Switcher(this.negotiator(canonical), list, formsListed(further));
   }
@@ -184,39 +193,45 @@ class Tables {
     return this.#at;
   }
 
-  #form(command, line) {
-    const answer = this.answer(command, line);
-    return answer.slice(0, answer.lastIndexOf('\t'));
+  // The answer to a locale identifier in a syntax.
+  #told(command, identifier, { syntax = 'locales' } = {}) {
+    if (!SYNTAXES.includes(syntax)) throw new RangeError('the syntaxes are locales, bcp47 and posix');
+    return this.answer(`${syntax} ${command}`, identifier);
+  }
+
+  #form(command, identifier, options) {
+    return beforeMark(this.#told(command, identifier, options));
   }
 
   /** The maximal form: with the likely script and region. */
-  maximize(identifier) {
-    return this.#form('maximize', identifier);
+  maximize(identifier, options) {
+    return this.#form('maximize', identifier, options);
   }
 
   /** The minimal form: the shortest with the same maximal form. */
-  minimize(identifier, { favorScript = false } = {}) {
-    return this.#form(favorScript ? 'minimize-script' : 'minimize', identifier);
+  minimize(identifier, { favorScript = false, syntax } = {}) {
+    return this.#form(favorScript ? 'minimize-script' : 'minimize', identifier, { syntax });
   }
 
-  /** The canonical identifier, or where a value at `rg` is handed in, the two. */
+  /** The canonical form, or of an identifier alone and a value at `rg`, the two. */
   canonicalize(identifier, value) {
     const line = bytes(identifier);
     if (line.includes(9)) throw new Refused('InvalidSubtag'); // a tab: a value would stand behind it
-    if (value === undefined) return this.#form('canonicalize', line).split('\t')[0];
-    return this.#form('canonicalize', Buffer.concat([line, Buffer.from('\t'), bytes(value)])).split('\t');
+    const isOptions = value !== null && typeof value === 'object' && !(value instanceof Uint8Array);
+    if (value === undefined || isOptions) return this.#form('canonicalize', line, value);
+    return beforeMark(this.answer('canonicalize', Buffer.concat([line, Buffer.from('\t'), bytes(value)]))).split('\t');
   }
 
   /** `ltr`, `rtl` or null. */
-  direction(identifier) {
-    const told = this.answer('direction', identifier);
+  direction(identifier, options) {
+    const told = this.#told('direction', identifier, options);
     return told === 'none' ? null : told;
   }
 
   /** The name, in the language of the preferences. What the tables have no name for stands as a subtag. */
-  name(identifier, preferences, chain = 'light') {
+  name(identifier, preferences, chain = 'light', options = undefined) {
     try {
-      return this.#form(`name ${string(chain)} ${string(preferences)}`, identifier);
+      return this.#form(`name ${string(chain)} ${string(preferences)}`, identifier, options);
     } catch (refused) {
       if (refused.code !== 'IdentifierNotFound') throw refused;
       throw new Refused(refused.code, `${refused.code}: the tables were made without the locale '${preferences}'`);

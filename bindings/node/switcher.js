@@ -7,9 +7,10 @@ const MOST_TAGS = 100;
 const FOLD = /\r?\n[ \t]+/g;
 const WEIGHT = /^([01](\.[0-9]*)?|\.[0-9]+)$/;
 
-// A tag up to its first extension, or to what is for private use.
-function withoutExtensions(tag) {
-  return tag.replace(/[-_][A-Za-z0-9][-_][^]*/, '');
+// A canonical form up to its first extension, or to what is for private use; null where no language is named before.
+function withoutExtensions(form) {
+  const bare = form.replace(/[-_][A-Za-z0-9][-_][^]*/, '');
+  return bare === 'und' && bare !== form ? null : bare;
 }
 
 // The weight `q`, 1 where there is none; null where it is no weight.
@@ -58,8 +59,8 @@ class Switcher {
   }
 
   /**
-   * What is served for one header Accept-Language, or for several; null where nothing is met. The tags are asked by their
-   * `q`, the greatest first. `*` is met by the first of what is available, but for what begins with a tag of `q=0`. What
+   * What is served for one header Accept-Language, or for several; null where nothing is met. The tags are those of RFC
+   * 5646, asked by their `q`, the greatest first. `*` is met by the first of what is available, but for what begins with a tag of `q=0`. What
    * is no tag is passed over, and so is what stands behind the hundredth tag.
    */
   serve(headers) {
@@ -89,11 +90,11 @@ class Switcher {
     return match && match.available;
   }
 
-  // The canonical form; null where the tag is no identifier, or the rules come to no end.
+  // The canonical form without extensions; null where the tag is none, names no language, or the rules come to no end.
   #canonical(tag) {
     if (tag.includes('\t')) return null;
     try {
-      return this.#told('canonicalize', withoutExtensions(tag));
+      return withoutExtensions(this.#told('bcp47 canonicalize', tag));
     } catch (refused) {
       if (/^(Invalid|No.*FixedPoint)/.test(refused.code)) return null;
       throw refused;

@@ -20,6 +20,16 @@ assert.strictEqual(tables.direction('und'), null);
 assert.strictEqual(tables.name('it-US', 'en'), 'Italian (United States)');
 assert.strictEqual(tables.isSettled(), true);
 
+assert.strictEqual(tables.maximize('EN-u-hc-h12-ca-buddhist-x-A'), 'en-Latn-US-u-ca-buddhist-hc-h12-x-a');
+assert.strictEqual(tables.minimize('zh-Hant-TW-a-foo', { favorScript: true }), 'zh-Hant-a-foo');
+assert.strictEqual(tables.canonicalize('sh-t-sh-u-rg-abcdefg'), 'sr-Latn-t-sr-latn-u-rg-xyz');
+assert.strictEqual(tables.canonicalize('i-klingon', { syntax: 'bcp47' }), 'tlh');
+assert.strictEqual(tables.direction('ar_EG.UTF-8', { syntax: 'posix' }), 'rtl');
+assert.strictEqual(tables.name('it_US@euro', 'en', 'light', { syntax: 'posix' }), 'Italian (United States)');
+assert.throws(() => tables.maximize('en', { syntax: 'utf8' }), RangeError);
+refuses(() => tables.maximize('en-u'), 'InvalidSubtag');
+refuses(() => tables.maximize('zh-cmn'), 'InvalidSubtag');
+
 refuses(() => Tables.fromJson('{'), 'Json');
 refuses(() => Tables.fromJson('[]'), 'Shape');
 refuses(() => tables.maximize('en-'), 'InvalidSubtag');

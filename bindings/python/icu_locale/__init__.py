@@ -24,10 +24,10 @@ from ._refusals import (Closed, InvalidLanguage, InvalidList, InvalidSubtag, Lin
                         NoCommand, NoFixedPoint, NoJson, NoList, NoSubdivisionFixedPoint, NoTables, NotSettled, Refused,
                         TableMissing, Text)
 from ._switcher import Switcher
-from ._tables import Canonical, Direction, Tables
+from ._tables import Canonical, Direction, Syntax, Tables
 
-__all__ = ["Tables", "Negotiator", "Switcher", "Match", "Canonical", "Direction", "Headers", "Further", "Text", "Refused", "Closed",
-           "MemoryRefused", "NoJson", "NoTables", "NoCommand", "TableMissing", "NoList", "InvalidList", "NotSettled", "NoCldr",
+__all__ = ["Tables", "Negotiator", "Switcher", "Match", "Canonical", "Direction", "Syntax", "Headers", "Further", "Text",
+           "Refused", "Closed", "MemoryRefused", "NoJson", "NoTables", "NoCommand", "TableMissing", "NoList", "InvalidList", "NotSettled", "NoCldr",
            "LineRefused", "InvalidLanguage", "InvalidSubtag", "NoFixedPoint", "NoSubdivisionFixedPoint", "NameMissing"]
 
 __version__ = version()

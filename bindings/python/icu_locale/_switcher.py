@@ -11,9 +11,10 @@ from ._refusals import LineRefused, Text
 EXTENSIONS = re.compile(r"[-_][A-Za-z0-9][-_].*", re.DOTALL)
 
 
-def without_extensions(tag: str) -> str:
-    """A tag up to its first extension, or to what is for private use."""
-    return EXTENSIONS.sub("", tag)
+def without_extensions(form: str) -> Optional[str]:
+    """A canonical form up to its first extension, or to what is for private use; None where no language is named before."""
+    bare = EXTENSIONS.sub("", form)
+    return None if bare == "und" != form else bare
 
 
 class Switcher(NoCopies):
@@ -40,7 +41,7 @@ class Switcher(NoCopies):
     def serve(self, headers: Headers) -> Optional[Text]:
         """What is served for one header Accept-Language, or for several; None where nothing is met.
 
-        The tags are asked by their `q`, the greatest first. `*` is met by the first of what is available, but for what
+        The tags are those of RFC 5646, asked by their `q`, the greatest first. `*` is met by the first of what is available, but for what
         begins with a tag of `q=0`. What is no tag is passed over, and so is what stands behind the hundredth tag.
         """
         wishes = read_headers(headers)
@@ -65,9 +66,12 @@ class Switcher(NoCopies):
         return match.available if match else None
 
     def _canonical(self, tag: str) -> Optional[str]:
-        """The canonical form; None where the tag is no identifier, or the rules come to no end."""
+        """The canonical form without extensions; None where the tag is none, names no language, or the rules come to no
+        end."""
+        if "\t" in tag:
+            return None
         try:
-            return self._told("canonicalize", without_extensions(tag)) if "\t" not in tag else None
+            return without_extensions(self._told("bcp47 canonicalize", tag))
         except LineRefused:
             return None
 

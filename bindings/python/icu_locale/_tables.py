@@ -11,6 +11,9 @@ from ._refusals import (InvalidLanguage, InvalidList, InvalidSubtag, NameMissing
 from ._switcher import Switcher, without_extensions
 
 Direction = Literal["ltr", "rtl"]
+# How a text is read: a locale identifier of UTS #35, besides a tag of RFC 5646, or besides a name of a POSIX locale.
+Syntax = Literal["locales", "bcp47", "posix"]
+SYNTAXES = {each: each.encode() + b" " for each in ("locales", "bcp47", "posix")}
 DEBIAN_CLDR = "/usr/share/unicode/cldr/common"
 
 
@@ -125,9 +128,12 @@ class Tables(Held):
         found, canonical = listed(available), []
         for place, tag in enumerate(found):
             try:
-                canonical.append(self.canonicalize(without_extensions(as_bytes(tag).decode(errors="replace"))))
+                bare = without_extensions(self.canonicalize(tag, syntax="bcp47"))
             except (InvalidLanguage, InvalidSubtag):
-                raise list_refusal(place, tag) from None
+                bare = None
+            if bare is None:
+                raise list_refusal(place, tag)
+            canonical.append(bare)
         return Switcher(self.negotiator(canonical), found, further)
 
     def serve(self, headers: Headers, available: Iterable[Text], *, further: Optional[Further] = None) -> Optional[Text]:
@@ -152,21 +158,29 @@ class Tables(Held):
         self._switcher = None
         super().close()
 
-    def maximize(self, identifier: Text) -> str:
-        """The maximal form: with the likely script and region.
+    def _told(self, command: bytes, identifier: Text, syntax: Syntax) -> str:
+        if syntax not in SYNTAXES:
+            raise ValueError(f"the syntaxes are locales, bcp47 and posix, and {syntax!r} is none")
+        return self.answer(SYNTAXES[syntax] + command, identifier)
+
+    def maximize(self, identifier: Text, *, syntax: Syntax = "locales") -> str:
+        """The maximal form: with the likely script and region. `syntax` says how the identifier is read; its extensions
+        stay.
 
         >>> from icu_locale.example import TABLES
         >>> tables = Tables.from_json(TABLES)
-        >>> tables.maximize("zh_tw")
+        >>> tables.maximize("zh_tw"), tables.maximize("zh-u-nu-hanidec-ca-chinese")
+        ('zh-Hant-TW', 'zh-Hans-CN-u-ca-chinese-nu-hanidec')
+        >>> tables.maximize("zh_TW.UTF-8", syntax="posix")
         'zh-Hant-TW'
         >>> tables.maximize("en-")
         Traceback (most recent call last):
             ...
         icu_locale.InvalidSubtag: InvalidSubtag: 'en-'
         """
-        return self.answer(b"maximize", identifier).partition("\t")[0]
+        return self._told(b"maximize", identifier, syntax).partition("\t")[0]
 
-    def minimize(self, identifier: Text, *, favor_script: bool = False) -> str:
+    def minimize(self, identifier: Text, *, favor_script: bool = False, syntax: Syntax = "locales") -> str:
         """The minimal form: the shortest with the same maximal form.
 
         >>> from icu_locale.example import TABLES
@@ -174,24 +188,27 @@ class Tables(Held):
         >>> tables.minimize("zh-Hant-TW"), tables.minimize("zh-Hant-TW", favor_script=True)
         ('zh-TW', 'zh-Hant')
         """
-        return self.answer(b"minimize-script" if favor_script else b"minimize", identifier).partition("\t")[0]
+        command = b"minimize-script" if favor_script else b"minimize"
+        return self._told(command, identifier, syntax).partition("\t")[0]
 
-    def canonicalize(self, identifier: Text) -> str:
-        """The canonical form.
+    def canonicalize(self, identifier: Text, *, syntax: Syntax = "locales") -> str:
+        """The canonical form, that of the language after `t` and of the values at `rg` and `sd` too.
 
         >>> from icu_locale.example import TABLES
         >>> tables = Tables.from_json(TABLES)
-        >>> tables.canonicalize("sh")
-        'sr-Latn'
+        >>> tables.canonicalize("sh"), tables.canonicalize("sh-u-rg-abcdefg")
+        ('sr-Latn', 'sr-Latn-u-rg-xyz')
+        >>> tables.canonicalize("i-klingon", syntax="bcp47"), tables.canonicalize("zh-cmn-Hans", syntax="bcp47")
+        ('tlh', 'cmn-Hans')
         >>> tables.canonicalize("sh\\tabcdefg")
         Traceback (most recent call last):
             ...
         icu_locale.InvalidSubtag: InvalidSubtag: 'sh\\tabcdefg'
         """
-        return self.answer(b"canonicalize", without_tab(identifier)).partition("\t")[0]
+        return self._told(b"canonicalize", without_tab(identifier), syntax).partition("\t")[0]
 
     def canonicalize_with(self, identifier: Text, value: Text) -> Canonical:
-        """The canonical form, and that of a value at the key `rg`.
+        """The canonical form of an identifier alone, and that of a value at the key `rg`.
 
         >>> from icu_locale.example import TABLES
         >>> tables = Tables.from_json(TABLES)
@@ -202,7 +219,7 @@ class Tables(Held):
         parts = self.answer(b"canonicalize", line).split("\t")
         return Canonical(parts[0], parts[1])
 
-    def direction(self, identifier: Text) -> Optional[Direction]:
+    def direction(self, identifier: Text, *, syntax: Syntax = "locales") -> Optional[Direction]:
         """Which way the likely script runs, where that is known.
 
         >>> from icu_locale.example import TABLES
@@ -210,11 +227,11 @@ class Tables(Held):
         >>> tables.direction("ar"), tables.direction("de"), tables.direction("und")
         ('rtl', 'ltr', None)
         """
-        told = self.answer(b"direction", identifier)
+        told = self._told(b"direction", identifier, syntax)
         return "ltr" if told == "ltr" else "rtl" if told == "rtl" else None
 
-    def name(self, identifier: Text, preferences: Text, chain: Text = "light") -> str:
-        """The name, in the language of the preferences. What the tables have no name for stands as a subtag.
+    def name(self, identifier: Text, preferences: Text, chain: Text = "light", *, syntax: Syntax = "locales") -> str:
+        """The name of the identifier, without its extensions, in the language of the preferences. What the tables have no name for stands as a subtag.
 
         >>> from icu_locale.example import TABLES
         >>> tables = Tables.from_json(TABLES)
@@ -227,7 +244,7 @@ class Tables(Held):
         """
         command = b" ".join((b"name", as_bytes(chain), as_bytes(preferences)))
         try:
-            return self.answer(command, identifier).rpartition("\t")[0]
+            return self._told(command, identifier, syntax).rpartition("\t")[0]
         except NameMissing as fault:
             raise NameMissing(f"{fault.name}: the tables were made without the locale {preferences!r}, to name "
                               f"{identifier!r} in") from None

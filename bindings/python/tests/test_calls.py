@@ -43,10 +43,33 @@ class Examples(unittest.TestCase):
 
     def test_names(self):
         types = [each for name in icu_locale.__all__ if isinstance(each := getattr(icu_locale, name), type)]
-        self.assertEqual(len(types), len(icu_locale.__all__) - 4)
+        self.assertEqual(len(types), len(icu_locale.__all__) - 5)
         for each in types:
             self.assertTrue(each.__doc__)
             self.assertEqual(each.__module__, "icu_locale")
+
+
+class Syntaxes(unittest.TestCase):
+    def test_extensions(self):
+        with Tables.from_json(TABLES) as tables:
+            self.assertEqual(tables.maximize("EN-u-hc-h12-ca-buddhist-x-A"), "en-Latn-US-u-ca-buddhist-hc-h12-x-a")
+            self.assertEqual(tables.minimize("zh-Hant-TW-t-ja"), "zh-TW-t-ja")
+            self.assertEqual(tables.minimize("zh-Hant-TW-a-foo", favor_script=True), "zh-Hant-a-foo")
+            self.assertEqual(tables.canonicalize("sh-t-sh-u-rg-abcdefg"), "sr-Latn-t-sr-latn-u-rg-xyz")
+            self.assertEqual(tables.direction("ar-u-nu-latn"), "rtl")
+            self.assertEqual(tables.name("it-US-x-mine", "en"), "Italian (United States)")
+            self.assertRaises(InvalidSubtag, tables.maximize, "en-u")
+            self.assertRaises(InvalidSubtag, tables.maximize, "zh-cmn")
+
+    def test_readers(self):
+        with Tables.from_json(TABLES) as tables:
+            for call in (tables.maximize, tables.minimize, tables.canonicalize):
+                self.assertEqual(call("x-mine", syntax="bcp47")[-6:], "x-mine")
+                self.assertRaises(InvalidLanguage, call, "i-klingon", syntax="posix")
+                self.assertRaises(ValueError, call, "en", syntax="utf8")
+            self.assertEqual(tables.direction("ar_EG.UTF-8", syntax="posix"), "rtl")
+            self.assertEqual(tables.name("it_US@euro", "en", syntax="posix"), "Italian (United States)")
+            self.assertEqual(tables.canonicalize("C", syntax="posix"), "en-US-u-va-posix")
 
 
 class WrongUses(unittest.TestCase):

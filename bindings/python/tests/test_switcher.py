@@ -11,6 +11,7 @@ SERVED = [
     ("en-GB", "en"), ("de-AT;q=0.5, en;q=0.4", "de"), ("ar", "AR_eg"), ("zh-TW", "zh_hant"), ("zh-CN, de;q=0.1", "de"),
     ("sh", AVAILABLE[4]), ("sr-Latn-x-a", AVAILABLE[4]), ("sr-Cyrl", None), ("zh-CN", None), ("", None), ([], None), (None, None),
     ("de-1996", "de"), ("de-u-co-phonebk, en", "de"), ("de-x-mine", "de"), ("x-mine, i-klingon, de", "de"),
+    ("i-enochian, und-x-a, de", "de"), ("i-default", "en"), ("EN-gb-OED", "en"), ("zh-cmn-TW, de", "de"),
     ("zz-zz-zz, *", "en"), ("*", "en"), ("*;q=0", None), ("en;q=0, *;q=0.1", "de"), ("EN;q=0, de;q=0, *", "AR_eg"),
     ("de;q=0, ja;q=0.2", None), ("de;q=x, en", "en"), ("de;q=1.001, en;q=0.1", "en"), ("de;q=nan, en", "en"),
     ("de; q = 0.1, en ; Q=0.2", "en"), ("de;level=1;q=0.1, en;q=0.2", "en"), ("de;q=0.1,,en", "en"), (";q=1, de", "de"),

@@ -54,6 +54,28 @@ pub enum Direction {
     RightToLeft,
 }
 
+/// How a text is read.
+#[derive(Clone, Copy, Debug, Default, PartialEq, Eq, Hash)]
+pub enum Syntax {
+    /// A locale identifier of UTS #35, with its extensions.
+    #[default]
+    Locales,
+    /// The same, or a tag of RFC 5646: an old tag, an extended language, private use alone.
+    Bcp47,
+    /// A locale identifier, or a name of a POSIX locale.
+    Posix,
+}
+
+impl Syntax {
+    fn word(self) -> &'static str {
+        match self {
+            Syntax::Locales => "locales",
+            Syntax::Bcp47 => "bcp47",
+            Syntax::Posix => "posix",
+        }
+    }
+}
+
 /// Tables. Any number of threads may use them at once, by a reference or an `Arc`.
 ///
 /// ```
@@ -69,6 +91,7 @@ pub enum Direction {
 #[derive(Debug)]
 pub struct Tables {
     pool: Pool,
+    syntax: Syntax,
 }
 
 impl Tables {
@@ -87,7 +110,7 @@ impl Tables {
         let mut handle = Handle::closed();
         // SAFETY: the slice is one of Rust's, and the handle a closed one that nobody else has.
         match unsafe { calls::icu_locale_open(json.as_ptr(), json.len(), &mut handle) } {
-            ACCEPTED => Ok(Tables { pool: Pool::over(handle, None) }),
+            ACCEPTED => Ok(Tables { pool: Pool::over(handle, None), syntax: Syntax::default() }),
             number => Err(Refusal::of_number(number)),
         }
     }
@@ -107,7 +130,21 @@ impl Tables {
     /// # Ok::<(), icu_locale_calls::Refusal>(())
     /// ```
     pub fn share(&self) -> Result<Self, Refusal> {
-        Ok(Tables { pool: Pool::over(self.pool.share()?, None) })
+        Ok(Tables { pool: Pool::over(self.pool.share()?, None), syntax: self.syntax })
+    }
+
+    /// The same tables, which read texts in a syntax. At first that is `Locales`.
+    ///
+    /// ```
+    /// use icu_locale_calls::{Syntax, Tables, EXAMPLE};
+    /// let tables = Tables::from_json(EXAMPLE.as_bytes())?;
+    /// assert_eq!(tables.maximize("zh-u-nu-hanidec")?, "zh-Hans-CN-u-nu-hanidec");
+    /// assert_eq!(tables.with_syntax(Syntax::Posix).maximize("zh_TW.UTF-8")?, "zh-Hant-TW");
+    /// # Ok::<(), icu_locale_calls::Refusal>(())
+    /// ```
+    #[must_use]
+    pub fn with_syntax(self, syntax: Syntax) -> Self {
+        Tables { syntax, ..self }
     }
 
     /// What serves a reader one of the identifiers that are available. It holds these tables too.
@@ -156,11 +193,14 @@ impl Tables {
         }
     }
 
+    // The answer to a text in the syntax of these tables.
+    fn told(&self, command: &str, text: &str) -> Result<String, Refusal> {
+        self.answer(&format!("{} {command}", self.syntax.word()), text.as_bytes())
+    }
+
     // What stands before the mark of an answer.
-    fn form(&self, command: &str, line: &str) -> Result<String, Refusal> {
-        let mut answer = self.answer(command, line.as_bytes())?;
-        answer.truncate(answer.rfind('\t').unwrap_or(answer.len()));
-        Ok(answer)
+    fn form(&self, command: &str, text: &str) -> Result<String, Refusal> {
+        self.told(command, text).map(before_mark)
     }
 
     /// The maximal form: with the likely script and region.
@@ -190,7 +230,7 @@ impl Tables {
         self.form("minimize-script", identifier)
     }
 
-    /// The canonical form of an identifier.
+    /// The canonical form, that of the language after `t` and of the values at `rg` and `sd` too.
     ///
     /// # Errors
     ///
@@ -202,7 +242,7 @@ impl Tables {
         self.form("canonicalize", identifier)
     }
 
-    /// The canonical form of an identifier, and that of a value at the key `rg`.
+    /// The canonical form of an identifier alone, and that of a value at the key `rg`.
     ///
     /// # Errors
     ///
@@ -215,7 +255,7 @@ impl Tables {
     /// # Ok::<(), icu_locale_calls::Refusal>(())
     /// ```
     pub fn canonicalize_with(&self, identifier: &str, value: &str) -> Result<(String, String), Refusal> {
-        let form = self.form("canonicalize", &format!("{identifier}\t{value}"))?;
+        let form = before_mark(self.answer("canonicalize", format!("{identifier}\t{value}").as_bytes())?);
         let (identifier, value) = form.split_once('\t').unwrap_or((&form, ""));
         Ok((identifier.to_owned(), value.to_owned()))
     }
@@ -233,7 +273,7 @@ impl Tables {
     /// # Ok::<(), icu_locale_calls::Refusal>(())
     /// ```
     pub fn direction(&self, identifier: &str) -> Result<Option<Direction>, Refusal> {
-        Ok(match self.answer("direction", identifier.as_bytes())?.as_str() {
+        Ok(match self.told("direction", identifier)?.as_str() {
             "ltr" => Some(Direction::LeftToRight),
             "rtl" => Some(Direction::RightToLeft),
             _ => None,
@@ -262,6 +302,11 @@ impl Tables {
             number => Err(Refusal::of_number(number)),
         }
     }
+}
+
+fn before_mark(mut answer: String) -> String {
+    answer.truncate(answer.rfind('\t').unwrap_or(answer.len()));
+    answer
 }
 
 fn call(handle: &mut Handle, command: &str, line: &[u8], out: &mut [u8], written: &mut usize) -> i32 {

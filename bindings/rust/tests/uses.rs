@@ -1,5 +1,5 @@
 //! Wrong uses, long answers, and threads, each with its own and all with one.
-use icu_locale_calls::{Match, Negotiator, Refusal, Tables, EXAMPLE};
+use icu_locale_calls::{Direction, Match, Negotiator, Refusal, Syntax, Tables, EXAMPLE};
 
 const UNSETTLED: &str = r#"{"likely_language":{"und":["en","Latn","US"],"language":{"xx":["Zzzz","DE"]}},
  "likely_script_region":{}}"#;
@@ -15,6 +15,19 @@ fn refusals() {
     assert_eq!(tables.name("en", "en-fonipa"), Err(Refusal::Command));
     assert_eq!(tables.answer("negotiate", b"en"), Err(Refusal::Negotiate));
     assert_eq!(tables.answer("", b"\xff"), Err(Refusal::Command));
+}
+
+#[test]
+fn syntaxes() {
+    let tables = Tables::from_json(EXAMPLE.as_bytes()).unwrap();
+    assert_eq!(tables.maximize("EN-u-hc-h12-ca-buddhist").as_deref(), Ok("en-Latn-US-u-ca-buddhist-hc-h12"));
+    assert_eq!(tables.canonicalize("sh-t-sh-u-rg-abcdefg").as_deref(), Ok("sr-Latn-t-sr-latn-u-rg-xyz"));
+    assert_eq!(tables.maximize("zh-cmn"), Err(Refusal::InvalidSubtag));
+    let tables = tables.with_syntax(Syntax::Bcp47);
+    assert_eq!(tables.share().unwrap().canonicalize("i-klingon").as_deref(), Ok("tlh"));
+    let tables = tables.with_syntax(Syntax::Posix);
+    assert_eq!(tables.direction("ar_EG.UTF-8"), Ok(Some(Direction::RightToLeft)));
+    assert_eq!(tables.name("it_US@euro", "en").as_deref(), Ok("Italian (United States)"));
 }
 
 #[test]
