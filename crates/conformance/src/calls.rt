@@ -4,6 +4,7 @@ use crate::likely::{self, Likely};
 use crate::texts::{self, Kind};
 use crate::world::World;
 use crate::{canonical, language_names, menus, names, negotiation};
+use icu_locale_extensions::Syntax;
 use icu_tables::{TableError, Tables};
 use std::alloc::Global;
 
@@ -58,7 +59,7 @@ pub enum Call {
     JsonCuts,
 }
 
-const CALLS: [(&str, Call); 37] = [
+const CALLS: [(&str, Call); 39] = [
     ("read", Call::Read(Kind::Identifier)),
     ("language", Call::Read(Kind::Language)),
     ("script", Call::Read(Kind::Script)),
@@ -67,7 +68,9 @@ const CALLS: [(&str, Call); 37] = [
     ("key", Call::Read(Kind::Key)),
     ("subtag", Call::Read(Kind::Subtag)),
     ("value", Call::Read(Kind::Value)),
-    ("locale", Call::Read(Kind::Locale)),
+    ("locale", Call::Read(Kind::Locale(Syntax::Unicode))),
+    ("bcp47", Call::Read(Kind::Locale(Syntax::Bcp47))),
+    ("posix", Call::Read(Kind::Locale(Syntax::Posix))),
     ("maximize", Call::Likely(Likely::Maximize)),
     ("minimize", Call::Likely(Likely::Minimize)),
     ("minimize-script", Call::Likely(Likely::MinimizeScript)),

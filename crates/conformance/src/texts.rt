@@ -4,7 +4,7 @@ use icu_locale_core::{
     Key, Keywords, Language, LanguageIdentifier, ParseError, Region, Script, Subtag, Value,
     Variant, Variants,
 };
-use icu_locale_extensions::LocaleIdentifier;
+use icu_locale_extensions::{LocaleIdentifier, Syntax};
 use std::alloc::Global;
 use std::cmp::Ordering;
 use std::fmt;
@@ -28,8 +28,8 @@ pub enum Kind {
     Subtag,
     /// A value.
     Value,
-    /// A locale identifier.
-    Locale,
+    /// A locale identifier in a syntax.
+    Locale(Syntax),
 }
 
 // What was read, as it is written, or the refusal's name.
@@ -48,7 +48,7 @@ pub fn read(alloc: Global, kind: Kind, text: &[u8]) -> Result<String, Fault> {
     match kind {
         Kind::Identifier => identifier(alloc, LanguageIdentifier::try_from_utf8(alloc, text)),
         Kind::Value => value(alloc, Value::try_from_utf8(alloc, text)),
-        Kind::Locale => locale(alloc, LocaleIdentifier::try_from_utf8(alloc, text)),
+        Kind::Locale(syntax) => locale(alloc, LocaleIdentifier::read(alloc, syntax, text)),
         _ => match str::from_utf8(text) {
             Ok(text) => read_str(alloc, kind, text),
             Err(_) => Err(Fault::Row),
@@ -66,7 +66,7 @@ fn read_str(alloc: Global, kind: Kind, text: &str) -> Result<String, Fault> {
         Kind::Key => shown(alloc, Key::try_from_str(text)),
         Kind::Subtag => shown(alloc, Subtag::try_from_str(text)),
         Kind::Value => value(alloc, Value::try_from_str(alloc, text)),
-        Kind::Locale => locale(alloc, LocaleIdentifier::try_from_str(alloc, text)),
+        Kind::Locale(_) => locale(alloc, LocaleIdentifier::try_from_str(alloc, text)),
     }
 }
 

@@ -1,7 +1,7 @@
 //! Each constructor once, over tables that are held.
 use icu_locale::{
-    AsExpander, Direction, LocaleCanonicalizer, LocaleDirectionality, LocaleExpander,
-    TransformResult,
+    AsExpander, CanonicalizerRef, Direction, LocaleCanonicalizer, LocaleDirectionality,
+    LocaleExpander, ReadRules, TransformResult,
 };
 use icu_locale_core::{LanguageIdentifier, Locale};
 use icu_locale_lines::sample;
@@ -56,12 +56,30 @@ fn over_a_lent_expander(rt: &impl Abort, alloc: Global, tables: &Tables) -> Resu
     canonicalizes(rt, alloc, &lent)
 }
 
+// What was read is lent with its table and an expander, put together with them, and taken back.
+fn over_what_was_read(rt: &impl Abort, alloc: Global, tables: &Tables) -> Result<(), Fail> {
+    let expander = LocaleExpander::try_new_common_unstable(tables)?;
+    let aliases = tables.load_aliases()?;
+    let read = ReadRules::read(alloc, aliases)?;
+    let mut id = LanguageIdentifier::try_from_str(alloc, "sgn-DD")?;
+    let lent = CanonicalizerRef::over(&read, aliases, expander);
+    let changed = lent.canonicalize_identifier(&mut id).ok();
+    assert!(rt; changed == Some(TransformResult::Modified));
+    let wanted = LanguageIdentifier::try_from_str(alloc, "gsg")?;
+    assert!(rt; id == wanted);
+    let owned = LocaleCanonicalizer::over(read, aliases, expander);
+    canonicalizes(rt, alloc, &owned)?;
+    let again = LocaleCanonicalizer::over(owned.into_rules(), aliases, expander);
+    canonicalizes(rt, alloc, &again)
+}
+
 #[test]
 fn canonicalizers(rt: HostRuntime) -> Result<(), Fail> {
     let tables = extended_sample(rt.alloc())?;
     of_tables(&rt, rt.alloc(), &tables)?;
     of_a_provider(&rt, rt.alloc(), &tables)?;
-    over_a_lent_expander(&rt, rt.alloc(), &tables)
+    over_a_lent_expander(&rt, rt.alloc(), &tables)?;
+    over_what_was_read(&rt, rt.alloc(), &tables)
 }
 
 // Arabic must run from right to left.

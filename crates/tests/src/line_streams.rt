@@ -1,7 +1,8 @@
 //! Streams: lines that are answered as they come.
 use crate::program::{RUNS, command, read_row, told};
 use icu_locale_lines::{
-    CliError, Command, LineCommand, Status, Transform, sample, stream, stream_json, stream_words,
+    CliError, Command, LineCommand, Status, Task, Transform, sample, stream, stream_json,
+    stream_words,
 };
 use icu_tables::Tables;
 use std::alloc::Global;
@@ -127,7 +128,10 @@ fn rows_come_by_parts(rt: HostRuntime) -> Result<(), Fail> {
     Ok(())
 }
 
-const MAXIMIZE: Command = Command::Lines(LineCommand::Transform(Transform::Maximize));
+const MAXIMIZE: Command = Command::Lines(LineCommand {
+    syntax: None,
+    task: Task::Transform(Transform::Maximize),
+});
 
 // An input, what a failed read behind it leaves, and what its end leaves.
 const ENDS: [(&str, &str, &str); 5] = [

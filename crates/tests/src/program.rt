@@ -1,7 +1,7 @@
 //! Runs of the program: words, input, and what is written, with its status.
 use icu_locale_core::ParseError;
 use icu_locale_lines::{
-    CliError, Command, LineCommand, SAMPLE, Status, Transform, run, run_json, sample,
+    CliError, Command, LineCommand, SAMPLE, Status, Task, Transform, run, run_json, sample,
 };
 use icu_provider::{DataError, DataErrorKind};
 use icu_tables::{TableError, Tables};
@@ -241,14 +241,14 @@ fn bytes_past_ascii(rt: HostRuntime) -> Result<(), Fail> {
     refused_run(
         &rt,
         rt.alloc(),
-        &Command::Lines(LineCommand::Transform(Transform::Maximize)),
+        &Command::Lines(LineCommand::plain(Task::Transform(Transform::Maximize))),
         b"en-\xff\n\xff",
         b"?\tInvalidSubtag\n?\tInvalidLanguage\n",
     )?;
     refused_run(
         &rt,
         rt.alloc(),
-        &Command::Lines(LineCommand::Canonicalize),
+        &Command::Lines(LineCommand::plain(Task::Canonicalize)),
         b"en\tabc-\xff\n\xff\tabc",
         b"?\tInvalidSubtag\n?\tInvalidLanguage\n",
     )

@@ -9,7 +9,9 @@ use icu_locale_core::{
     Key, Keywords, Language, LanguageIdentifier, Locale, ParseError, Region, Script, Subtag, Value,
     Variant,
 };
-use icu_locale_lines::{CliError, Command, LineCommand, Naming, Status, Transform, Work, sample};
+use icu_locale_lines::{
+    CliError, Command, LineCommand, Naming, Status, Task, Tools, Transform, sample,
+};
 use icu_locale_names::{
     LanguageDisplay, LanguageIdentifierDisplayName, LanguageIdentifierDisplayNameOptions,
     LanguageIdentifierNameFallbackError, NameChain, NameWriteError, RegionDisplayName,
@@ -149,20 +151,23 @@ fn made(rt: &impl Abort, alloc: Global, tables: &Tables) -> Result<(), Fail> {
     shows(rt, alloc, &expander, "Hans")?;
     let directionality = LocaleDirectionality::try_new_common_unstable(tables)?;
     shows(rt, alloc, &directionality, "Hebr")?;
-    shows(rt, alloc, &Work::Direction(directionality), "Hebr")?;
-    let work = Work::Transform(Transform::Maximize, expander);
+    shows(rt, alloc, &Tools::Direction(directionality), "Hebr")?;
+    let work = Tools::Transform(Transform::Maximize, expander);
     shows(rt, alloc, &work, "Hans")?;
     let canonicalizer = LocaleCanonicalizer::try_new_common_unstable(alloc, tables)?;
     shows(rt, alloc, &canonicalizer, "gsg")?;
+    shows(rt, alloc, &canonicalizer.lend(), "gsg")?;
     shows(rt, alloc, &canonicalizer.rules, "alalc97")?;
+    shows(rt, alloc, &canonicalizer.rules.read, "alalc97")?;
     shows(
         rt,
         alloc,
-        &canonicalizer.rules.language.as_slice().first(),
+        &canonicalizer.rules.read.language.as_slice().first(),
         "DD",
     )?;
     let negotiator = Negotiator::try_new(alloc, expander, Vec::new(alloc))?;
     shows(rt, alloc, &negotiator, "Hans")?;
+    shows(rt, alloc, &negotiator.lend(), "Hans")?;
     let set = ExemplarCharacters::try_new_main_unstable(tables, english()?.locale)?;
     shows(rt, alloc, &set, "ng")?;
     shows(rt, alloc, &set.as_borrowed(), "ng")
@@ -264,7 +269,7 @@ fn choices_and_refusals_of_names(rt: HostRuntime) -> Result<(), Fail> {
     shows(
         &rt,
         alloc,
-        &Command::Lines(LineCommand::Name(NameChain::ShortHeavy, of)),
+        &Command::Lines(LineCommand::plain(Task::Name(NameChain::ShortHeavy, of))),
         "ShortHeavy",
     )?;
     shows(&rt, alloc, &CliError::NotSettled, "NotSettled")?;

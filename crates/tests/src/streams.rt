@@ -1,7 +1,7 @@
 //! Readers and writers that are slow, fail or never end.
 use crate::program::command;
 use icu_locale_lines::{
-    CliError, Command, LineCommand, SAMPLE, Status, Transform, read_all, run, run_buffered,
+    CliError, Command, LineCommand, SAMPLE, Status, Task, Transform, read_all, run, run_buffered,
     run_json, sample,
 };
 use icu_tables::Tables;
@@ -291,7 +291,7 @@ fn an_input_of_five_megabytes(rt: HostRuntime) -> Result<(), Fail> {
     assert!(rt; input.len() > 5 * 1_048_576);
     let mut written = Vec::new(rt.alloc());
     let mut reader = input.as_bytes();
-    let command = Command::Lines(LineCommand::Transform(Transform::Maximize));
+    let command = Command::Lines(LineCommand::plain(Task::Transform(Transform::Maximize)));
     let ended = run(rt.alloc(), &command, &tables, &mut reader, &mut written);
     assert!(rt; ended == Ok(Status::Refused));
     assert!(rt; written.as_slice() == output.as_bytes());
@@ -306,7 +306,7 @@ fn long_lines_through_a_buffer(rt: HostRuntime) -> Result<(), Fail> {
     let mut reader = input.as_bytes();
     let ended = run_buffered(
         rt.alloc(),
-        &Command::Lines(LineCommand::Transform(Transform::Maximize)),
+        &Command::Lines(LineCommand::plain(Task::Transform(Transform::Maximize))),
         false,
         &mut reader,
         &mut written,

@@ -2,8 +2,8 @@
 use crate::line_streams::PartReader;
 use crate::memory::budget::{Answered, Call, HeldWriter, at_budget, by_budget};
 use icu_locale_lines::{
-    CliError, Command, LineCommand, SAMPLE, Status, Transform, run, run_buffered, run_json, sample,
-    stream, stream_json, stream_words,
+    CliError, Command, LineCommand, SAMPLE, Status, Task, Transform, run, run_buffered, run_json,
+    sample, stream, stream_json, stream_words,
 };
 use icu_tables::Tables;
 use std::alloc::Global;
@@ -12,22 +12,34 @@ use std::test::Fail;
 // Commands, inputs, and what is written where there is memory.
 const RUNS: [(Command, &str, &str); 4] = [
     (
-        Command::Lines(LineCommand::Transform(Transform::Maximize)),
+        Command::Lines(LineCommand {
+            syntax: None,
+            task: Task::Transform(Transform::Maximize),
+        }),
         "zh-CN\nEN_us\n\n",
         "zh-Hans-CN\tM\nen-Latn-US\tM\n?\tInvalidLanguage\n",
     ),
     (
-        Command::Lines(LineCommand::Transform(Transform::Maximize)),
+        Command::Lines(LineCommand {
+            syntax: None,
+            task: Task::Transform(Transform::Maximize),
+        }),
         "zh-CN\nEN_us-posix\n\n",
         "zh-Hans-CN\tM\nen-Latn-US-posix\tM\n?\tInvalidLanguage\n",
     ),
     (
-        Command::Lines(LineCommand::Canonicalize),
+        Command::Lines(LineCommand {
+            syntax: None,
+            task: Task::Canonicalize,
+        }),
         "sh-posix\tabcdefg\nja\nja\tab\n",
         "sr-Latn-posix\txyz\tM\nja\tU\n?\tInvalidSubtag\n",
     ),
     (
-        Command::Lines(LineCommand::Negotiate),
+        Command::Lines(LineCommand {
+            syntax: None,
+            task: Task::Negotiate,
+        }),
         "en-US-posix zh-Hant yue-CN\nfr zh-TW\nen-1abc en-posix\ne\n",
         "1\tzh-Hant\n1\ten-US-posix\n?\tInvalidLanguage\n",
     ),
@@ -176,7 +188,7 @@ impl Call for BufferedRun<'_> {
         let mut reader = self.input.as_bytes();
         let ended = run_buffered(
             alloc,
-            &Command::Lines(LineCommand::Transform(Transform::Maximize)),
+            &Command::Lines(LineCommand::plain(Task::Transform(Transform::Maximize))),
             true,
             &mut reader,
             &mut writer,
