@@ -5,6 +5,7 @@
 pub mod budget;
 pub mod canonicalizers;
 mod identifiers;
+mod locales;
 mod names;
 mod runs;
 mod tables;
