@@ -136,7 +136,8 @@ fn script(text: &str) -> Option<Script>
 }
 
 fn with_valencia(alloc: Global, variants: &Variants) -> Result<Variants, ParseError>
-    ensures same { IfOk result (λ s. s ≡ union variants.now (from_list (codes "valencia" ∷ []))) }
+    ensures same { IfOk result (λ s. s
+        ≡ union variants.now (from_list (codes "valencia" ∷ []))) }
     ensures refused { IfErr result (λ e. e ≡ ParseError.Memory) }
 {
     let mut list = Vec::new(alloc);

@@ -37,7 +37,8 @@ fn read_item(
     text: &[u8],
 ) -> Result<LanguageIdentifier, ParseError>
     ensures read { IfOk result (SpellsIn syntax text.now) }
-    ensures refused { IfErr result (λ e. (e ≡ ParseError.Memory) ⊎ IsFaultIn syntax text.now e) }
+    ensures refused { IfErr result (λ e. (e ≡ ParseError.Memory)
+        ⊎ IsFaultIn syntax text.now e) }
 {
     match syntax {
         None => LanguageIdentifier::try_from_utf8(alloc, text),

@@ -93,7 +93,8 @@ fn rewritten(
 ) -> Result<LanguageIdentifier, CanonicalizeError>
     ensures found { IfOk result (λ z. z ≡ rewritten (lent rules.now) id.now rewrite.now) }
     ensures refused { IfErr result (λ e. e ≡ CanonicalizeError.Memory) }
-    ensures free { (rewritten (lent rules.now) id.now rewrite.now).variants ≡ empty → IsOk result }
+    ensures free { (rewritten (lent rules.now) id.now rewrite.now).variants ≡ empty
+        → IsOk result }
 {
     match rewrite {
         Rewrite::Rule(rule) => replacement(id, &rule.source, &rule.replacement),
@@ -123,8 +124,8 @@ fn replaced_variants(
     ensures found { IfOk result (λ s. s
         ≡ image (λ v. unwrap_or (variant_alias (lent rules.now) v) v) variants.now) }
     ensures refused { IfErr result (λ e. e ≡ CanonicalizeError.Memory) }
-    ensures free { image (λ v. unwrap_or (variant_alias (lent rules.now) v) v) variants.now ≡ empty
-        → IsOk result }
+    ensures free { image (λ v. unwrap_or (variant_alias (lent rules.now) v) v) variants.now
+        ≡ empty → IsOk result }
 {
     if variants.is_empty() {
         return Ok(Variants::new(rules.read.alloc));
