@@ -1,11 +1,13 @@
 -- How the ends of a stream's parts make the ends of the stream.
-use Rattle.std.proofs.Common.{◌≡◌, ℕ, false, List, [], ◌∷◌, ◌++◌, Option, Some, None, Result, Ok, Err, IfOk, IfErr, inr, refl, ap, sym, subst, ◌∙◌, append_assoc, append-nil}
+use Rattle.std.proofs.Common.{◌≡◌, ℕ, Bool, false, List, [], ◌∷◌, ◌++◌, Option, Some, None, Result, Ok, Err, IfOk, IfErr, inr, refl, ap, sym, subst, ◌∙◌, append_assoc, append-nil}
 use Rattle.std.specs.List.{list_any}
 use Rattle.std.specs.Io.KnownBytes.{Consumes, IsAtEnd, prepend_known}
 use Rattle.std.proofs.KnownBytes.{Consumes-trans}
 use Rattle.icu_locale.specs.LikelyTable.{likely}
 use Rattle.icu_locale.specs.Negotiation.{Negotiation}
 use Rattle.icu_locale.specs.LikelySubtags.{AreSettled}
+use Rattle.icu_tables.specs.Rows.{rows_of}
+use Rattle.icu_tables.specs.File.{rows_in}
 use Rattle.icu_tables.specs.declared.tables.Tables.{Tables}
 use Rattle.icu_locale_lines.specs.declared.command.Command.TheVariants as command
 use Rattle.icu_locale_lines.specs.declared.command.LineCommand.{LineCommand}
@@ -22,7 +24,7 @@ use Rattle.icu_locale_lines.specs.Lines.{is_line_feed, first_line, after_first_l
 use Rattle.icu_locale_lines.specs.Lists.{listed, SpellsAll}
 use Rattle.icu_locale_lines.specs.Loads.{IsExpanderOf}
 use Rattle.icu_locale_lines.specs.Runs.{ReadsAll, WritesAll}
-use Rattle.icu_locale_lines.specs.Streams.{StopsStream, StopsAmong, IsStoppedLineStream, IsRefusedLineStream, ReadsTablesLine, LeavesBehind, IsJsonStream, IsRefusedJsonStream}
+use Rattle.icu_locale_lines.specs.Streams.{StopsStream, StopsAmong, IsStoppedLineStream, IsRefusedLineStream, ReadsLine, ReadsTablesLine, LeavesBehind, IsJsonStream, IsRefusedJsonStream}
 use Rattle.icu_locale_lines.specs.WholeRuns.{WritesSettled, IsRefusedSettled, IsLineRun}
 use Rattle.icu_locale_lines.specs.Commands.{IsWorkOf, text_answered}
 use Rattle.icu_locale_lines.proofs.FirstLines.{place_of_end, alone}
@@ -116,6 +118,15 @@ module _ (c : LineCommand) (t : Tables) (start left read' wrote wrote' : Stream)
   refused_from_stopped (Err NotSettled) h = absurd h
 
 -- ---- over the tables of the first line
+
+-- the first line, read with nothing before it, and the tables of its text
+pub tables_line : (t : Tables) (read mid : Stream) (line : List ℕ) (has_ended : Bool) → ReadsLine (prepend_known [] read) mid line has_ended → rows_in line ≡ Ok (rows_of t) → ReadsTablesLine read mid t
+tables_line t read mid line has_ended reads rows = record {
+  line = line;
+  has_ended = has_ended;
+  reads = subst (λ r. ReadsLine r mid line has_ended) (prepend_none read) reads;
+  rows = rows;
+}
 
 module _ (t : Tables) (read mid read' wrote wrote' : Stream) (reads : ReadsTablesLine read mid t) where
   pub json_settled : LeavesBehind mid read' → (r : Result Status CliError) → IfOk r (WritesSettled t wrote wrote') → IfOk r (IsJsonStream command.Settled read read' wrote wrote')
