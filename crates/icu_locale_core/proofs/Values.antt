@@ -1,13 +1,15 @@
 -- The pieces of a value, and their text read back.
-use Rattle.std.proofs.Common.{◌≡◌, ℕ, true, false, not, cond, ◌&&◌, ◌||◌, ◌==◌, List, [], ◌∷◌, ◌++◌, length, codes, refl, ap, ◌∙◌}
+use Rattle.std.proofs.Common.{◌≡◌, ℕ, true, false, not, cond, filter, Ok, sym, arith, ◌&&◌, ◌||◌, ◌==◌, List, [], ◌∷◌, ◌++◌, length, codes, refl, ap, ◌∙◌}
 use Rattle.std.specs.List.{All, list_all, flat_map}
-use Rattle.std.proofs.lemmas.Bool.{false≢true, and_parts, and_from}
+use Rattle.std.proofs.lemmas.Bool.{false≢true, true≢false, and_parts, and_from}
 use Rattle.std.proofs.Math.Dec.{eqb-suc-zero}
+use Rattle.std.proofs.lemmas.Bool.Decides.{nat_tests}
+use Rattle.std.proofs.lemmas.List.Splits.{slice_split_none}
 use Rattle.std.proofs.lemmas.List.Elements.{All-nil, All-cons, All-append, All-head, All-tail}
 use Rattle.std.proofs.lemmas.List.Folds.{list_all-append}
-use Rattle.icu_locale_core.specs.Identifier.{pieces}
-use Rattle.icu_locale_core.specs.Subtag.{is_subtag, IsSubtag}
-use Rattle.icu_locale_core.specs.Value.{is_true, is_value, IsValue, read_value, read_subtags, written_value}
+use Rattle.icu_locale_core.specs.Identifier.{pieces, is_separator}
+use Rattle.icu_locale_core.specs.Subtag.{is_subtag, lowercase, IsSubtag}
+use Rattle.icu_locale_core.specs.Value.{is_true, is_value, IsValue, ReadsValue, read_value, read_subtags, written_value}
 use Rattle.icu_locale_core.specs.declared.classes.Class.TheVariants.{Subtag}
 use Rattle.icu_locale_core.proofs.Written.{Whole, whole_member, pieces-join}
 
@@ -59,3 +61,17 @@ value_is_accepted (p ∷ ps) is =
     ap (λ b. b || list_all is_subtag (pieces (written_value (p ∷ ps)))) (some_text p ps is)
     ∙ ap (list_all is_subtag) (pieces-join p ps (wholes (p ∷ ps) is))
     ∙ are_subtags (p ∷ ps) is
+
+-- a text that is one piece reads as that piece, unless it is `true`
+pub one_is_read : (t piece : List ℕ) (v : List (List ℕ)) → is_subtag t ≡ true → piece ≡ lowercase t
+    → v ≡ filter (λ p. not (is_true p)) (piece ∷ []) → ReadsValue t (Ok v)
+one_is_read t piece v is lower kept =
+    let one : pieces t ≡ t ∷ [] = slice_split_none is_separator t (whole_member Subtag t is) in
+    let some : (length t == 0) ≡ false = grind (arith, nat_tests) in
+    let all : is_value t ≡ true = rw some (rw one (rw is refl)) in
+    record {
+      read = rw (kept, lower, some, one) refl;
+      refused = (λ e. absurd (cc), λ no. absurd (true≢false (sym all ∙ no)));
+      language = λ e. cc;
+      free = λ none e. cc;
+    }

@@ -2,4 +2,5 @@
 pub mod Class
 pub mod Identifiers
 pub mod Padded
+pub mod Values
 pub mod Variants

@@ -83,12 +83,23 @@ fn cut(text: &[u8]) -> (&[u8], Option<&[u8]>)
     }
 }
 
-// Where the first separator stands.
+// Where the first separator stands. Most pieces are short, and each place of these is looked at without a loop.
 #[inline(always)]
 fn separator(text: &[u8]) -> Option<usize>
     ensures { result ≡ position is_separator text.now }
 {
-    text.iter().position(is_separator)
+    match text {
+        [a, b, rest @ ..] if !is_separator(a) && !is_separator(b) => match rest {
+            [] => None,
+            [c, ..] if is_separator(c) => Some(2),
+            [_] => None,
+            [_, d, ..] if is_separator(d) => Some(3),
+            [_, _] => None,
+            [_, _, e, ..] if is_separator(e) => Some(4),
+            _ => text.iter().position(is_separator),
+        },
+        _ => text.iter().position(is_separator),
+    }
 }
 
 #[inline(always)]

@@ -1,6 +1,6 @@
 //! Subtags: language, script, region and variant of an identifier, and key and piece of a keyword.
-ghost use Rattle.std.specs.Prelude.{◌≡◌, ◌↔◌, ◌≤◌, ◌+◌, ◌++◌, codes, take, IsTrue, IsOk, IfOk, IfErr, IfSome, is_some, Some, List, ℕ, length};
-ghost use Rattle.std.specs.Char.{is_ascii_alphabetic, is_ascii_digit};
+ghost use Rattle.std.specs.Prelude.{◌≡◌, ◌↔◌, ◌≤◌, ◌+◌, ◌++◌, codes, take, IsTrue, IsOk, IfOk, IfErr, IfSome, is_some, Some, true, List, ℕ, length};
+ghost use Rattle.std.specs.Char.{is_ascii_alphabetic, is_ascii_digit, to_ascii_lowercase, to_ascii_uppercase};
 ghost use Rattle.icu_locale_core.specs.Subtag.{
   is_language,
   is_script,
@@ -67,15 +67,11 @@ impl Language {
     {
         match *text {
             [a, b] if is_letter(a) && is_letter(b) => Some(Language(TinyText::of_two(
-                a.to_ascii_lowercase(),
-                b.to_ascii_lowercase(),
+                lower(a),
+                lower(b),
             ))),
             [a, b, c] if is_letter(a) && is_letter(b) && is_letter(c) => {
-                Some(Language(TinyText::of_three(
-                    a.to_ascii_lowercase(),
-                    b.to_ascii_lowercase(),
-                    c.to_ascii_lowercase(),
-                )))
+                Some(Language(TinyText::of_three(lower(a), lower(b), lower(c))))
             }
             _ => None,
         }
@@ -161,12 +157,7 @@ impl Script {
     {
         match *text {
             [a, b, c, d] if is_letter(a) && is_letter(b) && is_letter(c) && is_letter(d) => {
-                Some(Script(TinyText::of_four(
-                    a.to_ascii_uppercase(),
-                    b.to_ascii_lowercase(),
-                    c.to_ascii_lowercase(),
-                    d.to_ascii_lowercase(),
-                )))
+                Some(Script(TinyText::of_four(upper(a), lower(b), lower(c), lower(d))))
             }
             _ => None,
         }
@@ -249,8 +240,8 @@ impl Region {
     {
         match *text {
             [a, b] if is_letter(a) && is_letter(b) => Some(Region(TinyText::of_two(
-                a.to_ascii_uppercase(),
-                b.to_ascii_uppercase(),
+                upper(a),
+                upper(b),
             ))),
             [a, b, c] if is_digit(a) && is_digit(b) && is_digit(c) => {
                 Some(Region(TinyText::of_three(a, b, c)))
@@ -475,6 +466,28 @@ impl fmt::Display for Subtag {
     fn fmt<W: fmt::Write>(&self, f: &mut fmt::Formatter<W>) -> fmt::Result {
         f.write_str(self.as_str())
     }
+}
+
+// A letter in lower case: five bits tell which letter it is.
+#[inline(always)]
+fn lower(letter: u8) -> u8
+    requires { is_ascii_alphabetic letter ≡ true }
+    ensures lower { result ≡ to_ascii_lowercase letter }
+    ensures written { to_ascii_lowercase result ≡ result }
+    ensures letter { is_ascii_alphabetic result ≡ true }
+{
+    letter % 32 + 96
+}
+
+// A letter in upper case.
+#[inline(always)]
+fn upper(letter: u8) -> u8
+    requires { is_ascii_alphabetic letter ≡ true }
+    ensures upper { result ≡ to_ascii_uppercase letter }
+    ensures written { to_ascii_uppercase result ≡ result }
+    ensures letter { is_ascii_alphabetic result ≡ true }
+{
+    letter % 32 + 64
 }
 
 #[inline(always)]

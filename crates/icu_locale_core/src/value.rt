@@ -1,33 +1,41 @@
 //! Values of keywords.
-ghost use Rattle.std.specs.Prelude.{◌≡◌, ◌≢◌, ◌++◌, [], false, codes, ◌==◌, Some, Err, IsOk, IfOk, IfErr, nat_eq, List, ℕ};
+ghost use Rattle.std.specs.Prelude.{◌≡◌, ◌≢◌, ◌++◌, ◌∷◌, [], false, filter, not, codes, ◌==◌, Some, Err, IsOk, IfOk, IfErr, nat_eq, List, ℕ};
 ghost use Rattle.std.proofs.Common.{rules};
 ghost use Rattle.std.specs.Cmp.Lexicographic.{pointwise};
 ghost use Rattle.std.specs.Cmp.Rules.{comparing};
 ghost use Rattle.std.specs.Fmt.{WritesOnOk};
 ghost use Rattle.std.specs.List.{list_all, flat_map};
 ghost use Rattle.icu_locale_core.specs.Subtag.{is_subtag};
-ghost use Rattle.icu_locale_core.specs.Value.{IsValue, ReadsValue, read_subtags, only_piece, written_value};
+ghost use Rattle.icu_locale_core.specs.Value.{IsValue, ReadsValue, read_subtags, is_true, only_piece, written_value};
+ghost use Rattle.icu_locale_core.specs.inner.Values.{pieces_kept};
 
 use crate::langid::write_after_dash;
 use crate::pieces::Pieces;
 use crate::{ParseError, Subtag};
 use std::alloc::{AllocError, Global};
-use std::fmt;
 use std::marker::Model;
+use std::{fmt, slice};
 
 /// The value of a keyword (type of UTS #35, section 3.6.1): a list of pieces of 3 to 8 letters or digits, in lower case.
-/// Only reading and copying pieces takes memory.
+/// Only reading and copying two pieces or more takes memory.
 #[derive(Drop)]
 pub struct Value {
-    pieces: Vec<Subtag>,
+    kept: Kept,
+}
+
+// The pieces of a value: most have one.
+#[derive(Drop)]
+enum Kept {
+    One(Subtag),
+    Many(Vec<Subtag>),
 }
 
 impl Model for Value {
     ghost Value = { List (List ℕ) };
 
-    ghost view = { λ a. a.pieces.items };
+    ghost view = { λ a. pieces_kept a.kept };
 
-    ghost invariant = { λ a. IsValue a.pieces.items };
+    ghost invariant = { λ a. IsValue (pieces_kept a.kept) };
 }
 
 impl Value {
@@ -52,17 +60,37 @@ impl Value {
     pub fn try_from_utf8(alloc: Global, text: &[u8]) -> Result<Self, ParseError>
         ensures { ReadsValue text.now result }
     {
+        if let Some(piece) = Subtag::try_from_bytes(text) {
+            return Ok(Value::of_piece(alloc, piece));
+        }
         if text.is_empty() {
-            return Ok(Value {
-                pieces: Vec::new(alloc),
-            });
+            return Ok(Value::of_list(Vec::new(alloc)));
         }
         if !are_subtags(Pieces::new(text)) {
             return Err(ParseError::InvalidSubtag);
         }
-        Ok(Value {
-            pieces: read_subtags(alloc, Pieces::new(text))?,
-        })
+        Ok(Value::of_list(read_subtags(alloc, Pieces::new(text))?))
+    }
+
+    // The value of one piece, which is dropped where it is `true`.
+    fn of_piece(alloc: Global, piece: Subtag) -> Self
+        ensures { result ≡ filter (λ p. not (is_true p)) (piece ∷ []) }
+    {
+        if piece.as_str() == "true" {
+            return Value::of_list(Vec::new(alloc));
+        }
+        Value {
+            kept: Kept::One(piece),
+        }
+    }
+
+    fn of_list(pieces: Vec<Subtag>) -> Self
+        requires { IsValue pieces.items }
+        ensures { result ≡ pieces.items }
+    {
+        Value {
+            kept: Kept::Many(pieces),
+        }
     }
 
     /// The piece of a value that has exactly one, else none.
@@ -70,7 +98,8 @@ impl Value {
         ensures only { result ≡ only_piece self.now }
         ensures known { IsValue self.now }
     {
-        match self.pieces.as_slice() {
+        let _ = &self.kept;
+        match self.as_slice() {
             [only] => Some(*only),
             _ => None,
         }
@@ -80,7 +109,10 @@ impl Value {
     pub fn as_slice(&self) -> &[Subtag]
         ensures { result.now ≡ self.now }
     {
-        self.pieces.as_slice()
+        match &self.kept {
+            Kept::One(piece) => slice::from_ref(piece),
+            Kept::Many(pieces) => pieces.as_slice(),
+        }
     }
 
     /// An equal value.
@@ -93,14 +125,15 @@ impl Value {
         ensures refused { IfErr result (λ e. e ≡ ParseError.Memory) }
         ensures free { self.now ≡ [] → IsOk result }
     {
-        if self.pieces.is_empty() {
-            return Ok(Value {
-                pieces: Vec::new(*self.pieces.allocator()),
-            });
+        match &self.kept {
+            Kept::One(piece) => Ok(Value {
+                kept: Kept::One(*piece),
+            }),
+            Kept::Many(pieces) if pieces.is_empty() => {
+                Ok(Value::of_list(Vec::new(*pieces.allocator())))
+            }
+            Kept::Many(pieces) => Ok(Value::of_list(Vec::from_slice(*pieces.allocator(), pieces)?)),
         }
-        Ok(Value {
-            pieces: Vec::from_slice(*self.pieces.allocator(), &self.pieces)?,
-        })
     }
 }
 
@@ -118,7 +151,7 @@ impl PartialEq for Value {
     ghost laws = { Prim.search (comparing, rules) };
 
     fn eq(&self, other: &Self) -> bool {
-        self.pieces.as_slice() == other.pieces.as_slice()
+        self.as_slice() == other.as_slice()
     }
 }
 
@@ -130,7 +163,7 @@ impl fmt::Display for Value {
     ghost output = { λ v. Some (written_value v) };
 
     fn fmt<W: fmt::Write>(&self, f: &mut fmt::Formatter<W>) -> fmt::Result {
-        let Some((first, rest)) = self.pieces.split_first() else {
+        let Some((first, rest)) = self.as_slice().split_first() else {
             return Ok(());
         };
         f.write_str(first.as_str())?;
