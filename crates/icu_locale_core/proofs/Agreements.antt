@@ -57,7 +57,8 @@ same_identifier x y e =
     }
 
 -- a test that tells equality agrees with an order that ties where it passes, and a hash that tells values apart
-pub Agree-from_test : {X : Type 0} (eq : X → X → Bool) (cmp : X → X → Ordering) (hash : X → HashWrites) → ((x y : X) → Tells (eq x y) (x ≡ y)) → ((x y : X) → eq x y ≡ is_eq (cmp x y)) → ((x y : X) → hash x ≡ hash y → x ≡ y) → Agree eq cmp hash
+pub Agree-from_test : {X : Type 0} (eq : X → X → Bool) (cmp : X → X → Ordering) (hash : X → HashWrites)
+    → ((x y : X) → Tells (eq x y) (x ≡ y)) → ((x y : X) → eq x y ≡ is_eq (cmp x y)) → ((x y : X) → hash x ≡ hash y → x ≡ y) → Agree eq cmp hash
 Agree-from_test eq cmp hash tells ties apart = record {
   equal = λ x y. ((tells x y).0, (tells x y).1);
   tied = λ x y. (λ e. (tells x y).0 (ties x y ∙ ap is_eq e), λ e. (Equal-is (cmp x y)).0 (sym (ties x y) ∙ (tells x y).1 e));
@@ -88,7 +89,8 @@ rows_tell p q = (
   λ e.
       let parts = and_parts (same_text p.0 q.0) _ e in
       λ i. ((bytes_eq-Decides p.0 q.0).0 parts.0 i, (values_decide p.1 q.1).0 parts.1 i),
-  λ e. λ i. (bytes_eq-Decides p.0 q.0).1 (ap (λ (r : List ℕ × List (List ℕ)). r.0) e) i && (values_decide p.1 q.1).1 (ap (λ (r : List ℕ × List (List ℕ)). r.1) e) i,
+  λ e. λ i. (bytes_eq-Decides p.0 q.0).1 (ap (λ (r : List ℕ × List (List ℕ)). r.0) e) i
+      && (values_decide p.1 q.1).1 (ap (λ (r : List ℕ × List (List ℕ)). r.1) e) i,
 )
 
 pub keywords_tell : (k l : KeywordRows) → Tells (pointwise row_eq k l) (k ≡ l)
@@ -99,7 +101,8 @@ keywords_tell k l = slice_eq-Decides rows_tell k l (pointwise row_eq k l) refl
 abbrev same_locale : Locale → Locale → Bool
 same_locale x y =
     same_parts x.id y.id
-    && (pointwise row_eq x.extensions.unicode.keywords y.extensions.unicode.keywords && option_eq same_parts x.extensions.transform.lang y.extensions.transform.lang)
+    && (pointwise row_eq x.extensions.unicode.keywords y.extensions.unicode.keywords
+    && option_eq same_parts x.extensions.transform.lang y.extensions.transform.lang)
 
 pub locales_tell : (x y : Locale) → Tells (same_locale x y) (x ≡ y)
 locales_tell x y =

@@ -6,7 +6,8 @@ use Rattle.std.proofs.lemmas.Bool.{and_parts, false_from_ne_true}
 use Rattle.std.proofs.lemmas.Bool.Decides.{nat_tests}
 use Rattle.std.proofs.lemmas.Str.Ascii.{lowercase-lowercase, uppercase-uppercase}
 use Rattle.std.proofs.lemmas.List.{length-map}
-use Rattle.icu_locale_core.specs.Subtag.{has_length, is_alphabetic, is_numeric, is_alphanumeric, starts_with_digit, is_script, is_region, is_variant, is_key, lowercase, uppercase, titlecase, IsWritten}
+use Rattle.icu_locale_core.specs.Subtag.{has_length, is_alphabetic, is_numeric, is_alphanumeric, starts_with_digit, is_script, is_region, is_variant}
+use Rattle.icu_locale_core.specs.Subtag.{is_key, lowercase, uppercase, titlecase, IsWritten}
 use Rattle.icu_locale_core.specs.inner.Class.{is_member, written_case, written_byte}
 use Rattle.icu_locale_core.specs.declared.classes.Class.{Class}
 use Rattle.icu_locale_core.specs.declared.classes.Class.TheVariants.{Language, Script, Region, Variant, Key, Subtag}
@@ -69,12 +70,19 @@ has_length-same low high s t e = cc
 
 -- the class of a text is that of its written form
 pub is_member-written_case : (class : Class) (t : List ℕ) → is_member class (written_case class t) ≡ is_member class t
-is_member-written_case Language t = λ i. has_length-same 2 3 (lowercase t) t (length-map t to_ascii_lowercase) i && all-lowercase is_ascii_alphabetic alphabetic_sees_no_case t i
-is_member-written_case Script t = λ i. has_length-same 4 4 (titlecase t) t (length-titlecase t) i && all-titlecase is_ascii_alphabetic alphabetic_sees_no_case t i
-is_member-written_case Region t = λ i. (has_length-same 2 2 (uppercase t) t (length-map t to_ascii_uppercase) i && all-uppercase is_ascii_alphabetic alphabetic_sees_no_case t i) || (has_length-same 3 3 (uppercase t) t (length-map t to_ascii_uppercase) i && all-uppercase is_ascii_digit digit_sees_no_case t i)
-is_member-written_case Variant t = λ i. (has_length-same 5 8 (lowercase t) t (length-map t to_ascii_lowercase) i || (has_length-same 4 4 (lowercase t) t (length-map t to_ascii_lowercase) i && starts_with_digit-lowercase t i)) && all-lowercase is_ascii_alphanumeric alphanumeric_sees_no_case t i
+is_member-written_case Language t = λ i. has_length-same 2 3 (lowercase t) t (length-map t to_ascii_lowercase) i
+    && all-lowercase is_ascii_alphabetic alphabetic_sees_no_case t i
+is_member-written_case Script t = λ i. has_length-same 4 4 (titlecase t) t (length-titlecase t) i
+    && all-titlecase is_ascii_alphabetic alphabetic_sees_no_case t i
+is_member-written_case Region t = λ i. (has_length-same 2 2 (uppercase t) t (length-map t to_ascii_uppercase) i
+    && all-uppercase is_ascii_alphabetic alphabetic_sees_no_case t i) || (has_length-same 3 3 (uppercase t) t
+    (length-map t to_ascii_uppercase) i && all-uppercase is_ascii_digit digit_sees_no_case t i)
+is_member-written_case Variant t = λ i. (has_length-same 5 8 (lowercase t) t (length-map t to_ascii_lowercase) i
+    || (has_length-same 4 4 (lowercase t) t (length-map t to_ascii_lowercase) i && starts_with_digit-lowercase t i))
+    && all-lowercase is_ascii_alphanumeric alphanumeric_sees_no_case t i
 is_member-written_case Key t = is_key-lowercase t
-is_member-written_case Subtag t = λ i. has_length-same 3 8 (lowercase t) t (length-map t to_ascii_lowercase) i && all-lowercase is_ascii_alphanumeric alphanumeric_sees_no_case t i
+is_member-written_case Subtag t = λ i. has_length-same 3 8 (lowercase t) t (length-map t to_ascii_lowercase) i
+    && all-lowercase is_ascii_alphanumeric alphanumeric_sees_no_case t i
 
 -- to write twice is to write once
 pub written_case-written_case : (class : Class) (t : List ℕ) → written_case class (written_case class t) ≡ written_case class t
@@ -124,7 +132,8 @@ alphanumeric_from_alphabetic t h = list_all-weaker is_ascii_alphabetic is_ascii_
 alphanumeric_from_numeric : (t : List ℕ) → is_numeric t ≡ true → is_alphanumeric t ≡ true
 alphanumeric_from_numeric t h = list_all-weaker is_ascii_digit is_ascii_alphanumeric (λ c h. grind (arith, nat_tests)) t h
 
-region_plain : (a b c d : Bool) (t : List ℕ) → (b ≡ true → is_alphanumeric t ≡ true) → (d ≡ true → is_alphanumeric t ≡ true) → ((a && b) || (c && d)) ≡ true → is_alphanumeric t ≡ true
+region_plain : (a b c d : Bool) (t : List ℕ) → (b ≡ true → is_alphanumeric t ≡ true) → (d ≡ true → is_alphanumeric t ≡ true)
+    → ((a && b) || (c && d)) ≡ true → is_alphanumeric t ≡ true
 region_plain true true c d t f g h = f refl
 region_plain true false c d t f g h = g ((and_parts c d h).1)
 region_plain false b c d t f g h = g ((and_parts c d h).1)
@@ -139,7 +148,8 @@ key_plain (c ∷ d ∷ e ∷ t) h = absurd (cc)
 pub plain_from_member : (class : Class) (t : List ℕ) → is_member class t ≡ true → is_alphanumeric t ≡ true
 plain_from_member Language t h = alphanumeric_from_alphabetic t ((and_parts (has_length 2 3 t) (is_alphabetic t) h).1)
 plain_from_member Script t h = alphanumeric_from_alphabetic t ((and_parts (has_length 4 4 t) (is_alphabetic t) h).1)
-plain_from_member Region t h = region_plain (has_length 2 2 t) (is_alphabetic t) (has_length 3 3 t) (is_numeric t) t (alphanumeric_from_alphabetic t) (alphanumeric_from_numeric t) h
+plain_from_member Region t h = region_plain (has_length 2 2 t) (is_alphabetic t) (has_length 3 3 t) (is_numeric t) t
+    (alphanumeric_from_alphabetic t) (alphanumeric_from_numeric t) h
 plain_from_member Variant t h = (and_parts (has_length 5 8 t || (has_length 4 4 t && starts_with_digit t)) (is_alphanumeric t) h).1
 plain_from_member Key t h = key_plain t h
 plain_from_member Subtag t h = (and_parts (has_length 3 8 t) (is_alphanumeric t) h).1
@@ -207,7 +217,8 @@ lowercase-written_case Subtag t = lowercase-lowercase_text t
 
 -- the class does not see the case
 pub is_member-lowercase : (class : Class) (t : List ℕ) → is_member class (lowercase t) ≡ is_member class t
-is_member-lowercase class t = sym (is_member-written_case class (lowercase t)) ∙ ap (is_member class) (written_case-lowercase class t) ∙ is_member-written_case class t
+is_member-lowercase class t = sym (is_member-written_case class (lowercase t)) ∙ ap (is_member class) (written_case-lowercase class t)
+    ∙ is_member-written_case class t
 
 -- ---- the classes after the language share no text
 
@@ -223,7 +234,8 @@ region_length t h = by (has_length 2 2 t) (has_length 3 3 t) (λ e. grind (arith
     by false false f g c d h = absurd (cc)
 
 pub variant_length : (t : List ℕ) → is_variant t ≡ true → 4 ≤ length t
-variant_length t h = by (has_length 5 8 t) (has_length 4 4 t) (λ e. grind (arith, nat_tests)) (λ e. grind (arith, nat_tests)) (starts_with_digit t) ((and_parts (has_length 5 8 t || (has_length 4 4 t && starts_with_digit t)) (is_alphanumeric t) h).0)
+variant_length t h = by (has_length 5 8 t) (has_length 4 4 t) (λ e. grind (arith, nat_tests)) (λ e. grind (arith, nat_tests))
+    (starts_with_digit t) ((and_parts (has_length 5 8 t || (has_length 4 4 t && starts_with_digit t)) (is_alphanumeric t) h).0)
   where
     by : (a b : Bool) → (a ≡ true → 4 ≤ length t) → (b ≡ true → 4 ≤ length t) → (c : Bool) → (a || (b && c)) ≡ true → 4 ≤ length t
     by true b f g c h = f refl
@@ -237,7 +249,8 @@ pub variant_no_region : (t : List ℕ) → is_variant t ≡ true → is_region t
 variant_no_region t h = false_from_ne_true (is_region t) (λ g. omega (arith, variant_length t h, region_length t g))
 
 digit_first : (t : List ℕ) → is_variant t ≡ true → length t ≡ 4 → starts_with_digit t ≡ true
-digit_first t h four = by (has_length 5 8 t) (grind (arith, nat_tests)) (has_length 4 4 t) (starts_with_digit t) ((and_parts (has_length 5 8 t || (has_length 4 4 t && starts_with_digit t)) (is_alphanumeric t) h).0)
+digit_first t h four = by (has_length 5 8 t) (grind (arith, nat_tests)) (has_length 4 4 t) (starts_with_digit t)
+    ((and_parts (has_length 5 8 t || (has_length 4 4 t && starts_with_digit t)) (is_alphanumeric t) h).0)
   where
     by : (a : Bool) → a ≡ false → (b c : Bool) → (a || (b && c)) ≡ true → c ≡ true
     by true e b c h = absurd (cc)
@@ -245,7 +258,9 @@ digit_first t h four = by (has_length 5 8 t) (grind (arith, nat_tests)) (has_len
 
 digit_no_letter : (t : List ℕ) → starts_with_digit t ≡ true → is_alphabetic t ≡ true → ⊥
 digit_no_letter [] h g = absurd (cc)
-digit_no_letter (c ∷ t) h g = let letter : is_ascii_alphabetic c ≡ true = (and_parts (is_ascii_alphabetic c) (is_alphabetic t) g).0 in absurd (grind (arith, nat_tests))
+digit_no_letter (c ∷ t) h g = let letter : is_ascii_alphabetic c ≡ true = (and_parts (is_ascii_alphabetic c) (is_alphabetic t) g).0 in
+    absurd (grind (arith, nat_tests))
 
 pub variant_no_script : (t : List ℕ) → is_variant t ≡ true → is_script t ≡ false
-variant_no_script t h = false_from_ne_true (is_script t) (λ g. digit_no_letter t (digit_first t h (script_length t g)) ((and_parts (has_length 4 4 t) (is_alphabetic t) g).1))
+variant_no_script t h = false_from_ne_true (is_script t) (λ g. digit_no_letter t (digit_first t h (script_length t g))
+    ((and_parts (has_length 4 4 t) (is_alphabetic t) g).1))

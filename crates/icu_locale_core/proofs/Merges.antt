@@ -1,5 +1,6 @@
 -- Rising lists walked side by side.
-use Rattle.std.proofs.Common.{◌≡◌, ℕ, ◌+◌, ◌<◌, ◌≤◌, Bool, true, false, ◌||◌, ◌&&◌, not, take, cond, List, [], ◌∷◌, ◌++◌, length, get_or, nat_eq, zero, suc, Some, None, inl, inr, refl, ap, sym, subst, ◌∙◌, arith}
+use Rattle.std.proofs.Common.{◌≡◌, ℕ, ◌+◌, ◌<◌, ◌≤◌, Bool, true, false, ◌||◌, ◌&&◌, not, take, cond, List, [], ◌∷◌, ◌++◌, length, get_or, nat_eq}
+use Rattle.std.proofs.Common.{zero, suc, Some, None, inl, inr, refl, ap, sym, subst, ◌∙◌, arith}
 use Rattle.std.specs.List.{AllByRecursion, Contains, filter}
 use Rattle.std.proofs.lemmas.List.{take_more}
 use Rattle.std.proofs.lemmas.List.Kept.{IsStrictlySortedBy-filter}
@@ -16,7 +17,9 @@ use Rattle.std.proofs.lemmas.Option.{same_Some, none-some}
 use Rattle.std.proofs.lemmas.Slice.Eq.{bytes_eq-Decides}
 use Rattle.icu_locale_core.specs.TextSet.{text_cmp, TextSet, empty, contains, from_list, rising, difference, union}
 use Rattle.icu_locale_core.specs.inner.Variants.{HasAllAbove, least, behind}
-use Rattle.icu_locale_core.specs.laws.TextSets.{text_total, text_same, same_from_tied, same_set, is_among, is_among-append, is_among-Contains, contains-from_list, contains-rising, contains-empty, contains-difference, contains-union, length-rising_empty}
+use Rattle.icu_locale_core.specs.laws.TextSets.{text_total, text_same, same_from_tied, same_set, is_among, is_among-append, is_among-Contains}
+use Rattle.icu_locale_core.specs.laws.TextSets.{contains-from_list, contains-rising, contains-empty, contains-difference, contains-union}
+use Rattle.icu_locale_core.specs.laws.TextSets.{length-rising_empty}
 use Rattle.icu_locale_core.proofs.TextSets.{rising_rises}
 use Rattle.icu_locale_core.specs.laws.RisingLists.{rising-from_list}
 
@@ -32,8 +35,10 @@ pub nowhere : (q : List ℕ) (us : List (List ℕ)) → AllByRecursion (λ u. te
 nowhere q [] below = refl
 nowhere q (u ∷ us) below = ap (λ o. is_eq o || is_among q us) below.0 ∙ nowhere q us below.1
 
-above_all : (t u : List ℕ) (us : List (List ℕ)) → text_cmp t u ≡ Less → AllByRecursion (λ v. text_cmp u v ≡ Less) us → AllByRecursion (λ v. text_cmp t v ≡ Less) us
-above_all t u us e rise = recursion_from_All _ _ (All-weaker (λ v. text_cmp u v ≡ Less) (λ v. text_cmp t v ≡ Less) (λ v. text_total.trans t u v e) us (All-from_recursion _ _ rise))
+above_all : (t u : List ℕ) (us : List (List ℕ)) → text_cmp t u ≡ Less → AllByRecursion (λ v. text_cmp u v ≡ Less) us
+    → AllByRecursion (λ v. text_cmp t v ≡ Less) us
+above_all t u us e rise = recursion_from_All _ _ (All-weaker (λ v. text_cmp u v ≡ Less) (λ v. text_cmp t v ≡ Less)
+    (λ v. text_total.trans t u v e) us (All-from_recursion _ _ rise))
 
 module _ (t u : List ℕ) (us : List (List ℕ)) (rise : IsStrictlySortedBy text_cmp (u ∷ us)) where
   pub rest_rises : IsStrictlySortedBy text_cmp us
@@ -69,7 +74,8 @@ in_range [] k d within = absurd (omega arith)
 in_range (t ∷ ts) zero d within = refl
 in_range (t ∷ ts) (suc k) d within = in_range ts k d (omega arith)
 
-module _ (s : TextSet) (ts : List (List ℕ)) (rise : IsStrictlySortedBy text_cmp ts) (place : ℕ) (t : List ℕ) (rest : List (List ℕ)) (within : place < length ts) (is : t ≡ get_or ts place t) where
+module _ (s : TextSet) (ts : List (List ℕ)) (rise : IsStrictlySortedBy text_cmp ts) (place : ℕ) (t : List ℕ) (rest : List (List ℕ))
+    (within : place < length ts) (is : t ≡ get_or ts place t) where
   t_is : t ≡ get_or ts place []
   t_is = is ∙ in_range ts place t within
 
@@ -78,10 +84,12 @@ module _ (s : TextSet) (ts : List (List ℕ)) (rise : IsStrictlySortedBy text_cm
 
   pub answers-next : (later : List (List ℕ)) → AnswersFrom s rest ts place → HasAllAbove t rest later → AnswersFrom s later ts (place + 1)
   answers-next later agree above k low high =
-      agree k (omega arith) high ∙ above (get_or ts k []) (subst (λ q. text_cmp q (get_or ts k []) ≡ Less) (sym t_is) (Less-from_sorted text_cmp ts place k [] rise (omega arith) high))
+      agree k (omega arith) high ∙ above (get_or ts k []) (subst (λ q. text_cmp q (get_or ts k []) ≡ Less) (sym t_is)
+      (Less-from_sorted text_cmp ts place k [] rise (omega arith) high))
 
 -- a filter of one element more
-pub filter_more : (p : List ℕ → Bool) (ts : List (List ℕ)) (place : ℕ) (t : List ℕ) (b : Bool) → place < length ts → t ≡ get_or ts place t → p t ≡ b → filter p (take (place + 1) ts) ≡ filter p (take place ts) ++ cond b (t ∷ []) []
+pub filter_more : (p : List ℕ → Bool) (ts : List (List ℕ)) (place : ℕ) (t : List ℕ) (b : Bool) → place < length ts → t ≡ get_or ts place t
+    → p t ≡ b → filter p (take (place + 1) ts) ≡ filter p (take place ts) ++ cond b (t ∷ []) []
 filter_more p ts place t b within is test =
     ap (filter p) (take_more ts place t within)
     ∙ filter-append p (take place ts) (get_or ts place t ∷ [])
@@ -124,7 +132,11 @@ least-is t (a ∷ later) [] e =
     subst (λ u. IsLeast u (a ∷ later) []) same (record { left_floor = not_below_itself a; right_floor = tt; one_of = or_left _ _ (among_first a later) })
 least-is t [] (b ∷ bs) e =
     let same = same_Some b t e in
-    subst (λ u. IsLeast u [] (b ∷ bs)) same (record { left_floor = tt; right_floor = not_below_itself b; one_of = or_right (is_among b []) _ (among_first b bs) })
+    subst (λ u. IsLeast u [] (b ∷ bs)) same (record {
+      left_floor = tt;
+      right_floor = not_below_itself b;
+      one_of = or_right (is_among b []) _ (among_first b bs);
+    })
 least-is t (a ∷ later) (b ∷ bs) e = by (is_lt (text_cmp b a)) refl e
   where
     flip_less : (o : Ordering) → is_lt o ≡ true → is_lt (ordering_reverse o) ≡ false
@@ -180,7 +192,8 @@ follows t (u ∷ us) rise floor = by (pointwise nat_eq t u) refl
         record {
           rises = subst (IsStrictlySortedBy text_cmp) (sym is) (rest_rises t u us rise);
           above = λ q here. subst (λ w. text_cmp w q ≡ Less) (sym same) (above_among u q us (rest_above t u us rise) (sym (ap (is_among q) is) ∙ here));
-          same = λ q. ap (λ ts. eq_by_cmp text_cmp q t || is_among q ts) is ∙ or_twice (eq_by_cmp text_cmp q t) (is_among q us) ∙ ap (λ w. eq_by_cmp text_cmp q t || (eq_by_cmp text_cmp q w || is_among q us)) same;
+          same = λ q. ap (λ ts. eq_by_cmp text_cmp q t || is_among q ts) is ∙ or_twice (eq_by_cmp text_cmp q t) (is_among q us)
+              ∙ ap (λ w. eq_by_cmp text_cmp q t || (eq_by_cmp text_cmp q w || is_among q us)) same;
         }
     by false e =
         let is : behind t (u ∷ us) ≡ u ∷ us = ap (λ b. cond b us (u ∷ us)) e in
@@ -199,7 +212,8 @@ or_inside : (a b : Bool) → (a ≡ true → b ≡ true) → (a || b) ≡ b
 or_inside true b inside = sym (inside refl)
 or_inside false b inside = refl
 
-module _ (t : List ℕ) (left right : List (List ℕ)) (left_rises : IsStrictlySortedBy text_cmp left) (right_rises : IsStrictlySortedBy text_cmp right) (e : least left right ≡ Some t) where
+module _ (t : List ℕ) (left right : List (List ℕ)) (left_rises : IsStrictlySortedBy text_cmp left)
+    (right_rises : IsStrictlySortedBy text_cmp right) (e : least left right ≡ Some t) where
   is_least : IsLeast t left right
   is_least = least-is t left right e
 
@@ -223,21 +237,28 @@ module _ (t : List ℕ) (left right : List (List ℕ)) (left_rises : IsStrictlyS
       let there : (is_among q (behind t left) || is_among q (behind t right)) ≡ true =
       sym (contains-from_list (behind t left ++ behind t right) q ∙ is_among-append q (behind t left) (behind t right))
       ∙ contains-rising left_over q ∙ is_among-Contains q (rising left_over) here in
-      elim (or_cases (is_among q (behind t left)) (is_among q (behind t right)) there) [ inl in_left ↦ of_left.above q in_left | inr in_right ↦ of_right.above q in_right ]
+      elim (or_cases (is_among q (behind t left)) (is_among q (behind t right)) there)
+      [ inl in_left ↦ of_left.above q in_left | inr in_right ↦ of_right.above q in_right ]
 
   in_order : IsStrictlySortedBy text_cmp (t ∷ rising left_over)
   unfolding IsStrictlySortedBy
-  in_order = (recursion_from_All _ _ (All-weaker (Contains (rising left_over)) (λ q. text_cmp t q ≡ Less) above_t (rising left_over) (All-contains_itself (rising left_over))), rising_rises left_over)
+  in_order = (
+    recursion_from_All _ _ (All-weaker (Contains (rising left_over)) (λ q. text_cmp t q ≡ Less) above_t (rising left_over)
+        (All-contains_itself (rising left_over))),
+    rising_rises left_over,
+  )
 
   same_members : (q : List ℕ) → contains (from_list (t ∷ rising left_over)) q ≡ contains (from_list (left ++ right)) q
   same_members q =
       let tied = eq_by_cmp text_cmp q t in
       contains-from_list (t ∷ rising left_over) q
-      ∙ ap (λ b. tied || b) (sym (contains-rising left_over q) ∙ contains-from_list (behind t left ++ behind t right) q ∙ is_among-append q (behind t left) (behind t right))
+      ∙ ap (λ b. tied || b) (sym (contains-rising left_over q) ∙ contains-from_list (behind t left ++ behind t right) q
+      ∙ is_among-append q (behind t left) (behind t right))
       ∙ or_both tied (is_among q (behind t left)) (is_among q (behind t right))
       ∙ (λ i. of_left.same q i || of_right.same q i)
       ∙ sym (or_both tied (is_among q left) (is_among q right))
-      ∙ or_inside tied (is_among q left || is_among q right) (λ h. subst (λ w. (is_among w left || is_among w right) ≡ true) (sym (same_from_tied q t h)) is_least.one_of)
+      ∙ or_inside tied (is_among q left || is_among q right) (λ h. subst (λ w. (is_among w left || is_among w right) ≡ true)
+      (sym (same_from_tied q t h)) is_least.one_of)
       ∙ sym (contains-from_list (left ++ right) q ∙ is_among-append q left right)
 
   -- the least text, and then what is left in order, is all in order

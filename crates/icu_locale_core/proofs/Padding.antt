@@ -1,5 +1,6 @@
 -- What an array of a text and zeros behind it holds, its equality and its number.
-use Rattle.std.proofs.Common.{◌≡◌, ℕ, ◌<◌, ◌≤◌, ◌+◌, ◌-◌, ◌*◌, ◌^◌, true, false, ◌&&◌, List, [], ◌∷◌, ◌++◌, length, take, set, replicate, get_or, suc, zero, nat_lt, if◌then◌else◌, refl, ap, sym, subst, ◌∙◌, arith, nat_eq}
+use Rattle.std.proofs.Common.{◌≡◌, ℕ, ◌<◌, ◌≤◌, ◌+◌, ◌-◌, ◌*◌, ◌^◌, true, false, ◌&&◌, List, [], ◌∷◌, ◌++◌, length, take, set, replicate, get_or, suc}
+use Rattle.std.proofs.Common.{zero, nat_lt, if◌then◌else◌, refl, ap, sym, subst, ◌∙◌, arith, nat_eq}
 use Rattle.std.specs.Cmp.Lexicographic.{pointwise}
 use Rattle.std.specs.Str.{IsUtf8, IsAscii}
 use Rattle.std.proofs.lemmas.Str.{IsUtf8-from_ascii, IsUtf8-append}
@@ -29,7 +30,8 @@ IsPadded-padded n t small plain short =
     record { small = small; short = rw seen short; zeros = ap (padded n) seen; plain = rw seen plain }
 
 -- the next character goes in place of the first zero
-pub set-next : (w : List ℕ) (n i x : ℕ) → i < length w → i < n → get_or w i 0 ≡ x → set (take i w ++ replicate (n - i) 0) i x ≡ take (i + 1) w ++ replicate (n - (i + 1)) 0
+pub set-next : (w : List ℕ) (n i x : ℕ) → i < length w → i < n → get_or w i 0 ≡ x
+    → set (take i w ++ replicate (n - i) 0) i x ≡ take (i + 1) w ++ replicate (n - (i + 1)) 0
 set-next w n i x within room is =
     let front : length (take i w) ≡ i = omega (arith, length-take i w) in
     let behind : n - i ≡ suc (n - (i + 1)) = omega arith in
@@ -41,7 +43,8 @@ set-next w n i x within room is =
     append_one (x ∷ xs) y ys = ap (λ r. x ∷ r) (append_one xs y ys)
 
 -- with the zeros, texts agree as they do without them
-padded_eq : (s t : List ℕ) (k m : ℕ) → is_alphanumeric s ≡ true → is_alphanumeric t ≡ true → length s + k ≡ length t + m → pointwise nat_eq (s ++ replicate k 0) (t ++ replicate m 0) ≡ pointwise nat_eq s t
+padded_eq : (s t : List ℕ) (k m : ℕ) → is_alphanumeric s ≡ true → is_alphanumeric t ≡ true → length s + k ≡ length t + m
+    → pointwise nat_eq (s ++ replicate k 0) (t ++ replicate m 0) ≡ pointwise nat_eq s t
 padded_eq [] [] k m p q e = let same : k ≡ m = omega arith in rw same (zeros_agree m)
   where
     zeros_agree : (n : ℕ) → pointwise nat_eq (replicate n 0) (replicate n 0) ≡ true
@@ -56,7 +59,8 @@ padded_eq (c ∷ s) (d ∷ t) k m p q e =
     let q' : is_alphanumeric t ≡ true = grind (arith, nat_tests) in
     ap (λ b. nat_eq c d && b) (padded_eq s t k m p' q' (omega arith))
 
-pub eq-padded : (n : ℕ) (s t : List ℕ) → is_alphanumeric s ≡ true → is_alphanumeric t ≡ true → length s ≤ n → length t ≤ n → pointwise nat_eq (padded n s) (padded n t) ≡ pointwise nat_eq s t
+pub eq-padded : (n : ℕ) (s t : List ℕ) → is_alphanumeric s ≡ true → is_alphanumeric t ≡ true → length s ≤ n → length t ≤ n
+    → pointwise nat_eq (padded n s) (padded n t) ≡ pointwise nat_eq s t
 eq-padded n s t p q short short' = padded_eq s t (n - length s) (n - length t) p q (omega arith)
 
 -- letters and digits are ASCII, and so UTF-8
@@ -74,11 +78,13 @@ IsUtf8-plain t h = IsUtf8-from_ascii t (IsAscii-plain t h)
 pub take-unpadded : (bs : List ℕ) → take (length (unpadded bs)) bs ≡ unpadded bs
 take-unpadded [] = refl
 take-unpadded (c ∷ bs) =
-    elim (nat_lt 0 c) as (λ b. take (length (if b then c ∷ unpadded bs else [])) (c ∷ bs) ≡ (if b then c ∷ unpadded bs else [])) [ true ↦ ap (λ r. c ∷ r) (take-unpadded bs) | false ↦ refl ]
+    elim (nat_lt 0 c) as (λ b. take (length (if b then c ∷ unpadded bs else [])) (c ∷ bs) ≡ (if b then c ∷ unpadded bs else []))
+    [ true ↦ ap (λ r. c ∷ r) (take-unpadded bs) | false ↦ refl ]
 
 -- with its zeros too
 pub IsUtf8-padded : (n : ℕ) (bs : List ℕ) → IsPadded n bs → IsUtf8 bs
-IsUtf8-padded n bs p = subst IsUtf8 p.zeros (IsUtf8-append (unpadded bs) (replicate (n - length (unpadded bs)) 0) (IsUtf8-plain (unpadded bs) p.plain) (IsUtf8-from_ascii _ (zeros_ascii (n - length (unpadded bs)))))
+IsUtf8-padded n bs p = subst IsUtf8 p.zeros (IsUtf8-append (unpadded bs) (replicate (n - length (unpadded bs)) 0)
+    (IsUtf8-plain (unpadded bs) p.plain) (IsUtf8-from_ascii _ (zeros_ascii (n - length (unpadded bs)))))
   where
     zeros_ascii : (k : ℕ) → IsAscii (replicate k 0)
     zeros_ascii zero = IsAscii-nil

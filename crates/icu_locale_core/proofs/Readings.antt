@@ -1,12 +1,14 @@
 -- Reading from the left finds exactly what a text spells.
-use Rattle.std.proofs.Common.{◌≡◌, ℕ, ◌==◌, Bool, true, false, ◌&&◌, ◌||◌, List, [], ◌∷◌, ◌++◌, length, map, Option, Some, None, Result, Ok, Err, IfOk, IfSome, MatchOption, ◌⊎◌, inl, inr, if◌then◌else◌, refl, ap, sym, subst, ◌∙◌}
+use Rattle.std.proofs.Common.{◌≡◌, ℕ, ◌==◌, Bool, true, false, ◌&&◌, ◌||◌, List, [], ◌∷◌, ◌++◌, length, map, Option, Some, None, Result, Ok, Err}
+use Rattle.std.proofs.Common.{IfOk, IfSome, MatchOption, ◌⊎◌, inl, inr, if◌then◌else◌, refl, ap, sym, subst, ◌∙◌}
 use denote.Ref.{Bor}
 use Rattle.std.specs.Option.{option_to_list}
 use Rattle.std.specs.List.{list_all, list_any, Contains, All}
 use Rattle.std.proofs.lemmas.Bool.{false≢true, eqb-true, eq-eqb, and_parts, or_right}
 use Rattle.std.proofs.lemmas.List.{length-map}
 use Rattle.std.proofs.lemmas.List.Elements.{All-nil, All-cons, All-tail, All-head, All-contains, All-contains_itself, All-weaker}
-use Rattle.icu_locale_core.specs.Subtag.{is_language, is_script, is_region, is_variant, lowercase, titlecase, uppercase, IsWritten, IsScript, IsRegion, IsVariant}
+use Rattle.icu_locale_core.specs.Subtag.{is_language, is_script, is_region, is_variant, lowercase, titlecase, uppercase, IsWritten, IsScript}
+use Rattle.icu_locale_core.specs.Subtag.{IsRegion, IsVariant}
 use Rattle.icu_locale_core.specs.inner.Class.{is_member, written_case}
 use Rattle.icu_locale_core.specs.declared.classes.Class.{Class}
 use Rattle.icu_locale_core.specs.declared.classes.Class.TheVariants.{Language, Script, Region, Variant}
@@ -16,7 +18,8 @@ use Rattle.icu_locale_core.specs.declared.parse_error.ParseError.TheVariants.{In
 use Rattle.icu_locale_core.specs.TextSet.{TextSet, from_list, contains, len, empty}
 use Rattle.icu_locale_core.specs.Identifier.{IsIdentifier, Lists, subtags, pieces, Spells, IsOkUnlessMemory}
 use Rattle.icu_locale_core.specs.inner.Identifiers.{optional_subtag, after_optional_subtag, are_variants, read_variants, with_variants, read_rest, read_pieces}
-use Rattle.icu_locale_core.proofs.Cases.{is_member-lowercase, written_case-lowercase, lowercase-written_case, written_written, region_no_script, variant_no_script, variant_no_region}
+use Rattle.icu_locale_core.proofs.Cases.{is_member-lowercase, written_case-lowercase, lowercase-written_case, written_written, region_no_script}
+use Rattle.icu_locale_core.proofs.Cases.{variant_no_script, variant_no_region}
 use Rattle.icu_locale_core.specs.laws.TextSets.{contains-from_list, Contains-is_among, is_among-Contains, length-rising_empty}
 
 -- the pieces ps are the subtags of x, case aside, with the variants in some order
@@ -58,26 +61,32 @@ module _ (class : Class) where
   after_optional-none [] none = refl
   after_optional-none (p ∷ ps) none = rw (none p ps refl) refl
 
-  optional-some : (p s : List ℕ) (ps : List (List ℕ)) → lowercase p ≡ lowercase s → IsWritten (is_member class) (written_case class) s → optional_subtag (is_member class) (written_case class) (p ∷ ps) ≡ Some s
+  optional-some : (p s : List ℕ) (ps : List (List ℕ)) → lowercase p ≡ lowercase s → IsWritten (is_member class) (written_case class) s
+      → optional_subtag (is_member class) (written_case class) (p ∷ ps) ≡ Some s
   optional-some p s ps e is = rw (is_member-same p s e ∙ is.member) (ap Some (written_case-same p s e is))
 
-  after_optional-some : (p s : List ℕ) (ps : List (List ℕ)) → lowercase p ≡ lowercase s → IsWritten (is_member class) (written_case class) s → after_optional_subtag (is_member class) (p ∷ ps) ≡ ps
+  after_optional-some : (p s : List ℕ) (ps : List (List ℕ)) → lowercase p ≡ lowercase s → IsWritten (is_member class) (written_case class) s
+      → after_optional_subtag (is_member class) (p ∷ ps) ≡ ps
   after_optional-some p s ps e is = rw (is_member-same p s e ∙ is.member) refl
 
   -- what is taken and what is left are the pieces, case aside
-  optional-rest : (ps : List (List ℕ)) → map lowercase ps ≡ map lowercase (option_to_list (optional_subtag (is_member class) (written_case class) ps) ++ after_optional_subtag (is_member class) ps)
+  optional-rest : (ps : List (List ℕ)) → map lowercase ps ≡ map lowercase (option_to_list
+      (optional_subtag (is_member class) (written_case class) ps) ++ after_optional_subtag (is_member class) ps)
   optional-rest [] = refl
   optional-rest (p ∷ ps) =
-      elim (is_member class p) as (λ b. map lowercase (p ∷ ps) ≡ map lowercase (option_to_list (if b then Some (written_case class p) else None) ++ (if b then ps else p ∷ ps))) [
+      elim (is_member class p) as (λ b. map lowercase (p ∷ ps) ≡ map lowercase
+      (option_to_list (if b then Some (written_case class p) else None) ++ (if b then ps else p ∷ ps))) [
         | true ↦ λ i. sym (lowercase-written_case class p) i ∷ map lowercase ps
         | false ↦ refl
       ]
 
   -- what is taken belongs to the class and stands in its written case
-  optional-written : (ps : List (List ℕ)) → IfSome (optional_subtag (is_member class) (written_case class) ps) (IsWritten (is_member class) (written_case class))
+  optional-written : (ps : List (List ℕ)) → IfSome (optional_subtag (is_member class) (written_case class) ps)
+      (IsWritten (is_member class) (written_case class))
   optional-written [] = tt
   optional-written (p ∷ ps) =
-      elim (is_member class p) as (λ b. is_member class p ≡ b → IfSome (if b then Some (written_case class p) else None) (IsWritten (is_member class) (written_case class))) [
+      elim (is_member class p) as (λ b. is_member class p ≡ b → IfSome (if b then Some (written_case class p) else None)
+      (IsWritten (is_member class) (written_case class))) [
         | true ↦ λ e. written_written class p e
         | false ↦ λ e. tt
       ] refl
@@ -99,19 +108,23 @@ all_variants-written (t ∷ ts) each = λ i. (All-head IsVariant t ts each).memb
 
 written_variants : (ps : List (List ℕ)) → list_all is_variant ps ≡ true → All IsVariant (map lowercase ps)
 written_variants [] h = All-nil IsVariant
-written_variants (p ∷ ps) h = All-cons IsVariant (lowercase p) (map lowercase ps) (written_written Variant p ((and_parts (is_variant p) (list_all is_variant ps) h).0)) (written_variants ps ((and_parts (is_variant p) (list_all is_variant ps) h).1))
+written_variants (p ∷ ps) h = All-cons IsVariant (lowercase p) (map lowercase ps)
+    (written_written Variant p ((and_parts (is_variant p) (list_all is_variant ps) h).0))
+    (written_variants ps ((and_parts (is_variant p) (list_all is_variant ps) h).1))
 
 -- a list of each variant once has variants alone
 each_of_lists : (order : List (List ℕ)) (s : TextSet) → Lists order s → ((v : List ℕ) → contains s v ≡ true → IsVariant v) → All IsVariant order
 each_of_lists order s lists each =
-    All-weaker (Contains order) IsVariant (λ v here. each v (ap (λ u. contains u v) (sym lists.members) ∙ contains-from_list order v ∙ is_among-Contains v order here)) order (All-contains_itself order)
+    All-weaker (Contains order) IsVariant (λ v here. each v (ap (λ u. contains u v) (sym lists.members) ∙ contains-from_list order v
+    ∙ is_among-Contains v order here)) order (All-contains_itself order)
 
 -- no pieces are no variants
 pub no_pieces : read_variants [] ≡ Ok empty
 no_pieces = rw length-rising_empty refl
 
 -- pieces that are such a list, case aside, are read as the set
-read_variants-lists : (ps order : List (List ℕ)) (s : TextSet) → Lists order s → All IsVariant order → map lowercase ps ≡ map lowercase order → read_variants ps ≡ Ok s
+read_variants-lists : (ps order : List (List ℕ)) (s : TextSet) → Lists order s → All IsVariant order
+    → map lowercase ps ≡ map lowercase order → read_variants ps ≡ Ok s
 read_variants-lists ps order s lists each same =
     let lower : map lowercase ps ≡ order = same ∙ lowercase_each order each in
     let all : list_all is_variant ps ≡ true = sym (all_variants-lowercase ps) ∙ ap (list_all is_variant) lower ∙ all_variants-written order each in
@@ -133,21 +146,24 @@ module _ (x : LanguageIdentifier) (is : IsIdentifier x) (order : List (List ℕ)
     where
       by : (vs : List (List ℕ)) → All IsVariant vs → map lowercase vs ≡ map lowercase (p ∷ rest) → is_script p ≡ false
       by [] all e = absurd (cc)
-      by (v ∷ vs) all e = variant_no_script p (is_member-same Variant p v (sym (head_same (lowercase v) (lowercase p) (map lowercase vs) (map lowercase rest) e)) ∙ (All-head IsVariant v vs all).member)
+      by (v ∷ vs) all e = variant_no_script p (is_member-same Variant p v (sym
+          (head_same (lowercase v) (lowercase p) (map lowercase vs) (map lowercase rest) e)) ∙ (All-head IsVariant v vs all).member)
 
   no_region_in_order : (ps : List (List ℕ)) → map lowercase ps ≡ map lowercase order → NoneFirst Region ps
   no_region_in_order ps same p rest is_first = by order each (sym same ∙ ap (map lowercase) is_first)
     where
       by : (vs : List (List ℕ)) → All IsVariant vs → map lowercase vs ≡ map lowercase (p ∷ rest) → is_region p ≡ false
       by [] all e = absurd (cc)
-      by (v ∷ vs) all e = variant_no_region p (is_member-same Variant p v (sym (head_same (lowercase v) (lowercase p) (map lowercase vs) (map lowercase rest) e)) ∙ (All-head IsVariant v vs all).member)
+      by (v ∷ vs) all e = variant_no_region p (is_member-same Variant p v (sym
+          (head_same (lowercase v) (lowercase p) (map lowercase vs) (map lowercase rest) e)) ∙ (All-head IsVariant v vs all).member)
 
   -- what stands behind the script
   record AfterScript (ps : List (List ℕ)) (r : Option (List ℕ)) : Type 0 where
     region : optional_subtag is_region uppercase ps ≡ r
     variants : read_variants (after_optional_subtag is_region ps) ≡ Ok x.variants
 
-  after_script : (r : Option (List ℕ)) → IfSome r IsRegion → (ps : List (List ℕ)) → map lowercase ps ≡ map lowercase (option_to_list r ++ order) → AfterScript ps r
+  after_script : (r : Option (List ℕ)) → IfSome r IsRegion → (ps : List (List ℕ))
+      → map lowercase ps ≡ map lowercase (option_to_list r ++ order) → AfterScript ps r
   after_script None known ps same =
       let none = no_region_in_order ps same in
       record {
@@ -168,13 +184,16 @@ module _ (x : LanguageIdentifier) (is : IsIdentifier x) (order : List (List ℕ)
     script : optional_subtag is_script titlecase ps ≡ s
     rest : AfterScript (after_optional_subtag is_script ps) r
 
-  no_script_behind : (r : Option (List ℕ)) → IfSome r IsRegion → (ps : List (List ℕ)) → map lowercase ps ≡ map lowercase (option_to_list r ++ order) → NoneFirst Script ps
+  no_script_behind : (r : Option (List ℕ)) → IfSome r IsRegion → (ps : List (List ℕ))
+      → map lowercase ps ≡ map lowercase (option_to_list r ++ order) → NoneFirst Script ps
   no_script_behind None known ps same p rest is_first = no_script_in_order ps same p rest is_first
   no_script_behind (Some r) known ps same p rest is_first =
-      let e : lowercase p ≡ lowercase r = head_same (lowercase p) (lowercase r) (map lowercase rest) (map lowercase order) (sym (ap (map lowercase) is_first) ∙ same) in
+      let e : lowercase p ≡ lowercase r = head_same (lowercase p) (lowercase r) (map lowercase rest) (map lowercase order)
+      (sym (ap (map lowercase) is_first) ∙ same) in
       region_no_script p (is_member-same Region p r e ∙ known.member)
 
-  after_language : (s r : Option (List ℕ)) → IfSome s IsScript → IfSome r IsRegion → (ps : List (List ℕ)) → map lowercase ps ≡ map lowercase (option_to_list s ++ (option_to_list r ++ order)) → AfterLanguage ps s r
+  after_language : (s r : Option (List ℕ)) → IfSome s IsScript → IfSome r IsRegion → (ps : List (List ℕ))
+      → map lowercase ps ≡ map lowercase (option_to_list s ++ (option_to_list r ++ order)) → AfterLanguage ps s r
   after_language None r known_s known_r ps same =
       let none = no_script_behind r known_r ps same in
       record {
@@ -216,7 +235,12 @@ module _ (l : List ℕ) (ps : List (List ℕ)) (known : is_language l ≡ true) 
   variants_of = from_list (map lowercase behind)
 
   found_of : LanguageIdentifier
-  found_of = record { language = lowercase l; script = optional_subtag is_script titlecase ps; region = optional_subtag is_region uppercase after_script_of; variants = variants_of }
+  found_of = record {
+    language = lowercase l;
+    script = optional_subtag is_script titlecase ps;
+    region = optional_subtag is_region uppercase after_script_of;
+    variants = variants_of;
+  }
 
   -- the pieces are its subtags
   all_same : map lowercase (l ∷ ps) ≡ map lowercase (subtags found_of (map lowercase behind))
@@ -225,12 +249,15 @@ module _ (l : List ℕ) (ps : List (List ℕ)) (known : is_language l ≡ true) 
       let s = optional_subtag is_script titlecase ps in
       let r = optional_subtag is_region uppercase (after_optional_subtag is_script ps) in
       let rest = after_optional_subtag is_region (after_optional_subtag is_script ps) in
-      let first : map lowercase ps ≡ map lowercase (option_to_list s) ++ map lowercase (after_optional_subtag is_script ps) = optional-rest Script ps ∙ map-append_lower (option_to_list s) (after_optional_subtag is_script ps) in
-      let second : map lowercase (after_optional_subtag is_script ps) ≡ map lowercase (option_to_list r) ++ map lowercase rest = optional-rest Region (after_optional_subtag is_script ps) ∙ map-append_lower (option_to_list r) rest in
+      let first : map lowercase ps ≡ map lowercase (option_to_list s) ++ map lowercase
+      (after_optional_subtag is_script ps) = optional-rest Script ps ∙ map-append_lower (option_to_list s) (after_optional_subtag is_script ps) in
+      let second : map lowercase (after_optional_subtag is_script ps) ≡ map lowercase (option_to_list r)
+      ++ map lowercase rest = optional-rest Region (after_optional_subtag is_script ps) ∙ map-append_lower (option_to_list r) rest in
       let last : map lowercase rest ≡ map lowercase (map lowercase rest) = sym (lower_twice rest) in
       let joined : map lowercase ps ≡ map lowercase (option_to_list s ++ (option_to_list r ++ map lowercase rest)) =
       first
-      ∙ ap (λ q. map lowercase (option_to_list s) ++ q) (second ∙ ap (λ q. map lowercase (option_to_list r) ++ q) last ∙ sym (map-append_lower (option_to_list r) (map lowercase rest)))
+      ∙ ap (λ q. map lowercase (option_to_list s) ++ q) (second ∙ ap (λ q. map lowercase (option_to_list r) ++ q) last
+      ∙ sym (map-append_lower (option_to_list r) (map lowercase rest)))
       ∙ sym (map-append_lower (option_to_list s) (option_to_list r ++ map lowercase rest)) in
       λ i. sym (lowercase-written_case Language l) i ∷ joined i
     where
@@ -249,7 +276,8 @@ module _ (l : List ℕ) (ps : List (List ℕ)) (known : is_language l ≡ true) 
           language = written_written Language l known;
           script = optional-written Script ps;
           region = optional-written Region after_script_of;
-          variants = λ v here. All-contains IsVariant (map lowercase behind) v each (Contains-is_among v (map lowercase behind) (sym (contains-from_list (map lowercase behind) v) ∙ here));
+          variants = λ v here. All-contains IsVariant (map lowercase behind) v each
+              (Contains-is_among v (map lowercase behind) (sym (contains-from_list (map lowercase behind) v) ∙ here));
         },
         record {
           order = map lowercase behind;
@@ -261,7 +289,9 @@ module _ (l : List ℕ) (ps : List (List ℕ)) (known : is_language l ≡ true) 
   rest_sound : IfOk (read_rest (lowercase l) ps) (λ x. IsIdentifier x × Reads (l ∷ ps) x)
   unfolding found_of variants_of after_script_of behind
   rest_sound =
-      elim (are_variants behind) as (λ b. are_variants behind ≡ b → IfOk (with_variants (lowercase l) (optional_subtag is_script titlecase ps) (optional_subtag is_region uppercase after_script_of) (if b then Ok (from_list (map lowercase behind)) else Err InvalidSubtag)) (λ x. IsIdentifier x × Reads (l ∷ ps) x)) [
+      elim (are_variants behind) as (λ b. are_variants behind ≡ b → IfOk (with_variants (lowercase l)
+      (optional_subtag is_script titlecase ps) (optional_subtag is_region uppercase after_script_of)
+      (if b then Ok (from_list (map lowercase behind)) else Err InvalidSubtag)) (λ x. IsIdentifier x × Reads (l ∷ ps) x)) [
         | true ↦ λ are. found_reads are
         | false ↦ λ are. tt
       ] refl
@@ -269,7 +299,8 @@ module _ (l : List ℕ) (ps : List (List ℕ)) (known : is_language l ≡ true) 
 pub read_pieces-sound : (ps : List (List ℕ)) → IfOk (read_pieces ps) (λ x. IsIdentifier x × Reads ps x)
 read_pieces-sound [] = tt
 read_pieces-sound (p ∷ ps) =
-    elim (is_language p) as (λ b. is_language p ≡ b → IfOk (if b then read_rest (lowercase p) ps else Err InvalidLanguage) (λ x. IsIdentifier x × Reads (p ∷ ps) x)) [
+    elim (is_language p) as (λ b. is_language p ≡ b → IfOk (if b then read_rest (lowercase p) ps else Err InvalidLanguage)
+    (λ x. IsIdentifier x × Reads (p ∷ ps) x)) [
       | true ↦ λ e. rest_sound p ps e
       | false ↦ λ e. tt
     ] refl
@@ -277,13 +308,16 @@ read_pieces-sound (p ∷ ps) =
 -- ---- the refusals
 
 -- a variant behind an optional_subtag piece is a variant of all pieces
-pub some_variant-after : (is_member : List ℕ → Bool) (ps : List (List ℕ)) → list_any is_variant (after_optional_subtag is_member ps) ≡ true → list_any is_variant ps ≡ true
+pub some_variant-after : (is_member : List ℕ → Bool) (ps : List (List ℕ)) → list_any is_variant (after_optional_subtag is_member ps) ≡ true
+    → list_any is_variant ps ≡ true
 some_variant-after is_member [] h = h
 some_variant-after is_member (p ∷ ps) h =
-    elim (is_member p) as (λ b. list_any is_variant (if b then ps else p ∷ ps) ≡ true → (is_variant p || list_any is_variant ps) ≡ true) [ true ↦ or_right (is_variant p) (list_any is_variant ps) | false ↦ λ g. g ] h
+    elim (is_member p) as (λ b. list_any is_variant (if b then ps else p ∷ ps) ≡ true → (is_variant p || list_any is_variant ps) ≡ true)
+    [ true ↦ or_right (is_variant p) (list_any is_variant ps) | false ↦ λ g. g ] h
 
 -- and so is one behind the first piece
-pub some_variant-next : (r : Option (Bor (List ℕ))) (ps rest : List (List ℕ)) → MatchOption r ((ps ≡ []) × (rest ≡ [])) (λ p. ps ≡ p.now ∷ rest) → list_any is_variant rest ≡ true → list_any is_variant ps ≡ true
+pub some_variant-next : (r : Option (Bor (List ℕ))) (ps rest : List (List ℕ))
+    → MatchOption r ((ps ≡ []) × (rest ≡ [])) (λ p. ps ≡ p.now ∷ rest) → list_any is_variant rest ≡ true → list_any is_variant ps ≡ true
 some_variant-next None ps rest gave h = absurd (false≢true (ap (list_any is_variant) (sym gave.1) ∙ h))
 some_variant-next (Some p) ps rest gave h = ap (list_any is_variant) gave ∙ or_right (is_variant p.now) (list_any is_variant rest) h
 

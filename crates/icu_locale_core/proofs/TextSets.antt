@@ -1,5 +1,6 @@
 -- The rising list of a set, and a set inside another.
-use Rattle.std.proofs.Common.{◌≡◌, ◌↔◌, ℕ, ◌<◌, Bool, true, false, not, ◌&&◌, ◌||◌, List, [], ◌∷◌, map, T, Option, None, Some, IsSome, is_some, refl, ap, sym, ◌∙◌, arith}
+use Rattle.std.proofs.Common.{◌≡◌, ◌↔◌, ℕ, ◌<◌, Bool, true, false, not, ◌&&◌, ◌||◌, List, [], ◌∷◌, map, T, Option, None, Some, IsSome, is_some, refl}
+use Rattle.std.proofs.Common.{ap, sym, ◌∙◌, arith}
 use Rattle.std.specs.List.{AllByRecursion, Contains, list_all, list_any}
 use Rattle.std.specs.Map.{lookup}
 use Rattle.std.specs.List.Sorted.{IsStrictlySortedBy}
@@ -27,7 +28,8 @@ less_from_test Less e = refl
 less_from_test Equal e = absurd (false≢true e)
 less_from_test Greater e = absurd (false≢true e)
 
-below_from_below_all : (t : List ℕ) (es : List (List ℕ × Unit {0})) → below_all text_cmp t es ≡ true → AllByRecursion (λ y. text_cmp t y ≡ Less) (map (λ e. e.0) es)
+below_from_below_all : (t : List ℕ) (es : List (List ℕ × Unit {0})) → below_all text_cmp t es ≡ true
+    → AllByRecursion (λ y. text_cmp t y ≡ Less) (map (λ e. e.0) es)
 below_from_below_all t [] h = tt
 below_from_below_all t (e ∷ es) h =
     let both = and_parts (is_lt (text_cmp t e.0)) (below_all text_cmp t es) h in
@@ -46,7 +48,8 @@ rising_rises s = rises_from_is_sorted (fin.entries s) (true_from_T _ (fin.entrie
 
 -- ---- a set inside another
 
-among_cases : (p : List ℕ → Bool) (q t : List ℕ) (ts : List (List ℕ)) (tied : Bool) → eq_by_cmp text_cmp q t ≡ tied → p t ≡ true → (is_among q ts ≡ true → p q ≡ true) → (tied || is_among q ts) ≡ true → p q ≡ true
+among_cases : (p : List ℕ → Bool) (q t : List ℕ) (ts : List (List ℕ)) (tied : Bool) → eq_by_cmp text_cmp q t ≡ tied → p t ≡ true
+    → (is_among q ts ≡ true → p q ≡ true) → (tied || is_among q ts) ≡ true → p q ≡ true
 among_cases p q t ts true e first rest here = ap p (same_from_tied q t e) ∙ first
 among_cases p q t ts false e first rest here = rest here
 

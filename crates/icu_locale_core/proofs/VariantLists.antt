@@ -33,7 +33,8 @@ module _ {K : Type 0} {R : K → K → Ordering} (o : IsTotalOrder R) where
   rises_to ks x rise = searchable_from_sorted o (λ k. k) ks x (IsSortedBy-from_strictly ks rise)
 
   -- a search answers Ok exactly where the key is in the list
-  pub is_ok-search : (ks : List K) (x : K) (r : Result ℕ ℕ) → IsStrictlySortedBy R ks → IsSearchInRange r (length ks) → IfOk r (HoldsAt (λ y. R y x ≡ Equal) ks) → IsBinarySearchResult (λ y. R y x) ks r → is_ok r ≡ list_any (eq_by_cmp R x) ks
+  pub is_ok-search : (ks : List K) (x : K) (r : Result ℕ ℕ) → IsStrictlySortedBy R ks → IsSearchInRange r (length ks)
+      → IfOk r (HoldsAt (λ y. R y x ≡ Equal) ks) → IsBinarySearchResult (λ y. R y x) ks r → is_ok r ≡ list_any (eq_by_cmp R x) ks
   is_ok-search ks x (Ok i) rise range here at = sym (list_any_at (eq_by_cmp R x) ks i x range (ap is_eq (flipped (get_or ks i x) x Equal (here x))))
   is_ok-search ks x (Err i) rise range here at =
       let parts = at (rises_to ks x rise) in

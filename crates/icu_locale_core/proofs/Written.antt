@@ -1,5 +1,6 @@
 -- What is written spells the identifier and no other, and without variants has no piece that is one.
-use Rattle.std.proofs.Common.{◌≡◌, ℕ, List, ◌++◌, take, drop, length, ap, sym, ◌∙◌, append_assoc, Result, Ok, Err, OnErr, true, false, ◌||◌, [], ◌∷◌, map, Option, Some, None, IfSome, refl, ◌≤◌, arith, codes, subst, append-nil}
+use Rattle.std.proofs.Common.{◌≡◌, ℕ, List, ◌++◌, take, drop, length, ap, sym, ◌∙◌, append_assoc, Result, Ok, Err, OnErr, true, false, ◌||◌, [], ◌∷◌}
+use Rattle.std.proofs.Common.{map, Option, Some, None, IfSome, refl, ◌≤◌, arith, codes, subst, append-nil}
 use Rattle.std.proofs.Math.Seq.{take-append_seam}
 use Rattle.std.proofs.lemmas.List.{take-append-drop}
 use Rattle.std.specs.Option.{option_to_list}
@@ -8,7 +9,8 @@ use Rattle.std.proofs.lemmas.Bool.{false≢true, false_from_ne_true, and_parts}
 use Rattle.std.proofs.lemmas.Bool.Decides.{nat_tests}
 use Rattle.std.proofs.lemmas.List.Splits.{slice_split_none, slice_split_at}
 use Rattle.std.proofs.lemmas.List.Elements.{All-nil, All-cons, All-head, All-tail, All-append, All-weaker, All-contains_itself}
-use Rattle.icu_locale_core.specs.Subtag.{has_length, is_alphabetic, is_language, is_script, is_region, is_variant, lowercase, IsLanguage, IsScript, IsRegion, is_alphanumeric, IsWritten}
+use Rattle.icu_locale_core.specs.Subtag.{has_length, is_alphabetic, is_language, is_script, is_region, is_variant, lowercase, IsLanguage, IsScript}
+use Rattle.icu_locale_core.specs.Subtag.{IsRegion, is_alphanumeric, IsWritten}
 use Rattle.icu_locale_core.specs.Identifier.{IsIdentifier, Spells, pieces, subtags, has_variant, is_separator, written}
 use Rattle.icu_locale_core.specs.TextSet.{empty, len, rising}
 use Rattle.icu_locale_core.specs.declared.classes.Class.TheVariants.{Variant, Language, Script, Region}
@@ -45,11 +47,13 @@ script_no_variant t h = false_from_ne_true (is_variant t) (λ v. false≢true (s
 region_no_variant : (t : List ℕ) → is_region t ≡ true → is_variant t ≡ false
 region_no_variant t h = false_from_ne_true (is_variant t) (λ v. false≢true (sym (variant_no_region t v) ∙ h))
 
-none_of_three : (language : List ℕ) (script region : Option (List ℕ)) → IsLanguage language → IfSome script IsScript → IfSome region IsRegion → list_any is_variant (language ∷ (option_to_list script ++ (option_to_list region ++ []))) ≡ false
+none_of_three : (language : List ℕ) (script region : Option (List ℕ)) → IsLanguage language → IfSome script IsScript
+    → IfSome region IsRegion → list_any is_variant (language ∷ (option_to_list script ++ (option_to_list region ++ []))) ≡ false
 none_of_three l None None is s r = λ i. language_no_variant l is.member i || false
 none_of_three l (Some s) None is sis r = λ i. language_no_variant l is.member i || (script_no_variant s sis.member i || false)
 none_of_three l None (Some r) is s ris = λ i. language_no_variant l is.member i || (region_no_variant r ris.member i || false)
-none_of_three l (Some s) (Some r) is sis ris = λ i. language_no_variant l is.member i || (script_no_variant s sis.member i || (region_no_variant r ris.member i || false))
+none_of_three l (Some s) (Some r) is sis ris = λ i. language_no_variant l is.member i
+    || (script_no_variant s sis.member i || (region_no_variant r ris.member i || false))
 
 none_listed : (order : List (List ℕ)) → length order ≡ 0 → order ≡ []
 none_listed [] h = refl
@@ -88,7 +92,9 @@ module _ (x : LanguageIdentifier) (is : IsIdentifier x) where
   whole_option class (Some t) known = All-cons Whole t [] (whole_member class t known.member) (All-nil Whole)
 
   whole_variants : All Whole (rising x.variants)
-  whole_variants = All-weaker (Contains (rising x.variants)) Whole (λ v here. whole_member Variant v (is.variants v (contains-rising x.variants v ∙ is_among-Contains v (rising x.variants) here)).member) (rising x.variants) (All-contains_itself (rising x.variants))
+  whole_variants = All-weaker (Contains (rising x.variants)) Whole (λ v here. whole_member Variant v
+      (is.variants v (contains-rising x.variants v ∙ is_among-Contains v (rising x.variants) here)).member) (rising x.variants)
+      (All-contains_itself (rising x.variants))
 
   whole_subtags : All Whole (subtags x (rising x.variants))
   whole_subtags = All-cons Whole x.language _ (whole_member Language x.language is.language.member)
@@ -104,7 +110,8 @@ module _ (x : LanguageIdentifier) (is : IsIdentifier x) where
 
 pub same_from_spells : (t : List ℕ) (x y : LanguageIdentifier) → IsIdentifier x → IsIdentifier y → Spells t x → Spells t y → x ≡ y
 same_from_spells t x y is_x is_y of_x of_y =
-    let found : Ok x ≡ Ok y = sym (read_pieces-complete x is_x of_x.order of_x.lists (pieces t) of_x.same) ∙ read_pieces-complete y is_y of_y.order of_y.lists (pieces t) of_y.same in
+    let found : Ok x ≡ Ok y = sym (read_pieces-complete x is_x of_x.order of_x.lists (pieces t) of_x.same)
+    ∙ read_pieces-complete y is_y of_y.order of_y.lists (pieces t) of_y.same in
     cc
 
 pub same_from_written : (x y : LanguageIdentifier) → IsIdentifier x → IsIdentifier y → written x ≡ written y → x ≡ y

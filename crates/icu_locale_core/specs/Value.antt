@@ -1,5 +1,6 @@
 -- Values of keywords and their texts (UTS #35 Part 1, section 3.6.1, type).
-use Rattle.std.specs.Prelude.{◌≡◌, ◌↔◌, ℕ, Bool, true, false, ◌||◌, ◌==◌, not, List, [], ◌∷◌, length, map, filter, codes, nat_eq, Option, Some, None, Result, Err, IfOk, if◌then◌else◌}
+use Rattle.std.specs.Prelude.{◌≡◌, ◌↔◌, ℕ, Bool, true, false, ◌||◌, ◌==◌, not, List, [], ◌∷◌, length, map, filter, codes, nat_eq, Option, Some, None}
+use Rattle.std.specs.Prelude.{Result, Err, IfOk, if◌then◌else◌}
 use Rattle.std.specs.List.{All, list_all, join_by}
 use Rattle.std.specs.Cmp.Lexicographic.{pointwise}
 use Rattle.icu_locale_core.specs.Identifier.{pieces}

@@ -1,6 +1,7 @@
 -- Numbers of texts are in the order of the texts.
-use Rattle.std.proofs.Common.{◌≡◌, ℕ, ◌<◌, ◌≤◌, ◌+◌, ◌-◌, ◌*◌, ◌^◌, true, List, [], ◌∷◌, ◌++◌, length, take, get_or, slice_index_or, replicate, suc, zero, refl, ap, sym, subst, ◌∙◌, ⊎_elim, nat_lt, nat_eq, false, arith}
-use Rattle.std.proofs.Math.Nat.{mul-le-mul_right, pow-le-pow_right, add-mul}
+use Rattle.std.proofs.Common.{◌≡◌, ℕ, ◌<◌, ◌≤◌, ◌+◌, ◌-◌, ◌*◌, ◌^◌, true, List, [], ◌∷◌, ◌++◌, length, slice_index_or, replicate, suc}
+use Rattle.std.proofs.Common.{zero, refl, ap, sym, ◌∙◌, ⊎_elim, nat_lt, nat_eq, false, arith}
+use Rattle.std.proofs.Math.Nat.{mul-le-mul_right, add-mul}
 use Rattle.std.specs.Int.Digits.{number_from_digits, number_from_digits_after, AllBelowBase}
 use Rattle.std.specs.Cmp.Lexicographic.{slice_cmp}
 use Rattle.std.specs.Ordering.{nat_cmp, ordering_then}
@@ -8,8 +9,8 @@ use Rattle.std.specs.declared.cmp.Ordering.{Ordering}
 use Rattle.std.specs.declared.cmp.Ordering.TheVariants.{Less, Equal, Greater}
 use Rattle.std.proofs.lemmas.Bool.{cases_lt}
 use Rattle.std.proofs.lemmas.Bool.Decides.{nat_tests}
-use Rattle.std.proofs.lemmas.Int.Digits.{number_after_lt, number_lt, number_more}
-use Rattle.std.proofs.lemmas.List.{length-append, length-replicate, length-take}
+use Rattle.std.proofs.lemmas.Int.Digits.{number_after_lt}
+use Rattle.std.proofs.lemmas.List.{length-append, length-replicate}
 use Rattle.icu_locale_core.specs.Numbers.{padded, IsNumberOf, IsPairNumber}
 use Rattle.icu_locale_core.specs.Subtag.{is_alphanumeric}
 
@@ -41,7 +42,8 @@ two_digits base a b d e p q = ⊎_elim
     (cases_lt a b)
 
 -- so do numbers of as many digits
-digits_cmp : (base a b : ℕ) (ds es : List ℕ) → AllBelowBase base ds → AllBelowBase base es → length ds ≡ length es → nat_cmp (number_from_digits_after base a ds) (number_from_digits_after base b es) ≡ ordering_then (nat_cmp a b) (slice_cmp nat_cmp ds es)
+digits_cmp : (base a b : ℕ) (ds es : List ℕ) → AllBelowBase base ds → AllBelowBase base es → length ds ≡ length es
+    → nat_cmp (number_from_digits_after base a ds) (number_from_digits_after base b es) ≡ ordering_then (nat_cmp a b) (slice_cmp nat_cmp ds es)
 digits_cmp base a b [] [] p q same = then_tie (nat_cmp a b)
 digits_cmp base a b [] (e ∷ es) p q same = absurd (omega arith)
 digits_cmp base a b (d ∷ ds) [] p q same = absurd (omega arith)
@@ -51,7 +53,8 @@ digits_cmp base a b (d ∷ ds) (e ∷ es) p q same =
     ∙ then_assoc (nat_cmp a b) (nat_cmp d e) (slice_cmp nat_cmp ds es)
 
 -- with the zeros, a text compares as it does without them
-padded_cmp : (s t : List ℕ) (k m : ℕ) → is_alphanumeric s ≡ true → is_alphanumeric t ≡ true → length s + k ≡ length t + m → slice_cmp nat_cmp (s ++ replicate k 0) (t ++ replicate m 0) ≡ slice_cmp nat_cmp s t
+padded_cmp : (s t : List ℕ) (k m : ℕ) → is_alphanumeric s ≡ true → is_alphanumeric t ≡ true → length s + k ≡ length t + m
+    → slice_cmp nat_cmp (s ++ replicate k 0) (t ++ replicate m 0) ≡ slice_cmp nat_cmp s t
 padded_cmp [] [] k m p q e = let same : k ≡ m = omega arith in rw same (zeros_tie m)
   where
     zeros_tie : (n : ℕ) → slice_cmp nat_cmp (replicate n 0) (replicate n 0) ≡ Equal
@@ -85,13 +88,15 @@ length-padded n t short = omega (arith, length-append t (replicate (n - length t
 pub number_cmp : (n : ℕ) (s t : List ℕ) (k m : ℕ) → IsNumberOf n s k → IsNumberOf n t m → nat_cmp k m ≡ slice_cmp nat_cmp s t
 number_cmp n s t k m p q =
     (λ i. nat_cmp (p.is i) (q.is i))
-    ∙ digits_cmp 256 0 0 (padded n s) (padded n t) (all_below s (n - length s) p.plain) (all_below t (n - length t) q.plain) (length-padded n s p.short ∙ sym (length-padded n t q.short))
+    ∙ digits_cmp 256 0 0 (padded n s) (padded n t) (all_below s (n - length s) p.plain) (all_below t (n - length t) q.plain)
+    (length-padded n s p.short ∙ sym (length-padded n t q.short))
     ∙ padded_cmp s t (n - length s) (n - length t) p.plain q.plain (omega (arith, p.short, q.short))
 
 -- the first digit is that of a letter or a digit
 number_small : (n : ℕ) (t : List ℕ) (m : ℕ) → IsNumberOf (suc n) t m → m < 128 * 256 ^ n
 number_small n t m p =
-    let least = first_small n (padded (suc n) t) (length-padded (suc n) t p.short) (all_below t (suc n - length t) p.plain) (first t (suc n - length t) p.plain) in
+    let least = first_small n (padded (suc n) t) (length-padded (suc n) t p.short) (all_below t (suc n - length t) p.plain)
+    (first t (suc n - length t) p.plain) in
     omega (arith, p.is, least)
   where
     first : (t : List ℕ) (k : ℕ) → is_alphanumeric t ≡ true → slice_index_or (t ++ replicate k 0) 0 0 < 128
@@ -121,7 +126,8 @@ pub below_of_pair : (x : List ℕ × List ℕ) (m : ℕ) → IsPairNumber x m �
 below_of_pair x m p = omega (arith, p.is, below_half x.0 p.high p.first, below_half x.1 p.low p.second)
 
 -- pairs are in the order of their numbers
-pub pairs_ordered : (x y : List ℕ × List ℕ) (m n : ℕ) → IsPairNumber x m → IsPairNumber y n → nat_cmp m n ≡ ordering_then (slice_cmp nat_cmp x.0 y.0) (slice_cmp nat_cmp x.1 y.1)
+pub pairs_ordered : (x y : List ℕ × List ℕ) (m n : ℕ) → IsPairNumber x m → IsPairNumber y n
+    → nat_cmp m n ≡ ordering_then (slice_cmp nat_cmp x.0 y.0) (slice_cmp nat_cmp x.1 y.1)
 pairs_ordered x y m n p q =
     (λ i. nat_cmp (p.is i) (q.is i))
     ∙ two_digits (2 ^ 32) p.high q.high p.low q.low (omega (arith, below_half x.1 p.low p.second)) (omega (arith, below_half y.1 q.low q.second))

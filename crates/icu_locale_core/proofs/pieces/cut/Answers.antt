@@ -9,7 +9,8 @@ returns-in-Some c =
     let text = c.args.text.now in
     let place = c.in-Some.place in
     slice_split-position is_separator text place (sym c.in-Some.ensures)
-    ∙ rw (c.split_at.ensures.front, c.split_at-in-Some.ensures.back, c.split_at.ensures.back) (ap (λ r. take place text ∷ pieces r) (sym (drop-drop 1 place text)))
+    ∙ rw (c.split_at.ensures.front, c.split_at-in-Some.ensures.back, c.split_at.ensures.back)
+    (ap (λ r. take place text ∷ pieces r) (sym (drop-drop 1 place text)))
 
 pub returns-in-None : goal.returns-in-None
 returns-in-None c = slice_split-no_position is_separator c.args.text.now (sym c.in-None.ensures)

@@ -9,6 +9,7 @@ pub returns-in_err-variants-clause-memory : goal.returns-in_err-variants-clause-
 returns-in_err-variants-clause-memory c refused =
     let same = rw refused at c.from_residual.ensures.1 in
     let last = c.in_err-variants.ensures.memory (ap Err (sym same)) in
-    let behind_script = some_variant-after is_region c.read_script-script.new.pieces (ap (list_any is_variant) (sym c.read_region-region.ensures.rest) ∙ last) in
+    let behind_script = some_variant-after is_region c.read_script-script.new.pieces
+    (ap (list_any is_variant) (sym c.read_region-region.ensures.rest) ∙ last) in
     let behind_language = some_variant-after is_script c.next.new.self (ap (list_any is_variant) (sym c.read_script-script.ensures.rest) ∙ behind_script) in
     some_variant-next c.next.result c.args.pieces c.next.new.self c.next.ensures.steps behind_language

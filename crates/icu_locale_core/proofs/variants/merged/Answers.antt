@@ -15,7 +15,8 @@ loop-next-preserved c =
     record {
       left_rises = rw c.behind-left.ensures (left_follows next left right left_rises right_rises is);
       right_rises = rw c.behind-right.ensures (right_follows next left right left_rises right_rises is);
-      whole = rw (c.in_ok-push.ensures.items, c.behind-left.ensures, c.behind-right.ensures) (c.loop-next.invariant.whole ∙ ap (λ ts. list ++ ts) (least-first next left right left_rises right_rises is) ∙ sym (append_assoc list (next ∷ []) _));
+      whole = rw (c.in_ok-push.ensures.items, c.behind-left.ensures, c.behind-right.ensures)
+          (c.loop-next.invariant.whole ∙ ap (λ ts. list ++ ts) (least-first next left right left_rises right_rises is) ∙ sym (append_assoc list (next ∷ []) _));
     }
 
 -- memory is asked for only where there is a next variant

@@ -1,4 +1,4 @@
-use Rattle.std.proofs.Common.{◌∙◌, sym, ap, subst}
+use Rattle.std.proofs.Common.{◌∙◌, subst}
 use Rattle.std.specs.List.{All}
 use Rattle.std.specs.Map.Iter.{deref_pair}
 use Rattle.icu_locale_core.specs.Keywords.{IsKeyword}

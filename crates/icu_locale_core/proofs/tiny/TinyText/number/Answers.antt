@@ -18,7 +18,8 @@ overflow_add-number g c =
     omega (arith, fits, c.loop-byte.invariant, c.from.ensures)
 
 pub loop-byte-preserved : goal.loop-byte-preserved
-loop-byte-preserved g c = rw (c.loop-byte.invariant, c.from.ensures) (sym (number_more 256 c.self.inside.bytes c.loop-byte.byte-index (omega (arith, c.loop-byte-test.true, c.self.told))))
+loop-byte-preserved g c = rw (c.loop-byte.invariant, c.from.ensures) (sym (number_more 256 c.self.inside.bytes c.loop-byte.byte-index
+    (omega (arith, c.loop-byte-test.true, c.self.told))))
 
 -- all the bytes are the text and its zeros
 pub returns : goal.returns

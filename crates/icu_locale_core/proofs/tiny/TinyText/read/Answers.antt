@@ -1,4 +1,5 @@
-use Rattle.std.proofs.Common.{◌≡◌, ◌∙◌, ◌++◌, ◌-◌, ◌+◌, ◌<◌, ◌≤◌, ◌∷◌, [], zero, suc, true, Bool, refl, length, take, drop, get_or, replicate, subst, sym, ap, arith, List, ℕ}
+use Rattle.std.proofs.Common.{◌≡◌, ◌∙◌, ◌++◌, ◌-◌, ◌+◌, ◌<◌, ◌≤◌, ◌∷◌, [], zero, suc, true, Bool, refl, length, take, drop, get_or, replicate, subst}
+use Rattle.std.proofs.Common.{sym, ap, arith, List, ℕ}
 use Rattle.std.specs.List.{list_all}
 use Rattle.std.proofs.lemmas.List.{take_all}
 use Rattle.icu_locale_core.specs.inner.Class.{is_member, is_character, written_case}
@@ -33,8 +34,10 @@ loop-place-preserved g c =
     let long = length-written_case c.args.class text in
     let next = get_or-written_case c.args.class text c.loop-place.place c.loop-place-test.true ∙ sym c.written_byte.ensures in
     record {
-      array = rw c.loop-place.invariant.array (set-next (written_case c.args.class text) g.row.N c.loop-place.place c.written_byte.result (omega (arith, long)) (omega (arith, c.requires.long, c.in_ok-kind.ensures.short)) next);
-      whole = c.loop-place.invariant.whole ∙ past_one (is_character c.in_ok-kind.kind) text c.loop-place.place c.loop-place-test.true (sym c.has.ensures ∙ c.if-not-has.false);
+      array = rw c.loop-place.invariant.array (set-next (written_case c.args.class text) g.row.N c.loop-place.place c.written_byte.result
+          (omega (arith, long)) (omega (arith, c.requires.long, c.in_ok-kind.ensures.short)) next);
+      whole = c.loop-place.invariant.whole ∙ past_one (is_character c.in_ok-kind.kind) text c.loop-place.place c.loop-place-test.true
+          (sym c.has.ensures ∙ c.if-not-has.false);
     }
 
 -- all of it written is the padded text
@@ -49,7 +52,8 @@ module _ (g : Over) (c : goal.After-loop-place g) where
       all_written (written_case c.args.class c.args.text.now) c.loop-place.bytes g.row.N c.loop-place.place (omega (arith, long)) c.loop-place.invariant.array
 
   member : is_member c.args.class c.args.text.now ≡ true
-  member = c.in_ok-kind.ensures.member ∙ c.loop-place.invariant.whole ∙ past_all (is_character c.in_ok-kind.kind) c.args.text.now c.loop-place.place c.loop-place-test.false
+  member = c.in_ok-kind.ensures.member ∙ c.loop-place.invariant.whole ∙ past_all
+      (is_character c.in_ok-kind.kind) c.args.text.now c.loop-place.place c.loop-place-test.false
 
   text_read : unpadded c.loop-place.bytes ≡ written_case c.args.class c.args.text.now
   text_read =
@@ -60,10 +64,12 @@ pub invariant_of-result : goal.invariant_of-result
 invariant_of-result g c =
     let text = c.args.text.now in
     let long = length-written_case c.args.class text in
-    subst (IsPadded g.row.N) (sym (array_of_text g c)) (IsPadded-padded g.row.N (written_case c.args.class text) c.requires.small (written_plain c.args.class text (member g c)) (omega (arith, long, c.requires.long, c.in_ok-kind.ensures.short)))
+    subst (IsPadded g.row.N) (sym (array_of_text g c)) (IsPadded-padded g.row.N (written_case c.args.class text) c.requires.small
+    (written_plain c.args.class text (member g c)) (omega (arith, long, c.requires.long, c.in_ok-kind.ensures.short)))
 
 pub returns-clause-text : goal.returns-clause-text
 returns-clause-text g c = text_read g c
 
 pub returns-clause-known : goal.returns-clause-known
-returns-clause-known g c = subst (IsWritten (is_member c.args.class) (written_case c.args.class)) (sym (text_read g c)) (written_written c.args.class c.args.text.now (member g c))
+returns-clause-known g c = subst (IsWritten (is_member c.args.class) (written_case c.args.class)) (sym (text_read g c))
+    (written_written c.args.class c.args.text.now (member g c))

@@ -23,7 +23,8 @@ returns-then-not-is_there c =
     let within : place < length (rising s) = rw (← c.as_slice-variant-items.ensures) c.loop-variant-test.true in
     let is : t ≡ get_or (rising s) place t = c.variant-item.is ∙ ap (λ ts. get_or ts place t) c.as_slice-variant-items.ensures in
     let there : contains s t ≡ true = contains-rising s t ∙ is_among-Contains t (rising s) (place, within, sym is) in
-    let off : contains others t ≡ false = answers-here others (rising s) (rising_rises s) place t c.loop-variant.rest.now within is c.loop-variant.invariant.answers ∙ sym c.past-is_there.ensures.there ∙ c.if-not-is_there.true in
+    let off : contains others t ≡ false = answers-here others (rising s) (rising_rises s) place t c.loop-variant.rest.now within is
+    c.loop-variant.invariant.answers ∙ sym c.past-is_there.ensures.there ∙ c.if-not-is_there.true in
     sym (false_from_ne_true (is_subset s others) (λ all. false≢true (sym off ∙ is_subset-at s others t all there)))
 
 pub loop-variant-preserved : goal.loop-variant-preserved
@@ -34,9 +35,11 @@ loop-variant-preserved c =
     let place = c.loop-variant.variant-index in
     let within : place < length (rising s) = rw (← c.as_slice-variant-items.ensures) c.loop-variant-test.true in
     let is : t ≡ get_or (rising s) place t = c.variant-item.is ∙ ap (λ ts. get_or ts place t) c.as_slice-variant-items.ensures in
-    let found : contains others t ≡ true = answers-here others (rising s) (rising_rises s) place t c.loop-variant.rest.now within is c.loop-variant.invariant.answers ∙ sym c.past-is_there.ensures.there ∙ c.if-not-is_there.false in
+    let found : contains others t ≡ true = answers-here others (rising s) (rising_rises s) place t c.loop-variant.rest.now within is
+    c.loop-variant.invariant.answers ∙ sym c.past-is_there.ensures.there ∙ c.if-not-is_there.false in
     record {
       inside = list_all_more (contains others) (rising s) place t within ∙ and_from _ _ c.loop-variant.invariant.inside (ap (contains others) (sym is) ∙ found);
       rises = c.past-is_there.ensures.rises;
-      answers = answers-next others (rising s) (rising_rises s) place t c.loop-variant.rest.now within is c.past-is_there.result.0.now c.loop-variant.invariant.answers c.past-is_there.ensures.later;
+      answers = answers-next others (rising s) (rising_rises s) place t c.loop-variant.rest.now within is c.past-is_there.result.0.now
+          c.loop-variant.invariant.answers c.past-is_there.ensures.later;
     }

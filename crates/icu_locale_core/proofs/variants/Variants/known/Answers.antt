@@ -6,4 +6,5 @@ use Rattle.icu_locale_core.specs.laws.TextSets.{contains-from_list, Contains-is_
 use Rattle.icu_locale_core.proofs.variants.Variants.known.Goals as goal
 
 pub returns : goal.returns
-returns c = λ v here. All-contains IsVariant c.self.inside.items.items v c.self.invariant.each (Contains-is_among v c.self.inside.items.items (sym (contains-from_list c.self.inside.items.items v) ∙ ap (λ s. contains s v) c.self.view_is ∙ here))
+returns c = λ v here. All-contains IsVariant c.self.inside.items.items v c.self.invariant.each
+    (Contains-is_among v c.self.inside.items.items (sym (contains-from_list c.self.inside.items.items v) ∙ ap (λ s. contains s v) c.self.view_is ∙ here))

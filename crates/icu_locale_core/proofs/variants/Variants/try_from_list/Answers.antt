@@ -12,7 +12,8 @@ use Rattle.icu_locale_core.proofs.variants.Variants.try_from_list.Goals as goal
 pub invariant_of-result : goal.invariant_of-result
 invariant_of-result c =
     let left = dedup_is (pointwise nat_eq) c.sort_unstable.new.self.items c.dedup.new.self.items c.dedup.ensures.filtered in
-    subst IsVariantList (sym left) (IsVariantList-dedup c.args.list.items c.sort_unstable.new.self.items c.sort_unstable.ensures.permutation c.sort_unstable.ensures.sorted (subst (All IsVariant) c.deref.ensures.value c.know_each.ensures))
+    subst IsVariantList (sym left) (IsVariantList-dedup c.args.list.items c.sort_unstable.new.self.items c.sort_unstable.ensures.permutation
+    c.sort_unstable.ensures.sorted (subst (All IsVariant) c.deref.ensures.value c.know_each.ensures))
 
 pub returns-clause-members : goal.returns-clause-members
 returns-clause-members c =
