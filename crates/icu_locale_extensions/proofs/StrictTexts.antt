@@ -77,7 +77,7 @@ no_singleton : (ps : List (List ℕ)) → All (IsPart 2) ps → list_any is_sing
 no_singleton [] each = refl
 no_singleton (p ∷ ps) each = λ i. long_no_singleton p (All-head (IsPart 2) p ps each) i || no_singleton ps (All-tail (IsPart 2) p ps each) i
 
-plain_pieces : (t : List ℕ) (x : LanguageIdentifier) → IsIdentifier x → core.Spells t x → list_any is_singleton (pieces t) ≡ false
+pub plain_pieces : (t : List ℕ) (x : LanguageIdentifier) → IsIdentifier x → core.Spells t x → list_any is_singleton (pieces t) ≡ false
 plain_pieces t x is s =
     sym (singletons-lowercase (pieces t)) ∙ ap (list_any is_singleton) s.same ∙ singletons-lowercase (subtags x s.order)
     ∙ no_singleton (subtags x s.order) (long_subtags x is s.order (variants_of x is s.order s.lists))

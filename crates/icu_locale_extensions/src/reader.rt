@@ -18,6 +18,7 @@ use crate::blocks::{Blocks, Mark, cut, split};
 use crate::checks::{body, may_follow};
 use crate::fields::Fields;
 use crate::identifier::LocaleIdentifier;
+use crate::laws;
 use crate::parts::{read_attributes, read_fields, read_keywords, read_others};
 use crate::texts::Subtags;
 use icu_locale_core::{
@@ -53,42 +54,31 @@ impl LocaleIdentifier {
     }
 }
 
+// Most texts are an identifier alone, which is read as such.
 pub fn read_locale(alloc: Global, text: &[u8]) -> Result<LocaleIdentifier, ParseError>
+    ensures { ReadsLocale text.now result }
+{
+    match LanguageIdentifier::try_from_utf8(alloc, text) {
+        Ok(id) => {
+            laws::plain_texts_read_alike();
+            Ok(LocaleIdentifier::new(alloc, id))
+        }
+        Err(_) => read_extended(alloc, text),
+    }
+}
+
+// The same of any text, which is cut at its singletons.
+fn read_extended(alloc: Global, text: &[u8]) -> Result<LocaleIdentifier, ParseError>
     ensures { ReadsLocale text.now result }
 {
     let (head, private_use) = split(Some(text), Mark::PrivateUse);
     let (id, tail) = split(head, Mark::Singleton);
     let id = read_front(alloc, id)?;
-    if is_bare(tail, private_use) {
-        return Ok(bare(alloc, id));
-    }
     let blocks = Blocks::new(tail, Mark::Singleton);
     if !may_follow(&blocks) {
         return Err(ParseError::InvalidSubtag);
     }
     read_behind(alloc, id, blocks, private_use)
-}
-
-// Whether nothing stands behind the identifier.
-#[tactic(auto, using(crate::proofs::Separators::any_piece_pieces))]
-fn is_bare(tail: Option<&[u8]>, private_use: Option<&[u8]>) -> bool
-    ensures { result
-        ≡ not (any_piece (pieces_of tail.entry) || any_piece (pieces_of private_use.entry)) }
-{
-    match (tail, private_use) {
-        (None, None) => true,
-        _ => false,
-    }
-}
-
-// The identifier alone.
-fn bare(alloc: Global, id: LanguageIdentifier) -> LocaleIdentifier
-    ensures { ReadsPart (λ x. IsLocaleIdentifier x × (x.locale.id ≡ id))
-        (SpellParts [] []) (Ok result) }
-{
-    let whole = LocaleIdentifier::new(alloc, id);
-    whole.known();
-    whole
 }
 
 // The identifier before the first singleton.
