@@ -24,17 +24,17 @@ use Rattle.icu_locale_extensions.proofs.ReadParts.{same_rows}
 -- ---- what the extensions have
 
 -- `t` is no `u`
-t_apart : (p : List ℕ) → is_t p ≡ true → is_u p ≡ false
+pub t_apart : (p : List ℕ) → is_t p ≡ true → is_u p ≡ false
 t_apart [] is = refl
 t_apart (c ∷ []) is = grind (arith, nat_tests)
 t_apart (c ∷ d ∷ p) is = grind (arith, nat_tests)
 
-transform_of : (e : Block) → is_extension e ≡ true → is_t e.0 ≡ true → is_transform e.1 ≡ true
+pub transform_of : (e : Block) → is_extension e ≡ true → is_t e.0 ≡ true → is_transform e.1 ≡ true
 transform_of e is t =
     sym (ap (λ h. if h then is_unicode e.1 else (if is_t e.0 then is_transform e.1 else is_other e)) (t_apart e.0 t)
     ∙ ap (λ h. if h then is_transform e.1 else is_other e) t) ∙ is
 
-unicode_of : (e : Block) → is_extension e ≡ true → is_u e.0 ≡ true → is_unicode e.1 ≡ true
+pub unicode_of : (e : Block) → is_extension e ≡ true → is_u e.0 ≡ true → is_unicode e.1 ≡ true
 unicode_of e is u = sym (ap (λ h. if h then is_unicode e.1 else (if is_t e.0 then is_transform e.1 else is_other e)) u) ∙ is
 
 -- fields may stand

@@ -1,5 +1,6 @@
 mod AttributeSets
 mod Behind
+mod Bodies
 mod Begins
 mod Cutting
 mod Dashes

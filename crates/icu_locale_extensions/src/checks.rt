@@ -1,9 +1,9 @@
 //! Which pieces extensions may have.
-ghost use Rattle.std.specs.Prelude.{◌≡◌, ◌||◌, ◌&&◌, ◌∷◌, []};
+ghost use Rattle.std.specs.Prelude.{◌≡◌, ◌||◌, ◌&&◌, true};
 ghost use Rattle.std.specs.List.{list_all, list_any};
 ghost use Rattle.icu_locale_core.specs.Subtag.{lowercase, is_key, is_subtag};
 ghost use Rattle.icu_locale_core.specs.laws.Identifiers.{same_text};
-ghost use Rattle.icu_locale_extensions.specs.Extensions.{any_piece, are_pieces, is_unicode, is_transform, is_tfield, is_extension};
+ghost use Rattle.icu_locale_extensions.specs.Extensions.{any_piece, are_pieces, is_unicode, is_transform, is_tfield, is_extension, is_t, is_u};
 ghost use Rattle.icu_locale_extensions.specs.Blocks.{are_once, body};
 ghost use Rattle.icu_locale_extensions.specs.inner.Lent.{pieces_of, block_of};
 
@@ -11,19 +11,12 @@ use crate::blocks::{Block, Blocks, Mark, is_named};
 use crate::texts::{are_pieces, is_alphanumeric};
 use icu_locale_core::{Key, Pieces, Subtag};
 
-// Whether blocks may follow an identifier as its extensions.
-pub fn may_follow(blocks: &Blocks<'_>) -> bool
-    ensures { result ≡ (list_all is_extension blocks.now && are_once blocks.now) }
+// Whether blocks may follow an identifier as its extensions: each may be one, and no mark comes twice, case aside.
+pub fn may_follow(mut blocks: Blocks<'_>) -> bool
+    ensures { result ≡ (list_all is_extension blocks.entry && are_once blocks.entry) }
 {
-    are_extensions(blocks.left()) && are_once(blocks.left())
-}
-
-// Whether each block may be an extension.
-fn are_extensions(blocks: Blocks<'_>) -> bool
-    ensures { result ≡ list_all is_extension blocks.entry }
-{
-    for block in blocks {
-        if !is_extension(block) {
+    'marks: while let Some(block) = blocks.next() {
+        if !is_extension(block) || has_mark(blocks.left(), block.mark) {
             return false;
         }
     }
@@ -99,18 +92,6 @@ fn are_some_pieces(text: Option<&[u8]>, low: usize) -> bool
     }
 }
 
-// Whether no mark comes twice, case aside.
-fn are_once(mut blocks: Blocks<'_>) -> bool
-    ensures { result ≡ are_once blocks.entry }
-{
-    'marks: while let Some(block) = blocks.next() {
-        if has_mark(blocks.left(), block.mark) {
-            return false;
-        }
-    }
-    true
-}
-
 fn has_mark(blocks: Blocks<'_>, mark: &[u8]) -> bool
     ensures { result
         ≡ list_any (λ other. same_text (lowercase mark.now) (lowercase other.0)) blocks.entry }
@@ -123,14 +104,20 @@ fn has_mark(blocks: Blocks<'_>, mark: &[u8]) -> bool
     false
 }
 
-// What follows the singleton of a name.
-pub fn body(blocks: Blocks<'_>, name: u8) -> Option<&[u8]>
-    ensures { pieces_of result ≡ body (λ p. same_text (lowercase p) (name ∷ [])) blocks.entry }
+// What follows the singletons `t` and `u`.
+pub fn bodies(blocks: Blocks<'_>) -> (Option<&[u8]>, Option<&[u8]>)
+    requires { list_all is_extension blocks ≡ true }
+    ensures transform { pieces_of result.0 ≡ body is_t blocks.entry }
+    ensures unicode { pieces_of result.1 ≡ body is_u blocks.entry }
 {
+    let mut transform = None;
+    let mut unicode = None;
     for block in blocks {
-        if is_named(block.mark, name) {
-            return block.body;
+        if transform.is_none() && is_named(block.mark, b't') {
+            transform = block.body;
+        } else if unicode.is_none() && is_named(block.mark, b'u') {
+            unicode = block.body;
         }
     }
-    None
+    (transform, unicode)
 }

@@ -15,7 +15,7 @@ ghost use Rattle.icu_locale_extensions.specs.inner.Readings.{ReadsPart, ReadsFro
 
 use crate::attributes::Attributes;
 use crate::blocks::{Blocks, Mark, cut, split};
-use crate::checks::{body, may_follow};
+use crate::checks::{bodies, may_follow};
 use crate::fields::Fields;
 use crate::identifier::LocaleIdentifier;
 use crate::laws;
@@ -47,6 +47,7 @@ impl LocaleIdentifier {
     /// # Errors
     ///
     /// Those of `try_from_str`.
+    #[inline(always)]
     pub fn try_from_utf8(alloc: Global, text: &[u8]) -> Result<Self, ParseError>
         ensures { ReadsLocale text.now result }
     {
@@ -55,6 +56,7 @@ impl LocaleIdentifier {
 }
 
 // Most texts are an identifier alone, which is read as such.
+#[inline(always)]
 pub fn read_locale(alloc: Global, text: &[u8]) -> Result<LocaleIdentifier, ParseError>
     ensures { ReadsLocale text.now result }
 {
@@ -75,7 +77,7 @@ fn read_extended(alloc: Global, text: &[u8]) -> Result<LocaleIdentifier, ParseEr
     let (id, tail) = split(head, Mark::Singleton);
     let id = read_front(alloc, id)?;
     let blocks = Blocks::new(tail, Mark::Singleton);
-    if !may_follow(&blocks) {
+    if !may_follow(blocks.left()) {
         return Err(ParseError::InvalidSubtag);
     }
     read_behind(alloc, id, blocks, private_use)
@@ -106,8 +108,9 @@ fn read_behind(
         || any_piece (pieces_of private_use.entry)) ≡ true }
 {
     let private_use = read_private_use(alloc, private_use)?;
-    let (lang, fields) = read_transform(alloc, body(blocks.left(), b't'))?;
-    let (attributes, keywords) = read_unicode(alloc, body(blocks.left(), b'u'))?;
+    let (transform, unicode) = bodies(blocks.left());
+    let (lang, fields) = read_transform(alloc, transform)?;
+    let (attributes, keywords) = read_unicode(alloc, unicode)?;
     let others = read_others(alloc, blocks)?;
     let extensions = Extensions {
         unicode: Unicode { keywords },

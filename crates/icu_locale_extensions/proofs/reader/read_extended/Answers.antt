@@ -34,7 +34,7 @@ returns-then-not-may_follow c =
     let all : c.new-blocks.result ≡ extensions t = c.new-blocks.ensures ∙ ap (blocks is_singleton) tail ∙ blocks-from is_singleton (front is_x (pieces t)) in
     let no : c.may_follow.result ≡ false = search rules in
     extensions_refused t c.read_front.result (subst (λ ps. ReadsFront ps c.read_front.result) head c.read_front.ensures) c.in_ok-id.id c.in_ok-id.was
-    (ap (λ es. list_all is_extension es && are_once es) (sym all) ∙ sym c.may_follow.ensures ∙ no)
+    (ap (λ es. list_all is_extension es && are_once es) (sym all ∙ sym c.left.ensures) ∙ sym c.may_follow.ensures ∙ no)
 
 pub returns : goal.returns
 returns c =
@@ -45,6 +45,6 @@ returns c =
     let ok : c.may_follow.result ≡ true = search rules in
     let part = λ (es : List (List ℕ × List (List ℕ))) (ps : List (List ℕ)). ReadsPart (λ x. IsLocaleIdentifier x × (x.locale.id ≡ c.in_ok-id.id)) (SpellParts es ps) c.read_behind.result in
     extensions_read t c.read_front.result (subst (λ ps. ReadsFront ps c.read_front.result) head c.read_front.ensures) c.in_ok-id.id c.in_ok-id.was c.read_behind.result
-    (ap (λ es. list_all is_extension es && are_once es) (sym all) ∙ sym c.may_follow.ensures ∙ ok)
+    (ap (λ es. list_all is_extension es && are_once es) (sym all ∙ sym c.left.ensures) ∙ sym c.may_follow.ensures ∙ ok)
     (subst (λ es. part es (private_pieces t)) all (subst (part c.new-blocks.result) c.split.ensures.rest c.read_behind.ensures.part))
     (λ f. (λ i. list_any is_kept (sym all i) || any_piece (sym c.split.ensures.rest i)) ∙ c.read_behind.ensures.memory f)
