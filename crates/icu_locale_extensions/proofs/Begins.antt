@@ -1,5 +1,6 @@
 -- How the pieces of a strict text may begin, which no text of another syntax alone does.
-use Rattle.std.specs.Prelude.{◌≡◌, ◌≤◌, ℕ, Bool, true, false, not, ◌&&◌, ◌||◌, ◌==◌, List, [], ◌∷◌, ◌++◌, length, map, Option, Some, None, IfSome, if◌then◌else◌}
+use Rattle.std.specs.Prelude.{◌≡◌, ◌≤◌, ℕ, Bool, true, false, not, ◌&&◌, ◌||◌, ◌==◌, List, [], ◌∷◌, ◌++◌, length, map, Option, Some, None, IfSome}
+use Rattle.std.specs.Prelude.{if◌then◌else◌}
 use Rattle.std.proofs.Common.{refl, ap, sym, ◌∙◌, arith}
 use Rattle.std.specs.Char.{is_ascii_alphabetic, is_ascii_digit, to_ascii_lowercase}
 use Rattle.std.specs.List.{All, Contains}
@@ -49,7 +50,8 @@ alphabetic-lowercase (c ∷ t) =
 length-lowercase : (t : List ℕ) → length (lowercase t) ≡ length t
 length-lowercase t = length-map t to_ascii_lowercase
 
-letters-lowercase : (low high : ℕ) (t : List ℕ) → (has_length low high (lowercase t) && is_alphabetic (lowercase t)) ≡ (has_length low high t && is_alphabetic t)
+letters-lowercase : (low high : ℕ) (t : List ℕ) → (has_length low high (lowercase t) && is_alphabetic (lowercase t)) ≡
+    (has_length low high t && is_alphabetic t)
 letters-lowercase low high t = λ i. same (length-lowercase t) i && alphabetic-lowercase t i
   where
     same : length (lowercase t) ≡ length t → has_length low high (lowercase t) ≡ has_length low high t
@@ -119,7 +121,8 @@ region_begins (a ∷ []) is = refl
 region_begins (a ∷ b ∷ []) is = refl
 region_begins (a ∷ b ∷ c ∷ []) is = let member = is.member in digits a b c member
   where
-    digits : (a b c : ℕ) → (is_ascii_digit a && (is_ascii_digit b && (is_ascii_digit c && true))) ≡ true → (is_ascii_alphabetic a && (is_ascii_alphabetic b && (is_ascii_alphabetic c && true))) ≡ false
+    digits : (a b c : ℕ) → (is_ascii_digit a && (is_ascii_digit b && (is_ascii_digit c && true))) ≡ true
+        → (is_ascii_alphabetic a && (is_ascii_alphabetic b && (is_ascii_alphabetic c && true))) ≡ false
     digits a b c is = grind (arith, nat_tests)
 region_begins (a ∷ b ∷ c ∷ d ∷ q) is = grind (arith, nat_tests)
 

@@ -13,7 +13,8 @@ use Rattle.icu_locale_core.specs.declared.langid.LanguageIdentifier.{LanguageIde
 use Rattle.icu_locale_core.specs.declared.parse_error.ParseError.{ParseError}
 use Rattle.icu_locale_extensions.specs.Blocks.{body, lower_block}
 use Rattle.icu_locale_extensions.specs.Cuts.{Block, blocks}
-use Rattle.icu_locale_extensions.specs.Extensions.{any_piece, is_singleton, is_u, is_t, is_x, is_tkey, is_tfield, is_unicode, is_transform, is_other, is_other_singleton, is_extension, ArePieces}
+use Rattle.icu_locale_extensions.specs.Extensions.{any_piece, is_singleton, is_u, is_t, is_x, is_tkey, is_tfield, is_unicode, is_transform, is_other}
+use Rattle.icu_locale_extensions.specs.Extensions.{is_other_singleton, is_extension, ArePieces}
 use Rattle.icu_locale_extensions.specs.Locales.{IsLocaleIdentifier}
 use Rattle.icu_locale_extensions.specs.Reads.{is_kept, SpellParts, SpellPrivateUse, SpellTransform, SpellUnicode}
 use Rattle.icu_locale_extensions.specs.Rows.{HaveFirstOf}
@@ -57,7 +58,8 @@ keywords-body (e ∷ es) all =
       | false ↦ λ u. keywords-body es both.1
     ] refl
 
-other_of : (u t x same : Bool) (unicode transform other : Bool) → (if u then unicode else (if t then transform else other)) ≡ true → (not (same && not (t || (u || x))) || other) ≡ true
+other_of : (u t x same : Bool) (unicode transform other : Bool) → (if u then unicode else (if t then transform else other)) ≡ true
+    → (not (same && not (t || (u || x))) || other) ≡ true
 other_of true true x true unicode transform other is = refl
 other_of true false x true unicode transform other is = refl
 other_of false true x true unicode transform other is = refl
@@ -70,7 +72,8 @@ pub others-all : (es : List Block) → list_all is_extension es ≡ true → lis
 others-all [] all = refl
 others-all (e ∷ es) all =
     let both = and_parts (is_extension e) (list_all is_extension es) all in
-    λ i. other_of (is_u e.0) (is_t e.0) (is_x e.0) (is_singleton e.0 && is_alphanumeric e.0) (is_unicode e.1) (is_transform e.1) (is_other e) both.0 i && others-all es both.1 i
+    λ i. other_of (is_u e.0) (is_t e.0) (is_x e.0) (is_singleton e.0 && is_alphanumeric e.0) (is_unicode e.1) (is_transform e.1)
+    (is_other e) both.0 i && others-all es both.1 i
 
 -- ---- part by part
 
@@ -80,7 +83,8 @@ read_is y x reads fits s = elim (reads.only x fits s) [ inl ok ↦ cc ok | inr r
 
 module _ (es : List Block) (private : List (List ℕ)) (id : LanguageIdentifier) where
   -- where a part is refused, so is the whole
-  pub whole_refused : {X : Type 0} {Fits Spelled : X → Type 0} (part : LocaleIdentifier → X) (r : Result X ParseError) (e : ParseError) → ReadsPart Fits Spelled r → r ≡ Err e
+  pub whole_refused : {X : Type 0} {Fits Spelled : X → Type 0} (part : LocaleIdentifier → X) (r : Result X ParseError) (e : ParseError)
+      → ReadsPart Fits Spelled r → r ≡ Err e
       → ((x : LocaleIdentifier) → IsLocaleIdentifier x → SpellParts es private x → Fits (part x) × Spelled (part x))
       → ReadsPart (λ x. IsLocaleIdentifier x × (x.locale.id ≡ id)) (SpellParts es private) (Err e)
   whole_refused part r e reads is of = record {
@@ -94,16 +98,20 @@ module _ (es : List Block) (private : List (List ℕ)) (id : LanguageIdentifier)
   -- where each part is read, so is the whole
   pub whole_read : (y : LocaleIdentifier) → IsLocaleIdentifier y → y.locale.id ≡ id
       → ReadsPart (λ p. IfSome p (ArePieces 1)) (SpellPrivateUse private) (Ok y.private_use)
-      → ReadsPart {X = Option LanguageIdentifier × List Block} (λ parts. IfSome parts.0 IsIdentifier × IsSortedMap text_cmp parts.1) (λ parts. SpellTransform (body is_t es) parts.0 parts.1) (Ok (y.locale.extensions.transform.lang, y.fields))
-      → ReadsPart {X = List (List ℕ) × KeywordRows} (λ parts. IsSortedMap text_cmp parts.1) (λ parts. SpellUnicode (body is_u es) parts.0 parts.1) (Ok (y.attributes, y.locale.extensions.unicode.keywords))
+      → ReadsPart {X = Option LanguageIdentifier × List Block} (λ parts. IfSome parts.0 IsIdentifier × IsSortedMap text_cmp parts.1)
+      (λ parts. SpellTransform (body is_t es) parts.0 parts.1) (Ok (y.locale.extensions.transform.lang, y.fields))
+      → ReadsPart {X = List (List ℕ) × KeywordRows} (λ parts. IsSortedMap text_cmp parts.1)
+      (λ parts. SpellUnicode (body is_u es) parts.0 parts.1) (Ok (y.attributes, y.locale.extensions.unicode.keywords))
       → HaveFirstOf y.others (map lower_block (filter (λ e. is_other_singleton e.0) es))
       → ReadsPart (λ x. IsLocaleIdentifier x × (x.locale.id ≡ id)) (SpellParts es private) (Ok y)
   whole_read y known same p t u others = record {
     found = ((known, same), record { unicode = u.found.1; transform = t.found.1; others = others; private_use = p.found.1 });
     only = λ x fits s.
         let private_same = read_is y.private_use x.private_use p fits.0.private_use s.private_use in
-        let transform_same = read_is (y.locale.extensions.transform.lang, y.fields) (x.locale.extensions.transform.lang, x.fields) t (fits.0.language, fits.0.fields) s.transform in
-        let unicode_same = read_is (y.attributes, y.locale.extensions.unicode.keywords) (x.attributes, x.locale.extensions.unicode.keywords) u fits.0.keywords s.unicode in
+        let transform_same = read_is (y.locale.extensions.transform.lang, y.fields) (x.locale.extensions.transform.lang, x.fields) t
+        (fits.0.language, fits.0.fields) s.transform in
+        let unicode_same = read_is (y.attributes, y.locale.extensions.unicode.keywords)
+        (x.attributes, x.locale.extensions.unicode.keywords) u fits.0.keywords s.unicode in
         let others_same = same_rows y.others x.others _ known.others fits.0.others others s.others in
         inl (λ i. Ok (record {
           locale = record {
@@ -141,7 +149,8 @@ kept_here e rest apart = ap (λ h. (not h || list_any (λ p. is_variant p || is_
 pub transform_kept : (es : List Block) → list_any (λ p. is_variant p || is_tkey p) (body is_t es) ≡ true → list_any is_kept es ≡ true
 transform_kept [] some = some
 transform_kept (e ∷ es) some =
-    elim (is_t e.0) as (λ h. list_any (λ p. is_variant p || is_tkey p) (if h then e.1 else body is_t es) ≡ true → ((not h || list_any (λ p. is_variant p || is_tkey p) e.1) || list_any is_kept es) ≡ true) [
+    elim (is_t e.0) as (λ h. list_any (λ p. is_variant p || is_tkey p) (if h then e.1 else body is_t es) ≡ true
+    → ((not h || list_any (λ p. is_variant p || is_tkey p) e.1) || list_any is_kept es) ≡ true) [
       | true ↦ λ s. ap (λ h. h || list_any is_kept es) s
       | false ↦ λ s. refl
     ] some
@@ -162,7 +171,8 @@ other_apart false u t x e = absurd (false≢true e)
 pub others_kept : (es : List Block) → list_any {X = Block} (λ b. is_other_singleton b.0) es ≡ true → list_any is_kept es ≡ true
 others_kept [] some = some
 others_kept (e ∷ es) some =
-    elim (is_other_singleton e.0) as (λ h. is_other_singleton e.0 ≡ h → (h || list_any {X = Block} (λ b. is_other_singleton b.0) es) ≡ true → (is_kept e || list_any is_kept es) ≡ true) [
+    elim (is_other_singleton e.0) as (λ h. is_other_singleton e.0 ≡ h → (h || list_any {X = Block} (λ b. is_other_singleton b.0) es) ≡ true
+    → (is_kept e || list_any is_kept es) ≡ true) [
       | true ↦ λ o s. kept_here e (list_any is_kept es) (other_apart (is_singleton e.0 && is_alphanumeric e.0) (is_u e.0) (is_t e.0) (is_x e.0) o)
       | false ↦ λ o s. kept_behind (is_kept e) (list_any is_kept es) (others_kept es s)
     ] refl some

@@ -1,5 +1,6 @@
 -- Texts and lists of pieces, cut in two.
-use Rattle.std.specs.Prelude.{◌≡◌, ℕ, ◌+◌, ◌<◌, ◌≤◌, Bool, true, false, cond, List, [], ◌∷◌, ◌++◌, length, take, drop, get_or, zero, suc, Option, Some, None, is_none, if◌then◌else◌}
+use Rattle.std.specs.Prelude.{◌≡◌, ℕ, ◌+◌, ◌<◌, ◌≤◌, Bool, true, false, cond, List, [], ◌∷◌, ◌++◌, length, take, drop, get_or, zero, suc, Option}
+use Rattle.std.specs.Prelude.{Some, None, is_none, if◌then◌else◌}
 use denote.Ref.{Bor}
 use Rattle.std.proofs.Common.{refl, ap, sym, subst, ◌∙◌, arith, append_assoc}
 use Rattle.std.specs.List.{slice_split, onto_first}
@@ -52,9 +53,11 @@ module _ (is_cut : ℕ → Bool) where
   pub split-joined : (a : List ℕ) (sep : ℕ) (b : List ℕ) → is_cut sep ≡ true → slice_split is_cut (a ++ sep ∷ b) ≡ slice_split is_cut a ++ slice_split is_cut b
   split-joined [] sep b e = rw e refl
   split-joined (x ∷ a) sep b e =
-      elim (is_cut x) as (λ h. cond h ([] ∷ slice_split is_cut (a ++ sep ∷ b)) (onto_first x (slice_split is_cut (a ++ sep ∷ b))) ≡ cond h ([] ∷ slice_split is_cut a) (onto_first x (slice_split is_cut a)) ++ slice_split is_cut b) [
+      elim (is_cut x) as (λ h. cond h ([] ∷ slice_split is_cut (a ++ sep ∷ b)) (onto_first x (slice_split is_cut (a ++ sep ∷ b))) ≡ cond h
+      ([] ∷ slice_split is_cut a) (onto_first x (slice_split is_cut a)) ++ slice_split is_cut b) [
         | true ↦ ap (λ ps. [] ∷ ps) (split-joined a sep b e)
-        | false ↦ ap (onto_first x) (split-joined a sep b e) ∙ onto_first-append x (slice_split is_cut a) (slice_split is_cut b) (omega (arith, length-slice_split is_cut a))
+        | false ↦ ap (onto_first x) (split-joined a sep b e) ∙ onto_first-append x (slice_split is_cut a) (slice_split is_cut b)
+            (omega (arith, length-slice_split is_cut a))
       ]
 
 -- ---- from one piece to the next
@@ -77,7 +80,8 @@ module _ (t : List ℕ) (start : ℕ) (first : List ℕ) (sep : ℕ) (rest : Lis
 
   drop_next : drop (suc (start + length first)) t ≡ rest
   drop_next =
-      let there : drop (start + length first) t ≡ sep ∷ rest = ap (drop (start + length first)) whole ∙ drop_at (take start t ++ first) (sep ∷ rest) (start + length first) before_next in
+      let there : drop (start + length first) t ≡ sep ∷ rest = ap (drop (start + length first)) whole
+      ∙ drop_at (take start t ++ first) (sep ∷ rest) (start + length first) before_next in
       let more : suc (start + length first) ≡ start + length first + 1 = omega arith in
       ap (λ n. drop n t) more ∙ sym (drop-drop 1 (start + length first) t) ∙ ap (drop 1) there
 
@@ -99,9 +103,11 @@ IsBeforeMark-next m t start first sep rest next b is cut one both unmarked e =
     subst (IsBeforeMark m t) (sym e) (record {
       within = within_next t start first sep rest b.within is;
       begins = ap is_separator (at_next t start first sep rest b.within is) ∙ cut;
-      front = b.front ∙ ap (λ ps. pieces_before t start ++ front m ps) both ∙ ap (λ h. pieces_before t start ++ (if h then [] else first ∷ front m (pieces rest))) unmarked
+      front = b.front ∙ ap (λ ps. pieces_before t start ++ front m ps) both ∙ ap
+          (λ h. pieces_before t start ++ (if h then [] else first ∷ front m (pieces rest))) unmarked
           ∙ sym (append_assoc (pieces_before t start) (first ∷ []) (front m (pieces rest)))
-          ∙ (λ i. sym (pieces_before-next t start first sep rest b.within is b.begins one) i ++ front m (pieces (sym (drop_next t start first sep rest b.within is) i)));
+          ∙ (λ i. sym (pieces_before-next t start first sep rest b.within is b.begins one) i
+          ++ front m (pieces (sym (drop_next t start first sep rest b.within is) i)));
       from = b.from ∙ ap (from m) both ∙ ap (λ h. if h then first ∷ pieces rest else from m (pieces rest)) unmarked
           ∙ ap (λ s. from m (pieces s)) (sym (drop_next t start first sep rest b.within is));
     })
@@ -110,7 +116,8 @@ IsBeforeMark-next m t start first sep rest next b is cut one both unmarked e =
 pub front-at_mark : (m : List ℕ → Bool) (t : List ℕ) (start : ℕ) (first : List ℕ) (qs : List (List ℕ)) → IsBeforeMark m t start
     → pieces (drop start t) ≡ first ∷ qs → m first ≡ true → pieces_before t start ≡ front m (pieces t)
 front-at_mark m t start first qs b both marked =
-    sym (b.front ∙ ap (λ ps. pieces_before t start ++ front m ps) both ∙ ap (λ h. pieces_before t start ++ (if h then [] else first ∷ front m qs)) marked ∙ append-nil (pieces_before t start))
+    sym (b.front ∙ ap (λ ps. pieces_before t start ++ front m ps) both ∙ ap (λ h. pieces_before t start
+    ++ (if h then [] else first ∷ front m qs)) marked ∙ append-nil (pieces_before t start))
 
 pub from-at_mark : (m : List ℕ → Bool) (t : List ℕ) (start : ℕ) (first : List ℕ) (qs : List (List ℕ)) → IsBeforeMark m t start
     → pieces (drop start t) ≡ first ∷ qs → m first ≡ true → pieces (drop start t) ≡ from m (pieces t)

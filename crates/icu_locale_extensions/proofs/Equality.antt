@@ -50,5 +50,6 @@ whole_tells same_locale x y locales =
       λ e. and_from same_locale (same_parts x y) (locales.1 (ap (λ (z : LocaleIdentifier). z.locale) e))
           (and_from (pointwise same_text x.attributes y.attributes) _ (attributes.1 (ap (λ (z : LocaleIdentifier). z.attributes) e))
           (and_from (pointwise row_eq x.fields y.fields) _ (fields.1 (ap (λ (z : LocaleIdentifier). z.fields) e))
-          (and_from (pointwise row_eq x.others y.others) _ (others.1 (ap (λ (z : LocaleIdentifier). z.others) e)) (private_uses.1 (ap (λ (z : LocaleIdentifier). z.private_use) e))))),
+          (and_from (pointwise row_eq x.others y.others) _ (others.1 (ap (λ (z : LocaleIdentifier). z.others) e))
+          (private_uses.1 (ap (λ (z : LocaleIdentifier). z.private_use) e))))),
     )

@@ -1,5 +1,6 @@
 -- Rows in which the first row with a mark counts, read one by one.
-use Rattle.std.specs.Prelude.{◌≡◌, Bool, true, false, not, ◌&&◌, ◌||◌, cond, List, [], ◌∷◌, ◌++◌, map, filter, Option, Some, None, is_some, option_copied, IsSome}
+use Rattle.std.specs.Prelude.{◌≡◌, Bool, true, false, not, ◌&&◌, ◌||◌, cond, List, [], ◌∷◌, ◌++◌, map, filter, Option, Some, None, is_some}
+use Rattle.std.specs.Prelude.{option_copied, IsSome}
 use denote.Ref.{Bor}
 use Rattle.std.proofs.Common.{refl, ap, sym, ◌∙◌, append_assoc}
 use Rattle.std.specs.List.{list_all, list_any}
@@ -14,7 +15,8 @@ use Rattle.icu_locale_extensions.specs.Rows.{HaveFirstOf}
 use Rattle.icu_locale_extensions.proofs.Marks.{value_at-append}
 
 -- one row more, of those that are left
-HaveFirstOf-step : (all rows new left : List Block) (row : Block) → HaveFirstOf all (rows ++ row ∷ left) → HaveFirstOf new (rows ++ row ∷ []) → HaveFirstOf all (new ++ left)
+HaveFirstOf-step : (all rows new left : List Block) (row : Block) → HaveFirstOf all (rows ++ row ∷ left)
+    → HaveFirstOf new (rows ++ row ∷ []) → HaveFirstOf all (new ++ left)
 HaveFirstOf-step all rows new left row before added q =
     before q
     ∙ ap (λ r. value_at text_cmp r q) (sym (append_assoc rows (row ∷ []) left))
@@ -23,7 +25,8 @@ HaveFirstOf-step all rows new left row before added q =
     ∙ sym (value_at-append new left q)
 
 -- a block more, read as a row
-pub HaveFirstOf-block : (f : Block → Block) (all rows new rest left : List Block) (b row : Block) → HaveFirstOf all (rows ++ map f rest) → rest ≡ b ∷ left → row ≡ f b
+pub HaveFirstOf-block : (f : Block → Block) (all rows new rest left : List Block) (b row : Block) → HaveFirstOf all (rows ++ map f rest)
+    → rest ≡ b ∷ left → row ≡ f b
     → HaveFirstOf new (rows ++ row ∷ []) → HaveFirstOf all (new ++ map f left)
 HaveFirstOf-block f all rows new rest left b row before next is added =
     HaveFirstOf-step all rows new (map f left) (f b)
@@ -51,7 +54,8 @@ all_left p rest left b next all = (and_parts (p b) (list_all p left) (sym (ap (l
 pub first_passes : (p : Block → Bool) (rest left : List Block) (b : Block) → rest ≡ b ∷ left → list_all p rest ≡ true → p b ≡ true
 first_passes p rest left b next all = (and_parts (p b) (list_all p left) (sym (ap (list_all p) next) ∙ all)).0
 
-pub some_left : (p : Block → Bool) (rest left all : List Block) (b : Block) → rest ≡ b ∷ left → (list_any p rest ≡ true → list_any p all ≡ true) → list_any p left ≡ true → list_any p all ≡ true
+pub some_left : (p : Block → Bool) (rest left all : List Block) (b : Block) → rest ≡ b ∷ left
+    → (list_any p rest ≡ true → list_any p all ≡ true) → list_any p left ≡ true → list_any p all ≡ true
 some_left p rest left all b next before some = before (ap (list_any p) next ∙ or_right (p b) (list_any p left) some)
 
 -- the pieces of another extension

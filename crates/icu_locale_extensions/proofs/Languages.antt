@@ -53,7 +53,8 @@ ReadsFront-none = record {
     no_pieces t none = false≢true (sym (ap any_piece none) ∙ any_piece-pieces t)
 
 -- pieces that a text has spell a language
-SpellLanguage-some : (t : List ℕ) (l : Option LanguageIdentifier) → IfSome l IsIdentifier → SpellLanguage (pieces t) l → (x : LanguageIdentifier) × IsIdentifier x × (l ≡ Some x) × SpellIdentifier (pieces t) x
+SpellLanguage-some : (t : List ℕ) (l : Option LanguageIdentifier) → IfSome l IsIdentifier → SpellLanguage (pieces t) l
+    → (x : LanguageIdentifier) × IsIdentifier x × (l ≡ Some x) × SpellIdentifier (pieces t) x
 SpellLanguage-some t None fits none = absurd (false≢true (sym (ap any_piece none) ∙ any_piece-pieces t))
 SpellLanguage-some t (Some x) fits s = (x, fits, refl, s)
 

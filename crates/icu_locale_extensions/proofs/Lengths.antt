@@ -8,7 +8,8 @@ use Rattle.std.proofs.lemmas.Bool.Decides.{nat_tests}
 use Rattle.std.proofs.lemmas.List.{length-map}
 use Rattle.std.proofs.lemmas.List.Elements.{All-nil, All-cons, All-head, All-tail, All-append, All-weaker, All-contains_itself}
 use Rattle.icu_locale_core.specs.Identifier.{IsIdentifier, subtags}
-use Rattle.icu_locale_core.specs.Subtag.{has_length, is_alphabetic, is_numeric, is_alphanumeric, is_key, is_variant, lowercase, IsLanguage, IsScript, IsRegion, IsVariant, IsKey, IsSubtag}
+use Rattle.icu_locale_core.specs.Subtag.{has_length, is_alphabetic, is_numeric, is_alphanumeric, is_key, is_variant, lowercase, IsLanguage, IsScript}
+use Rattle.icu_locale_core.specs.Subtag.{IsRegion, IsVariant, IsKey, IsSubtag}
 use Rattle.icu_locale_core.specs.TextSet.{rising}
 use Rattle.icu_locale_core.specs.declared.langid.LanguageIdentifier.{LanguageIdentifier}
 use Rattle.icu_locale_core.specs.laws.TextSets.{contains-rising, is_among-Contains}
@@ -156,7 +157,9 @@ module _ (P : List ℕ → Type 0) (language : (p : List ℕ) → IsLanguage p �
   of_region (Some t) known = All-cons P t [] (region t known) (All-nil P)
 
   of_variants : All P (rising x.variants)
-  of_variants = All-weaker (Contains (rising x.variants)) P (λ v here. variant v (is.variants v (contains-rising x.variants v ∙ is_among-Contains v (rising x.variants) here))) (rising x.variants) (All-contains_itself (rising x.variants))
+  of_variants = All-weaker (Contains (rising x.variants)) P (λ v here. variant v
+      (is.variants v (contains-rising x.variants v ∙ is_among-Contains v (rising x.variants) here))) (rising x.variants)
+      (All-contains_itself (rising x.variants))
 
   -- what holds of each class holds of each subtag
   pub each_subtag : All P (subtags x (rising x.variants))
@@ -166,7 +169,8 @@ module _ (P : List ℕ → Type 0) (language : (p : List ℕ) → IsLanguage p �
       (All-append P (option_to_list x.region) (rising x.variants) (of_region x.region is.region) of_variants))
 
 pub subtag_parts : (x : LanguageIdentifier) → IsIdentifier x → All (IsPart 2) (subtags x (rising x.variants))
-subtag_parts x is = each_subtag (IsPart 2) part_language (λ p h. IsPart-less 2 4 (omega arith) p (part_script p h)) part_region (λ p h. IsPart-less 2 4 (omega arith) p (part_variant p h)) x is
+subtag_parts x is = each_subtag (IsPart 2) part_language (λ p h. IsPart-less 2 4 (omega arith) p (part_script p h)) part_region
+    (λ p h. IsPart-less 2 4 (omega arith) p (part_variant p h)) x is
 
 pub subtags_no_tkey : (x : LanguageIdentifier) → IsIdentifier x → Unmarked is_tkey (subtags x (rising x.variants))
 subtags_no_tkey x is = each_subtag (λ p. is_tkey p ≡ false) language_no_tkey script_no_tkey region_no_tkey variant_no_tkey x is

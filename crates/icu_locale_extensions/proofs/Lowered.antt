@@ -1,5 +1,6 @@
 -- Texts of letters and digits in lower case, and whether there is a piece.
-use Rattle.std.proofs.Common.{◌≡◌, ◌<◌, ℕ, zero, suc, Bool, true, false, not, ◌&&◌, ◌||◌, List, [], ◌∷◌, ◌++◌, get_or, length, Option, None, Some, IsTrue, ◌↔◌, refl, ap, sym, arith}
+use Rattle.std.proofs.Common.{◌≡◌, ◌<◌, ℕ, zero, suc, Bool, true, false, not, ◌&&◌, ◌||◌, List, [], ◌∷◌, ◌++◌, get_or, length, Option, None, Some}
+use Rattle.std.proofs.Common.{IsTrue, ◌↔◌, refl, ap, sym, arith}
 use Rattle.std.specs.Char.{is_ascii_alphanumeric, to_ascii_lowercase, encode_utf8}
 use Rattle.std.specs.Option.{is_some}
 use Rattle.std.proofs.lemmas.Bool.{and_parts, false≢true}

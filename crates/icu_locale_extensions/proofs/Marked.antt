@@ -66,6 +66,7 @@ written_parts x =
 
 -- the whole of an identifier, part by part
 pub written_all : (x : LocaleIdentifier)
-    → core.written x.locale.id ++ (dashed (flat (below_t x.others)) ++ (dashed (marked (codes "t") (transform_pieces x)) ++ (dashed (marked (codes "u") (unicode_pieces x))
+    → core.written x.locale.id ++ (dashed (flat (below_t x.others)) ++ (dashed (marked (codes "t") (transform_pieces x))
+    ++ (dashed (marked (codes "u") (unicode_pieces x))
     ++ (dashed (flat (above_t x.others)) ++ dashed (marked_if_any (codes "x") x.private_use))))) ≡ written x
 written_all x = ap (λ t. core.written x.locale.id ++ t) (dashed_extensions x) ∙ written_parts x

@@ -1,5 +1,6 @@
 -- Marks are ASCII, and maps in which the first row with a mark counts.
-use Rattle.std.proofs.Common.{◌≡◌, ◌<◌, ℕ, Bool, true, false, cond, not, ◌&&◌, ◌||◌, List, [], ◌∷◌, ◌++◌, Option, Some, None, IsSome, refl, ap, sym, ◌∙◌, subst, arith}
+use Rattle.std.proofs.Common.{◌≡◌, ◌<◌, ℕ, Bool, true, false, cond, not, ◌&&◌, ◌||◌, List, [], ◌∷◌, ◌++◌, Option, Some, None, IsSome, refl, ap, sym}
+use Rattle.std.proofs.Common.{◌∙◌, subst, arith}
 use Rattle.std.specs.BTreeMap.{is_at}
 use Rattle.std.specs.Option.{option_or}
 use Rattle.std.specs.Ordering.{eq_by_cmp}
@@ -66,15 +67,18 @@ module _ (rows : List Block) (mark : List ℕ) (pieces : List (List ℕ)) where
   first_is_there there q = by (eq_by_cmp text_cmp q mark) refl
     where
       by : (b : Bool) → eq_by_cmp text_cmp q mark ≡ b → value_at text_cmp rows q ≡ value_at text_cmp (rows ++ (mark, pieces) ∷ []) q
-      by true e = found_stays (value_at text_cmp rows q) (subst (λ k. IsSome (value_at text_cmp rows k)) (sym (same_from_tied q mark e)) there) ∙ sym (behind q true e)
+      by true e = found_stays (value_at text_cmp rows q) (subst (λ k. IsSome (value_at text_cmp rows k))
+          (sym (same_from_tied q mark e)) there) ∙ sym (behind q true e)
       by false e = nothing_behind (value_at text_cmp rows q) ∙ sym (behind q false e)
 
   -- where it is not, the row that is put in is the first
   pub first_is_new : (new : List Block) → value_at text_cmp rows mark ≡ None
       → SetsOnly text_cmp rows new mark (Some pieces) → HaveFirstOf new (rows ++ (mark, pieces) ∷ [])
-  first_is_new new absent sets q = sets q ∙ ap (λ b. cond b (Some pieces) (value_at text_cmp rows q)) ((eq_by_cmp_equiv text_total).symm mark q) ∙ by (eq_by_cmp text_cmp q mark) refl
+  first_is_new new absent sets q = sets q ∙ ap (λ b. cond b (Some pieces) (value_at text_cmp rows q))
+      ((eq_by_cmp_equiv text_total).symm mark q) ∙ by (eq_by_cmp text_cmp q mark) refl
     where
-      by : (b : Bool) → eq_by_cmp text_cmp q mark ≡ b → cond (eq_by_cmp text_cmp q mark) (Some pieces) (value_at text_cmp rows q) ≡ value_at text_cmp (rows ++ (mark, pieces) ∷ []) q
+      by : (b : Bool) → eq_by_cmp text_cmp q mark ≡ b → cond (eq_by_cmp text_cmp q mark) (Some pieces)
+          (value_at text_cmp rows q) ≡ value_at text_cmp (rows ++ (mark, pieces) ∷ []) q
       by true e =
           let none : value_at text_cmp rows q ≡ None = ap (value_at text_cmp rows) (same_from_tied q mark e) ∙ absent in
           ap (λ b. cond b (Some pieces) (value_at text_cmp rows q)) e ∙ sym (behind q true e ∙ ap (λ o. option_or o (Some pieces)) none)

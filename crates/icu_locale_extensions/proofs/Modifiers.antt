@@ -18,7 +18,8 @@ difference_none s = same_set (difference s empty) s (λ q. contains-difference s
 abbrev pub changed : List ℕ → LocaleIdentifier → LocaleIdentifier
 changed m y = record y { locale = record y.locale { id = modified m y.locale.id } }
 
-pub posix_read : (t : List ℕ) (y z : LocaleIdentifier) → ReadsLocale (base_text t) (Ok y) → IsLocaleIdentifier z → z ≡ changed (modifier_text t) y → ReadsBy Posix t (Ok z)
+pub posix_read : (t : List ℕ) (y z : LocaleIdentifier) → ReadsLocale (base_text t) (Ok y) → IsLocaleIdentifier z
+    → z ≡ changed (modifier_text t) y → ReadsBy Posix t (Ok z)
 posix_read t y z reads known is = record {
   found = (known, record { base = y; known = reads.found.0; spells = reads.found.1; changed = is });
   only = λ x fits s. elim (reads.only s.base s.known s.spells) [

@@ -1,5 +1,6 @@
 -- A strict text has letters, digits and separators alone, so a name of a POSIX locale that is one is all base.
-use Rattle.std.specs.Prelude.{◌≡◌, ◌<◌, ℕ, Bool, true, false, not, ◌&&◌, ◌||◌, List, [], ◌∷◌, ◌++◌, zero, suc, take, drop, ◌+◌, map, length, get_or, codes, Option, Some, None, IfSome, if◌then◌else◌}
+use Rattle.std.specs.Prelude.{◌≡◌, ◌<◌, ℕ, Bool, true, false, not, ◌&&◌, ◌||◌, List, [], ◌∷◌, ◌++◌, zero, suc, take, drop, ◌+◌, map, length, get_or}
+use Rattle.std.specs.Prelude.{codes, Option, Some, None, IfSome, if◌then◌else◌}
 use Rattle.std.proofs.Common.{refl, ap, sym, ◌∙◌, arith}
 use Rattle.std.specs.Char.{is_ascii_alphanumeric}
 use Rattle.std.specs.List.{All, before_first, after_first, list_all, list_any, onto_first, position_or_len}
@@ -16,7 +17,8 @@ use Rattle.icu_locale_core.specs.laws.Identifiers.{same_text}
 use Rattle.icu_locale_core.specs.declared.langid.LanguageIdentifier.{LanguageIdentifier}
 use Rattle.icu_locale_extensions.specs.Blocks.{are_once, body}
 use Rattle.icu_locale_extensions.specs.Cuts.{Block, front, from, blocks}
-use Rattle.icu_locale_extensions.specs.Extensions.{any_piece, are_pieces, is_extension, is_other, is_piece, is_singleton, is_t, is_tfield, is_tkey, is_transform, is_u, is_unicode, is_x, ArePieces}
+use Rattle.icu_locale_extensions.specs.Extensions.{any_piece, are_pieces, is_extension, is_other, is_piece, is_singleton, is_t, is_tfield, is_tkey}
+use Rattle.icu_locale_extensions.specs.Extensions.{is_transform, is_u, is_unicode, is_x, ArePieces}
 use Rattle.icu_locale_extensions.specs.Locales.{IsLocaleIdentifier}
 use Rattle.icu_locale_extensions.specs.Reads.{extensions, identifier_pieces, private_pieces, SpellIdentifier, SpellLanguage, SpellPrivateUse, Spells}
 use Rattle.icu_locale_extensions.specs.Syntaxes.{ends_base, marks_modifier}
@@ -113,7 +115,8 @@ plain_block e = is_alphanumeric e.0 && are_plain e.1
 from_blocks : (m : List ℕ → Bool) (ps : List (List ℕ)) → list_all plain_block (blocks m ps) ≡ true → are_plain (from m ps) ≡ true
 from_blocks m [] each = refl
 from_blocks m (p ∷ ps) each =
-    elim (m p) as (λ h. list_all plain_block (if h then (p, front m ps) ∷ blocks m ps else blocks m ps) ≡ true → are_plain (if h then p ∷ ps else from m ps) ≡ true) [
+    elim (m p) as (λ h. list_all plain_block (if h then (p, front m ps) ∷ blocks m ps else blocks m ps) ≡ true
+    → are_plain (if h then p ∷ ps else from m ps) ≡ true) [
       | true ↦ λ e.
           let both = and_parts (plain_block (p, front m ps)) (list_all plain_block (blocks m ps)) e in
           let first = and_parts (is_alphanumeric p) (are_plain (front m ps)) both.0 in
@@ -133,7 +136,9 @@ plain_identifier ps x is s =
     ∙ plain-lowercase (subtags x s.spells.order) ∙ all_subtags
   where
     all_subtags : are_plain (subtags x s.spells.order) ≡ true
-    all_subtags = λ i. (part_language x.language is.language).plain i && (plain_append (option_to_list x.script) (option_to_list x.region ++ s.spells.order) (of_script x.script is.script) (plain_append (option_to_list x.region) s.spells.order (of_region x.region is.region) variants)) i
+    all_subtags = λ i. (part_language x.language is.language).plain i && (plain_append (option_to_list x.script)
+        (option_to_list x.region ++ s.spells.order) (of_script x.script is.script)
+        (plain_append (option_to_list x.region) s.spells.order (of_region x.region is.region) variants)) i
       where
         of_script : (o : Option (List ℕ)) → IfSome o IsScript → are_plain (option_to_list o) ≡ true
         of_script None known = refl
@@ -195,7 +200,8 @@ fields_plain (f ∷ fs) marks all =
 transform_plain : (ps : List (List ℕ)) → is_transform ps ≡ true → are_plain (front is_tkey ps) ≡ true → are_plain ps ≡ true
 transform_plain ps is language =
     plain_parts is_tkey ps language
-    (from_blocks is_tkey ps (fields_plain (blocks is_tkey ps) (marks-blocks is_tkey ps) (and_parts (any_piece ps) (list_all is_tfield (blocks is_tkey ps)) is).1))
+    (from_blocks is_tkey ps (fields_plain (blocks is_tkey ps) (marks-blocks is_tkey ps)
+    (and_parts (any_piece ps) (list_all is_tfield (blocks is_tkey ps)) is).1))
 
 -- an extension is plain, where the language of one that is transformed is
 extension_plain : (e : Block) → is_extension e ≡ true → (is_t e.0 ≡ true → are_plain (front is_tkey e.1) ≡ true) → plain_block e ≡ true
@@ -210,10 +216,12 @@ extension_plain e is language = by (is_u e.0) (is_t e.0) refl refl is
         λ i. both.0 i && pieces_plain 2 e.1 (and_parts (any_piece e.1) (are_pieces 2 e.1) both.1).1 i
 
 -- behind one transform extension comes no other
-no_other_t : (e : Block) (es : List Block) → is_t e.0 ≡ true → list_any {X = Block} (λ other. same_text (lowercase e.0) (lowercase other.0)) es ≡ false → body is_t es ≡ []
+no_other_t : (e : Block) (es : List Block) → is_t e.0 ≡ true → list_any {X = Block}
+    (λ other. same_text (lowercase e.0) (lowercase other.0)) es ≡ false → body is_t es ≡ []
 no_other_t e [] is none = refl
 no_other_t e (f ∷ es) is none =
-    let both = none_of_two (same_text (lowercase e.0) (lowercase f.0)) (list_any {X = Block} (λ other. same_text (lowercase e.0) (lowercase other.0)) es) none in
+    let both = none_of_two (same_text (lowercase e.0) (lowercase f.0)) (list_any {X = Block}
+    (λ other. same_text (lowercase e.0) (lowercase other.0)) es) none in
     let here : is_t f.0 ≡ false = false_from_ne_true _ (λ t. false≢true (sym both.0 ∙ same t)) in
     ap (λ b. if b then f.1 else body is_t es) here ∙ no_other_t e es is both.1
   where
@@ -224,7 +232,8 @@ no_other_t e (f ∷ es) is none =
     same : is_t f.0 ≡ true → same_text (lowercase e.0) (lowercase f.0) ≡ true
     same t = (bytes_eq-Decides _ _).1 ((bytes_eq-Decides (lowercase e.0) (codes "t")).0 is ∙ sym ((bytes_eq-Decides (lowercase f.0) (codes "t")).0 t))
 
-extensions_plain : (es : List Block) → list_all is_extension es ≡ true → are_once es ≡ true → are_plain (front is_tkey (body is_t es)) ≡ true → list_all plain_block es ≡ true
+extensions_plain : (es : List Block) → list_all is_extension es ≡ true → are_once es ≡ true
+    → are_plain (front is_tkey (body is_t es)) ≡ true → list_all plain_block es ≡ true
 extensions_plain [] all once language = refl
 extensions_plain (e ∷ es) all once language =
     let both = and_parts (is_extension e) (list_all is_extension es) all in

@@ -68,11 +68,13 @@ module _ (t : List ℕ) (is : is_private (pieces t) ≡ true) where
           (λ f. (λ i. list_any is_kept (no_extensions i) || any_piece (private-whole i)) ∙ memory f)
 
       -- private use that is refused
-      pub pieces_refused : (q : Result (Option (List (List ℕ))) ParseError) (e : ParseError) → ReadsPart (λ p. IfSome p (ArePieces 1)) (SpellPrivateUse (pieces t)) q → q ≡ Err e
+      pub pieces_refused : (q : Result (Option (List (List ℕ))) ParseError) (e : ParseError)
+          → ReadsPart (λ p. IfSome p (ArePieces 1)) (SpellPrivateUse (pieces t)) q → q ≡ Err e
           → (q ≡ Err Memory → any_piece (pieces t) ≡ true) → ReadsLocale whole (Err e)
       pieces_refused q e reads_q is memory =
           parts_read (Err e) (whole_refused [] (pieces t) id (λ x. x.private_use) q e reads_q is (λ x known s. (known.private_use, s.private_use)))
           (λ f. memory (is ∙ cc f))
 
-      pub private_read : (y : LocaleIdentifier) → ReadsPart (λ x. IsLocaleIdentifier x × (x.locale.id ≡ id)) (SpellParts [] (pieces t)) (Ok y) → ReadsLocale whole (Ok y)
+      pub private_read : (y : LocaleIdentifier) → ReadsPart (λ x. IsLocaleIdentifier x × (x.locale.id ≡ id)) (SpellParts [] (pieces t))
+          (Ok y) → ReadsLocale whole (Ok y)
       private_read y part = parts_read (Ok y) part (λ f. absurd (cc f))

@@ -1,5 +1,6 @@
 -- Parts of a locale identifier that were read, and pieces that were not.
-use Rattle.std.specs.Prelude.{◌≡◌, ℕ, Bool, true, false, ◌||◌, ◌&&◌, List, [], ◌∷◌, map, Option, Some, None, Result, Ok, Err, IsErr, IsErrAnd, IfSome, if◌then◌else◌}
+use Rattle.std.specs.Prelude.{◌≡◌, ℕ, Bool, true, false, ◌||◌, ◌&&◌, List, [], ◌∷◌, map, Option, Some, None, Result, Ok, Err, IsErr, IsErrAnd, IfSome}
+use Rattle.std.specs.Prelude.{if◌then◌else◌}
 use Rattle.std.proofs.Common.{refl, ap, sym, ◌∙◌, subst, inl, inr}
 use Rattle.std.specs.List.{All, list_all, list_any}
 use Rattle.std.proofs.lemmas.Bool.{false≢true, and_parts}
@@ -37,18 +38,21 @@ marks-blocks m (p ∷ ps) =
 pub subtags-front : (ps : List (List ℕ)) → list_all (λ p. is_key p || is_subtag p) ps ≡ true → list_all is_subtag (front is_key ps) ≡ true
 subtags-front [] all = refl
 subtags-front (p ∷ ps) all =
-    elim (is_key p) as (λ h. ((h || is_subtag p) && list_all (λ p. is_key p || is_subtag p) ps) ≡ true → list_all is_subtag (if h then [] else p ∷ front is_key ps) ≡ true) [
+    elim (is_key p) as (λ h. ((h || is_subtag p) && list_all (λ p. is_key p || is_subtag p) ps) ≡ true
+    → list_all is_subtag (if h then [] else p ∷ front is_key ps) ≡ true) [
       | true ↦ λ e. refl
       | false ↦ λ e.
           let both = and_parts (is_subtag p) (list_all (λ p. is_key p || is_subtag p) ps) e in
           λ i. both.0 i && subtags-front ps both.1 i
     ] all
 
-pub subtags-blocks : (ps : List (List ℕ)) → list_all (λ p. is_key p || is_subtag p) ps ≡ true → list_all {X = Block} (λ b. list_all is_subtag b.1) (blocks is_key ps) ≡ true
+pub subtags-blocks : (ps : List (List ℕ)) → list_all (λ p. is_key p || is_subtag p) ps ≡ true
+    → list_all {X = Block} (λ b. list_all is_subtag b.1) (blocks is_key ps) ≡ true
 subtags-blocks [] all = refl
 subtags-blocks (p ∷ ps) all =
     let rest = (and_parts (is_key p || is_subtag p) (list_all (λ p. is_key p || is_subtag p) ps) all).1 in
-    elim (is_key p) as (λ h. list_all {X = Block} (λ b. list_all is_subtag b.1) (if h then (p, front is_key ps) ∷ blocks is_key ps else blocks is_key ps) ≡ true) [
+    elim (is_key p) as (λ h. list_all {X = Block} (λ b. list_all is_subtag b.1)
+    (if h then (p, front is_key ps) ∷ blocks is_key ps else blocks is_key ps) ≡ true) [
       | true ↦ λ i. subtags-front ps rest i && subtags-blocks ps rest i
       | false ↦ subtags-blocks ps rest
     ]
@@ -56,7 +60,8 @@ subtags-blocks (p ∷ ps) all =
 -- ---- rows
 
 -- rising rows are told by the blocks of which they have the first
-pub same_rows : (rows others all : List Block) → IsSortedMap text_cmp rows → IsSortedMap text_cmp others → HaveFirstOf rows all → HaveFirstOf others all → rows ≡ others
+pub same_rows : (rows others all : List Block) → IsSortedMap text_cmp rows → IsSortedMap text_cmp others → HaveFirstOf rows all
+    → HaveFirstOf others all → rows ≡ others
 same_rows rows others all rise others_rise a b = same_sorted_map text_total text_same rows others rise others_rise (λ q. a q ∙ sym (b q))
 
 pub unicode_read : (ps attributes : List (List ℕ)) (rows : KeywordRows) → SpellUnicode ps attributes rows → IsSortedMap text_cmp rows
@@ -67,9 +72,11 @@ unicode_read ps attributes rows spell rise = record {
   language = λ e. absurd (cc e);
 }
 
-pub transform_read : (ps : List (List ℕ)) (lang : Option LanguageIdentifier) (rows : List Block) → ReadsPart (λ l. IfSome l IsIdentifier) (SpellLanguage (front is_tkey ps)) (Ok lang)
+pub transform_read : (ps : List (List ℕ)) (lang : Option LanguageIdentifier) (rows : List Block)
+    → ReadsPart (λ l. IfSome l IsIdentifier) (SpellLanguage (front is_tkey ps)) (Ok lang)
     → HaveFirstOf rows (map lower_block (blocks is_tkey ps)) → IsSortedMap text_cmp rows
-    → ReadsPart {X = Option LanguageIdentifier × List Block} (λ parts. IfSome parts.0 IsIdentifier × IsSortedMap text_cmp parts.1) (λ parts. SpellTransform ps parts.0 parts.1) (Ok (lang, rows))
+    → ReadsPart {X = Option LanguageIdentifier × List Block} (λ parts. IfSome parts.0 IsIdentifier × IsSortedMap text_cmp parts.1)
+    (λ parts. SpellTransform ps parts.0 parts.1) (Ok (lang, rows))
 transform_read ps lang rows language first rise = record {
   found = ((language.found.0, rise), record { language = language.found.1; rows = first });
   only = λ parts fits s.
@@ -89,7 +96,8 @@ plain_each low (p ∷ ps) all =
     && plain_each low ps (All-tail (IsPiece low) (lowercase p) (map lowercase ps) all) i
 
 -- pieces that were refused are no private use
-pub private_use_refused : (ps : List (List ℕ)) (mark behind : List ℕ) (r : Result (List (List ℕ)) ParseError) (e : ParseError) → ps ≡ mark ∷ pieces behind → ReadsPieces 1 behind r → r ≡ Err e
+pub private_use_refused : (ps : List (List ℕ)) (mark behind : List ℕ) (r : Result (List (List ℕ)) ParseError) (e : ParseError)
+    → ps ≡ mark ∷ pieces behind → ReadsPieces 1 behind r → r ≡ Err e
     → ReadsPart (λ p. IfSome p (ArePieces 1)) (SpellPrivateUse ps) (Err e)
 private_use_refused ps mark behind r Memory both reads is = record { found = tt; only = λ p fits s. inr refl; language = λ e. absurd (cc e) }
 private_use_refused ps mark behind r InvalidLanguage both reads is = absurd (reads.language is)
@@ -145,7 +153,8 @@ either : (p q : List ℕ → Bool) (ps : List (List ℕ)) → (list_any p ps || 
 either p q [] some = some
 either p q (r ∷ ps) some = by (p r) (q r) (list_any p ps) (list_any q ps) some (either p q ps)
   where
-    by : (a b c d : Bool) → ((a || c) || (b || d)) ≡ true → ((c || d) ≡ true → list_any (λ r. p r || q r) ps ≡ true) → ((a || b) || list_any (λ r. p r || q r) ps) ≡ true
+    by : (a b c d : Bool) → ((a || c) || (b || d)) ≡ true → ((c || d) ≡ true → list_any (λ r. p r || q r) ps ≡ true)
+        → ((a || b) || list_any (λ r. p r || q r) ps) ≡ true
     by true b c d e rest = refl
     by false true c d e rest = refl
     by false false c d e rest = rest e

@@ -12,7 +12,8 @@ swapped false true c = refl
 swapped false false c = refl
 
 -- the texts that are there, and those that are left, are all: one more is put in
-pub from_list-step : (all old new left : List (List ℕ)) (t : List ℕ) → from_list all ≡ from_list (old ++ t ∷ left) → new ≡ rising (from_list (t ∷ old)) → from_list all ≡ from_list (new ++ left)
+pub from_list-step : (all old new left : List (List ℕ)) (t : List ℕ) → from_list all ≡ from_list (old ++ t ∷ left)
+    → new ≡ rising (from_list (t ∷ old)) → from_list all ≡ from_list (new ++ left)
 from_list-step all old new left t before put = before ∙ same_set (from_list (old ++ t ∷ left)) (from_list (new ++ left)) same
   where
     there : (q : List ℕ) → is_among q new ≡ is_among q (t ∷ old)

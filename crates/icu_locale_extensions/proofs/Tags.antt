@@ -1,5 +1,6 @@
 -- Legacy tags: texts with the same pieces, and rows of tags.
-use Rattle.std.specs.Prelude.{◌≡◌, ℕ, ◌<◌, Bool, true, false, if◌then◌else◌, zero, suc, codes, List, [], ◌∷◌, ◌++◌, map, length, get_or, unwrap_or, Option, Some, None}
+use Rattle.std.specs.Prelude.{◌≡◌, ℕ, ◌<◌, Bool, true, false, if◌then◌else◌, zero, suc, codes, List, [], ◌∷◌, ◌++◌, map, length, get_or, unwrap_or}
+use Rattle.std.specs.Prelude.{Option, Some, None}
 use Rattle.std.proofs.Common.{refl, ap, sym, ◌∙◌, arith}
 use Rattle.std.specs.List.{after_first, list_all}
 use Rattle.std.specs.Cmp.Lexicographic.{pointwise}
@@ -27,7 +28,8 @@ pieces_alike t u same =
     sym (joined-spelled t) ∙ ap written_value (pieces-spelled t ∙ (values_decide _ _).0 same ∙ sym (pieces-spelled u)) ∙ joined-spelled u
 
 -- each byte alike
-pub all_alike : (t u : List ℕ) → length t ≡ length u → ((k : ℕ) → k < length t → spelled (get_or t k 0) ≡ spelled (get_or u k 0)) → map spelled t ≡ map spelled u
+pub all_alike : (t u : List ℕ) → length t ≡ length u → ((k : ℕ) → k < length t → spelled (get_or t k 0) ≡ spelled (get_or u k 0))
+    → map spelled t ≡ map spelled u
 all_alike [] [] size each = refl
 all_alike [] (d ∷ u) size each = absurd (omega arith)
 all_alike (c ∷ t) [] size each = absurd (omega arith)
@@ -101,8 +103,10 @@ preferred-one f = value_none (λ row. more_than_one (pieces row.0)) legacy (f �
 -- ---- what a tag stands for
 
 -- without a legacy tag and private use it is the tag, or what follows the prefix
-pub tag_extended : (t first : List ℕ) (ps : List (List ℕ)) → pieces t ≡ first ∷ ps → preferred (first ∷ ps) ≡ None → is_x first ≡ false → is_extended (first ∷ ps) ≡ true
+pub tag_extended : (t first : List ℕ) (ps : List (List ℕ)) → pieces t ≡ first ∷ ps → preferred (first ∷ ps) ≡ None → is_x first ≡ false
+    → is_extended (first ∷ ps) ≡ true
     → after_first is_separator t ≡ tag_text t
 tag_extended t first ps cut none other extended =
-    sym ((λ i. unwrap_or (preferred (cut i)) (if is_private (cut i) then codes "und-" ++ t else (if is_extended (cut i) then after_first is_separator t else t)))
+    sym ((λ i. unwrap_or (preferred (cut i)) (if is_private (cut i) then codes "und-"
+    ++ t else (if is_extended (cut i) then after_first is_separator t else t)))
     ∙ (λ i. unwrap_or (none i) (if other i then codes "und-" ++ t else (if extended i then after_first is_separator t else t))))

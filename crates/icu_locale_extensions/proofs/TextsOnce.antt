@@ -16,7 +16,8 @@ use Rattle.icu_locale_extensions.specs.Blocks.{are_once}
 use Rattle.icu_locale_extensions.specs.Cuts.{front, from, blocks}
 use Rattle.icu_locale_extensions.specs.Extensions.{any_piece, is_singleton, is_x, is_extension, IsField, IsOther}
 use Rattle.icu_locale_extensions.specs.Locales.{IsLocaleIdentifier}
-use Rattle.icu_locale_extensions.specs.Reads.{is_kept, as_locale, bare, extensions, identifier_pieces, private_pieces, takes_memory, ReadsLocale, SpellIdentifier, SpellLanguage, SpellParts, SpellPrivateUse, Spells}
+use Rattle.icu_locale_extensions.specs.Reads.{is_kept, as_locale, bare, extensions, identifier_pieces, private_pieces, takes_memory, ReadsLocale}
+use Rattle.icu_locale_extensions.specs.Reads.{SpellIdentifier, SpellLanguage, SpellParts, SpellPrivateUse, Spells}
 use Rattle.icu_locale_extensions.specs.declared.identifier.LocaleIdentifier.{LocaleIdentifier}
 use Rattle.icu_locale_extensions.proofs.Languages.{spelled_in}
 use Rattle.icu_locale_extensions.proofs.ReadParts.{same_rows}
@@ -40,7 +41,8 @@ module _ (once : (t : List ℕ) (x y : LanguageIdentifier) → IsIdentifier x �
   identifiers_once : (ps : List (List ℕ)) (x y : LanguageIdentifier) → IsIdentifier x → IsIdentifier y → SpellIdentifier ps x → SpellIdentifier ps y → x ≡ y
   identifiers_once ps x y is also s k = once s.text x y is also s.spells (spelled_in s.text ps y s.cut k)
 
-  languages_once : (ps : List (List ℕ)) (k l : Option LanguageIdentifier) → IfSome k IsIdentifier → IfSome l IsIdentifier → SpellLanguage ps k → SpellLanguage ps l → k ≡ l
+  languages_once : (ps : List (List ℕ)) (k l : Option LanguageIdentifier) → IfSome k IsIdentifier → IfSome l IsIdentifier
+      → SpellLanguage ps k → SpellLanguage ps l → k ≡ l
   languages_once ps None None is also s k = refl
   languages_once ps None (Some y) is also s k = absurd (some_pieces ps y k s)
   languages_once ps (Some x) None is also s k = absurd (some_pieces ps x s k)
@@ -49,8 +51,10 @@ module _ (once : (t : List ℕ) (x y : LanguageIdentifier) → IsIdentifier x �
   pub texts_once : (t : List ℕ) (x y : LocaleIdentifier) → IsLocaleIdentifier x → IsLocaleIdentifier y → Spells t x → Spells t y → x ≡ y
   texts_once t x y is also s k =
       let ids = identifiers_once (identifier_pieces t) x.locale.id y.locale.id is.id also.id s.id k.id in
-      let keywords = same_rows x.locale.extensions.unicode.keywords y.locale.extensions.unicode.keywords _ is.keywords also.keywords s.parts.unicode.rows k.parts.unicode.rows in
-      let langs = languages_once _ x.locale.extensions.transform.lang y.locale.extensions.transform.lang is.language also.language s.parts.transform.language k.parts.transform.language in
+      let keywords = same_rows x.locale.extensions.unicode.keywords y.locale.extensions.unicode.keywords _ is.keywords also.keywords
+      s.parts.unicode.rows k.parts.unicode.rows in
+      let langs = languages_once _ x.locale.extensions.transform.lang y.locale.extensions.transform.lang is.language also.language
+      s.parts.transform.language k.parts.transform.language in
       let fields = same_rows x.fields y.fields _ is.fields also.fields s.parts.transform.rows k.parts.transform.rows in
       let others = same_rows x.others y.others _ is.others also.others s.parts.others k.parts.others in
       let private = private_use_once _ x.private_use y.private_use s.parts.private_use k.parts.private_use in
@@ -83,7 +87,8 @@ bare_is x is = record {
   private_use = tt;
 }
 
-unmarked : (m : List ℕ → Bool) → ((p : List ℕ) → m p ≡ true → is_singleton p ≡ true) → (ps : List (List ℕ)) → list_any is_singleton ps ≡ false → (front m ps ≡ ps) × (from m ps ≡ [])
+unmarked : (m : List ℕ → Bool) → ((p : List ℕ) → m p ≡ true → is_singleton p ≡ true) → (ps : List (List ℕ))
+    → list_any is_singleton ps ≡ false → (front m ps ≡ ps) × (from m ps ≡ [])
 unmarked m is [] none = (refl, refl)
 unmarked m is (p ∷ ps) none =
     let here : is_singleton p ≡ false = first (is_singleton p) (list_any is_singleton ps) none in
@@ -104,7 +109,8 @@ unmarked m is (p ∷ ps) none =
 no_blocks : (ps : List (List ℕ)) → list_any is_singleton ps ≡ false → blocks is_singleton ps ≡ []
 no_blocks [] none = refl
 no_blocks (p ∷ ps) none =
-    elim (is_singleton p) as (λ h. (h || list_any is_singleton ps) ≡ false → (if h then (p, front is_singleton ps) ∷ blocks is_singleton ps else blocks is_singleton ps) ≡ []) [
+    elim (is_singleton p) as (λ h. (h || list_any is_singleton ps) ≡ false →
+    (if h then (p, front is_singleton ps) ∷ blocks is_singleton ps else blocks is_singleton ps) ≡ []) [
       | true ↦ λ e. absurd (false≢true (sym e))
       | false ↦ λ e. no_blocks ps e
     ] none
@@ -154,12 +160,15 @@ ok_of : (r : Result LanguageIdentifier ParseError) (x : LanguageIdentifier) → 
 ok_of (Ok y) x is = let same : bare y ≡ bare x = cc is in ap (λ (z : LocaleIdentifier). Ok z.locale.id) same
 ok_of (Err f) x is = absurd (cc is)
 
-module _ (once : (t : List ℕ) (x y : LanguageIdentifier) → IsIdentifier x → IsIdentifier y → core.Spells t x → core.Spells t y → x ≡ y) (t : List ℕ) (plain : list_any is_singleton (pieces t) ≡ false) where
-  found_there : (r : Result LanguageIdentifier ParseError) → IfOk r (λ x. IsIdentifier x × core.Spells t x) → IfOk (as_locale r) (λ x. IsLocaleIdentifier x × Spells t x)
+module _ (once : (t : List ℕ) (x y : LanguageIdentifier) → IsIdentifier x → IsIdentifier y → core.Spells t x → core.Spells t y → x ≡ y)
+    (t : List ℕ) (plain : list_any is_singleton (pieces t) ≡ false) where
+  found_there : (r : Result LanguageIdentifier ParseError) → IfOk r (λ x. IsIdentifier x × core.Spells t x)
+      → IfOk (as_locale r) (λ x. IsLocaleIdentifier x × Spells t x)
   found_there (Ok x) h = (bare_is x h.0, to_bare t plain x h.1)
   found_there (Err e) h = tt
 
-  found_back : (r : Result LanguageIdentifier ParseError) → IfOk (as_locale r) (λ x. IsLocaleIdentifier x × Spells t x) → IfOk r (λ x. IsIdentifier x × core.Spells t x)
+  found_back : (r : Result LanguageIdentifier ParseError) → IfOk (as_locale r) (λ x. IsLocaleIdentifier x × Spells t x)
+      → IfOk r (λ x. IsIdentifier x × core.Spells t x)
   found_back (Ok x) h = (h.0.id, from_locale t plain (bare x) h.1)
   found_back (Err e) h = tt
 

@@ -1,5 +1,6 @@
 -- A text and its parts: what stands before the first singleton, extensions and private use.
-use Rattle.std.specs.Prelude.{◌≡◌, ◌⊎◌, ℕ, Bool, true, false, not, ◌||◌, ◌&&◌, List, [], ◌∷◌, slice_index_or, Option, Some, None, Result, Ok, Err, IfOk, IfSome, if◌then◌else◌}
+use Rattle.std.specs.Prelude.{◌≡◌, ◌⊎◌, ℕ, Bool, true, false, not, ◌||◌, ◌&&◌, List, [], ◌∷◌, slice_index_or, Option, Some, None, Result, Ok, Err}
+use Rattle.std.specs.Prelude.{IfOk, IfSome, if◌then◌else◌}
 use Rattle.std.proofs.Common.{refl, ap, sym, ◌∙◌, subst, inl, inr, arith}
 use Rattle.std.specs.List.{list_all, list_any}
 use Rattle.std.proofs.lemmas.Bool.{false≢true, and_parts}
@@ -13,7 +14,8 @@ use Rattle.icu_locale_extensions.specs.Blocks.{are_once}
 use Rattle.icu_locale_extensions.specs.Cuts.{front, from, blocks}
 use Rattle.icu_locale_extensions.specs.Extensions.{any_piece, is_singleton, is_x, is_extension, ArePieces}
 use Rattle.icu_locale_extensions.specs.Locales.{IsLocaleIdentifier}
-use Rattle.icu_locale_extensions.specs.Reads.{is_kept, identifier_pieces, extensions, private_pieces, ReadsLocale, SpellIdentifier, SpellLanguage, SpellParts, SpellPrivateUse, Spells}
+use Rattle.icu_locale_extensions.specs.Reads.{is_kept, identifier_pieces, extensions, private_pieces, ReadsLocale, SpellIdentifier, SpellLanguage}
+use Rattle.icu_locale_extensions.specs.Reads.{SpellParts, SpellPrivateUse, Spells}
 use Rattle.icu_locale_extensions.specs.Rows.{HaveFirstOf}
 use Rattle.icu_locale_extensions.specs.declared.identifier.LocaleIdentifier.{LocaleIdentifier}
 use Rattle.icu_locale_extensions.specs.inner.Readings.{ReadsFront, ReadsPart}
@@ -80,7 +82,8 @@ module _ (t : List ℕ) (r : Result LanguageIdentifier ParseError) (reads : Read
       | inl ok ↦ cc (sym is ∙ ok)
       | inr refused ↦ let same : e ≡ Memory = cc (sym is ∙ refused) in cc (same, f)
     ];
-    memory = λ f. let same : e ≡ Memory = cc f in ap (λ h. h || (list_any is_kept (extensions t) || any_piece (private_pieces t))) (reads.memory (is ∙ ap Err same));
+    memory = λ f. let same : e ≡ Memory = cc f in ap (λ h. h || (list_any is_kept (extensions t) || any_piece (private_pieces t)))
+        (reads.memory (is ∙ ap Err same));
   }
 
   module _ (id : LanguageIdentifier) (ok : r ≡ Ok id) where
@@ -161,18 +164,23 @@ language_none = record { found = (tt, refl); only = only; language = λ e. cc e 
     only (Some x) fits s = absurd (false≢true (sym (ap any_piece s.cut) ∙ any_piece-pieces s.text))
 
 -- an identifier and private use
-pub private_alone : (private : List (List ℕ)) (y : LocaleIdentifier) (id : LanguageIdentifier) → IsLocaleIdentifier y → y.locale.id ≡ id → y.locale.extensions.unicode.keywords ≡ [] → y.locale.extensions.transform.lang ≡ None
+pub private_alone : (private : List (List ℕ)) (y : LocaleIdentifier) (id : LanguageIdentifier) → IsLocaleIdentifier y → y.locale.id ≡ id
+    → y.locale.extensions.unicode.keywords ≡ [] → y.locale.extensions.transform.lang ≡ None
     → y.attributes ≡ [] → y.fields ≡ [] → y.others ≡ [] → ReadsPart (λ p. IfSome p (ArePieces 1)) (SpellPrivateUse private) (Ok y.private_use)
     → ReadsPart (λ x. IsLocaleIdentifier x × (x.locale.id ≡ id)) (SpellParts [] private) (Ok y)
 private_alone private y id known same keywords lang attributes fields others private_use =
     whole_read [] private id y known same private_use
-    (transform_read [] y.locale.extensions.transform.lang y.fields (subst (λ l. ReadsPart (λ l. IfSome l IsIdentifier) (SpellLanguage []) (Ok l)) (sym lang) language_none) (subst (λ rows. HaveFirstOf rows []) (sym fields) (λ q. refl)) known.fields)
-    (unicode_read [] y.attributes y.locale.extensions.unicode.keywords (record { set = attributes ∙ sym rising_none; rows = subst (λ rows. HaveFirstOf rows []) (sym keywords) (λ q. refl) }) known.keywords)
+    (transform_read [] y.locale.extensions.transform.lang y.fields (subst (λ l. ReadsPart (λ l. IfSome l IsIdentifier) (SpellLanguage [])
+    (Ok l)) (sym lang) language_none) (subst (λ rows. HaveFirstOf rows []) (sym fields) (λ q. refl)) known.fields)
+    (unicode_read [] y.attributes y.locale.extensions.unicode.keywords (record
+    { set = attributes ∙ sym rising_none; rows = subst (λ rows. HaveFirstOf rows []) (sym keywords) (λ q. refl) }) known.keywords)
     (subst (λ rows. HaveFirstOf rows []) (sym others) (λ q. refl))
 
 -- an identifier alone
-pub bare_read : (y : LocaleIdentifier) (id : LanguageIdentifier) → IsLocaleIdentifier y → y.locale.id ≡ id → y.locale.extensions.unicode.keywords ≡ [] → y.locale.extensions.transform.lang ≡ None
-    → y.attributes ≡ [] → y.fields ≡ [] → y.others ≡ [] → y.private_use ≡ None → ReadsPart (λ x. IsLocaleIdentifier x × (x.locale.id ≡ id)) (SpellParts [] []) (Ok y)
+pub bare_read : (y : LocaleIdentifier) (id : LanguageIdentifier) → IsLocaleIdentifier y → y.locale.id ≡ id
+    → y.locale.extensions.unicode.keywords ≡ [] → y.locale.extensions.transform.lang ≡ None
+    → y.attributes ≡ [] → y.fields ≡ [] → y.others ≡ [] → y.private_use ≡ None
+    → ReadsPart (λ x. IsLocaleIdentifier x × (x.locale.id ≡ id)) (SpellParts [] []) (Ok y)
 bare_read y id known same keywords lang attributes fields others private_use =
     private_alone [] y id known same keywords lang attributes fields others
     (subst (λ p. ReadsPart (λ p. IfSome p (ArePieces 1)) (SpellPrivateUse []) (Ok p)) (sym private_use) private_none)

@@ -1,5 +1,6 @@
 -- The written form of a locale identifier, cut as a reader cuts it.
-use Rattle.std.proofs.Common.{◌≡◌, ℕ, Bool, true, false, not, cond, ◌&&◌, ◌||◌, List, [], ◌∷◌, ◌++◌, filter, codes, Option, None, Some, IfSome, refl, ap, sym, ◌∙◌, subst, arith, append_assoc, append-nil}
+use Rattle.std.proofs.Common.{◌≡◌, ℕ, Bool, true, false, not, cond, ◌&&◌, ◌||◌, List, [], ◌∷◌, ◌++◌, filter, codes, Option, None, Some, IfSome, refl}
+use Rattle.std.proofs.Common.{ap, sym, ◌∙◌, subst, arith, append_assoc, append-nil}
 use Rattle.std.specs.List.{All, AllByRecursion, flat_map, join_by}
 use Rattle.std.specs.Map.{keys_of}
 use Rattle.std.specs.Ordering.{is_lt}
@@ -18,11 +19,14 @@ use Rattle.icu_locale_core.specs.TextSet.{rising, text_cmp}
 use Rattle.icu_locale_core.specs.laws.TextSets.{text_total}
 use Rattle.icu_locale_extensions.specs.Cuts.{Block, front, from, blocks}
 use Rattle.icu_locale_extensions.specs.Extensions.{is_singleton, is_x, is_u, is_t, is_tkey, is_other_singleton, IsPiece, ArePieces, IsField, IsOther}
-use Rattle.icu_locale_extensions.specs.Locales.{IsLocaleIdentifier, marked_if_any, lower_subtags, transform_pieces, unicode_pieces, extension_pieces, written_pieces, written}
+use Rattle.icu_locale_extensions.specs.Locales.{IsLocaleIdentifier, marked_if_any, lower_subtags, transform_pieces, unicode_pieces, extension_pieces}
+use Rattle.icu_locale_extensions.specs.Locales.{written_pieces, written}
 use Rattle.icu_locale_extensions.specs.Rows.{flat, below_t, above_t}
 use Rattle.icu_locale_extensions.specs.declared.identifier.LocaleIdentifier.{LocaleIdentifier}
-use Rattle.icu_locale_extensions.proofs.Lengths.{IsPart, IsPart-less, part_piece, part_subtag, part_key, part_tkey, subtag_parts, lower_parts, lower_no_tkey, long_no_singleton, long_no_key, long_no_tkey}
-use Rattle.icu_locale_extensions.proofs.Unmarked.{Unmarked, IsCutRow, front-unmarked, from-unmarked, front-marked, front-pieces_rows, blocks-pieces_rows, flat-append, row_if_any, flat-row_if_any}
+use Rattle.icu_locale_extensions.proofs.Lengths.{IsPart, IsPart-less, part_piece, part_subtag, part_key, part_tkey, subtag_parts, lower_parts}
+use Rattle.icu_locale_extensions.proofs.Lengths.{lower_no_tkey, long_no_singleton, long_no_key, long_no_tkey}
+use Rattle.icu_locale_extensions.proofs.Unmarked.{Unmarked, IsCutRow, front-unmarked, from-unmarked, front-marked, front-pieces_rows}
+use Rattle.icu_locale_extensions.proofs.Unmarked.{blocks-pieces_rows, flat-append, row_if_any, flat-row_if_any}
 
 -- ---- texts joined
 
@@ -69,7 +73,8 @@ field_cut row is = record { mark = is.key.member; pieces = no_tkeys row.1 is.val
 pub keyword_cut : (row : Block) → IsKeyword row → IsCutRow is_key row
 keyword_cut row is = record { mark = is.key.member; pieces = no_keys row.1 is.value.each }
 
-other_singleton : (p : List ℕ) → is_other_singleton p ≡ true → (is_singleton p ≡ true) × ((is_alphanumeric p ≡ true) × (not (is_t p || (is_u p || is_x p)) ≡ true))
+other_singleton : (p : List ℕ) → is_other_singleton p ≡ true → (is_singleton p ≡ true)
+    × ((is_alphanumeric p ≡ true) × (not (is_t p || (is_u p || is_x p)) ≡ true))
 other_singleton p is =
     let both = and_parts (is_singleton p && is_alphanumeric p) (not (is_t p || (is_u p || is_x p))) is in
     let one = and_parts (is_singleton p) (is_alphanumeric p) both.0 in
@@ -150,7 +155,8 @@ other_parts row is =
 
 -- ---- rows before t, and those behind
 
-below_all_kept : (bound : List ℕ) (k : List ℕ) (rows : List Block) → AllByRecursion (λ other. text_cmp k other ≡ Less) (keys_of rows) → is_lt (text_cmp k bound) ≡ false
+below_all_kept : (bound : List ℕ) (k : List ℕ) (rows : List Block) → AllByRecursion (λ other. text_cmp k other ≡ Less) (keys_of rows)
+    → is_lt (text_cmp k bound) ≡ false
     → filter (λ e. is_lt (text_cmp e.0 bound)) rows ≡ []
 below_all_kept bound k [] above not_below = refl
 below_all_kept bound k (row ∷ rows) above not_below = by (text_cmp row.0 bound) refl (below_all_kept bound k rows above.1 not_below)
@@ -230,10 +236,12 @@ module _ (x : LocaleIdentifier) (is : IsLocaleIdentifier x) where
 
   if_any_cut : (mark : List ℕ) (ps : List (List ℕ)) → is_singleton mark ≡ true → All (IsPart 2) ps → All (IsCutRow is_singleton) (row_if_any mark ps)
   if_any_cut mark [] single all = All-nil (IsCutRow is_singleton)
-  if_any_cut mark (p ∷ ps) single all = All-cons (IsCutRow is_singleton) (mark, p ∷ ps) [] (record { mark = single; pieces = no_singletons (p ∷ ps) all }) (All-nil (IsCutRow is_singleton))
+  if_any_cut mark (p ∷ ps) single all = All-cons (IsCutRow is_singleton) (mark, p ∷ ps) []
+      (record { mark = single; pieces = no_singletons (p ∷ ps) all }) (All-nil (IsCutRow is_singleton))
 
   -- what holds of each row
-  each_extension : (P : Block → Type 0) → All P x.others → All P (row_if_any (codes "t") (transform_pieces x)) → All P (row_if_any (codes "u") (unicode_pieces x)) → All P (extension_rows x)
+  each_extension : (P : Block → Type 0) → All P x.others → All P (row_if_any (codes "t") (transform_pieces x))
+      → All P (row_if_any (codes "u") (unicode_pieces x)) → All P (extension_rows x)
   each_extension P others t u =
       All-append P (below_t x.others) _ (All-filter (λ e. is_lt (text_cmp e.0 (codes "t"))) P x.others others)
       (All-append P (row_if_any (codes "t") (transform_pieces x)) _ t
@@ -252,8 +260,10 @@ module _ (x : LocaleIdentifier) (is : IsLocaleIdentifier x) where
       let a = above_t x.others in
       ap (λ r. r ++ private_pieces x) (flat-append b (t ++ (u ++ a)) ∙ ap (λ r. flat b ++ r) (flat-append t (u ++ a) ∙ ap (λ r. flat t ++ r) (flat-append u a)))
       ∙ append_assoc (flat b) (flat t ++ (flat u ++ flat a)) (private_pieces x)
-      ∙ ap (λ r. flat b ++ r) (append_assoc (flat t) (flat u ++ flat a) (private_pieces x) ∙ ap (λ r. flat t ++ r) (append_assoc (flat u) (flat a) (private_pieces x)))
-      ∙ (λ i. flat b ++ (flat-row_if_any (codes "t") (transform_pieces x) i ++ (flat-row_if_any (codes "u") (unicode_pieces x) i ++ (flat a ++ private_pieces x))))
+      ∙ ap (λ r. flat b ++ r) (append_assoc (flat t) (flat u ++ flat a) (private_pieces x)
+      ∙ ap (λ r. flat t ++ r) (append_assoc (flat u) (flat a) (private_pieces x)))
+      ∙ (λ i. flat b ++ (flat-row_if_any (codes "t") (transform_pieces x) i ++
+      (flat-row_if_any (codes "u") (unicode_pieces x) i ++ (flat a ++ private_pieces x))))
 
   -- the pieces before private use, and private use
   pub in_two : (id_pieces x ++ flat (extension_rows x)) ++ private_pieces x ≡ written_pieces x
@@ -285,10 +295,12 @@ module _ (x : LocaleIdentifier) (is : IsLocaleIdentifier x) where
 
   -- what stands before the first extension
   pub front-extensions : front is_singleton (id_pieces x ++ flat (extension_rows x)) ≡ id_pieces x
-  front-extensions = front-pieces_rows is_singleton (id_pieces x) (extension_rows x) (no_singletons (id_pieces x) (subtag_parts x.locale.id is.id)) extension_cuts
+  front-extensions = front-pieces_rows is_singleton (id_pieces x) (extension_rows x)
+      (no_singletons (id_pieces x) (subtag_parts x.locale.id is.id)) extension_cuts
 
   pub blocks-extensions : blocks is_singleton (id_pieces x ++ flat (extension_rows x)) ≡ extension_rows x
-  blocks-extensions = blocks-pieces_rows is_singleton (id_pieces x) (extension_rows x) (no_singletons (id_pieces x) (subtag_parts x.locale.id is.id)) extension_cuts
+  blocks-extensions = blocks-pieces_rows is_singleton (id_pieces x) (extension_rows x)
+      (no_singletons (id_pieces x) (subtag_parts x.locale.id is.id)) extension_cuts
 
   front_of_private_singleton : (o : Option (List (List ℕ))) → front is_singleton (marked_if_any (codes "x") o) ≡ []
   front_of_private_singleton None = refl
@@ -303,11 +315,13 @@ module _ (x : LocaleIdentifier) (is : IsLocaleIdentifier x) where
     where
       behind : (rows : List Block) → All (IsCutRow is_singleton) rows → front is_singleton (flat rows ++ private_pieces x) ≡ []
       behind [] each = front_of_private_singleton x.private_use
-      behind (row ∷ rows) each = front-marked is_singleton row.0 ((row.1 ++ flat rows) ++ private_pieces x) (All-head (IsCutRow is_singleton) row rows each).mark
+      behind (row ∷ rows) each = front-marked is_singleton row.0 ((row.1 ++ flat rows) ++ private_pieces x)
+          (All-head (IsCutRow is_singleton) row rows each).mark
 
   private_parts : (o : Option (List (List ℕ))) → IfSome o (ArePieces 1) → All (IsPart 1) (marked_if_any (codes "x") o)
   private_parts None known = All-nil (IsPart 1)
-  private_parts (Some ps) known = All-cons (IsPart 1) (codes "x") ps (record { long = omega arith; plain = refl }) (All-weaker (IsPiece 1) (IsPart 1) (part_piece 1) ps known.each)
+  private_parts (Some ps) known = All-cons (IsPart 1) (codes "x") ps (record { long = omega arith; plain = refl })
+      (All-weaker (IsPiece 1) (IsPart 1) (part_piece 1) ps known.each)
 
   written_parts : All (IsPart 1) (written_pieces x)
   written_parts =
@@ -315,7 +329,8 @@ module _ (x : LocaleIdentifier) (is : IsLocaleIdentifier x) where
       (All-append (IsPart 1) (id_pieces x ++ flat (extension_rows x)) (private_pieces x)
       (All-append (IsPart 1) (id_pieces x) (flat (extension_rows x)) (shorter_parts (id_pieces x) (subtag_parts x.locale.id is.id))
       (all_flat (IsPart 1) (extension_rows x) (each_extension (IsRowOf (IsPart 1)) (each_row other_parts x.others is.each_other)
-      (all_if_any (IsPart 1) (codes "t") (transform_pieces x) (record { long = omega arith; plain = refl }) (shorter_parts (transform_pieces x) transform_parts))
+      (all_if_any (IsPart 1) (codes "t") (transform_pieces x) (record { long = omega arith; plain = refl })
+      (shorter_parts (transform_pieces x) transform_parts))
       (all_if_any (IsPart 1) (codes "u") (unicode_pieces x) (record { long = omega arith; plain = refl }) (shorter_parts (unicode_pieces x) unicode_parts)))))
       (private_parts x.private_use is.private_use))
 

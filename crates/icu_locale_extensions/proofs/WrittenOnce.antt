@@ -16,7 +16,8 @@ use Rattle.icu_locale_extensions.specs.Locales.{IsLocaleIdentifier, marked_if_an
 use Rattle.icu_locale_extensions.specs.declared.identifier.LocaleIdentifier.{LocaleIdentifier}
 use Rattle.icu_locale_extensions.proofs.Lengths.{IsPart, IsPart-less, lower_parts}
 use Rattle.icu_locale_extensions.proofs.Spellings.{lowercase-twice}
-use Rattle.icu_locale_extensions.proofs.WrittenCuts.{id_pieces, extension_rows, pieces-join, pieces-written, front-x, from-x, front-singleton, blocks-extensions, front-transform, blocks-transform, front-unicode, blocks-unicode}
+use Rattle.icu_locale_extensions.proofs.WrittenCuts.{id_pieces, extension_rows, pieces-join, pieces-written, front-x, from-x, front-singleton}
+use Rattle.icu_locale_extensions.proofs.WrittenCuts.{blocks-extensions, front-transform, blocks-transform, front-unicode, blocks-unicode}
 use Rattle.icu_locale_extensions.proofs.WrittenRows.{is_other_row, body-transform, body-unicode, filter-others}
 
 -- a text spells at most one identifier, and two that are written alike are one: what core proves
@@ -58,7 +59,8 @@ same_private None (Some q) same = absurd (false≢true (ap any_piece same))
 same_private (Some q) None same = absurd (false≢true (sym (ap any_piece same)))
 same_private (Some q) (Some r) same = ap Some (ap behind_mark same)
 
-module _ (spelled : SpelledOnce) (once : WrittenOnce) (x y : LocaleIdentifier) (ok_x : IsLocaleIdentifier x) (ok_y : IsLocaleIdentifier y) (same : written x ≡ written y) where
+module _ (spelled : SpelledOnce) (once : WrittenOnce) (x y : LocaleIdentifier) (ok_x : IsLocaleIdentifier x) (ok_y : IsLocaleIdentifier y)
+    (same : written x ≡ written y) where
   same_pieces : written_pieces x ≡ written_pieces y
   same_pieces = sym (pieces-written x ok_x) ∙ ap pieces same ∙ pieces-written y ok_y
 

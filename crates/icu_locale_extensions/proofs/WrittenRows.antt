@@ -56,7 +56,8 @@ abbrev pub is_other_row : Block → Bool
 is_other_row row = is_other_singleton row.0
 
 pub named : (row : Block) → IsOther row → (is_t row.0 ≡ false) × ((is_u row.0 ≡ false) × (is_x row.0 ≡ false))
-named row is = none_of_three (is_t row.0) (is_u row.0) (is_x row.0) (and_parts (is_singleton row.0 && is_alphanumeric row.0) (not (is_t row.0 || (is_u row.0 || is_x row.0))) is.singleton.member).1
+named row is = none_of_three (is_t row.0) (is_u row.0) (is_x row.0) (and_parts (is_singleton row.0 && is_alphanumeric row.0)
+    (not (is_t row.0 || (is_u row.0 || is_x row.0))) is.singleton.member).1
 
 module _ (x : LocaleIdentifier) (is : IsLocaleIdentifier x) where
   pub below_each : (P : Block → Type 0) → ((row : Block) → IsOther row → P row) → All P (below_t x.others)
@@ -70,14 +71,16 @@ module _ (x : LocaleIdentifier) (is : IsLocaleIdentifier x) where
   body-transform =
       body-past is_t (below_t x.others) _ (below_each (Unnamed is_t) (λ row h. (named row h).0))
       ∙ body-at is_t (codes "t") (transform_pieces x) (row_if_any (codes "u") (unicode_pieces x) ++ above_t x.others) refl
-      (body-past_row is_t (codes "u") (unicode_pieces x) (above_t x.others) refl ∙ body-none is_t (above_t x.others) (above_each (Unnamed is_t) (λ row h. (named row h).0)))
+      (body-past_row is_t (codes "u") (unicode_pieces x) (above_t x.others) refl
+      ∙ body-none is_t (above_t x.others) (above_each (Unnamed is_t) (λ row h. (named row h).0)))
 
   -- the pieces of u
   pub body-unicode : body is_u (extension_rows x) ≡ unicode_pieces x
   body-unicode =
       body-past is_u (below_t x.others) _ (below_each (Unnamed is_u) (λ row h. (named row h).1.0))
       ∙ body-past_row is_u (codes "t") (transform_pieces x) (row_if_any (codes "u") (unicode_pieces x) ++ above_t x.others) refl
-      ∙ body-at is_u (codes "u") (unicode_pieces x) (above_t x.others) refl (body-none is_u (above_t x.others) (above_each (Unnamed is_u) (λ row h. (named row h).1.0)))
+      ∙ body-at is_u (codes "u") (unicode_pieces x) (above_t x.others) refl (body-none is_u (above_t x.others)
+      (above_each (Unnamed is_u) (λ row h. (named row h).1.0)))
 
   -- the other extensions
   pub filter-others : filter is_other_row (extension_rows x) ≡ x.others

@@ -1,5 +1,6 @@
 -- What is written spells the locale identifier.
-use Rattle.std.proofs.Common.{◌≡◌, ℕ, Bool, true, false, not, cond, ◌&&◌, ◌||◌, List, [], ◌∷◌, ◌++◌, map, filter, codes, Option, None, Some, IfSome, refl, ap, sym, ◌∙◌, subst, arith}
+use Rattle.std.proofs.Common.{◌≡◌, ℕ, Bool, true, false, not, cond, ◌&&◌, ◌||◌, List, [], ◌∷◌, ◌++◌, map, filter, codes, Option, None, Some, IfSome}
+use Rattle.std.proofs.Common.{refl, ap, sym, ◌∙◌, subst, arith}
 use Rattle.std.specs.List.{All, AllByRecursion, list_all, list_any, join_by}
 use Rattle.std.specs.Map.{keys_of}
 use Rattle.std.specs.Ordering.{is_lt}
@@ -23,14 +24,17 @@ use Rattle.icu_locale_core.specs.laws.TextSets.{text_total}
 use Rattle.icu_locale_core.specs.laws.RisingLists.{rising-from_list}
 use Rattle.icu_locale_extensions.specs.Blocks.{are_once, lower_block, keyword}
 use Rattle.icu_locale_extensions.specs.Cuts.{Block, front, from, blocks}
-use Rattle.icu_locale_extensions.specs.Extensions.{any_piece, is_piece, are_pieces, is_singleton, is_x, is_u, is_t, is_tkey, is_tfield, is_other, is_unicode, is_transform, is_extension, IsPiece, ArePieces, IsField, IsOther}
+use Rattle.icu_locale_extensions.specs.Extensions.{any_piece, is_piece, are_pieces, is_singleton, is_x, is_u, is_t, is_tkey, is_tfield, is_other}
+use Rattle.icu_locale_extensions.specs.Extensions.{is_unicode, is_transform, is_extension, IsPiece, ArePieces, IsField, IsOther}
 use Rattle.icu_locale_extensions.specs.Locales.{IsLocaleIdentifier, marked_if_any, lower_subtags, transform_pieces, unicode_pieces, written}
 use Rattle.icu_locale_extensions.specs.Reads.{Spells, SpellIdentifier, SpellLanguage, SpellUnicode, SpellTransform, SpellParts, extensions}
 use Rattle.icu_locale_extensions.specs.Rows.{flat, below_t, above_t, HaveFirstOf}
 use Rattle.icu_locale_extensions.specs.declared.identifier.LocaleIdentifier.{LocaleIdentifier}
 use Rattle.icu_locale_extensions.proofs.Lengths.{IsPart, IsPart-less, subtag_parts, lower_parts}
 use Rattle.icu_locale_extensions.proofs.Unmarked.{row_if_any}
-use Rattle.icu_locale_extensions.proofs.WrittenCuts.{id_pieces, private_pieces, extension_rows, pieces-join, pieces-written, front-x, from-x, front-singleton, blocks-extensions, front-transform, blocks-transform, front-unicode, blocks-unicode}
+use Rattle.icu_locale_extensions.proofs.WrittenCuts.{id_pieces, private_pieces, extension_rows, pieces-join, pieces-written, front-x, from-x}
+use Rattle.icu_locale_extensions.proofs.WrittenCuts.{front-singleton, blocks-extensions, front-transform, blocks-transform, front-unicode}
+use Rattle.icu_locale_extensions.proofs.WrittenCuts.{blocks-unicode}
 use Rattle.icu_locale_extensions.proofs.WrittenOnce.{lower_spells}
 use Rattle.icu_locale_extensions.proofs.WrittenRows.{is_other_row, named, below_each, above_each, body-transform, body-unicode, filter-others}
 
@@ -80,10 +84,12 @@ first_of_itself f rows all each same = subst (HaveFirstOf rows) (sym (ap (map f)
 
 list_all-from : {X : Type 0} (p : X → Bool) (xs : List X) → All (λ x. p x ≡ true) xs → list_all p xs ≡ true
 list_all-from p [] each = refl
-list_all-from p (x ∷ xs) each = and_from (p x) (list_all p xs) (All-head (λ y. p y ≡ true) x xs each) (list_all-from p xs (All-tail (λ y. p y ≡ true) x xs each))
+list_all-from p (x ∷ xs) each = and_from (p x) (list_all p xs) (All-head (λ y. p y ≡ true) x xs each)
+    (list_all-from p xs (All-tail (λ y. p y ≡ true) x xs each))
 
 are_pieces_told : (low : ℕ) (ps : List (List ℕ)) → ArePieces low ps → (any_piece ps && are_pieces low ps) ≡ true
-are_pieces_told low ps is = and_from (any_piece ps) (are_pieces low ps) is.some (list_all-from (is_piece low) ps (All-weaker (IsPiece low) (λ p. is_piece low p ≡ true) (λ p h. h.member) ps is.each))
+are_pieces_told low ps is = and_from (any_piece ps) (are_pieces low ps) is.some
+    (list_all-from (is_piece low) ps (All-weaker (IsPiece low) (λ p. is_piece low p ≡ true) (λ p h. h.member) ps is.each))
 
 tfields_told : (rows : List Block) → All IsField rows → list_all is_tfield rows ≡ true
 tfields_told rows each = list_all-from is_tfield rows (All-weaker IsField (λ row. is_tfield row ≡ true) (λ row is. are_pieces_told 3 row.1 is.value) rows each)
@@ -100,7 +106,8 @@ or_first true b e = refl
 or_first false b e = absurd (false≢true e)
 
 subtags_told : (ps : List (List ℕ)) → All IsSubtag ps → list_all of_unicode ps ≡ true
-subtags_told ps each = list_all-from of_unicode ps (All-weaker IsSubtag (λ p. of_unicode p ≡ true) (λ p is. or_second (is_key p) (is_subtag p) is.member) ps each)
+subtags_told ps each = list_all-from of_unicode ps (All-weaker IsSubtag (λ p. of_unicode p ≡ true)
+    (λ p is. or_second (is_key p) (is_subtag p) is.member) ps each)
 
 keywords_told : (rows : List Block) → All IsKeyword rows → list_all of_unicode (flat rows) ≡ true
 keywords_told [] each = refl
@@ -112,7 +119,8 @@ keywords_told (row ∷ rows) each =
 other_told : (row : Block) → IsOther row → is_extension row ≡ true
 other_told row is =
     let names = named row is in
-    let one = and_parts (is_singleton row.0) (is_alphanumeric row.0) (and_parts (is_singleton row.0 && is_alphanumeric row.0) (not (is_t row.0 || (is_u row.0 || is_x row.0))) is.singleton.member).0 in
+    let one = and_parts (is_singleton row.0) (is_alphanumeric row.0) (and_parts (is_singleton row.0 && is_alphanumeric row.0)
+    (not (is_t row.0 || (is_u row.0 || is_x row.0))) is.singleton.member).0 in
     ap (λ b. cond b (is_unicode row.1) (cond (is_t row.0) (is_transform row.1) (is_other row))) names.1.0
     ∙ ap (λ b. cond b (is_transform row.1) (is_other row)) names.0
     ∙ and_from (is_alphanumeric row.0) (any_piece row.1 && are_pieces 2 row.1) one.1 (are_pieces_told 2 row.1 is.pieces)
@@ -165,7 +173,8 @@ list_any-append_none : (p : Block → Bool) (es fs : List Block) → list_any p 
 list_any-append_none p [] fs none none_behind = none_behind
 list_any-append_none p (e ∷ es) fs none none_behind = by (p e) none (list_any-append_none p es fs)
   where
-    by : (b : Bool) → (b || list_any p es) ≡ false → (list_any p es ≡ false → list_any p fs ≡ false → list_any p (es ++ fs) ≡ false) → (b || list_any p (es ++ fs)) ≡ false
+    by : (b : Bool) → (b || list_any p es) ≡ false → (list_any p es ≡ false → list_any p fs ≡ false → list_any p (es ++ fs) ≡ false)
+        → (b || list_any p (es ++ fs)) ≡ false
     by true e rest = absurd (false≢true (sym e))
     by false e rest = rest e none_behind
 
@@ -204,7 +213,8 @@ once_rising (row ∷ rows) each rises =
     none : (others : List Block) → All IsOther others → AllByRecursion (λ k. text_cmp row.0 k ≡ Less) (keys_of others) → list_any (same_mark row) others ≡ false
     none [] is above = refl
     none (o ∷ os) is above =
-        ap (λ b. b || list_any (same_mark row) os) (apart_from (lowercase row.0) (lowercase o.0) (λ e. less_apart row.0 o.0 above.0 (sym first.singleton.written ∙ e ∙ (All-head IsOther o os is).singleton.written)))
+        ap (λ b. b || list_any (same_mark row) os) (apart_from (lowercase row.0) (lowercase o.0)
+        (λ e. less_apart row.0 o.0 above.0 (sym first.singleton.written ∙ e ∙ (All-head IsOther o os is).singleton.written)))
         ∙ none os (All-tail IsOther o os is) above.1
 
 none-filter : (q p : Block → Bool) (rows : List Block) → list_any q rows ≡ false → list_any q (filter p rows) ≡ false
@@ -223,12 +233,15 @@ once-filter p (row ∷ rows) once =
     by (p row) (and_parts (not (list_any (same_mark row) rows)) (are_once rows) once).0
     (once-filter p rows (and_parts (not (list_any (same_mark row) rows)) (are_once rows) once).1)
   where
-    kept_apart : not (list_any (same_mark row) rows) ≡ true → (b : Bool) → list_any (same_mark row) rows ≡ b → not (list_any (same_mark row) (filter p rows)) ≡ true
+    kept_apart : not (list_any (same_mark row) rows) ≡ true → (b : Bool) → list_any (same_mark row) rows ≡ b
+        → not (list_any (same_mark row) (filter p rows)) ≡ true
     kept_apart apart true e = absurd (false≢true (sym (ap not e) ∙ apart))
     kept_apart apart false e = ap not (none-filter (same_mark row) p rows e)
 
-    by : (c : Bool) → not (list_any (same_mark row) rows) ≡ true → are_once (filter p rows) ≡ true → are_once (cond c (row ∷ filter p rows) (filter p rows)) ≡ true
-    by true apart rest = and_from (not (list_any (same_mark row) (filter p rows))) (are_once (filter p rows)) (kept_apart apart (list_any (same_mark row) rows) refl) rest
+    by : (c : Bool) → not (list_any (same_mark row) rows) ≡ true → are_once (filter p rows) ≡ true
+        → are_once (cond c (row ∷ filter p rows) (filter p rows)) ≡ true
+    by true apart rest = and_from (not (list_any (same_mark row) (filter p rows))) (are_once (filter p rows))
+        (kept_apart apart (list_any (same_mark row) rows) refl) rest
     by false apart rest = rest
 
 -- what holds of rows holds of those that pass a test, and they pass it
@@ -279,7 +292,8 @@ module _ (x : LocaleIdentifier) (is : IsLocaleIdentifier x) where
 
   apart_above : (e : Block) → ((f : Block) → IsOther f → not (before_t f) ≡ true → ¬ (lowercase e.0 ≡ lowercase f.0)) → Apart (above_t x.others) e
   apart_above e other = list_any-none (same_mark e) (above_t x.others)
-      (All-weaker (λ f. IsOther f × (not (before_t f) ≡ true)) (λ f. same_mark e f ≡ false) (λ f h. apart_from (lowercase e.0) (lowercase f.0) (other f h.0 h.1)) (above_t x.others) others_above)
+      (All-weaker (λ f. IsOther f × (not (before_t f) ≡ true)) (λ f. same_mark e f ≡ false)
+      (λ f h. apart_from (lowercase e.0) (lowercase f.0) (other f h.0 h.1)) (above_t x.others) others_above)
 
   once_told : are_once (extension_rows x) ≡ true
   once_told =
@@ -287,7 +301,8 @@ module _ (x : LocaleIdentifier) (is : IsLocaleIdentifier x) where
       let t = row_if_any (codes "t") (transform_pieces x) in
       let u = row_if_any (codes "u") (unicode_pieces x) in
       let a = above_t x.others in
-      let ua : are_once (u ++ a) ≡ true = once-append u a (once_if_any (codes "u") (unicode_pieces x)) (once-filter (λ e. not (before_t e)) x.others others_once)
+      let ua : are_once (u ++ a) ≡ true = once-append u a (once_if_any (codes "u") (unicode_pieces x))
+      (once-filter (λ e. not (before_t e)) x.others others_once)
       (all_if_any (Apart a) (codes "u") (unicode_pieces x) (apart_above (codes "u", unicode_pieces x) (λ f h above e. not_u f h (sym e)))) in
       let tua : are_once (t ++ (u ++ a)) ≡ true = once-append t (u ++ a) (once_if_any (codes "t") (transform_pieces x)) ua
       (all_if_any (Apart (u ++ a)) (codes "t") (transform_pieces x)
@@ -316,7 +331,8 @@ language_spelled : (lang : Option LanguageIdentifier) → IfSome lang IsIdentifi
 language_spelled None is = refl
 language_spelled (Some l) is = record {
   text = join_by (λ t. t) (codes "-") (lower_subtags (Some l));
-  cut = pieces-join (lowercase l.language) _ (All-weaker (IsPart 2) (IsPart 1) (IsPart-less 1 2 (omega arith)) (lower_subtags (Some l)) (lower_parts (Some l) is));
+  cut = pieces-join (lowercase l.language) _ (All-weaker (IsPart 2) (IsPart 1) (IsPart-less 1 2 (omega arith)) (lower_subtags (Some l))
+      (lower_parts (Some l) is));
   spells = lower_spells l is;
 }
 
@@ -341,7 +357,8 @@ module _ (spells : WrittenSpells) (x : LocaleIdentifier) (is : IsLocaleIdentifie
 
   transform_spelled : SpellTransform (transform_pieces x) x.locale.extensions.transform.lang x.fields
   transform_spelled = record {
-    language = subst (λ ps. SpellLanguage ps x.locale.extensions.transform.lang) (sym (front-transform x is)) (language_spelled x.locale.extensions.transform.lang is.language);
+    language = subst (λ ps. SpellLanguage ps x.locale.extensions.transform.lang) (sym (front-transform x is))
+        (language_spelled x.locale.extensions.transform.lang is.language);
     rows = first_of_itself lower_block x.fields (blocks is_tkey (transform_pieces x))
         (All-weaker IsField (λ row. lower_block row ≡ row) field_stays x.fields is.each_field) (blocks-transform x is);
   }

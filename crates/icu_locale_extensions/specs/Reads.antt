@@ -1,5 +1,6 @@
 -- Which text spells a locale identifier (UTS #35 Part 1, section 3.2, unicode_locale_id), and why a text is refused.
-use Rattle.std.specs.Prelude.{◌≡◌, ◌⊎◌, ◌↔◌, ℕ, Bool, true, false, ◌||◌, not, IsTrue, List, [], map, filter, codes, MatchOption, Option, None, Result, Ok, Err, IfOk}
+use Rattle.std.specs.Prelude.{◌≡◌, ◌⊎◌, ◌↔◌, ℕ, Bool, true, false, ◌||◌, not, IsTrue, List, [], map, filter, codes, MatchOption, Option, None, Result}
+use Rattle.std.specs.Prelude.{Ok, Err, IfOk}
 use Rattle.std.specs.List.{list_all, list_any}
 use Rattle.icu_locale_core.specs.Identifier.{pieces, starts_with_language}
 use Rattle.icu_locale_core.specs.Identifier as core

@@ -1,6 +1,7 @@
 -- Texts of the world that name a locale: tags of BCP 47 (RFC 5646) and names of POSIX locales, by what each stands for
 -- in the strict grammar.
-use Rattle.std.specs.Prelude.{◌≡◌, ◌↔◌, ℕ, Bool, true, false, ◌&&◌, ◌||◌, ◌==◌, IsTrue, List, [], ◌∷◌, ◌++◌, map, codes, Option, Some, None, unwrap_or, Result, Err, IfOk, if◌then◌else◌}
+use Rattle.std.specs.Prelude.{◌≡◌, ◌↔◌, ℕ, Bool, true, false, ◌&&◌, ◌||◌, ◌==◌, IsTrue, List, [], ◌∷◌, ◌++◌, map, codes, Option, Some, None}
+use Rattle.std.specs.Prelude.{unwrap_or, Result, Err, IfOk, if◌then◌else◌}
 use Rattle.std.specs.List.{before_first, after_first}
 use Rattle.std.specs.Option.{option_or}
 use Rattle.std.specs.Cmp.Lexicographic.{pointwise}

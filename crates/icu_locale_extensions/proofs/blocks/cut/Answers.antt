@@ -13,9 +13,11 @@ returns-in-Some c =
     let at = sym c.in-Some.ensures in
     record {
       pieces = slice_split-position is_separator text place at
-          ∙ rw (c.split_at.ensures.front, c.split_at-in-Some.ensures.back, c.split_at.ensures.back) (ap (λ r. take place text ∷ pieces r) (sym (drop-drop 1 place text)));
+          ∙ rw (c.split_at.ensures.front, c.split_at-in-Some.ensures.back, c.split_at.ensures.back)
+          (ap (λ r. take place text ∷ pieces r) (sym (drop-drop 1 place text)));
       one = rw c.split_at.ensures.front (one_before is_separator text place at);
-      place = rw (c.split_at.ensures.front, c.split_at-in-Some.ensures.back, c.split_at.ensures.back, drop-drop 1 place text) (parted_at is_separator text place at);
+      place = rw (c.split_at.ensures.front, c.split_at-in-Some.ensures.back, c.split_at.ensures.back, drop-drop 1 place text)
+          (parted_at is_separator text place at);
       behind = rw (c.split_at-in-Some.ensures.back, c.split_at.ensures.back, drop-drop 1 place text) (after_some is_separator text place at);
     }
 

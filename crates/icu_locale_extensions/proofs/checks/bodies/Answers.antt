@@ -18,7 +18,8 @@ loop-block-preserved-then-is_named c =
     let next = c.in-Some.ensures.steps in
     let held = c.loop-block.invariant in
     let named : is_t b.0 ≡ true = sym c.is_named.ensures ∙ c.if-is_named.true in
-    let some = (and_parts (any_piece b.1) (list_all is_tfield (blocks is_tkey b.1)) (transform_of b (first_passes is_extension rest left b next held.each) named)).0 in
+    let some = (and_parts (any_piece b.1) (list_all is_tfield (blocks is_tkey b.1))
+    (transform_of b (first_passes is_extension rest left b next held.each) named)).0 in
     record {
       each = all_left is_extension rest left b next held.each;
       transform = first is_t c.args.blocks rest left b next c.loop-block.transform c.in-Some.block.body
@@ -34,7 +35,8 @@ loop-block-preserved-then-is_named-2 c =
     let next = c.in-Some.ensures.steps in
     let held = c.loop-block.invariant in
     let named : is_u b.0 ≡ true = sym c.is_named-then-is_none-2.ensures ∙ c.if-is_named-2.true in
-    let some = (and_parts (any_piece b.1) (list_all (λ p. is_key p || is_subtag p) b.1) (unicode_of b (first_passes is_extension rest left b next held.each) named)).0 in
+    let some = (and_parts (any_piece b.1) (list_all (λ p. is_key p || is_subtag p) b.1)
+    (unicode_of b (first_passes is_extension rest left b next held.each) named)).0 in
     record {
       each = all_left is_extension rest left b next held.each;
       transform = passed is_t c.args.blocks rest left b next c.loop-block.transform (u_apart b.0 named) held.transform;

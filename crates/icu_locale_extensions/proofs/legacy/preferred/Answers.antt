@@ -12,31 +12,36 @@ pub returns-then-is_named : goal.returns-then-is_named
 returns-then-is_named c =
     let ps = pieces c.in-Some.behind.now in
     c.value_of.ensures
-    ∙ sym (ap (λ o. preferred (c.args.first.now ∷ pieces_of o)) c.in-Some.is ∙ preferred-named c.args.first.now (codes "i") ps (sym c.is_named.ensures ∙ c.if-is_named.true))
+    ∙ sym (ap (λ o. preferred (c.args.first.now ∷ pieces_of o)) c.in-Some.is
+    ∙ preferred-named c.args.first.now (codes "i") ps (sym c.is_named.ensures ∙ c.if-is_named.true))
 
 pub returns-then-is_spelled : goal.returns-then-is_spelled
 returns-then-is_spelled c =
     let ps = pieces c.in-Some.behind.now in
     c.value_of-then-is_spelled.ensures
-    ∙ sym (ap (λ o. preferred (c.args.first.now ∷ pieces_of o)) c.in-Some.is ∙ preferred-named c.args.first.now (codes "en") ps (sym c.is_spelled.ensures ∙ c.if-is_spelled.true))
+    ∙ sym (ap (λ o. preferred (c.args.first.now ∷ pieces_of o)) c.in-Some.is
+    ∙ preferred-named c.args.first.now (codes "en") ps (sym c.is_spelled.ensures ∙ c.if-is_spelled.true))
 
 pub returns-then-is_spelled-2 : goal.returns-then-is_spelled-2
 returns-then-is_spelled-2 c =
     let ps = pieces c.in-Some.behind.now in
     c.value_of-then-is_spelled-2.ensures
-    ∙ sym (ap (λ o. preferred (c.args.first.now ∷ pieces_of o)) c.in-Some.is ∙ preferred-named c.args.first.now (codes "sgn") ps (sym c.is_spelled-2.ensures ∙ c.if-is_spelled-2.true))
+    ∙ sym (ap (λ o. preferred (c.args.first.now ∷ pieces_of o)) c.in-Some.is
+    ∙ preferred-named c.args.first.now (codes "sgn") ps (sym c.is_spelled-2.ensures ∙ c.if-is_spelled-2.true))
 
 pub returns-then-is_spelled-3 : goal.returns-then-is_spelled-3
 returns-then-is_spelled-3 c =
     let ps = pieces c.in-Some.behind.now in
     c.value_of-then-is_spelled-3.ensures
-    ∙ sym (ap (λ o. preferred (c.args.first.now ∷ pieces_of o)) c.in-Some.is ∙ preferred-named c.args.first.now (codes "no") ps (sym c.is_spelled-3.ensures ∙ c.if-is_spelled-3.true))
+    ∙ sym (ap (λ o. preferred (c.args.first.now ∷ pieces_of o)) c.in-Some.is
+    ∙ preferred-named c.args.first.now (codes "no") ps (sym c.is_spelled-3.ensures ∙ c.if-is_spelled-3.true))
 
 pub returns-then-is_spelled-4 : goal.returns-then-is_spelled-4
 returns-then-is_spelled-4 c =
     let ps = pieces c.in-Some.behind.now in
     c.value_of-then-is_spelled-4.ensures
-    ∙ sym (ap (λ o. preferred (c.args.first.now ∷ pieces_of o)) c.in-Some.is ∙ preferred-named c.args.first.now (codes "zh") ps (sym c.is_spelled-4.ensures ∙ c.if-is_spelled-4.true))
+    ∙ sym (ap (λ o. preferred (c.args.first.now ∷ pieces_of o)) c.in-Some.is
+    ∙ preferred-named c.args.first.now (codes "zh") ps (sym c.is_spelled-4.ensures ∙ c.if-is_spelled-4.true))
 
 pub returns : goal.returns
 returns c =

@@ -8,5 +8,6 @@ use Rattle.icu_locale_extensions.proofs.others.write_above_t.Given as goal
 abbrev pub invariant-loop-singleton : goal.invariant-loop-singleton
 invariant-loop-singleton g l = record {
   parted : map deref_pair l.yielded ++ l.singleton-iterator ≡ l.initial.singleton-iterator;
-  wrote : IsPlainFormatter l.initial.f → HasWritten g.W.Write.write_str_gives l.initial.f (flat_map (λ p. dashed_where is_above_t (deref_pair p)) l.yielded) l.f;
+  wrote : IsPlainFormatter l.initial.f → HasWritten g.W.Write.write_str_gives l.initial.f
+      (flat_map (λ p. dashed_where is_above_t (deref_pair p)) l.yielded) l.f;
 }

@@ -40,7 +40,8 @@ returns-in_err-lang-clause-part c =
     let here : pieces_of c.bodies.result.0 ≡ body is_t c.args.blocks = c.bodies.ensures.transform ∙ ap (body is_t) c.left.ensures in
     let is = same_err c.from_residual-in_err-lang.result e c.from_residual-in_err-lang.ensures.0 c.from_residual-in_err-lang.ensures.1 in
     subst (ReadsPart (λ x. IsLocaleIdentifier x × (x.locale.id ≡ c.args.id)) (SpellParts c.args.blocks (pieces_of c.args.private_use))) (sym is)
-    (whole_refused c.args.blocks (pieces_of c.args.private_use) c.args.id (λ x. (x.locale.extensions.transform.lang, x.fields)) c.read_transform.result e c.read_transform.ensures.part c.in_err-lang.was
+    (whole_refused c.args.blocks (pieces_of c.args.private_use) c.args.id (λ x. (x.locale.extensions.transform.lang, x.fields))
+    c.read_transform.result e c.read_transform.ensures.part c.in_err-lang.was
     (λ x known s. ((known.language, known.fields), subst (λ ps. SpellTransform ps x.locale.extensions.transform.lang x.fields) (sym here) s.transform)))
 
 pub returns-in_err-attributes-clause-part : goal.returns-in_err-attributes-clause-part
@@ -49,7 +50,8 @@ returns-in_err-attributes-clause-part c =
     let here : pieces_of c.bodies.result.1 ≡ body is_u c.args.blocks = c.bodies.ensures.unicode ∙ ap (body is_u) c.left.ensures in
     let is = same_err c.from_residual-in_err-attributes.result e c.from_residual-in_err-attributes.ensures.0 c.from_residual-in_err-attributes.ensures.1 in
     subst (ReadsPart (λ x. IsLocaleIdentifier x × (x.locale.id ≡ c.args.id)) (SpellParts c.args.blocks (pieces_of c.args.private_use))) (sym is)
-    (whole_refused c.args.blocks (pieces_of c.args.private_use) c.args.id (λ x. (x.attributes, x.locale.extensions.unicode.keywords)) c.read_unicode.result e c.read_unicode.ensures.part c.in_err-attributes.was
+    (whole_refused c.args.blocks (pieces_of c.args.private_use) c.args.id (λ x. (x.attributes, x.locale.extensions.unicode.keywords))
+    c.read_unicode.result e c.read_unicode.ensures.part c.in_err-attributes.was
     (λ x known s. (known.keywords, subst (λ ps. SpellUnicode ps x.attributes x.locale.extensions.unicode.keywords) (sym here) s.unicode)))
 
 pub returns-clause-part : goal.returns-clause-part
@@ -58,16 +60,19 @@ returns-clause-part c =
     let unicode_here : pieces_of c.bodies.result.1 ≡ body is_u c.args.blocks = c.bodies.ensures.unicode ∙ ap (body is_u) c.left.ensures in
     whole_read c.args.blocks (pieces_of c.args.private_use) c.args.id _ c.known.ensures refl
     (rw c.in_ok-private_use.was at c.read_private_use.ensures.part)
-    (subst (λ ps. ReadsPart {X = Option LanguageIdentifier × List Block} (λ parts. IfSome parts.0 IsIdentifier × IsSortedMap text_cmp parts.1) (λ parts. SpellTransform ps parts.0 parts.1) (Ok (c.in_ok-lang.lang, c.in_ok-lang.fields)))
+    (subst (λ ps. ReadsPart {X = Option LanguageIdentifier × List Block} (λ parts. IfSome parts.0 IsIdentifier
+    × IsSortedMap text_cmp parts.1) (λ parts. SpellTransform ps parts.0 parts.1) (Ok (c.in_ok-lang.lang, c.in_ok-lang.fields)))
     transform_here (rw c.in_ok-lang.was at c.read_transform.ensures.part))
-    (subst (λ ps. ReadsPart {X = List (List ℕ) × KeywordRows} (λ parts. IsSortedMap text_cmp parts.1) (λ parts. SpellUnicode ps parts.0 parts.1) (Ok (c.in_ok-attributes.attributes, c.in_ok-attributes.keywords)))
+    (subst (λ ps. ReadsPart {X = List (List ℕ) × KeywordRows} (λ parts. IsSortedMap text_cmp parts.1)
+    (λ parts. SpellUnicode ps parts.0 parts.1) (Ok (c.in_ok-attributes.attributes, c.in_ok-attributes.keywords)))
     unicode_here (rw c.in_ok-attributes.was at c.read_unicode.ensures.part))
     c.in_ok-others.ensures.read
 
 pub returns-in_err-attributes-clause-memory : goal.returns-in_err-attributes-clause-memory
 returns-in_err-attributes-clause-memory c refused =
     let e = c.in_err-attributes.field-0.0 in
-    let same : e ≡ Memory = cc (sym (same_err c.from_residual-in_err-attributes.result e c.from_residual-in_err-attributes.ensures.0 c.from_residual-in_err-attributes.ensures.1) ∙ refused) in
+    let same : e ≡ Memory = cc (sym (same_err c.from_residual-in_err-attributes.result e c.from_residual-in_err-attributes.ensures.0
+    c.from_residual-in_err-attributes.ensures.1) ∙ refused) in
     let here : pieces_of c.bodies.result.1 ≡ body is_u c.args.blocks = c.bodies.ensures.unicode ∙ ap (body is_u) c.left.ensures in
     ap (λ h. h || any_piece (pieces_of c.args.private_use))
     (unicode_kept c.args.blocks (ap any_piece (sym here) ∙ c.read_unicode.ensures.memory (c.in_err-attributes.was ∙ ap Err same)))
@@ -75,5 +80,6 @@ returns-in_err-attributes-clause-memory c refused =
 pub returns-in_err-others-clause-memory : goal.returns-in_err-others-clause-memory
 returns-in_err-others-clause-memory c refused =
     let e = c.in_err-others.field-0.0 in
-    let same : e ≡ Memory = cc (sym (same_err c.from_residual-in_err-others.result e c.from_residual-in_err-others.ensures.0 c.from_residual-in_err-others.ensures.1) ∙ refused) in
+    let same : e ≡ Memory = cc (sym (same_err c.from_residual-in_err-others.result e c.from_residual-in_err-others.ensures.0
+    c.from_residual-in_err-others.ensures.1) ∙ refused) in
     ap (λ h. h || any_piece (pieces_of c.args.private_use)) (others_kept c.args.blocks (c.read_others.ensures.memory (c.in_err-others.was ∙ ap Err same)))

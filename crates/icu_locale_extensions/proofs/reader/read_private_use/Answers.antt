@@ -12,4 +12,5 @@ returns-in_err-try_from_utf8-clause-part c =
     let is = same_err c.from_residual.result e c.from_residual.ensures.0 c.from_residual.ensures.1 in
     let both = ap pieces_of c.in-Some.is ∙ c.cut.ensures.pieces ∙ ap (λ o. c.cut.result.0.now ∷ pieces_of o) c.in-Some-behind.is in
     subst (ReadsPart (λ p. IfSome p (ArePieces 1)) (SpellPrivateUse (pieces_of c.args.text))) (sym is)
-    (private_use_refused (pieces_of c.args.text) c.cut.result.0.now c.in-Some-behind.behind.now c.try_from_utf8.result e both c.try_from_utf8.ensures c.in_err-try_from_utf8.was)
+    (private_use_refused (pieces_of c.args.text) c.cut.result.0.now c.in-Some-behind.behind.now c.try_from_utf8.result e both
+    c.try_from_utf8.ensures c.in_err-try_from_utf8.was)

@@ -32,11 +32,14 @@ pub returns-in_err-lang-clause-memory : goal.returns-in_err-lang-clause-memory
 returns-in_err-lang-clause-memory c refused =
     let e = c.in_err-lang.field-0.0 in
     let same : e ≡ Memory = cc (sym (same_err c.from_residual.result e c.from_residual.ensures.0 c.from_residual.ensures.1) ∙ refused) in
-    variant_kept (pieces_of c.args.text) (ap (list_any is_variant) (sym c.split.ensures.front) ∙ c.read_language.ensures.memory (c.in_err-lang.was ∙ ap Err same))
+    variant_kept (pieces_of c.args.text) (ap (list_any is_variant) (sym c.split.ensures.front)
+    ∙ c.read_language.ensures.memory (c.in_err-lang.was ∙ ap Err same))
 
 pub returns-in_err-fields-clause-memory : goal.returns-in_err-fields-clause-memory
 returns-in_err-fields-clause-memory c refused =
     let e = c.in_err-fields.field-0.0 in
-    let same : e ≡ Memory = cc (sym (same_err c.from_residual-in_err-fields.result e c.from_residual-in_err-fields.ensures.0 c.from_residual-in_err-fields.ensures.1) ∙ refused) in
+    let same : e ≡ Memory = cc (sym (same_err c.from_residual-in_err-fields.result e c.from_residual-in_err-fields.ensures.0
+    c.from_residual-in_err-fields.ensures.1) ∙ refused) in
     let whole = c.new.ensures ∙ ap (blocks is_tkey) c.split.ensures.rest ∙ blocks-from is_tkey (pieces_of c.args.text) in
-    field_kept (pieces_of c.args.text) (ap (list_any {X = Block} (λ b. is_tkey b.0)) (sym whole) ∙ c.read_fields.ensures.memory (c.in_err-fields.was ∙ ap Err same))
+    field_kept (pieces_of c.args.text) (ap (list_any {X = Block} (λ b. is_tkey b.0)) (sym whole)
+    ∙ c.read_fields.ensures.memory (c.in_err-fields.was ∙ ap Err same))

@@ -15,8 +15,10 @@ returns-in_err-insert-clause-present c there =
 pub returns-in_ok-insert-clause-added : goal.returns-in_ok-insert-clause-added
 returns-in_ok-insert-clause-added c =
     let absent : value_at text_cmp c.args.self.now c.args.key ≡ None = grind (arith, common_steps) in
-    let sets : SetsOnly text_cmp c.args.self.now c.insert.new.self.entries c.args.key (Some c.args.value) = λ q. rw (← c.self.view_is) (c.in_ok-insert.ensures.updates.0 q) in
-    let first : HaveFirstOf c.insert.new.self.entries (c.args.self.now ++ (c.args.key, c.args.value) ∷ []) = first_is_new c.args.self.now c.args.key c.args.value c.insert.new.self.entries absent sets in
+    let sets : SetsOnly text_cmp c.args.self.now c.insert.new.self.entries c.args.key (Some c.args.value) = λ q. rw (← c.self.view_is)
+    (c.in_ok-insert.ensures.updates.0 q) in
+    let first : HaveFirstOf c.insert.new.self.entries (c.args.self.now ++ (c.args.key, c.args.value) ∷ []) = first_is_new c.args.self.now
+    c.args.key c.args.value c.insert.new.self.entries absent sets in
     let same : c.match-branch-2.self ≡ c.insert.new.self.entries = grind (arith, common_steps) in
     rw same first
 
