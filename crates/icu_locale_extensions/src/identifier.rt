@@ -83,7 +83,6 @@ impl LocaleIdentifier {
     /// # Errors
     ///
     /// `Memory` where that memory was refused. The text is as it was then.
-    #[inline]
     pub fn append_to(&self, text: &mut Vec<u8>) -> Result<(), ParseError>
         ensures appended { OnOk result (text.new.items ≡ text.old.items ++ written self.now) }
         ensures refused { IfErr result (λ e. e ≡ ParseError.Memory) }

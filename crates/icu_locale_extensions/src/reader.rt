@@ -47,7 +47,6 @@ impl LocaleIdentifier {
     /// # Errors
     ///
     /// Those of `try_from_str`.
-    #[inline(always)]
     pub fn try_from_utf8(alloc: Global, text: &[u8]) -> Result<Self, ParseError>
         ensures { ReadsLocale text.now result }
     {
@@ -56,7 +55,6 @@ impl LocaleIdentifier {
 }
 
 // Most texts are an identifier alone, which is read as such.
-#[inline(always)]
 pub fn read_locale(alloc: Global, text: &[u8]) -> Result<LocaleIdentifier, ParseError>
     ensures { ReadsLocale text.now result }
 {
