@@ -20,11 +20,11 @@ use Rattle.icu_locale.specs.LikelyTable.{likely}
 use Rattle.icu_locale.specs.Negotiation.{Negotiation}
 use Rattle.icu_locale.specs.declared.canonicalizer.rules.Rules.{Rules}
 use Rattle.icu_locale.specs.declared.expander.TransformResult.{TransformResult}
-use Rattle.icu_locale_lines.specs.Answers.{IsPlainAnswer, IsWholeAnswer, IsIdentifierAnswer, IsLocaleAnswer, IsListAnswer, IsSpelledAnswer, IsCanonicalized, IsWholeCanonicalized, IsDirected, IsNamed, IsTransformed, IsWholeTransformed, with_locale, HoldsIdentifiers}
+use Rattle.icu_locale_lines.specs.Answers.{IsAnswerBy, IsIdentifierAnswer, IsLocaleAnswer, IsListAnswer, IsSpelledAnswer, IsCanonicalized, IsWholeCanonicalized, IsDirected, IsNamed, IsTransformed, IsWholeTransformed, with_locale, HoldsIdentifiers}
 use Rattle.icu_locale_lines.specs.Lists.{IsNegotiatedLine, SpellsAll, listed}
 use Rattle.icu_locale_lines.specs.Locales.{is_tab, SpellsLocale}
 use Rattle.icu_locale_lines.specs.Texts.{canonical_line, transformed_line, whole_line, mark}
-use Rattle.icu_locale_lines.specs.declared.transform.Transform.{Transform}
+use Rattle.icu_locale_lines.specs.declared.work.form.Transform.{Transform}
 use Rattle.icu_locale_lines.specs.declared.work.Tools.{Tools}
 use Rattle.icu_locale_lines.specs.declared.work.Tools.TheVariants as tools
 use Rattle.icu_locale_lines.proofs.LineAnswers.{spelled_alone}
@@ -139,7 +139,7 @@ module _ (facts : SyntaxFacts) (s : Syntax) (line text : List ℕ) (a : Bool) wh
       back (inl h) = inl (xs, also, subst (λ ys. IsNegotiatedLine n ys text) (all_one facts.alone facts.once facts.nothing None (listed line) h.0 xs h.1 each) h.2, h.3)
       back (inr h) = let f = h.1 in absurd (no_fault facts.alone facts.once facts.nothing None f.earlier f.text f.later h.0 xs (subst (λ ts. SpellsAll None ts xs) f.parted each) f.refused)
 
-  pub answers_alike : (work : Tools) → HoldsIdentifiers work line → IsWholeAnswer s work line text a ↔ IsPlainAnswer work line text a
+  pub answers_alike : (work : Tools) → HoldsIdentifiers work line → IsAnswerBy (Some s) work line text a ↔ IsAnswerBy None work line text a
   answers_alike (tools.Transform form e) (none, x, is, spells) =
       each_alike x is spells (IsWholeTransformed form (likely e)) (IsTransformed form (likely e)) (transformed_alike x is spells form (likely e))
   answers_alike (tools.Canonicalize c) (none, x, is, spells) = canonical_answers_alike x is spells (likely c.expander) c.rules none

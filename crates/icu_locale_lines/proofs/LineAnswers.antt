@@ -1,10 +1,10 @@
 -- The answer to one line.
-use Rattle.std.proofs.Common.{◌≡◌, ◌≢◌, ◌⊎◌, Bool, true, false, None, refl, sym, List, [], ◌∷◌, ◌++◌, Some, ℕ, zero, suc, get_or, Result, Ok, Err, IfOk, inl, inr, subst, ap, ◌∙◌}
+use Rattle.std.proofs.Common.{◌≡◌, ◌≢◌, ◌⊎◌, Bool, true, false, Option, None, refl, sym, List, [], ◌∷◌, ◌++◌, Some, ℕ, zero, suc, get_or, Result, Ok, Err, IfOk, inl, inr, subst, ap, ◌∙◌}
 use Rattle.std.specs.List.{slice_get, position}
 use Rattle.std.proofs.lemmas.Option.{same_Some, none-some}
 use Rattle.icu_locale.specs.LikelyTable.{likely}
 use Rattle.icu_locale.specs.Negotiation.{Negotiation, IsNegotiated}
-use Rattle.icu_locale_lines.specs.Lists.{IsNegotiatedLine}
+use Rattle.icu_locale_lines.specs.Lists.{IsNegotiatedLine, SpellsIn, IsFaultIn}
 use Rattle.icu_locale_core.specs.Identifier.{IsIdentifier, Spells, parse_error_name}
 use Rattle.icu_locale_core.specs.declared.parse_error.ParseError.{ParseError}
 use Rattle.icu_locale_core.specs.declared.parse_error.ParseError.TheVariants as parse_error
@@ -17,11 +17,12 @@ use Rattle.icu_locale.specs.declared.canonicalizer.CanonicalizeError.{Canonicali
 use Rattle.icu_locale.specs.declared.canonicalizer.CanonicalizeError.TheVariants.{Memory, NoFixedPoint, NoSubdivisionFixedPoint}
 use Rattle.icu_locale.specs.declared.canonicalizer.rules.Rules.{Rules}
 use Rattle.icu_locale.specs.declared.expander.TransformResult.{TransformResult}
+use Rattle.icu_locale_extensions.specs.declared.syntax.Syntax.{Syntax}
 use Rattle.icu_provider.specs.declared.error.DataError.{DataError}
 use Rattle.icu_provider.specs.declared.error.DataErrorKind.{DataErrorKind}
 use Rattle.icu_provider.specs.declared.error.DataErrorKind.TheVariants as kind
 use Rattle.icu_locale_lines.specs.declared.error.CliError.{CliError}
-use Rattle.icu_locale_lines.specs.Answers.{AddsLine, IsCanonicalizedTo}
+use Rattle.icu_locale_lines.specs.Answers.{AddsLine, IsAnswerOf, IsCanonicalizedTo}
 use Rattle.icu_locale_lines.specs.Locales.{is_tab, is_readable, keywords_of, SpellsLocale}
 use Rattle.icu_locale_lines.specs.Texts.{matched_line, refused_line}
 use Rattle.icu_locale_lines.specs.inner.Parts.{TellsRefusal}
@@ -65,6 +66,19 @@ module _ (line_of : Locale → TransformResult → List ℕ) (likely : LikelySub
   refused_from_line Memory why t a h = absurd h
   refused_from_line (NoFixedPoint z) why t a h = inr (inl (z, why, h.0, h.1))
   refused_from_line (NoSubdivisionFixedPoint v) why t a h = inr (inr (v, why, h.0, h.1))
+
+module _ (IsLine : LanguageIdentifier → List ℕ → Bool → Type 0) (line : List ℕ) where
+  -- the line of the identifier that a line spells
+  pub answer_in : (syntax : Option Syntax) (x : LanguageIdentifier) → SpellsIn syntax line x → (t : List ℕ) (a : Bool) → IsLine x t a
+      → IsAnswerOf syntax IsLine (λ w. IsLine w.locale.id) line t a
+  answer_in None x spells t a is = inl (x, spells.0, spells.1, is)
+  answer_in (Some s) x (whole, known, spells, same) t a is = inl (whole, known, spells, subst (λ i. IsLine i t a) (sym same) is)
+
+  -- the line of why it spells none
+  pub refused_in : (syntax : Option Syntax) (e : ParseError) (t : List ℕ) (a : Bool) → IsFaultIn syntax line e → t ≡ refused_line (parse_error_name e) → a ≡ false
+      → IsAnswerOf syntax IsLine (λ w. IsLine w.locale.id) line t a
+  refused_in None e t a fault text failed = inr (e, fault, text, failed)
+  refused_in (Some s) e t a fault text failed = inr (e, fault, text, failed)
 
 -- a line without a tab spells a locale without extensions
 pub spelled_alone : (line : List ℕ) (x : LanguageIdentifier) → position is_tab line ≡ None → IsIdentifier x × Spells line x → SpellsLocale line (without_extensions x)

@@ -37,9 +37,9 @@ use Rattle.icu_locale_extensions.specs.declared.identifier.LocaleIdentifier.{Loc
 use Rattle.icu_locale_extensions.specs.declared.syntax.Syntax.{Syntax}
 use Rattle.icu_locale_lines.specs.Locales.{SpellsLocale, SpellsSome, IsLocaleFault, IsValueFault, identifier_text, value_text}
 use Rattle.icu_locale_lines.specs.Lists.{IsNegotiatedLine, TellsMatch, listed, SpellsAll, SpellsIn, IsFault, IsFaultIn}
-use Rattle.icu_locale_lines.specs.declared.transform.Transform.{Transform}
-use Rattle.icu_locale_lines.specs.declared.transform.Transform.TheVariants.{Maximize, Minimize, MinimizeScript}
-use Rattle.icu_locale_lines.specs.Answers.{IsAnswer, IsPlainAnswer, IsWholeAnswer, IsForm, IsTransformed, IsDirected, IsNamed, IsCanonicalizedTo, IsIdentifierAnswer, IsLocaleAnswer, IsListAnswer, IsSpelledAnswer, IsWholeTransformed, IsWholeCanonicalized, with_id, with_locale}
+use Rattle.icu_locale_lines.specs.declared.work.form.Transform.{Transform}
+use Rattle.icu_locale_lines.specs.declared.work.form.Transform.TheVariants.{Maximize, Minimize, MinimizeScript}
+use Rattle.icu_locale_lines.specs.Answers.{IsAnswer, IsAnswerBy, IsForm, IsTransformed, IsDirected, IsNamed, IsCanonicalizedTo, IsIdentifierAnswer, IsLocaleAnswer, IsListAnswer, IsSpelledAnswer, IsWholeTransformed, IsWholeCanonicalized, with_id, with_locale}
 use Rattle.icu_locale_lines.specs.Names.{IsNamedLine, name_asked}
 use Rattle.icu_locale_lines.specs.Texts.{transformed_line, canonical_line, whole_line, refused_line, matched_line}
 
@@ -301,7 +301,7 @@ module _ (spelled_once : (t : List ℕ) (x y : LanguageIdentifier) → IsIdentif
         same h.2 k.2 (ap (λ e. refused_line (parse_error_name e)) e) h.3 k.3
 
     module _ (minimal_one : (favor : Favor) (table : LikelySubtags) (x y z : LanguageIdentifier) → IsMinimalForm favor table x y → IsMinimalForm favor table x z → y ≡ z) (facts : (likely : LikelySubtags) (rules : Rules) → CanonicalFacts likely rules) (line one two : List ℕ) (a b : Bool) where
-      plain_one : (work : Tools) → IsPlainAnswer work line one a → IsPlainAnswer work line two b → SameAnswer one two a b
+      plain_one : (work : Tools) → IsAnswerBy None work line one a → IsAnswerBy None work line two b → SameAnswer one two a b
       plain_one (tools.Transform form e) h k = identifier_one one two a b spelled_once (IsTransformed form (likely e)) (transformed_one one two a b minimal_one form (likely e)) line h k
       plain_one (tools.Canonicalize c) h k = locale_answer_one one two a b (likely c.expander) c.rules (facts (likely c.expander) c.rules) line h k
       plain_one (tools.Direction d) h k = identifier_one one two a b spelled_once (IsDirected d) (λ x p q. same p.0 q.0 refl p.1 q.1) line h k
@@ -313,7 +313,7 @@ module _ (spelled_once : (t : List ℕ) (x y : LanguageIdentifier) → IsIdentif
           let e = form_one one two a b minimal_one form table x.locale.id h.0 k.0 h.1 k.1 h.2 k.2 in
           same h.3 k.3 (λ i. whole_line (with_id x (e.0 i)) (e.1 i)) h.4 k.4
 
-      whole_one : (s : Syntax) (work : Tools) → IsWholeAnswer s work line one a → IsWholeAnswer s work line two b → SameAnswer one two a b
+      whole_one : (s : Syntax) (work : Tools) → IsAnswerBy (Some s) work line one a → IsAnswerBy (Some s) work line two b → SameAnswer one two a b
       whole_one s (tools.Transform form e) h k = spelled_one one two a b s (IsWholeTransformed form (likely e)) (whole_transformed_one form (likely e)) line h k
       whole_one s (tools.Canonicalize c) h k =
           spelled_one one two a b s (IsWholeCanonicalized (likely c.expander) c.rules) (λ x p q. canonicalized_one (λ new m. whole_line (with_locale x new) m) (likely c.expander) c.rules (facts (likely c.expander) c.rules) x.locale one two a b p q) line h k

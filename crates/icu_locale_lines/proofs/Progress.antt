@@ -8,8 +8,8 @@ use Rattle.std.proofs.lemmas.List.{take-append-drop, take-append-le, append_canc
 use Rattle.std.proofs.Math.Seq.{take-append_seam}
 use Rattle.std.proofs.lemmas.List.Folds.{list_all-append}
 use Rattle.std.proofs.lemmas.Grind.{flat_map-append}
-use Rattle.icu_locale_lines.specs.declared.status.Status.{Status}
-use Rattle.icu_locale_lines.specs.declared.status.Status.TheVariants.{Accepted}
+use Rattle.icu_locale_lines.specs.declared.runs.Status.{Status}
+use Rattle.icu_locale_lines.specs.declared.runs.Status.TheVariants.{Accepted}
 use Rattle.icu_locale_lines.specs.declared.work.Work.{Work}
 use Rattle.icu_locale_lines.specs.Answers.{AddsLine, IsAnswer}
 use Rattle.icu_locale_lines.specs.Lines.{lines}

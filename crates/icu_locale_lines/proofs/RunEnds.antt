@@ -7,7 +7,7 @@ use Rattle.icu_locale_lines.specs.declared.command.Command.TheVariants as comman
 use Rattle.icu_locale_lines.specs.declared.error.CliError.{CliError}
 use Rattle.icu_locale_lines.specs.declared.error.CliError.TheVariants.{Usage, Data, Read, Write, Memory, Available, NotSettled}
 use Rattle.icu_locale_lines.specs.declared.error.CliError.TheVariants as error
-use Rattle.icu_locale_lines.specs.declared.status.Status.{Status}
+use Rattle.icu_locale_lines.specs.declared.runs.Status.{Status}
 use Rattle.icu_locale_lines.specs.declared.command.LineCommand.{LineCommand}
 use Rattle.icu_locale_lines.specs.declared.work.Work.{Work}
 use Rattle.icu_locale_lines.specs.Lines.{Stream}

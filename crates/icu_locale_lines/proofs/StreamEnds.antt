@@ -15,8 +15,8 @@ use Rattle.icu_locale_lines.specs.declared.command.Task.TheVariants.{Negotiate}
 use Rattle.icu_locale_lines.specs.declared.error.CliError.{CliError}
 use Rattle.icu_locale_lines.specs.declared.error.CliError.TheVariants.{Usage, Data, Read, Write, Memory, Available, NotSettled}
 use Rattle.icu_locale_lines.specs.declared.error.CliError.TheVariants as error
-use Rattle.icu_locale_lines.specs.declared.status.Status.{Status}
-use Rattle.icu_locale_lines.specs.declared.status.Status.TheVariants.{Accepted}
+use Rattle.icu_locale_lines.specs.declared.runs.Status.{Status}
+use Rattle.icu_locale_lines.specs.declared.runs.Status.TheVariants.{Accepted}
 use Rattle.icu_locale_lines.specs.declared.work.Work.{Work}
 use Rattle.icu_locale_lines.specs.declared.work.Tools.TheVariants as tools
 use Rattle.icu_locale_extensions.specs.declared.syntax.Syntax.{Syntax}

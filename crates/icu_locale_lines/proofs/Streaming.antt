@@ -8,8 +8,8 @@ use Rattle.std.proofs.lemmas.List.Folds.{list_all-append}
 use Rattle.std.proofs.lemmas.Grind.{flat_map-append}
 use Rattle.icu_locale_lines.specs.declared.error.CliError.{CliError}
 use Rattle.icu_locale_lines.specs.declared.error.CliError.TheVariants.{Memory, Write}
-use Rattle.icu_locale_lines.specs.declared.status.Status.{Status}
-use Rattle.icu_locale_lines.specs.declared.status.Status.TheVariants.{Accepted}
+use Rattle.icu_locale_lines.specs.declared.runs.Status.{Status}
+use Rattle.icu_locale_lines.specs.declared.runs.Status.TheVariants.{Accepted}
 use Rattle.icu_locale_lines.specs.declared.work.Work.{Work}
 use Rattle.icu_locale_lines.specs.Answers.{IsAnswer}
 use Rattle.icu_locale_lines.specs.Lines.{is_line_feed, lines, Stream}

@@ -18,9 +18,9 @@ use Rattle.icu_locale.specs.declared.expander.TransformResult.{TransformResult}
 use Rattle.icu_locale.specs.declared.expander.TransformResult.TheVariants.{Modified}
 use Rattle.icu_locale.specs.declared.directionality.LocaleDirectionality.{LocaleDirectionality}
 use Rattle.icu_locale.specs.declared.expander.LocaleExpander.{LocaleExpander}
-use Rattle.icu_locale_lines.specs.declared.naming.Naming.{Naming}
-use Rattle.icu_locale_lines.specs.declared.transform.Transform.{Transform}
-use Rattle.icu_locale_lines.specs.declared.transform.Transform.TheVariants.{Maximize, Minimize, MinimizeScript}
+use Rattle.icu_locale_lines.specs.declared.work.name.Naming.{Naming}
+use Rattle.icu_locale_lines.specs.declared.work.form.Transform.{Transform}
+use Rattle.icu_locale_lines.specs.declared.work.form.Transform.TheVariants.{Maximize, Minimize, MinimizeScript}
 use Rattle.icu_locale_lines.specs.declared.work.Work.{Work}
 use Rattle.icu_locale_lines.specs.declared.work.Tools.{Tools}
 use Rattle.icu_locale_lines.specs.declared.work.Tools.TheVariants as tools
@@ -115,19 +115,6 @@ IsListAnswer syntax negotiation line text accepted =
     ⊎ ((e : ParseError) × IsFirstFault syntax (listed line) e
     × (text ≡ refused_line (parse_error_name e)) × (accepted ≡ false))
 
--- the answer to a line that is an identifier alone, with a value behind it for `canonicalize`, or
--- lists identifiers
-abbrev pub IsPlainAnswer : Tools → List ℕ → List ℕ → Bool → Type 0
-IsPlainAnswer (tools.Transform form e) line text accepted =
-    IsIdentifierAnswer (IsTransformed form (likely e)) line text accepted
-IsPlainAnswer (tools.Canonicalize c) line text accepted =
-    IsLocaleAnswer (likely c.expander) c.rules line text accepted
-IsPlainAnswer (tools.Direction d) line text accepted =
-    IsIdentifierAnswer (IsDirected d) line text accepted
-IsPlainAnswer (tools.Negotiate negotiation) line text accepted =
-    IsListAnswer None negotiation line text accepted
-IsPlainAnswer (tools.Name n) line text accepted = IsIdentifierAnswer (IsNamed n) line text accepted
-
 -- ---- locale identifiers
 
 -- a locale identifier with another locale, and with another identifier
@@ -164,31 +151,38 @@ IsSpelledAnswer syntax IsLine line text accepted =
     ⊎ ((e : ParseError) × IsFaultBy syntax line e × (text ≡ refused_line (parse_error_name e))
     × (accepted ≡ false))
 
--- the answer to a line that is a locale identifier in a syntax, or lists some: its extensions are
--- written as they are, and have no part in a direction, a name or a negotiation
-abbrev pub IsWholeAnswer : Syntax → Tools → List ℕ → List ℕ → Bool → Type 0
-IsWholeAnswer syntax (tools.Transform form e) line text accepted =
-    IsSpelledAnswer syntax (IsWholeTransformed form (likely e)) line text accepted
-IsWholeAnswer syntax (tools.Canonicalize c) line text accepted =
-    IsSpelledAnswer syntax (IsWholeCanonicalized (likely c.expander) c.rules) line text accepted
-IsWholeAnswer syntax (tools.Direction d) line text accepted =
-    IsSpelledAnswer syntax (λ x. IsDirected d x.locale.id) line text accepted
-IsWholeAnswer syntax (tools.Negotiate negotiation) line text accepted =
-    IsListAnswer (Some syntax) negotiation line text accepted
-IsWholeAnswer syntax (tools.Name n) line text accepted =
-    IsSpelledAnswer syntax (λ x. IsNamed n x.locale.id) line text accepted
+-- without a syntax a line is an identifier alone, in one a locale identifier; each has its line
+abbrev pub IsAnswerOf : Option Syntax → (LanguageIdentifier → List ℕ → Bool → Type 0)
+    → (LocaleIdentifier → List ℕ → Bool → Type 0) → List ℕ → List ℕ → Bool → Type 0
+IsAnswerOf syntax IsLine IsWhole line text accepted =
+    MatchOption syntax (IsIdentifierAnswer IsLine line text accepted)
+    (λ s. IsSpelledAnswer s IsWhole line text accepted)
 
--- the answer to a line that is brought to its canonical form
+-- the answer to a line that is brought to its canonical form; without a syntax it may have a value
+-- behind its identifier
 abbrev pub IsCanonicalAnswer : Option Syntax → LikelySubtags → Rules → List ℕ → List ℕ → Bool
     → Type 0
 IsCanonicalAnswer syntax likely rules line text accepted =
     MatchOption syntax (IsLocaleAnswer likely rules line text accepted)
     (λ s. IsSpelledAnswer s (IsWholeCanonicalized likely rules) line text accepted)
 
+-- the answer to a line, or to a line that lists some: extensions are written as they are, and have
+-- no part in a direction, a name or a negotiation
+abbrev pub IsAnswerBy : Option Syntax → Tools → List ℕ → List ℕ → Bool → Type 0
+IsAnswerBy syntax (tools.Transform form e) line text accepted = IsAnswerOf syntax
+    (IsTransformed form (likely e)) (IsWholeTransformed form (likely e)) line text accepted
+IsAnswerBy syntax (tools.Canonicalize c) line text accepted =
+    IsCanonicalAnswer syntax (likely c.expander) c.rules line text accepted
+IsAnswerBy syntax (tools.Direction d) line text accepted =
+    IsAnswerOf syntax (IsDirected d) (λ x. IsDirected d x.locale.id) line text accepted
+IsAnswerBy syntax (tools.Negotiate negotiation) line text accepted =
+    IsListAnswer syntax negotiation line text accepted
+IsAnswerBy syntax (tools.Name n) line text accepted =
+    IsAnswerOf syntax (IsNamed n) (λ x. IsNamed n x.locale.id) line text accepted
+
 -- the answer to a line
 abbrev pub IsAnswer : Work → List ℕ → List ℕ → Bool → Type 0
-IsAnswer work line text accepted = MatchOption work.syntax (IsPlainAnswer work.tools line text accepted)
-    (λ syntax. IsWholeAnswer syntax work.tools line text accepted)
+IsAnswer work line text accepted = IsAnswerBy work.syntax work.tools line text accepted
 
 -- a line holds identifiers alone, without a value: one, or for `negotiate` any number
 abbrev pub HoldsIdentifiers : Tools → List ℕ → Type 0

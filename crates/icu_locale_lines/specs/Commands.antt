@@ -11,7 +11,7 @@ use Rattle.icu_locale_lines.specs.declared.command.Task.{Task}
 use Rattle.icu_locale_lines.specs.declared.command.Task.TheVariants.{Transform, Canonicalize, Direction, Negotiate, Name}
 use Rattle.icu_locale_extensions.specs.declared.syntax.Syntax.{Syntax}
 use Rattle.icu_locale_extensions.specs.declared.syntax.Syntax.TheVariants.{Unicode, Bcp47, Posix}
-use Rattle.icu_locale_lines.specs.declared.transform.Transform.TheVariants.{Maximize, Minimize, MinimizeScript}
+use Rattle.icu_locale_lines.specs.declared.work.form.Transform.TheVariants.{Maximize, Minimize, MinimizeScript}
 use Rattle.icu_locale_names.specs.LanguageChains.{chain_word}
 use Rattle.icu_locale.specs.LikelyTable.{likely}
 use Rattle.icu_locale.specs.Rules.{AreRules}
@@ -21,9 +21,9 @@ use Rattle.icu_tables.specs.declared.tables.Tables.{Tables}
 use Rattle.icu_locale_lines.specs.Lines.{first_line, after_first_line}
 use Rattle.icu_locale_lines.specs.Lists.{listed, SpellsAll}
 use Rattle.icu_locale_lines.specs.Loads.{IsExpanderOf, has_likely}
-use Rattle.icu_locale_lines.specs.declared.loads.Loaded.{Loaded}
+use Rattle.icu_locale_lines.specs.declared.work.load.Loaded.{Loaded}
 use Rattle.icu_locale_lines.specs.declared.work.Work.{Work}
-use Rattle.icu_locale_lines.specs.declared.loads.Loaded.TheVariants as loaded
+use Rattle.icu_locale_lines.specs.declared.work.load.Loaded.TheVariants as loaded
 use Rattle.icu_locale_lines.specs.declared.work.Tools.{Tools}
 use Rattle.icu_locale_lines.specs.declared.work.Tools.TheVariants as tools
 

@@ -12,7 +12,7 @@ use Rattle.icu_provider.specs.declared.data_locale.DataLocale.{DataLocale}
 use Rattle.icu_provider.specs.declared.error.DataError.{DataError}
 use Rattle.icu_tables.specs.Tables.{held, name_in}
 use Rattle.icu_tables.specs.declared.locale_tables.LocaleTables.{LocaleTables}
-use Rattle.icu_locale_lines.specs.declared.naming.Naming.{Naming}
+use Rattle.icu_locale_lines.specs.declared.work.name.Naming.{Naming}
 use Rattle.icu_locale_lines.specs.Texts.{named_line, refused_line}
 
 -- what tables answer in the language of a locale

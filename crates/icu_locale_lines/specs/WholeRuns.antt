@@ -14,8 +14,8 @@ use Rattle.icu_locale_lines.specs.declared.command.LineCommand.{LineCommand}
 use Rattle.icu_locale_lines.specs.declared.command.Task.TheVariants.{Negotiate}
 use Rattle.icu_locale_lines.specs.declared.error.CliError.{CliError}
 use Rattle.icu_locale_lines.specs.declared.error.CliError.TheVariants as error
-use Rattle.icu_locale_lines.specs.declared.status.Status.{Status}
-use Rattle.icu_locale_lines.specs.declared.status.Status.TheVariants.{Accepted}
+use Rattle.icu_locale_lines.specs.declared.runs.Status.{Status}
+use Rattle.icu_locale_lines.specs.declared.runs.Status.TheVariants.{Accepted}
 use Rattle.icu_locale_lines.specs.declared.work.Work.{Work}
 use Rattle.icu_locale_lines.specs.Lines.{first_line, after_first_line, Stream}
 use Rattle.icu_locale_lines.specs.Lists.{listed, IsFirstFault}

@@ -8,8 +8,8 @@ ghost use Rattle.icu_locale_names.specs.Pieces.{AppendsPart};
 ghost use Rattle.icu_locale_lines.specs.Runs.{WritesAll, WritesWholeLines, WritesPart};
 
 use crate::error::CliError;
-use crate::lines::Lines;
-use crate::status::Status;
+use crate::runs::Status;
+use crate::runs::cut::Lines;
 use crate::work::Work;
 use icu_locale_core::ParseError;
 use icu_locale_names::write_whole;

@@ -7,8 +7,8 @@ ghost use Rattle.icu_locale_lines.specs.declared.command.Task.{Task};
 ghost use Rattle.icu_locale_extensions.specs.declared.syntax.Syntax.{Syntax};
 
 use crate::error::CliError;
-use crate::naming::read_preferences;
-use crate::transform::Transform;
+use crate::work::form::Transform;
+use crate::work::name::read_preferences;
 use icu_locale_extensions::Syntax;
 use icu_locale_names::{DisplayNamesPreferences, NameChain};
 use std::alloc::Global;

@@ -1,10 +1,10 @@
 //! Laws of lines. Each function here takes nothing, answers nothing and carries a proved fact.
-ghost use Rattle.std.specs.Prelude.{◌≡◌, ◌↔◌, ◌++◌, ◌∷◌, [], Some, ℕ, Bool, List};
-ghost use Rattle.icu_locale_lines.specs.declared.status.Status.{Status};
+ghost use Rattle.std.specs.Prelude.{◌≡◌, ◌↔◌, ◌++◌, ◌∷◌, [], None, Some, ℕ, Bool, List};
+ghost use Rattle.icu_locale_lines.specs.declared.runs.Status.{Status};
 ghost use Rattle.icu_locale_lines.specs.declared.work.Tools.{Tools};
 ghost use Rattle.icu_locale_lines.specs.declared.work.Work.{Work};
 ghost use Rattle.icu_locale_extensions.specs.declared.syntax.Syntax.{Syntax};
-ghost use Rattle.icu_locale_lines.specs.Answers.{HoldsIdentifiers, IsAnswer, IsPlainAnswer, IsWholeAnswer};
+ghost use Rattle.icu_locale_lines.specs.Answers.{HoldsIdentifiers, IsAnswer, IsAnswerBy};
 ghost use Rattle.icu_locale_lines.specs.Runs.{WritesAll};
 
 use icu_locale::laws::{canonical_form_is_one, minimal_form_is_one};
@@ -27,7 +27,7 @@ pub fn a_line_has_one_answer()
 pub fn syntaxes_answer_alike()
     ensures { (tools : Tools) (s : Syntax) (line text : List ℕ) (accepted : Bool)
         → HoldsIdentifiers tools line
-        → IsWholeAnswer s tools line text accepted ↔ IsPlainAnswer tools line text accepted }
+        → IsAnswerBy (Some s) tools line text accepted ↔ IsAnswerBy None tools line text accepted }
 {
     spelled_once();
     spelled_once_by();

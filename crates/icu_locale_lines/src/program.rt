@@ -2,10 +2,10 @@
 
 use crate::command::Command;
 use crate::error::CliError;
-use crate::runs::{run, run_json};
+use crate::runs::Status;
+use crate::runs::stream::{stream_json_within, stream_within};
+use crate::runs::whole::{run, run_json};
 use crate::sample_tables::sample;
-use crate::status::Status;
-use crate::streams::{stream_json_within, stream_within};
 use std::alloc::Global;
 use std::io::{BufWriter, Read, Write};
 use std::{env, io};

@@ -12,7 +12,7 @@ use Rattle.icu_locale_lines.specs.declared.command.Command.{Command}
 use Rattle.icu_locale_lines.specs.declared.command.Command.TheVariants.{Settled, Lines}
 use Rattle.icu_locale_lines.specs.declared.command.Task.{Task}
 use Rattle.icu_locale_lines.specs.declared.command.Task.TheVariants.{Transform, Canonicalize, Direction, Negotiate, Name}
-use Rattle.icu_locale_lines.specs.declared.transform.Transform.TheVariants.{Maximize, Minimize, MinimizeScript}
+use Rattle.icu_locale_lines.specs.declared.work.form.Transform.TheVariants.{Maximize, Minimize, MinimizeScript}
 
 -- a task is `name`, and these are its arguments
 pub record IsNameOf (task : Task) (arguments : List (List ℕ)) : Type 0 where

@@ -1,0 +1,125 @@
+//! The input, read to its end, or up to the end of its first line.
+ghost use Rattle.std.specs.Prelude.{◌≡◌, ◌⊎◌, ◌<◌, ◌≤◌, length, IfOk, IfErr, Err, option_map};
+ghost use Rattle.std.specs.Io.KnownBytes.{Consumes, IsAtEnd, prepend_known};
+ghost use Rattle.icu_locale_lines.specs.Streams.{ReadsLine, ReadsUnended, part_size};
+ghost use Rattle.icu_locale_lines.specs.inner.Parts.{TakesLine};
+
+use crate::error::CliError;
+use crate::runs::cut::cut;
+use std::alloc::Global;
+use std::io::Read;
+
+// How many reads an input may take.
+pub const MOST_READS: u64 = 1 << 40;
+
+// How many bytes are asked for at once.
+pub const PART: usize = 16384;
+
+/// All that the reader gives. It takes memory for that.
+///
+/// # Errors
+///
+/// - `Read` where a read failed, or the input has not ended after the last read that it may take.
+/// - `Memory` where memory was refused.
+pub fn read_all<R: Read>(
+    alloc: Global,
+    reader: &mut R,
+    most_reads: u64,
+) -> Result<Vec<u8>, CliError>
+    ensures whole { IfOk result (λ text. Consumes (R.remaining reader.old) (R.remaining reader.new)
+        text.items) }
+    ensures end { IfOk result (λ text. IsAtEnd (R.remaining reader.new)) }
+    ensures refused { IfErr result (λ e. (e ≡ CliError.Read) ⊎ (e ≡ CliError.Memory)) }
+{
+    let mut text = Vec::new(alloc);
+    let mut buffer = [0; 4096];
+    for _ in 0..most_reads {
+        match reader.read(&mut buffer) {
+            Ok(0) => return Ok(text),
+            Ok(count) => text.extend_from_slice(&buffer[..count])?,
+            Err(_) => return Err(CliError::Read),
+        }
+    }
+    Err(CliError::Read)
+}
+
+// A first line, and what was read behind it.
+#[derive(Drop)]
+pub struct FirstLine {
+    // Without its line feed.
+    pub line: Vec<u8>,
+    // What was read behind the line feed.
+    pub rest: Vec<u8>,
+    // The input ended, and no line feed stands behind the line.
+    pub has_ended: bool,
+}
+
+// Reads the first line behind what was read before. An input in which it has not ended after the last read that it may
+// take counts as a failed read.
+pub fn read_first_line<R: Read>(
+    alloc: Global,
+    before: &[u8],
+    reader: &mut R,
+) -> Result<FirstLine, CliError>
+    ensures line { IfOk result (λ l. ReadsLine
+        (prepend_known before.now (R.remaining reader.old))
+        (prepend_known l.rest.items (R.remaining reader.new)) l.line.items l.has_ended) }
+    ensures short { length before.now ≤ part_size
+        → IfOk result (λ l. length l.rest.items < part_size) }
+    ensures unended { result ≡ Err CliError.Read → ReadsUnended
+        (prepend_known before.now (R.remaining reader.old)) (R.remaining reader.new) }
+    ensures refused { IfErr result (λ e. (e ≡ CliError.Read) ⊎ (e ≡ CliError.Memory)) }
+{
+    let mut line = Vec::new(alloc);
+    if let Some(rest) = take_line(alloc, &mut line, before)? {
+        return Ok(FirstLine {
+            line,
+            rest,
+            has_ended: false,
+        });
+    }
+    let mut buffer = [0; PART];
+    for _ in 0..MOST_READS {
+        match reader.read(&mut buffer) {
+            Ok(0) => {
+                return Ok(FirstLine {
+                    line,
+                    rest: Vec::new(alloc),
+                    has_ended: true,
+                });
+            }
+            Ok(count) => {
+                let (part, _) = buffer.split_at(count);
+                if let Some(rest) = take_line(alloc, &mut line, part)? {
+                    return Ok(FirstLine {
+                        line,
+                        rest,
+                        has_ended: false,
+                    });
+                }
+            }
+            Err(_) => return Err(CliError::Read),
+        }
+    }
+    Err(CliError::Read)
+}
+
+// Puts a part behind the beginning of a line, up to a line feed, and gives what is behind that, if there is one.
+pub fn take_line(
+    alloc: Global,
+    line: &mut Vec<u8>,
+    part: &[u8],
+) -> Result<Option<Vec<u8>>, CliError>
+    ensures taken { IfOk result (λ rest. TakesLine line.old.items part.now line.new.items
+        (option_map (λ r. r.items) rest)) }
+    ensures refused { IfErr result (λ e. e ≡ CliError.Memory) }
+{
+    let (front, behind) = cut(part);
+    line.extend_from_slice(front)?;
+    if front.len() == part.len() {
+        return Ok(None);
+    }
+    let mut rest = Vec::new(alloc);
+    rest.extend_from_slice(behind)?;
+    Ok(Some(rest))
+}

@@ -1,0 +1,302 @@
+//! A run that answers lines as they come: each answer is written before more is read.
+ghost use Rattle.std.specs.Prelude.{◌≡◌, ◌↔◌, Err, IfOk, IfErr, false, ◌⊎◌, ◌++◌, List, ℕ};
+ghost use Rattle.std.specs.Io.KnownBytes.{prepend_known};
+ghost use Rattle.icu_locale.specs.LikelyTable.{likely};
+ghost use Rattle.icu_locale.specs.LikelySubtags.{AreSettled};
+ghost use Rattle.icu_tables.specs.declared.tables.Tables.{Tables};
+ghost use Rattle.icu_locale_lines.specs.Loads.{IsExpanderOf, not_found};
+ghost use Rattle.icu_locale_lines.specs.Streams.{IsRefusedLineStream, IsStoppedLineStream, IsRefusedStream, IsJsonStream, IsRefusedJsonStream, EndsLines, AnswersEnded, LeavesEnded, StopsStream};
+ghost use Rattle.icu_locale_lines.specs.WholeRuns.{IsLineRun, IsRun};
+ghost use Rattle.icu_locale_lines.specs.Commands.{IsUnsettled, has_tables};
+ghost use Rattle.icu_locale_lines.specs.declared.command.Task.TheVariants.{Negotiate};
+ghost use Rattle.std.specs.List.{list_any};
+ghost use Rattle.icu_locale_lines.specs.Lines.{is_line_feed};
+ghost use Rattle.icu_locale_lines.specs.Runs.{ReadsAll, WritesAll, WritesWholeLines, WritesPart};
+
+use crate::answer::write_answers;
+use crate::command::{Command, LineCommand};
+use crate::error::CliError;
+use crate::runs::Status;
+use crate::runs::input::{MOST_READS, PART, read_first_line};
+use crate::runs::whole::{read_tables, write_settled};
+use crate::work::load::{Loaded, list_available};
+use crate::work::{Tools, Work};
+use icu_locale::LocaleExpander;
+use icu_locale_extensions::Syntax;
+use icu_tables::Tables;
+use std::alloc::Global;
+use std::io::{Read, Write};
+
+/// Does as `run`, but reads by parts: each line is answered when it has come whole, and the answers are flushed before more
+/// is read. What follows the last line feed is answered at the end. It takes memory for the line in hand, its answer, and
+/// what `Negotiate` has available.
+///
+/// # Errors
+///
+/// - `Data`, `NotSettled` and `Available` as `run` answers them: nothing was written.
+/// - `Read` where a read failed or the input did not end: each line that had come whole was answered.
+/// - `Write` where a write or a flush failed, or a write took no byte: the earlier lines were answered, and a beginning of
+///   the answer in hand.
+/// - `Memory` where memory was refused: whole lines only were written.
+pub fn stream<R: Read, W: Write>(
+    alloc: Global,
+    command: &Command,
+    tables: &Tables,
+    reader: &mut R,
+    writer: &mut W,
+) -> Result<Status, CliError>
+    ensures output { IfOk result (IsRun command.now tables.now (R.remaining reader.old)
+        (R.remaining reader.new) (W.contents writer.old) (W.contents writer.new)) }
+    ensures data { (result ≡ Err (CliError.Data not_found))
+        ↔ (has_tables command.now tables.now ≡ false) }
+    ensures unsettled { (result ≡ Err CliError.NotSettled)
+        ↔ IsUnsettled command.now tables.now }
+    ensures refused { IfErr result (IsRefusedStream command.now tables.now
+        (R.remaining reader.old) (R.remaining reader.new) (W.contents writer.old)
+        (W.contents writer.new)) }
+{
+    stream_within(alloc, command, tables, usize::MAX, reader, writer)
+}
+
+/// Does as `stream`, but a line that has not ended after so many bytes and what was read with them counts as a failed
+/// read, so that an input without line feeds does not fill memory. A line of at most so many bytes is always answered,
+/// and what lists the available identifiers may be of any length.
+///
+/// # Errors
+///
+/// Those of `stream`.
+pub fn stream_within<R: Read, W: Write>(
+    alloc: Global,
+    command: &Command,
+    tables: &Tables,
+    longest: usize,
+    reader: &mut R,
+    writer: &mut W,
+) -> Result<Status, CliError>
+    ensures output { IfOk result (IsRun command.now tables.now (R.remaining reader.old)
+        (R.remaining reader.new) (W.contents writer.old) (W.contents writer.new)) }
+    ensures data { (result ≡ Err (CliError.Data not_found))
+        ↔ (has_tables command.now tables.now ≡ false) }
+    ensures unsettled { (result ≡ Err CliError.NotSettled)
+        ↔ IsUnsettled command.now tables.now }
+    ensures refused { IfErr result (IsRefusedStream command.now tables.now
+        (R.remaining reader.old) (R.remaining reader.new) (W.contents writer.old)
+        (W.contents writer.new)) }
+{
+    match command {
+        Command::Settled => write_settled(tables, writer),
+        Command::Lines(command) => {
+            stream_command(alloc, command, tables, longest, &[], reader, writer)
+        }
+    }
+}
+
+/// Takes the tables of the first line as JSON, as soon as it has come, and does as `stream` with what follows. `Settled`
+/// reads no further. It takes memory for the first line and the tables too.
+///
+/// # Errors
+///
+/// - `Tables` where the first line gives no tables: nothing was written.
+/// - The others as `stream` answers them over what follows the first line; `Read` and `Memory` also while that is read:
+///   nothing was written then.
+pub fn stream_json<R: Read, W: Write>(
+    alloc: Global,
+    command: &Command,
+    reader: &mut R,
+    writer: &mut W,
+) -> Result<Status, CliError>
+    ensures output { IfOk result (IsJsonStream command.now (R.remaining reader.old)
+        (R.remaining reader.new) (W.contents writer.old) (W.contents writer.new)) }
+    ensures refused { IfErr result (IsRefusedJsonStream command.now (R.remaining reader.old)
+        (R.remaining reader.new) (W.contents writer.old) (W.contents writer.new)) }
+{
+    stream_json_within(alloc, command, usize::MAX, reader, writer)
+}
+
+/// Takes the tables of the first line, however long, and does as `stream_within` with what follows.
+///
+/// # Errors
+///
+/// Those of `stream_json`.
+pub fn stream_json_within<R: Read, W: Write>(
+    alloc: Global,
+    command: &Command,
+    longest: usize,
+    reader: &mut R,
+    writer: &mut W,
+) -> Result<Status, CliError>
+    ensures output { IfOk result (IsJsonStream command.now (R.remaining reader.old)
+        (R.remaining reader.new) (W.contents writer.old) (W.contents writer.new)) }
+    ensures refused { IfErr result (IsRefusedJsonStream command.now (R.remaining reader.old)
+        (R.remaining reader.new) (W.contents writer.old) (W.contents writer.new)) }
+{
+    let first = read_first_line(alloc, &[], reader)?;
+    let tables = read_tables(alloc, &first.line)?;
+    match command {
+        Command::Settled => write_settled(&tables, writer),
+        Command::Lines(command) => {
+            stream_command(
+                alloc,
+                command,
+                &tables,
+                longest,
+                &first.rest,
+                reader,
+                writer,
+            )
+        }
+    }
+}
+
+// The answers of a command to what is left of a reader, behind what was read of it before.
+fn stream_command<R: Read, W: Write>(
+    alloc: Global,
+    command: &LineCommand,
+    tables: &Tables,
+    longest: usize,
+    before: &[u8],
+    reader: &mut R,
+    writer: &mut W,
+) -> Result<Status, CliError>
+    ensures output { IfOk result (IsLineRun command.now tables.now
+        (prepend_known before.now (R.remaining reader.old)) (R.remaining reader.new)
+        (W.contents writer.old) (W.contents writer.new)) }
+    ensures data { (result ≡ Err (CliError.Data not_found))
+        ↔ (has_tables (Command.Lines command.now) tables.now ≡ false) }
+    ensures unsettled { (result ≡ Err CliError.NotSettled)
+        ↔ IsUnsettled (Command.Lines command.now) tables.now }
+    ensures refused { IfErr result (IsRefusedLineStream command.now tables.now
+        (prepend_known before.now (R.remaining reader.old)) (R.remaining reader.old)
+        (R.remaining reader.new) (W.contents writer.old) (W.contents writer.new)) }
+{
+    match Loaded::load(alloc, command, tables)? {
+        Loaded::Ready(work) => stream_lines(alloc, &work, longest, before, reader, writer),
+        Loaded::Negotiate(syntax, expander) => {
+            stream_requests(alloc, syntax, expander, longest, before, reader, writer)
+        }
+    }
+}
+
+// The answers to lines of requests, behind a first line that lists what is available.
+fn stream_requests<R: Read, W: Write>(
+    alloc: Global,
+    syntax: Option<Syntax>,
+    expander: LocaleExpander<'_>,
+    longest: usize,
+    before: &[u8],
+    reader: &mut R,
+    writer: &mut W,
+) -> Result<Status, CliError>
+    ensures output { (t : Tables) → IsExpanderOf t expander.entry
+        → AreSettled (likely expander.entry) → IfOk result (IsLineRun
+        (record { syntax = syntax; task = Negotiate }) t
+        (prepend_known before.now (R.remaining reader.old)) (R.remaining reader.new)
+        (W.contents writer.old) (W.contents writer.new)) }
+    ensures refused { (t : Tables) → IsExpanderOf t expander.entry
+        → AreSettled (likely expander.entry) → IfErr result (IsStoppedLineStream
+        (record { syntax = syntax; task = Negotiate }) t
+        (prepend_known before.now (R.remaining reader.old)) (R.remaining reader.new)
+        (W.contents writer.old) (W.contents writer.new)) }
+{
+    let first = read_first_line(alloc, before, reader)?;
+    let negotiator = list_available(alloc, expander, syntax, &first.line)?;
+    let tools = Tools::Negotiate(negotiator);
+    let work = Work { syntax, tools };
+    if first.has_ended {
+        return Ok(Status::Accepted);
+    }
+    stream_lines(alloc, &work, longest, &first.rest, reader, writer)
+}
+
+// Answers what is left of a reader, behind what was read of it before. After each part it answers the lines that this
+// part ends, and keeps what is behind the last line feed; at the end it answers what is left. An input that has not ended
+// after the last read that it may take counts as a failed read, and so does a line that has not ended and has more bytes
+// than are kept.
+fn stream_lines<R: Read, W: Write>(
+    alloc: Global,
+    work: &Work<'_>,
+    longest: usize,
+    first: &[u8],
+    reader: &mut R,
+    writer: &mut W,
+) -> Result<Status, CliError>
+    ensures whole { IfOk result (λ status. (input : List ℕ)
+        × ReadsAll (prepend_known first.now (R.remaining reader.old))
+        (R.remaining reader.new) input
+        × WritesAll work.now input (W.contents writer.old) (W.contents writer.new) status) }
+    ensures refused { IfErr result (StopsStream work.now
+        (prepend_known first.now (R.remaining reader.old)) (R.remaining reader.new)
+        (W.contents writer.old) (W.contents writer.new)) }
+{
+    let mut carry = Vec::new(alloc);
+    let mut text = Vec::new(alloc);
+    let mut status = answer_part(work, &mut text, &mut carry, first, writer)?;
+    let mut buffer = [0; PART];
+    for _ in 0..MOST_READS {
+        if carry.len() > longest {
+            return Err(CliError::Read);
+        }
+        if writer.flush().is_err() {
+            return Err(CliError::Write);
+        }
+        match reader.read(&mut buffer) {
+            Ok(0) => {
+                let last = write_answers(work, &mut text, carry.as_slice(), writer)?;
+                return Ok(status.and(last));
+            }
+            Ok(count) => {
+                let (part, _) = buffer.split_at(count);
+                let ended = answer_part(work, &mut text, &mut carry, part, writer)?;
+                status = status.and(ended);
+            }
+            Err(_) => return Err(CliError::Read),
+        }
+    }
+    Err(CliError::Read)
+}
+
+// Answers the lines that a part ends, of which what was carried begins the first, and carries what is behind the last.
+fn answer_part<W: Write>(
+    work: &Work<'_>,
+    text: &mut Vec<u8>,
+    carry: &mut Vec<u8>,
+    part: &[u8],
+    writer: &mut W,
+) -> Result<Status, CliError>
+    ensures whole { IfOk result (AnswersEnded work.now (carry.old.items ++ part.now) carry.new.items
+        (W.contents writer.old) (W.contents writer.new)) }
+    ensures carried { list_any is_line_feed carry.old.items ≡ false → IfOk result
+        (λ _. list_any is_line_feed carry.new.items ≡ false) }
+    ensures memory { result ≡ Err CliError.Memory → LeavesEnded WritesWholeLines work.now
+        (carry.old.items ++ part.now) (W.contents writer.old) (W.contents writer.new) }
+    ensures write { result ≡ Err CliError.Write → LeavesEnded WritesPart work.now
+        (carry.old.items ++ part.now) (W.contents writer.old) (W.contents writer.new) }
+    ensures refused { IfErr result (λ e. (e ≡ CliError.Memory) ⊎ (e ≡ CliError.Write)) }
+{
+    let (front, rest) = cut_behind_lines(part);
+    if front.is_empty() {
+        carry.extend_from_slice(part)?;
+        return Ok(Status::Accepted);
+    }
+    carry.extend_from_slice(front)?;
+    let status = write_answers(work, text, carry.as_slice(), writer)?;
+    carry.clear();
+    carry.extend_from_slice(rest)?;
+    Ok(status)
+}
+
+// A text up to its last line feed, and what is behind that.
+fn cut_behind_lines(text: &[u8]) -> (&[u8], &[u8])
+    ensures parted { text.now ≡ result.0.now ++ result.1.now }
+    ensures front { EndsLines result.0.now }
+    ensures rest { list_any is_line_feed result.1.now ≡ false }
+{
+    let mut count = text.len();
+    while count > 0 {
+        if text[count - 1] == b'\n' {
+            return text.split_at(count);
+        }
+        count -= 1;
+    }
+    (&[], text)
+}

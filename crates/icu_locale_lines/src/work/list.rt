@@ -1,0 +1,144 @@
+//! Lines that list identifiers, cut at each space, and lines of requests.
+ghost use Rattle.std.specs.Prelude.{◌≡◌, ◌⊎◌, IfOk, IfErr, OnErr, true};
+ghost use Rattle.icu_locale_lines.specs.Lists.{listed, SpellsAll, IsFirstFault, SpellsIn, IsFaultIn, IsNegotiatedLine};
+ghost use Rattle.icu_locale_lines.specs.Answers.{AddsLine, Keeps, IsListAnswer};
+ghost use Rattle.icu_locale_lines.specs.Texts.{matched_line};
+
+use crate::answer::{add_fault, add_known, add_number, add_text};
+use crate::error::CliError;
+use crate::work::form::add_identifier;
+use icu_locale::NegotiatorRef;
+use icu_locale_core::{LanguageIdentifier, Locale, ParseError};
+use icu_locale_extensions::{LocaleIdentifier, Syntax};
+use std::alloc::Global;
+
+/// The identifiers that a line lists: each alone, or that of a locale identifier in a syntax. An empty line lists none.
+///
+/// # Errors
+///
+/// The refusal of the first text that spells none, or `Memory` where memory was refused.
+pub fn read_list(
+    alloc: Global,
+    syntax: Option<Syntax>,
+    line: &[u8],
+) -> Result<Vec<LanguageIdentifier>, ParseError>
+    ensures read { IfOk result (λ list. SpellsAll syntax (listed line.now) list.items) }
+    ensures refused { IfErr result (λ e. (e ≡ ParseError.Memory)
+        ⊎ IsFirstFault syntax (listed line.now) e) }
+{
+    let mut list = Vec::new(alloc);
+    if line.is_empty() {
+        return Ok(list);
+    }
+    for piece in line.split(|byte| *byte == b' ') {
+        list.push(read_identifier(alloc, syntax, piece)?)?;
+    }
+    Ok(list)
+}
+
+// The identifier of a text: alone, or that of a locale identifier in a syntax.
+pub fn read_identifier(
+    alloc: Global,
+    syntax: Option<Syntax>,
+    text: &[u8],
+) -> Result<LanguageIdentifier, ParseError>
+    ensures read { IfOk result (SpellsIn syntax text.now) }
+    ensures refused { IfErr result (λ e. (e ≡ ParseError.Memory)
+        ⊎ IsFaultIn syntax text.now e) }
+{
+    match syntax {
+        None => LanguageIdentifier::try_from_utf8(alloc, text),
+        Some(syntax) => match LocaleIdentifier::read(alloc, syntax, text) {
+            Ok(whole) => Ok(identifier_of(whole)),
+            Err(refusal) => Err(refusal),
+        },
+    }
+}
+
+// The identifier of a locale identifier, without its extensions.
+fn identifier_of(whole: LocaleIdentifier) -> LanguageIdentifier
+    ensures { result ≡ whole.locale.id }
+{
+    let LocaleIdentifier {
+        locale,
+        attributes: _,
+        fields: _,
+        others: _,
+        private_use: _,
+    } = whole;
+    let Locale { id, extensions: _ } = locale;
+    id
+}
+
+/// The answer to a line that lists requests, in the room of an earlier one, and whether the line was accepted.
+///
+/// # Errors
+///
+/// `Memory` where memory was refused.
+pub fn answer_requests(
+    room: &mut Vec<u8>,
+    negotiator: &NegotiatorRef<'_>,
+    syntax: Option<Syntax>,
+    line: &[u8],
+) -> Result<bool, CliError>
+    ensures answer { IfOk result (IsListAnswer syntax negotiator.now line.now room.new.items) }
+    ensures refused { IfErr result (λ e. e ≡ CliError.Memory) }
+{
+    room.clear();
+    add_requests(room, negotiator, syntax, line)
+}
+
+// The answer to a line that lists requests.
+pub fn add_requests(
+    text: &mut Vec<u8>,
+    negotiator: &NegotiatorRef<'_>,
+    syntax: Option<Syntax>,
+    line: &[u8],
+) -> Result<bool, CliError>
+    ensures answer { IfOk result (AddsLine (IsListAnswer syntax negotiator.now line.now)
+        text.old.items text.new.items) }
+    ensures refused { IfErr result (λ e. e ≡ CliError.Memory) }
+    ensures kept { OnErr result (Keeps text.old.items text.new.items) }
+{
+    match read_list(*text.allocator(), syntax, line) {
+        Ok(requests) => add_negotiated(text, negotiator, &requests),
+        Err(refusal) => add_fault(text, refusal),
+    }
+}
+
+// The line of requests: the place of the first that is met, and the identifier that meets it.
+fn add_negotiated(
+    text: &mut Vec<u8>,
+    negotiator: &NegotiatorRef<'_>,
+    requests: &[LanguageIdentifier],
+) -> Result<bool, CliError>
+    ensures answer { IfOk result (AddsLine (λ t a. IsNegotiatedLine negotiator.now
+        requests.now t × (a ≡ true))
+        text.old.items text.new.items) }
+    ensures refused { IfErr result (λ e. e ≡ CliError.Memory) }
+    ensures kept { OnErr result (Keeps text.old.items text.new.items) }
+{
+    match negotiator.negotiate(requests) {
+        Some((asked, found)) => add_match(text, asked, &negotiator.available()[found]),
+        None => add_known(text, "none\n", true),
+    }
+}
+
+// The line of a request's place and the available identifier that means it.
+fn add_match(
+    text: &mut Vec<u8>,
+    asked: usize,
+    identifier: &LanguageIdentifier,
+) -> Result<bool, CliError>
+    ensures answer { IfOk result (AddsLine (λ t a. (t ≡ matched_line asked identifier.now)
+        × (a ≡ true))
+        text.old.items text.new.items) }
+    ensures refused { IfErr result (λ e. e ≡ CliError.Memory) }
+    ensures kept { OnErr result (Keeps text.old.items text.new.items) }
+{
+    add_number(text, asked)?;
+    add_text(text, "\t")?;
+    add_identifier(text, identifier)?;
+    add_text(text, "\n")?;
+    Ok(true)
+}

@@ -1,0 +1,199 @@
+//! The tables that a command needs, before the input is read.
+ghost use Rattle.std.specs.Prelude.{◌≡◌, ◌↔◌, Err, IfOk, IfErr, IsSomeAnd, is_ok, is_some, false};
+ghost use Rattle.icu_locale.specs.LikelyTable.{likely};
+ghost use Rattle.icu_locale.specs.Rules.{AreRules};
+ghost use Rattle.icu_locale_lines.specs.Lists.{listed, SpellsAll};
+ghost use Rattle.icu_locale_lines.specs.Loads.{IsExpanderOf, has_likely, not_found};
+ghost use Rattle.icu_locale_lines.specs.WholeRuns.{WritesLines, IsRefusedLines};
+ghost use Rattle.icu_locale_lines.specs.Lines.{Stream};
+ghost use Rattle.icu_locale_lines.specs.Commands.{IsUnsettled, IsLoaded, IsWorkOf, has_tables, text_answered};
+ghost use Rattle.icu_locale_lines.specs.Refusals.{IsRefusedLoad, IsRefusedTable, IsRefusedList};
+ghost use Rattle.icu_locale_lines.specs.declared.command.LineCommand.{LineCommand};
+ghost use Rattle.icu_tables.specs.declared.tables.Tables.{Tables};
+
+use crate::answer::write_answers;
+use crate::command::{Command, LineCommand, Task};
+use crate::error::CliError;
+use crate::runs::Status;
+use crate::runs::cut::cut;
+use crate::work::list::read_list;
+use crate::work::name::Naming;
+use crate::work::{Tools, Work};
+use icu_locale::{
+    LocaleCanonicalizer, LocaleDirectionality, LocaleExpander, Negotiator, NegotiatorError,
+};
+use icu_locale_core::ParseError;
+use icu_locale_extensions::Syntax;
+use icu_provider::DataProvider;
+use icu_tables::{LocaleTables, Tables};
+use std::alloc::Global;
+use std::io::Write;
+
+/// What a command has before its input is read.
+#[derive(Debug, Drop)]
+pub enum Loaded<'d> {
+    /// What it works with.
+    Ready(Work<'d>),
+    /// The syntax of the lines and an expander over settled tables, which wait for the identifiers that are available.
+    Negotiate(Option<Syntax>, LocaleExpander<'d>),
+}
+
+impl<'d> Loaded<'d> {
+    /// What a command needs: its tables are loaded in their order, and then asked whether they are settled.
+    ///
+    /// # Errors
+    ///
+    /// - `Data` exactly where a needed table is not held.
+    /// - `NotSettled` exactly where `Negotiate` finds likely tables that are not settled.
+    /// - `Memory` where the rules of `Canonicalize` found no room.
+    pub fn load(alloc: Global, command: &LineCommand, tables: &'d Tables) -> Result<Self, CliError>
+        ensures loaded { IfOk result (IsLoaded command.now tables.now) }
+        ensures data { (result ≡ Err (CliError.Data not_found))
+            ↔ (has_tables (Command.Lines command.now) tables.now ≡ false) }
+        ensures unsettled { (result ≡ Err CliError.NotSettled)
+            ↔ IsUnsettled (Command.Lines command.now) tables.now }
+        ensures refused { IfErr result IsRefusedLoad }
+    {
+        let syntax = command.syntax;
+        match command.task {
+            Task::Transform(form) => {
+                let tools = Tools::Transform(form, load_expander(tables)?);
+                Ok(Loaded::Ready(Work { syntax, tools }))
+            }
+            Task::Canonicalize => {
+                let expander = load_expander(tables)?;
+                let canonicalizer = load_canonicalizer(alloc, tables, expander)?;
+                let tools = Tools::Canonicalize(canonicalizer);
+                Ok(Loaded::Ready(Work { syntax, tools }))
+            }
+            Task::Direction => {
+                let expander = load_expander(tables)?;
+                let directionality = LocaleDirectionality::try_new_with_expander_unstable(
+                    tables, expander,
+                )?;
+                let tools = Tools::Direction(directionality);
+                Ok(Loaded::Ready(Work { syntax, tools }))
+            }
+            Task::Negotiate => {
+                let expander = load_expander(tables)?;
+                if !expander.is_settled() {
+                    return Err(CliError::NotSettled);
+                }
+                Ok(Loaded::Negotiate(syntax, expander))
+            }
+            Task::Name(chain, preferences) => {
+                let tools = Tools::Name(Naming {
+                    tables: LocaleTables::new(tables, preferences.locale),
+                    chain,
+                    preferences,
+                });
+                Ok(Loaded::Ready(Work { syntax, tools }))
+            }
+        }
+    }
+
+    // The work on an input, and the text whose lines it answers.
+    fn over<'i>(self, alloc: Global, input: &'i [u8]) -> Result<(Work<'d>, &'i [u8]), CliError>
+        ensures work { (c : LineCommand) (t : Tables) → IsLoaded c t self.entry
+            → IfOk result (λ made. IsWorkOf c t input.now made.0
+            × (text_answered c input.now ≡ made.1.now)) }
+        ensures left { (c : LineCommand) (t : Tables) → IsLoaded c t self.entry
+            → IfErr result (λ e. (wrote : Stream) → IsRefusedLines c t input.now wrote wrote e) }
+    {
+        match self {
+            Loaded::Ready(work) => Ok((work, input)),
+            Loaded::Negotiate(syntax, expander) => {
+                let (first, rest) = cut(input);
+                let negotiator = list_available(alloc, expander, syntax, first)?;
+                let tools = Tools::Negotiate(negotiator);
+                Ok((Work { syntax, tools }, rest))
+            }
+        }
+    }
+
+    /// The answers to the lines of an input. `Negotiate` uses the first line for the identifiers that are available.
+    ///
+    /// # Errors
+    ///
+    /// - `Available` where the first line of `Negotiate` has a fault: nothing was written.
+    /// - `Write` where a write failed or took no byte, and `Memory` where memory was refused, as `run` answers them.
+    pub fn write<W: Write>(
+        self,
+        alloc: Global,
+        input: &[u8],
+        writer: &mut W,
+    ) -> Result<Status, CliError>
+        ensures output { (c : LineCommand) (t : Tables) → IsLoaded c t self.entry
+            → IfOk result (WritesLines c t input.now (W.contents writer.old)
+            (W.contents writer.new)) }
+        ensures left { (c : LineCommand) (t : Tables) → IsLoaded c t self.entry
+            → IfErr result (IsRefusedLines c t input.now (W.contents writer.old)
+            (W.contents writer.new)) }
+    {
+        let (work, text) = self.over(alloc, input)?;
+        write_answers(&work, &mut Vec::new(alloc), text, writer)
+    }
+}
+
+/// The expander over the tables, with the extended one where it is held.
+///
+/// # Errors
+///
+/// `Data` exactly where a common likely table is not held.
+pub fn load_expander(tables: &Tables) -> Result<LocaleExpander<'_>, CliError>
+    ensures made { IfOk result (IsExpanderOf tables.entry.now) }
+    ensures loaded { is_ok result ≡ has_likely tables.entry.now }
+    ensures refused { IfErr result (λ e. e ≡ CliError.Data not_found) }
+{
+    if tables.likely_extended.is_some() {
+        Ok(LocaleExpander::try_new_extended_unstable(tables)?)
+    } else {
+        Ok(LocaleExpander::try_new_common_unstable(tables)?)
+    }
+}
+
+// The canonicalizer over the tables and the expander.
+fn load_canonicalizer<'d>(
+    alloc: Global,
+    tables: &'d Tables,
+    expander: LocaleExpander<'d>,
+) -> Result<LocaleCanonicalizer<'d>, CliError>
+    ensures expander { IfOk result (λ c. c.expander ≡ expander.entry) }
+    ensures rules { IfOk result (λ c. IsSomeAnd tables.now.aliases
+        (λ table. AreRules table c.rules)) }
+    ensures data { (result ≡ Err (CliError.Data not_found))
+        ↔ (is_some tables.now.aliases ≡ false) }
+    ensures refused { IfErr result IsRefusedTable }
+{
+    let aliases = tables.load_aliases()?;
+    LocaleCanonicalizer::new_with_expander(alloc, aliases, expander).map_err(|_| CliError::Memory)
+}
+
+/// The negotiator over settled tables and the identifiers that a line lists.
+///
+/// # Errors
+///
+/// - `Available` where the line has a fault: the first one.
+/// - `NotSettled` where the likely tables are not settled. The line is read first.
+/// - `Memory` where memory was refused.
+pub fn list_available<'d>(
+    alloc: Global,
+    expander: LocaleExpander<'d>,
+    syntax: Option<Syntax>,
+    line: &[u8],
+) -> Result<Negotiator<'d>, CliError>
+    ensures expander { IfOk result (λ n. n.expander ≡ expander.entry) }
+    ensures available { IfOk result (λ n. SpellsAll syntax (listed line.now) n.available) }
+    ensures refused { IfErr result (IsRefusedList syntax (likely expander.entry) line.now) }
+{
+    let available = match read_list(alloc, syntax, line) {
+        Ok(list) => list,
+        Err(ParseError::Memory) => return Err(CliError::Memory),
+        Err(refusal) => return Err(CliError::Available(refusal)),
+    };
+    match Negotiator::try_new(alloc, expander, available) {
+        Ok(negotiator) => Ok(negotiator),
+        Err(NegotiatorError::Memory) => Err(CliError::Memory),
+        Err(NegotiatorError::NotSettled) => Err(CliError::NotSettled),
+    }
+}
