@@ -1,5 +1,5 @@
 -- What canonicalizing does of an identifier with no extensions.
-use Rattle.std.proofs.Common.{◌≡◌, ◌↔◌, Bool, true, false, ◌||◌, Option, None, Some, IsSome, is_some, unwrap_or, Ok, Err, inl, inr, refl, subst, sym, ap, ◌∙◌}
+use Rattle.std.proofs.Common.{◌≡◌, ◌↔◌, false, ◌||◌, Option, None, Some, IsSome, is_some, unwrap_or, Ok, Err, inl, inr, refl, subst, sym}
 use Rattle.std.specs.Option.{option_map}
 use Rattle.std.proofs.lemmas.Bool.{false≢true}
 use Rattle.std.proofs.lemmas.Option.{none-some}
@@ -9,8 +9,8 @@ use Rattle.icu_locale.specs.Kinds.{next}
 use Rattle.icu_locale.specs.Run.{IsLaterEnd}
 use Rattle.icu_locale.specs.Canonical.{IsCanonical, is_applied, answer_of, without_extensions}
 use Rattle.icu_locale.specs.Canonicalization.{Canonicalizes}
-use Rattle.icu_locale.specs.Cost.{NeedsNoMemory, AddsNoVariants}
-use Rattle.icu_locale.specs.Refusals.{IsOutOfMemory, IsMemory}
+use Rattle.icu_locale.specs.Cost.{AddsNoVariants}
+use Rattle.icu_locale.specs.Refusals.{IsMemory}
 use Rattle.icu_locale.specs.declared.expander.TransformResult.{TransformResult}
 use Rattle.icu_locale.specs.declared.expander.TransformResult.TheVariants.{Modified, Unmodified}
 use Rattle.icu_locale.specs.declared.canonicalizer.rules.Rules.{Rules}
@@ -18,7 +18,8 @@ use Rattle.icu_locale.specs.declared.canonicalizer.changes.Changes.{Changes}
 use Rattle.icu_locale.specs.declared.canonicalizer.CanonicalizeError.{CanonicalizeError}
 use Rattle.icu_locale.specs.inner.CanonicalParts.{IsRunRefusal, AreChanges}
 use Rattle.icu_locale.proofs.CanonicalAgain.{unmodified_exactly}
-use Rattle.icu_locale.proofs.Canonicals.{IsCanonical-with_changes, memory_from_end, no_repeat, no_value_repeat, named, named_value, refused_id, refused_identifiers}
+use Rattle.icu_locale.proofs.Canonicals.{IsCanonical-with_changes, memory_from_end, no_repeat, no_value_repeat, named, named_value, refused_id}
+use Rattle.icu_locale.proofs.Canonicals.{refused_identifiers}
 
 -- no rewrite was found
 pub nothing_next : {R X : Type 0} (f : R → X) (found : Option R) (next : Option X) → is_some found ≡ false → option_map f found ≡ next → next ≡ None
@@ -36,14 +37,18 @@ module _ (likely : LikelySubtags) (rules : Rules) (id : LanguageIdentifier) wher
     values = record { region_override = refl; subdivision = refl };
   }
 
-  pub canonicalized : (end : Option LanguageIdentifier) (answer : TransformResult) → IsLaterEnd (next likely rules) id end → answer ≡ answer_of (is_applied likely rules (without_extensions id)) → Canonicalizes likely rules (without_extensions id) (without_extensions (unwrap_or end id)) (Ok answer)
+  pub canonicalized : (end : Option LanguageIdentifier) (answer : TransformResult) → IsLaterEnd (next likely rules) id end
+      → answer ≡ answer_of (is_applied likely rules (without_extensions id))
+      → Canonicalizes likely rules (without_extensions id) (without_extensions (unwrap_or end id)) (Ok answer)
   canonicalized end answer is said =
       let are = are_changes end is in
-      let canonical : IsCanonical likely rules (without_extensions id) (without_extensions (unwrap_or end id)) = IsCanonical-with_changes likely rules (without_extensions id) (changes_of end) are in
+      let canonical : IsCanonical likely rules (without_extensions id) (without_extensions (unwrap_or end id)) = IsCanonical-with_changes
+      likely rules (without_extensions id) (changes_of end) are in
       record {
         canonical = canonical;
         answer = said;
-        unmodified = subst (λ (a : TransformResult). (a ≡ Unmodified) ↔ (without_extensions (unwrap_or end id) ≡ without_extensions id)) (sym said) (unmodified_exactly likely rules (without_extensions id) (without_extensions (unwrap_or end id)) canonical);
+        unmodified = subst (λ (a : TransformResult). (a ≡ Unmodified) ↔ (without_extensions (unwrap_or end id) ≡ without_extensions id))
+            (sym said) (unmodified_exactly likely rules (without_extensions id) (without_extensions (unwrap_or end id)) canonical);
         refusal = tt;
         unchanged = tt;
         ends = λ ends. inl refl;
@@ -52,7 +57,9 @@ module _ (likely : LikelySubtags) (rules : Rules) (id : LanguageIdentifier) wher
         free = λ needs out. out;
       }
 
-  pub refused : (refusal : CanonicalizeError) → IsRunRefusal (next likely rules) id refusal → (AddsNoVariants (next likely rules) id → ¬ (IsMemory refusal)) → Canonicalizes likely rules (without_extensions id) (without_extensions id) (Err refusal)
+  pub refused : (refusal : CanonicalizeError) → IsRunRefusal (next likely rules) id refusal
+      → (AddsNoVariants (next likely rules) id → ¬ (IsMemory refusal)) → Canonicalizes likely rules (without_extensions id)
+      (without_extensions id) (Err refusal)
   refused refusal is free =
       let told = refused_identifiers likely rules (without_extensions id) refusal (refused_id likely rules (without_extensions id) refusal is) in
       record {

@@ -1,5 +1,6 @@
 -- Canonical locales from the ends of their runs, and refusals from runs without an end.
-use Rattle.std.proofs.Common.{◌≡◌, ◌≢◌, ◌+◌, ◌*◌, ◌≤◌, ℕ, Bool, true, false, List, [], Option, Some, None, IfSome, unwrap_or, Result, Ok, Err, ◌⊎◌, inl, inr, refl, ap, sym, ◌∙◌, arith}
+use Rattle.std.proofs.Common.{◌≡◌, ◌≢◌, ◌+◌, ◌*◌, ◌≤◌, ℕ, Bool, true, false, List, [], Option, Some, None, IfSome, unwrap_or, Result, Ok, Err, ◌⊎◌}
+use Rattle.std.proofs.Common.{inl, inr, refl, ap, sym, ◌∙◌, arith}
 use Rattle.std.specs.Option.{MatchOption}
 use Rattle.std.proofs.lemmas.Bool.{cases_Bool, false≢true}
 use Rattle.icu_locale_core.specs.Maps.{value_at}
@@ -15,7 +16,8 @@ use Rattle.icu_locale.specs.inner.Universe.{universe}
 use Rattle.icu_locale.specs.Canonical.{rg, sd, next_value, IsCanonical}
 use Rattle.icu_locale.specs.Refusals.{IdentifiersEnd, RulesEnd, ComesAgainFirst, ValueComesAgainFirst, IsRefusal, IsMemory, IsOutOfMemory}
 use Rattle.icu_locale.specs.Cost.{HasIdentifiers, CountsSearches, AddsNoVariants, NeedsNoMemory, HasNothingToCopy}
-use Rattle.icu_locale.specs.inner.CanonicalParts.{IsRunRefusal, IsRunRefusalOf, IsIdentifierRefusal, IsValuesRefusal, CountsSearchesOf, AreLaterEnds, AreChanges, with_changes}
+use Rattle.icu_locale.specs.inner.CanonicalParts.{IsRunRefusal, IsRunRefusalOf, IsIdentifierRefusal, IsValuesRefusal, CountsSearchesOf, AreLaterEnds}
+use Rattle.icu_locale.specs.inner.CanonicalParts.{AreChanges, with_changes}
 use Rattle.icu_locale.specs.declared.canonicalizer.rules.Rules.{Rules}
 use Rattle.icu_locale.specs.declared.canonicalizer.changes.Changes.{Changes}
 use Rattle.icu_locale.specs.declared.canonicalizer.CanonicalizeError.{CanonicalizeError}
@@ -85,7 +87,8 @@ module _ (likely : LikelySubtags) (rules : Rules) (old : Locale) where
 
   pub no_value_repeat : (changes : Changes) (v : List (List ℕ)) → AreChanges likely rules old changes → ValueComesAgainFirst likely rules old v → ⊥
   no_value_repeat changes v h (identifiers, repeats) =
-      no_value_repeats rules old.extensions.unicode.keywords (ValuesEnd-later rules old.extensions.unicode.keywords (changes.region_override, changes.subdivision) h.values) v repeats
+      no_value_repeats rules old.extensions.unicode.keywords (ValuesEnd-later rules old.extensions.unicode.keywords
+      (changes.region_override, changes.subdivision) h.values) v repeats
 
   same_first : (y z : LanguageIdentifier) → ComesAgainFirst likely rules old y → ComesAgainFirst likely rules old z → y ≡ z
   same_first y z (inl a) (inl b) = repeat_is_unique (next likely rules) old.id y z a b
@@ -93,12 +96,14 @@ module _ (likely : LikelySubtags) (rules : Rules) (old : Locale) where
   same_first y z (inr ((w, ended), a)) (inl b) = absurd (ends_with_no_repeat (next likely rules) old.id w z ended b.again)
   same_first y z (inr (ended, a)) (inr (ended2, b)) = same_repeat (by_language_alias rules) lang y z a b
 
-  pub named : {T : Type 0} (e : CanonicalizeError) (z : LanguageIdentifier) → IsRefusal likely rules old e → ComesAgainFirst likely rules old z → (◌≡◌ {A = Result T CanonicalizeError} (Err e) (Err (NoFixedPoint z))) ⊎ IsMemory e
+  pub named : {T : Type 0} (e : CanonicalizeError) (z : LanguageIdentifier) → IsRefusal likely rules old e
+      → ComesAgainFirst likely rules old z → (◌≡◌ {A = Result T CanonicalizeError} (Err e) (Err (NoFixedPoint z))) ⊎ IsMemory e
   named Memory z h first = inr tt
   named (NoFixedPoint y) z h first = inl (ap (λ w. Err (NoFixedPoint w)) (same_first y z h first))
   named (NoSubdivisionFixedPoint v) z (identifiers, repeats) first = absurd (none_first identifiers z first)
 
-  pub named_value : {T : Type 0} (e : CanonicalizeError) (v : List (List ℕ)) → IsRefusal likely rules old e → ValueComesAgainFirst likely rules old v → (◌≡◌ {A = Result T CanonicalizeError} (Err e) (Err (NoSubdivisionFixedPoint v))) ⊎ IsMemory e
+  pub named_value : {T : Type 0} (e : CanonicalizeError) (v : List (List ℕ)) → IsRefusal likely rules old e
+      → ValueComesAgainFirst likely rules old v → (◌≡◌ {A = Result T CanonicalizeError} (Err e) (Err (NoSubdivisionFixedPoint v))) ⊎ IsMemory e
   named_value Memory v h first = inr tt
   named_value (NoFixedPoint z) v h (identifiers, repeats) = absurd (none_first identifiers z h)
   named_value (NoSubdivisionFixedPoint w) v (before, a) (identifiers, b) =
@@ -109,7 +114,8 @@ module _ (likely : LikelySubtags) (rules : Rules) (old : Locale) where
   refused_id (NoFixedPoint z) h = inl h
   refused_id (NoSubdivisionFixedPoint v) h = h
 
-  pub refused_transform : (e : CanonicalizeError) (end : Option LanguageIdentifier) → IsLaterEnd (next likely rules) old.id end → IsRunRefusalOf (by_language_alias rules) lang e → IsIdentifierRefusal likely rules old e
+  pub refused_transform : (e : CanonicalizeError) (end : Option LanguageIdentifier) → IsLaterEnd (next likely rules) old.id end
+      → IsRunRefusalOf (by_language_alias rules) lang e → IsIdentifierRefusal likely rules old e
   refused_transform Memory end ends h = tt
   refused_transform (NoFixedPoint z) end ends h =
       inr ((unwrap_or end old.id, EndsAt-later_end (next likely rules) old.id end ends), h)
@@ -120,7 +126,8 @@ module _ (likely : LikelySubtags) (rules : Rules) (old : Locale) where
   refused_identifiers (NoFixedPoint z) h = h
   refused_identifiers (NoSubdivisionFixedPoint v) h = absurd h
 
-  pub refused_values : (ends : Option LanguageIdentifier × Option LanguageIdentifier) → AreLaterEnds likely rules old ends → (e : CanonicalizeError) → IsValuesRefusal rules old.extensions.unicode.keywords e → IsRefusal likely rules old e
+  pub refused_values : (ends : Option LanguageIdentifier × Option LanguageIdentifier) → AreLaterEnds likely rules old ends
+      → (e : CanonicalizeError) → IsValuesRefusal rules old.extensions.unicode.keywords e → IsRefusal likely rules old e
   refused_values ends are Memory h = tt
   refused_values ends are (NoFixedPoint z) h = absurd h
   refused_values ends are (NoSubdivisionFixedPoint v) h = (IdentifiersEnd-later ends are, h)
@@ -138,7 +145,8 @@ module _ (likely : LikelySubtags) (rules : Rules) (old : Locale) where
     subdivision = none_behind_any (next_value rules) (λ w. w ≡ []) (value_at text_cmp old.extensions.unicode.keywords sd) has.subdivision;
   }
     where
-      by : (o : Option LanguageIdentifier) → IfSome o (λ l. (by_language_alias rules l ≡ None) ⊎ (l.variants ≡ empty)) → IfSome o (AddsNoVariants (by_language_alias rules))
+      by : (o : Option LanguageIdentifier) → IfSome o (λ l. (by_language_alias rules l ≡ None) ⊎ (l.variants ≡ empty))
+          → IfSome o (AddsNoVariants (by_language_alias rules))
       by None h = tt
       by (Some l) (inl none) = none_stands_behind (by_language_alias rules) (λ z. z.variants ≡ empty) l none
       by (Some l) (inr bare) = free_bare (by_language_alias rules) l (λ y z none goes. bare_alias likely rules y z none goes) bare
@@ -151,7 +159,9 @@ module _ (likely : LikelySubtags) (rules : Rules) (old : Locale) where
       let counted = count_of likely rules true l in
       (counted.0, HasDistinct-from_count (by_language_alias rules) l counted.0 counted.1)
 
-  identifiers_where_ends : (a b : ℕ) (y : LanguageIdentifier) → EndsAt (next likely rules) old.id y → HasDistinct (next likely rules) old.id a → MatchOption lang (b ≡ 0) (λ l. HasDistinct (by_language_alias rules) l b) → HasIdentifiers likely rules old (a + b)
+  identifiers_where_ends : (a b : ℕ) (y : LanguageIdentifier) → EndsAt (next likely rules) old.id y
+      → HasDistinct (next likely rules) old.id a → MatchOption lang (b ≡ 0) (λ l. HasDistinct (by_language_alias rules) l b)
+      → HasIdentifiers likely rules old (a + b)
   identifiers_where_ends a b y ends of_run of_transform = record {
     in_run = a;
     in_transform = b;
@@ -161,7 +171,8 @@ module _ (likely : LikelySubtags) (rules : Rules) (old : Locale) where
     of_none = λ z repeats. absurd (ends_with_no_repeat (next likely rules) old.id y z ends repeats.again);
   }
 
-  identifiers_where_repeats : (a : ℕ) (z : LanguageIdentifier) → IsRepeat (next likely rules) old.id z → HasDistinct (next likely rules) old.id a → HasIdentifiers likely rules old (a + 0)
+  identifiers_where_repeats : (a : ℕ) (z : LanguageIdentifier) → IsRepeat (next likely rules) old.id z
+      → HasDistinct (next likely rules) old.id a → HasIdentifiers likely rules old (a + 0)
   identifiers_where_repeats a z repeats of_run = record {
     in_run = a;
     in_transform = 0;
@@ -171,16 +182,23 @@ module _ (likely : LikelySubtags) (rules : Rules) (old : Locale) where
     of_none = λ w again. refl;
   }
 
-  identifiers : (a : ℕ) → HasDistinct (next likely rules) old.id a → (b : ℕ) × HasIdentifiers likely rules old (a + b) × ((z : LanguageIdentifier) → IsRepeat (next likely rules) old.id z → b ≡ 0)
+  identifiers : (a : ℕ) → HasDistinct (next likely rules) old.id a → (b : ℕ) × HasIdentifiers likely rules old (a + b)
+      × ((z : LanguageIdentifier) → IsRepeat (next likely rules) old.id z → b ≡ 0)
   identifiers a of_run =
       elim (end_or_repeat likely rules false old.id) [
         | inl (y, ends) ↦
-            let counted = transform_count lang in
-            (counted.0, identifiers_where_ends a counted.0 y ends of_run counted.1, λ z repeats. absurd (ends_with_no_repeat (next likely rules) old.id y z ends repeats.again))
+            let counted = transform_count lang in (
+              counted.0,
+              identifiers_where_ends a counted.0 y ends of_run counted.1,
+              λ z repeats. absurd
+                  (ends_with_no_repeat (next likely rules) old.id y z ends repeats.again),
+            )
         | inr (z, repeats) ↦ (0, identifiers_where_repeats a z repeats of_run, λ w again. refl)
       ]
 
-  least_of_refusal : (e : CanonicalizeError) (before after a b : ℕ) → IsRunRefusal (next likely rules) old.id e → ((z : LanguageIdentifier) → IsRepeat (next likely rules) old.id z → b ≡ 0) → (¬ (IsMemory e) → before + a ≤ after) → ¬ (IsMemory e) → before + (a + b) ≤ after
+  least_of_refusal : (e : CanonicalizeError) (before after a b : ℕ) → IsRunRefusal (next likely rules) old.id e
+      → ((z : LanguageIdentifier) → IsRepeat (next likely rules) old.id z → b ≡ 0) → (¬ (IsMemory e) → before + a ≤ after) → ¬ (IsMemory e)
+      → before + (a + b) ≤ after
   least_of_refusal Memory before after a b h zero_there least no_memory = absurd (no_memory tt)
   least_of_refusal (NoSubdivisionFixedPoint v) before after a b h zero_there least no_memory = absurd h
   least_of_refusal (NoFixedPoint z) before after a b h zero_there least no_memory =
@@ -189,14 +207,27 @@ module _ (likely : LikelySubtags) (rules : Rules) (old : Locale) where
       omega (arith, nothing, enough)
 
   -- where the identifier's run is refused
-  pub counted_refusal : {T U : Type 0} (e : CanonicalizeError) (before after : ℕ) → IsRunRefusal (next likely rules) old.id e → CountsSearchesOf {T = T} (next likely rules) (Some old.id) (Err e) before after → (n : ℕ) × HasIdentifiers likely rules old n × CountsSearches {T = U} (Err e) before after n
+  pub counted_refusal : {T U : Type 0} (e : CanonicalizeError) (before after : ℕ) → IsRunRefusal (next likely rules) old.id e
+      → CountsSearchesOf {T = T} (next likely rules) (Some old.id) (Err e) before after → (n : ℕ) × HasIdentifiers likely rules old n
+      × CountsSearches {T = U} (Err e) before after n
   counted_refusal e before after h (a, of_run, counted) =
       let all = identifiers a of_run in
-      let most : after ≤ before + 6 * a = counted.most in
-      (a + all.0, all.1, record { forward = counted.forward; most = omega (arith, most); least = least_of_refusal e before after a all.0 h all.2 counted.least })
+      let most : after ≤ before + 6 * a = counted.most in (
+        a + all.0,
+        all.1,
+        record {
+          forward = counted.forward;
+          most = omega (arith, most);
+          least = least_of_refusal e before after a all.0 h all.2 counted.least;
+        },
+      )
 
   -- where it ends
-  pub counted_both : {T U V : Type 0} (id : Result T CanonicalizeError) (transform : Result U CanonicalizeError) (whole : Result V CanonicalizeError) (end : Option LanguageIdentifier) (before middle after : ℕ) → ¬ (IsOutOfMemory id) → (IsOutOfMemory transform → IsOutOfMemory whole) → IsLaterEnd (next likely rules) old.id end → CountsSearchesOf (next likely rules) (Some old.id) id before middle → CountsSearchesOf (by_language_alias rules) lang transform middle after → (n : ℕ) × HasIdentifiers likely rules old n × CountsSearches whole before after n
+  pub counted_both : {T U V : Type 0} (id : Result T CanonicalizeError) (transform : Result U CanonicalizeError)
+      (whole : Result V CanonicalizeError) (end : Option LanguageIdentifier) (before middle after : ℕ) → ¬ (IsOutOfMemory id)
+      → (IsOutOfMemory transform → IsOutOfMemory whole) → IsLaterEnd (next likely rules) old.id end
+      → CountsSearchesOf (next likely rules) (Some old.id) id before middle → CountsSearchesOf
+      (by_language_alias rules) lang transform middle after → (n : ℕ) × HasIdentifiers likely rules old n × CountsSearches whole before after n
   counted_both id transform whole end before middle after fine passes ends (a, of_run, first) (b, of_transform, second) =
       let forward_first : before ≤ middle = first.forward in
       let forward_second : middle ≤ after = second.forward in
@@ -215,7 +246,8 @@ module _ (likely : LikelySubtags) (rules : Rules) (old : Locale) where
       )
 
 -- a count of searches that succeeded is one of whatever follows them
-pub counts_whole : {T U : Type 0} (x : T) (whole : Result U CanonicalizeError) (before after n : ℕ) → CountsSearches {T = T} (Ok x) before after n → CountsSearches whole before after n
+pub counts_whole : {T U : Type 0} (x : T) (whole : Result U CanonicalizeError) (before after n : ℕ)
+    → CountsSearches {T = T} (Ok x) before after n → CountsSearches whole before after n
 counts_whole x whole before after n counted = record {
   forward = counted.forward;
   most = counted.most;

@@ -1,5 +1,6 @@
 -- A run that stays among finitely many states has a count: so many places hold all its states, each once.
-use Rattle.std.proofs.Common.{◌≡◌, ◌≢◌, ℕ, zero, suc, ◌+◌, ◌-◌, ◌<◌, ◌≤◌, ◌⊎◌, inl, inr, Bool, true, List, length, get_or, map, Option, Some, None, option_and_then, unwrap_or, refl, sym, ap, ◌∙◌, subst, arith}
+use Rattle.std.proofs.Common.{◌≡◌, ◌≢◌, ℕ, zero, suc, ◌+◌, ◌-◌, ◌<◌, ◌≤◌, ◌⊎◌, inl, inr, Bool, true, List, length, get_or, map, Option, Some, None}
+use Rattle.std.proofs.Common.{option_and_then, unwrap_or, refl, sym, ap, ◌∙◌, subst, arith}
 use Rattle.std.specs.List.{Contains, range_with_len, remove}
 use Rattle.std.specs.Cmp.{IsEquivalence}
 use Rattle.std.proofs.lemmas.Bool.{cases_Bool, cases_eq, cases_order, false≢true}
@@ -27,7 +28,8 @@ pigeonhole : {X : Type 0} (n : ℕ) (xs : List X) (f : ℕ → X) → ((i j : �
 pigeonhole zero xs f apart within = omega arith
 pigeonhole (suc n) xs f apart within =
     let last = within n (omega arith) in
-    let rest : n ≤ length (remove xs last.0) = pigeonhole n (remove xs last.0) f (λ i j below h. apart i j below (omega arith)) (λ i below. Contains-remove xs last.0 (f n) (f i) last.1 last.2 (within i (omega arith)) (apart i n below (omega arith))) in
+    let rest : n ≤ length (remove xs last.0) = pigeonhole n (remove xs last.0) f (λ i j below h. apart i j below (omega arith))
+    (λ i below. Contains-remove xs last.0 (f n) (f i) last.1 last.2 (within i (omega arith)) (apart i n below (omega arith))) in
     omega (arith, length-remove xs last.0 last.1, rest)
 
 -- what an option that is not none holds
@@ -68,7 +70,8 @@ module _ {X : Type 0} (next : X → Option X) (start : X) where
       (λ i j before below same. front.apart i j before below (is i (omega arith) ∙ (ap Some same ∙ sym (is j below))))
       (λ i below. stays_within states universe i (value i) (is i below))
 
-  found_before : (same : (y z : X) → (y ≡ z) ⊎ (y ≢ z)) (k : ℕ) (o : Option X) → ((i : ℕ) × (i < k) × (at next start i ≡ o)) ⊎ ((i : ℕ) → i < k → at next start i ≢ o)
+  found_before : (same : (y z : X) → (y ≡ z) ⊎ (y ≢ z)) (k : ℕ) (o : Option X) → ((i : ℕ) × (i < k) × (at next start i ≡ o))
+      ⊎ ((i : ℕ) → i < k → at next start i ≢ o)
   found_before same zero o = inr (λ i below e. omega arith)
   found_before same (suc k) o =
       elim (found_before same k o) [
@@ -113,7 +116,8 @@ module _ {X : Type 0} (next : X → Option X) (start : X) where
         ]
       ]
 
-  pub has_count : (same : (y z : X) → (y ≡ z) ⊎ (y ≢ z)) (states : List X) → IsUniverse next start states → (n : ℕ) × (n ≤ length states) × IsFullFront next start n
+  pub has_count : (same : (y z : X) → (y ≡ z) ⊎ (y ≢ z)) (states : List X) → IsUniverse next start states → (n : ℕ) × (n ≤ length states)
+      × IsFullFront next start n
   has_count same states universe =
       elim (count_or_front same (suc (length states))) [
         | inl (m, below, is) ↦ (m, omega arith, is)
@@ -121,7 +125,8 @@ module _ {X : Type 0} (next : X → Option X) (start : X) where
       ]
 
   -- a run that stays in a universe has a count, no larger than the universe
-  pub count_of_run : (eq : X → X → Bool) → IsEquivalence eq → ((y z : X) → eq y z ≡ true → y ≡ z) → (states : List X) → IsUniverse next start states → (n : ℕ) × (n ≤ length states) × IsFullFront next start n
+  pub count_of_run : (eq : X → X → Bool) → IsEquivalence eq → ((y z : X) → eq y z ≡ true → y ≡ z) → (states : List X)
+      → IsUniverse next start states → (n : ℕ) × (n ≤ length states) × IsFullFront next start n
   count_of_run eq laws exact = has_count (decided eq laws exact)
 
   pub count_positive : (n : ℕ) → IsFullFront next start n → 0 < n
@@ -162,7 +167,8 @@ module _ {X : Type 0} (next : X → Option X) (start : X) where
           no_other = λ y (k, below, there). (k, holds k (omega (arith, long)) ∙ ap Some (sym (reads k y (omega (arith, long))) ∙ there));
           once = λ i j d before below e.
               let within : j < n = omega (arith, long) in
-              is.front.apart i j before within (holds i (omega arith) ∙ (ap Some (sym (reads i d (omega arith)) ∙ (e ∙ reads j d within)) ∙ sym (holds j within)));
+              is.front.apart i j before within (holds i (omega arith) ∙ (ap Some (sym (reads i d (omega arith)) ∙ (e ∙ reads j d within))
+              ∙ sym (holds j within)));
         },
         long,
       )

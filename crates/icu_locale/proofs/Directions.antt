@@ -1,5 +1,6 @@
 -- Over lists that share no script, the list of scripts from right to left decides alone.
-use Rattle.std.proofs.Common.{◌≡◌, ℕ, Bool, true, false, not, ◌&&◌, cond, IsTrue, List, [], ◌∷◌, Option, Some, None, is_some, ◌↔◌, if◌then◌else◌, refl, ap, sym, ◌∙◌}
+use Rattle.std.proofs.Common.{◌≡◌, ℕ, Bool, true, false, not, ◌&&◌, cond, IsTrue, List, [], ◌∷◌, Option, Some, None, is_some, ◌↔◌, if◌then◌else◌}
+use Rattle.std.proofs.Common.{refl, ap, sym, ◌∙◌}
 use Rattle.std.proofs.lemmas.Bool.{false≢true, and_parts}
 use Rattle.std.proofs.lemmas.Cmp.{tied_itself}
 use Rattle.std.specs.BTreeMap.{is_at}

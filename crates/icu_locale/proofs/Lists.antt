@@ -58,7 +58,8 @@ Contains-from_flat_map f (w ∷ xs) y here =
       | inr later ↦ let found = Contains-from_flat_map f xs y later in (found.0, Contains-there w found.0 xs found.1, found.2)
     ]
 
-find-step : {X : Type 0} (p : X → Bool) (w : X) (xs : List X) (x : X) (test : Bool) → p w ≡ test → cond test (Some w) (find p xs) ≡ Some x → (find p xs ≡ Some x → Contains xs x) → Contains (w ∷ xs) x
+find-step : {X : Type 0} (p : X → Bool) (w : X) (xs : List X) (x : X) (test : Bool) → p w ≡ test → cond test (Some w) (find p xs) ≡ Some x
+    → (find p xs ≡ Some x → Contains xs x) → Contains (w ∷ xs) x
 find-step p w xs x true e found rest = subst (Contains (w ∷ xs)) (same_Some w x found) (Contains-here w xs)
 find-step p w xs x false e found rest = Contains-there w x xs (rest found)
 

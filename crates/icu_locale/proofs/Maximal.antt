@@ -6,7 +6,8 @@ use Rattle.std.specs.Str.{bytes_eq}
 use Rattle.std.proofs.lemmas.Bool.{and_parts, and_from, false≢true, cases_cond, cases_Bool}
 use Rattle.std.proofs.lemmas.Slice.Eq.{bytes_eq-Decides}
 use Rattle.icu_provider.specs.declared.data_locale.DataLocale.{DataLocale}
-use Rattle.icu_locale.specs.LikelySubtags.{LikelySubtags, maximal_locale, Triple, known_subtag, unknown_script, unknown_region, bare_locale, filled_from, maximal_of_bare, IsModified, subtags_of, maximal, with_locale}
+use Rattle.icu_locale.specs.LikelySubtags.{LikelySubtags, maximal_locale, Triple, known_subtag, unknown_script, unknown_region, bare_locale}
+use Rattle.icu_locale.specs.LikelySubtags.{filled_from, maximal_of_bare, IsModified, subtags_of, maximal, with_locale}
 use Rattle.icu_locale.specs.inner.Trials.{same_locale}
 use Rattle.icu_locale_core.specs.laws.Identifiers.{identifiers_decide, same_parts}
 use Rattle.icu_locale_core.specs.declared.langid.LanguageIdentifier.{LanguageIdentifier}
@@ -41,7 +42,9 @@ same_from_test x y e =
 
 -- a locale is the same as itself
 pub test_itself : (x : DataLocale) → same_locale x x ≡ true
-test_itself x = and_from (bytes_eq x.language x.language) (option_eq bytes_eq x.script x.script && option_eq bytes_eq x.region x.region) (text_itself x.language) (and_from (option_eq bytes_eq x.script x.script) (option_eq bytes_eq x.region x.region) (subtag_itself x.script) (subtag_itself x.region))
+test_itself x = and_from (bytes_eq x.language x.language) (option_eq bytes_eq x.script x.script && option_eq bytes_eq x.region x.region)
+    (text_itself x.language) (and_from (option_eq bytes_eq x.script x.script) (option_eq bytes_eq x.region x.region)
+    (subtag_itself x.script) (subtag_itself x.region))
 
 -- the test is true exactly for equal locales
 pub same_locale-Decides : (x y : DataLocale) → Decides (same_locale x y) (x ≡ y)
@@ -58,7 +61,8 @@ known_subtag-cases unknown t = cases_cond (bytes_eq t unknown) None (Some t) (kn
 -- what stays is not removed later
 pub known_subtag-again : (unknown : List ℕ) (x : Option (List ℕ)) → known_subtag unknown (known_subtag unknown x) ≡ known_subtag unknown x
 known_subtag-again unknown None = refl
-known_subtag-again unknown (Some t) = ⊎_elim (λ gone. ap (known_subtag unknown) gone ∙ sym gone) (λ stays. ap (known_subtag unknown) stays) (known_subtag-cases unknown t)
+known_subtag-again unknown (Some t) = ⊎_elim (λ gone. ap (known_subtag unknown) gone ∙ sym gone) (λ stays. ap (known_subtag unknown) stays)
+    (known_subtag-cases unknown t)
 
 -- a bare locale is bare
 pub bare_locale-again : (x : DataLocale) → bare_locale (bare_locale x) ≡ bare_locale x

@@ -1,5 +1,6 @@
 -- A negotiator finds the first available identifier with the maximal form of a request.
-use Rattle.std.proofs.Common.{◌≡◌, ◌↔◌, ℕ, ◌+◌, ◌<◌, ◌≤◌, List, [], ◌∷◌, ◌++◌, length, get_or, Option, Some, None, refl, ap, sym, ◌∙◌, subst, inl, inr, ⊎_elim, arith}
+use Rattle.std.proofs.Common.{◌≡◌, ◌↔◌, ℕ, ◌+◌, ◌<◌, ◌≤◌, List, [], ◌∷◌, ◌++◌, length, get_or, Option, Some, None, refl, ap, sym, ◌∙◌, subst, inl}
+use Rattle.std.proofs.Common.{inr, ⊎_elim, arith}
 use Rattle.std.specs.List.{All, AllWithin, Contains, slice_get}
 use Rattle.std.specs.List.Sorted.{IsPermutation, IsSorted}
 use Rattle.std.proofs.lemmas.Bool.{false≢true, cases_lt}
@@ -25,7 +26,8 @@ use Rattle.icu_locale.specs.inner.Index.{AreListed, IsPartOf, HasVariants, IsFir
 
 -- minimal forms are equal exactly where maximal forms are
 abbrev pub TellsApart : Type 0
-TellsApart = (favor : Favor) (table : LikelySubtags) (x y u v : LanguageIdentifier) → IsSettled table (maximal table x) → IsSettled table (maximal table y) → IsMinimalForm favor table x u → IsMinimalForm favor table y v → (u ≡ v) ↔ (maximal table x ≡ maximal table y)
+TellsApart = (favor : Favor) (table : LikelySubtags) (x y u v : LanguageIdentifier) → IsSettled table (maximal table x)
+    → IsSettled table (maximal table y) → IsMinimalForm favor table x u → IsMinimalForm favor table y v → (u ≡ v) ↔ (maximal table x ≡ maximal table y)
 
 -- maximal forms are equal exactly where their parts are
 abbrev pub GoesByParts : Type 0
@@ -43,7 +45,8 @@ plain_is_identifier x known = record {
 
 -- two identifiers have equal maximal forms exactly where, variants aside, their minimal forms are equal, and their
 -- variants are
-module _ (tells : TellsApart) (by_parts : GoesByParts) (likely : LikelySubtags) (settled : AreSettled likely) (x y : LanguageIdentifier) (d e : DataLocale) (known_x : IsIdentifier x) (known_y : IsIdentifier y) (form_x : IsPlainForm likely x d) (form_y : IsPlainForm likely y e) where
+module _ (tells : TellsApart) (by_parts : GoesByParts) (likely : LikelySubtags) (settled : AreSettled likely) (x y : LanguageIdentifier)
+    (d e : DataLocale) (known_x : IsIdentifier x) (known_y : IsIdentifier y) (form_x : IsPlainForm likely x d) (form_y : IsPlainForm likely y e) where
   abbrev px : LanguageIdentifier
   px = without_variants (subtags_of x)
 
@@ -51,7 +54,8 @@ module _ (tells : TellsApart) (by_parts : GoesByParts) (likely : LikelySubtags) 
   py = without_variants (subtags_of y)
 
   apart : (without_variants d ≡ without_variants e) ↔ (maximal likely px ≡ maximal likely py)
-  apart = tells RegionFirst likely px py (without_variants d) (without_variants e) (settled px (plain_is_identifier x known_x)) (settled py (plain_is_identifier y known_y)) form_x form_y
+  apart = tells RegionFirst likely px py (without_variants d) (without_variants e) (settled px (plain_is_identifier x known_x))
+      (settled py (plain_is_identifier y known_y)) form_x form_y
 
   pub same_maximal_form : d ≡ e → x.variants ≡ y.variants → maximal likely x ≡ maximal likely y
   same_maximal_form same variants =
@@ -69,7 +73,8 @@ module _ (tells : TellsApart) (by_parts : GoesByParts) (likely : LikelySubtags) 
 
 module _ (likely : LikelySubtags) (available : List LanguageIdentifier) where
   -- one more row
-  pub AreListed-push : (n : ℕ) (rows : List Row) (r : Row) → AreListed likely available n rows → IsRowOf likely available r → r.place ≡ n → AreListed likely available (n + 1) (rows ++ r ∷ [])
+  pub AreListed-push : (n : ℕ) (rows : List Row) (r : Row) → AreListed likely available n rows → IsRowOf likely available r → r.place ≡ n
+      → AreListed likely available (n + 1) (rows ++ r ∷ [])
   AreListed-push n rows r listed is place = record {
     count = length_push rows r ∙ ap (λ m. m + 1) listed.count;
     each_row = All-push (IsRowOf likely available) rows r listed.each_row is;
@@ -82,7 +87,8 @@ module _ (likely : LikelySubtags) (available : List LanguageIdentifier) where
   }
 
   -- sorted, they are the index
-  pub IsIndex-sorted : (rows sorted : List Row) → AreListed likely available (length available) rows → IsPermutation rows sorted → IsSorted row_cmp sorted → IsIndex likely available sorted
+  pub IsIndex-sorted : (rows sorted : List Row) → AreListed likely available (length available) rows → IsPermutation rows sorted
+      → IsSorted row_cmp sorted → IsIndex likely available sorted
   IsIndex-sorted rows sorted listed moved order = record {
     each_row = All-permutation (IsRowOf likely available) rows sorted moved listed.each_row;
     each_place = λ k lt.
@@ -95,31 +101,40 @@ module _ (likely : LikelySubtags) (available : List LanguageIdentifier) where
 -- ---- the walk over a part
 
 -- what was read at the place of a row stands there
-pub read_at_place : (available : List LanguageIdentifier) (rows : List Row) (k : ℕ) (r : Row) (y : LanguageIdentifier) → All (λ s. s.place < length available) rows → k < length rows → r ≡ get_or rows k r → y ≡ get_or available r.place y → slice_get available r.place ≡ Some y
+pub read_at_place : (available : List LanguageIdentifier) (rows : List Row) (k : ℕ) (r : Row) (y : LanguageIdentifier)
+    → All (λ s. s.place < length available) rows → k < length rows → r ≡ get_or rows k r → y ≡ get_or available r.place y → slice_get available r.place ≡ Some y
 read_at_place available rows k r y in_range lt is here =
     slice_get_read available (length available) r.place y refl (subst (λ (s : Row). s.place < length available) (sym is) (in_range k r lt)) here
 
 -- a row whose identifier has other variants
-pub other_variants : (available : List LanguageIdentifier) (variants : TextSet) (r : Row) (y : LanguageIdentifier) → slice_get available r.place ≡ Some y → (y.variants ≡ variants → ⊥) → HasVariants available variants r → ⊥
+pub other_variants : (available : List LanguageIdentifier) (variants : TextSet) (r : Row) (y : LanguageIdentifier)
+    → slice_get available r.place ≡ Some y → (y.variants ≡ variants → ⊥) → HasVariants available variants r → ⊥
 other_variants available variants r y stands other has =
     other (ap (λ (z : LanguageIdentifier). z.variants) (same_Some _ _ (sym stands ∙ has.stands)) ∙ has.same)
 
 -- one more row that has not the variants
-pub none_more : (available : List LanguageIdentifier) (variants : TextSet) (rows : List Row) (n : ℕ) (r : Row) → AllWithin (λ s. HasVariants available variants s → ⊥) rows 0 n → n < length rows → r ≡ get_or rows n r → (HasVariants available variants r → ⊥) → AllWithin (λ s. HasVariants available variants s → ⊥) rows 0 (n + 1)
-none_more available variants rows n r before lt is none = AllWithin-more (λ s. HasVariants available variants s → ⊥) rows 0 n before (λ e. subst (λ (s : Row). HasVariants available variants s → ⊥) (get_or_read rows n r lt is e) none)
+pub none_more : (available : List LanguageIdentifier) (variants : TextSet) (rows : List Row) (n : ℕ) (r : Row)
+    → AllWithin (λ s. HasVariants available variants s → ⊥) rows 0 n → n < length rows → r ≡ get_or rows n r
+    → (HasVariants available variants r → ⊥) → AllWithin (λ s. HasVariants available variants s → ⊥) rows 0 (n + 1)
+none_more available variants rows n r before lt is none = AllWithin-more (λ s. HasVariants available variants s → ⊥) rows 0 n before
+    (λ e. subst (λ (s : Row). HasVariants available variants s → ⊥) (get_or_read rows n r lt is e) none)
 
 -- ---- what is found
 
 -- each row of the part is one of the index
-pub rows_of_part : (likely : LikelySubtags) (available : List LanguageIdentifier) (rows part : List Row) (d : DataLocale) → IsIndex likely available rows → IsPartOf rows d part → (r : Row) → Contains part r → IsRowOf likely available r
+pub rows_of_part : (likely : LikelySubtags) (available : List LanguageIdentifier) (rows part : List Row) (d : DataLocale)
+    → IsIndex likely available rows → IsPartOf rows d part → (r : Row) → Contains part r → IsRowOf likely available r
 rows_of_part likely available rows part d index is r here = All-contains (IsRowOf likely available) rows r index.each_row (is.among r here)
 
-pub places_in_range : (likely : LikelySubtags) (available : List LanguageIdentifier) (rows part : List Row) (d : DataLocale) → IsIndex likely available rows → IsPartOf rows d part → All (λ r. r.place < length available) part
+pub places_in_range : (likely : LikelySubtags) (available : List LanguageIdentifier) (rows part : List Row) (d : DataLocale)
+    → IsIndex likely available rows → IsPartOf rows d part → All (λ r. r.place < length available) part
 places_in_range likely available rows part d index is k e lt =
     let row = rows_of_part likely available rows part d index is (get_or part k e) (Contains-get_or part k e lt) in
     slice_get_within available (get_or part k e).place row.identifier row.stands
 
-module _ (tells : TellsApart) (by_parts : GoesByParts) (likely : LikelySubtags) (settled : AreSettled likely) (available : List LanguageIdentifier) (rows : List Row) (index : IsIndex likely available rows) (x : LanguageIdentifier) (known : IsIdentifier x) (d : DataLocale) (form : IsPlainForm likely x d) (part : List Row) (is : IsPartOf rows d part) where
+module _ (tells : TellsApart) (by_parts : GoesByParts) (likely : LikelySubtags) (settled : AreSettled likely)
+    (available : List LanguageIdentifier) (rows : List Row) (index : IsIndex likely available rows) (x : LanguageIdentifier)
+    (known : IsIdentifier x) (d : DataLocale) (form : IsPlainForm likely x d) (part : List Row) (is : IsPartOf rows d part) where
   -- where an available identifier has the maximal form of x, its row is in the part, and has the variants of x
   row_of_meaning : (k : ℕ) → MeansAt likely available x k → (r : Row) × Contains part r × (r.place ≡ k) × HasVariants available x.variants r
   row_of_meaning k means =
@@ -127,7 +142,8 @@ module _ (tells : TellsApart) (by_parts : GoesByParts) (likely : LikelySubtags) 
       let r : Row = found.0 in
       let row = All-contains (IsRowOf likely available) rows r index.each_row found.1 in
       let same : row.identifier ≡ means.identifier = same_Some _ _ (sym row.stands ∙ ap (slice_get available) found.2 ∙ means.stands) in
-      let told = same_plain_form tells by_parts likely settled x row.identifier d r.minimal known row.known form row.form (means.same ∙ ap (maximal likely) (sym same)) in
+      let told = same_plain_form tells by_parts likely settled x row.identifier d r.minimal known row.known form row.form
+      (means.same ∙ ap (maximal likely) (sym same)) in
       (r, is.each r found.1 (sym told.0), found.2, record { identifier = row.identifier; stands = row.stands; same = sym told.1 })
 
   -- and the other way round
@@ -138,7 +154,8 @@ module _ (tells : TellsApart) (by_parts : GoesByParts) (likely : LikelySubtags) 
       record {
         identifier = row.identifier;
         stands = row.stands;
-        same = same_maximal_form tells by_parts likely settled x row.identifier d r.minimal known row.known form row.form (sym (is.form r here)) (sym has.same ∙ ap (λ (y : LanguageIdentifier). y.variants) same);
+        same = same_maximal_form tells by_parts likely settled x row.identifier d r.minimal known row.known form row.form
+            (sym (is.form r here)) (sym has.same ∙ ap (λ (y : LanguageIdentifier). y.variants) same);
       }
 
   -- so the first row with the variants of x has the first place
@@ -165,14 +182,16 @@ module _ (tells : TellsApart) (by_parts : GoesByParts) (likely : LikelySubtags) 
 
 -- ---- the requests
 
-module _ (likely : LikelySubtags) (requests available : List LanguageIdentifier) (asked : ℕ) (before : (i j : ℕ) → i < asked → IsMatch likely requests available i j → ⊥) where
+module _ (likely : LikelySubtags) (requests available : List LanguageIdentifier) (asked : ℕ)
+    (before : (i j : ℕ) → i < asked → IsMatch likely requests available i j → ⊥) where
   means_for : (x : LanguageIdentifier) (k l : ℕ) → slice_get requests k ≡ Some x → IsMatch likely requests available k l → MeansAt likely available x l
   means_for x k l here match =
       let same : match.request ≡ x = same_Some _ _ (sym match.requested ∙ here) in
       record { identifier = match.identifier; stands = match.offered; same = ap (maximal likely) (sym same) ∙ match.same }
 
   -- where no earlier request matches, the first place for this one is the first match
-  pub IsFirstMatch-found : (x : LanguageIdentifier) (place : ℕ) → slice_get requests asked ≡ Some x → IsFirstPlace likely available x (Some place) → IsFirstMatch likely requests available asked place
+  pub IsFirstMatch-found : (x : LanguageIdentifier) (place : ℕ) → slice_get requests asked ≡ Some x
+      → IsFirstPlace likely available x (Some place) → IsFirstMatch likely requests available asked place
   IsFirstMatch-found x place here (means, first) = record {
     matches = record { request = x; identifier = means.identifier; requested = here; offered = means.stands; same = means.same };
     first = λ k l match. ⊎_elim
@@ -187,7 +206,8 @@ module _ (likely : LikelySubtags) (requests available : List LanguageIdentifier)
   }
 
   -- where there is none, no request up to this one matches
-  pub no_match_more : (x : LanguageIdentifier) → slice_get requests asked ≡ Some x → IsFirstPlace likely available x None → (i j : ℕ) → i < asked + 1 → IsMatch likely requests available i j → ⊥
+  pub no_match_more : (x : LanguageIdentifier) → slice_get requests asked ≡ Some x → IsFirstPlace likely available x None → (i j : ℕ)
+      → i < asked + 1 → IsMatch likely requests available i j → ⊥
   no_match_more x here none i j upto match = ⊎_elim
       (λ earlier. before i j earlier match)
       (λ later.

@@ -1,5 +1,6 @@
 -- What is kept of rows, one row after another.
-use Rattle.std.proofs.Common.{◌≡◌, ℕ, zero, suc, ◌<◌, Bool, true, false, ◌&&◌, List, [], ◌∷◌, ◌++◌, map, length, get_or, Option, Some, None, inl, inr, refl, ap, sym, ◌∙◌, subst, arith, append-nil}
+use Rattle.std.proofs.Common.{◌≡◌, ℕ, zero, suc, ◌<◌, Bool, true, false, ◌&&◌, List, [], ◌∷◌, ◌++◌, map, length, get_or, Option, Some, None, inl, inr}
+use Rattle.std.proofs.Common.{refl, ap, sym, ◌∙◌, subst, arith, append-nil}
 use Rattle.std.specs.List.{list_all, AllByRecursion}
 use Rattle.std.specs.List.Sorted.{IsStrictlySortedBy}
 use Rattle.std.specs.Map.{keys_of}
@@ -11,7 +12,8 @@ use Rattle.icu_locale.specs.Rules.{AreRead}
 
 module _ {R K : Type 0} (reads : R → K → Type 0) where
   -- one more row that is read
-  pub AreRead-push : (rows : List R) (kept : List K) (row : R) (k : K) → AreRead reads rows kept → reads row k → AreRead reads (rows ++ row ∷ []) (kept ++ k ∷ [])
+  pub AreRead-push : (rows : List R) (kept : List K) (row : R) (k : K) → AreRead reads rows kept → reads row k
+      → AreRead reads (rows ++ row ∷ []) (kept ++ k ∷ [])
   AreRead-push [] kept row k none read = inl (k, [], ap (λ ks. ks ++ k ∷ []) none, read, refl)
   AreRead-push (r ∷ rows) kept row k (inl (first, rest, is, here, later)) read =
       inl (first, rest ++ k ∷ [], ap (λ ks. ks ++ k ∷ []) is, here, AreRead-push rows rest row k later read)
@@ -24,12 +26,14 @@ module _ {R K : Type 0} (reads : R → K → Type 0) where
   AreRead-skip (r ∷ rows) kept row (inr (no_first, later)) off = inr (no_first, AreRead-skip rows kept row later off)
 
   -- one more row, whether it can be read or not
-  pub AreRead-more : (rows : List R) (kept : List K) (row : R) (k : Option K) → AreRead reads rows kept → MatchOption k ((any : K) → ¬ (reads row any)) (reads row) → AreRead reads (rows ++ row ∷ []) (kept ++ option_to_list k)
+  pub AreRead-more : (rows : List R) (kept : List K) (row : R) (k : Option K) → AreRead reads rows kept
+      → MatchOption k ((any : K) → ¬ (reads row any)) (reads row) → AreRead reads (rows ++ row ∷ []) (kept ++ option_to_list k)
   AreRead-more rows kept row (Some k) so_far read = AreRead-push rows kept row k so_far read
   AreRead-more rows kept row None so_far off = subst (AreRead reads (rows ++ row ∷ [])) (sym (append-nil kept)) (AreRead-skip rows kept row so_far off)
 
 -- a test of each piece fails where it fails of one
-pub list_all-off : {X : Type 0} (p : List ℕ → Bool) (f : X → List ℕ) (xs : List X) (k : ℕ) (d : X) → k < length xs → p (f (get_or xs k d)) ≡ false → list_all p (map f xs) ≡ false
+pub list_all-off : {X : Type 0} (p : List ℕ → Bool) (f : X → List ℕ) (xs : List X) (k : ℕ) (d : X) → k < length xs
+    → p (f (get_or xs k d)) ≡ false → list_all p (map f xs) ≡ false
 list_all-off p f [] k d within off = absurd (omega arith)
 list_all-off p f (x ∷ xs) zero d within off = ap (λ b. b && list_all p (map f xs)) off
 list_all-off p f (x ∷ xs) (suc k) d within off = rw (list_all-off p f xs k d (omega arith) off) (and_false (p (f x)))
@@ -40,16 +44,24 @@ list_all-off p f (x ∷ xs) (suc k) d within off = rw (list_all-off p f xs k d (
 
 -- ---- keys that rise still rise among the rows that were read
 
-module _ {V W : Type 0} (reads : (List ℕ × V) → (List ℕ × W) → Type 0) (same_key : (row : List ℕ × V) (kept : List ℕ × W) → reads row kept → kept.0 ≡ row.0) where
-  above_all : (x : List ℕ) (rows : List (List ℕ × V)) (kept : List (List ℕ × W)) → AreRead reads rows kept → AllByRecursion (λ y. text_cmp x y ≡ Less) (keys_of rows) → AllByRecursion (λ y. text_cmp x y ≡ Less) (keys_of kept)
+module _ {V W : Type 0} (reads : (List ℕ × V) → (List ℕ × W) → Type 0) (same_key : (row : List ℕ × V) (kept : List ℕ × W) → reads row kept
+    → kept.0 ≡ row.0) where
+  above_all : (x : List ℕ) (rows : List (List ℕ × V)) (kept : List (List ℕ × W)) → AreRead reads rows kept
+      → AllByRecursion (λ y. text_cmp x y ≡ Less) (keys_of rows) → AllByRecursion (λ y. text_cmp x y ≡ Less) (keys_of kept)
   above_all x [] kept none above = subst (λ ks. AllByRecursion (λ y. text_cmp x y ≡ Less) (keys_of ks)) (sym none) tt
   above_all x (row ∷ rows) kept (inl (k, rest, is, here, later)) above =
-      subst (λ ks. AllByRecursion (λ y. text_cmp x y ≡ Less) (keys_of ks)) (sym is) (ap (text_cmp x) (same_key row k here) ∙ above.0, above_all x rows rest later above.1)
+      subst (λ ks. AllByRecursion (λ y. text_cmp x y ≡ Less) (keys_of ks)) (sym is)
+      (ap (text_cmp x) (same_key row k here) ∙ above.0, above_all x rows rest later above.1)
   above_all x (row ∷ rows) kept (inr (off, later)) above = above_all x rows kept later above.1
 
-  pub IsSortedMap-from_read : (rows : List (List ℕ × V)) (kept : List (List ℕ × W)) → AreRead reads rows kept → IsSortedMap text_cmp rows → IsSortedMap text_cmp kept
+  pub IsSortedMap-from_read : (rows : List (List ℕ × V)) (kept : List (List ℕ × W)) → AreRead reads rows kept → IsSortedMap text_cmp rows
+      → IsSortedMap text_cmp kept
   unfolding IsStrictlySortedBy
   IsSortedMap-from_read [] kept none rise = subst (IsSortedMap text_cmp) (sym none) tt
   IsSortedMap-from_read (row ∷ rows) kept (inl (k, rest, is, here, later)) rise =
-      subst (IsSortedMap text_cmp) (sym is) (subst (λ x. AllByRecursion (λ y. text_cmp x y ≡ Less) (keys_of rest)) (sym (same_key row k here)) (above_all row.0 rows rest later rise.0), IsSortedMap-from_read rows rest later rise.1)
+      subst (IsSortedMap text_cmp) (sym is) (
+        subst (λ x. AllByRecursion (λ y. text_cmp x y ≡ Less) (keys_of rest))
+            (sym (same_key row k here)) (above_all row.0 rows rest later rise.0),
+        IsSortedMap-from_read rows rest later rise.1,
+      )
   IsSortedMap-from_read (row ∷ rows) kept (inr (off, later)) rise = IsSortedMap-from_read rows kept later rise.1

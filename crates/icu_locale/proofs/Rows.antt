@@ -11,7 +11,8 @@ use Rattle.icu_locale.specs.declared.expander.Favor.{Favor}
 use Rattle.icu_locale.specs.declared.expander.Favor.TheVariants.{RegionFirst, ScriptFirst}
 use Rattle.icu_locale.specs.declared.expander.looks.LikelyKey.TheVariants.{LanguageRegion, LanguageScript, LanguageAlone}
 use Rattle.icu_locale.specs.LikelySubtags.{LikelySubtags, Triple, known_subtag, unknown_script, unknown_region, maximal_of_bare, maximal_locale}
-use Rattle.icu_locale.specs.inner.Trials.{locale_with, same_locale, alone, with_favored, with_other, trials, first_trial, IsTried, gives, gives_script, gives_region}
+use Rattle.icu_locale.specs.inner.Trials.{locale_with, same_locale, alone, with_favored, with_other, trials, first_trial, IsTried, gives}
+use Rattle.icu_locale.specs.inner.Trials.{gives_script, gives_region}
 use Rattle.icu_locale.proofs.Maximal.{same_locale-Decides, text_itself}
 use Rattle.icu_locale.proofs.Settling.{fill_by, maximal-told}
 
@@ -30,7 +31,8 @@ module _ (likely : LikelySubtags) (favor : Favor) (m : DataLocale) where
   pub tried_second : leads (alone m) ≡ false → leads (with_favored favor m) ≡ true → IsTried likely favor m (with_favored favor m)
   tried_second a b = sym (λ i. answer (a i) (b i) (leads (with_other favor m)))
 
-  pub tried_third : leads (alone m) ≡ false → leads (with_favored favor m) ≡ false → leads (with_other favor m) ≡ true → IsTried likely favor m (with_other favor m)
+  pub tried_third : leads (alone m) ≡ false → leads (with_favored favor m) ≡ false → leads (with_other favor m) ≡ true
+      → IsTried likely favor m (with_other favor m)
   tried_third a b c = sym (λ i. answer (a i) (b i) (c i))
 
   pub tried_none : leads (alone m) ≡ false → leads (with_favored favor m) ≡ false → leads (with_other favor m) ≡ false → IsTried likely favor m m
@@ -43,7 +45,8 @@ moved likely favor m n y e tried = tried ∙ ap (λ x. first_trial likely x (tri
 -- a subtag that is there and does not stand for none is bare
 pub bare_from_test : (unknown t : List ℕ) (test : Bool) → (IsTrue test ↔ (t ≡ unknown)) → test ≡ false → known_subtag unknown (Some t) ≡ Some t
 bare_from_test unknown t test told fails =
-    let apart : bytes_eq t unknown ≡ false = false_from_ne_true (bytes_eq t unknown) (λ same. false≢true (sym fails ∙ told.1 ((bytes_eq-Decides t unknown).0 same))) in
+    let apart : bytes_eq t unknown ≡ false = false_from_ne_true (bytes_eq t unknown)
+    (λ same. false≢true (sym fails ∙ told.1 ((bytes_eq-Decides t unknown).0 same))) in
     ap (λ b. if b then None else Some t) apart
 
 pub gone_from_test : (unknown t : List ℕ) (test : Bool) → (IsTrue test ↔ (t ≡ unknown)) → test ≡ true → known_subtag unknown (Some t) ≡ None
@@ -63,46 +66,58 @@ module _ (likely : LikelySubtags) (l : List ℕ) (known : bytes_eq l und ≡ fal
 
   -- the maximal form of the language alone
   alone_max : (p : Option Triple) → likely (LanguageAlone l) ≡ p → maximal_locale likely (locale_with l None None) ≡ fill_by false (locale_with l None None) p
-  alone_max p e = maximal-told likely false l None None known ∙ ap (λ o. fill_by false (locale_with l None None) o) (or-none None (likely (LanguageAlone l)) ∙ e)
+  alone_max p e = maximal-told likely false l None None known ∙ ap (λ o. fill_by false (locale_with l None None) o)
+      (or-none None (likely (LanguageAlone l)) ∙ e)
 
   -- of the language with a region
-  region_max : (r : List ℕ) (own p : Option Triple) → likely (LanguageRegion l r) ≡ own → likely (LanguageAlone l) ≡ p → maximal_of_bare likely (locale_with l None (Some r)) ≡ fill_by false (locale_with l None (Some r)) (option_or own p)
-  region_max r own p e f = maximal-told likely false l None (Some r) known ∙ ap (λ o. fill_by false (locale_with l None (Some r)) o) (or-none (likely (LanguageRegion l r)) (likely (LanguageAlone l)) ∙ (λ i. option_or (e i) (f i)))
+  region_max : (r : List ℕ) (own p : Option Triple) → likely (LanguageRegion l r) ≡ own → likely (LanguageAlone l) ≡ p
+      → maximal_of_bare likely (locale_with l None (Some r)) ≡ fill_by false (locale_with l None (Some r)) (option_or own p)
+  region_max r own p e f = maximal-told likely false l None (Some r) known ∙ ap (λ o. fill_by false (locale_with l None (Some r)) o)
+      (or-none (likely (LanguageRegion l r)) (likely (LanguageAlone l)) ∙ (λ i. option_or (e i) (f i)))
 
   -- of the language with a script
-  script_max : (s : List ℕ) (own p : Option Triple) → likely (LanguageScript l s) ≡ own → likely (LanguageAlone l) ≡ p → maximal_of_bare likely (locale_with l (Some s) None) ≡ fill_by false (locale_with l (Some s) None) (option_or own p)
-  script_max s own p e f = maximal-told likely false l (Some s) None known ∙ ap (λ o. fill_by false (locale_with l (Some s) None) o) (or-none (likely (LanguageScript l s)) (likely (LanguageAlone l)) ∙ (λ i. option_or (e i) (f i)))
+  script_max : (s : List ℕ) (own p : Option Triple) → likely (LanguageScript l s) ≡ own → likely (LanguageAlone l) ≡ p
+      → maximal_of_bare likely (locale_with l (Some s) None) ≡ fill_by false (locale_with l (Some s) None) (option_or own p)
+  script_max s own p e f = maximal-told likely false l (Some s) None known ∙ ap (λ o. fill_by false (locale_with l (Some s) None) o)
+      (or-none (likely (LanguageScript l s)) (likely (LanguageAlone l)) ∙ (λ i. option_or (e i) (f i)))
 
   -- the test of the language alone
   alone_test : (p : Option Triple) (s r : List ℕ) → same_locale (fill_by false (locale_with l None None) p) (locale_with l (Some s) (Some r)) ≡ gives p s r
   alone_test None s r = with_language false
   alone_test (Some t) s r = with_language (bytes_eq t.1 s && bytes_eq t.2 r)
 
-  pub alone_told : (p : Option Triple) (s r : List ℕ) → likely (LanguageAlone l) ≡ p → leads likely RegionFirst (locale_with l (Some s) (Some r)) (locale_with l None None) ≡ gives p s r
+  pub alone_told : (p : Option Triple) (s r : List ℕ) → likely (LanguageAlone l) ≡ p
+      → leads likely RegionFirst (locale_with l (Some s) (Some r)) (locale_with l None None) ≡ gives p s r
   alone_told p s r e = ap (λ x. same_locale x (locale_with l (Some s) (Some r))) (alone_max p e) ∙ alone_test p s r
 
   -- the test of the language with a region
-  region_test : (o : Option Triple) (s r : List ℕ) → same_locale (fill_by false (locale_with l None (Some r)) o) (locale_with l (Some s) (Some r)) ≡ gives_script o s
+  region_test : (o : Option Triple) (s r : List ℕ) → same_locale (fill_by false (locale_with l None (Some r)) o)
+      (locale_with l (Some s) (Some r)) ≡ gives_script o s
   region_test None s r = with_language false
   region_test (Some t) s r = with_language (bytes_eq t.1 s && bytes_eq r r) ∙ ap (λ x. bytes_eq t.1 s && x) (text_itself r) ∙ and-true (bytes_eq t.1 s)
 
   -- a region that is bare stays
-  region_bare : (r : List ℕ) → known_subtag unknown_region (Some r) ≡ Some r → maximal_locale likely (locale_with l None (Some r)) ≡ maximal_of_bare likely (locale_with l None (Some r))
+  region_bare : (r : List ℕ) → known_subtag unknown_region (Some r) ≡ Some r
+      → maximal_locale likely (locale_with l None (Some r)) ≡ maximal_of_bare likely (locale_with l None (Some r))
   region_bare r bare = ap (λ x. maximal_of_bare likely (locale_with l None x)) bare
 
-  pub region_told : (p : Option Triple) (s r : List ℕ) → likely (LanguageAlone l) ≡ p → known_subtag unknown_region (Some r) ≡ Some r → leads likely RegionFirst (locale_with l (Some s) (Some r)) (locale_with l None (Some r)) ≡ gives_script (option_or (likely (LanguageRegion l r)) p) s
+  pub region_told : (p : Option Triple) (s r : List ℕ) → likely (LanguageAlone l) ≡ p → known_subtag unknown_region (Some r) ≡ Some r
+      → leads likely RegionFirst (locale_with l (Some s) (Some r)) (locale_with l None (Some r)) ≡ gives_script (option_or (likely (LanguageRegion l r)) p) s
   region_told p s r f bare = ap (λ x. same_locale x (locale_with l (Some s) (Some r))) (region_bare r bare ∙ region_max r _ p refl f) ∙ region_test _ s r
 
   -- the test of the language with a script
-  script_test : (o : Option Triple) (s r : List ℕ) → same_locale (fill_by false (locale_with l (Some s) None) o) (locale_with l (Some s) (Some r)) ≡ gives_region o r
+  script_test : (o : Option Triple) (s r : List ℕ) → same_locale (fill_by false (locale_with l (Some s) None) o)
+      (locale_with l (Some s) (Some r)) ≡ gives_region o r
   script_test None s r = with_language (bytes_eq s s && false) ∙ ap (λ x. x && false) (text_itself s)
   script_test (Some t) s r = with_language (bytes_eq s s && bytes_eq t.2 r) ∙ ap (λ x. x && bytes_eq t.2 r) (text_itself s)
 
   -- a script that is bare stays
-  script_bare : (s : List ℕ) → known_subtag unknown_script (Some s) ≡ Some s → maximal_locale likely (locale_with l (Some s) None) ≡ maximal_of_bare likely (locale_with l (Some s) None)
+  script_bare : (s : List ℕ) → known_subtag unknown_script (Some s) ≡ Some s
+      → maximal_locale likely (locale_with l (Some s) None) ≡ maximal_of_bare likely (locale_with l (Some s) None)
   script_bare s bare = ap (λ x. maximal_of_bare likely (locale_with l x None)) bare
 
-  pub script_told : (p : Option Triple) (s r : List ℕ) → likely (LanguageAlone l) ≡ p → known_subtag unknown_script (Some s) ≡ Some s → leads likely RegionFirst (locale_with l (Some s) (Some r)) (locale_with l (Some s) None) ≡ gives_region (option_or (likely (LanguageScript l s)) p) r
+  pub script_told : (p : Option Triple) (s r : List ℕ) → likely (LanguageAlone l) ≡ p → known_subtag unknown_script (Some s) ≡ Some s
+      → leads likely RegionFirst (locale_with l (Some s) (Some r)) (locale_with l (Some s) None) ≡ gives_region (option_or (likely (LanguageScript l s)) p) r
   script_told p s r f bare = ap (λ x. same_locale x (locale_with l (Some s) (Some r))) (script_bare s bare ∙ script_max s _ p refl f) ∙ script_test _ s r
 
   -- over a script and a region that the row of the language alone does not give
@@ -148,11 +163,14 @@ module _ (likely : LikelySubtags) (l : List ℕ) (known : bytes_eq l und ≡ fal
       given_region : leads likely RegionFirst full (locale_with l None (Some r)) ≡ true
       given_region = leads-from likely RegionFirst full (locale_with l None (Some r)) (region_bare r bare_r ∙ filled_script)
 
-      pub script_taken : known_subtag unknown_script (Some s) ≡ Some s → gives_region script_row r ≡ true → IsTried likely ScriptFirst (maximal_of_bare likely (locale_with l None (Some r))) (locale_with l (Some s) None)
+      pub script_taken : known_subtag unknown_script (Some s) ≡ Some s → gives_region script_row r ≡ true
+          → IsTried likely ScriptFirst (maximal_of_bare likely (locale_with l None (Some r))) (locale_with l (Some s) None)
       script_taken bare_s e = moved likely ScriptFirst _ full _ filled_script (script_second bare_s e)
 
-      pub script_fails : known_subtag unknown_script (Some s) ≡ Some s → gives_region script_row r ≡ false → IsTried likely ScriptFirst (maximal_of_bare likely (locale_with l None (Some r))) (locale_with l None (Some r))
-      script_fails bare_s e = moved likely ScriptFirst _ full _ filled_script (tried_third likely ScriptFirst full alone_fails (script_told p s r is_plain bare_s ∙ e) given_region)
+      pub script_fails : known_subtag unknown_script (Some s) ≡ Some s → gives_region script_row r ≡ false
+          → IsTried likely ScriptFirst (maximal_of_bare likely (locale_with l None (Some r))) (locale_with l None (Some r))
+      script_fails bare_s e = moved likely ScriptFirst _ full _ filled_script
+          (tried_third likely ScriptFirst full alone_fails (script_told p s r is_plain bare_s ∙ e) given_region)
 
     -- where the script was given, the region is that of the row
     module _ (bare_s : known_subtag unknown_script (Some s) ≡ Some s) (t : Triple) (found : script_row ≡ Some t) (is : t.2 ≡ r) where
@@ -162,12 +180,18 @@ module _ (likely : LikelySubtags) (l : List ℕ) (known : bytes_eq l und ≡ fal
       given_script : leads likely RegionFirst full (locale_with l (Some s) None) ≡ true
       given_script = leads-from likely RegionFirst full (locale_with l (Some s) None) (script_bare s bare_s ∙ filled_region)
 
-      pub region_taken : known_subtag unknown_region (Some r) ≡ Some r → gives_script region_row s ≡ true → IsTried likely RegionFirst (maximal_of_bare likely (locale_with l (Some s) None)) (locale_with l None (Some r))
+      pub region_taken : known_subtag unknown_region (Some r) ≡ Some r → gives_script region_row s ≡ true
+          → IsTried likely RegionFirst (maximal_of_bare likely (locale_with l (Some s) None)) (locale_with l None (Some r))
       region_taken bare_r e = moved likely RegionFirst _ full _ filled_region (region_second bare_r e)
 
-      pub region_fails : known_subtag unknown_region (Some r) ≡ Some r → gives_script region_row s ≡ false → IsTried likely RegionFirst (maximal_of_bare likely (locale_with l (Some s) None)) (locale_with l (Some s) None)
-      region_fails bare_r e = moved likely RegionFirst _ full _ filled_region (tried_third likely RegionFirst full alone_fails (region_told p s r is_plain bare_r ∙ e) given_script)
+      pub region_fails : known_subtag unknown_region (Some r) ≡ Some r → gives_script region_row s ≡ false
+          → IsTried likely RegionFirst (maximal_of_bare likely (locale_with l (Some s) None)) (locale_with l (Some s) None)
+      region_fails bare_r e = moved likely RegionFirst _ full _ filled_region
+          (tried_third likely RegionFirst full alone_fails (region_told p s r is_plain bare_r ∙ e) given_script)
 
       -- a region that stands for none makes the trial that of the language alone
-      pub region_unknown : known_subtag unknown_region (Some r) ≡ None → IsTried likely RegionFirst (maximal_of_bare likely (locale_with l (Some s) None)) (locale_with l (Some s) None)
-      region_unknown unknown = moved likely RegionFirst _ full _ filled_region (tried_third likely RegionFirst full alone_fails (ap (λ x. same_locale (maximal_of_bare likely (locale_with l None x)) full) unknown ∙ alone_fails) given_script)
+      pub region_unknown : known_subtag unknown_region (Some r) ≡ None → IsTried likely RegionFirst
+          (maximal_of_bare likely (locale_with l (Some s) None)) (locale_with l (Some s) None)
+      region_unknown unknown = moved likely RegionFirst _ full _ filled_region
+          (tried_third likely RegionFirst full alone_fails (ap (λ x. same_locale (maximal_of_bare likely (locale_with l None x)) full)
+          unknown ∙ alone_fails) given_script)

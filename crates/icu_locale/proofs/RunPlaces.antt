@@ -47,8 +47,13 @@ module _ {X : Type 0} (next : X → Option X) (start : X) where
       let pos : 0 < p = omega arith in
       let e : i + p ≡ n = omega arith in
       let split : i + r + p * q ≡ b = omega arith in
-      let small : r < p = omega arith in
-      (i + r, omega arith, omega arith, around_from i p (i + r) q (omega arith) (same ∙ at_same_number next start _ _ (sym e)) ∙ at_same_number next start _ _ split)
+      let small : r < p = omega arith in (
+        i + r,
+        omega arith,
+        omega arith,
+        around_from i p (i + r) q (omega arith) (same ∙ at_same_number next start _ _ (sym e))
+            ∙ at_same_number next start _ _ split,
+      )
 
   -- where a state comes again at place n, by then the two walkers have stood on the same state
   pub meets_before : (i n : ℕ) → i < n → at next start i ≡ at next start n → (k : ℕ) × (0 < k) × (k ≤ n) × (at next start k ≡ at next start (k + k))
@@ -64,7 +69,8 @@ module _ {X : Type 0} (next : X → Option X) (start : X) where
       (k, omega arith, omega arith, around_from i p k (suc q) (omega arith) (same ∙ at_same_number next start _ _ (sym e)))
 
   -- after a meeting at place m, what comes again at all comes again m places on
-  pub meets_again : (i j m : ℕ) → i < j → at next start i ≡ at next start j → 0 < m → at next start m ≡ at next start (m + m) → at next start i ≡ at next start (i + m)
+  pub meets_again : (i j m : ℕ) → i < j → at next start i ≡ at next start j → 0 < m → at next start m ≡ at next start (m + m)
+      → at next start i ≡ at next start (i + m)
   meets_again i j m before same started met =
       let p : ℕ = j - i in
       let pos : 1 ≤ p = omega arith in

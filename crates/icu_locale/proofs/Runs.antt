@@ -1,5 +1,6 @@
 -- Ends and repeats: a run has one end or one first repeat, and not both.
-use Rattle.std.proofs.Common.{◌≡◌, ℕ, zero, suc, ◌+◌, ◌-◌, ◌*◌, ◌<◌, ◌≤◌, inl, inr, Option, Some, None, option_and_then, unwrap_or, sym, ap, ◌∙◌, arith, add-zero, add-suc}
+use Rattle.std.proofs.Common.{◌≡◌, ℕ, zero, suc, ◌+◌, ◌-◌, ◌*◌, ◌<◌, ◌≤◌, inl, inr, Option, Some, None, option_and_then, unwrap_or, sym, ap, ◌∙◌}
+use Rattle.std.proofs.Common.{arith, add-zero, add-suc}
 use Rattle.std.proofs.Math.Nat.{mul-le-mul_right}
 use Rattle.std.proofs.lemmas.Bool.{cases_lt, cases_order}
 use Rattle.std.proofs.lemmas.Option.{none-some, same_Some}
@@ -66,7 +67,8 @@ module _ {X : Type 0} (next : X → Option X) (start : X) where
   )
 
   -- a state that comes again is the first repeat where no state before it comes again
-  pub IsRepeat-from_pairs : (k : ℕ) (z : X) → at next start k ≡ Some z → ComesAgain next start z → ((a b : ℕ) → a < b → at next start a ≡ at next start b → k ≤ a) → IsRepeat next start z
+  pub IsRepeat-from_pairs : (k : ℕ) (z : X) → at next start k ≡ Some z → ComesAgain next start z
+      → ((a b : ℕ) → a < b → at next start a ≡ at next start b → k ≤ a) → IsRepeat next start z
   IsRepeat-from_pairs k z here again least =
       record {
         place = k;

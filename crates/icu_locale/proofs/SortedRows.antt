@@ -1,5 +1,6 @@
 -- The rows of a negotiator: those with a minimal form stand side by side, by rising places.
-use Rattle.std.proofs.Common.{◌≡◌, ℕ, ◌+◌, ◌-◌, ◌<◌, ◌≤◌, true, false, List, length, take, drop, get_or, Option, Some, None, refl, ap, sym, ◌∙◌, subst, ⊎_elim, arith, length-drop}
+use Rattle.std.proofs.Common.{◌≡◌, ℕ, ◌+◌, ◌-◌, ◌<◌, ◌≤◌, true, false, List, length, take, drop, get_or, Option, Some, None, refl, ap, sym, ◌∙◌}
+use Rattle.std.proofs.Common.{subst, ⊎_elim, arith, length-drop}
 use Rattle.std.specs.declared.cmp.Ordering.{Ordering}
 use Rattle.std.specs.declared.cmp.Ordering.TheVariants.{Less, Equal, Greater}
 use Rattle.std.specs.Ordering.{is_lt, is_le, ordering_index, ordering_then, MatchOrdering}
@@ -96,28 +97,35 @@ module _ (rows : List Row) (sorted : IsSorted row_cmp rows) where
   rows_rise d = searchable_from_sorted locale_total (λ (r : Row). r.minimal) rows d (λ k e low high. first_not_less _ _ (sorted k e low high))
 
   -- of rows with the same minimal form, the earlier has the lesser place
-  places_rise : (i j : ℕ) (e : Row) (d : DataLocale) → i ≤ j → j < length rows → (get_or rows i e).minimal ≡ d → (get_or rows j e).minimal ≡ d → (get_or rows i e).place ≤ (get_or rows j e).place
+  places_rise : (i j : ℕ) (e : Row) (d : DataLocale) → i ≤ j → j < length rows → (get_or rows i e).minimal ≡ d
+      → (get_or rows j e).minimal ≡ d → (get_or rows i e).place ≤ (get_or rows j e).place
   places_rise i j e d le within first second =
       let far = sorted_far (λ r s. is_lt (row_cmp r s)) (ranks_by row_total (λ (r : Row). r)) rows sorted i j e le within in
-      let tied : subtags_cmp (get_or rows j e).minimal (get_or rows i e).minimal ≡ Equal = ap (λ z. subtags_cmp z (get_or rows i e).minimal) (second ∙ sym first) ∙ tied_itself locale_total (get_or rows i e).minimal in
-      at_most_from_ranked (get_or rows j e).place (get_or rows i e).place _ (ranked (get_or rows j e).place (get_or rows i e).place _ refl) (second_not_less _ _ tied far)
+      let tied : subtags_cmp (get_or rows j e).minimal (get_or rows i e).minimal ≡ Equal = ap (λ z. subtags_cmp z (get_or rows i e).minimal)
+      (second ∙ sym first) ∙ tied_itself locale_total (get_or rows i e).minimal in
+      at_most_from_ranked (get_or rows j e).place (get_or rows i e).place _ (ranked (get_or rows j e).place (get_or rows i e).place _ refl)
+      (second_not_less _ _ tied far)
 
 -- no row that is below a minimal form follows one that is not
-pub parted_below : (rows : List Row) (d : DataLocale) → IsNonDecreasingBy (λ r. ordering_index (subtags_cmp r.minimal d)) rows → IsPartitionedBy (λ r. is_lt (subtags_cmp r.minimal d)) rows
+pub parted_below : (rows : List Row) (d : DataLocale) → IsNonDecreasingBy (λ r. ordering_index (subtags_cmp r.minimal d)) rows
+    → IsPartitionedBy (λ r. is_lt (subtags_cmp r.minimal d)) rows
 parted_below rows d rise i j e le within below = less_before _ _ (rise i j e le within) below
 
 -- nor one that is not above it follows one that is
-pub parted_above : (rows : List Row) (d : DataLocale) → IsNonDecreasingBy (λ r. ordering_index (subtags_cmp r.minimal d)) rows → IsPartitionedBy (λ r. is_le (subtags_cmp r.minimal d)) rows
+pub parted_above : (rows : List Row) (d : DataLocale) → IsNonDecreasingBy (λ r. ordering_index (subtags_cmp r.minimal d)) rows
+    → IsPartitionedBy (λ r. is_le (subtags_cmp r.minimal d)) rows
 parted_above rows d rise i j e le within most = at_most_before _ _ (rise i j e le within) most
 
 -- what follows the first rows is in the same order
-pub rest_rises : (rows rest : List Row) (d : DataLocale) (below : ℕ) → IsSorted row_cmp rows → rest ≡ drop below rows → IsNonDecreasingBy (λ r. ordering_index (subtags_cmp r.minimal d)) rest
+pub rest_rises : (rows rest : List Row) (d : DataLocale) (below : ℕ) → IsSorted row_cmp rows → rest ≡ drop below rows
+    → IsNonDecreasingBy (λ r. ordering_index (subtags_cmp r.minimal d)) rest
 rest_rises rows rest d below sorted back =
     subst (IsNonDecreasingBy (λ r. ordering_index (subtags_cmp r.minimal d))) (sym back)
     (IsNonDecreasingBy-drop (λ (r : Row). ordering_index (subtags_cmp r.minimal d)) below rows (rows_rise rows sorted d))
 
 -- the rows behind those below a minimal form, up to those above it, are the ones with that form
-module _ (rows : List Row) (sorted : IsSorted row_cmp rows) (d : DataLocale) (below count : ℕ) (within : below ≤ length rows) (long : count ≤ length (drop below rows))
+module _ (rows : List Row) (sorted : IsSorted row_cmp rows) (d : DataLocale) (below count : ℕ) (within : below ≤ length rows)
+    (long : count ≤ length (drop below rows))
     (before : AllWithin (λ r. is_lt (subtags_cmp r.minimal d) ≡ true) rows 0 below)
     (from : AllWithin (λ r. is_lt (subtags_cmp r.minimal d) ≡ false) rows below (length rows))
     (upto : AllWithin (λ r. is_le (subtags_cmp r.minimal d) ≡ true) (drop below rows) 0 count)
@@ -146,11 +154,14 @@ module _ (rows : List Row) (sorted : IsSorted row_cmp rows) (d : DataLocale) (be
 
   has_each : (r : Row) → Contains rows r → r.minimal ≡ d → Contains part r
   has_each r (k, lt, is) form =
-      let tied : subtags_cmp (get_or rows k r).minimal d ≡ Equal = ap (λ (s : Row). subtags_cmp s.minimal d) is ∙ ap (λ z. subtags_cmp z d) form ∙ tied_itself locale_total d in
+      let tied : subtags_cmp (get_or rows k r).minimal d ≡ Equal = ap (λ (s : Row). subtags_cmp s.minimal d) is
+      ∙ ap (λ z. subtags_cmp z d) form ∙ tied_itself locale_total d in
       let low : below ≤ k = ⊎_elim (λ lt_below. absurd (false≢true (sym (ap is_lt tied) ∙ before k r (omega arith) lt_below))) (λ le. le) (cases_lt k below) in
       let place : below + (k - below) ≡ k = omega arith in
       let there : get_or (drop below rows) (k - below) r ≡ get_or rows k r = get_or-drop below rows (k - below) r ∙ ap (λ n. get_or rows n r) place in
-      let high : k - below < count = ⊎_elim (λ lt. lt) (λ le. absurd (false≢true (sym (past (k - below) r le (omega (arith, length-drop below rows))) ∙ ap (λ (s : Row). is_le (subtags_cmp s.minimal d)) there ∙ ap is_le tied))) (cases_lt (k - below) count) in
+      let high : k - below < count = ⊎_elim (λ lt. lt) (λ le. absurd (false≢true
+      (sym (past (k - below) r le (omega (arith, length-drop below rows))) ∙ ap (λ (s : Row). is_le (subtags_cmp s.minimal d)) there
+      ∙ ap is_le tied))) (cases_lt (k - below) count) in
       (k - below, omega (arith, part_length), part_at (k - below) r high ∙ ap (λ n. get_or rows n r) place ∙ is)
 
   pub IsPartOf-taken : IsPartOf rows d part
@@ -169,7 +180,8 @@ module _ (rows : List Row) (sorted : IsSorted row_cmp rows) (d : DataLocale) (be
   }
 
 -- cut out of the list, they are still
-pub IsPartOf-cut : (rows rest found : List Row) (d : DataLocale) (below count : ℕ) → IsSorted row_cmp rows → rest ≡ drop below rows → found ≡ take count rest → below ≤ length rows → count ≤ length rest
+pub IsPartOf-cut : (rows rest found : List Row) (d : DataLocale) (below count : ℕ) → IsSorted row_cmp rows → rest ≡ drop below rows
+    → found ≡ take count rest → below ≤ length rows → count ≤ length rest
     → IsPartitionPoint (λ r. is_lt (subtags_cmp r.minimal d) ≡ true) (λ r. is_lt (subtags_cmp r.minimal d) ≡ false) rows below
     → IsPartitionPoint (λ r. is_le (subtags_cmp r.minimal d) ≡ true) (λ r. is_le (subtags_cmp r.minimal d) ≡ false) rest count
     → IsPartOf rows d found

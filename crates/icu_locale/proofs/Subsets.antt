@@ -7,7 +7,8 @@ use Rattle.std.proofs.Math.Bool.{or-false}
 use Rattle.std.specs.List.{Contains}
 use Rattle.std.proofs.lemmas.List.Elements.{Contains-append_left, Contains-append_right, Contains-append_cases}
 use Rattle.icu_locale_core.specs.TextSet.{TextSet, empty, contains, from_list, rising, image, text_cmp, difference}
-use Rattle.icu_locale_core.specs.laws.TextSets.{text_total, is_among, contains-from_list, from_list-rising, contains-empty, length-rising_empty, same_set, same_from_tied, contains-insert, contains-difference}
+use Rattle.icu_locale_core.specs.laws.TextSets.{text_total, is_among, contains-from_list, from_list-rising, contains-empty, length-rising_empty}
+use Rattle.icu_locale_core.specs.laws.TextSets.{same_set, same_from_tied, contains-insert, contains-difference}
 use Rattle.icu_locale.specs.inner.Universe.{subsets}
 use Rattle.icu_locale.proofs.Lists.{Contains-here, Contains-there, Contains-cons_cases, Contains-nil, Contains-map, Contains-from_map}
 use Rattle.std.specs.FinMap as fin
@@ -28,7 +29,8 @@ empty_from_image f s none = sym (from_list-rising s) ∙ by (rising s) none
     by : (ts : List (List ℕ)) → from_list (map f ts) ≡ empty → from_list ts ≡ empty
     by [] none = refl
     by (t ∷ ts) none =
-        absurd (false≢true (sym (contains-empty (f t)) ∙ ap (λ set. contains set (f t)) (sym none) ∙ contains-from_list (f t ∷ map f ts) (f t) ∙ among_first (f t) (map f ts)))
+        absurd (false≢true (sym (contains-empty (f t)) ∙ ap (λ set. contains set (f t)) (sym none)
+        ∙ contains-from_list (f t ∷ map f ts) (f t) ∙ among_first (f t) (map f ts)))
 
 pub contains-one : (t q : List ℕ) → contains (from_list (t ∷ [])) q ≡ eq_by_cmp text_cmp q t
 contains-one t q = contains-insert empty t q ∙ ap (λ b. eq_by_cmp text_cmp q t || b) (contains-empty q) ∙ or-false (eq_by_cmp text_cmp q t)
@@ -57,12 +59,14 @@ subset_among (t ∷ ts) s inside =
       | inl here ↦
           let rest = difference s (from_list (t ∷ [])) in
           let among : Contains (subsets ts) rest = subset_among ts rest (λ q there.
-          let parts = taken_out (eq_by_cmp text_cmp q t) (contains s q) (sym (contains-difference s (from_list (t ∷ [])) q ∙ ap (λ b. not b && contains s q) (contains-one t q)) ∙ there) in
+          let parts = taken_out (eq_by_cmp text_cmp q t) (contains s q) (sym
+          (contains-difference s (from_list (t ∷ [])) q ∙ ap (λ b. not b && contains s q) (contains-one t q)) ∙ there) in
           elim (Contains-cons_cases t q ts (inside q parts.1)) [
             | inl same ↦ absurd (false≢true (sym parts.0 ∙ ap (λ u. eq_by_cmp text_cmp q u) same ∙ itself q))
             | inr later ↦ later
           ]) in
-          Contains-append_right (subsets ts) (map (λ u. fin.insert u t tt) (subsets ts)) s (subst (Contains (map (λ u. fin.insert u t tt) (subsets ts))) (put_back s t here) (Contains-map (λ u. fin.insert u t tt) (subsets ts) rest among))
+          Contains-append_right (subsets ts) (map (λ u. fin.insert u t tt) (subsets ts)) s
+          (subst (Contains (map (λ u. fin.insert u t tt) (subsets ts))) (put_back s t here) (Contains-map (λ u. fin.insert u t tt) (subsets ts) rest among))
       | inr off ↦
           Contains-append_left (subsets ts) (map (λ u. fin.insert u t tt) (subsets ts)) s (subset_among ts s (λ q there.
           elim (Contains-cons_cases t q ts (inside q there)) [

@@ -1,5 +1,6 @@
 -- A key of the likely table is that of some row, and its own subtags are looked at.
-use Rattle.std.proofs.Common.{◌≡◌, ◌↔◌, List, Bool, true, false, ◌&&◌, Option, Some, None, IfSome, MatchBool, IsTrue, if◌then◌else◌, refl, ap, subst, sym, ◌∙◌, ⊎_elim}
+use Rattle.std.proofs.Common.{◌≡◌, ◌↔◌, List, Bool, true, false, ◌&&◌, Option, Some, None, IfSome, MatchBool, IsTrue, if◌then◌else◌, refl, ap, subst}
+use Rattle.std.proofs.Common.{sym, ◌∙◌, ⊎_elim}
 use Rattle.std.specs.Option.{option_or}
 use Rattle.std.specs.Str.{bytes_eq}
 use Rattle.std.specs.List.{Contains}
@@ -16,7 +17,8 @@ use Rattle.icu_locale_core.specs.Maps.{value_at}
 use Rattle.icu_provider.specs.SortedMaps.{pair_cmp}
 use Rattle.icu_provider.specs.declared.likely.extended.LikelySubtagsExtended.{LikelySubtagsExtended}
 use Rattle.icu_locale.specs.declared.expander.looks.LikelyKey.{LikelyKey}
-use Rattle.icu_locale.specs.declared.expander.looks.LikelyKey.TheVariants.{LanguageRegion, LanguageScript, LanguageAlone, ScriptRegion, ScriptAlone, RegionAlone}
+use Rattle.icu_locale.specs.declared.expander.looks.LikelyKey.TheVariants.{LanguageRegion, LanguageScript, LanguageAlone, ScriptRegion, ScriptAlone}
+use Rattle.icu_locale.specs.declared.expander.looks.LikelyKey.TheVariants.{RegionAlone}
 use Rattle.icu_locale.specs.LikelySubtags.{LikelySubtags, Triple, AreSettled}
 use Rattle.icu_locale.specs.LikelyTable.{LikelyRows, common_rows, extended_rows, row_at, common_row, extension_row, und_row, likely}
 use Rattle.icu_locale.specs.TableKeys.{keys_by}
@@ -41,16 +43,20 @@ pair_same x y e =
     λ i. (first i, second i)
 
 -- a key with a value is that of a row
-pub row_found : {K V : Type 0} (compare : K → K → Ordering) → IsAntisymmetric compare → (rows : List (K × V)) (q : K) (v : V) → value_at compare rows q ≡ Some v → (row : K × V) × Contains rows row × (row.0 ≡ q)
+pub row_found : {K V : Type 0} (compare : K → K → Ordering) → IsAntisymmetric compare → (rows : List (K × V)) (q : K) (v : V)
+    → value_at compare rows q ≡ Some v → (row : K × V) × Contains rows row × (row.0 ≡ q)
 row_found compare same rows q v found =
     ((q, v), Contains-from_lookup (λ x y tied. same x y ((Equal-is (compare x y)).0 tied)) q v rows found, refl)
 
 -- so it is looked at
-settled_at : {K V : Type 0} (table : LikelySubtags) (key : K → LikelyKey) (rows : List (K × V)) (q : K) → AllSettle table key rows → (row : K × V) × Contains rows row × (row.0 ≡ q) → settles table (key q) ≡ true
-settled_at table key rows q all (row, among, is) = subst (λ w. settles table (key w) ≡ true) is (subst (λ w. settles table (key w.0) ≡ true) among.2 (all among.0 row among.1))
+settled_at : {K V : Type 0} (table : LikelySubtags) (key : K → LikelyKey) (rows : List (K × V)) (q : K) → AllSettle table key rows
+    → (row : K × V) × Contains rows row × (row.0 ≡ q) → settles table (key q) ≡ true
+settled_at table key rows q all (row, among, is) = subst (λ w. settles table (key w) ≡ true) is
+    (subst (λ w. settles table (key w.0) ≡ true) among.2 (all among.0 row among.1))
 
 -- and stands among the keys
-pub key_among : {K V : Type 0} (key : K → LikelyKey) (rows : List (K × V)) (q : K) → (row : K × V) × Contains rows row × (row.0 ≡ q) → Contains (keys_by key rows) (key q)
+pub key_among : {K V : Type 0} (key : K → LikelyKey) (rows : List (K × V)) (q : K) → (row : K × V) × Contains rows row × (row.0 ≡ q)
+    → Contains (keys_by key rows) (key q)
 key_among key rows q (row, among, is) = subst (λ w. Contains (keys_by key rows) (key w)) is (Contains-map (λ r. key r.0) rows row among)
 
 -- a value that was mapped was there
@@ -60,14 +66,21 @@ test_of false x y e = absurd (cc)
 
 module _ (table : LikelySubtags) where
   row_settles : (rows : LikelyRows) → RowsSettle table rows → (k : LikelyKey) (t : Triple) → row_at rows k ≡ Some t → settles table k ≡ true
-  row_settles rows all (LanguageRegion l r) t e = let v = some_map _ (value_at pair_cmp rows.language_region (l, r)) t e in settled_at table (λ k. LanguageRegion k.0 k.1) rows.language_region (l, r) all.language_region (row_found pair_cmp pair_same _ (l, r) v.0 v.1)
-  row_settles rows all (LanguageScript l s) t e = let v = some_map _ (value_at pair_cmp rows.language_script (l, s)) t e in settled_at table (λ k. LanguageScript k.0 k.1) rows.language_script (l, s) all.language_script (row_found pair_cmp pair_same _ (l, s) v.0 v.1)
-  row_settles rows all (LanguageAlone l) t e = let v = some_map _ (value_at text_cmp rows.language l) t e in settled_at table LanguageAlone rows.language l all.language (row_found text_cmp text_same _ l v.0 v.1)
-  row_settles rows all (ScriptRegion s r) t e = let v = some_map _ (value_at pair_cmp rows.script_region (s, r)) t e in settled_at table (λ k. ScriptRegion k.0 k.1) rows.script_region (s, r) all.script_region (row_found pair_cmp pair_same _ (s, r) v.0 v.1)
-  row_settles rows all (ScriptAlone s) t e = let v = some_map _ (value_at text_cmp rows.script s) t e in settled_at table ScriptAlone rows.script s all.script (row_found text_cmp text_same _ s v.0 v.1)
-  row_settles rows all (RegionAlone r) t e = let v = some_map _ (value_at text_cmp rows.region r) t e in settled_at table RegionAlone rows.region r all.region (row_found text_cmp text_same _ r v.0 v.1)
+  row_settles rows all (LanguageRegion l r) t e = let v = some_map _ (value_at pair_cmp rows.language_region (l, r)) t e in
+      settled_at table (λ k. LanguageRegion k.0 k.1) rows.language_region (l, r) all.language_region (row_found pair_cmp pair_same _ (l, r) v.0 v.1)
+  row_settles rows all (LanguageScript l s) t e = let v = some_map _ (value_at pair_cmp rows.language_script (l, s)) t e in
+      settled_at table (λ k. LanguageScript k.0 k.1) rows.language_script (l, s) all.language_script (row_found pair_cmp pair_same _ (l, s) v.0 v.1)
+  row_settles rows all (LanguageAlone l) t e = let v = some_map _ (value_at text_cmp rows.language l) t e in
+      settled_at table LanguageAlone rows.language l all.language (row_found text_cmp text_same _ l v.0 v.1)
+  row_settles rows all (ScriptRegion s r) t e = let v = some_map _ (value_at pair_cmp rows.script_region (s, r)) t e in
+      settled_at table (λ k. ScriptRegion k.0 k.1) rows.script_region (s, r) all.script_region (row_found pair_cmp pair_same _ (s, r) v.0 v.1)
+  row_settles rows all (ScriptAlone s) t e = let v = some_map _ (value_at text_cmp rows.script s) t e in
+      settled_at table ScriptAlone rows.script s all.script (row_found text_cmp text_same _ s v.0 v.1)
+  row_settles rows all (RegionAlone r) t e = let v = some_map _ (value_at text_cmp rows.region r) t e in
+      settled_at table RegionAlone rows.region r all.region (row_found text_cmp text_same _ r v.0 v.1)
 
-  extension_settles : (extended : Option (Bor LikelySubtagsExtended)) → IfSome extended (λ x. RowsSettle table (extended_rows x.now)) → (k : LikelyKey) (t : Triple) → extension_row extended k ≡ Some t → settles table k ≡ true
+  extension_settles : (extended : Option (Bor LikelySubtagsExtended)) → IfSome extended (λ x. RowsSettle table (extended_rows x.now))
+      → (k : LikelyKey) (t : Triple) → extension_row extended k ≡ Some t → settles table k ≡ true
   extension_settles None all k t e = absurd (cc)
   extension_settles (Some a) all k t e = row_settles (extended_rows a.now) all k t e
 
@@ -90,7 +103,9 @@ every_row e all k t f =
     let common = common_row e k in
     let extended = extension_row e.extended k in
     let served = und_row e.language.now.und k in
-    ⊎_elim (row_settles (likely e) (common_rows e.language.now e.script_region.now) all.common k t) (λ rest. ⊎_elim (extension_settles (likely e) e.extended all.extended k t) (und_settles (likely e) e.language.now.und all.und_rows k t) (some_or extended served t rest)) (some_or common (option_or extended served) t f)
+    ⊎_elim (row_settles (likely e) (common_rows e.language.now e.script_region.now) all.common k t)
+    (λ rest. ⊎_elim (extension_settles (likely e) e.extended all.extended k t)
+    (und_settles (likely e) e.language.now.und all.und_rows k t) (some_or extended served t rest)) (some_or common (option_or extended served) t f)
 
 -- the table is settled exactly where its rows are
 pub settled_exactly : (e : LocaleExpander) (b : Bool) → MatchBool b (AllRowsSettle e) (HasUnsettled (likely e)) → IsTrue b ↔ AreSettled (likely e)

@@ -29,13 +29,15 @@ use Rattle.icu_locale.proofs.Runs.{EndsOrRepeats-from_count}
 use Rattle.icu_locale.proofs.Universes.{has_row}
 
 -- what is put at a key stands there
-pub put_optional-own : (keywords : KeywordRows) (key : List ℕ) (value : Option (List (List ℕ))) → value_at text_cmp (put_optional keywords key value) key ≡ option_or value (value_at text_cmp keywords key)
+pub put_optional-own : (keywords : KeywordRows) (key : List ℕ) (value : Option (List (List ℕ)))
+    → value_at text_cmp (put_optional keywords key value) key ≡ option_or value (value_at text_cmp keywords key)
 put_optional-own keywords key None = refl
 put_optional-own keywords key (Some v) =
     SetsOnly-insert_entry text_total keywords key v key ∙ ap (λ b. if b then Some v else value_at text_cmp keywords key) (ap is_eq (tied_itself text_total key))
 
 -- and leaves what stands at another
-pub put_optional-other : (keywords : KeywordRows) (key other : List ℕ) (value : Option (List (List ℕ))) → is_at (text_cmp key) other ≡ false → value_at text_cmp (put_optional keywords key value) other ≡ value_at text_cmp keywords other
+pub put_optional-other : (keywords : KeywordRows) (key other : List ℕ) (value : Option (List (List ℕ))) → is_at (text_cmp key) other ≡ false
+    → value_at text_cmp (put_optional keywords key value) other ≡ value_at text_cmp keywords other
 put_optional-other keywords key other None apart = refl
 put_optional-other keywords key other (Some v) apart =
     SetsOnly-insert_entry text_total keywords key v other ∙ ap (λ b. if b then Some v else value_at text_cmp keywords other) apart
@@ -53,19 +55,22 @@ module _ (keywords : KeywordRows) (a b : Option (List (List ℕ))) where
   put_optional-at_sd =
       put_optional-own (put_optional keywords rg a) sd b ∙ ap (λ before. option_or b before) (put_optional-other keywords rg sd a refl)
 
-  put_optional-elsewhere : (key : List ℕ) → key ≢ rg → key ≢ sd → value_at text_cmp (put_optional (put_optional keywords rg a) sd b) key ≡ value_at text_cmp keywords key
+  put_optional-elsewhere : (key : List ℕ) → key ≢ rg → key ≢ sd → value_at text_cmp
+      (put_optional (put_optional keywords rg a) sd b) key ≡ value_at text_cmp keywords key
   put_optional-elsewhere key not_rg not_sd =
       put_optional-other (put_optional keywords rg a) sd key b (apart_from sd key not_sd) ∙ put_optional-other keywords rg key a (apart_from rg key not_rg)
 
 module _ (rules : Rules) (old new : KeywordRows) (are : AreCanonicalKeywords rules old new) where
   pub canonical_at_rg : BecomesEnd (next_value rules) (value_at text_cmp old rg) (value_at text_cmp new rg)
   canonical_at_rg =
-      subst (BecomesEnd (next_value rules) (value_at text_cmp old rg)) (sym (ap (λ k. value_at text_cmp k rg) are.whole ∙ put_optional-at_rg old are.region_override are.subdivision))
+      subst (BecomesEnd (next_value rules) (value_at text_cmp old rg)) (sym (ap (λ k. value_at text_cmp k rg) are.whole
+      ∙ put_optional-at_rg old are.region_override are.subdivision))
       (BecomesEnd-later_end (next_value rules) (value_at text_cmp old rg) are.region_override are.region_override_end)
 
   pub canonical_at_sd : BecomesEnd (next_value rules) (value_at text_cmp old sd) (value_at text_cmp new sd)
   canonical_at_sd =
-      subst (BecomesEnd (next_value rules) (value_at text_cmp old sd)) (sym (ap (λ k. value_at text_cmp k sd) are.whole ∙ put_optional-at_sd old are.region_override are.subdivision))
+      subst (BecomesEnd (next_value rules) (value_at text_cmp old sd)) (sym (ap (λ k. value_at text_cmp k sd) are.whole
+      ∙ put_optional-at_sd old are.region_override are.subdivision))
       (BecomesEnd-later_end (next_value rules) (value_at text_cmp old sd) are.subdivision are.subdivision_end)
 
   pub canonical_elsewhere : (key : List ℕ) → key ≢ rg → key ≢ sd → value_at text_cmp new key ≡ value_at text_cmp old key
@@ -83,7 +88,8 @@ module _ (rules : Rules) where
   IsUniverse-values v = record {
     has_start = Contains-here v (map (λ row. row.1) rules.subdivision);
     leads = λ y z inside follows. option_and_then_some (value_at text_cmp rules.subdivision) (only_piece y) z follows
-        (λ piece is found. Contains-there v z (map (λ row. row.1) rules.subdivision) (Contains-map (λ (row : List ℕ × List (List ℕ)). row.1) rules.subdivision (piece, z) (has_row rules.subdivision piece z found)));
+        (λ piece is found. Contains-there v z (map (λ row. row.1) rules.subdivision)
+        (Contains-map (λ (row : List ℕ × List (List ℕ)). row.1) rules.subdivision (piece, z) (has_row rules.subdivision piece z found)));
   }
 
   -- so it ends or has a repeat
@@ -117,7 +123,8 @@ module _ (rules : Rules) where
     refused_first (NoFixedPoint z) h = h
     refused_first (NoSubdivisionFixedPoint v) h = inl h
 
-    pub refused_second : (end : Option (List (List ℕ))) → IsLaterEndOf (next_value rules) (value_at text_cmp keywords rg) end → (e : CanonicalizeError) → IsValueRefusal rules (value_at text_cmp keywords sd) e → IsValuesRefusal rules keywords e
+    pub refused_second : (end : Option (List (List ℕ))) → IsLaterEndOf (next_value rules) (value_at text_cmp keywords rg) end
+        → (e : CanonicalizeError) → IsValueRefusal rules (value_at text_cmp keywords sd) e → IsValuesRefusal rules keywords e
     refused_second end ends Memory h = tt
     refused_second end ends (NoFixedPoint z) h = h
     refused_second end ends (NoSubdivisionFixedPoint v) h =

@@ -1,5 +1,6 @@
 -- What the two walkers keep from step to step.
-use Rattle.std.proofs.Common.{◌≡◌, ◌≢◌, ℕ, suc, ◌+◌, ◌*◌, ◌<◌, ◌≤◌, inl, inr, Bool, true, false, not, Option, Some, None, IsSome, option_and_then, refl, sym, ap, ◌∙◌, subst, zero-add, arith}
+use Rattle.std.proofs.Common.{◌≡◌, ◌≢◌, ℕ, suc, ◌+◌, ◌*◌, ◌<◌, ◌≤◌, inl, inr, Bool, true, false, not, Option, Some, None, IsSome, option_and_then}
+use Rattle.std.proofs.Common.{refl, sym, ap, ◌∙◌, subst, zero-add, arith}
 use Rattle.std.specs.Cmp.{IsEquivalence}
 use Rattle.std.proofs.lemmas.Bool.{cases_eq, cases_lt, false≢true, not-true, not-false}
 use Rattle.std.proofs.lemmas.Option.{none-some, same_Some}
@@ -61,7 +62,8 @@ module _ {X : Type 0} (next : X → Option X) (start : X) where
       elim (cases_lt j n) [ inl below ↦ absurd (is.front.apart i j before below same) | inr above ↦ above ]
 
   -- walkers who have not met are not past the count
-  unmet_within : (n m : ℕ) → IsFullFront next start n → (at next start n ≡ None → m ≤ n) → ((k : ℕ) → 0 < k → k < m → at next start k ≢ at next start (k + k)) → m ≤ n
+  unmet_within : (n m : ℕ) → IsFullFront next start n → (at next start n ≡ None → m ≤ n)
+      → ((k : ℕ) → 0 < k → k < m → at next start k ≢ at next start (k + k)) → m ≤ n
   unmet_within n m is unended unmet =
       elim is.closes [
         | inl ended ↦ unended ended
@@ -81,21 +83,24 @@ module _ {X : Type 0} (next : X → Option X) (start : X) where
   module _ (slow fast : X) (before after : ℕ) (walk : HasWalked next start slow fast before after) where
     pub walked_most : (n : ℕ) → IsFullFront next start n → after + 1 ≤ before + 3 * n
     walked_most n is =
-        let within : walk.place ≤ n = unmet_within n walk.place is (λ ended. let h = goes_within n (walk.place + walk.place) fast walk.ahead ended in omega arith) walk.unmet in
+        let within : walk.place ≤ n = unmet_within n walk.place is (λ ended. let h = goes_within n
+        (walk.place + walk.place) fast walk.ahead ended in omega arith) walk.unmet in
         omega (arith, walk.counted)
 
     unmet_here : slow ≢ fast → (k : ℕ) → 0 < k → k < suc walk.place → at next start k ≢ at next start (k + k)
     unmet_here differ k started below met =
         elim (cases_eq k walk.place) [
           | inl same ↦
-              let e : at next start walk.place ≡ at next start (walk.place + walk.place) = ap (at next start) (sym same) ∙ (met ∙ ap (λ i. at next start (i + i)) same) in
+              let e : at next start walk.place ≡ at next start (walk.place + walk.place) = ap (at next start) (sym same)
+              ∙ (met ∙ ap (λ i. at next start (i + i)) same) in
               differ (same_Some slow fast (sym walk.behind ∙ (e ∙ walk.ahead)))
           | inr other ↦ walk.unmet k started (omega arith) met
         ]
 
     pub walked_more : slow ≢ fast → (n : ℕ) → IsFullFront next start n → after + 3 ≤ before + 3 * n
     walked_more differ n is =
-        let within : suc walk.place ≤ n = unmet_within n (suc walk.place) is (λ ended. let h = goes_within n (walk.place + walk.place) fast walk.ahead ended in omega arith) (unmet_here differ) in
+        let within : suc walk.place ≤ n = unmet_within n (suc walk.place) is
+        (λ ended. let h = goes_within n (walk.place + walk.place) fast walk.ahead ended in omega arith) (unmet_here differ) in
         omega (arith, walk.counted)
 
     -- where the walkers meet, the fast one has passed each state
@@ -112,9 +117,11 @@ module _ {X : Type 0} (next : X → Option X) (start : X) where
     pub slow_goes : IsSome (next slow)
     slow_goes =
         IsSome-from_goes (next slow)
-        (λ ended. none-some fast (sym (none_after next start (suc walk.place) (walk.place + walk.place) (omega (arith, walk.started)) (follows_at walk.place slow None walk.behind ended)) ∙ walk.ahead))
+        (λ ended. none-some fast (sym (none_after next start (suc walk.place) (walk.place + walk.place) (omega (arith, walk.started))
+        (follows_at walk.place slow None walk.behind ended)) ∙ walk.ahead))
 
-    pub walked_on : slow ≢ fast → (slower middle faster : X) (then : ℕ) → next slow ≡ Some slower → next fast ≡ Some middle → next middle ≡ Some faster → then ≡ after + 3 → HasWalked next start slower faster before then
+    pub walked_on : slow ≢ fast → (slower middle faster : X) (then : ℕ) → next slow ≡ Some slower → next fast ≡ Some middle
+        → next middle ≡ Some faster → then ≡ after + 3 → HasWalked next start slower faster before then
     walked_on differ slower middle faster then one two three counted =
         let e : suc (suc (walk.place + walk.place)) ≡ suc walk.place + suc walk.place = omega arith in
         let ahead = follows_at (walk.place + walk.place) fast (Some middle) walk.ahead two in
@@ -130,7 +137,13 @@ module _ {X : Type 0} (next : X → Option X) (start : X) where
     -- the fast walker has passed each state before it stops
     pub stops_least : next fast ≡ None → (n : ℕ) → IsFullFront next start n → before + n ≤ after + 2
     stops_least ended n is =
-        omega (arith, walk.counted, walk.started, count_by_end n (suc (walk.place + walk.place)) is (follows_at (walk.place + walk.place) fast None walk.ahead ended))
+        omega (
+          arith,
+          walk.counted,
+          walk.started,
+          count_by_end n (suc (walk.place + walk.place)) is
+              (follows_at (walk.place + walk.place) fast None walk.ahead ended),
+        )
 
     middle_at : (middle : X) → next fast ≡ Some middle → at next start (suc (walk.place + walk.place)) ≡ Some middle
     middle_at middle goes = follows_at (walk.place + walk.place) fast (Some middle) walk.ahead goes
@@ -140,7 +153,13 @@ module _ {X : Type 0} (next : X → Option X) (start : X) where
 
     pub middle_least : (middle : X) → next fast ≡ Some middle → next middle ≡ None → (n : ℕ) → IsFullFront next start n → before + n ≤ after + 3
     middle_least middle goes ended n is =
-        omega (arith, walk.counted, walk.started, count_by_end n (suc (suc (walk.place + walk.place))) is (follows_at (suc (walk.place + walk.place)) middle None (middle_at middle goes) ended))
+        omega (
+          arith,
+          walk.counted,
+          walk.started,
+          count_by_end n (suc (suc (walk.place + walk.place))) is
+              (follows_at (suc (walk.place + walk.place)) middle None (middle_at middle goes) ended),
+        )
 
   module _ (meeting near far : X) (before after : ℕ) (walk : HasFollowed next start meeting near far before after) where
     met_again : at next start walk.met.place ≡ at next start (walk.met.place + walk.met.place)
@@ -165,14 +184,17 @@ module _ {X : Type 0} (next : X → Option X) (start : X) where
     pub near_goes : IsSome (next near)
     near_goes =
         IsSome-from_goes (next near)
-        (λ ended. never_none next start walk.met.place (suc walk.place) meeting walk.met.started walk.met.here met_again (follows_at walk.place near None walk.behind ended))
+        (λ ended. never_none next start walk.met.place (suc walk.place) meeting walk.met.started walk.met.here met_again
+        (follows_at walk.place near None walk.behind ended))
 
     pub far_goes : IsSome (next far)
     far_goes =
         IsSome-from_goes (next far)
-        (λ ended. never_none next start walk.met.place (suc (walk.place + walk.met.place)) meeting walk.met.started walk.met.here met_again (follows_at (walk.place + walk.met.place) far None walk.ahead ended))
+        (λ ended. never_none next start walk.met.place (suc (walk.place + walk.met.place)) meeting walk.met.started walk.met.here met_again
+        (follows_at (walk.place + walk.met.place) far None walk.ahead ended))
 
-    pub followed_on : near ≢ far → (nearer farther : X) (then : ℕ) → next near ≡ Some nearer → next far ≡ Some farther → then ≡ after + 2 → HasFollowed next start meeting nearer farther before then
+    pub followed_on : near ≢ far → (nearer farther : X) (then : ℕ) → next near ≡ Some nearer → next far ≡ Some farther → then ≡ after + 2
+        → HasFollowed next start meeting nearer farther before then
     followed_on differ nearer farther then one two counted =
         let e : suc (walk.place + walk.met.place) ≡ suc walk.place + walk.met.place = omega arith in
         record {
@@ -182,7 +204,8 @@ module _ {X : Type 0} (next : X → Option X) (start : X) where
           ahead = ap (at next start) (sym e) ∙ follows_at (walk.place + walk.met.place) far (Some farther) walk.ahead two;
           unmet = λ k below met. elim (cases_eq k walk.place) [
             | inl same ↦
-                let here : at next start walk.place ≡ at next start (walk.place + walk.met.place) = ap (at next start) (sym same) ∙ (met ∙ ap (λ i. at next start (i + walk.met.place)) same) in
+                let here : at next start walk.place ≡ at next start (walk.place + walk.met.place) = ap (at next start) (sym same)
+                ∙ (met ∙ ap (λ i. at next start (i + walk.met.place)) same) in
                 differ (same_Some near far (sym walk.behind ∙ (here ∙ walk.ahead)))
             | inr other ↦ walk.unmet k (omega arith) met
           ];

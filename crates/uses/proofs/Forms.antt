@@ -1,5 +1,6 @@
 -- The form that an identifier falls back to stands in a list.
-use Rattle.std.proofs.Common.{◌≡◌, ◌↔◌, ℕ, ◌<◌, Bool, true, false, List, length, get_or, Option, Some, None, MatchOption, nat_lt, cond, position, refl, sym, ◌∙◌, arith}
+use Rattle.std.proofs.Common.{◌≡◌, ◌↔◌, ℕ, ◌<◌, Bool, true, false, List, length, get_or, Option, Some, None, MatchOption, nat_lt, cond, position}
+use Rattle.std.proofs.Common.{refl, sym, ◌∙◌, arith}
 use Rattle.std.specs.List.{All, slice_get, position_or_len}
 use Rattle.std.proofs.lemmas.Bool.{false≢true, ltb-false}
 use Rattle.std.proofs.lemmas.List.Quantifiers.{position-Some}
@@ -22,12 +23,15 @@ fails_everywhere p xs none k d within =
     fails_before_first p xs k d (omega (arith, before, within))
 
 -- a form that is its own minimal form means the same as id exactly where it is the minimal form of id
-module _ (likely : LikelySubtags) (forms : List LanguageIdentifier) (id minimal : LanguageIdentifier) (tells : (form : LanguageIdentifier) → IsMinimal likely form → (minimal ≡ form) ↔ MeanTheSame likely id form) (own : All (IsMinimal likely) forms) where
-  pub form_at : (found : Option ℕ) → found ≡ position (λ x. same_parts x minimal) forms → MatchOption found (NoneMeans likely forms id) (λ place. (form : LanguageIdentifier) × (slice_get forms place ≡ Some form) × MeanTheSame likely id form)
+module _ (likely : LikelySubtags) (forms : List LanguageIdentifier) (id minimal : LanguageIdentifier)
+    (tells : (form : LanguageIdentifier) → IsMinimal likely form → (minimal ≡ form) ↔ MeanTheSame likely id form) (own : All (IsMinimal likely) forms) where
+  pub form_at : (found : Option ℕ) → found ≡ position (λ x. same_parts x minimal) forms
+      → MatchOption found (NoneMeans likely forms id) (λ place. (form : LanguageIdentifier) × (slice_get forms place ≡ Some form) × MeanTheSame likely id form)
   form_at (Some place) is =
       let at = position-Some (λ x. same_parts x minimal) forms place minimal (sym is) in
       let form = get_or forms place minimal in
       (form, slice_get-get_or forms place minimal at.0, (tells form (own place minimal at.0)).0 (sym ((identifiers_decide form minimal).0 at.1)))
   form_at None is = λ k d within same.
       let form = get_or forms k d in
-      false≢true (sym (fails_everywhere (λ x. same_parts x minimal) forms (sym is) k d within) ∙ (identifiers_decide form minimal).1 (sym ((tells form (own k d within)).1 same)))
+      false≢true (sym (fails_everywhere (λ x. same_parts x minimal) forms (sym is) k d within)
+      ∙ (identifiers_decide form minimal).1 (sym ((tells form (own k d within)).1 same)))

@@ -10,7 +10,8 @@ pub returns-then-eq : goal.returns-then-eq
 returns-then-eq c =
     let row = c.row-item.result in
     let id = c.index-available-row.result in
-    let stands = read_at_place c.args.available.now c.args.rows.now c.loop-row.row-index row id c.requires c.loop-row-test.true c.row-item.is c.index-available-row.is in
+    let stands = read_at_place c.args.available.now c.args.rows.now c.loop-row.row-index row id c.requires c.loop-row-test.true
+    c.row-item.is c.index-available-row.is in
     let read : LanguageIdentifier = get_or c.args.available.now row.place id in
     let is = ap (λ (x : LanguageIdentifier). x.variants) c.index-available-row.is in
     let same = is ∙ (sets_tell read.variants c.args.variants.now).0 (sym c.eq.ensures ∙ c.if-eq.true) in (
@@ -30,8 +31,10 @@ pub loop-row-preserved : goal.loop-row-preserved
 loop-row-preserved c =
     let row = c.row-item.result in
     let id = c.index-available-row.result in
-    let stands = read_at_place c.args.available.now c.args.rows.now c.loop-row.row-index row id c.requires c.loop-row-test.true c.row-item.is c.index-available-row.is in
+    let stands = read_at_place c.args.available.now c.args.rows.now c.loop-row.row-index row id c.requires c.loop-row-test.true
+    c.row-item.is c.index-available-row.is in
     let read : LanguageIdentifier = get_or c.args.available.now row.place id in
     let is = ap (λ (x : LanguageIdentifier). x.variants) c.index-available-row.is in
     none_more c.args.available.now c.args.variants.now c.args.rows.now c.loop-row.row-index row c.loop-row.invariant c.loop-row-test.true c.row-item.is
-    (other_variants c.args.available.now c.args.variants.now row id stands (λ same. false≢true (sym c.if-eq.false ∙ c.eq.ensures ∙ (sets_tell read.variants c.args.variants.now).1 (sym is ∙ same))))
+    (other_variants c.args.available.now c.args.variants.now row id stands (λ same. false≢true
+    (sym c.if-eq.false ∙ c.eq.ensures ∙ (sets_tell read.variants c.args.variants.now).1 (sym is ∙ same))))

@@ -9,8 +9,11 @@ use Rattle.icu_locale.proofs.negotiator.sorted_rows.Goals as goal
 pub loop-place-preserved : goal.loop-place-preserved
 loop-place-preserved c =
     let id = c.index-available-place.result in
-    let stands = slice_get_read c.args.available.now (length c.args.available.now) c.loop-place.place id refl c.loop-place-test.true c.index-available-place.is in
-    rw c.in_ok-push.ensures.items (AreListed-push _ _ c.loop-place.place _ (record { minimal = c.plain_form-minimal.result; place = c.loop-place.place }) c.loop-place.invariant (record { identifier = id; stands = stands; known = c.plain_form-minimal.ensures.known; form = c.plain_form-minimal.ensures.form }) refl)
+    let stands = slice_get_read c.args.available.now (length c.args.available.now) c.loop-place.place id refl c.loop-place-test.true
+    c.index-available-place.is in
+    rw c.in_ok-push.ensures.items (AreListed-push _ _ c.loop-place.place _ (record
+    { minimal = c.plain_form-minimal.result; place = c.loop-place.place }) c.loop-place.invariant
+    (record { identifier = id; stands = stands; known = c.plain_form-minimal.ensures.known; form = c.plain_form-minimal.ensures.form }) refl)
 
 -- all of them, sorted
 pub returns-clause-rows : goal.returns-clause-rows

@@ -5,13 +5,23 @@ use Rattle.icu_locale.proofs.rewriting.end_of_run.Goals as goal
 
 pub returns-in_err-meet-clause-count : goal.returns-in_err-meet-clause-count
 returns-in_err-meet-clause-count g c =
-    let (n, within, is) = count_of_run _ _ _ g.met.R.State.Eq.laws g.met.R.Rewriting.exact _ c.requires in
-    (n, HasDistinct-from_count _ _ n is, omega (arith, c.meet.ensures.most n is), IfOk-from_err _ (λ _. c.args.turns.now + n ≤ c.meet.new.turns) c.from_residual.ensures.0)
+    let (n, within, is) = count_of_run _ _ _ g.met.R.State.Eq.laws g.met.R.Rewriting.exact _ c.requires in (
+      n,
+      HasDistinct-from_count _ _ n is,
+      omega (arith, c.meet.ensures.most n is),
+      IfOk-from_err _
+          (λ _. c.args.turns.now + n ≤ c.meet.new.turns) c.from_residual.ensures.0,
+    )
 
 pub returns-in_err-first-in-Meets-clause-count : goal.returns-in_err-first-in-Meets-clause-count
 returns-in_err-first-in-Meets-clause-count g c =
-    let (n, within, is) = count_of_run _ _ _ g.met.R.State.Eq.laws g.met.R.Rewriting.exact _ c.requires in
-    (n, HasDistinct-from_count _ _ n is, omega (arith, c.meet.ensures.most n is, c.first_repeat.ensures.most n is), IfOk-from_err _ (λ _. c.args.turns.now + n ≤ c.first_repeat.new.turns) c.from_residual-in_err-first-in-Meets.ensures.0)
+    let (n, within, is) = count_of_run _ _ _ g.met.R.State.Eq.laws g.met.R.Rewriting.exact _ c.requires in (
+      n,
+      HasDistinct-from_count _ _ n is,
+      omega (arith, c.meet.ensures.most n is, c.first_repeat.ensures.most n is),
+      IfOk-from_err _
+          (λ _. c.args.turns.now + n ≤ c.first_repeat.new.turns) c.from_residual-in_err-first-in-Meets.ensures.0,
+    )
 
 pub returns-in-Alone-clause-count : goal.returns-in-Alone-clause-count
 returns-in-Alone-clause-count g c =
@@ -25,8 +35,13 @@ returns-in-Stops-clause-count g c =
 
 pub returns-in_ok-first-in-Meets-clause-count : goal.returns-in_ok-first-in-Meets-clause-count
 returns-in_ok-first-in-Meets-clause-count g c =
-    let (n, within, is) = count_of_run _ _ _ g.met.R.State.Eq.laws g.met.R.Rewriting.exact _ c.requires in
-    (n, HasDistinct-from_count _ _ n is, omega (arith, c.meet.ensures.most n is, c.first_repeat.ensures.most n is), omega (arith, c.in_ok-meet.ensures.least n is, c.first_repeat.ensures.forward))
+    let (n, within, is) = count_of_run _ _ _ g.met.R.State.Eq.laws g.met.R.Rewriting.exact _ c.requires in (
+      n,
+      HasDistinct-from_count _ _ n is,
+      omega (arith, c.meet.ensures.most n is, c.first_repeat.ensures.most n is),
+      omega
+          (arith, c.in_ok-meet.ensures.least n is, c.first_repeat.ensures.forward),
+    )
 
 pub returns-in_err-meet-clause-forward : goal.returns-in_err-meet-clause-forward
 returns-in_err-meet-clause-forward g c = c.meet.ensures.forward

@@ -1,6 +1,7 @@
 use Rattle.std.proofs.Common.{sym, ◌∙◌, arith}
 use Rattle.icu_locale.proofs.Counts.{count_of_run}
-use Rattle.icu_locale.proofs.Walks.{differ_from_eq, differ_from_test, same_from_test, HasFollowed-start, followed_most, near_goes, far_goes, followed_on, IsRepeat-from_walk, IsRepeat-at_start}
+use Rattle.icu_locale.proofs.Walks.{differ_from_eq, differ_from_test, same_from_test, HasFollowed-start, followed_most, near_goes, far_goes}
+use Rattle.icu_locale.proofs.Walks.{followed_on, IsRepeat-from_walk, IsRepeat-at_start}
 use Rattle.icu_locale.proofs.rewriting.first_repeat.Goals as goal
 
 pub returns-then-eq-clause-first : goal.returns-then-eq-clause-first
@@ -36,7 +37,14 @@ returns-in_err-far-2-clause-most g c =
 pub walkers-smaller : goal.walkers-smaller
 walkers-smaller g c =
     let counted = count_of_run _ _ _ g.met.R.State.Eq.laws g.met.R.Rewriting.exact _ c.requires.universe in
-    omega (arith, c.go_on-in-walkers.ensures.counted, c.go_on-in-walkers-2.ensures.counted, counted.1, followed_most _ _ _ _ _ _ _ c.walkers.invariant counted.0 counted.2)
+    omega (
+      arith,
+      c.go_on-in-walkers.ensures.counted,
+      c.go_on-in-walkers-2.ensures.counted,
+      counted.1,
+      followed_most _ _ _ _ _ _ _
+          c.walkers.invariant counted.0 counted.2,
+    )
 
 pub walkers-preserved : goal.walkers-preserved
 walkers-preserved g c =

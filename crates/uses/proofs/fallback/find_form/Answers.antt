@@ -9,5 +9,6 @@ returns c =
     let id = c.args.id in
     let minimal = c.minimize.new.id in
     form_at (likely c.args.expander.now) c.args.forms.now id minimal
-    (λ form own. c.minimal_forms_are_canonical.ensures.equal RegionFirst (likely c.args.expander.now) id form minimal form (c.requires.settled id c.known.ensures) (c.requires.settled form own.known) c.minimize.ensures.minimal own.minimal)
+    (λ form own. c.minimal_forms_are_canonical.ensures.equal RegionFirst (likely c.args.expander.now) id form minimal form
+    (c.requires.settled id c.known.ensures) (c.requires.settled form own.known) c.minimize.ensures.minimal own.minimal)
     c.requires.minimal c.position_of.result c.position_of.ensures

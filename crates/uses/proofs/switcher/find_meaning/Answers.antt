@@ -12,4 +12,5 @@ of_one P x (Some y) h = tt
 pub returns-clause-none : goal.returns-clause-none
 returns-clause-none c =
     let asked = NoneMeans (likely c.args.negotiator.now.expander) c.args.negotiator.now.available in
-    of_one asked c.args.request.now c.find_served.result (subst (λ xs. IfNone c.find_served.result (All asked xs)) c.from_ref.ensures.value c.find_served.ensures.none)
+    of_one asked c.args.request.now c.find_served.result (subst (λ xs. IfNone c.find_served.result (All asked xs)) c.from_ref.ensures.value
+    c.find_served.ensures.none)

@@ -34,4 +34,5 @@ returns-clause-served c =
     let none = subst asked c.without_variants-plain.ensures c.in_default-find_meaning.ensures.none in
     let has = subst HasScript (λ i. maximal (likely (c.expander.ensures.expander i)) (c.without_variants-plain.ensures i)) c.in_ok-wide.ensures.wide.1 in
     let wide = c.in_ok-wide.ensures.wide.0 ∙ (λ i. wide_form (maximal (likely (c.expander.ensures.expander i)) (c.without_variants-plain.ensures i))) in
-    of_some c.find_meaning-3.result _ _ (λ served means. inr (inr (none, has, subst (λ x. MeanTheSame table x served.now) wide means))) c.find_meaning-3.ensures.found
+    of_some c.find_meaning-3.result _ _ (λ served means. inr (inr (none, has, subst (λ x. MeanTheSame table x served.now) wide means)))
+    c.find_meaning-3.ensures.found

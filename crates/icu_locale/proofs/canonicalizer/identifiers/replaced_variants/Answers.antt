@@ -8,7 +8,8 @@ use Rattle.icu_locale.proofs.canonicalizer.identifiers.replaced_variants.Goals a
 pub returns-then-is_empty-clause-found : goal.returns-then-is_empty-clause-found
 returns-then-is_empty-clause-found c =
     let none : c.args.variants.now ≡ empty = c.is_empty.ensures.0 c.if-is_empty.true in
-    c.new.ensures ∙ sym (ap (image (λ v. unwrap_or (variant_alias (lent c.args.rules.now) v) v)) none ∙ image-empty (λ v. unwrap_or (variant_alias (lent c.args.rules.now) v) v))
+    c.new.ensures ∙ sym (ap (image (λ v. unwrap_or (variant_alias (lent c.args.rules.now) v) v)) none
+    ∙ image-empty (λ v. unwrap_or (variant_alias (lent c.args.rules.now) v) v))
 
 pub returns-in-Err-clause-free : goal.returns-in-Err-clause-free
 returns-in-Err-clause-free c none =

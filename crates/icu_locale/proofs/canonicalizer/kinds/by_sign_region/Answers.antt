@@ -11,4 +11,5 @@ pub returns : goal.returns
 returns c =
     let x = c.args.x.now in
     let found : sign_language (lent c.args.rules.now) x ≡ Some c.in_ok-language.language = sym c.in_ok-language.ensures in
-    ap Some (sym (replaced-sign x c.in_ok-language.language)) ∙ ap (option_map (λ l. replaced x (record { language = codes "sgn"; script = None; region = x.region; variants = empty }) (of_language l))) (sym found)
+    ap Some (sym (replaced-sign x c.in_ok-language.language)) ∙ ap (option_map
+    (λ l. replaced x (record { language = codes "sgn"; script = None; region = x.region; variants = empty }) (of_language l))) (sym found)

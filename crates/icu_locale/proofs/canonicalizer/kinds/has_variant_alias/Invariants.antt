@@ -6,4 +6,5 @@ use Rattle.icu_locale.specs.Kinds.{variant_alias}
 use Rattle.icu_locale.proofs.canonicalizer.kinds.has_variant_alias.Given as goal
 
 abbrev pub invariant-loop-variant : goal.invariant-loop-variant
-invariant-loop-variant l = list_any (λ v. is_some (variant_alias (lent l.fn.rules) v)) (rising l.fn.variants) ≡ list_any (λ v. is_some (variant_alias (lent l.fn.rules) v)) l.variant-iterator
+invariant-loop-variant l = list_any (λ v. is_some (variant_alias (lent l.fn.rules) v)) (rising l.fn.variants) ≡ list_any
+    (λ v. is_some (variant_alias (lent l.fn.rules) v)) l.variant-iterator

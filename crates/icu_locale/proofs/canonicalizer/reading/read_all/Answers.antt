@@ -11,6 +11,8 @@ loop-row-preserved g c =
     let rows = c.args.rows.now in
     let i = c.loop-row.row-index in
     let row = c.row-item.result in
-    let passed : take (i + 1) rows ≡ take i rows ++ row ∷ [] = take_more rows i row c.loop-row-test.true ∙ ap (λ r. take i rows ++ r ∷ []) (sym c.row-item.is) in
+    let passed : take (i + 1) rows ≡ take i rows ++ row ∷ [] = take_more rows i row c.loop-row-test.true
+    ∙ ap (λ r. take i rows ++ r ∷ []) (sym c.row-item.is) in
     let more = AreRead-more reads (take i rows) c.loop-row.list.items row c.in_ok-read.field-0 c.loop-row.invariant c.in_ok-read.ensures.read in
-    subst (AreRead reads (take (i + 1) rows)) (sym c.in_ok-keep.ensures.kept) (subst (λ rs. AreRead reads rs (c.loop-row.list.items ++ option_to_list c.in_ok-read.field-0)) (sym passed) more)
+    subst (AreRead reads (take (i + 1) rows)) (sym c.in_ok-keep.ensures.kept)
+    (subst (λ rs. AreRead reads rs (c.loop-row.list.items ++ option_to_list c.in_ok-read.field-0)) (sym passed) more)

@@ -10,7 +10,8 @@ end_of_run-requires c = IsUniverse-values (lent c.args.rules.now) c.in-Some.valu
 -- where no value behind the start has pieces, each is copied without memory
 pub returns-in-Err-clause-free : goal.returns-in-Err-clause-free
 returns-in-Err-clause-free c = λ adds out.
-    let behind : AddsNoPieces (lent c.args.rules.now) c.in-Some.value.now = subst (λ o. IfSome (option_copied o) (AddsNoPieces (lent c.args.rules.now))) c.in-Some.is adds in
+    let behind : AddsNoPieces (lent c.args.rules.now) c.in-Some.value.now = subst
+    (λ o. IfSome (option_copied o) (AddsNoPieces (lent c.args.rules.now))) c.in-Some.is adds in
     let fine = c.end_of_run.ensures.free behind in
     absurd (search rules)
 

@@ -17,7 +17,8 @@ returns-in_err-region_override-clause-refused c =
     let p = err_from_is_err_and c.from_residual.result c.from_residual.ensures.1 in
     let e = c.in_err-region_override.field-0.0 in
     let at_rg : option_copied c.get.result ≡ value_at text_cmp c.args.keywords.now rg = search rules in
-    rw (p.1, p.2) (refused_first (lent c.args.rules.now) c.args.keywords.now e (subst (λ o. IsValueRefusal (lent c.args.rules.now) o e) at_rg c.in_err-region_override.ensures.refused))
+    rw (p.1, p.2) (refused_first (lent c.args.rules.now) c.args.keywords.now e
+    (subst (λ o. IsValueRefusal (lent c.args.rules.now) o e) at_rg c.in_err-region_override.ensures.refused))
 
 pub returns-in_err-region_override-clause-free : goal.returns-in_err-region_override-clause-free
 returns-in_err-region_override-clause-free c = λ no_rg no_sd.
@@ -32,8 +33,10 @@ returns-in_err-subdivision-clause-refused c =
     let e = c.in_err-subdivision.field-0.0 in
     let at_rg : option_copied c.get.result ≡ value_at text_cmp c.args.keywords.now rg = search rules in
     let at_sd : option_copied c.get-2.result ≡ value_at text_cmp c.args.keywords.now sd = search rules in
-    let ends = subst (λ o. IsLaterEndOf (next_value (lent c.args.rules.now)) o c.in_ok-region_override.region_override) at_rg c.in_ok-region_override.ensures.end in
-    rw (p.1, p.2) (refused_second (lent c.args.rules.now) c.args.keywords.now c.in_ok-region_override.region_override ends e (subst (λ o. IsValueRefusal (lent c.args.rules.now) o e) at_sd c.in_err-subdivision.ensures.refused))
+    let ends = subst (λ o. IsLaterEndOf (next_value (lent c.args.rules.now)) o c.in_ok-region_override.region_override) at_rg
+    c.in_ok-region_override.ensures.end in
+    rw (p.1, p.2) (refused_second (lent c.args.rules.now) c.args.keywords.now c.in_ok-region_override.region_override ends e
+    (subst (λ o. IsValueRefusal (lent c.args.rules.now) o e) at_sd c.in_err-subdivision.ensures.refused))
 
 pub returns-in_err-subdivision-clause-free : goal.returns-in_err-subdivision-clause-free
 returns-in_err-subdivision-clause-free c = λ no_rg no_sd.

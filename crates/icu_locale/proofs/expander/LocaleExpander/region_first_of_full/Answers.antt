@@ -3,10 +3,15 @@ use Rattle.icu_locale.proofs.Rows.{region_second, script_third, none_of_region_f
 use Rattle.icu_locale.proofs.expander.LocaleExpander.region_first_of_full.Goals as goal
 
 pub returns-then-region_leads : goal.returns-then-region_leads
-returns-then-region_leads c = c.locale_with-then-region_leads.ensures ∙ region_second _ _ c.requires.known _ (sym c.row_at-plain.ensures) _ _ (sym c.gives.ensures ∙ c.if-gives.false) c.requires.region (sym c.region_leads.ensures ∙ c.if-region_leads.true)
+returns-then-region_leads c = c.locale_with-then-region_leads.ensures ∙ region_second _ _ c.requires.known _
+    (sym c.row_at-plain.ensures) _ _ (sym c.gives.ensures ∙ c.if-gives.false) c.requires.region (sym c.region_leads.ensures ∙ c.if-region_leads.true)
 
 pub returns-then-script_leads : goal.returns-then-script_leads
-returns-then-script_leads c = c.locale_with-then-script_leads.ensures ∙ script_third _ _ c.requires.known _ (sym c.row_at-plain.ensures) _ _ (sym c.gives.ensures ∙ c.if-gives.false) c.requires.script c.requires.region (sym c.region_leads.ensures ∙ c.if-region_leads.false) (sym c.script_leads.ensures ∙ c.if-script_leads.true)
+returns-then-script_leads c = c.locale_with-then-script_leads.ensures ∙ script_third _ _ c.requires.known _ (sym c.row_at-plain.ensures) _ _
+    (sym c.gives.ensures ∙ c.if-gives.false) c.requires.script c.requires.region (sym c.region_leads.ensures ∙ c.if-region_leads.false)
+    (sym c.script_leads.ensures ∙ c.if-script_leads.true)
 
 pub returns : goal.returns
-returns c = c.locale_with-2.ensures ∙ none_of_region_first _ _ c.requires.known _ (sym c.row_at-plain.ensures) _ _ (sym c.gives.ensures ∙ c.if-gives.false) c.requires.script c.requires.region (sym c.region_leads.ensures ∙ c.if-region_leads.false) (sym c.script_leads.ensures ∙ c.if-script_leads.false)
+returns c = c.locale_with-2.ensures ∙ none_of_region_first _ _ c.requires.known _ (sym c.row_at-plain.ensures) _ _
+    (sym c.gives.ensures ∙ c.if-gives.false) c.requires.script c.requires.region (sym c.region_leads.ensures ∙ c.if-region_leads.false)
+    (sym c.script_leads.ensures ∙ c.if-script_leads.false)

@@ -9,4 +9,5 @@ use Rattle.icu_locale.proofs.expander.LocaleExpander.settles.Goals as goal
 pub returns : goal.returns
 returns g c =
     let own = c.key_locale.ensures ∙ ap key_locale c.key-key.ensures.value in
-    told _ (g.K.RowKey.key c.args.key.now) c.maximal_locale-maximal.result c.key-key.ensures.known (c.maximal_locale-maximal.ensures ∙ ap (maximal_locale (likely c.args.self.now)) own) c.is_settled_locale.result c.is_settled_locale.ensures
+    told _ (g.K.RowKey.key c.args.key.now) c.maximal_locale-maximal.result c.key-key.ensures.known
+    (c.maximal_locale-maximal.ensures ∙ ap (maximal_locale (likely c.args.self.now)) own) c.is_settled_locale.result c.is_settled_locale.ensures

@@ -18,9 +18,12 @@ returns-in_err-changes-clause-outcome c =
       unmodified = tt;
       refusal = c.in_err-changes.ensures.refusal;
       unchanged = refl;
-      ends = λ ends. inr (memory_from_end (likely c.args.self.now.expander) (lent c.args.self.now.rules) c.args.locale.now refusal c.in_err-changes.ensures.refusal ends);
-      repeats = λ z first. named (likely c.args.self.now.expander) (lent c.args.self.now.rules) c.args.locale.now refusal z c.in_err-changes.ensures.refusal first;
-      values_repeat = λ v first. named_value (likely c.args.self.now.expander) (lent c.args.self.now.rules) c.args.locale.now refusal v c.in_err-changes.ensures.refusal first;
+      ends = λ ends. inr (memory_from_end (likely c.args.self.now.expander) (lent c.args.self.now.rules) c.args.locale.now refusal
+          c.in_err-changes.ensures.refusal ends);
+      repeats = λ z first. named (likely c.args.self.now.expander) (lent c.args.self.now.rules) c.args.locale.now refusal z
+          c.in_err-changes.ensures.refusal first;
+      values_repeat = λ v first. named_value (likely c.args.self.now.expander)
+          (lent c.args.self.now.rules) c.args.locale.now refusal v c.in_err-changes.ensures.refusal first;
       free = c.in_err-changes.ensures.free;
     }
 
@@ -30,11 +33,13 @@ returns-clause-outcome c =
     let known = likely c.args.self.now.expander in
     let changes = c.in_ok-changes.changes in
     let said : c.write.result ≡ answer_of (is_applied known kept c.args.locale.now) = search rules in
-    let canonical = subst (IsCanonical known kept c.args.locale.now) (sym c.write.ensures.changed) (IsCanonical-with_changes known kept c.args.locale.now changes c.in_ok-changes.ensures.found) in
+    let canonical = subst (IsCanonical known kept c.args.locale.now) (sym c.write.ensures.changed)
+    (IsCanonical-with_changes known kept c.args.locale.now changes c.in_ok-changes.ensures.found) in
     record {
       canonical = canonical;
       answer = said;
-      unmodified = subst (λ answer. (answer ≡ Unmodified) ↔ (c.write.new.locale ≡ c.args.locale.now)) (sym said) (unmodified_exactly known kept c.args.locale.now c.write.new.locale canonical);
+      unmodified = subst (λ answer. (answer ≡ Unmodified) ↔ (c.write.new.locale ≡ c.args.locale.now)) (sym said)
+          (unmodified_exactly known kept c.args.locale.now c.write.new.locale canonical);
       refusal = tt;
       unchanged = tt;
       ends = λ ends. inl refl;

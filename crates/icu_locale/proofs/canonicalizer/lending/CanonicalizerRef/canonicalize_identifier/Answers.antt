@@ -13,22 +13,26 @@ use Rattle.icu_locale.proofs.canonicalizer.lending.CanonicalizerRef.canonicalize
 pub returns-then-is_none : goal.returns-then-is_none
 returns-then-is_none c =
     let none = nothing_next (rewritten (lent c.args.self.now.rules) c.args.id.now) c.matching.result _ c.if-is_none.ensures c.matching.ensures.found in
-    canonicalized (likely c.args.self.now.expander) (lent c.args.self.now.rules) c.args.id.now None Unmodified none (same_answer _ (lent c.args.self.now.rules) c.args.id.now none)
+    canonicalized (likely c.args.self.now.expander) (lent c.args.self.now.rules) c.args.id.now None Unmodified none
+    (same_answer _ (lent c.args.self.now.rules) c.args.id.now none)
 
 -- the run has no end, or memory was refused
 pub returns-in_err-last : goal.returns-in_err-last
 returns-in_err-last c =
     let p = err_from_is_err_and c.from_residual.result c.from_residual.ensures.1 in
-    rw (p.1, p.2) (refused (likely c.args.self.now.expander) (lent c.args.self.now.rules) c.args.id.now c.in_err-last.field-0.0 c.in_err-last.ensures.refused c.in_err-last.ensures.free)
+    rw (p.1, p.2) (refused (likely c.args.self.now.expander) (lent c.args.self.now.rules) c.args.id.now c.in_err-last.field-0.0
+    c.in_err-last.ensures.refused c.in_err-last.ensures.free)
 
 -- the run has an end
 pub returns-in-Some : goal.returns-in-Some
 returns-in-Some c =
     let ends = subst (IsLaterEnd (next (likely c.args.self.now.expander) (lent c.args.self.now.rules)) c.args.id.now) c.in-Some.is c.in_ok-last.ensures.end in
-    canonicalized (likely c.args.self.now.expander) (lent c.args.self.now.rules) c.args.id.now (Some c.in-Some.last) Modified ends (changed_answer _ (lent c.args.self.now.rules) c.args.id.now ends.0)
+    canonicalized (likely c.args.self.now.expander) (lent c.args.self.now.rules) c.args.id.now (Some c.in-Some.last) Modified ends
+    (changed_answer _ (lent c.args.self.now.rules) c.args.id.now ends.0)
 
 -- or none, where nothing follows the identifier
 pub returns : goal.returns
 returns c =
     let none = subst (IsLaterEnd (next (likely c.args.self.now.expander) (lent c.args.self.now.rules)) c.args.id.now) c.in-None.is c.in_ok-last.ensures.end in
-    canonicalized (likely c.args.self.now.expander) (lent c.args.self.now.rules) c.args.id.now None Unmodified none (same_answer _ (lent c.args.self.now.rules) c.args.id.now none)
+    canonicalized (likely c.args.self.now.expander) (lent c.args.self.now.rules) c.args.id.now None Unmodified none
+    (same_answer _ (lent c.args.self.now.rules) c.args.id.now none)

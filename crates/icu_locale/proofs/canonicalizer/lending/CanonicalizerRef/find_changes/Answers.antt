@@ -9,13 +9,15 @@ use Rattle.icu_locale.proofs.canonicalizer.lending.CanonicalizerRef.find_changes
 pub returns-in_err-id-clause-refusal : goal.returns-in_err-id-clause-refusal
 returns-in_err-id-clause-refusal c =
     let p = err_from_is_err_and c.from_residual.result c.from_residual.ensures.1 in
-    rw (p.1, p.2) (refused_identifiers (likely c.args.self.now.expander) (lent c.args.self.now.rules) c.args.locale.now c.in_err-id.field-0.0 c.in_err-id.ensures.refusal)
+    rw (p.1, p.2) (refused_identifiers (likely c.args.self.now.expander) (lent c.args.self.now.rules) c.args.locale.now
+    c.in_err-id.field-0.0 c.in_err-id.ensures.refusal)
 
 -- a refusal of the runs of values
 pub returns-in_err-region_override-clause-refusal : goal.returns-in_err-region_override-clause-refusal
 returns-in_err-region_override-clause-refusal c =
     let p = err_from_is_err_and c.from_residual-in_err-region_override.result c.from_residual-in_err-region_override.ensures.1 in
-    rw (p.1, p.2) (refused_values (likely c.args.self.now.expander) (lent c.args.self.now.rules) c.args.locale.now _ c.in_ok-id.ensures.ends c.in_err-region_override.field-0.0 c.in_err-region_override.ensures.refused)
+    rw (p.1, p.2) (refused_values (likely c.args.self.now.expander) (lent c.args.self.now.rules) c.args.locale.now _ c.in_ok-id.ensures.ends
+    c.in_err-region_override.field-0.0 c.in_err-region_override.ensures.refused)
 
 pub returns-in_err-region_override-clause-free : goal.returns-in_err-region_override-clause-free
 returns-in_err-region_override-clause-free c =
