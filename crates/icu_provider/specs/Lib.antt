@@ -1,5 +1,6 @@
 pub mod Exemplars
 pub mod InversionList
+pub mod Lends
 pub mod Names
 pub mod Places
 pub mod Provider

@@ -1,5 +1,6 @@
 //! A map in a sorted list: look-ups by binary search, and walks in the keys' order.
 ghost use Rattle.std.specs.Prelude.{◌≡◌, ◌==◌, ◌<◌, ◌≤◌, ◌^◌, [], length, Some, MatchResult, is_some, option_copied, List, ⊤};
+ghost use Rattle.std.specs.Option.{option_copied_mut};
 ghost use Rattle.std.specs.Iterator.{YieldsFirstBy, item_count};
 ghost use Rattle.std.specs.Map.Iter.{deref_pair};
 ghost use Rattle.icu_locale_core.specs.Maps.{value_at};
@@ -27,6 +28,9 @@ impl<K: Ord, V> Model for SortedMap<K, V> {
 }
 
 impl<K: Ord, V> SortedMap<K, V> {
+    ghost use Rattle.std.specs.Borrow.{sem};
+    ghost use Rattle.icu_provider.specs.Lends.{LendsValue};
+
     /// A map with no rows.
     pub fn new(alloc: Global) -> Self
         ensures { result ≡ [] }
@@ -64,6 +68,17 @@ impl<K: Ord, V> SortedMap<K, V> {
     {
         match self.search(key) {
             Ok(at) => Some(&self.entries[at].1),
+            Err(_) => None,
+        }
+    }
+
+    /// The value at the key, to be changed, found by binary search. It takes no memory.
+    pub fn get_mut(&mut self, key: &K) -> Option<&mut V>
+        ensures* writes_back { sem 𝓛 (LendsValue K.row V.row K.Ord self.entry key.now result) }
+        ensures value { option_copied_mut result ≡ value_at K.cmp self.old key.now }
+    {
+        match self.search(key) {
+            Ok(at) => Some(&mut self.entries[at].1),
             Err(_) => None,
         }
     }

@@ -1,18 +1,17 @@
 -- Names in groups: what a look-up finds, and what a row that is put into its group does to the one list.
-use Rattle.std.proofs.Common.{◌≡◌, ◌≢◌, ℕ, ◌<◌, List, [], length, get_or, set, unwrap_or, String, Option, Some, None, option_and_then, Result, Ok, Err, IsSome, refl, sym, ap, ◌∙◌, subst}
+use Rattle.std.proofs.Common.{◌≡◌, List, [], ◌∷◌, unwrap_or, String, Option, Some, None, option_and_then, Result, Ok, Err, IsSome, IfSome, refl, sym, ap, ◌∙◌, subst}
 use Rattle.std.specs.Global.{Global}
 use Rattle.std.specs.Cmp.{IsTotalOrder}
-use Rattle.std.specs.List.{insert}
 use Rattle.std.specs.List.Sorted.{IsStrictlySortedBy}
 use Rattle.std.specs.BTreeMap.{insert_entry}
 use Rattle.std.specs.Ordering.{ordering_then}
 use Rattle.std.specs.declared.cmp.Ordering.TheVariants.{Equal}
 use Rattle.std.proofs.lemmas.Cmp.{on_total, then_total, tied_itself}
-use Rattle.std.proofs.lemmas.List.{set-get_or}
-use Rattle.std.proofs.lemmas.Option.{none-some}
+use Rattle.std.proofs.lemmas.Bool.{false≢true}
+use Rattle.std.proofs.lemmas.Map.Entries.{All-lookup}
 use Rattle.std.proofs.lemmas.List.Elements.{All-from_recursion}
 use Rattle.icu_locale_core.specs.Maps.{IsSortedMap, value_at}
-use Rattle.icu_provider.specs.SortedMaps.{Holds, Inserts, TiesEqualAlone}
+use Rattle.icu_provider.specs.SortedMaps.{Inserts, TiesEqualAlone}
 use Rattle.icu_provider.specs.Requests.{name_cmp}
 use Rattle.icu_provider.specs.contracts.data_locale.DataLocaleOrd.TheImpl.Laws as data_locale
 use Rattle.icu_provider.specs.contracts.names.NameKeyOrd.TheImpl.Laws as name_key
@@ -21,9 +20,8 @@ use Rattle.icu_provider.specs.declared.data_locale.DataLocale.{DataLocale}
 use Rattle.icu_provider.specs.declared.error.DataError.{DataError}
 use Rattle.icu_provider.specs.declared.names.NameKey.{NameKey}
 use Rattle.icu_provider.specs.declared.names.NameMarker.{NameMarker}
-use Rattle.icu_provider.specs.Places.{IsAt, IsGapFor}
-use Rattle.icu_tables.specs.Groups.{NameGroup, RiseInGroups, flat_names, group_cmp, key_cmp, request_of, rows_at}
-use Rattle.icu_provider.specs.laws.SortedMaps.{IsSortedMap-insert_entry, lookup_at, lookup_in_gap, insert_entry-at, insert_entry-in_gap, inserts_from_rows}
+use Rattle.icu_tables.specs.Groups.{NameGroup, RiseInGroups, flat_names, group_cmp, key_cmp, request_of}
+use Rattle.icu_provider.specs.laws.SortedMaps.{IsSortedMap-insert_entry, insert_entry-same, inserts_from_rows}
 use Rattle.icu_tables.proofs.Groups.{each-insert_entry, flat_rises, insert_entry-flat, value_at-flat}
 
 abbrev Names : Type 0
@@ -47,111 +45,91 @@ same_group ties key g h tied =
     let whole : name_cmp (request_of g key) (request_of h key) ≡ Equal = ap (λ o. ordering_then o (key_cmp key key)) tied ∙ tied_itself key_total key in
     ap (λ r. (r.0, r.1)) ((ties (request_of g key) (request_of h key)).0 whole)
 
--- a look-up goes on in the group that is there
-pub name_found : (groups : Groups) (g : NameGroup) (key : NameKey) (names : Names) → RiseInGroups group_cmp key_cmp groups → value_at group_cmp groups g ≡ Some names → value_at name_cmp (flat_names groups) (request_of g key) ≡ value_at key_cmp names key
-name_found groups g key names rise there =
-    value_at-flat request_of key_cmp name_cmp group_total (λ g h k l. refl) groups g key rise.groups_rise
-    ∙ ap (option_and_then (λ rows. value_at key_cmp rows key)) there
-
--- and where no group is there it finds nothing
-pub name_missing : (groups : Groups) (g : NameGroup) (key : NameKey) → RiseInGroups group_cmp key_cmp groups → value_at group_cmp groups g ≡ None → value_at name_cmp (flat_names groups) (request_of g key) ≡ None
-name_missing groups g key rise none =
-    value_at-flat request_of key_cmp name_cmp group_total (λ g h k l. refl) groups g key rise.groups_rise
-    ∙ ap (option_and_then (λ rows. value_at key_cmp rows key)) none
-
--- the one list rises
-pub names_rise : (groups : Groups) → RiseInGroups group_cmp key_cmp groups → IsSortedMap name_cmp (flat_names groups)
-names_rise groups rise = flat_rises request_of key_cmp name_cmp group_total (λ g h k l. refl) groups rise.groups_rise rise.keys_rise
-
--- groups with the rows of one replaced still rise
-pub rise_after : (groups new : Groups) (g : NameGroup) (names : Names) → RiseInGroups group_cmp key_cmp groups → IsSortedMap key_cmp names → names ≢ [] → new ≡ insert_entry group_cmp groups g names → RiseInGroups group_cmp key_cmp new
-rise_after groups new g names rise sorted some is = subst (RiseInGroups group_cmp key_cmp) (sym is) (record {
-  groups_rise = IsSortedMap-insert_entry group_total groups g names rise.groups_rise;
-  each_some = each-insert_entry group_cmp (λ rows. rows ≢ []) groups g names rise.each_some some;
-  keys_rise = each-insert_entry group_cmp (IsSortedMap key_cmp) groups g names rise.keys_rise sorted;
-})
-
--- a row that is put into its group is put into the one list
-pub holds_after : (groups new : Groups) (g : NameGroup) (key : NameKey) (name : String Global) → TiesEqualAlone name_cmp → RiseInGroups group_cmp key_cmp groups → new ≡ insert_entry group_cmp groups g (insert_entry key_cmp (rows_at group_cmp groups g) key name) → Holds name_cmp (flat_names groups) (flat_names new) (request_of g key) name
-holds_after groups new g key name ties rise is =
-    let rows : flat_names new ≡ insert_entry name_cmp (flat_names groups) (request_of g key) name =
-    ap flat_names is ∙ sym (insert_entry-flat request_of key_cmp name_cmp group_total (λ g h k l. refl) (same_group ties key) groups g key name rise.groups_rise) in
-    inserts_from_rows name_total (flat_names groups) (flat_names new) (request_of g key) name (names_rise groups rise) rows
-
--- the names of a group that is there rise
-row_rises : (groups : Groups) (at : ℕ) (row : NameGroup × Names) → RiseInGroups group_cmp key_cmp groups → at < length groups → row ≡ get_or groups at row → IsSortedMap key_cmp row.1
-row_rises groups at row rise in_range here = subst (λ (r : NameGroup × Names). IsSortedMap key_cmp r.1) (sym here) (All-from_recursion _ _ rise.keys_rise at row in_range)
-
--- after an insert into one group, its names still rise
-sorted_after : (old names : Names) (key : NameKey) (name : String Global) (result : Result (Unit {0}) DataError) → IsSortedMap key_cmp old → Inserts key_cmp old names key name result → IsSortedMap key_cmp names
-sorted_after old names key name (Ok done) sorted inserts = inserts.holds.sorted
-sorted_after old names key name (Err e) sorted inserts = subst (IsSortedMap key_cmp) (sym inserts.refuses.unchanged) sorted
-
--- nor are they none
-some_names : (old names : Names) (key : NameKey) (name : String Global) → Inserts key_cmp old names key name (Ok tt) → names ≢ []
-some_names old names key name inserts none = absurd (none-some name (subst (λ (rows : Names). value_at key_cmp rows key ≡ Some name) none inserts.holds.found))
-
-some_after : (old names : Names) (key : NameKey) (name : String Global) (result : Result (Unit {0}) DataError) → old ≢ [] → Inserts key_cmp old names key name result → names ≢ []
-some_after old names key name (Ok done) some inserts = some_names old names key name inserts
-some_after old names key name (Err e) some inserts = subst (λ (rows : Names). rows ≢ []) (sym inserts.refuses.unchanged) some
-
-row_some : (groups : Groups) (at : ℕ) (row : NameGroup × Names) → RiseInGroups group_cmp key_cmp groups → at < length groups → row ≡ get_or groups at row → row.1 ≢ []
-row_some groups at row rise in_range here = subst (λ (r : NameGroup × Names). r.1 ≢ []) (sym here) (All-from_recursion _ _ rise.each_some at row in_range)
-
--- a group that is there stands where the search found it
-stands : (groups : Groups) (g : NameGroup) (at : ℕ) (row : NameGroup × Names) → RiseInGroups group_cmp key_cmp groups → IsAt group_cmp groups g at → row ≡ get_or groups at row → value_at group_cmp groups g ≡ Some row.1
-stands groups g at row rise is here = lookup_at group_total groups g at row rise.groups_rise is ∙ sym (ap (λ (r : NameGroup × Names). Some r.1) here)
-
--- a look-up in the group that the search found
-pub found_at : (groups : Groups) (g : NameGroup) (key : NameKey) (at : ℕ) (row : NameGroup × Names) → RiseInGroups group_cmp key_cmp groups → IsAt group_cmp groups g at → row ≡ get_or groups at row → value_at name_cmp (flat_names groups) (request_of g key) ≡ value_at key_cmp row.1 key
-found_at groups g key at row rise is here = name_found groups g key row.1 rise (stands groups g at row rise is here)
-
--- where the search found a gap there is no name
-pub missing_in_gap : (groups : Groups) (g : NameGroup) (key : NameKey) (at : ℕ) → RiseInGroups group_cmp key_cmp groups → IsGapFor group_cmp groups g at → value_at name_cmp (flat_names groups) (request_of g key) ≡ None
-missing_in_gap groups g key at rise gap = name_missing groups g key rise (lookup_in_gap group_total groups g at gap)
-
--- an insert into the group that the search found
-pub rise_at : (groups : Groups) (g : NameGroup) (key : NameKey) (name : String Global) (at : ℕ) (row : NameGroup × Names) (names : Names) (result : Result (Unit {0}) DataError) → RiseInGroups group_cmp key_cmp groups → IsAt group_cmp groups g at → row ≡ get_or groups at row → Inserts key_cmp row.1 names key name result → RiseInGroups group_cmp key_cmp (set groups at (row.0, names))
-rise_at groups g key name at row names result rise is here inserts =
-    let sorted = sorted_after row.1 names key name result (row_rises groups at row rise is.in_range here) inserts in
-    let some = some_after row.1 names key name result (row_some groups at row rise is.in_range here) inserts in
-    rise_after groups _ g names rise sorted some (insert_entry-at group_total groups g names at row rise.groups_rise is here)
-
-pub inserts_at : (groups : Groups) (g : NameGroup) (key : NameKey) (name : String Global) (at : ℕ) (row : NameGroup × Names) (names : Names) (result : Result (Unit {0}) DataError) → TiesEqualAlone name_cmp → RiseInGroups group_cmp key_cmp groups → IsAt group_cmp groups g at → row ≡ get_or groups at row → Inserts key_cmp row.1 names key name result → Inserts name_cmp (flat_names groups) (flat_names (set groups at (row.0, names))) (request_of g key) name result
-inserts_at groups g key name at row names (Ok done) ties rise is here inserts =
-    let held : rows_at group_cmp groups g ≡ row.1 = ap (λ (found : Option Names). unwrap_or found []) (stands groups g at row rise is here) in
-    let rows : names ≡ insert_entry key_cmp (rows_at group_cmp groups g) key name = inserts.holds.rows ∙ ap (λ old. insert_entry key_cmp old key name) (sym held) in
-    let whole = insert_entry-at group_total groups g names at row rise.groups_rise is here ∙ ap (insert_entry group_cmp groups g) rows in
-    record {
-      holds = holds_after groups _ g key name ties rise whole;
-      refuses = record { memory = tt; unchanged = tt };
-      present = λ found. refl;
-    }
-inserts_at groups g key name at row names (Err e) ties rise is here inserts =
-    let same : set groups at (row.0, names) ≡ groups =
-    ap (λ rest. set groups at (row.0, rest)) inserts.refuses.unchanged ∙ ap (set groups at) here ∙ set-get_or groups at row in
-    record {
-      holds = tt;
-      refuses = record { memory = inserts.refuses.memory; unchanged = ap flat_names same };
-      present = λ found. inserts.present (subst IsSome (found_at groups g key at row rise is here) found);
-    }
-
--- a new group of one row
-pub rise_in_gap : (groups : Groups) (g : NameGroup) (key : NameKey) (name : String Global) (at : ℕ) (names : Names) → RiseInGroups group_cmp key_cmp groups → IsGapFor group_cmp groups g at → Inserts key_cmp [] names key name (Ok tt) → RiseInGroups group_cmp key_cmp (insert groups at (g, names))
-rise_in_gap groups g key name at names rise gap inserts = rise_after groups _ g names rise inserts.holds.sorted (some_names [] names key name inserts) (insert_entry-in_gap group_total groups g names at gap)
-
-pub inserts_in_gap : (groups : Groups) (g : NameGroup) (key : NameKey) (name : String Global) (at : ℕ) (names : Names) → TiesEqualAlone name_cmp → RiseInGroups group_cmp key_cmp groups → IsGapFor group_cmp groups g at → Inserts key_cmp [] names key name (Ok tt) → Inserts name_cmp (flat_names groups) (flat_names (insert groups at (g, names))) (request_of g key) name (Ok tt)
-inserts_in_gap groups g key name at names ties rise gap inserts =
-    let held : rows_at group_cmp groups g ≡ [] = ap (λ (found : Option Names). unwrap_or found []) (lookup_in_gap group_total groups g at gap) in
-    let rows : names ≡ insert_entry key_cmp (rows_at group_cmp groups g) key name = inserts.holds.rows ∙ ap (λ old. insert_entry key_cmp old key name) (sym held) in
-    let whole = insert_entry-in_gap group_total groups g names at gap ∙ ap (insert_entry group_cmp groups g) rows in
-    record {
-      holds = holds_after groups _ g key name ties rise whole;
-      refuses = record { memory = tt; unchanged = tt };
-      present = λ found. refl;
-    }
+-- the names of groups rise in each
+abbrev Rise : Groups → Type 0
+Rise groups = RiseInGroups group_cmp key_cmp groups
 
 -- no groups
-pub rise_where_none : (groups : Groups) → groups ≡ [] → RiseInGroups group_cmp key_cmp groups
+pub rise_where_none : (groups : Groups) → groups ≡ [] → Rise groups
 unfolding IsStrictlySortedBy
-rise_where_none groups is = subst (RiseInGroups group_cmp key_cmp) (sym is) (record { groups_rise = tt; each_some = tt; keys_rise = tt })
+rise_where_none groups is = subst Rise (sym is) (record { groups_rise = tt; keys_rise = tt })
+
+-- one name is in order
+pub one_rises : (key : NameKey) (name : String Global) → IsSortedMap key_cmp ((key, name) ∷ [])
+unfolding IsStrictlySortedBy
+one_rises key name = (tt, tt)
+
+-- the one list rises
+pub names_rise : (groups : Groups) → Rise groups → IsSortedMap name_cmp (flat_names groups)
+names_rise groups rise = flat_rises request_of key_cmp name_cmp group_total (λ g h k l. refl) groups rise.groups_rise rise.keys_rise
+
+-- groups with the names of one replaced still rise
+pub rise_after : (groups : Groups) (g : NameGroup) (names : Names) → Rise groups → IsSortedMap key_cmp names → Rise (insert_entry group_cmp groups g names)
+rise_after groups g names rise sorted = record {
+  groups_rise = IsSortedMap-insert_entry group_total groups g names rise.groups_rise;
+  keys_rise = each-insert_entry group_cmp (IsSortedMap key_cmp) groups g names rise.keys_rise sorted;
+}
+
+module _ (groups : Groups) (g : NameGroup) (key : NameKey) (rise : Rise groups) where
+  -- a look-up in the one list is one among the groups, and then one among the names
+  pub name_in_groups : value_at name_cmp (flat_names groups) (request_of g key) ≡ option_and_then (λ names. value_at key_cmp names key) (value_at group_cmp groups g)
+  name_in_groups = value_at-flat request_of key_cmp name_cmp group_total (λ g h k l. refl) groups g key rise.groups_rise
+
+  -- where no group is there it finds nothing
+  pub name_missing : value_at group_cmp groups g ≡ None → value_at name_cmp (flat_names groups) (request_of g key) ≡ None
+  name_missing none = name_in_groups ∙ ap (option_and_then (λ names. value_at key_cmp names key)) none
+
+  module _ (name : String Global) where
+    -- after an insert into a group that is there, its names still rise
+    pub names_after : (old names : Names) (result : Result (Unit {0}) DataError) → value_at group_cmp groups g ≡ Some old
+        → Inserts key_cmp old names key name result → IsSortedMap key_cmp names
+    names_after old names (Ok done) there inserts = inserts.holds.sorted
+    names_after old names (Err e) there inserts =
+        let found = All-lookup (IsSortedMap key_cmp) _ groups (All-from_recursion _ _ rise.keys_rise) in
+        let sorted = subst (λ held. IfSome held (IsSortedMap key_cmp)) there found in
+        subst (IsSortedMap key_cmp) (sym inserts.refuses.unchanged) sorted
+
+    -- a group of one name is put among groups that rise
+    pub rise_new : (new : Groups) (result : Result (Unit {0}) DataError) → Inserts group_cmp groups new g ((key, name) ∷ []) result → Rise new
+    rise_new new (Ok done) inserts = subst Rise (sym inserts.holds.rows) (rise_after groups g _ rise (one_rises key name))
+    rise_new new (Err e) inserts = subst Rise (sym inserts.refuses.unchanged) rise
+
+    -- what an insert into the one list says
+    abbrev Put : Groups → Result (Unit {0}) DataError → Type 0
+    Put new result = Inserts name_cmp (flat_names groups) (flat_names new) (request_of g key) name result
+
+    module _ (ties : TiesEqualAlone name_cmp) where
+      -- a row that is put into its group, which is empty where it is new, is put into the one list
+      put : (new : Groups) (found : Option Names) → value_at group_cmp groups g ≡ found
+          → new ≡ insert_entry group_cmp groups g (insert_entry key_cmp (unwrap_or found []) key name) → Put new (Ok tt)
+      put new found there is =
+          let here = ap (λ held. insert_entry group_cmp groups g (insert_entry key_cmp (unwrap_or held []) key name)) (sym there) in
+          let flat = insert_entry-flat request_of key_cmp name_cmp group_total (λ g h k l. refl) (same_group ties key) groups g key name rise.groups_rise in
+          record {
+            holds = inserts_from_rows name_total (flat_names groups) _ (request_of g key) name (names_rise groups rise) (ap flat_names (is ∙ here) ∙ sym flat);
+            refuses = record { memory = tt; unchanged = tt };
+            present = λ found. refl;
+          }
+
+      -- an insert into a group that is there
+      pub inserts_there : (old names : Names) (result : Result (Unit {0}) DataError) → value_at group_cmp groups g ≡ Some old
+          → Inserts key_cmp old names key name result → Put (insert_entry group_cmp groups g names) result
+      inserts_there old names (Ok done) there inserts = put _ (Some old) there (ap (insert_entry group_cmp groups g) inserts.holds.rows)
+      inserts_there old names (Err e) there inserts =
+          let same = ap (insert_entry group_cmp groups g) inserts.refuses.unchanged ∙ insert_entry-same group_total groups g old rise.groups_rise there in
+          let whole = name_in_groups ∙ ap (option_and_then (λ rows. value_at key_cmp rows key)) there in
+          record {
+            holds = tt;
+            refuses = record { memory = inserts.refuses.memory; unchanged = ap flat_names same };
+            present = λ found. inserts.present (subst IsSome whole found);
+          }
+
+      -- an insert of a group of one name
+      pub inserts_new : (new : Groups) (result : Result (Unit {0}) DataError) → value_at group_cmp groups g ≡ None
+          → Inserts group_cmp groups new g ((key, name) ∷ []) result → Put new result
+      inserts_new new (Ok done) none inserts = put new None none inserts.holds.rows
+      inserts_new new (Err e) none inserts = record {
+        holds = tt;
+        refuses = record { memory = inserts.refuses.memory; unchanged = ap flat_names inserts.refuses.unchanged };
+        present = λ found. absurd (false≢true (subst IsSome (name_missing none) found));
+      }

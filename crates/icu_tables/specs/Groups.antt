@@ -1,5 +1,5 @@
 -- Names in groups, one for each marker and locale, and the one list that a contract sees.
-use Rattle.std.specs.Prelude.{◌≡◌, ◌≢◌, List, [], ◌∷◌, ◌++◌, map, get_or, unwrap_or, Option, None, option_and_then, String}
+use Rattle.std.specs.Prelude.{◌≡◌, List, [], ◌∷◌, ◌++◌, map, get_or, unwrap_or, Option, None, option_and_then, option_copied, String}
 use Rattle.std.specs.Borrow.{Bor}
 use Rattle.std.specs.Global.{Global}
 use Rattle.std.specs.List.{AllByRecursion}
@@ -27,11 +27,10 @@ flat whole (group ∷ groups) = group_rows whole group.0 group.1 ++ flat whole g
 abbrev pub rows_at : {G T : Type 0} → (G → G → Ordering) → List (G × List T) → G → List T
 rows_at by_group groups group = unwrap_or (value_at by_group groups group) []
 
--- the groups rise, none is empty, and the keys in each rise
+-- the groups rise, and the keys in each rise
 pub record RiseInGroups {G K V : Type 0} (by_group : G → G → Ordering) (by_key : K → K → Ordering)
     (groups : List (G × List (K × V))) : Type 0 where
   pub groups_rise : IsSortedMap by_group groups
-  pub each_some : AllByRecursion (λ group. group.1 ≢ []) groups
   pub keys_rise : AllByRecursion (λ group. IsSortedMap by_key group.1) groups
 
 -- a marker and a locale
@@ -62,7 +61,7 @@ Names = List (NameKey × String Global)
 
 -- the name at a key in a group, if both are there
 abbrev pub name_in_group : Option (Bor Names) → NameKey → Option (String Global)
-name_in_group group key = option_and_then (λ names. value_at key_cmp names.now key) group
+name_in_group group key = option_and_then (λ names. value_at key_cmp names key) (option_copied group)
 
 -- the groups of a locale, each at the place of its marker
 abbrev pub AreGroupsIn : List ((NameMarker × DataLocale × NameKey) × String Global) → DataLocale

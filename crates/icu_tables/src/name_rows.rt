@@ -3,25 +3,23 @@ ghost use Rattle.std.specs.Prelude.{◌≡◌, ◌==◌, ◌-◌, ◌^◌, [], l
 ghost use Rattle.icu_locale_core.specs.Maps.{value_at};
 ghost use Rattle.icu_provider.specs.SortedMaps.{Inserts, IsSortedMap};
 ghost use Rattle.icu_provider.specs.Requests.{name_cmp};
-ghost use Rattle.icu_provider.specs.Places.{IsAt, IsGapFor};
 ghost use Rattle.icu_tables.specs.Groups.{flat_names, group_cmp, name_in_group};
 
 use crate::LocaleNames;
 use icu_provider::laws::keys_are_told_apart;
 use icu_provider::{DataError, DataLocale, NameKey, NameMarker, SortedMap};
 use std::alloc::Global;
-use std::cmp::Ordering;
 use std::marker::Model;
 
-// A marker and a locale, and their names by key.
-type Group = ((NameMarker, DataLocale), SortedMap<NameKey, String>);
+// The names of a marker and a locale, by key.
+type Names = SortedMap<NameKey, String>;
 
 /// Names by marker, locale and key. A marker and a locale that have names are a group with a map of its own, so that a
 /// request whose marker and locale have none is answered by a look at the groups alone. A contract sees one list of
 /// rows, in the order of marker, locale and key. Only `insert` takes memory.
 #[derive(Debug)]
 pub struct NameRows {
-    groups: Vec<Group>,
+    groups: SortedMap<(NameMarker, DataLocale), Names>,
 }
 
 impl Drop for NameRows {
@@ -40,9 +38,9 @@ impl Model for NameRows {
 
     ghost Value = { List ((NameMarker × DataLocale × NameKey) × String Global) };
 
-    ghost view = { λ m. flat_names m.groups.items };
+    ghost view = { λ m. flat_names m.groups };
 
-    ghost invariant = { λ m. RiseInGroups group_cmp key_cmp m.groups.items };
+    ghost invariant = { λ m. RiseInGroups group_cmp key_cmp m.groups };
 }
 
 impl NameRows {
@@ -51,7 +49,7 @@ impl NameRows {
         ensures { result ≡ [] }
     {
         NameRows {
-            groups: Vec::new(alloc),
+            groups: SortedMap::new(alloc),
         }
     }
 
@@ -59,7 +57,7 @@ impl NameRows {
     pub fn len(&self) -> usize
         ensures { result ≡ min (length self.now) (2 ^ 64 - 1) }
     {
-        count_of(&self.groups)
+        count_of(self.groups.as_slice())
     }
 
     /// Whether there is no name. It asks each group once.
@@ -81,18 +79,11 @@ impl NameRows {
 
     // The names of a marker and a locale, if there are any, found by binary search.
     #[inline]
-    pub(crate) fn group(
-        &self,
-        marker: NameMarker,
-        locale: &DataLocale,
-    ) -> Option<&SortedMap<NameKey, String>>
+    pub(crate) fn group(&self, marker: NameMarker, locale: &DataLocale) -> Option<&Names>
         ensures { (key : NameKey)
             → name_in_group result key ≡ value_at name_cmp self.now (marker, locale.now, key) }
     {
-        match place_of(&self.groups, &(marker, *locale)) {
-            Ok(at) => Some(&self.groups[at].1),
-            Err(_) => None,
-        }
+        self.groups.get(&(marker, *locale))
     }
 
     /// The same names, to be asked in one locale again and again. It takes no memory.
@@ -120,12 +111,12 @@ impl NameRows {
         ensures { Inserts name_cmp self.old self.new (marker, locale, key) name result }
     {
         keys_are_told_apart();
-        match place_of(&self.groups, &(marker, locale)) {
-            Ok(at) => self.groups[at].1.insert(key, name),
-            Err(at) => {
-                let mut names = SortedMap::new(*self.groups.allocator());
-                names.insert(key, name)?;
-                Ok(self.groups.insert(at, ((marker, locale), names))?)
+        let group = (marker, locale);
+        match self.groups.get_mut(&group) {
+            Some(names) => names.insert(key, name),
+            None => {
+                let names = vec![in *name.allocator(); (key, name)]?;
+                self.groups.insert(group, SortedMap::from_sorted(names))
             }
         }
     }
@@ -138,22 +129,8 @@ impl NameRows {
     }
 }
 
-// Where the group of a marker and a locale stands, or where it would go.
-#[inline]
-fn place_of(groups: &[Group], wanted: &(NameMarker, DataLocale)) -> Result<usize, usize>
-    requires { IsSortedMap group_cmp groups.now }
-    ensures { MatchResult result
-        (IsAt group_cmp groups.now wanted.now) (IsGapFor group_cmp groups.now wanted.now) }
-{
-    groups.binary_search_by(
-        |group: &Group| -> Ordering
-            ensures { result ≡ group_cmp group.now.0 wanted.entry.now }
-        { group.0.cmp(wanted) },
-    )
-}
-
 // How many names stand in groups.
-fn count_of(groups: &[Group]) -> usize
+fn count_of(groups: &[((NameMarker, DataLocale), Names)]) -> usize
     ensures { result ≡ min (length (flat_names groups.now)) (2 ^ 64 - 1) }
 {
     let mut count: usize = 0;

@@ -11,9 +11,10 @@ use Rattle.std.specs.BTreeMap.{is_at, insert_entry}
 use Rattle.std.specs.Cmp.{IsTotalOrder}
 use Rattle.std.proofs.lemmas.Cmp.{eq_by_cmp_equiv, tied_back, alike_right}
 use Rattle.std.proofs.lemmas.List.Elements.{Contains-get_or, All-from_recursion, recursion_from_All, All-weaker}
-use Rattle.std.proofs.lemmas.Option.{slice_get-get_or}
+use Rattle.std.proofs.lemmas.Option.{slice_get-get_or, none-some, same_Some}
 use Rattle.std.proofs.lemmas.Map.Keys.{IsDistinct-from_sorted, sorted_tail, Less-from_sorted}
-use Rattle.std.proofs.lemmas.Map.Entries.{lookup_from_place, length-keys_of}
+use Rattle.std.proofs.lemmas.Map.{lookup-none}
+use Rattle.std.proofs.lemmas.Map.Entries.{lookup_from_place, length-keys_of, none_below_head}
 use Rattle.std.proofs.lemmas.Map.Views.{All-keys-insert_entry}
 use Rattle.std.proofs.lemmas.List.{get_or-map, get_or_default}
 use Rattle.std.proofs.lemmas.List.Sorted.{searchable_from_sorted}
@@ -141,6 +142,19 @@ module _ {K V : Type 0} {compare : K → K → Ordering} (total : IsTotalOrder c
   insert_entry-in_gap (row ∷ rows) key value (suc at) gap =
       let step = insert_entry-step compare key value row rows Greater (gap.above_before 0 row (omega arith) (omega arith)) in
       ap (λ rest. row ∷ rest) (insert_entry-in_gap rows key value at (gap_tail row rows key at gap)) ∙ sym step
+
+  -- a value that is there already changes nothing
+  pub insert_entry-same : (rows : List (K × V)) (key : K) (value : V) → IsSortedMap compare rows
+      → value_at compare rows key ≡ Some value → insert_entry compare rows key value ≡ rows
+  insert_entry-same [] key value sorted found = absurd (none-some value found)
+  insert_entry-same (row ∷ rows) key value sorted found =
+      let step = insert_entry-step compare key value row rows in
+      let first = λ (o : Ordering) (is : compare key row.0 ≡ o).
+      ap (λ (p : Ordering). if is_eq p then Some row.1 else value_at compare rows key) (sym is) ∙ found in
+      by_answer (compare key row.0)
+      (λ is. absurd (none-some value (sym (lookup-none _ (row ∷ rows) (none_below_head total key row rows sorted is)) ∙ found)))
+      (λ is. step Equal is ∙ ap (λ (v : V). (row.0, v) ∷ rows) (sym (same_Some row.1 value (first Equal is))))
+      (λ is. step Greater is ∙ ap (λ rest. row ∷ rest) (insert_entry-same rows key value (sorted_tail compare _ _ sorted) (first Greater is)))
 
   -- rows with the value inserted stay in order, and find it
   pub inserts_from_rows : (old new : List (K × V)) (key : K) (value : V) → IsSortedMap compare old → new ≡ insert_entry compare old key value → Holds compare old new key value
