@@ -14,7 +14,8 @@ even_tail : (n : ℕ) → suc (suc n) % 2 ≡ 0 → n % 2 ≡ 0
 even_tail n h = omega arith
 
 -- an odd number of bounds is passed exactly where some pair has the character
-pub has_character_at : (character : ℕ) (bounds : List ℕ) (place : ℕ) → length bounds % 2 ≡ 0 → IsPlace character bounds place → (place % 2 == 1) ≡ has_character bounds character
+pub has_character_at : (character : ℕ) (bounds : List ℕ) (place : ℕ) → length bounds % 2 ≡ 0 → IsPlace character bounds place
+    → (place % 2 == 1) ≡ has_character bounds character
 has_character_at character [] zero even at = refl
 has_character_at character [] (suc place) even at = absurd (omega (arith, at.in_range))
 has_character_at character (x ∷ []) place even at = absurd (omega (arith, even))
@@ -54,13 +55,16 @@ later_is_above bounds rises i (suc n) within =
     simp unary_clauses (le_along (slice_index bounds i) _ _ before (simp unary_clauses at step))
 
 pub bounds_are_parted : (bounds : List ℕ) (character : ℕ) → IsStrictlyIncreasing bounds → IsPartitionedBy (λ bound. nat_le bound character) bounds
-bounds_are_parted bounds character rises = IsPartitionedBy-leb (λ bound. bound) bounds character (IsNonDecreasingBy-from_default (λ bound. bound) bounds 0 (λ i j low high. rw (← le_sum low) (later_is_above bounds rises i (j - i) (omega (arith, low, high)))))
+bounds_are_parted bounds character rises = IsPartitionedBy-leb (λ bound. bound) bounds character
+    (IsNonDecreasingBy-from_default (λ bound. bound) bounds 0 (λ i j low high. rw (← le_sum low)
+    (later_is_above bounds rises i (j - i) (omega (arith, low, high)))))
   where
     le_sum : {i j : ℕ} → i ≤ j → i + (j - i) ≡ j
     le_sum low = omega arith
 
 -- where the test for an upper bound parts the bounds
-pub IsPlace-from_point : (character : ℕ) (bounds : List ℕ) (place : ℕ) → place ≤ length bounds → IsPartitionPoint (λ bound. nat_le bound character ≡ true) (λ bound. nat_le bound character ≡ false) bounds place → IsPlace character bounds place
+pub IsPlace-from_point : (character : ℕ) (bounds : List ℕ) (place : ℕ) → place ≤ length bounds
+    → IsPartitionPoint (λ bound. nat_le bound character ≡ true) (λ bound. nat_le bound character ≡ false) bounds place → IsPlace character bounds place
 IsPlace-from_point character bounds place bound point = record {
   in_range = bound;
   passed = λ k d low high. let below = point.0 k d low high in grind (arith, nat_tests, below);

@@ -9,7 +9,8 @@ use Rattle.std.specs.declared.cmp.Ordering.TheVariants.{Less, Equal, Greater}
 use Rattle.std.proofs.lemmas.Cmp.{tied_itself, nat_cmp_total}
 use Rattle.icu_locale_core.specs.TextSet.{text_cmp}
 use Rattle.icu_locale_core.specs.laws.TextSets.{text_same, text_total}
-use Rattle.icu_provider.specs.Requests.{exemplar_order, exemplar_place, key_order, locale_order, menu_order, menu_place, name_order, name_place, exemplar_cmp, locale_cmp, menu_cmp, name_cmp}
+use Rattle.icu_provider.specs.Requests.{exemplar_order, exemplar_place, key_order, locale_order, menu_order, menu_place, name_order, name_place}
+use Rattle.icu_provider.specs.Requests.{exemplar_cmp, locale_cmp, menu_cmp, name_cmp}
 use Rattle.icu_provider.specs.contracts.exemplars.ExemplarMarkerOrd.TheImpl as exemplar_marker
 use Rattle.icu_provider.specs.contracts.names.MenuMarkerOrd.TheImpl as menu_marker
 use Rattle.icu_provider.specs.contracts.names.NameKeyOrd.TheImpl as name_key

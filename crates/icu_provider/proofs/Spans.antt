@@ -1,10 +1,9 @@
 -- A span of rows is halved, and the look-up at its end.
-use Rattle.std.proofs.Common.{◌≡◌, ◌≢◌, ◌⊎◌, ℕ, ◌+◌, ◌*◌, ◌/◌, ◌-◌, ◌<◌, ◌≤◌, List, length, get_or, Some, None, ⊎_elim, ap, sym, subst, ◌∙◌, arith}
+use Rattle.std.proofs.Common.{◌≡◌, ◌≢◌, ℕ, ◌+◌, ◌*◌, ◌/◌, ◌-◌, ◌<◌, ◌≤◌, List, length, get_or, None, ⊎_elim, ap, sym, subst, ◌∙◌, arith}
 use Rattle.std.specs.declared.cmp.Ordering.{Ordering}
-use Rattle.std.specs.declared.cmp.Ordering.TheVariants.{Less, Equal, Greater}
+use Rattle.std.specs.declared.cmp.Ordering.TheVariants.{Less, Equal}
 use Rattle.std.specs.Ordering.{nat_cmp}
 use Rattle.std.specs.Cmp.{IsTotalOrder}
-use Rattle.std.specs.List.{HoldsAt}
 use Rattle.std.specs.Map.{lookup}
 use Rattle.std.specs.BTreeMap.{is_at}
 use Rattle.std.proofs.lemmas.Bool.{cases_lt}
@@ -35,7 +34,8 @@ module _ {K V : Type 0} {compare : K → K → Ordering} (total : IsTotalOrder c
       → (number ≤ wanted → step ≡ 1) → (wanted < number → step ≡ 0) → IsSpan compare rows key (place + size / 2 * step) (size - size / 2)
   halved place size step wanted number row sorted span some here is up down = ⊎_elim
       (λ (below : wanted < number).
-      let less = at_row total (λ k. compare key k ≡ Less) rows (place + size / 2) row (omega (arith, span.within)) here (below_from_number wanted number _ is below) in
+      let less = at_row total (λ k. compare key k ≡ Less) rows (place + size / 2) row (omega (arith, span.within)) here
+      (below_from_number wanted number _ is below) in
       let stays : place + size / 2 * step ≡ place = ap (λ s. place + size / 2 * s) (down below) ∙ omega arith in
       subst (λ p. IsSpan compare rows key p (size - size / 2)) (sym stays) (record {
         within = omega (arith, span.within);
@@ -43,7 +43,8 @@ module _ {K V : Type 0} {compare : K → K → Ordering} (total : IsTotalOrder c
         below_behind = λ k d low high. above_behind total rows key (place + size / 2) sorted less k d (omega arith) high;
       }))
       (λ (reached : number ≤ wanted).
-      let above = at_row total (λ k. compare key k ≢ Less) rows (place + size / 2) row (omega (arith, span.within)) here (reached_from_number wanted number _ is reached) in
+      let above = at_row total (λ k. compare key k ≢ Less) rows (place + size / 2) row (omega (arith, span.within)) here
+      (reached_from_number wanted number _ is reached) in
       let moves : place + size / 2 * step ≡ place + size / 2 = ap (λ s. place + size / 2 * s) (up reached) ∙ omega arith in
       subst (λ p. IsSpan compare rows key p (size - size / 2)) (sym moves) (record {
         within = omega (arith, span.within);

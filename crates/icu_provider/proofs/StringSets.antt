@@ -1,5 +1,6 @@
 -- Texts of one character, and sorted lists of texts as sets.
-use Rattle.std.proofs.Common.{◌≡◌, ℕ, List, [], ◌∷◌, Some, None, slice_get, refl, sym, zero, suc, ◌<◌, Bool, true, ◌||◌, map, length, get_or, String, string_bytes, Result, Ok, Err, is_ok, ap, ◌∙◌, inl, inr, arith}
+use Rattle.std.proofs.Common.{◌≡◌, ℕ, List, [], ◌∷◌, Some, None, slice_get, refl, sym, zero, suc, ◌<◌, Bool, true, ◌||◌, map, length, get_or, String}
+use Rattle.std.proofs.Common.{string_bytes, Result, Ok, Err, is_ok, ap, ◌∙◌, inl, inr, arith}
 use Rattle.std.proofs.lemmas.Option.{none-some}
 use Rattle.std.specs.Global.{Global}
 use Rattle.std.specs.List.{list_any}
@@ -42,13 +43,16 @@ any_of_map q [] = refl
 any_of_map q (t ∷ texts) = ap (λ b. eq_by_cmp text_cmp q (string_bytes t) || b) (any_of_map q texts)
 
 -- a text that passes is among those that do
-any_here : (p : String Global → Bool) (texts : List (String Global)) (i : ℕ) → i < length texts → ((d : String Global) → p (get_or texts i d) ≡ true) → list_any p texts ≡ true
+any_here : (p : String Global → Bool) (texts : List (String Global)) (i : ℕ) → i < length texts
+    → ((d : String Global) → p (get_or texts i d) ≡ true) → list_any p texts ≡ true
 any_here p [] i within passes = absurd (omega (arith, within))
 any_here p (t ∷ texts) zero within passes = list_any_at p (t ∷ texts) zero t within (passes t)
 any_here p (t ∷ texts) (suc i) within passes = list_any_at p (t ∷ texts) (suc i) t within (passes t)
 
 -- a search answers Ok exactly where the text is in the list
-search_is : (texts : List (String Global)) (q : List ℕ) (r : Result ℕ ℕ) → IsSortedByKey string_bytes text_cmp texts → IsSearchInRange r (length texts) → IsBinarySearchResult (λ t. text_cmp (string_bytes t) q) texts r → is_ok r ≡ list_any (λ t. eq_by_cmp text_cmp q (string_bytes t)) texts
+search_is : (texts : List (String Global)) (q : List ℕ) (r : Result ℕ ℕ) → IsSortedByKey string_bytes text_cmp texts
+    → IsSearchInRange r (length texts) → IsBinarySearchResult (λ t. text_cmp (string_bytes t) q) texts r
+    → is_ok r ≡ list_any (λ t. eq_by_cmp text_cmp q (string_bytes t)) texts
 search_is texts q (Ok i) sorted range here =
     sym (any_here (λ t. eq_by_cmp text_cmp q (string_bytes t)) texts i range (λ d. ap is_eq (flipped (string_bytes (get_or texts i d)) q Equal (here d))))
 search_is texts q (Err i) sorted range at =
@@ -59,5 +63,7 @@ search_is texts q (Err i) sorted range at =
       | inr behind ↦ ap is_eq (flipped (string_bytes (get_or texts k d)) q Greater (parts.1 k d behind within))
     ]))
 
-pub is_ok-search : (texts : List (String Global)) (q : List ℕ) (r : Result ℕ ℕ) → IsSortedByKey string_bytes text_cmp texts → IsSearchInRange r (length texts) → IsBinarySearchResult (λ t. text_cmp (string_bytes t) q) texts r → is_ok r ≡ contains (from_list (map string_bytes texts)) q
+pub is_ok-search : (texts : List (String Global)) (q : List ℕ) (r : Result ℕ ℕ) → IsSortedByKey string_bytes text_cmp texts
+    → IsSearchInRange r (length texts) → IsBinarySearchResult (λ t. text_cmp (string_bytes t) q) texts r
+    → is_ok r ≡ contains (from_list (map string_bytes texts)) q
 is_ok-search texts q r sorted range at = search_is texts q r sorted range at ∙ sym (any_of_map q texts) ∙ sym (contains-from_list (map string_bytes texts) q)

@@ -37,12 +37,14 @@ first_above : (bound : ℕ) (bounds : List ℕ) → IsStrictlyIncreasing (bound 
 first_above bound [] rises d some = absurd (omega (arith, some))
 first_above bound (next ∷ bounds) rises d some = let above : bound < next = rises 0 (omega arith) in omega (arith, above)
 
-tested : (least : ℕ) (bounds : List ℕ) → IsStrictlyIncreasing bounds → All (λ bound. bound ≤ 1114112) bounds → ((d : ℕ) → 0 < length bounds → least ≤ get_or bounds 0 d) → rise_from least bounds ≡ true
+tested : (least : ℕ) (bounds : List ℕ) → IsStrictlyIncreasing bounds → All (λ bound. bound ≤ 1114112) bounds
+    → ((d : ℕ) → 0 < length bounds → least ≤ get_or bounds 0 d) → rise_from least bounds ≡ true
 tested least [] rises limited first = refl
 tested least (bound ∷ bounds) rises limited first =
     let low : least ≤ bound = first 0 (omega arith) in
     let high : bound ≤ 1114112 = limited 0 0 (omega arith) in
-    let others = tested (bound + 1) bounds (λ k within. simp unary_clauses (simp unary_clauses at (rises (suc k) (omega (arith, within))))) (λ k d within. limited (suc k) d (omega (arith, within))) (first_above bound bounds rises) in
+    let others = tested (bound + 1) bounds (λ k within. simp unary_clauses (simp unary_clauses at (rises (suc k) (omega (arith, within)))))
+    (λ k d within. limited (suc k) d (omega (arith, within))) (first_above bound bounds rises) in
     grind (arith, nat_tests, low, high, others)
 
 pub IsInversionList-from_test : (bounds : List ℕ) → is_inversion_list bounds ≡ true → IsInversionList bounds

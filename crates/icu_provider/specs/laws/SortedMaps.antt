@@ -1,5 +1,6 @@
 -- What look-ups find in rows whose keys rise, what a search finds, and what an edit at that place does.
-use Rattle.std.proofs.Common.{◌≡◌, List, [], ◌∷◌, slice_get, Some, refl, sym, ap, ◌∙◌, subst, ◌≢◌, false, if◌then◌else◌, ℕ, zero, suc, ◌+◌, ◌<◌, length, get_or, set, None, Result, Ok, Err, MatchResult, ⊎_elim, arith}
+use Rattle.std.proofs.Common.{◌≡◌, List, [], ◌∷◌, slice_get, Some, refl, sym, ap, ◌∙◌, subst, ◌≢◌, false, if◌then◌else◌, ℕ, zero, suc, ◌+◌, ◌<◌}
+use Rattle.std.proofs.Common.{length, get_or, set, None, Result, Ok, Err, MatchResult, ⊎_elim, arith}
 use Rattle.std.specs.declared.cmp.Ordering.{Ordering}
 use Rattle.std.specs.declared.cmp.Ordering.TheVariants.{Less, Equal, Greater}
 use Rattle.std.specs.Ordering.{match_ordering, ordering_reverse, is_eq, is_lt}
@@ -36,16 +37,22 @@ module _ {K V : Type 0} (compare : K → K → Ordering) where
   IsSortedMap-from_empty rows is = subst (IsSortedMap compare) (sym is) tt
 
   -- an insert goes on by how the key compares to the first
-  pub insert_entry-step : (key : K) (value : V) (row : K × V) (rows : List (K × V)) (answer : Ordering) → compare key row.0 ≡ answer → insert_entry compare (row ∷ rows) key value ≡ match_ordering answer ((key, value) ∷ row ∷ rows) ((row.0, value) ∷ rows) (row ∷ insert_entry compare rows key value)
-  insert_entry-step key value row rows answer is = ap (λ o. match_ordering o ((key, value) ∷ row ∷ rows) ((row.0, value) ∷ rows) (row ∷ insert_entry compare rows key value)) is
+  pub insert_entry-step : (key : K) (value : V) (row : K × V) (rows : List (K × V)) (answer : Ordering) → compare key row.0 ≡ answer
+      → insert_entry compare (row ∷ rows) key value ≡ match_ordering answer ((key, value) ∷ row ∷ rows) ((row.0, value) ∷ rows)
+      (row ∷ insert_entry compare rows key value)
+  insert_entry-step key value row rows answer is = ap (λ o. match_ordering o ((key, value) ∷ row ∷ rows) ((row.0, value) ∷ rows)
+      (row ∷ insert_entry compare rows key value)) is
 
 module _ {K V : Type 0} {compare : K → K → Ordering} (total : IsTotalOrder compare) where
   -- a key below the first of rising rows is below each
-  below_all : (key : K) (row : K × V) (rows : List (K × V)) → compare key row.0 ≡ Less → AllByRecursion (λ later. compare row.0 later ≡ Less) (keys_of rows) → AllByRecursion (λ later. compare key later ≡ Less) (keys_of rows)
-  below_all key row rows below rise = recursion_from_All _ _ (All-weaker (λ later. compare row.0 later ≡ Less) (λ later. compare key later ≡ Less) (λ later. total.trans key row.0 later below) _ (All-from_recursion _ _ rise))
+  below_all : (key : K) (row : K × V) (rows : List (K × V)) → compare key row.0 ≡ Less
+      → AllByRecursion (λ later. compare row.0 later ≡ Less) (keys_of rows) → AllByRecursion (λ later. compare key later ≡ Less) (keys_of rows)
+  below_all key row rows below rise = recursion_from_All _ _ (All-weaker (λ later. compare row.0 later ≡ Less)
+      (λ later. compare key later ≡ Less) (λ later. total.trans key row.0 later below) _ (All-from_recursion _ _ rise))
 
   -- an insert keeps the order
-  pub IsSortedMap-insert_entry : (rows : List (K × V)) (key : K) (value : V) → IsSortedMap compare rows → IsSortedMap compare (insert_entry compare rows key value)
+  pub IsSortedMap-insert_entry : (rows : List (K × V)) (key : K) (value : V) → IsSortedMap compare rows
+      → IsSortedMap compare (insert_entry compare rows key value)
   unfolding IsStrictlySortedBy
   IsSortedMap-insert_entry [] key value sorted = (tt, tt)
   IsSortedMap-insert_entry (row ∷ rows) key value sorted =
@@ -53,7 +60,12 @@ module _ {K V : Type 0} {compare : K → K → Ordering} (total : IsTotalOrder c
       by_answer (compare key row.0)
       (λ is. subst (IsSortedMap compare) (sym (step Less is)) ((is, below_all key row rows is sorted.0), sorted))
       (λ is. subst (IsSortedMap compare) (sym (step Equal is)) sorted)
-      (λ is. subst (IsSortedMap compare) (sym (step Greater is)) (recursion_from_All _ _ (All-keys-insert_entry compare key value (λ later. compare row.0 later ≡ Less) rows (All-from_recursion _ _ sorted.0) (total.antisymm row.0 key ∙ ap ordering_reverse is)), IsSortedMap-insert_entry rows key value sorted.1))
+      (λ is. subst (IsSortedMap compare) (sym (step Greater is)) (
+        recursion_from_All _ _
+            (All-keys-insert_entry compare key value (λ later. compare row.0 later ≡ Less) rows (All-from_recursion _ _ sorted.0)
+            (total.antisymm row.0 key ∙ ap ordering_reverse is)),
+        IsSortedMap-insert_entry rows key value sorted.1,
+      ))
 
   -- a row of the map is found at its own key
   pub lookup_own_key : (rows : List (K × V)) (row : K × V) → IsSortedMap compare rows → Contains rows row → lookup (is_at (compare row.0)) rows ≡ Some row.1
@@ -72,16 +84,19 @@ not_tied Greater apart = refl
 
 module _ {K V : Type 0} {compare : K → K → Ordering} (total : IsTotalOrder compare) where
   -- each row's key is below that of a later row
-  pub keys_rise : (rows : List (K × V)) (i j : ℕ) (default : K × V) → IsSortedMap compare rows → i < j → j < length rows → compare (get_or rows i default).0 (get_or rows j default).0 ≡ Less
+  pub keys_rise : (rows : List (K × V)) (i j : ℕ) (default : K × V) → IsSortedMap compare rows → i < j → j < length rows
+      → compare (get_or rows i default).0 (get_or rows j default).0 ≡ Less
   keys_rise rows i j default sorted lt in_range =
       let at = λ (k : ℕ) (h : k < length rows). get_or-map (λ (row : K × V). row.0) rows k default default.0 h in
       rw (← at i (omega arith), ← at j in_range) (Less-from_sorted compare (keys_of rows) i j default.0 sorted lt (omega (arith, length-keys_of rows)))
 
   -- a binary search ends at the key, or at the gap for it
-  pub searched : (rows : List (K × V)) (key : K) (place : Result ℕ ℕ) → IsSortedMap compare rows → IsSearchInRange place (length rows) → IsBinarySearchResult (λ row. compare row.0 key) rows place → MatchResult place (IsAt compare rows key) (IsGapFor compare rows key)
+  pub searched : (rows : List (K × V)) (key : K) (place : Result ℕ ℕ) → IsSortedMap compare rows → IsSearchInRange place (length rows)
+      → IsBinarySearchResult (λ row. compare row.0 key) rows place → MatchResult place (IsAt compare rows key) (IsGapFor compare rows key)
   searched rows key (Ok at) sorted in_range equal = record { in_range = in_range; has_key = λ d. tied_back total _ _ (equal d) }
   searched rows key (Err at) sorted in_range parted =
-      let rise = searchable_from_sorted total (λ (row : K × V). row.0) rows key (λ k d low high. ap is_lt (total.antisymm _ _ ∙ ap ordering_reverse (keys_rise rows k (k + 1) d sorted (omega arith) high))) in
+      let rise = searchable_from_sorted total (λ (row : K × V). row.0) rows key
+      (λ k d low high. ap is_lt (total.antisymm _ _ ∙ ap ordering_reverse (keys_rise rows k (k + 1) d sorted (omega arith) high))) in
       record {
         in_range = in_range;
         above_before = λ k d low high. total.antisymm _ _ ∙ ap ordering_reverse ((parted rise).0 k d low high);
@@ -89,7 +104,8 @@ module _ {K V : Type 0} {compare : K → K → Ordering} (total : IsTotalOrder c
       }
 
   -- a key in a later row is above the first
-  above_first : (row : K × V) (rows : List (K × V)) (key : K) (at : ℕ) → IsSortedMap compare (row ∷ rows) → IsAt compare rows key at → compare key row.0 ≡ Greater
+  above_first : (row : K × V) (rows : List (K × V)) (key : K) (at : ℕ) → IsSortedMap compare (row ∷ rows) → IsAt compare rows key at
+      → compare key row.0 ≡ Greater
   above_first row rows key at sorted is =
       let rise = keys_rise (row ∷ rows) 0 (suc at) row sorted (omega arith) (omega (arith, is.in_range)) in
       total.antisymm key row.0 ∙ ap ordering_reverse (alike_right total key (get_or rows at row).0 row.0 (is.has_key row) ∙ rise)
@@ -107,7 +123,8 @@ module _ {K V : Type 0} {compare : K → K → Ordering} (total : IsTotalOrder c
   }
 
   -- the value at the key's place is found
-  pub lookup_at : (rows : List (K × V)) (key : K) (at : ℕ) (default : K × V) → IsSortedMap compare rows → IsAt compare rows key at → lookup (is_at (compare key)) rows ≡ Some (get_or rows at default).1
+  pub lookup_at : (rows : List (K × V)) (key : K) (at : ℕ) (default : K × V) → IsSortedMap compare rows → IsAt compare rows key at
+      → lookup (is_at (compare key)) rows ≡ Some (get_or rows at default).1
   lookup_at [] key at default sorted is = absurd (omega (arith, is.in_range))
   lookup_at (row ∷ rows) key zero default sorted is = grind (arith, is.has_key row)
   lookup_at (row ∷ rows) key (suc at) default sorted is =
@@ -117,16 +134,27 @@ module _ {K V : Type 0} {compare : K → K → Ordering} (total : IsTotalOrder c
   -- below the first key nothing is found
   lookup_below : (rows : List (K × V)) (key : K) → AllWithin (λ row. compare key row.0 ≡ Less) rows 0 (length rows) → lookup (is_at (compare key)) rows ≡ None
   lookup_below [] key below = refl
-  lookup_below (row ∷ rows) key below = grind (arith, below 0 row (omega arith) (omega arith), lookup_below rows key (λ k d low high. below (suc k) d (omega arith) (omega arith)))
+  lookup_below (row ∷ rows) key below = grind (
+    arith,
+    below 0 row (omega arith) (omega arith),
+    lookup_below rows key
+        (λ k d low high. below (suc k) d (omega arith) (omega arith)),
+  )
 
   -- in a gap nothing is found
   pub lookup_in_gap : (rows : List (K × V)) (key : K) (at : ℕ) → IsGapFor compare rows key at → lookup (is_at (compare key)) rows ≡ None
   lookup_in_gap rows key zero gap = lookup_below rows key gap.below_after
   lookup_in_gap [] key (suc at) gap = refl
-  lookup_in_gap (row ∷ rows) key (suc at) gap = grind (arith, gap.above_before 0 row (omega arith) (omega arith), lookup_in_gap rows key at (gap_tail row rows key at gap))
+  lookup_in_gap (row ∷ rows) key (suc at) gap = grind (
+    arith,
+    gap.above_before 0 row (omega arith) (omega arith),
+    lookup_in_gap rows key at
+        (gap_tail row rows key at gap),
+  )
 
   -- writing over the key's row inserts the value
-  pub insert_entry-at : (rows : List (K × V)) (key : K) (value : V) (at : ℕ) (row : K × V) → IsSortedMap compare rows → IsAt compare rows key at → row ≡ get_or rows at row → set rows at (row.0, value) ≡ insert_entry compare rows key value
+  pub insert_entry-at : (rows : List (K × V)) (key : K) (value : V) (at : ℕ) (row : K × V) → IsSortedMap compare rows
+      → IsAt compare rows key at → row ≡ get_or rows at row → set rows at (row.0, value) ≡ insert_entry compare rows key value
   insert_entry-at [] key value at row sorted is here = absurd (omega (arith, is.in_range))
   insert_entry-at (first ∷ rows) key value zero row sorted is here = grind (arith, insert_entry-step compare key value first rows Equal (is.has_key row))
   insert_entry-at (first ∷ rows) key value (suc at) row sorted is here =
@@ -135,10 +163,12 @@ module _ {K V : Type 0} {compare : K → K → Ordering} (total : IsTotalOrder c
       ap (λ rest. first ∷ rest) (insert_entry-at rows key value at row (sorted_tail compare _ _ sorted) later here) ∙ sym step
 
   -- a new row in the gap inserts it
-  pub insert_entry-in_gap : (rows : List (K × V)) (key : K) (value : V) (at : ℕ) → IsGapFor compare rows key at → insert rows at (key, value) ≡ insert_entry compare rows key value
+  pub insert_entry-in_gap : (rows : List (K × V)) (key : K) (value : V) (at : ℕ) → IsGapFor compare rows key at
+      → insert rows at (key, value) ≡ insert_entry compare rows key value
   insert_entry-in_gap [] key value zero gap = refl
   insert_entry-in_gap [] key value (suc at) gap = absurd (omega (arith, gap.in_range))
-  insert_entry-in_gap (row ∷ rows) key value zero gap = sym (insert_entry-step compare key value row rows Less (gap.below_after 0 row (omega arith) (omega arith)))
+  insert_entry-in_gap (row ∷ rows) key value zero gap = sym (insert_entry-step compare key value row rows Less
+      (gap.below_after 0 row (omega arith) (omega arith)))
   insert_entry-in_gap (row ∷ rows) key value (suc at) gap =
       let step = insert_entry-step compare key value row rows Greater (gap.above_before 0 row (omega arith) (omega arith)) in
       ap (λ rest. row ∷ rest) (insert_entry-in_gap rows key value at (gap_tail row rows key at gap)) ∙ sym step
@@ -157,7 +187,8 @@ module _ {K V : Type 0} {compare : K → K → Ordering} (total : IsTotalOrder c
       (λ is. step Greater is ∙ ap (λ rest. row ∷ rest) (insert_entry-same rows key value (sorted_tail compare _ _ sorted) (first Greater is)))
 
   -- rows with the value inserted stay in order, and find it
-  pub inserts_from_rows : (old new : List (K × V)) (key : K) (value : V) → IsSortedMap compare old → new ≡ insert_entry compare old key value → Holds compare old new key value
+  pub inserts_from_rows : (old new : List (K × V)) (key : K) (value : V) → IsSortedMap compare old
+      → new ≡ insert_entry compare old key value → Holds compare old new key value
   inserts_from_rows old new key value sorted rows =
       let sets : SetsOnly compare old new key (Some value) = λ q. rw rows (SetsOnly-insert_entry total old key value q) in
       let found : value_at compare new key ≡ Some value = rw rows (found_at_key total old key value) in
@@ -171,16 +202,19 @@ module _ {K V : Type 0} {compare : K → K → Ordering} (total : IsTotalOrder c
       }
 
   -- a value that is written over the key's row
-  pub inserts_at : (rows : List (K × V)) (key : K) (value : V) (at : ℕ) (row : K × V) → IsSortedMap compare rows → IsAt compare rows key at → row ≡ get_or rows at row → Holds compare rows (set rows at (row.0, value)) key value
+  pub inserts_at : (rows : List (K × V)) (key : K) (value : V) (at : ℕ) (row : K × V) → IsSortedMap compare rows → IsAt compare rows key at
+      → row ≡ get_or rows at row → Holds compare rows (set rows at (row.0, value)) key value
   inserts_at rows key value at row sorted is here = inserts_from_rows rows _ key value sorted (insert_entry-at rows key value at row sorted is here)
 
   -- a new row in the gap
-  pub inserts_in_gap : (rows : List (K × V)) (key : K) (value : V) (at : ℕ) → IsSortedMap compare rows → IsGapFor compare rows key at → Holds compare rows (insert rows at (key, value)) key value
+  pub inserts_in_gap : (rows : List (K × V)) (key : K) (value : V) (at : ℕ) → IsSortedMap compare rows → IsGapFor compare rows key at
+      → Holds compare rows (insert rows at (key, value)) key value
   inserts_in_gap rows key value at sorted gap = inserts_from_rows rows _ key value sorted (insert_entry-in_gap rows key value at gap)
 
 module _ {K V : Type 0} {compare : K → K → Ordering} (total : IsTotalOrder compare) where
   -- where a row is not above the key, those before it are below
-  pub below_before : (rows : List (K × V)) (key : K) (at : ℕ) → IsSortedMap compare rows → at < length rows → HoldsAt (λ row. compare key row.0 ≢ Less) rows at → AllWithin (λ row. compare key row.0 ≡ Greater) rows 0 at
+  pub below_before : (rows : List (K × V)) (key : K) (at : ℕ) → IsSortedMap compare rows → at < length rows
+      → HoldsAt (λ row. compare key row.0 ≢ Less) rows at → AllWithin (λ row. compare key row.0 ≡ Greater) rows 0 at
   below_before rows key at sorted in_range reached k d low high =
       let rise = keys_rise total rows k at d sorted high in_range in
       total.antisymm key (get_or rows k d).0
@@ -190,24 +224,28 @@ module _ {K V : Type 0} {compare : K → K → Ordering} (total : IsTotalOrder c
       (λ greater. total.trans (get_or rows k d).0 (get_or rows at d).0 key rise (total.antisymm (get_or rows at d).0 key ∙ ap ordering_reverse greater)))
 
   -- where a row is above the key, those behind it are too
-  pub above_behind : (rows : List (K × V)) (key : K) (at : ℕ) → IsSortedMap compare rows → HoldsAt (λ row. compare key row.0 ≡ Less) rows at → AllWithin (λ row. compare key row.0 ≡ Less) rows at (length rows)
+  pub above_behind : (rows : List (K × V)) (key : K) (at : ℕ) → IsSortedMap compare rows → HoldsAt (λ row. compare key row.0 ≡ Less) rows at
+      → AllWithin (λ row. compare key row.0 ≡ Less) rows at (length rows)
   above_behind rows key at sorted above k d low high = ⊎_elim
       (λ (same : at ≡ k). subst (λ n. compare key (get_or rows n d).0 ≡ Less) same (above d))
       (λ (later : at < k). total.trans key (get_or rows at d).0 (get_or rows k d).0 (above d) (keys_rise total rows at k d sorted later high))
       (eq-or-lt_of_le low)
 
   -- a row that was read is the one at its place, whatever stands past the end
-  pub at_row : (P : K → Type 0) (rows : List (K × V)) (at : ℕ) (row : K × V) → at < length rows → row ≡ get_or rows at row → P row.0 → HoldsAt (λ row. P row.0) rows at
+  pub at_row : (P : K → Type 0) (rows : List (K × V)) (at : ℕ) (row : K × V) → at < length rows → row ≡ get_or rows at row → P row.0
+      → HoldsAt (λ row. P row.0) rows at
   at_row P rows at row in_range here holds d = subst (λ (r : K × V). P r.0) (here ∙ get_or_default rows at row d in_range) holds
 
   -- a look-up answers by the nearest row, if it has the key
-  pub lookup_nearest : (rows : List (K × V)) (key : K) (at : ℕ) (row : K × V) → IsSortedMap compare rows → at < length rows → row ≡ get_or rows at row → compare key row.0 ≡ Equal → lookup (is_at (compare key)) rows ≡ Some row.1
+  pub lookup_nearest : (rows : List (K × V)) (key : K) (at : ℕ) (row : K × V) → IsSortedMap compare rows → at < length rows
+      → row ≡ get_or rows at row → compare key row.0 ≡ Equal → lookup (is_at (compare key)) rows ≡ Some row.1
   lookup_nearest rows key at row sorted in_range here equal =
       let is : IsAt compare rows key at = record { in_range = in_range; has_key = at_row (λ k. compare key k ≡ Equal) rows at row in_range here equal } in
       lookup_at total rows key at row sorted is ∙ ap (λ (r : K × V). Some r.1) (sym here)
 
   -- and else finds nothing
-  pub lookup_apart : (rows : List (K × V)) (key : K) (at : ℕ) (row : K × V) → IsNearest compare rows key at → at < length rows → row ≡ get_or rows at row → compare key row.0 ≢ Equal → lookup (is_at (compare key)) rows ≡ None
+  pub lookup_apart : (rows : List (K × V)) (key : K) (at : ℕ) (row : K × V) → IsNearest compare rows key at → at < length rows
+      → row ≡ get_or rows at row → compare key row.0 ≢ Equal → lookup (is_at (compare key)) rows ≡ None
   lookup_apart rows key at row nearest in_range here apart = by_answer (compare key row.0)
       (λ less. lookup_in_gap total rows key at (record {
         in_range = omega (arith, in_range);
@@ -221,7 +259,8 @@ module _ {K V : Type 0} {compare : K → K → Ordering} (total : IsTotalOrder c
       (λ greater. lookup_in_gap total rows key (at + 1) (record {
         in_range = omega (arith, in_range);
         above_before = λ k d low high. ⊎_elim
-            (λ (same : k ≡ at). subst (λ n. compare key (get_or rows n d).0 ≡ Greater) (sym same) (at_row (λ k. compare key k ≡ Greater) rows at row in_range here greater d))
+            (λ (same : k ≡ at). subst (λ n. compare key (get_or rows n d).0 ≡ Greater) (sym same)
+            (at_row (λ k. compare key k ≡ Greater) rows at row in_range here greater d))
             (λ (earlier : k < at). nearest.above_before k d low earlier)
             (eq-or-lt_of_le (omega arith));
         below_after = nearest.below_behind;

@@ -17,7 +17,8 @@ returns-in-Ok g c =
 
 -- the row is new
 pub invariant_of-self-in-Err : goal.invariant_of-self-in-Err
-invariant_of-self-in-Err g c = rw c.in_ok-insert-in-Err.ensures.items (inserts_in_gap g.met.K.Ord.total _ c.args.key c.args.value c.in-Err.at c.self.invariant (rw c.self.view_is c.in-Err.ensures)).sorted
+invariant_of-self-in-Err g c = rw c.in_ok-insert-in-Err.ensures.items (inserts_in_gap g.met.K.Ord.total _ c.args.key c.args.value
+    c.in-Err.at c.self.invariant (rw c.self.view_is c.in-Err.ensures)).sorted
 
 pub returns-in_ok-insert-in-Err : goal.returns-in_ok-insert-in-Err
 returns-in_ok-insert-in-Err g c =

@@ -8,4 +8,5 @@ pub returns : goal.returns
 returns g c =
     let facts = c.binary_search_by.ensures in
     let by_key = facts.position (λ row. g.K.Ord.cmp row.0 c.args.key.now) (always_returns_same _ _ _ (λ a r f called. search rules)) in
-    rw (← c.self.view_is, ← c.deref.ensures.value) (searched g.met.K.Ord.total c.deref.result.now c.args.key.now c.binary_search_by.result (rw c.deref.ensures.value c.self.invariant) facts.bound by_key)
+    rw (← c.self.view_is, ← c.deref.ensures.value) (searched g.met.K.Ord.total c.deref.result.now c.args.key.now c.binary_search_by.result
+    (rw c.deref.ensures.value c.self.invariant) facts.bound by_key)

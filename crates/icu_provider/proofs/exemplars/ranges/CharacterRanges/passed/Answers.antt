@@ -8,8 +8,10 @@ pub returns-clause-place : goal.returns-clause-place
 returns-clause-place c =
     let bounds = c.as_slice.result.now in
     let parted = bounds_are_parted bounds c.args.character (rw c.as_slice.ensures.value c.self.invariant.rises) in
-    let point = IsPartitionPoint-from_clause (λ bound. nat_le bound c.args.character) bounds c.partition_point.result c.partition_point.ensures.partitioned parted (λ a r f k. search (rules, of_calls)) in
-    rw (← c.self.view_is, ← c.as_slice.ensures.value) (IsPlace-from_point c.args.character bounds c.partition_point.result c.partition_point.ensures.bound point)
+    let point = IsPartitionPoint-from_clause (λ bound. nat_le bound c.args.character) bounds c.partition_point.result
+    c.partition_point.ensures.partitioned parted (λ a r f k. search (rules, of_calls)) in
+    rw (← c.self.view_is, ← c.as_slice.ensures.value) (IsPlace-from_point c.args.character bounds c.partition_point.result
+    c.partition_point.ensures.bound point)
 
 pub returns-clause-even : goal.returns-clause-even
 returns-clause-even c = rw (← c.self.view_is) c.self.invariant.even
