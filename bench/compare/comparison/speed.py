@@ -26,58 +26,53 @@ def check_equal(program, other, inputs, command, lines):
         raise Stop(f"{command}: the output of {other.name} has not the same size")
 
 
+def bold(text, reaches):
+    """A figure that reaches its goal is bold."""
+    return f"**{text}**" if reaches else text
+
+
+def ratio(costs, program, plain, command):
+    """What a line costs beside plain Rust, and the goal."""
+    goal, found = costs.unit.goals.get(command), costs.ratio(program, plain, command)
+    shown = bold(costs.shown_ratio(program, plain, command), goal and found and found[1] <= goal)
+    return f"{shown}, {goal:.2f}" if goal else shown
+
+
+def times_ahead(costs, program, other, command):
+    """How many times as much another program costs."""
+    least, found = costs.unit.ahead.get(other.name), costs.ratio(other, program, command)
+    return bold(costs.times(program, other, command), least and found and found[1] >= least)
+
+
 def table(costs, program, plain, others):
     """A line's cost in this program and in plain Rust, their ratio and its goal, and how far the others are behind."""
-    heads = "".join(f" {other.name} | times ahead |" for other in others)
-    yield f"| command | {program.name} | {plain.name} | ratio | goal |{heads}"
-    yield "|---|---|---|---|---|" + "---|---|" * len(others)
+    yield f"| command | {program.name} | {plain.name} | ratio, goal |" + "".join(f" {it.name} | times |" for it in others)
+    yield "|---|---|---|---|" + "---|---|" * len(others)
     for command in COMMANDS:
-        goal = costs.unit.goals.get(command)
-        cells = [costs.shown(program, command), costs.shown(plain, command),
-                 costs.shown_ratio(program, plain, command), f"{goal:.2f}" if goal else "–"]
+        cells = [costs.shown(program, command), costs.shown(plain, command), ratio(costs, program, plain, command)]
         for other in others:
-            cells += [costs.shown(other, command), costs.times(program, other, command)]
+            cells += [costs.shown(other, command), times_ahead(costs, program, other, command)]
         yield f"| `{command}` | {' | '.join(cells)} |"
 
 
-def table_beside(costs, program, plain, other):
-    """The same for a program that has some of the commands alone, with this program's ratio to it."""
-    yield ""
-    yield f"| command | {program.name} | {plain.name} | {other.name} | ratio to {other.name} |"
-    yield "|---|---|---|---|---|"
-    for command in other.commands:
-        cells = [costs.shown(it, command) for it in (program, plain, other)]
-        yield f"| `{command}` | {' | '.join([*cells, costs.shown_ratio(program, other, command)])} |"
-
-
-def listed(commands, asked):
-    """How many commands these are of those asked, and which."""
-    names = ", ".join(f"`{command}`" for command in commands)
-    return f"{len(commands)} of {len(asked)} commands" + (f", {names}" if commands else "")
-
-
-def goals(costs, program, plain, others):
-    """Which commands reach the goals."""
-    yield ""
-    yield "The goals are reached so:"
-    yield ""
-    wanted = costs.unit.goals
-    ratios = {command: costs.ratio(program, plain, command) for command in wanted}
-    reached = [command for command, found in ratios.items() if found and found[1] <= wanted[command]]
-    yield f"- {program.name} within its goal beside {plain.name}: {listed(reached, wanted)}"
-    for other in others:
-        least = costs.unit.ahead[other.name]
-        behind = {command: costs.ratio(other, program, command) for command in other.commands}
-        ahead = [command for command, found in behind.items() if found and found[1] >= least]
-        yield f"- {program.name} at least {least} times ahead of {other.name}: {listed(ahead, other.commands)}"
+def table_beside(costs, program, others):
+    """The cost in programs that have some of the commands alone, with this program's ratio to each."""
+    yield "| command |" + "".join(f" {it.name} | ratio |" for it in others)
+    yield "|---|" + "---|---|" * len(others)
+    for command in COMMANDS:
+        cells = []
+        for other in others:
+            goal, found = costs.unit.ahead.get(other.name), costs.ratio(program, other, command)
+            cells += [costs.shown(other, command),
+                      bold(costs.shown_ratio(program, other, command), goal and found and found[1] * goal <= 1)]
+        yield f"| `{command}` | {' | '.join(cells)} |"
 
 
 def section(costs, program, plain, others, beside):
     """All that is told of a unit."""
     yield from table(costs, program, plain, others)
-    for other in beside:
-        yield from table_beside(costs, program, plain, other)
-    yield from goals(costs, program, plain, [it for it in (*others, *beside) if it.name in costs.unit.ahead])
+    yield ""
+    yield from table_beside(costs, program, beside)
 
 
 def branches(costs, program, plain, others):
