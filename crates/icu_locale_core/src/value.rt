@@ -17,13 +17,13 @@ use std::marker::Model;
 use std::{fmt, slice};
 
 /// The value of a keyword (type of UTS #35, section 3.6.1): a list of pieces of 3 to 8 letters or digits, in lower case.
-/// Only reading and copying two pieces or more takes memory.
+/// Only reading and copying pieces takes memory.
 #[derive(Drop)]
 pub struct Value {
     kept: Kept,
 }
 
-// The pieces of a value: most have one.
+// The pieces of a value. Most have one, which takes no memory.
 #[derive(Drop)]
 enum Kept {
     One(Subtag),

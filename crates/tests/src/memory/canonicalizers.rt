@@ -145,13 +145,24 @@ fn starved_value(
     Ok((answer, locale == before))
 }
 
+const VALUES: &str =
+    "{\"aliases\":{\"subdivision\":{\"abcdefg\":\"xyz\",\"hijklmn\":\"xyz-abc\"}}}";
+
+// A value of one piece is copied without memory, one of two is not.
 #[test]
 fn values_without_memory(rt: HostRuntime) -> Result<(), Fail> {
     let tables = sample(rt.alloc())?;
-    let canonicalizer = LocaleCanonicalizer::try_new_common_unstable(rt.alloc(), &tables)?;
+    let Ok(own) = Tables::from_json(rt.alloc(), VALUES.as_bytes()) else {
+        return Err(Fail::new("the rules cannot be read"));
+    };
+    let expander = LocaleExpander::try_new_common_unstable(&tables)?;
+    let aliases = own.load_aliases()?;
+    let canonicalizer = LocaleCanonicalizer::new_with_expander(rt.alloc(), aliases, expander)?;
     let (kept, is_same) = starved_value(rt.alloc(), &canonicalizer, "xyz")?;
     assert!(rt; is_same && matches!(kept, Ok(TransformResult::Unmodified)));
-    let (refused, is_same) = starved_value(rt.alloc(), &canonicalizer, "abcdefg")?;
+    let (replaced, is_same) = starved_value(rt.alloc(), &canonicalizer, "abcdefg")?;
+    assert!(rt; !is_same && matches!(replaced, Ok(TransformResult::Modified)));
+    let (refused, is_same) = starved_value(rt.alloc(), &canonicalizer, "hijklmn")?;
     assert!(rt; is_same && matches!(refused, Err(CanonicalizeError::Memory)));
     Ok(())
 }
