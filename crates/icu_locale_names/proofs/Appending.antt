@@ -1,8 +1,6 @@
 -- Text behind text: pieces, and what grows.
-use Rattle.std.proofs.Common.{◌≡◌, ◌∙◌, refl, ap, sym, ℕ, Bool, true, false, ◌||◌, List, [], ◌∷◌, ◌++◌, length, take, append_assoc, append-nil, not, ◌==◌}
+use Rattle.std.proofs.Common.{◌≡◌, ◌∙◌, refl, ap, sym, ℕ, Bool, true, false, ◌||◌, List, [], ◌∷◌, ◌++◌, length, take, append_assoc, append-nil}
 use Rattle.std.proofs.lemmas.List.{take_at}
-use Rattle.std.specs.List.{flat_map, list_any}
-use Rattle.std.proofs.Common.{map}
 use Rattle.icu_locale_names.specs.LanguageNames.{joined}
 use Rattle.icu_locale_names.specs.Pieces.{Piece, plain, text_of, has_raw}
 use Rattle.icu_locale_names.specs.declared.language.appending.Joined.{Joined}

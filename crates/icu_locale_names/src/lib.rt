@@ -11,6 +11,7 @@ mod region;
 mod script;
 mod shown;
 mod sink;
+mod subtag_name;
 mod variant;
 
 pub use errors::{LanguageIdentifierNameFallbackError, NameWriteError};
@@ -20,4 +21,5 @@ pub use options::{DisplayNamesPreferences, LanguageDisplay, LanguageIdentifierDi
 pub use region::{RegionDisplayName, RegionDisplayNameBorrowed};
 pub use script::{ScriptDisplayName, ScriptDisplayNameBorrowed};
 pub use sink::write_whole;
+pub use subtag_name::{SubtagName, SubtagNameBorrowed};
 pub use variant::{VariantDisplayName, VariantDisplayNameBorrowed};

@@ -1,15 +1,13 @@
 //! Names of regions.
-ghost use Rattle.std.specs.Prelude.{◌≡◌, Some};
+ghost use Rattle.std.specs.Prelude.{◌≡◌};
+ghost use Rattle.icu_provider.specs.declared.names.NameKey.{NameKey};
 ghost use Rattle.icu_locale_names.specs.Chains.{region_tiny, region_short_tiny, region_light, region_short_light};
 ghost use Rattle.icu_locale_names.specs.Names.{name_by, or_raw};
 
 use crate::DisplayNamesPreferences;
-use crate::chain::first_name;
-use crate::shown::Shown;
+use crate::subtag_name::{SubtagName, SubtagNameBorrowed};
 use icu_locale_core::Region;
-use icu_provider::{DataError, DataProvider, NameKey, NameMarker};
-use std::fmt;
-use std::marker::Model;
+use icu_provider::{DataError, DataProvider, NameMarker};
 
 pub const TINY: [NameMarker; 1] = [NameMarker::RegionMediumTiny];
 
@@ -25,21 +23,12 @@ pub const SHORT_LIGHT: [NameMarker; 4] = [
 ];
 
 /// The name of a region, in the language of a locale. No call takes memory.
-#[derive(Debug, Drop)]
-pub struct RegionDisplayName<'d> {
-    shown: Shown<'d>,
-}
+pub type RegionDisplayName<'d> = SubtagName<'d, Region>;
 
-impl<'d> Model for RegionDisplayName<'d> {
-    ghost use Rattle.std.specs.Prelude.{List, ℕ};
-    ghost use Rattle.icu_locale_names.specs.inner.Shown.{shown_text};
+/// The name of a region that is lent. No call takes memory.
+pub type RegionDisplayNameBorrowed<'a> = SubtagNameBorrowed<'a>;
 
-    ghost Value = { List ℕ };
-
-    ghost view = { λ n. shown_text n.shown };
-}
-
-impl<'d> RegionDisplayName<'d> {
+impl<'d> SubtagName<'d, Region> {
     /// The name of a region: of medium length, among the most asked ones.
     ///
     /// # Errors
@@ -153,72 +142,5 @@ impl<'d> RegionDisplayName<'d> {
             (NameKey.Region region) region_short_light) region }
     {
         Self::first_or_raw(provider, &SHORT_LIGHT, preferences, region)
-    }
-
-    /// The same name, lent again.
-    pub fn as_borrowed(&self) -> RegionDisplayNameBorrowed<'_>
-        ensures { result.text.now ≡ self.now }
-    {
-        RegionDisplayNameBorrowed {
-            text: self.shown.as_str(),
-        }
-    }
-
-    // The first name of a chain.
-    fn first<P: DataProvider>(
-        provider: &'d P,
-        chain: &[NameMarker],
-        preferences: DisplayNamesPreferences,
-        region: Region,
-    ) -> Result<Self, DataError>
-        ensures { result ≡ name_by (P.name provider.now) preferences.locale
-            (NameKey.Region region) chain.now }
-    {
-        let key = NameKey::Region(region);
-        let name = first_name(provider, chain, &preferences.locale, &key)?;
-        Ok(RegionDisplayName {
-            shown: Shown::Name(name),
-        })
-    }
-
-    // The first name of a chain, or the subtag.
-    fn first_or_raw<P: DataProvider>(
-        provider: &'d P,
-        chain: &[NameMarker],
-        preferences: DisplayNamesPreferences,
-        region: Region,
-    ) -> Self
-        ensures { result ≡ or_raw (name_by (P.name provider.now) preferences.locale
-            (NameKey.Region region) chain.now) region }
-    {
-        match Self::first(provider, chain, preferences, region) {
-            Ok(name) => name,
-            Err(_) => RegionDisplayName {
-                shown: Shown::Region(region),
-            },
-        }
-    }
-}
-
-impl fmt::Display for RegionDisplayName<'_> {
-    ghost output = { λ n. Some n };
-
-    fn fmt<W: fmt::Write>(&self, f: &mut fmt::Formatter<W>) -> fmt::Result {
-        f.write_str(self.shown.as_str())
-    }
-}
-
-/// The name of a region that is lent. No call takes memory.
-#[derive(Clone, Copy, Debug)]
-pub struct RegionDisplayNameBorrowed<'a> {
-    /// The name.
-    pub text: &'a str,
-}
-
-impl fmt::Display for RegionDisplayNameBorrowed<'_> {
-    ghost output = { λ n. Some n.text.now };
-
-    fn fmt<W: fmt::Write>(&self, f: &mut fmt::Formatter<W>) -> fmt::Result {
-        f.write_str(self.text)
     }
 }

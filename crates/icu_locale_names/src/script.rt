@@ -1,15 +1,13 @@
 //! Names of scripts.
-ghost use Rattle.std.specs.Prelude.{◌≡◌, Some};
+ghost use Rattle.std.specs.Prelude.{◌≡◌};
+ghost use Rattle.icu_provider.specs.declared.names.NameKey.{NameKey};
 ghost use Rattle.icu_locale_names.specs.Chains.{script_tiny, script_light, script_heavy, script_short_heavy};
 ghost use Rattle.icu_locale_names.specs.Names.{name_by, or_raw};
 
 use crate::DisplayNamesPreferences;
-use crate::chain::first_name;
-use crate::shown::Shown;
+use crate::subtag_name::{SubtagName, SubtagNameBorrowed};
 use icu_locale_core::Script;
-use icu_provider::{DataError, DataProvider, NameKey, NameMarker};
-use std::fmt;
-use std::marker::Model;
+use icu_provider::{DataError, DataProvider, NameMarker};
 
 pub const TINY: [NameMarker; 1] = [NameMarker::ScriptMediumTiny];
 
@@ -29,21 +27,12 @@ pub const SHORT_HEAVY: [NameMarker; 4] = [
 ];
 
 /// The name of a script, in the language of a locale. No call takes memory.
-#[derive(Debug, Drop)]
-pub struct ScriptDisplayName<'d> {
-    shown: Shown<'d>,
-}
+pub type ScriptDisplayName<'d> = SubtagName<'d, Script>;
 
-impl<'d> Model for ScriptDisplayName<'d> {
-    ghost use Rattle.std.specs.Prelude.{List, ℕ};
-    ghost use Rattle.icu_locale_names.specs.inner.Shown.{shown_text};
+/// The name of a script that is lent. No call takes memory.
+pub type ScriptDisplayNameBorrowed<'a> = SubtagNameBorrowed<'a>;
 
-    ghost Value = { List ℕ };
-
-    ghost view = { λ n. shown_text n.shown };
-}
-
-impl<'d> ScriptDisplayName<'d> {
+impl<'d> SubtagName<'d, Script> {
     /// The name of a script: of medium length, among the most asked ones.
     ///
     /// # Errors
@@ -157,72 +146,5 @@ impl<'d> ScriptDisplayName<'d> {
             (NameKey.Script script) script_short_heavy) script }
     {
         Self::first_or_raw(provider, &SHORT_HEAVY, preferences, script)
-    }
-
-    /// The same name, lent again.
-    pub fn as_borrowed(&self) -> ScriptDisplayNameBorrowed<'_>
-        ensures { result.text.now ≡ self.now }
-    {
-        ScriptDisplayNameBorrowed {
-            text: self.shown.as_str(),
-        }
-    }
-
-    // The first name of a chain.
-    fn first<P: DataProvider>(
-        provider: &'d P,
-        chain: &[NameMarker],
-        preferences: DisplayNamesPreferences,
-        script: Script,
-    ) -> Result<Self, DataError>
-        ensures { result ≡ name_by (P.name provider.now) preferences.locale
-            (NameKey.Script script) chain.now }
-    {
-        let key = NameKey::Script(script);
-        let name = first_name(provider, chain, &preferences.locale, &key)?;
-        Ok(ScriptDisplayName {
-            shown: Shown::Name(name),
-        })
-    }
-
-    // The first name of a chain, or the subtag.
-    fn first_or_raw<P: DataProvider>(
-        provider: &'d P,
-        chain: &[NameMarker],
-        preferences: DisplayNamesPreferences,
-        script: Script,
-    ) -> Self
-        ensures { result ≡ or_raw (name_by (P.name provider.now) preferences.locale
-            (NameKey.Script script) chain.now) script }
-    {
-        match Self::first(provider, chain, preferences, script) {
-            Ok(name) => name,
-            Err(_) => ScriptDisplayName {
-                shown: Shown::Script(script),
-            },
-        }
-    }
-}
-
-impl fmt::Display for ScriptDisplayName<'_> {
-    ghost output = { λ n. Some n };
-
-    fn fmt<W: fmt::Write>(&self, f: &mut fmt::Formatter<W>) -> fmt::Result {
-        f.write_str(self.shown.as_str())
-    }
-}
-
-/// The name of a script that is lent. No call takes memory.
-#[derive(Clone, Copy, Debug)]
-pub struct ScriptDisplayNameBorrowed<'a> {
-    /// The name.
-    pub text: &'a str,
-}
-
-impl fmt::Display for ScriptDisplayNameBorrowed<'_> {
-    ghost output = { λ n. Some n.text.now };
-
-    fn fmt<W: fmt::Write>(&self, f: &mut fmt::Formatter<W>) -> fmt::Result {
-        f.write_str(self.text)
     }
 }

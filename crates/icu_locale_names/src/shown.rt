@@ -1,45 +1,80 @@
-//! What a name shows.
-ghost use Rattle.std.specs.Prelude.{◌≡◌};
+//! What a name shows, and the pieces of a text.
+ghost use Rattle.std.specs.Prelude.{◌≡◌, ℕ, List};
 ghost use Rattle.icu_locale_names.specs.Pieces.{plain, raw_subtag};
-ghost use Rattle.icu_locale_names.specs.inner.Shown.{shown_text, piece_of, lent_piece};
+ghost use Rattle.icu_locale_names.specs.inner.Shown.{shown_text, piece_by, pieces_if_any, text_pieces, lent_piece, lent_pieces};
 
 use icu_locale_core::{Language, Region, Script, Variant};
 
-// A name that a provider lent, or the subtag in its place.
-#[derive(Clone, Copy, Debug)]
-pub enum Shown<'d> {
-    Name(&'d str),
-    Language(Language),
-    Region(Region),
-    Script(Script),
-    Variant(Variant),
+// A subtag, which has a text.
+pub trait Subtag: Copy {
+    ghost text: { Self → List ℕ };
+
+    fn text(&self) -> &str
+        ensures { result.now ≡ Self.text self.now };
 }
 
-impl<'d> Shown<'d> {
+impl Subtag for Language {
+    ghost text = { λ language. language };
+
     #[inline]
-    pub(crate) fn as_str(&self) -> &str
-        ensures { result.now ≡ shown_text self.now }
+    fn text(&self) -> &str {
+        self.as_str()
+    }
+}
+
+impl Subtag for Script {
+    ghost text = { λ script. script };
+
+    #[inline]
+    fn text(&self) -> &str {
+        self.as_str()
+    }
+}
+
+impl Subtag for Region {
+    ghost text = { λ region. region };
+
+    #[inline]
+    fn text(&self) -> &str {
+        self.as_str()
+    }
+}
+
+impl Subtag for Variant {
+    ghost text = { λ variant. variant };
+
+    #[inline]
+    fn text(&self) -> &str {
+        self.as_str()
+    }
+}
+
+// A name that a provider lent, or the subtag in its place.
+#[derive(Clone, Copy, Debug)]
+pub enum Shown<'d, S> {
+    Name(&'d str),
+    Raw(S),
+}
+
+impl<'d, S: Subtag> Shown<'d, S> {
+    #[inline]
+    pub fn as_str(&self) -> &str
+        ensures { result.now ≡ shown_text S.text self.now }
     {
         match self {
             Shown::Name(name) => name,
-            Shown::Language(subtag) => subtag.as_str(),
-            Shown::Region(subtag) => subtag.as_str(),
-            Shown::Script(subtag) => subtag.as_str(),
-            Shown::Variant(subtag) => subtag.as_str(),
+            Shown::Raw(subtag) => subtag.text(),
         }
     }
 
     // As a piece of a text.
     #[inline]
     pub fn lend(&self) -> LentPiece<'_>
-        ensures { lent_piece result ≡ piece_of self.now }
+        ensures { lent_piece result ≡ piece_by S.text self.now }
     {
         match self {
             Shown::Name(name) => LentPiece::plain(name),
-            Shown::Language(subtag) => LentPiece::raw_subtag(subtag.as_str()),
-            Shown::Region(subtag) => LentPiece::raw_subtag(subtag.as_str()),
-            Shown::Script(subtag) => LentPiece::raw_subtag(subtag.as_str()),
-            Shown::Variant(subtag) => LentPiece::raw_subtag(subtag.as_str()),
+            Shown::Raw(subtag) => LentPiece::raw_subtag(subtag.text()),
         }
     }
 }
@@ -67,5 +102,27 @@ impl<'a> LentPiece<'a> {
         ensures { lent_piece result ≡ raw_subtag text.now }
     {
         LentPiece { text, is_raw: true }
+    }
+}
+
+// What is shown, if anything, as a piece.
+#[inline]
+pub fn lend_if_any<'a, S: Subtag>(shown: &'a Option<Shown<'a, S>>) -> Option<LentPiece<'a>>
+    ensures { lent_pieces result ≡ pieces_if_any S.text shown.now }
+{
+    match shown {
+        Some(shown) => Some(shown.lend()),
+        None => None,
+    }
+}
+
+// A text, if there is one, as a piece.
+#[inline]
+pub fn plain_if_any(text: Option<&str>) -> Option<LentPiece<'_>>
+    ensures { lent_pieces result ≡ text_pieces text.entry }
+{
+    match text {
+        Some(text) => Some(LentPiece::plain(text)),
+        None => None,
     }
 }

@@ -1,34 +1,23 @@
 //! Names of variants.
-ghost use Rattle.std.specs.Prelude.{◌≡◌, Some};
+ghost use Rattle.std.specs.Prelude.{◌≡◌};
+ghost use Rattle.icu_provider.specs.declared.names.NameKey.{NameKey};
 ghost use Rattle.icu_locale_names.specs.Chains.{variant_heavy};
 ghost use Rattle.icu_locale_names.specs.Names.{name_by, or_raw};
 
 use crate::DisplayNamesPreferences;
-use crate::chain::first_name;
-use crate::shown::Shown;
+use crate::subtag_name::{SubtagName, SubtagNameBorrowed};
 use icu_locale_core::Variant;
-use icu_provider::{DataError, DataProvider, NameKey, NameMarker};
-use std::fmt;
-use std::marker::Model;
+use icu_provider::{DataError, DataProvider, NameMarker};
 
 pub(crate) const HEAVY: [NameMarker; 1] = [NameMarker::VariantMediumHeavy];
 
 /// The name of a variant, in the language of a locale. No call takes memory.
-#[derive(Debug, Drop)]
-pub struct VariantDisplayName<'d> {
-    shown: Shown<'d>,
-}
+pub type VariantDisplayName<'d> = SubtagName<'d, Variant>;
 
-impl<'d> Model for VariantDisplayName<'d> {
-    ghost use Rattle.std.specs.Prelude.{List, ℕ};
-    ghost use Rattle.icu_locale_names.specs.inner.Shown.{shown_text};
+/// The name of a variant that is lent. No call takes memory.
+pub type VariantDisplayNameBorrowed<'a> = SubtagNameBorrowed<'a>;
 
-    ghost Value = { List ℕ };
-
-    ghost view = { λ n. shown_text n.shown };
-}
-
-impl<'d> VariantDisplayName<'d> {
+impl<'d> SubtagName<'d, Variant> {
     /// The name of a variant: of medium length, the rare ones too.
     ///
     /// # Errors
@@ -56,72 +45,5 @@ impl<'d> VariantDisplayName<'d> {
             (NameKey.Variant variant) variant_heavy) variant }
     {
         Self::first_or_raw(provider, &HEAVY, preferences, variant)
-    }
-
-    /// The same name, lent again.
-    pub fn as_borrowed(&self) -> VariantDisplayNameBorrowed<'_>
-        ensures { result.text.now ≡ self.now }
-    {
-        VariantDisplayNameBorrowed {
-            text: self.shown.as_str(),
-        }
-    }
-
-    // The first name of a chain.
-    fn first<P: DataProvider>(
-        provider: &'d P,
-        chain: &[NameMarker],
-        preferences: DisplayNamesPreferences,
-        variant: Variant,
-    ) -> Result<Self, DataError>
-        ensures { result ≡ name_by (P.name provider.now) preferences.locale
-            (NameKey.Variant variant) chain.now }
-    {
-        let key = NameKey::Variant(variant);
-        let name = first_name(provider, chain, &preferences.locale, &key)?;
-        Ok(VariantDisplayName {
-            shown: Shown::Name(name),
-        })
-    }
-
-    // The first name of a chain, or the subtag.
-    fn first_or_raw<P: DataProvider>(
-        provider: &'d P,
-        chain: &[NameMarker],
-        preferences: DisplayNamesPreferences,
-        variant: Variant,
-    ) -> Self
-        ensures { result ≡ or_raw (name_by (P.name provider.now) preferences.locale
-            (NameKey.Variant variant) chain.now) variant }
-    {
-        match Self::first(provider, chain, preferences, variant) {
-            Ok(name) => name,
-            Err(_) => VariantDisplayName {
-                shown: Shown::Variant(variant),
-            },
-        }
-    }
-}
-
-impl fmt::Display for VariantDisplayName<'_> {
-    ghost output = { λ n. Some n };
-
-    fn fmt<W: fmt::Write>(&self, f: &mut fmt::Formatter<W>) -> fmt::Result {
-        f.write_str(self.shown.as_str())
-    }
-}
-
-/// The name of a variant that is lent. No call takes memory.
-#[derive(Clone, Copy, Debug)]
-pub struct VariantDisplayNameBorrowed<'a> {
-    /// The name.
-    pub text: &'a str,
-}
-
-impl fmt::Display for VariantDisplayNameBorrowed<'_> {
-    ghost output = { λ n. Some n.text.now };
-
-    fn fmt<W: fmt::Write>(&self, f: &mut fmt::Formatter<W>) -> fmt::Result {
-        f.write_str(self.text)
     }
 }

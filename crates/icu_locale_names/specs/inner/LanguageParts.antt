@@ -1,5 +1,5 @@
 -- The parts of a name of an identifier, as the code has them.
-use Rattle.std.specs.Prelude.{◌≡◌, ◌⊎◌, ℕ, Bool, if◌then◌else◌, IsTrue, List, [], ◌∷◌, ◌++◌, map, None, Result, Err, IsOk}
+use Rattle.std.specs.Prelude.{◌≡◌, ◌⊎◌, ℕ, Bool, if◌then◌else◌, IsTrue, List, [], ◌∷◌, ◌++◌, map, None, Result, Err}
 use Rattle.icu_locale_core.specs.declared.langid.LanguageIdentifier.{LanguageIdentifier}
 use Rattle.icu_provider.specs.Names.{part_of}
 use Rattle.icu_provider.specs.declared.data_locale.DataLocale.{DataLocale}
@@ -7,20 +7,20 @@ use Rattle.icu_provider.specs.declared.error.DataError.{DataError}
 use Rattle.icu_provider.specs.declared.error.DataErrorKind.TheVariants.{Memory}
 use Rattle.icu_provider.specs.declared.essentials.PatternItem.{PatternItem}
 use Rattle.icu_provider.specs.declared.names.NameKey.{NameKey}
-use Rattle.icu_provider.specs.declared.names.NameKey.TheVariants.{Language, Script, Region, Variant}
+use Rattle.icu_provider.specs.declared.names.NameKey.TheVariants.{Language}
 use Rattle.icu_provider.specs.declared.names.NameMarker.{NameMarker}
 use Rattle.icu_locale_names.specs.Chains.{or_next, first_hit, made_of, if_missing}
 use Rattle.icu_locale_names.specs.LanguageChains.{LanguageChain}
 use Rattle.icu_locale_names.specs.LanguageNames.{Base, Head, KeyParts, glued, menu_base, text_base, raw_base, are_many}
 use Rattle.icu_locale_names.specs.Names.{Answers, MenuAnswers, name_by, menu_by}
-use Rattle.icu_locale_names.specs.Pieces.{Piece}
+use Rattle.icu_locale_names.specs.Pieces.{Piece, plain, raw_subtag}
 use Rattle.icu_locale_names.specs.declared.language.base.Base as code
 use Rattle.icu_locale_names.specs.declared.name_chain.Chains.{Chains}
 use Rattle.icu_locale_names.specs.declared.language.parts.Parts.{Parts}
 use Rattle.icu_locale_names.specs.declared.language.variants.VariantNames.{VariantNames}
 use Rattle.icu_locale_names.specs.declared.language.variants.VariantNames.TheVariants as variants
 use Rattle.icu_locale_names.specs.declared.shown.Shown.{Shown}
-use Rattle.icu_locale_names.specs.inner.Shown.{piece_of, shown_pieces}
+use Rattle.icu_locale_names.specs.inner.Shown.{piece_of, shown_pieces, text_pieces}
 
 -- the chains that a constant lends
 abbrev pub chains_of : Chains → LanguageChain
@@ -35,17 +35,16 @@ chains_of chains = record {
 abbrev pub shown_base : code.Base → Base
 shown_base b = record {
   piece = piece_of b.shown;
-  extension = shown_pieces b.extension;
+  extension = text_pieces b.extension;
   script = b.script;
   region = b.region;
 }
 
--- the subtag that a key names
-abbrev pub subtag_of : NameKey → List ℕ
-subtag_of (Language subtag script region) = subtag
-subtag_of (Script subtag) = subtag
-subtag_of (Region subtag) = subtag
-subtag_of (Variant subtag) = subtag
+-- the name of a subtag by the first marker of a chain that has one, or the raw subtag
+abbrev pub name_asked : {S : Type 0} → Answers → DataLocale → (S → List ℕ) → (S → NameKey)
+    → List NameMarker → S → Result Piece DataError
+name_asked name locale text key chain subtag =
+    if_missing (raw_subtag (text subtag)) (made_of plain (name_by name locale (key subtag) chain))
 
 -- a key with the script or without it, and with the region or without it
 abbrev pub key_with : LanguageIdentifier → Bool × Bool → KeyParts
@@ -81,11 +80,11 @@ base_asked name menu locale chain x keys =
 abbrev pub shown_head : Parts → Head
 shown_head p = record {
   base = piece_of p.base;
-  qualifiers = shown_pieces p.extension ++ (shown_pieces p.script ++ shown_pieces p.region);
+  qualifiers = text_pieces p.extension ++ (shown_pieces p.script ++ shown_pieces p.region);
 }
 
 -- the names of variants
-abbrev pub variant_list : VariantNames → List Shown
+abbrev pub variant_list : VariantNames → List (Shown (List ℕ))
 variant_list variants.None = []
 variant_list (variants.One name) = name ∷ []
 variant_list (variants.Many names) = names.items
@@ -104,7 +103,7 @@ abbrev pub IsThisOrMemory : {A : Type 0} → List (List ℕ) → Result A DataEr
 IsThisOrMemory subtags this made = (made ≡ this) ⊎ (IsTrue (are_many subtags) × IsMemory made)
 
 -- the pieces of a name that is made of these parts
-abbrev pub pieces_by : Parts → List Shown → List PatternItem → List ℕ → List Piece
+abbrev pub pieces_by : Parts → List (Shown (List ℕ)) → List PatternItem → List ℕ → List Piece
 pieces_by parts names pattern separator =
     glued (piece_of parts.base) ((shown_head parts).qualifiers ++ map piece_of names)
     (map part_of pattern) separator

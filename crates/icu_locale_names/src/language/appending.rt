@@ -5,10 +5,11 @@ ghost use Rattle.icu_provider.specs.Names.{part_of};
 ghost use Rattle.icu_locale_names.specs.LanguageNames.{joined};
 ghost use Rattle.icu_locale_names.specs.LentNames.{pieces_of};
 ghost use Rattle.icu_locale_names.specs.inner.Appended.{AddsPieces, IsGrown, Joins, filled_in, qualifiers_of};
-ghost use Rattle.icu_locale_names.specs.inner.Shown.{piece_of, shown_pieces};
+ghost use Rattle.icu_locale_names.specs.inner.Shown.{piece_of, lent_piece, lent_pieces};
 
 use crate::language::LanguageIdentifierDisplayNameBorrowed;
-use crate::shown::Shown;
+use crate::shown::{LentPiece, Shown, lend_if_any, plain_if_any};
+use icu_locale_core::Variant;
 use icu_provider::PatternItem;
 use std::alloc::AllocError;
 
@@ -31,7 +32,7 @@ pub fn append_name(
     if has_qualifier(name) {
         append_pattern(name, text)
     } else {
-        append_shown(&name.parts.base, text)
+        append_piece(name.parts.base.lend(), text)
     }
 }
 
@@ -79,7 +80,7 @@ fn append_item(
             text.extend_from_slice(literal.as_bytes())?;
             Ok(false)
         }
-        PatternItem::First => append_shown(&name.parts.base, text),
+        PatternItem::First => append_piece(name.parts.base.lend(), text),
         PatternItem::Second => append_qualifiers(name, text),
     }
 }
@@ -98,9 +99,10 @@ fn append_qualifiers(
         is_raw: false,
     };
     let separator = name.separator;
-    let extension = append_if_any(text, separator, &name.parts.extension, none)?;
-    let script = append_if_any(text, separator, &name.parts.script, extension)?;
-    let region = append_if_any(text, separator, &name.parts.region, script)?;
+    let parts = name.parts;
+    let extension = append_if_any(text, separator, plain_if_any(parts.extension), none)?;
+    let script = append_if_any(text, separator, lend_if_any(&parts.script), extension)?;
+    let region = append_if_any(text, separator, lend_if_any(&parts.region), script)?;
     let all = append_each(text, separator, name.variants, region)?;
     Ok(all.is_raw)
 }
@@ -109,7 +111,7 @@ fn append_qualifiers(
 fn append_each(
     text: &mut Vec<u8>,
     separator: &str,
-    qualifiers: &[Shown<'_>],
+    qualifiers: &[Shown<'_, Variant>],
     before: Joined,
 ) -> Result<Joined, AllocError>
     ensures joined { IfOk result (Joins separator.now (map piece_of qualifiers.now)
@@ -118,7 +120,7 @@ fn append_each(
 {
     let mut so_far = before;
     for shown in qualifiers {
-        so_far = append_next(text, separator, shown, so_far)?;
+        so_far = append_next(text, separator, shown.lend(), so_far)?;
     }
     Ok(so_far)
 }
@@ -128,15 +130,15 @@ fn append_each(
 fn append_if_any(
     text: &mut Vec<u8>,
     separator: &str,
-    shown: &Option<Shown<'_>>,
+    piece: Option<LentPiece<'_>>,
     before: Joined,
 ) -> Result<Joined, AllocError>
-    ensures joined { IfOk result (Joins separator.now (shown_pieces shown.now)
+    ensures joined { IfOk result (Joins separator.now (lent_pieces piece.entry)
         text.old.items before text.new.items) }
     ensures part { OnErr result (IsGrown text.old.items text.new.items) }
 {
-    match shown {
-        Some(shown) => append_next(text, separator, shown, before),
+    match piece {
+        Some(piece) => append_next(text, separator, piece, before),
         None => Ok(before),
     }
 }
@@ -145,31 +147,30 @@ fn append_if_any(
 fn append_next(
     text: &mut Vec<u8>,
     separator: &str,
-    shown: &Shown<'_>,
+    piece: LentPiece<'_>,
     before: Joined,
 ) -> Result<Joined, AllocError>
-    ensures joined { IfOk result (Joins separator.now (piece_of shown.now ∷ [])
+    ensures joined { IfOk result (Joins separator.now (lent_piece piece.entry ∷ [])
         text.old.items before text.new.items) }
     ensures part { OnErr result (IsGrown text.old.items text.new.items) }
 {
     if before.is_any {
         text.extend_from_slice(separator.as_bytes())?;
     }
-    let is_raw = append_shown(shown, text)?;
+    let is_raw = append_piece(piece, text)?;
     Ok(Joined {
         is_any: true,
         is_raw: before.is_raw || is_raw,
     })
 }
 
-// What is shown, and whether it is a raw subtag.
+// A piece, and whether it is a raw subtag.
 #[inline(always)]
-fn append_shown(shown: &Shown<'_>, text: &mut Vec<u8>) -> Result<bool, AllocError>
+fn append_piece(piece: LentPiece<'_>, text: &mut Vec<u8>) -> Result<bool, AllocError>
     ensures added { IfOk result
-        (AddsPieces (piece_of shown.now ∷ []) text.old.items text.new.items) }
+        (AddsPieces (lent_piece piece.entry ∷ []) text.old.items text.new.items) }
     ensures part { OnErr result (IsGrown text.old.items text.new.items) }
 {
-    let piece = shown.lend();
     text.extend_from_slice(piece.text.as_bytes())?;
     Ok(piece.is_raw)
 }

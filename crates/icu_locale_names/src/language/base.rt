@@ -3,13 +3,13 @@ ghost use Rattle.std.specs.Prelude.{◌≡◌, map, if◌then◌else◌, None};
 ghost use Rattle.icu_locale_names.specs.Chains.{made_of};
 ghost use Rattle.icu_locale_names.specs.LanguageNames.{in_locale, base_of, keys_of, asks_dialects, menu_base, raw_base, unless_empty};
 ghost use Rattle.icu_locale_names.specs.inner.LanguageParts.{chains_of, shown_base, key_with, key_asked, keys_asked, first_asked, base_asked};
-ghost use Rattle.icu_locale_names.specs.inner.Shown.{shown_pieces};
+ghost use Rattle.icu_locale_names.specs.inner.Shown.{text_pieces};
 
 use crate::LanguageDisplay;
 use crate::chain::{first_menu, first_name, is_missing};
 use crate::name_chain::Chains;
 use crate::shown::Shown;
-use icu_locale_core::{LanguageIdentifier, Region, Script};
+use icu_locale_core::{Language, LanguageIdentifier, Region, Script};
 use icu_provider::{
     DataError, DataErrorKind, DataLocale, DataProvider, MenuMarker, MenuNameParts, NameKey,
     NameMarker,
@@ -18,8 +18,8 @@ use icu_provider::{
 // The base of a name, its extension, and the subtags that are left to qualifiers.
 #[derive(Clone, Copy, Debug)]
 pub struct Base<'d> {
-    pub shown: Shown<'d>,
-    pub extension: Option<Shown<'d>>,
+    pub shown: Shown<'d, Language>,
+    pub extension: Option<&'d str>,
     pub script: Option<Script>,
     pub region: Option<Region>,
 }
@@ -180,14 +180,10 @@ fn menu_base<'d>(name: &'d MenuNameParts, subject: &LanguageIdentifier) -> Base<
 }
 
 // A text as a qualifier, if it is not empty.
-fn unless_empty(text: &str) -> Option<Shown<'_>>
-    ensures { shown_pieces result ≡ unless_empty text.now }
+fn unless_empty(text: &str) -> Option<&str>
+    ensures { text_pieces result ≡ unless_empty text.now }
 {
-    if text.is_empty() {
-        None
-    } else {
-        Some(Shown::Name(text))
-    }
+    if text.is_empty() { None } else { Some(text) }
 }
 
 // The raw language as a base.
@@ -195,7 +191,7 @@ fn raw_base<'d>(subject: &LanguageIdentifier) -> Base<'d>
     ensures { shown_base result ≡ raw_base subject.now }
 {
     Base {
-        shown: Shown::Language(subject.language),
+        shown: Shown::Raw(subject.language),
         extension: None,
         script: subject.script,
         region: subject.region,

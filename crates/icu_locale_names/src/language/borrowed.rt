@@ -11,6 +11,7 @@ use crate::language::parts::Parts;
 use crate::language::walk::PieceWalk;
 use crate::language::writing::{format_pieces, measured, spans_of, write_pieces};
 use crate::shown::Shown;
+use icu_locale_core::Variant;
 use icu_provider::PatternItem;
 use std::{fmt, io};
 
@@ -19,7 +20,7 @@ use std::{fmt, io};
 #[derive(Clone, Copy, Debug)]
 pub struct LanguageIdentifierDisplayNameBorrowed<'a> {
     pub(super) parts: &'a Parts<'a>,
-    pub(super) variants: &'a [Shown<'a>],
+    pub(super) variants: &'a [Shown<'a, Variant>],
     pub(super) pattern: &'a [PatternItem],
     pub(super) separator: &'a str,
 }

@@ -6,19 +6,19 @@ ghost use Rattle.icu_locale_names.specs.inner.LanguageParts.{chains_of, shown_he
 
 use crate::LanguageDisplay;
 use crate::language::base::find_base;
-use crate::language::named::{region_name, script_name};
+use crate::language::named::name_if_any;
 use crate::name_chain::Chains;
 use crate::shown::Shown;
-use icu_locale_core::LanguageIdentifier;
+use icu_locale_core::{Language, LanguageIdentifier, Region, Script};
 use icu_provider::{DataError, DataLocale, DataProvider};
 
 // The base, and the qualifiers before the variants.
 #[derive(Clone, Copy, Debug)]
 pub struct Parts<'d> {
-    pub base: Shown<'d>,
-    pub extension: Option<Shown<'d>>,
-    pub script: Option<Shown<'d>>,
-    pub region: Option<Shown<'d>>,
+    pub base: Shown<'d, Language>,
+    pub extension: Option<&'d str>,
+    pub script: Option<Shown<'d, Script>>,
+    pub region: Option<Shown<'d, Region>>,
 }
 
 // The names of the language, the script and the region, asked for in this order.
@@ -37,11 +37,11 @@ pub fn find_parts<'d, P: DataProvider>(
         Ok(found) => found,
         Err(refusal) => return Err(refusal),
     };
-    let script = match script_name(provider, chains.script, locale, found.script) {
+    let script = match name_if_any(provider, chains.script, locale, found.script) {
         Ok(script) => script,
         Err(refusal) => return Err(refusal),
     };
-    let region = match region_name(provider, chains.region, locale, found.region) {
+    let region = match name_if_any(provider, chains.region, locale, found.region) {
         Ok(region) => region,
         Err(refusal) => return Err(refusal),
     };

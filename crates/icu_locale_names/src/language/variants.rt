@@ -1,6 +1,7 @@
 //! The names of variants.
 ghost use Rattle.std.specs.Prelude.{◌≡◌, ◌⊎◌, ◌∷◌, []};
 ghost use Rattle.icu_locale_core.specs.TextSet.{rising};
+ghost use Rattle.icu_provider.specs.declared.names.NameKey.{NameKey};
 ghost use Rattle.icu_locale_names.specs.Chains.{variant_heavy, made_of};
 ghost use Rattle.icu_locale_names.specs.LanguageNames.{qualifier, variants_of};
 ghost use Rattle.icu_locale_names.specs.inner.LanguageParts.{variant_list, variant_pieces, IsMemory, IsThisOrMemory};
@@ -10,7 +11,7 @@ use crate::language::named::name_or_raw;
 use crate::shown::Shown;
 use crate::variant::HEAVY;
 use icu_locale_core::{Variant, Variants};
-use icu_provider::{DataError, DataLocale, DataProvider, NameKey};
+use icu_provider::{DataError, DataLocale, DataProvider};
 use std::alloc::Global;
 use std::slice;
 
@@ -18,12 +19,12 @@ use std::slice;
 #[derive(Debug, Drop)]
 pub enum VariantNames<'d> {
     None,
-    One(Shown<'d>),
-    Many(Vec<Shown<'d>>),
+    One(Shown<'d, Variant>),
+    Many(Vec<Shown<'d, Variant>>),
 }
 
 impl<'d> VariantNames<'d> {
-    pub fn as_slice(&self) -> &[Shown<'d>]
+    pub fn as_slice(&self) -> &[Shown<'d, Variant>]
         ensures { result.now ≡ variant_list self.now }
     {
         match self {
@@ -98,10 +99,10 @@ fn variant_name<'d, P: DataProvider>(
     provider: &'d P,
     locale: &DataLocale,
     variant: &Variant,
-) -> Result<Shown<'d>, DataError>
+) -> Result<Shown<'d, Variant>, DataError>
     ensures { made_of piece_of result
         ≡ qualifier (λ marker key. P.name provider.now marker locale.now key) variant_heavy
         (λ v. NameKey.Variant v) variant.now }
 {
-    name_or_raw(provider, &HEAVY, locale, &NameKey::Variant(*variant))
+    name_or_raw(provider, &HEAVY, locale, *variant)
 }

@@ -2,11 +2,12 @@
 ghost use Rattle.std.specs.Prelude.{◌≡◌, ◌∷◌, [], map, MatchOption};
 ghost use Rattle.std.specs.Iterator.{YieldsFirstBy, item_count};
 ghost use Rattle.icu_locale_names.specs.inner.LanguageParts.{pieces_by};
-ghost use Rattle.icu_locale_names.specs.inner.Shown.{piece_of, shown_pieces, lent_piece, lent_pieces};
+ghost use Rattle.icu_locale_names.specs.inner.Shown.{piece_of, lent_piece, lent_pieces};
 ghost use Rattle.icu_locale_names.specs.inner.Walk.{qualifier_pieces, pieces_from_script, pieces_from_region, pieces_of_items, pieces_left, pieces_not_ready};
 
 use crate::language::parts::Parts;
-use crate::shown::{LentPiece, Shown};
+use crate::shown::{LentPiece, Shown, lend_if_any, plain_if_any};
+use icu_locale_core::Variant;
 use icu_provider::PatternItem;
 
 // Qualifiers in their order.
@@ -15,7 +16,7 @@ pub struct Qualifiers<'a> {
     pub extension: Option<LentPiece<'a>>,
     pub script: Option<LentPiece<'a>>,
     pub region: Option<LentPiece<'a>>,
-    pub variants: &'a [Shown<'a>],
+    pub variants: &'a [Shown<'a, Variant>],
 }
 
 impl<'a> Qualifiers<'a> {
@@ -132,7 +133,7 @@ impl<'a> PieceWalk<'a> {
     // The walk through a name of these parts: the base alone where there are no qualifiers, else the pattern.
     pub fn new(
         parts: &'a Parts<'a>,
-        variants: &'a [Shown<'a>],
+        variants: &'a [Shown<'a, Variant>],
         pattern: &'a [PatternItem],
         separator: &'a str,
     ) -> Self
@@ -141,7 +142,7 @@ impl<'a> PieceWalk<'a> {
     {
         let base = parts.base.lend();
         let qualifiers = Qualifiers {
-            extension: lend_if_any(&parts.extension),
+            extension: plain_if_any(parts.extension),
             script: lend_if_any(&parts.script),
             region: lend_if_any(&parts.region),
             variants,
@@ -248,16 +249,6 @@ impl<'a> PieceWalk<'a> {
             pending: Qualifiers::none(),
             items,
         }
-    }
-}
-
-// What is shown, if anything, as a piece.
-fn lend_if_any<'a>(shown: &'a Option<Shown<'a>>) -> Option<LentPiece<'a>>
-    ensures { lent_pieces result ≡ shown_pieces shown.now }
-{
-    match shown {
-        Some(shown) => Some(shown.lend()),
-        None => None,
     }
 }
 

@@ -1,8 +1,6 @@
-use Rattle.std.proofs.Common.{◌≡◌, ◌+◌, ◌∙◌, ap, sym, subst, List, [], ◌∷◌, map, drop, arith}
+use Rattle.std.proofs.Common.{◌≡◌, ◌+◌, ◌∙◌, ap, sym, subst, [], ◌∷◌, map, drop, arith}
 use Rattle.std.proofs.lemmas.List.{drop_more, drop_all}
 use Rattle.std.proofs.lemmas.Result.{err_from_is_err_and}
-use Rattle.icu_locale_names.specs.Pieces.{Piece}
-use Rattle.icu_locale_names.specs.declared.shown.Shown.{Shown}
 use Rattle.icu_locale_names.specs.inner.Appended.{Joins}
 use Rattle.icu_locale_names.specs.inner.Shown.{piece_of}
 use Rattle.icu_locale_names.proofs.Appending.{grown_more, grown_by_joins, joins_none, joins_more}
@@ -22,7 +20,7 @@ loop-shown-preserved c =
     let shown = c.shown-item.result in
     let first = c.loop-shown.text.items in
     let middle = c.append_next.new.text.items in
-    let joins = c.in_ok-so_far.ensures.joined in
+    let joins = subst (λ p. Joins sep (p ∷ []) first c.loop-shown.so_far middle c.in_ok-so_far.so_far) c.lend.ensures c.in_ok-so_far.ensures.joined in
     let left : map piece_of (drop i qs) ≡ piece_of shown ∷ map piece_of (drop (i + 1) qs) = ap (map piece_of) (drop_more qs i shown c.loop-shown-test.true) ∙ ap (λ s. piece_of s ∷ map piece_of (drop (i + 1) qs)) (sym c.shown-item.is) in
     record {
       grown = grown_more _ first middle c.loop-shown.invariant.grown (grown_by_joins sep (piece_of shown ∷ []) first c.loop-shown.so_far middle c.in_ok-so_far.so_far joins);

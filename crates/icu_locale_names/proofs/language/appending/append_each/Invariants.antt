@@ -1,4 +1,4 @@
-use Rattle.std.proofs.Common.{◌≡◌, ℕ, List, map, drop}
+use Rattle.std.proofs.Common.{ℕ, List, map, drop}
 use Rattle.icu_locale_names.specs.declared.language.appending.Joined.{Joined}
 use Rattle.icu_locale_names.specs.inner.Appended.{IsGrown, Joins}
 use Rattle.icu_locale_names.specs.inner.Shown.{piece_of}

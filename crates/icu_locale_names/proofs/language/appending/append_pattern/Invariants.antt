@@ -1,4 +1,4 @@
-use Rattle.std.proofs.Common.{◌≡◌, ◌||◌, Bool, ℕ, List, map, drop}
+use Rattle.std.proofs.Common.{◌||◌, Bool, ℕ, List, map, drop}
 use Rattle.std.specs.List.{flat_map}
 use Rattle.icu_provider.specs.Names.{part_of}
 use Rattle.icu_locale_names.specs.inner.Appended.{AddsPieces, IsGrown, filled_in}
