@@ -1,5 +1,5 @@
 -- A line that holds identifiers alone is answered alike with a syntax and without.
-use Rattle.std.proofs.Common.{◌≡◌, ◌↔◌, ◌⊎◌, ℕ, Bool, List, [], ◌∷◌, ◌++◌, map, Option, None, Some, refl, ap, sym, subst, ◌∙◌, inl, inr, append-nil}
+use Rattle.std.proofs.Common.{◌≡◌, ◌↔◌, ℕ, Bool, List, [], ◌∷◌, ◌++◌, None, Some, refl, ap, sym, subst, ◌∙◌, inl, inr, append-nil}
 use Rattle.std.specs.Prelude.{codes}
 use Rattle.std.specs.List.{join_by, position}
 use Rattle.icu_locale_core.specs.Identifier.{IsIdentifier, Spells, subtags}

@@ -1,8 +1,9 @@
 -- How the ends of a stream's parts make the ends of the stream.
-use Rattle.std.proofs.Common.{◌≡◌, ℕ, Bool, false, List, [], ◌∷◌, ◌++◌, Option, Some, None, Result, Ok, Err, IfOk, IfErr, inr, refl, ap, sym, subst, ◌∙◌, append_assoc, append-nil}
+use Rattle.std.proofs.Common.{◌≡◌, ℕ, Bool, false, List, [], ◌∷◌, ◌++◌, Option, Some, None, Result, Ok, Err, IfOk, IfErr, inl, inr, refl, ap, sym, subst, ◌∙◌, append_assoc, append-nil}
 use Rattle.std.specs.List.{list_any}
 use Rattle.std.specs.Io.KnownBytes.{Consumes, IsAtEnd, prepend_known}
 use Rattle.std.proofs.KnownBytes.{Consumes-trans}
+use Rattle.std.proofs.lemmas.Result.{IfOk-weaker, IfErr-weaker}
 use Rattle.icu_locale.specs.LikelyTable.{likely}
 use Rattle.icu_locale.specs.Negotiation.{Negotiation}
 use Rattle.icu_locale.specs.LikelySubtags.{AreSettled}
@@ -13,8 +14,9 @@ use Rattle.icu_locale_lines.specs.declared.command.Command.TheVariants as comman
 use Rattle.icu_locale_lines.specs.declared.command.LineCommand.{LineCommand}
 use Rattle.icu_locale_lines.specs.declared.command.Task.TheVariants.{Negotiate}
 use Rattle.icu_locale_lines.specs.declared.error.CliError.{CliError}
-use Rattle.icu_locale_lines.specs.declared.error.CliError.TheVariants.{Usage, Data, Read, Write, Memory, Available, NotSettled}
-use Rattle.icu_locale_lines.specs.declared.error.CliError.TheVariants as error
+use Rattle.icu_locale_lines.specs.declared.error.CliError.TheVariants.{Data, NotSettled}
+use Rattle.icu_locale_lines.specs.declared.command.Command.{Command}
+use Rattle.icu_provider.specs.declared.error.DataError.{DataError}
 use Rattle.icu_locale_lines.specs.declared.runs.Status.{Status}
 use Rattle.icu_locale_lines.specs.declared.runs.Status.TheVariants.{Accepted}
 use Rattle.icu_locale_lines.specs.declared.work.Work.{Work}
@@ -24,8 +26,8 @@ use Rattle.icu_locale_lines.specs.Lines.{is_line_feed, first_line, after_first_l
 use Rattle.icu_locale_lines.specs.Lists.{listed, SpellsAll}
 use Rattle.icu_locale_lines.specs.Loads.{IsExpanderOf}
 use Rattle.icu_locale_lines.specs.Runs.{ReadsAll, WritesAll}
-use Rattle.icu_locale_lines.specs.Streams.{StopsStream, StopsAmong, IsStoppedLineStream, IsRefusedLineStream, ReadsLine, ReadsTablesLine, LeavesBehind, IsJsonStream, IsRefusedJsonStream}
-use Rattle.icu_locale_lines.specs.WholeRuns.{WritesSettled, IsRefusedSettled, IsLineRun}
+use Rattle.icu_locale_lines.specs.Streams.{StopsStream, StopsAmong, StopsLoaded, IsRefusedStream, ReadsLine, ReadsTablesLine, LeavesBehind, IsJsonStream, IsRefusedJsonStream}
+use Rattle.icu_locale_lines.specs.WholeRuns.{IsRunFrom}
 use Rattle.icu_locale_lines.specs.Commands.{IsWorkOf, text_answered}
 use Rattle.icu_locale_lines.proofs.FirstLines.{place_of_end, alone}
 use Rattle.icu_locale_lines.proofs.Streaming.{WritesAll-none}
@@ -65,8 +67,8 @@ module _ (syntax : Option Syntax) (line : List ℕ) (none : list_any is_line_fee
 
   -- where the input ended with that line, nothing is answered
   pub ended_run : (t : Tables) (n : Negotiation) → IsExpanderOf t n.expander → AreSettled (likely n.expander) → SpellsAll syntax (listed line) n.available → (start read wrote : Stream) (rest : List ℕ) → IsAtEnd (prepend_known rest read) → Consumes start (prepend_known rest read) (line ++ [])
-      → IsLineRun (asked syntax) t start read wrote wrote Accepted
-  ended_run t n over settled spelled start read wrote rest end all =
+      → (left : Stream) → IsRunFrom (command.Lines (asked syntax)) t start left read wrote wrote Accepted
+  ended_run t n over settled spelled start read wrote rest end all left =
       let whole = alone line none in (
         line,
         record {
@@ -81,8 +83,8 @@ module _ (syntax : Option Syntax) (line : List ℕ) (none : list_any is_line_fee
       )
 
 -- a command whose lines follow a head
-module _ (c : LineCommand) (t : Tables) (start mid : Stream) (head : List ℕ) (head_read : Consumes start mid head) (w : Work) (work_of : (text : List ℕ) → IsWorkOf c t (head ++ text) w) (answered : (text : List ℕ) → text_answered c (head ++ text) ≡ text) (read' wrote wrote' : Stream) where
-  pub run_behind : (r : Result Status CliError) → IfOk r (λ status. (input : List ℕ) × ReadsAll mid read' input × WritesAll w input wrote wrote' status) → IfOk r (IsLineRun c t start read' wrote wrote')
+module _ (c : LineCommand) (t : Tables) (start mid : Stream) (head : List ℕ) (head_read : Consumes start mid head) (w : Work) (work_of : (text : List ℕ) → IsWorkOf c t (head ++ text) w) (answered : (text : List ℕ) → text_answered c (head ++ text) ≡ text) (left read' wrote wrote' : Stream) where
+  pub run_behind : (r : Result Status CliError) → IfOk r (λ status. (input : List ℕ) × ReadsAll mid read' input × WritesAll w input wrote wrote' status) → IfOk r (IsRunFrom (command.Lines c) t start left read' wrote wrote')
   run_behind (Err e) h = tt
   run_behind (Ok s) (input, all, writes) = (
     head ++ input,
@@ -93,29 +95,23 @@ module _ (c : LineCommand) (t : Tables) (start mid : Stream) (head : List ℕ) (
   stops : (e : CliError) → StopsStream w mid read' wrote wrote' e → StopsAmong c t start read' wrote wrote' e
   stops e h = record { head = head; mid = mid; head_read = head_read; work = w; work_of = work_of; answered = answered; stops = h }
 
-  pub stopped_behind : (r : Result Status CliError) → IfErr r (StopsStream w mid read' wrote wrote') → IfErr r (IsStoppedLineStream c t start read' wrote wrote')
-  stopped_behind (Ok s) h = tt
-  stopped_behind (Err Usage) h = absurd h
-  stopped_behind (Err (error.Tables e)) h = absurd h
-  stopped_behind (Err (Data e)) h = absurd h
-  stopped_behind (Err Read) h = inr (stops Read h)
-  stopped_behind (Err Write) h = stops Write h
-  stopped_behind (Err Memory) h = inr (stops Memory h)
-  stopped_behind (Err (Available e)) h = absurd h
-  stopped_behind (Err NotSettled) h = absurd h
+  pub stopped_behind : (r : Result Status CliError) → IfErr r (StopsStream w mid read' wrote wrote') → IfErr r (StopsLoaded (command.Lines c) t start left read' wrote wrote')
+  stopped_behind r h = IfErr-weaker r _ _ (λ e h. inr (stops e h)) h
 
-module _ (c : LineCommand) (t : Tables) (start left read' wrote wrote' : Stream) where
+module _ (t : Tables) (start left read' wrote wrote' : Stream) where
   -- what stops once tables are loaded is no refusal for tables
-  pub refused_from_stopped : (r : Result Status CliError) → IfErr r (IsStoppedLineStream c t start read' wrote wrote') → IfErr r (IsRefusedLineStream c t start left read' wrote wrote')
-  refused_from_stopped (Ok s) h = tt
-  refused_from_stopped (Err Usage) h = absurd h
-  refused_from_stopped (Err (error.Tables e)) h = absurd h
-  refused_from_stopped (Err (Data e)) h = absurd h
-  refused_from_stopped (Err Read) h = h
-  refused_from_stopped (Err Write) h = h
-  refused_from_stopped (Err Memory) h = h
-  refused_from_stopped (Err (Available e)) h = h
-  refused_from_stopped (Err NotSettled) h = absurd h
+  pub no_data : (c : LineCommand) (e : DataError) → StopsLoaded (command.Lines c) t start left read' wrote wrote' (Data e) → ⊥
+  no_data c e (inl (inl h, same)) = h.2
+  no_data c e (inl (inr h, same)) = h.4.2
+  no_data c e (inr h) = h.stops
+
+  pub no_unsettled : (c : LineCommand) → StopsLoaded (command.Lines c) t start left read' wrote wrote' NotSettled → ⊥
+  no_unsettled c (inl (inl h, same)) = h.2
+  no_unsettled c (inl (inr h, same)) = h.4.2
+  no_unsettled c (inr h) = h.stops
+
+  pub refused_loaded : (c : Command) (r : Result Status CliError) → IfErr r (StopsLoaded c t start left read' wrote wrote') → IfErr r (IsRefusedStream c t start left read' wrote wrote')
+  refused_loaded c r h = IfErr-weaker r _ _ (λ e stops. inr stops) h
 
 -- ---- over the tables of the first line
 
@@ -128,33 +124,9 @@ tables_line t read mid line has_ended reads rows = record {
   rows = rows;
 }
 
-module _ (t : Tables) (read mid read' wrote wrote' : Stream) (reads : ReadsTablesLine read mid t) where
-  pub json_settled : LeavesBehind mid read' → (r : Result Status CliError) → IfOk r (WritesSettled t wrote wrote') → IfOk r (IsJsonStream command.Settled read read' wrote wrote')
-  json_settled behind (Ok s) h = (t, mid, reads, (behind, h))
-  json_settled behind (Err e) h = tt
+module _ (c : Command) (t : Tables) (read mid left read' wrote wrote' : Stream) (reads : ReadsTablesLine read mid t) (behind : LeavesBehind mid left) (r : Result Status CliError) where
+  pub json_run : IfOk r (IsRunFrom c t mid left read' wrote wrote') → IfOk r (IsJsonStream c read read' wrote wrote')
+  json_run h = IfOk-weaker r _ _ (λ s h. (t, mid, left, reads, behind, h)) h
 
-  pub json_settled_refused : LeavesBehind mid read' → (r : Result Status CliError) → IfErr r (IsRefusedSettled t wrote wrote') → IfErr r (IsRefusedJsonStream command.Settled read read' wrote wrote')
-  json_settled_refused behind (Ok s) h = tt
-  json_settled_refused behind (Err Usage) h = absurd h
-  json_settled_refused behind (Err (error.Tables e)) h = absurd h
-  json_settled_refused behind (Err (Data e)) h = (t, mid, reads, (behind, h))
-  json_settled_refused behind (Err Read) h = absurd h
-  json_settled_refused behind (Err Write) h = (t, mid, reads, (behind, h))
-  json_settled_refused behind (Err Memory) h = absurd h
-  json_settled_refused behind (Err (Available e)) h = absurd h
-  json_settled_refused behind (Err NotSettled) h = absurd h
-
-  pub json_lines : (c : LineCommand) (r : Result Status CliError) → IfOk r (IsLineRun c t mid read' wrote wrote') → IfOk r (IsJsonStream (command.Lines c) read read' wrote wrote')
-  json_lines c (Ok s) h = (t, mid, reads, h)
-  json_lines c (Err e) h = tt
-
-  pub json_lines_refused : (c : LineCommand) (left : Stream) → LeavesBehind mid left → (r : Result Status CliError) → IfErr r (IsRefusedLineStream c t mid left read' wrote wrote') → IfErr r (IsRefusedJsonStream (command.Lines c) read read' wrote wrote')
-  json_lines_refused c left behind (Ok s) h = tt
-  json_lines_refused c left behind (Err Usage) h = absurd h
-  json_lines_refused c left behind (Err (error.Tables e)) h = absurd h
-  json_lines_refused c left behind (Err (Data e)) h = (t, mid, reads, (left, behind, h))
-  json_lines_refused c left behind (Err Read) h = inr (t, mid, reads, (left, behind, h))
-  json_lines_refused c left behind (Err Write) h = (t, mid, reads, (left, behind, h))
-  json_lines_refused c left behind (Err Memory) h = inr (t, mid, reads, (left, behind, h))
-  json_lines_refused c left behind (Err (Available e)) h = (t, mid, reads, (left, behind, h))
-  json_lines_refused c left behind (Err NotSettled) h = (t, mid, reads, (left, behind, h))
+  pub json_refused : IfErr r (IsRefusedStream c t mid left read' wrote wrote') → IfErr r (IsRefusedJsonStream c read read' wrote wrote')
+  json_refused h = IfErr-weaker r _ _ (λ e h. inr (inr (t, mid, left, reads, behind, h))) h

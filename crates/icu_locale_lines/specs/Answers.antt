@@ -1,5 +1,5 @@
 -- What is written for each line that is read.
-use Rattle.std.specs.Prelude.{◌≡◌, ◌≢◌, ◌↔◌, ◌⊎◌, ℕ, Bool, true, false, List, ◌++◌, take, length, codes, Option, None, Some, MatchOption}
+use Rattle.std.specs.Prelude.{◌≡◌, ◌≢◌, ◌↔◌, ◌⊎◌, ℕ, Bool, true, false, List, ◌++◌, take, length, codes, Option, None, MatchOption}
 use Rattle.std.specs.List.{position}
 use Rattle.icu_locale_core.specs.Identifier.{IsIdentifier, Spells, parse_error_name}
 use Rattle.icu_locale_core.specs.declared.langid.LanguageIdentifier.{LanguageIdentifier}

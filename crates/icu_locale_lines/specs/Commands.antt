@@ -105,6 +105,11 @@ abbrev pub has_tables : Command → Tables → Bool
 has_tables Settled t = has_likely t
 has_tables (Lines c) t = holds_for c.task t
 
+-- a command answers lines
+abbrev pub AnswersLines : Command → Type 0
+AnswersLines Settled = ⊥
+AnswersLines (Lines c) = Unit {0}
+
 -- a command negotiates
 abbrev pub Negotiates : Command → Type 0
 Negotiates Settled = ⊥

@@ -36,6 +36,12 @@ IsRefusedList syntax likely line NotSettled =
     ¬ (AreSettled likely) × (list : List LanguageIdentifier) × SpellsAll syntax (listed line) list
 IsRefusedList syntax likely line e = ⊥
 
+-- why the line of what is available lists none
+abbrev pub IsFaultyList : Option Syntax → List ℕ → CliError → Type 0
+IsFaultyList syntax line (Available e) = IsFirstFault syntax (listed line) e
+IsFaultyList syntax line Memory = Unit {0}
+IsFaultyList syntax line e = ⊥
+
 -- the name of a refusal of tables
 abbrev pub table_error_name : TableError → List ℕ
 table_error_name Json = codes "Json"

@@ -1,11 +1,9 @@
 -- What a run that answers lines as they come reads and writes.
-use Rattle.std.specs.Prelude.{◌≡◌, ◌⊎◌, ◌<◌, ℕ, length, Bool, true, false, List, [], ◌∷◌, ◌++◌, Ok, Err}
+use Rattle.std.specs.Prelude.{◌≡◌, ◌⊎◌, ◌<◌, ℕ, length, Bool, true, false, List, [], ◌∷◌, ◌++◌, Ok}
 use Rattle.std.specs.List.{list_any}
 use Rattle.std.specs.Io.KnownBytes.{Consumes, IsAtEnd, prepend_known}
-use Rattle.icu_locale_core.specs.declared.parse_error.ParseError.{ParseError}
 use Rattle.icu_tables.specs.Rows.{rows_of}
 use Rattle.icu_tables.specs.File.{rows_in}
-use Rattle.icu_tables.specs.declared.error.TableError.{TableError}
 use Rattle.icu_tables.specs.declared.tables.Tables.{Tables}
 use Rattle.icu_locale_lines.specs.declared.command.Command.{Command}
 use Rattle.icu_locale_lines.specs.declared.command.Command.TheVariants as command
@@ -16,11 +14,10 @@ use Rattle.icu_locale_lines.specs.declared.error.CliError.TheVariants as error
 use Rattle.icu_locale_lines.specs.declared.runs.Status.{Status}
 use Rattle.icu_locale_lines.specs.declared.work.Work.{Work}
 use Rattle.icu_locale_lines.specs.Lines.{is_line_feed, Stream}
-use Rattle.icu_locale_lines.specs.Lists.{listed, IsFirstFault}
-use Rattle.icu_locale_lines.specs.Loads.{not_found}
+use Rattle.icu_locale_lines.specs.Refusals.{IsRefusedReading}
 use Rattle.icu_locale_lines.specs.Runs.{WritesAll, WritesWholeLines, WritesPart}
-use Rattle.icu_locale_lines.specs.WholeRuns.{WritesSettled, IsRefusedSettled, IsLineRun}
-use Rattle.icu_locale_lines.specs.Commands.{IsWorkOf, IsUnsettled, HoldsSettled, has_tables, text_answered}
+use Rattle.icu_locale_lines.specs.WholeRuns.{IsUnloaded, IsUnread, IsUnlisted, StopsSettled, IsRunFrom}
+use Rattle.icu_locale_lines.specs.Commands.{IsWorkOf, HoldsSettled, text_answered}
 
 -- a text of whole lines: nothing, or all up to a line feed
 abbrev pub EndsLines : List ℕ → Type 0
@@ -108,45 +105,27 @@ pub record StopsAmong (c : LineCommand) (t : Tables) (read read' wrote wrote' : 
   pub answered : (text : List ℕ) → text_answered c (head ++ text) ≡ text
   pub stops : StopsStream work mid read' wrote wrote' e
 
--- over settled tables the first line, which lists what `negotiate` has available, was read and has
--- a fault
-abbrev pub IsUnavailableLine : LineCommand → Tables → Stream → ParseError → Type 0
-IsUnavailableLine c t read e = (c.task ≡ Negotiate) × HoldsSettled t × (line : List ℕ)
-    × (has_ended : Bool) × (mid : Stream) × ReadsLine read mid line has_ended
-    × IsFirstFault c.syntax (listed line) e
+-- the first line, which lists what is available over settled tables, did not end or lists nothing
+abbrev pub StopsListing : LineCommand → Tables → Stream → Stream → CliError → Type 0
+StopsListing c t read read' e =
+    ((c.task ≡ Negotiate) × HoldsSettled t × IsUnread (ReadsUnended read read') e)
+    ⊎ ((line : List ℕ) × (has_ended : Bool) × (mid : Stream) × ReadsLine read mid line has_ended
+    × IsUnlisted c t line e)
 
--- what a command leaves that stops once its tables are loaded
-abbrev pub IsStoppedLineStream : LineCommand → Tables → Stream → Stream → Stream → Stream
-    → CliError → Type 0
-IsStoppedLineStream c t read read' wrote wrote' (error.Available e) =
-    IsUnavailableLine c t read e × (wrote' ≡ wrote)
-IsStoppedLineStream c t read read' wrote wrote' error.Read =
-    ((c.task ≡ Negotiate) × HoldsSettled t × ReadsUnended read read' × (wrote' ≡ wrote))
-    ⊎ StopsAmong c t read read' wrote wrote' error.Read
-IsStoppedLineStream c t read read' wrote wrote' error.Memory =
-    (wrote' ≡ wrote) ⊎ StopsAmong c t read read' wrote wrote' error.Memory
-IsStoppedLineStream c t read read' wrote wrote' error.Write =
-    StopsAmong c t read read' wrote wrote' error.Write
-IsStoppedLineStream c t read read' wrote wrote' e = ⊥
-
--- what a refused command leaves: a table that is not held and tables that are not settled are found
--- before anything more is read; left is what the reader had left then
-abbrev pub IsRefusedLineStream : LineCommand → Tables → Stream → Stream → Stream → Stream
-    → Stream → CliError → Type 0
-IsRefusedLineStream c t read left read' wrote wrote' (error.Data e) = (e ≡ not_found)
-    × (has_tables (command.Lines c) t ≡ false) × (read' ≡ left) × (wrote' ≡ wrote)
-IsRefusedLineStream c t read left read' wrote wrote' error.NotSettled =
-    IsUnsettled (command.Lines c) t × (read' ≡ left) × (wrote' ≡ wrote)
-IsRefusedLineStream c t read left read' wrote wrote' e =
-    IsStoppedLineStream c t read read' wrote wrote' e
-
--- what a refused stream leaves
-abbrev pub IsRefusedStream : Command → Tables → Stream → Stream → Stream → Stream → CliError
+-- what is left of a command once its tables are loaded; left is what the reader had left then
+abbrev pub StopsLoaded : Command → Tables → Stream → Stream → Stream → Stream → Stream → CliError
     → Type 0
-IsRefusedStream command.Settled t read read' wrote wrote' e =
-    (read' ≡ read) × IsRefusedSettled t wrote wrote' e
-IsRefusedStream (command.Lines c) t read read' wrote wrote' e =
-    IsRefusedLineStream c t read read read' wrote wrote' e
+StopsLoaded command.Settled t read left read' wrote wrote' e =
+    (read' ≡ left) × StopsSettled t wrote wrote' e
+StopsLoaded (command.Lines c) t read left read' wrote wrote' e =
+    (StopsListing c t read read' e × (wrote' ≡ wrote)) ⊎ StopsAmong c t read read' wrote wrote' e
+
+-- what a refused stream leaves: it stopped before it read more, or once its tables were loaded
+abbrev pub IsRefusedStream : Command → Tables → Stream → Stream → Stream → Stream → Stream
+    → CliError → Type 0
+IsRefusedStream c t read left read' wrote wrote' e =
+    (IsUnloaded c t e × (read' ≡ left) × (wrote' ≡ wrote))
+    ⊎ StopsLoaded c t read left read' wrote wrote' e
 
 -- ---- tables of the first line
 
@@ -167,43 +146,22 @@ pub record ReadsTablesLine (read mid : Stream) (t : Tables) : Type 0 where
   pub reads : ReadsLine read mid line has_ended
   pub rows : rows_in line ≡ Ok (rows_of t)
 
--- what follows tables: `settled` reads no part behind that of the first line
-abbrev pub WritesBehind : Command → Tables → Stream → Stream → Stream → Stream → Status → Type 0
-WritesBehind command.Settled t mid read' wrote wrote' status =
-    LeavesBehind mid read' × WritesSettled t wrote wrote' status
-WritesBehind (command.Lines c) t mid read' wrote wrote' status =
-    IsLineRun c t mid read' wrote wrote' status
-
--- a stream over the tables of the first line
+-- a stream over the tables of the first line; left is what the reader had left then
 abbrev pub IsJsonStream : Command → Stream → Stream → Stream → Stream → Status → Type 0
-IsJsonStream c read read' wrote wrote' status = (t : Tables) × (mid : Stream)
-    × ReadsTablesLine read mid t × WritesBehind c t mid read' wrote wrote' status
-
--- what is refused behind tables
-abbrev pub StopsBehind : Command → Tables → Stream → Stream → Stream → Stream → CliError → Type 0
-StopsBehind command.Settled t mid read' wrote wrote' e =
-    LeavesBehind mid read' × IsRefusedSettled t wrote wrote' e
-StopsBehind (command.Lines c) t mid read' wrote wrote' e = (left : Stream) × LeavesBehind mid left
-    × IsRefusedLineStream c t mid left read' wrote wrote' e
-
--- a stream over the tables of the first line stopped early
-abbrev pub StopsJsonStream : Command → Stream → Stream → Stream → Stream → CliError → Type 0
-StopsJsonStream c read read' wrote wrote' e = (t : Tables) × (mid : Stream)
-    × ReadsTablesLine read mid t × StopsBehind c t mid read' wrote wrote' e
+IsJsonStream c read read' wrote wrote' status = (t : Tables) × (mid : Stream) × (left : Stream)
+    × ReadsTablesLine read mid t × LeavesBehind mid left
+    × IsRunFrom c t mid left read' wrote wrote' status
 
 -- the first line was read, and gives no tables
-abbrev pub ReadsNoTables : Stream → Stream → TableError → Type 0
+abbrev pub ReadsNoTables : Stream → Stream → CliError → Type 0
 ReadsNoTables read read' e = (line : List ℕ) × (has_ended : Bool) × (mid : Stream)
-    × ReadsLine read mid line has_ended × LeavesBehind mid read' × (rows_in line ≡ Err e)
+    × ReadsLine read mid line has_ended × LeavesBehind mid read' × IsRefusedReading line e
 
--- what a refused stream over the tables of the first line leaves
+-- what a refused stream over the tables of the first line leaves: it stopped while it read that line,
+-- at that line, or once it had its tables
 abbrev pub IsRefusedJsonStream : Command → Stream → Stream → Stream → Stream → CliError → Type 0
-IsRefusedJsonStream c read read' wrote wrote' error.Usage = ⊥
-IsRefusedJsonStream c read read' wrote wrote' (error.Tables e) =
-    ReadsNoTables read read' e × (wrote' ≡ wrote)
-IsRefusedJsonStream c read read' wrote wrote' error.Read =
-    (ReadsUnended read read' × (wrote' ≡ wrote))
-    ⊎ StopsJsonStream c read read' wrote wrote' error.Read
-IsRefusedJsonStream c read read' wrote wrote' error.Memory =
-    (wrote' ≡ wrote) ⊎ StopsJsonStream c read read' wrote wrote' error.Memory
-IsRefusedJsonStream c read read' wrote wrote' e = StopsJsonStream c read read' wrote wrote' e
+IsRefusedJsonStream c read read' wrote wrote' e =
+    (IsUnread (ReadsUnended read read') e × (wrote' ≡ wrote))
+    ⊎ (ReadsNoTables read read' e × (wrote' ≡ wrote))
+    ⊎ ((t : Tables) × (mid : Stream) × (left : Stream) × ReadsTablesLine read mid t
+    × LeavesBehind mid left × IsRefusedStream c t mid left read' wrote wrote' e)

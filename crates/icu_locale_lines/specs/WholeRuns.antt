@@ -1,10 +1,9 @@
 -- A whole run: tables, input and output.
-use Rattle.std.specs.Prelude.{◌≡◌, ◌↔◌, ◌⊎◌, ℕ, Bool, true, false, List, Ok, Err}
+use Rattle.std.specs.Prelude.{◌≡◌, ◌↔◌, ◌⊎◌, ℕ, Bool, true, false, List, [], Ok}
 use Rattle.std.specs.Io.KnownBytes.{Appends}
 use Rattle.icu_locale.specs.LikelyTable.{likely}
 use Rattle.icu_locale.specs.LikelySubtags.{AreSettled}
 use Rattle.icu_locale.specs.declared.expander.LocaleExpander.{LocaleExpander}
-use Rattle.icu_locale_core.specs.declared.parse_error.ParseError.{ParseError}
 use Rattle.icu_tables.specs.Rows.{rows_of}
 use Rattle.icu_tables.specs.File.{rows_in}
 use Rattle.icu_tables.specs.declared.tables.Tables.{Tables}
@@ -18,12 +17,12 @@ use Rattle.icu_locale_lines.specs.declared.runs.Status.{Status}
 use Rattle.icu_locale_lines.specs.declared.runs.Status.TheVariants.{Accepted}
 use Rattle.icu_locale_lines.specs.declared.work.Work.{Work}
 use Rattle.icu_locale_lines.specs.Lines.{first_line, after_first_line, Stream}
-use Rattle.icu_locale_lines.specs.Lists.{listed, IsFirstFault}
 use Rattle.icu_locale_lines.specs.Loads.{IsExpanderOf, not_found}
 use Rattle.icu_locale_names.specs.Pieces.{AppendsPart}
 use Rattle.icu_locale_lines.specs.Runs.{ReadsAll, WritesAll, WritesWholeLines, WritesPart}
+use Rattle.icu_locale_lines.specs.Refusals.{IsFaultyList, IsRefusedReading}
 use Rattle.icu_locale_lines.specs.Texts.{settled_line}
-use Rattle.icu_locale_lines.specs.Commands.{IsWorkOf, IsUnsettled, HoldsSettled, has_tables, text_answered}
+use Rattle.icu_locale_lines.specs.Commands.{AnswersLines, IsWorkOf, IsUnsettled, HoldsSettled, has_tables, text_answered}
 
 -- the work of the command was done on every line that it answers
 pub record WritesLines (c : LineCommand) (t : Tables) (input : List ℕ) (wrote wrote' : Stream)
@@ -51,88 +50,83 @@ WritesOutput command.Settled t input wrote wrote' status = WritesSettled t wrote
 WritesOutput (command.Lines c) t input wrote wrote' status =
     WritesLines c t input wrote wrote' status
 
--- the lines stopped early, with what Leaves says on the writer
-pub record StopsAmongLines (Leaves : Work → List ℕ → Stream → Stream → Type 0) (c : LineCommand)
-    (t : Tables) (input : List ℕ) (wrote wrote' : Stream) : Type 0 where
+-- ---- where a call stops, and why it may stop there
+
+-- before lines are read: a table is not held, likely tables are not settled, or rules find no memory;
+-- `settled` takes none
+abbrev pub IsUnloaded : Command → Tables → CliError → Type 0
+IsUnloaded c t (error.Data e) = (e ≡ not_found) × (has_tables c t ≡ false)
+IsUnloaded c t error.NotSettled = IsUnsettled c t
+IsUnloaded c t error.Memory = AnswersLines c
+IsUnloaded c t e = ⊥
+
+-- while lines are read: a read failed, which leaves what Left says, or there was no memory
+abbrev pub IsUnread : Type 0 → CliError → Type 0
+IsUnread Left error.Read = Left
+IsUnread Left error.Memory = Unit {0}
+IsUnread Left e = ⊥
+
+-- at the first line, which lists what is available over settled tables
+abbrev pub IsUnlisted : LineCommand → Tables → List ℕ → CliError → Type 0
+IsUnlisted c t line e = (c.task ≡ Negotiate) × HoldsSettled t × IsFaultyList c.syntax line e
+
+-- among the answers to the lines of a text: where memory was refused whole lines alone are written, and
+-- a failed write leaves the earlier lines and a beginning of the one in hand
+abbrev pub WritesUntil : CliError → Work → List ℕ → Stream → Stream → Type 0
+WritesUntil error.Memory work text wrote wrote' = WritesWholeLines work text wrote wrote'
+WritesUntil error.Write work text wrote wrote' = WritesPart work text wrote wrote'
+WritesUntil e work text wrote wrote' = ⊥
+
+-- ---- a whole run
+
+-- some lines that the command answers were answered
+pub record StopsAmongLines (c : LineCommand) (t : Tables) (input : List ℕ) (wrote wrote' : Stream)
+    (e : CliError) : Type 0 where
   pub work : Work
   pub work_of : IsWorkOf c t input work
-  pub left : Leaves work (text_answered c input) wrote wrote'
+  pub left : WritesUntil e work (text_answered c input) wrote wrote'
 
--- a beginning of the one line was written
-abbrev pub WritesPartOfSettled : Tables → Stream → Stream → Type 0
-WritesPartOfSettled t wrote wrote' =
-    (answer : Bool) × TellsSettled t answer × AppendsPart wrote wrote' (settled_line answer)
+-- what is left of lines: a first line that lists nothing leaves the writer as it was
+abbrev pub StopsLines : LineCommand → Tables → List ℕ → Stream → Stream → CliError → Type 0
+StopsLines c t input wrote wrote' e = (IsUnlisted c t (first_line input) e × (wrote' ≡ wrote))
+    ⊎ StopsAmongLines c t input wrote wrote' e
 
--- over settled tables the first line of an input, which lists what `negotiate` has available, has a
--- fault
-abbrev pub IsUnavailable : LineCommand → Tables → List ℕ → ParseError → Type 0
-IsUnavailable c t input e =
-    (c.task ≡ Negotiate) × HoldsSettled t × IsFirstFault c.syntax (listed (first_line input)) e
+-- what is left of `settled`: a failed write leaves a beginning of its line
+abbrev pub StopsSettled : Tables → Stream → Stream → CliError → Type 0
+StopsSettled t wrote wrote' e = (e ≡ error.Write) × (answer : Bool) × TellsSettled t answer
+    × AppendsPart wrote wrote' (settled_line answer)
 
--- what lines that stop early leave: a table that is not held, tables that are not settled and a fault among the
--- available identifiers leave the writer as it was; where memory was refused whole lines alone are written; a failed
--- write leaves the earlier lines and a beginning of the one in hand
-abbrev pub IsRefusedLines : LineCommand → Tables → List ℕ → Stream → Stream → CliError → Type 0
-IsRefusedLines c t input wrote wrote' (error.Data e) =
-    (e ≡ not_found) × (has_tables (command.Lines c) t ≡ false) × (wrote' ≡ wrote)
-IsRefusedLines c t input wrote wrote' error.Memory =
-    (wrote' ≡ wrote) ⊎ StopsAmongLines WritesWholeLines c t input wrote wrote'
-IsRefusedLines c t input wrote wrote' error.Write =
-    StopsAmongLines WritesPart c t input wrote wrote'
-IsRefusedLines c t input wrote wrote' (error.Available e) =
-    IsUnavailable c t input e × (wrote' ≡ wrote)
-IsRefusedLines c t input wrote wrote' error.NotSettled =
-    IsUnsettled (command.Lines c) t × (wrote' ≡ wrote)
-IsRefusedLines c t input wrote wrote' e = ⊥
+-- what is left of a command's output once its tables are loaded
+abbrev pub StopsOutput : Command → Tables → List ℕ → Stream → Stream → CliError → Type 0
+StopsOutput command.Settled t input wrote wrote' e = StopsSettled t wrote wrote' e
+StopsOutput (command.Lines c) t input wrote wrote' e = StopsLines c t input wrote wrote' e
 
--- what a refused `settled` leaves: `Memory` is not answered
-abbrev pub IsRefusedSettled : Tables → Stream → Stream → CliError → Type 0
-IsRefusedSettled t wrote wrote' (error.Data e) =
-    (e ≡ not_found) × (has_tables command.Settled t ≡ false) × (wrote' ≡ wrote)
-IsRefusedSettled t wrote wrote' error.Write = WritesPartOfSettled t wrote wrote'
-IsRefusedSettled t wrote wrote' e = ⊥
-
--- what output that stops early leaves
+-- what refused output leaves
 abbrev pub IsRefusedOutput : Command → Tables → List ℕ → Stream → Stream → CliError → Type 0
-IsRefusedOutput command.Settled t input wrote wrote' e = IsRefusedSettled t wrote wrote' e
-IsRefusedOutput (command.Lines c) t input wrote wrote' e = IsRefusedLines c t input wrote wrote' e
+IsRefusedOutput c t input wrote wrote' e =
+    (IsUnloaded c t e × (wrote' ≡ wrote)) ⊎ StopsOutput c t input wrote wrote' e
 
--- a run of a command that answers lines: it reads them to their end
-abbrev pub IsLineRun : LineCommand → Tables → Stream → Stream → Stream → Stream → Status → Type 0
-IsLineRun c t read read' wrote wrote' status =
-    (input : List ℕ) × ReadsAll read read' input × WritesLines c t input wrote wrote' status
+-- what a command reads: `settled` nothing more, so left stays, and every other the lines to their end
+abbrev pub ReadsInput : Command → Stream → Stream → Stream → List ℕ → Type 0
+ReadsInput command.Settled read left read' input = (input ≡ []) × (read' ≡ left)
+ReadsInput (command.Lines c) read left read' input = ReadsAll read read' input
 
--- a run over tables that were there: `settled` reads nothing, and every other command reads its lines to their end
+-- a run that begins when left is what the reader has left, and some of its lines may have been read
+abbrev pub IsRunFrom : Command → Tables → Stream → Stream → Stream → Stream → Stream → Status
+    → Type 0
+IsRunFrom c t read left read' wrote wrote' status = (input : List ℕ)
+    × ReadsInput c read left read' input × WritesOutput c t input wrote wrote' status
+
+-- a run over tables that were there
 abbrev pub IsRun : Command → Tables → Stream → Stream → Stream → Stream → Status → Type 0
-IsRun command.Settled t read read' wrote wrote' status =
-    (read' ≡ read) × WritesSettled t wrote wrote' status
-IsRun (command.Lines c) t read read' wrote wrote' status =
-    IsLineRun c t read read' wrote wrote' status
+IsRun c t read read' wrote wrote' status = IsRunFrom c t read read read' wrote wrote' status
 
--- what a refused run over lines leaves: a table that is not held and tables that are not settled are found before
--- anything is read, a fault among the available identifiers when all is read, and nothing is written then
-abbrev pub IsRefusedLineRun : LineCommand → Tables → Stream → Stream → Stream → Stream
-    → CliError → Type 0
-IsRefusedLineRun c t read read' wrote wrote' (error.Data e) =
-    (e ≡ not_found) × (read' ≡ read) × (wrote' ≡ wrote)
-IsRefusedLineRun c t read read' wrote wrote' error.Read = wrote' ≡ wrote
-IsRefusedLineRun c t read read' wrote wrote' error.Memory = (wrote' ≡ wrote)
-    ⊎ ((input : List ℕ) × ReadsAll read read' input
-    × StopsAmongLines WritesWholeLines c t input wrote wrote')
-IsRefusedLineRun c t read read' wrote wrote' error.Write =
-    (input : List ℕ) × ReadsAll read read' input × StopsAmongLines WritesPart c t input wrote wrote'
-IsRefusedLineRun c t read read' wrote wrote' (error.Available e) =
-    ((input : List ℕ) × ReadsAll read read' input × IsUnavailable c t input e) × (wrote' ≡ wrote)
-IsRefusedLineRun c t read read' wrote wrote' error.NotSettled =
-    IsUnsettled (command.Lines c) t × (read' ≡ read) × (wrote' ≡ wrote)
-IsRefusedLineRun c t read read' wrote wrote' e = ⊥
-
--- what a refused run leaves
+-- what a refused run leaves: it stopped before it read, while it read, or once it had read all
 abbrev pub IsRefusedRun : Command → Tables → Stream → Stream → Stream → Stream → CliError → Type 0
-IsRefusedRun command.Settled t read read' wrote wrote' e =
-    (read' ≡ read) × IsRefusedSettled t wrote wrote' e
-IsRefusedRun (command.Lines c) t read read' wrote wrote' e =
-    IsRefusedLineRun c t read read' wrote wrote' e
+IsRefusedRun c t read read' wrote wrote' e =
+    (IsUnloaded c t e × (read' ≡ read) × (wrote' ≡ wrote))
+    ⊎ (AnswersLines c × IsUnread (Unit {0}) e × (wrote' ≡ wrote))
+    ⊎ ((input : List ℕ) × ReadsInput c read read read' input × StopsOutput c t input wrote wrote' e)
 
 -- the reader was read to its end, and its first line gives tables with these rows
 pub record ReadsTables (read read' : Stream) (t : Tables) (rest : List ℕ) : Type 0 where
@@ -146,18 +140,12 @@ abbrev pub IsJsonRun : Command → Stream → Stream → Stream → Stream → S
 IsJsonRun c read read' wrote wrote' status = (t : Tables) × (rest : List ℕ)
     × ReadsTables read read' t rest × WritesOutput c t rest wrote wrote' status
 
--- output over the tables of the first line stopped early
-abbrev pub StopsJsonRun : Command → Stream → Stream → Stream → Stream → CliError → Type 0
-StopsJsonRun c read read' wrote wrote' e = (t : Tables) × (rest : List ℕ)
-    × ReadsTables read read' t rest × IsRefusedOutput c t rest wrote wrote' e
-
--- what a refused run over the tables of the first line leaves: refused tables leave the writer as it was
+-- what a refused run over the tables of the first line leaves: it stopped while it read, at that line, or
+-- once it had its tables
 abbrev pub IsRefusedJsonRun : Command → Stream → Stream → Stream → Stream → CliError → Type 0
-IsRefusedJsonRun c read read' wrote wrote' error.Usage = ⊥
-IsRefusedJsonRun c read read' wrote wrote' (error.Tables e) =
-    (input : List ℕ) × ReadsAll read read' input × (rows_in (first_line input) ≡ Err e)
-    × (wrote' ≡ wrote)
-IsRefusedJsonRun c read read' wrote wrote' error.Read = wrote' ≡ wrote
-IsRefusedJsonRun c read read' wrote wrote' error.Memory =
-    (wrote' ≡ wrote) ⊎ StopsJsonRun c read read' wrote wrote' error.Memory
-IsRefusedJsonRun c read read' wrote wrote' e = StopsJsonRun c read read' wrote wrote' e
+IsRefusedJsonRun c read read' wrote wrote' e =
+    (IsUnread (Unit {0}) e × (wrote' ≡ wrote))
+    ⊎ ((input : List ℕ) × ReadsAll read read' input × IsRefusedReading (first_line input) e
+    × (wrote' ≡ wrote))
+    ⊎ ((t : Tables) × (rest : List ℕ) × ReadsTables read read' t rest
+    × IsRefusedOutput c t rest wrote wrote' e)

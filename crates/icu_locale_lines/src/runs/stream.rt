@@ -5,16 +5,17 @@ ghost use Rattle.icu_locale.specs.LikelyTable.{likely};
 ghost use Rattle.icu_locale.specs.LikelySubtags.{AreSettled};
 ghost use Rattle.icu_tables.specs.declared.tables.Tables.{Tables};
 ghost use Rattle.icu_locale_lines.specs.Loads.{IsExpanderOf, not_found};
-ghost use Rattle.icu_locale_lines.specs.Streams.{IsRefusedLineStream, IsStoppedLineStream, IsRefusedStream, IsJsonStream, IsRefusedJsonStream, EndsLines, AnswersEnded, LeavesEnded, StopsStream};
-ghost use Rattle.icu_locale_lines.specs.WholeRuns.{IsLineRun, IsRun};
+ghost use Rattle.icu_locale_lines.specs.Streams.{StopsLoaded, IsRefusedStream, IsJsonStream, IsRefusedJsonStream, EndsLines, AnswersEnded, LeavesEnded, StopsStream};
+ghost use Rattle.icu_locale_lines.specs.WholeRuns.{IsRun, IsRunFrom};
 ghost use Rattle.icu_locale_lines.specs.Commands.{IsUnsettled, has_tables};
+ghost use Rattle.icu_locale_lines.specs.declared.command.Command.TheVariants.{Lines};
 ghost use Rattle.icu_locale_lines.specs.declared.command.Task.TheVariants.{Negotiate};
 ghost use Rattle.std.specs.List.{list_any};
 ghost use Rattle.icu_locale_lines.specs.Lines.{is_line_feed};
 ghost use Rattle.icu_locale_lines.specs.Runs.{ReadsAll, WritesAll, WritesWholeLines, WritesPart};
 
 use crate::answer::write_answers;
-use crate::command::{Command, LineCommand};
+use crate::command::Command;
 use crate::error::CliError;
 use crate::runs::Status;
 use crate::runs::input::{MOST_READS, PART, read_first_line};
@@ -52,8 +53,8 @@ pub fn stream<R: Read, W: Write>(
     ensures unsettled { (result ≡ Err CliError.NotSettled)
         ↔ IsUnsettled command.now tables.now }
     ensures refused { IfErr result (IsRefusedStream command.now tables.now
-        (R.remaining reader.old) (R.remaining reader.new) (W.contents writer.old)
-        (W.contents writer.new)) }
+        (R.remaining reader.old) (R.remaining reader.old) (R.remaining reader.new)
+        (W.contents writer.old) (W.contents writer.new)) }
 {
     stream_within(alloc, command, tables, usize::MAX, reader, writer)
 }
@@ -80,15 +81,10 @@ pub fn stream_within<R: Read, W: Write>(
     ensures unsettled { (result ≡ Err CliError.NotSettled)
         ↔ IsUnsettled command.now tables.now }
     ensures refused { IfErr result (IsRefusedStream command.now tables.now
-        (R.remaining reader.old) (R.remaining reader.new) (W.contents writer.old)
-        (W.contents writer.new)) }
+        (R.remaining reader.old) (R.remaining reader.old) (R.remaining reader.new)
+        (W.contents writer.old) (W.contents writer.new)) }
 {
-    match command {
-        Command::Settled => write_settled(tables, writer),
-        Command::Lines(command) => {
-            stream_command(alloc, command, tables, longest, &[], reader, writer)
-        }
-    }
+    stream_over(alloc, command, tables, longest, &[], reader, writer)
 }
 
 /// Takes the tables of the first line as JSON, as soon as it has come, and does as `stream` with what follows. `Settled`
@@ -132,43 +128,41 @@ pub fn stream_json_within<R: Read, W: Write>(
 {
     let first = read_first_line(alloc, &[], reader)?;
     let tables = read_tables(alloc, &first.line)?;
-    match command {
-        Command::Settled => write_settled(&tables, writer),
-        Command::Lines(command) => {
-            stream_command(
-                alloc,
-                command,
-                &tables,
-                longest,
-                &first.rest,
-                reader,
-                writer,
-            )
-        }
-    }
+    stream_over(
+        alloc,
+        command,
+        &tables,
+        longest,
+        &first.rest,
+        reader,
+        writer,
+    )
 }
 
-// The answers of a command to what is left of a reader, behind what was read of it before.
-fn stream_command<R: Read, W: Write>(
+// What a command answers to what is left of a reader, behind what was read of it before. `Settled` reads no more.
+fn stream_over<R: Read, W: Write>(
     alloc: Global,
-    command: &LineCommand,
+    command: &Command,
     tables: &Tables,
     longest: usize,
     before: &[u8],
     reader: &mut R,
     writer: &mut W,
 ) -> Result<Status, CliError>
-    ensures output { IfOk result (IsLineRun command.now tables.now
-        (prepend_known before.now (R.remaining reader.old)) (R.remaining reader.new)
-        (W.contents writer.old) (W.contents writer.new)) }
+    ensures output { IfOk result (IsRunFrom command.now tables.now
+        (prepend_known before.now (R.remaining reader.old)) (R.remaining reader.old)
+        (R.remaining reader.new) (W.contents writer.old) (W.contents writer.new)) }
     ensures data { (result ≡ Err (CliError.Data not_found))
-        ↔ (has_tables (Command.Lines command.now) tables.now ≡ false) }
+        ↔ (has_tables command.now tables.now ≡ false) }
     ensures unsettled { (result ≡ Err CliError.NotSettled)
-        ↔ IsUnsettled (Command.Lines command.now) tables.now }
-    ensures refused { IfErr result (IsRefusedLineStream command.now tables.now
+        ↔ IsUnsettled command.now tables.now }
+    ensures refused { IfErr result (IsRefusedStream command.now tables.now
         (prepend_known before.now (R.remaining reader.old)) (R.remaining reader.old)
         (R.remaining reader.new) (W.contents writer.old) (W.contents writer.new)) }
 {
+    let Command::Lines(command) = command else {
+        return write_settled(tables, writer);
+    };
     match Loaded::load(alloc, command, tables)? {
         Loaded::Ready(work) => stream_lines(alloc, &work, longest, before, reader, writer),
         Loaded::Negotiate(syntax, expander) => {
@@ -188,15 +182,15 @@ fn stream_requests<R: Read, W: Write>(
     writer: &mut W,
 ) -> Result<Status, CliError>
     ensures output { (t : Tables) → IsExpanderOf t expander.entry
-        → AreSettled (likely expander.entry) → IfOk result (IsLineRun
-        (record { syntax = syntax; task = Negotiate }) t
-        (prepend_known before.now (R.remaining reader.old)) (R.remaining reader.new)
-        (W.contents writer.old) (W.contents writer.new)) }
+        → AreSettled (likely expander.entry) → IfOk result (IsRunFrom
+        (Lines (record { syntax = syntax; task = Negotiate })) t
+        (prepend_known before.now (R.remaining reader.old)) (R.remaining reader.old)
+        (R.remaining reader.new) (W.contents writer.old) (W.contents writer.new)) }
     ensures refused { (t : Tables) → IsExpanderOf t expander.entry
-        → AreSettled (likely expander.entry) → IfErr result (IsStoppedLineStream
-        (record { syntax = syntax; task = Negotiate }) t
-        (prepend_known before.now (R.remaining reader.old)) (R.remaining reader.new)
-        (W.contents writer.old) (W.contents writer.new)) }
+        → AreSettled (likely expander.entry) → IfErr result (StopsLoaded
+        (Lines (record { syntax = syntax; task = Negotiate })) t
+        (prepend_known before.now (R.remaining reader.old)) (R.remaining reader.old)
+        (R.remaining reader.new) (W.contents writer.old) (W.contents writer.new)) }
 {
     let first = read_first_line(alloc, before, reader)?;
     let negotiator = list_available(alloc, expander, syntax, &first.line)?;

@@ -1,15 +1,15 @@
 //! A run: tables, input and output.
-ghost use Rattle.std.specs.Prelude.{◌≡◌, ◌↔◌, Ok, Err, IfOk, IfErr, false};
+ghost use Rattle.std.specs.Prelude.{◌≡◌, ◌↔◌, [], Ok, Err, IfOk, IfErr, false};
 ghost use Rattle.icu_tables.specs.Rows.{rows_of};
 ghost use Rattle.icu_tables.specs.File.{rows_in};
 ghost use Rattle.icu_locale_lines.specs.Loads.{not_found};
 ghost use Rattle.icu_locale_lines.specs.Texts.{settled_line};
 ghost use Rattle.icu_locale_lines.specs.Commands.{IsUnsettled, has_tables};
-ghost use Rattle.icu_locale_lines.specs.WholeRuns.{IsRun, IsLineRun, IsRefusedLineRun, WritesLines, IsRefusedLines, IsRefusedRun, WritesSettled, IsRefusedSettled, WritesOutput, IsRefusedOutput, IsJsonRun, IsRefusedJsonRun};
+ghost use Rattle.icu_locale_lines.specs.WholeRuns.{IsRun, IsRefusedRun, WritesSettled, WritesOutput, IsRefusedOutput, IsJsonRun, IsRefusedJsonRun};
 ghost use Rattle.icu_locale_lines.specs.Refusals.{IsRefusedReading};
 
 use crate::answer::write_bytes;
-use crate::command::{Command, LineCommand};
+use crate::command::Command;
 use crate::error::CliError;
 use crate::runs::Status;
 use crate::runs::cut::cut;
@@ -47,30 +47,9 @@ pub fn run<R: Read, W: Write>(
     ensures refused { IfErr result (IsRefusedRun command.now tables.now (R.remaining reader.old)
         (R.remaining reader.new) (W.contents writer.old) (W.contents writer.new)) }
 {
-    match command {
-        Command::Settled => write_settled(tables, writer),
-        Command::Lines(command) => run_lines(alloc, command, tables, reader, writer),
-    }
-}
-
-// The same of a command that answers lines.
-fn run_lines<R: Read, W: Write>(
-    alloc: Global,
-    command: &LineCommand,
-    tables: &Tables,
-    reader: &mut R,
-    writer: &mut W,
-) -> Result<Status, CliError>
-    ensures output { IfOk result (IsLineRun command.now tables.now (R.remaining reader.old)
-        (R.remaining reader.new) (W.contents writer.old) (W.contents writer.new)) }
-    ensures data { (result ≡ Err (CliError.Data not_found))
-        ↔ (has_tables (Command.Lines command.now) tables.now ≡ false) }
-    ensures unsettled { (result ≡ Err CliError.NotSettled)
-        ↔ IsUnsettled (Command.Lines command.now) tables.now }
-    ensures refused { IfErr result (IsRefusedLineRun command.now tables.now
-        (R.remaining reader.old) (R.remaining reader.new) (W.contents writer.old)
-        (W.contents writer.new)) }
-{
+    let Command::Lines(command) = command else {
+        return write_settled(tables, writer);
+    };
     let loaded = Loaded::load(alloc, command, tables)?;
     let input = read_all(alloc, reader, MOST_READS)?;
     loaded.write(alloc, &input, writer)
@@ -130,24 +109,10 @@ fn write_output<W: Write>(
 {
     match command {
         Command::Settled => write_settled(tables, writer),
-        Command::Lines(command) => write_lines(alloc, command, tables, input, writer),
+        Command::Lines(command) => {
+            Loaded::load(alloc, command, tables)?.write(alloc, input, writer)
+        }
     }
-}
-
-// What a command that answers lines writes.
-fn write_lines<W: Write>(
-    alloc: Global,
-    command: &LineCommand,
-    tables: &Tables,
-    input: &[u8],
-    writer: &mut W,
-) -> Result<Status, CliError>
-    ensures output { IfOk result (WritesLines command.now tables.now input.now
-        (W.contents writer.old) (W.contents writer.new)) }
-    ensures refused { IfErr result (IsRefusedLines command.now tables.now input.now
-        (W.contents writer.old) (W.contents writer.new)) }
-{
-    Loaded::load(alloc, command, tables)?.write(alloc, input, writer)
 }
 
 // One line, `yes` or `no`.
@@ -156,8 +121,8 @@ pub fn write_settled<W: Write>(tables: &Tables, writer: &mut W) -> Result<Status
         (W.contents writer.new)) }
     ensures data { (result ≡ Err (CliError.Data not_found))
         ↔ (has_tables Command.Settled tables.now ≡ false) }
-    ensures refused { IfErr result
-        (IsRefusedSettled tables.now (W.contents writer.old) (W.contents writer.new)) }
+    ensures refused { IfErr result (IsRefusedOutput Command.Settled tables.now []
+        (W.contents writer.old) (W.contents writer.new)) }
 {
     let expander = load_expander(tables)?;
     let line = yes_or_no(expander.is_settled());

@@ -4,7 +4,7 @@ ghost use Rattle.icu_locale.specs.LikelyTable.{likely};
 ghost use Rattle.icu_locale.specs.Rules.{AreRules};
 ghost use Rattle.icu_locale_lines.specs.Lists.{listed, SpellsAll};
 ghost use Rattle.icu_locale_lines.specs.Loads.{IsExpanderOf, has_likely, not_found};
-ghost use Rattle.icu_locale_lines.specs.WholeRuns.{WritesLines, IsRefusedLines};
+ghost use Rattle.icu_locale_lines.specs.WholeRuns.{WritesLines, StopsLines};
 ghost use Rattle.icu_locale_lines.specs.Lines.{Stream};
 ghost use Rattle.icu_locale_lines.specs.Commands.{IsUnsettled, IsLoaded, IsWorkOf, has_tables, text_answered};
 ghost use Rattle.icu_locale_lines.specs.Refusals.{IsRefusedLoad, IsRefusedTable, IsRefusedList};
@@ -98,7 +98,7 @@ impl<'d> Loaded<'d> {
             → IfOk result (λ made. IsWorkOf c t input.now made.0
             × (text_answered c input.now ≡ made.1.now)) }
         ensures left { (c : LineCommand) (t : Tables) → IsLoaded c t self.entry
-            → IfErr result (λ e. (wrote : Stream) → IsRefusedLines c t input.now wrote wrote e) }
+            → IfErr result (λ e. (wrote : Stream) → StopsLines c t input.now wrote wrote e) }
     {
         match self {
             Loaded::Ready(work) => Ok((work, input)),
@@ -127,7 +127,7 @@ impl<'d> Loaded<'d> {
             → IfOk result (WritesLines c t input.now (W.contents writer.old)
             (W.contents writer.new)) }
         ensures left { (c : LineCommand) (t : Tables) → IsLoaded c t self.entry
-            → IfErr result (IsRefusedLines c t input.now (W.contents writer.old)
+            → IfErr result (StopsLines c t input.now (W.contents writer.old)
             (W.contents writer.new)) }
     {
         let (work, text) = self.over(alloc, input)?;

@@ -1,7 +1,6 @@
-use Rattle.std.proofs.Common.{[], sym, subst, ◌∙◌}
+use Rattle.std.proofs.Common.{subst, ◌∙◌}
 use Rattle.icu_locale_names.specs.Pieces.{AppendsPart}
 use Rattle.std.specs.Io.KnownBytes.{Appends}
-use Rattle.icu_locale_lines.specs.declared.runs.Status.TheVariants.{Accepted}
 use Rattle.icu_locale_lines.proofs.Progress.{Progress, Progress-start, Progress-more, Progress-sent, WritesPart-from_part}
 use Rattle.icu_locale_lines.proofs.answer.write_answers.Goals as goal
 

@@ -1,8 +1,8 @@
-use Rattle.std.proofs.Common.{◌≡◌, ◌∷◌, map, ap, sym, subst, ◌∙◌, rules}
+use Rattle.std.proofs.Common.{◌∷◌, map, ap, sym, subst, ◌∙◌, rules}
 use Rattle.std.specs.String.{string_bytes}
 use Rattle.icu_locale_lines.specs.Commands.{AreWords, AreStreamWords, plain}
 use Rattle.icu_locale_lines.specs.declared.command.Command.TheVariants.{Lines}
-use Rattle.icu_locale_lines.specs.laws.Commands.{behind_syntax, without_syntax, no_stream_words}
+use Rattle.icu_locale_lines.specs.laws.Commands.{behind_syntax, without_syntax}
 use Rattle.icu_locale_lines.proofs.command.Command.from_stream_words.Goals as goal
 
 -- the first word is that of no syntax

@@ -1,7 +1,6 @@
-use Rattle.std.proofs.Common.{◌≡◌, codes, [], ◌∷◌, ap, sym, refl, subst, ◌∙◌, rules}
-use Rattle.icu_locale_names.specs.LanguageChains.{chain_word}
+use Rattle.std.proofs.Common.{codes, [], ◌∷◌, ap, sym, refl, subst, rules}
 use Rattle.icu_locale_lines.specs.declared.command.Command.TheVariants.{Lines}
-use Rattle.icu_locale_lines.specs.Commands.{AreCommandWords, plain}
+use Rattle.icu_locale_lines.specs.Commands.{AreCommandWords}
 use Rattle.icu_locale_lines.proofs.CommandWords.{name_alone}
 use Rattle.icu_locale_lines.proofs.command.Command.name.Goals as goal
 

@@ -2,7 +2,7 @@ use Rattle.std.proofs.Common.{ap, sym, ◌∙◌}
 use Rattle.icu_tables.specs.File.{rows_in}
 use Rattle.icu_locale_lines.specs.Lines.{first_line, after_first_line}
 use Rattle.icu_locale_lines.specs.WholeRuns.{ReadsTables}
-use Rattle.icu_locale_lines.proofs.RunEnds.{stopped_json}
+use Rattle.icu_locale_lines.proofs.RunEnds.{json_refused}
 use Rattle.icu_locale_lines.proofs.runs.whole.run_json.Goals as goal
 
 -- what output over the tables of the first line leaves where it is refused
@@ -19,4 +19,4 @@ returns-clause-refused g c =
       rows = ap rows_in (sym first) ∙ c.in_ok-tables.ensures.rows;
       rest_is = c.cut.ensures.rest ∙ ap after_first_line c.deref.ensures.value;
     } in
-    stopped_json tables (wrote c.args.writer.now) (wrote c.write_output.new.writer) c.args.command.now c.write_output.result (read c.args.reader.now) (read c.read_all.new.reader) rest reads c.write_output.ensures.refused
+    json_refused tables (wrote c.args.writer.now) (wrote c.write_output.new.writer) (read c.args.reader.now) (read c.read_all.new.reader) c.write_output.result c.args.command.now rest reads c.write_output.ensures.refused

@@ -1,7 +1,7 @@
-use Rattle.std.proofs.Common.{sym, subst, ◌∙◌}
+use Rattle.std.proofs.Common.{inr, subst, ◌∙◌}
 use Rattle.std.proofs.lemmas.Result.{err_from_is_err_and}
 use Rattle.icu_locale_names.specs.Pieces.{AppendsPart}
-use Rattle.icu_locale_lines.specs.WholeRuns.{TellsSettled, IsRefusedSettled}
+use Rattle.icu_locale_lines.specs.WholeRuns.{TellsSettled}
 use Rattle.icu_locale_lines.proofs.runs.whole.write_settled.Goals as goal
 
 -- a failed write leaves a beginning of the one line
@@ -12,4 +12,4 @@ returns-in_err-write_bytes-clause-refused g c =
     let tells : TellsSettled c.args.tables.now c.is_settled.result = record { expander = c.in_ok-expander.expander; over = c.in_ok-expander.ensures.made; tells = c.is_settled.ensures } in
     let part = subst (AppendsPart before after) (c.as_bytes.ensures.value ∙ c.yes_or_no-line.ensures) c.in_err-write_bytes.ensures.part in
     let passed_on = err_from_is_err_and c.from_residual-in_err-write_bytes.result c.from_residual-in_err-write_bytes.ensures.1 in
-    rw (passed_on.1, passed_on.2) (subst (IsRefusedSettled c.args.tables.now before after) (sym c.in_err-write_bytes.ensures.refused) (c.is_settled.result, tells, part))
+    rw (passed_on.1, passed_on.2) (inr (c.in_err-write_bytes.ensures.refused, c.is_settled.result, tells, part))

@@ -1,5 +1,5 @@
-use Rattle.std.proofs.Common.{subst, sym, inl, inr}
-use Rattle.icu_locale_lines.specs.Names.{name_asked, IsNamedLine}
+use Rattle.std.proofs.Common.{subst, inl, inr}
+use Rattle.icu_locale_lines.specs.Names.{IsNamedLine}
 use Rattle.icu_locale_lines.proofs.LineAnswers.{if_adds, if_unnamed}
 use Rattle.icu_locale_lines.proofs.work.name.Naming.add.Goals as goal
 
