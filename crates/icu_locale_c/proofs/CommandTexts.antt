@@ -1,5 +1,6 @@
 -- Words that are those of no command, and a text that is cut at its first space.
-use Rattle.std.proofs.Common.{◌≡◌, ◌≢◌, ℕ, ◌<◌, false, List, [], ◌∷◌, ◌++◌, length, get_or, Option, Some, None, refl, ap, ◌∙◌, arith, ◌⊎◌, ◌≤◌, codes, inl, inr, sym, subst, Result, Ok, Err, IfOk, IfErr}
+use Rattle.std.proofs.Common.{◌≡◌, ◌≢◌, ℕ, ◌<◌, false, List, [], ◌∷◌, ◌++◌, length, get_or, Option, Some, None, refl, ap, ◌∙◌, arith, ◌⊎◌, ◌≤◌, codes}
+use Rattle.std.proofs.Common.{inl, inr, sym, subst, Result, Ok, Err, IfOk, IfErr}
 use Rattle.std.specs.Borrow.{Bor}
 use Rattle.std.specs.List.{slice_split, All}
 use Rattle.std.specs.Option.{MatchOption}
@@ -27,7 +28,8 @@ no_spaces bs others = All-from_get_or (λ b. is_space b ≡ false) bs 0 (λ i lo
 
 -- the words of a text that was cut
 pub cut_words : (bs : List ℕ) (r : Option (Bor (List ℕ) × Bor (List ℕ)))
-    → MatchOption r ((i : ℕ) → i < length bs → get_or bs i 0 ≢ 32) (λ x. (bs ≡ x.0.now ++ (32 ∷ x.1.now)) × ((i : ℕ) → i < length x.0.now → get_or x.0.now i 0 ≢ 32))
+    → MatchOption r ((i : ℕ) → i < length bs → get_or bs i 0 ≢ 32) (λ x. (bs ≡ x.0.now ++ (32 ∷ x.1.now))
+    × ((i : ℕ) → i < length x.0.now → get_or x.0.now i 0 ≢ 32))
     → MatchOption r (slice_split is_space bs ≡ bs ∷ []) (λ x. slice_split is_space bs ≡ x.0.now ∷ slice_split is_space x.1.now)
 cut_words bs None none = slice_split_none is_space bs (no_spaces bs none)
 cut_words bs (Some x) cut = ap (slice_split is_space) cut.0 ∙ slice_split_at is_space x.0.now 32 x.1.now (no_spaces x.0.now cut.1) refl
@@ -58,7 +60,8 @@ none_of_others w rest some other c are = by (counted (w ∷ rest) c.task are.1)
     by (inr (chain, text, is)) = other (cc)
 
 -- the same of equal words
-pub same_words : {A : Type 0} (words others : List (List ℕ)) → words ≡ others → (r : Result A Refusal) → IfErr r (λ e. (e ≡ refusal.Command) × AreNoPlain others) → IfErr r (λ e. (e ≡ refusal.Command) × AreNoPlain words)
+pub same_words : {A : Type 0} (words others : List (List ℕ)) → words ≡ others → (r : Result A Refusal)
+    → IfErr r (λ e. (e ≡ refusal.Command) × AreNoPlain others) → IfErr r (λ e. (e ≡ refusal.Command) × AreNoPlain words)
 same_words words others same r none = subst (λ (ws : List (List ℕ)). IfErr r (λ e. (e ≡ refusal.Command) × AreNoPlain ws)) (sym same) none
 
 -- no words are those of a task
@@ -75,29 +78,38 @@ alone_plain word c (inr these) =
 
 -- what is refused without a syntax is refused
 module _ {A : Type 0} (text : List ℕ) (r : Result A Refusal) where
-  with_none : (AreNoPlain (slice_split is_space text) → AreNoCommand (slice_split is_space text)) → IfErr r (λ e. (e ≡ refusal.Command) × AreNoPlain (slice_split is_space text)) → IfErr r (λ e. (e ≡ refusal.Command) × AreNoCommand (slice_split is_space text))
+  with_none : (AreNoPlain (slice_split is_space text) → AreNoCommand (slice_split is_space text))
+      → IfErr r (λ e. (e ≡ refusal.Command) × AreNoPlain (slice_split is_space text))
+      → IfErr r (λ e. (e ≡ refusal.Command) × AreNoCommand (slice_split is_space text))
   with_none more h = by r h
     where
-      by : (q : Result A Refusal) → IfErr q (λ e. (e ≡ refusal.Command) × AreNoPlain (slice_split is_space text)) → IfErr q (λ e. (e ≡ refusal.Command) × AreNoCommand (slice_split is_space text))
+      by : (q : Result A Refusal) → IfErr q (λ e. (e ≡ refusal.Command) × AreNoPlain (slice_split is_space text))
+          → IfErr q (λ e. (e ≡ refusal.Command) × AreNoCommand (slice_split is_space text))
       by (Ok a) h = tt
       by (Err e) h = (h.0, more h.1)
 
   -- a text of one word
-  pub alone_refused : slice_split is_space text ≡ text ∷ [] → IfErr r (λ e. (e ≡ refusal.Command) × AreNoPlain (slice_split is_space text)) → IfErr r (λ e. (e ≡ refusal.Command) × AreNoCommand (slice_split is_space text))
+  pub alone_refused : slice_split is_space text ≡ text ∷ [] → IfErr r (λ e. (e ≡ refusal.Command) × AreNoPlain (slice_split is_space text))
+      → IfErr r (λ e. (e ≡ refusal.Command) × AreNoCommand (slice_split is_space text))
   alone_refused one h =
-      with_none (λ none c are. none c (subst (λ ws. AreCommandWords ws (Lines c)) (sym one) (alone_plain text c (subst (λ ws. AreStreamWords ws (Lines c) false) one are)))) h
+      with_none (λ none c are. none c (subst (λ ws. AreCommandWords ws (Lines c)) (sym one)
+      (alone_plain text c (subst (λ ws. AreStreamWords ws (Lines c) false) one are)))) h
 
   -- a text whose first word is that of no syntax
-  pub other_refused : (word : List ℕ) (rest : List (List ℕ)) → slice_split is_space text ≡ word ∷ rest → ((s : Syntax) → word ≡ syntax_word s → ⊥) → IfErr r (λ e. (e ≡ refusal.Command) × AreNoPlain (slice_split is_space text)) → IfErr r (λ e. (e ≡ refusal.Command) × AreNoCommand (slice_split is_space text))
+  pub other_refused : (word : List ℕ) (rest : List (List ℕ)) → slice_split is_space text ≡ word ∷ rest
+      → ((s : Syntax) → word ≡ syntax_word s → ⊥) → IfErr r (λ e. (e ≡ refusal.Command) × AreNoPlain (slice_split is_space text))
+      → IfErr r (λ e. (e ≡ refusal.Command) × AreNoCommand (slice_split is_space text))
   other_refused word rest cut other h =
-      with_none (λ none c are. none c (subst (λ ws. AreCommandWords ws (Lines c)) (sym cut) (without_syntax word rest other (Lines c) false (subst (λ ws. AreStreamWords ws (Lines c) false) cut are)))) h
+      with_none (λ none c are. none c (subst (λ ws. AreCommandWords ws (Lines c)) (sym cut)
+      (without_syntax word rest other (Lines c) false (subst (λ ws. AreStreamWords ws (Lines c) false) cut are)))) h
 
 -- words behind that of a syntax
 module _ (text rest word : List ℕ) (s : Syntax) (cut : slice_split is_space text ≡ word ∷ slice_split is_space rest) (is : word ≡ syntax_word s) where
   whole : slice_split is_space text ≡ syntax_word s ∷ slice_split is_space rest
   whole = cut ∙ ap (λ w. w ∷ slice_split is_space rest) is
 
-  pub syntax_named : (r : Result LineCommand Refusal) → IfOk r (λ c. (c.syntax ≡ Some s) × AreTaskWords (slice_split is_space rest) c.task) → IfOk r (Names text)
+  pub syntax_named : (r : Result LineCommand Refusal) → IfOk r (λ c. (c.syntax ≡ Some s) × AreTaskWords (slice_split is_space rest) c.task)
+      → IfOk r (Names text)
   syntax_named (Ok c) h = inr (record {
     syntax = s;
     task = c.task;
@@ -108,7 +120,8 @@ module _ (text rest word : List ℕ) (s : Syntax) (cut : slice_split is_space te
   })
   syntax_named (Err e) h = tt
 
-  pub syntax_refused : {A : Type 0} (r : Result A Refusal) → IfErr r (λ e. (e ≡ refusal.Command) × AreNoPlain (slice_split is_space rest)) → IfErr r (λ e. (e ≡ refusal.Command) × AreNoCommand (slice_split is_space text))
+  pub syntax_refused : {A : Type 0} (r : Result A Refusal) → IfErr r (λ e. (e ≡ refusal.Command) × AreNoPlain (slice_split is_space rest))
+      → IfErr r (λ e. (e ≡ refusal.Command) × AreNoCommand (slice_split is_space text))
   syntax_refused (Ok a) h = tt
   syntax_refused (Err e) h = (
     h.0,
@@ -117,6 +130,7 @@ module _ (text rest word : List ℕ) (s : Syntax) (cut : slice_split is_space te
         h.1 (plain of.0) of.2,
   )
 
-pub names_none : {A : Type 0} (text bytes : List ℕ) → text ≡ bytes → (r : Result A Refusal) → IfErr r (λ e. (e ≡ refusal.Command) × AreNoCommand (slice_split is_space text)) → IfErr r (λ e. (e ≡ refusal.Command) × NamesNone bytes)
+pub names_none : {A : Type 0} (text bytes : List ℕ) → text ≡ bytes → (r : Result A Refusal)
+    → IfErr r (λ e. (e ≡ refusal.Command) × AreNoCommand (slice_split is_space text)) → IfErr r (λ e. (e ≡ refusal.Command) × NamesNone bytes)
 names_none text bytes same (Ok a) none = tt
 names_none text bytes same (Err e) none = (none.0, λ utf8. subst (λ (t : List ℕ). AreNoCommand (slice_split is_space t)) same none.1)

@@ -28,7 +28,8 @@ use Rattle.icu_locale_extensions.specs.declared.syntax.Syntax.{Syntax}
 
 pub line_over_rules : {E : Type 0} (t : Tables) (e : LocaleExpander) (read : ReadRules) (table : Aliases) (asked : LineCommand) (line whole : List ℕ)
     → IsExpanderOf t e → t.aliases ≡ Some table → AreRules table (rules_over read table) → asked.task ≡ task.Canonicalize
-    → (r : Result Bool E) → IfOk r (IsCanonicalAnswer asked.syntax (likely e) (rules_over read table) line whole) → IfOk r (IsLineOf (without_list t) asked line whole)
+    → (r : Result Bool E) → IfOk r (IsCanonicalAnswer asked.syntax (likely e) (rules_over read table) line whole)
+    → IfOk r (IsLineOf (without_list t) asked line whole)
 line_over_rules t e read table asked line whole over has rules is (Ok a) answer = record {
   work = record { syntax = asked.syntax; tools = tools.Canonicalize (record { rules = rules_over read table; expander = e }) };
   work_of = record {
@@ -41,13 +42,15 @@ line_over_rules t e read table asked line whole over has rules is (Ok a) answer 
 line_over_rules t e read table asked line whole over has rules is (Err f) answer = tt
 
 -- the work of a command other than `negotiate` asks for no list
-pub work_without_list : (asked : LineCommand) (t : Tables) (w : Work) → ((input : List ℕ) → IsWorkOf asked t input w × (text_answered asked input ≡ input)) → IsWorkOver asked (without_list t) w
+pub work_without_list : (asked : LineCommand) (t : Tables) (w : Work) → ((input : List ℕ) → IsWorkOf asked t input w
+    × (text_answered asked input ≡ input)) → IsWorkOver asked (without_list t) w
 work_without_list asked t w of = record { syntax = (of []).0.syntax; tools = by asked.task (of []).0.tools (λ input. (of input).1) }
   where
     never : text_left task.Negotiate (10 ∷ []) ≡ 10 ∷ [] → ⊥
     never same = let none : 0 ≡ 1 = ap length same in omega (arith, none)
 
-    by : (k : Task) → AreToolsOf asked.syntax k t [] w.tools → ((input : List ℕ) → text_left k input ≡ input) → AreToolsOver asked.syntax k (without_list t) w.tools
+    by : (k : Task) → AreToolsOf asked.syntax k t [] w.tools → ((input : List ℕ) → text_left k input ≡ input)
+        → AreToolsOver asked.syntax k (without_list t) w.tools
     by (task.Transform form) are same = are
     by task.Canonicalize are same = are
     by task.Direction are same = are
@@ -63,7 +66,8 @@ list_over t e f list over same made = record {
 }
 
 -- a negotiation over such an expander and a list
-pub negotiation_over : (t : Tables) (e : LocaleExpander) (n : Negotiation) (a : Available) → IsListOver t a → IsExpanderOf t e → n.expander ≡ e → n.available ≡ identifiers_of a → IsNegotiationOf (with_list t (identifiers_of a)) n
+pub negotiation_over : (t : Tables) (e : LocaleExpander) (n : Negotiation) (a : Available) → IsListOver t a → IsExpanderOf t e
+    → n.expander ≡ e → n.available ≡ identifiers_of a → IsNegotiationOf (with_list t (identifiers_of a)) n
 negotiation_over t e n a kept over same listed = record {
   expander = subst (IsExpanderOf t) (sym same) over;
   settled = subst (λ (x : LocaleExpander). AreSettled (likely x)) (sym same) (kept.made e over).settled;
@@ -71,22 +75,26 @@ negotiation_over t e n a kept over same listed = record {
 }
 
 -- the answer to a list is that of the work over it
-list_answered : (syntax : Option Syntax) (n : Negotiation) (line whole : List ℕ) (accepted : Bool) → IsListAnswer syntax n line whole accepted → IsAnswer (record { syntax = syntax; tools = tools.Negotiate n }) line whole accepted
+list_answered : (syntax : Option Syntax) (n : Negotiation) (line whole : List ℕ) (accepted : Bool)
+    → IsListAnswer syntax n line whole accepted → IsAnswer (record { syntax = syntax; tools = tools.Negotiate n }) line whole accepted
 list_answered None n line whole accepted answer = answer
 list_answered (Some s) n line whole accepted answer = answer
 
-pub line_over_list : (t : Tables) (e : LocaleExpander) (n : Negotiation) (a : Available) (asked : LineCommand) (line whole : List ℕ) (accepted : Bool) → IsListOver t a → asked.task ≡ task.Negotiate → IsExpanderOf t e → n.expander ≡ e → n.available ≡ identifiers_of a
+pub line_over_list : (t : Tables) (e : LocaleExpander) (n : Negotiation) (a : Available) (asked : LineCommand) (line whole : List ℕ)
+    (accepted : Bool) → IsListOver t a → asked.task ≡ task.Negotiate → IsExpanderOf t e → n.expander ≡ e → n.available ≡ identifiers_of a
     → IsListAnswer asked.syntax n line whole accepted → IsLineOf (with_list t (identifiers_of a)) asked line whole accepted
 line_over_list t e n a asked line whole accepted kept is over same listed answer = record {
   work = record { syntax = asked.syntax; tools = tools.Negotiate n };
   work_of = record {
     syntax = refl;
-    tools = subst (λ k. AreToolsOver asked.syntax k (with_list t (identifiers_of a)) (tools.Negotiate n)) (sym is) (negotiation_over t e n a kept over same listed);
+    tools = subst (λ k. AreToolsOver asked.syntax k (with_list t (identifiers_of a)) (tools.Negotiate n)) (sym is)
+        (negotiation_over t e n a kept over same listed);
   };
   answer = list_answered asked.syntax n line whole accepted answer;
 }
 
-listed_anew : (t : Tables) (a : Available) (line : List ℕ) → IsListOver t a → SpellsAll None (listed line) (identifiers_of a) → IsListed t line (with_list t (identifiers_of a))
+listed_anew : (t : Tables) (a : Available) (line : List ℕ) → IsListOver t a → SpellsAll None (listed line) (identifiers_of a)
+    → IsListed t line (with_list t (identifiers_of a))
 listed_anew t a line kept spelled = record {
   tables = refl;
   negotiation = record { expander = kept.expander; available = identifiers_of a };
@@ -94,6 +102,9 @@ listed_anew t a line kept spelled = record {
   spelled = spelled;
 }
 
-pub listed_in : {B E : Type 0} (held : B → Held) (t u : Tables) (a : Available) (line : List ℕ) → u ≡ t → IsListOver t a → SpellsAll None (listed line) (identifiers_of a) → (r : Result B E) → IfOk r (λ b. held b ≡ with_list u (identifiers_of a)) → IfOk r (λ b. IsListed t line (held b))
-listed_in held t u a line same kept spelled (Ok b) is = subst (IsListed t line) (sym (is ∙ ap (λ x. with_list x (identifiers_of a)) same)) (listed_anew t a line kept spelled)
+pub listed_in : {B E : Type 0} (held : B → Held) (t u : Tables) (a : Available) (line : List ℕ) → u ≡ t → IsListOver t a
+    → SpellsAll None (listed line) (identifiers_of a) → (r : Result B E) → IfOk r (λ b. held b ≡ with_list u (identifiers_of a))
+    → IfOk r (λ b. IsListed t line (held b))
+listed_in held t u a line same kept spelled (Ok b) is = subst (IsListed t line) (sym (is ∙ ap (λ x. with_list x (identifiers_of a)) same))
+    (listed_anew t a line kept spelled)
 listed_in held t u a line same kept spelled (Err f) is = tt

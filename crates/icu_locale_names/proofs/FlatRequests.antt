@@ -45,11 +45,13 @@ first_hit-map : {Q R A : Type 0} (ask : R → Result A DataError) (f : Q → R) 
 first_hit-map ask f [] = refl
 first_hit-map ask f (x ∷ xs) = ap (or_next (ask (f x))) (first_hit-map ask f xs)
 
-first_hit-made_of : {Q A B : Type 0} (f : A → B) (ask : Q → Result A DataError) (xs : List Q) → first_hit (λ x. made_of f (ask x)) xs ≡ made_of f (first_hit ask xs)
+first_hit-made_of : {Q A B : Type 0} (f : A → B) (ask : Q → Result A DataError) (xs : List Q)
+    → first_hit (λ x. made_of f (ask x)) xs ≡ made_of f (first_hit ask xs)
 first_hit-made_of f ask [] = refl
 first_hit-made_of f ask (x ∷ xs) = ap (or_next (made_of f (ask x))) (first_hit-made_of f ask xs) ∙ sym (or_next-made_of f (ask x) (first_hit ask xs))
 
-first_hit-flat_map : {Q R A : Type 0} (ask : R → Result A DataError) (f : Q → List R) (xs : List Q) → first_hit ask (flat_map f xs) ≡ first_hit (λ x. first_hit ask (f x)) xs
+first_hit-flat_map : {Q R A : Type 0} (ask : R → Result A DataError) (f : Q → List R) (xs : List Q)
+    → first_hit ask (flat_map f xs) ≡ first_hit (λ x. first_hit ask (f x)) xs
 first_hit-flat_map ask f [] = refl
 first_hit-flat_map ask f (x ∷ xs) = first_hit-append ask (f x) (flat_map f xs) ∙ ap (or_next (first_hit ask (f x))) (first_hit-flat_map ask f xs)
 
@@ -57,9 +59,11 @@ first_hit-same : {Q A : Type 0} (ask other : Q → Result A DataError) → ((x :
 first_hit-same ask other same [] = refl
 first_hit-same ask other same (x ∷ xs) = ap (λ r. or_next r (first_hit ask xs)) (same x) ∙ ap (or_next (other x)) (first_hit-same ask other same xs)
 
-module _ (name : Answers) (menu : MenuAnswers) (essentials : DataLocale → Result LocaleNamesEssentials DataError) (locale : DataLocale) (chain : LanguageChain) (x : LanguageIdentifier) where
+module _ (name : Answers) (menu : MenuAnswers) (essentials : DataLocale → Result LocaleNamesEssentials DataError) (locale : DataLocale)
+    (chain : LanguageChain) (x : LanguageIdentifier) where
   -- the menus in a flat list
-  menus_flat : first_hit (base_by (in_locale name menu essentials locale) x) (map (λ marker. in_menu marker) chain.menu) ≡ made_of (menu_base x) (menu_by menu locale x.language chain.menu)
+  menus_flat : first_hit (base_by (in_locale name menu essentials locale) x) (map (λ marker. in_menu marker) chain.menu) ≡ made_of
+      (menu_base x) (menu_by menu locale x.language chain.menu)
   menus_flat =
       first_hit-map (base_by (in_locale name menu essentials locale) x) (λ marker. in_menu marker) chain.menu
       ∙ first_hit-made_of (menu_base x) (λ marker. menu marker locale x.language) chain.menu
@@ -71,19 +75,23 @@ module _ (name : Answers) (menu : MenuAnswers) (essentials : DataLocale → Resu
       ∙ first_hit-made_of (text_base x key) (λ marker. name marker locale (Language x.language key.0 key.1)) chain.text
 
   -- all keys' chains in a flat list
-  keys_flat : (keys : List KeyParts) → first_hit (base_by (in_locale name menu essentials locale) x) (flat_map (texts_for chain) keys) ≡ first_hit (key_asked name locale chain.text x) keys
+  keys_flat : (keys : List KeyParts) → first_hit (base_by (in_locale name menu essentials locale) x)
+      (flat_map (texts_for chain) keys) ≡ first_hit (key_asked name locale chain.text x) keys
   keys_flat keys =
       first_hit-flat_map (base_by (in_locale name menu essentials locale) x) (texts_for chain) keys
-      ∙ first_hit-same (λ key. first_hit (base_by (in_locale name menu essentials locale) x) (texts_for chain key)) (key_asked name locale chain.text x) key_flat keys
+      ∙ first_hit-same (λ key. first_hit (base_by (in_locale name menu essentials locale) x) (texts_for chain key))
+      (key_asked name locale chain.text x) key_flat keys
 
   -- what is asked step by step is the base
-  pub base_asked_is_base : (display : LanguageDisplay) (keys : List (Bool × Bool)) → map (key_with x) keys ≡ keys_of chain display x → base_asked name menu locale chain x keys ≡ base_of (in_locale name menu essentials locale) chain display x
+  pub base_asked_is_base : (display : LanguageDisplay) (keys : List (Bool × Bool)) → map (key_with x) keys ≡ keys_of chain display x
+      → base_asked name menu locale chain x keys ≡ base_of (in_locale name menu essentials locale) chain display x
   base_asked_is_base display keys are =
       let ask = base_by (in_locale name menu essentials locale) x in
       let by_text = first_hit (key_asked name locale chain.text x) in
       let texts : keys_asked name locale chain.text x keys ≡ first_hit ask (flat_map (texts_for chain) (keys_of chain display x)) =
       sym (first_hit-map (key_asked name locale chain.text x) (key_with x) keys) ∙ ap by_text are ∙ sym (keys_flat (keys_of chain display x)) in
-      let menus : made_of (menu_base x) (menu_by menu locale x.language chain.menu) ≡ first_hit ask (map (λ marker. in_menu marker) chain.menu) = sym menus_flat in
+      let menus : made_of (menu_base x) (menu_by menu locale x.language chain.menu) ≡ first_hit ask
+      (map (λ marker. in_menu marker) chain.menu) = sym menus_flat in
       ap (if_missing (raw_base x))
       ((λ i. or_next (menus i) (texts i))
       ∙ sym (first_hit-append ask (map (λ marker. in_menu marker) chain.menu) (flat_map (texts_for chain) (keys_of chain display x))))

@@ -1,5 +1,6 @@
 -- How far the pieces of a name are written, how long their text is, and what their report says.
-use Rattle.std.proofs.Common.{◌≡◌, ◌∙◌, refl, ap, ℕ, ◌+◌, List, [], ◌∷◌, ◌++◌, length, length-append, take, ◌≢◌, sym, subst, ◌==◌, false, Option, append_assoc, append-nil, ◌↔◌, true, ◌||◌, if◌then◌else◌}
+use Rattle.std.proofs.Common.{◌≡◌, ◌∙◌, refl, ap, ℕ, ◌+◌, List, [], ◌∷◌, ◌++◌, length, length-append, take, ◌≢◌, sym, subst, ◌==◌, false, Option}
+use Rattle.std.proofs.Common.{append_assoc, append-nil, ◌↔◌, true, ◌||◌, if◌then◌else◌}
 use Rattle.std.proofs.lemmas.List.{take_at}
 use Rattle.std.specs.Io.KnownBytes.{Appends}
 use Rattle.std.proofs.KnownBytes.{Appends-nil, Appends-trans}
@@ -53,7 +54,9 @@ module _ (text : List ℕ) (old mid new : Option (List ℕ)) (p : Piece) (left :
   AppendsPart-behind part = record {
     written = before.written ++ part.written;
     left = part.left ++ text_of left;
-    parted = before.parted ∙ ap (λ t. before.written ++ (t ++ text_of left)) part.parted ∙ ap (λ t. before.written ++ t) (append_assoc part.written part.left (text_of left)) ∙ sym (append_assoc before.written part.written (part.left ++ text_of left));
+    parted = before.parted ∙ ap (λ t. before.written ++ (t ++ text_of left)) part.parted
+        ∙ ap (λ t. before.written ++ t) (append_assoc part.written part.left (text_of left))
+        ∙ sym (append_assoc before.written part.written (part.left ++ text_of left));
     short = λ is. part.short (front_is_empty part.left (text_of left) is);
     appended = Appends-trans old mid new before.written part.written before.appended part.appended;
   }

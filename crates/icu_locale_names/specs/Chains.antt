@@ -4,7 +4,9 @@ use Rattle.icu_provider.specs.declared.error.DataError.{DataError}
 use Rattle.icu_provider.specs.declared.error.DataErrorKind.{DataErrorKind}
 use Rattle.icu_provider.specs.declared.error.DataErrorKind.TheVariants.{IdentifierNotFound}
 use Rattle.icu_provider.specs.declared.names.NameMarker.{NameMarker}
-use Rattle.icu_provider.specs.declared.names.NameMarker.TheVariants.{RegionMediumTiny, RegionShortTiny, RegionMediumLight, RegionShortLight, ScriptMediumTiny, ScriptMediumLight, ScriptMediumHeavy, ScriptShortHeavy, VariantMediumHeavy}
+use Rattle.icu_provider.specs.declared.names.NameMarker.TheVariants.{RegionMediumTiny, RegionShortTiny, RegionMediumLight, RegionShortLight}
+use Rattle.icu_provider.specs.declared.names.NameMarker.TheVariants.{ScriptMediumTiny, ScriptMediumLight, ScriptMediumHeavy, ScriptShortHeavy}
+use Rattle.icu_provider.specs.declared.names.NameMarker.TheVariants.{VariantMediumHeavy}
 
 -- there is no data for a request
 abbrev pub is_missing : DataErrorKind → Bool

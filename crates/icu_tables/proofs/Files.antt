@@ -1,5 +1,6 @@
 -- Files: which texts are JSON, and what tables hold of what was read.
-use Rattle.std.proofs.Common.{◌≡◌, ℕ, Bool, true, false, List, [], ◌∷◌, map, Vec, Global, string_bytes, Option, Some, None, option_map, Result, Ok, Err, IfOk, refl, ap, ◌∙◌, if◌then◌else◌}
+use Rattle.std.proofs.Common.{◌≡◌, ℕ, Bool, true, false, List, [], ◌∷◌, map, Vec, Global, string_bytes, Option, Some, None, option_map, Result, Ok}
+use Rattle.std.proofs.Common.{Err, IfOk, refl, ap, ◌∙◌, if◌then◌else◌}
 use Rattle.std.specs.Str.{IsUtf8, is_utf8}
 use Rattle.std.proofs.lemmas.Iterator.Adapters.{option_map_id}
 use Rattle.std.proofs.lemmas.Str.{IsUtf8-from_is_utf8, is_utf8-from_IsUtf8}
@@ -29,13 +30,29 @@ pub no_json : (text : List ℕ) → (IsUtf8 text → read text ≡ None) → jso
 no_json text none = by_utf8 text (is_utf8 text) refl none
 
 language_seen-same : (table : LikelySubtagsForLanguage) → language_seen table ≡ table
-language_seen-same table = λ i. record { und = table.und; language = seen_rows-same table.language i; language_script = seen_rows-same table.language_script i; language_region = seen_rows-same table.language_region i }
+language_seen-same table = λ i. record {
+  und = table.und;
+  language = seen_rows-same table.language i;
+  language_script = seen_rows-same table.language_script i;
+  language_region = seen_rows-same table.language_region i;
+}
 
 script_region_seen-same : (table : LikelySubtagsForScriptRegion) → script_region_seen table ≡ table
-script_region_seen-same table = λ i. record { script_region = seen_rows-same table.script_region i; script = seen_rows-same table.script i; region = seen_rows-same table.region i }
+script_region_seen-same table = λ i. record {
+  script_region = seen_rows-same table.script_region i;
+  script = seen_rows-same table.script i;
+  region = seen_rows-same table.region i;
+}
 
 extended_seen-same : (table : LikelySubtagsExtended) → extended_seen table ≡ table
-extended_seen-same table = λ i. record { language = seen_rows-same table.language i; language_script = seen_rows-same table.language_script i; language_region = seen_rows-same table.language_region i; script_region = seen_rows-same table.script_region i; script = seen_rows-same table.script i; region = seen_rows-same table.region i }
+extended_seen-same table = λ i. record {
+  language = seen_rows-same table.language i;
+  language_script = seen_rows-same table.language_script i;
+  language_region = seen_rows-same table.language_region i;
+  script_region = seen_rows-same table.script_region i;
+  script = seen_rows-same table.script i;
+  region = seen_rows-same table.region i;
+}
 
 pub map-same : {T : Type 0} (xs : List T) → map (λ x. x) xs ≡ xs
 map-same [] = refl
@@ -82,6 +99,7 @@ file_seen-is tables = λ i. record {
 }
 
 -- what was read of the value of a text are the rows of the text
-pub rows_from_reads : (text : List ℕ) (value : Data) (result : Result Tables TableError) → json_of text ≡ Some value → Reads file_seen result (file value) → IfOk result (λ tables. rows_in text ≡ Ok (rows_of tables))
+pub rows_from_reads : (text : List ℕ) (value : Data) (result : Result Tables TableError) → json_of text ≡ Some value
+    → Reads file_seen result (file value) → IfOk result (λ tables. rows_in text ≡ Ok (rows_of tables))
 rows_from_reads text value (Ok tables) is reads = ap or_json is ∙ ap or_shape reads ∙ ap (λ rows. Ok rows) (file_seen-is tables)
 rows_from_reads text value (Err e) is reads = tt

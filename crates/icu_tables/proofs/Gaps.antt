@@ -13,12 +13,14 @@ use Rattle.icu_provider.specs.laws.SortedMaps.{insert_entry-step}
 
 module _ {K V : Type 0} {compare : K → K → Ordering} (total : IsTotalOrder compare) where
   -- a key behind rising rows is above the first
-  above_behind : (key : K) (rows rest : List (K × V)) (last : K × V) → AllByRecursion (λ later. compare key later ≡ Less) (keys_of (rows ++ last ∷ rest)) → compare last.0 key ≡ Greater
+  above_behind : (key : K) (rows rest : List (K × V)) (last : K × V) → AllByRecursion (λ later. compare key later ≡ Less)
+      (keys_of (rows ++ last ∷ rest)) → compare last.0 key ≡ Greater
   above_behind key [] rest last below = total.antisymm last.0 key ∙ ap ordering_reverse below.0
   above_behind key (row ∷ rows) rest last below = above_behind key rows rest last below.1
 
   -- a row that comes behind the others is inserted behind them
-  pub insert_entry-behind : (rows rest : List (K × V)) (last : K × V) → IsSortedMap compare (rows ++ last ∷ rest) → insert_entry compare rows last.0 last.1 ≡ rows ++ last ∷ []
+  pub insert_entry-behind : (rows rest : List (K × V)) (last : K × V) → IsSortedMap compare (rows ++ last ∷ rest)
+      → insert_entry compare rows last.0 last.1 ≡ rows ++ last ∷ []
   unfolding IsStrictlySortedBy
   insert_entry-behind [] rest last sorted = refl
   insert_entry-behind (row ∷ rows) rest last sorted =

@@ -1,5 +1,6 @@
 -- Arrays: how many items there are, and what each that was read or refused says of the whole; texts as a set, and names among known ones.
-use Rattle.std.proofs.Common.{◌≡◌, Option, Some, None, refl, ap, ◌∙◌, ℕ, List, [], ◌∷◌, ◌++◌, length, drop, map, option_map, sym, append_assoc, nat_eq, subst, Bool, true, false}
+use Rattle.std.proofs.Common.{◌≡◌, Option, Some, None, refl, ap, ◌∙◌, ℕ, List, [], ◌∷◌, ◌++◌, length, drop, map, option_map, sym, append_assoc}
+use Rattle.std.proofs.Common.{nat_eq, subst, Bool, true, false}
 use Rattle.std.specs.Cmp.Lexicographic.{pointwise, texts_ties}
 use Rattle.std.specs.List.{dedup}
 use Rattle.std.specs.List.Sorted.{IsStrictlySortedBy, IsSorted, IsPermutation}
@@ -32,14 +33,16 @@ refused_before refusal.Shape made said h = ap (λ f. applied f said) h
 refused_before refusal.Memory made said h = tt
 
 -- no two items where there are others than two
-pub two_items-other : {A B : Type 0} (first : Shape A) (second : Shape B) (values : List Value) → (length values ≡ 2 → ⊥) → two_items first second (items_view values) ≡ None
+pub two_items-other : {A B : Type 0} (first : Shape A) (second : Shape B) (values : List Value) → (length values ≡ 2 → ⊥)
+    → two_items first second (items_view values) ≡ None
 two_items-other first second [] other = refl
 two_items-other first second (a ∷ []) other = refl
 two_items-other first second (a ∷ b ∷ []) other = absurd (other refl)
 two_items-other first second (a ∷ b ∷ c ∷ values) other = refl
 
 -- no three items where there are others than three
-pub three_items-other : {A B C : Type 0} (first : Shape A) (second : Shape B) (third : Shape C) (values : List Value) → (length values ≡ 3 → ⊥) → three_items first second third (items_view values) ≡ None
+pub three_items-other : {A B C : Type 0} (first : Shape A) (second : Shape B) (third : Shape C) (values : List Value)
+    → (length values ≡ 3 → ⊥) → three_items first second third (items_view values) ≡ None
 three_items-other first second third [] other = refl
 three_items-other first second third (a ∷ []) other = refl
 three_items-other first second third (a ∷ b ∷ []) other = refl
@@ -51,7 +54,8 @@ abbrev pub prefixed : {A : Type 0} → List A → Option (List A) → Option (Li
 prefixed done rest = option_map (λ more. done ++ more) rest
 
 -- one more of those that follow
-pub prefixed-more : {A : Type 0} (done : List A) (x : A) (rest : Option (List A)) → prefixed done (applied (Some (λ xs. x ∷ xs)) rest) ≡ prefixed (done ++ x ∷ []) rest
+pub prefixed-more : {A : Type 0} (done : List A) (x : A) (rest : Option (List A))
+    → prefixed done (applied (Some (λ xs. x ∷ xs)) rest) ≡ prefixed (done ++ x ∷ []) rest
 prefixed-more done x None = refl
 prefixed-more done x (Some more) = ap (λ all. Some all) (sym (append_assoc done (x ∷ []) more))
 
@@ -65,7 +69,8 @@ pub unique_rises : (sorted left : List (List ℕ)) → left ≡ dedup (pointwise
 unique_rises sorted left is order = subst (IsStrictlySortedBy text_cmp) (sym is) (IsStrictlySortedBy-dedup text_total texts_ties sorted order)
 
 -- and it is the set of the list
-pub unique_is_set : (list sorted left : List (List ℕ)) → left ≡ dedup (pointwise nat_eq) sorted → IsPermutation list sorted → IsSorted text_cmp sorted → left ≡ rising (from_list list)
+pub unique_is_set : (list sorted left : List (List ℕ)) → left ≡ dedup (pointwise nat_eq) sorted → IsPermutation list sorted
+    → IsSorted text_cmp sorted → left ≡ rising (from_list list)
 unique_is_set list sorted left is moved order =
     sym (rising-from_list left (unique_rises sorted left is order)) ∙ ap (λ texts. rising (from_list texts)) is ∙ ap rising (from_list-dedup list sorted moved)
 

@@ -1,5 +1,6 @@
 -- Each key is read from one name.
-use Rattle.std.proofs.Common.{◌≡◌, ℕ, Bool, true, false, cond, codes, List, [], ◌∷◌, ◌++◌, Option, Some, None, option_map, nat_eq, if◌then◌else◌, refl, sym, ap, ◌∙◌}
+use Rattle.std.proofs.Common.{◌≡◌, ℕ, Bool, true, false, cond, codes, List, [], ◌∷◌, ◌++◌, Option, Some, None, option_map, nat_eq, if◌then◌else◌}
+use Rattle.std.proofs.Common.{refl, sym, ap, ◌∙◌}
 use Rattle.std.proofs.lemmas.List.{append-nil}
 use Rattle.std.proofs.lemmas.Option.{none-some, same_Some}
 use Rattle.std.proofs.lemmas.Slice.Eq.{bytes_eq-Decides}
@@ -17,7 +18,8 @@ use Rattle.icu_provider.specs.declared.names.NameMarker.{NameMarker}
 use Rattle.icu_provider.specs.declared.names.NameMarker.TheVariants as names
 use Rattle.icu_tables.specs.Names.{named_in, exemplar_markers, name_markers, menu_markers, script_and_region, locale_of, cut_locale, locale_key, name_key}
 use Rattle.icu_tables.specs.Shape.{both}
-use Rattle.icu_tables.specs.Subtags.{key_of, key_pair, cut_at_dash, language_key, script_key, region_key, variant_key, read_language, read_script, read_region, read_variant}
+use Rattle.icu_tables.specs.Subtags.{key_of, key_pair, cut_at_dash, language_key, script_key, region_key, variant_key, read_language, read_script}
+use Rattle.icu_tables.specs.Subtags.{read_region, read_variant}
 use Rattle.icu_tables.specs.Tables.{names_languages, names_scripts, names_regions}
 use Rattle.icu_tables.specs.inner.KeyLaws.{named, cut_joins, names as pair_names}
 use Rattle.icu_tables.proofs.Lookups.{map_of_some}
@@ -61,7 +63,8 @@ written_locale l = l.language ++ (behind_dash l.script ++ behind_dash l.region)
 
 rest_by : (t : List ℕ) (p : Option (List ℕ) × Option (List ℕ)) (script region : Option (List ℕ)) (pair : Option (List ℕ × List ℕ))
     → script_key t ≡ script → region_key t ≡ region → key_pair script_key region_key t ≡ pair
-    → option_or (option_map (λ s. (Some s, None)) script) (option_or (option_map (λ r. (None, Some r)) region) (option_map (λ x. (Some x.0, Some x.1)) pair)) ≡ Some p
+    → option_or (option_map (λ s. (Some s, None)) script) (option_or (option_map (λ r. (None, Some r)) region)
+    (option_map (λ x. (Some x.0, Some x.1)) pair)) ≡ Some p
     → behind_dash p.0 ++ behind_dash p.1 ≡ 45 ∷ t
 rest_by t p (Some s) region pair is_script is_region is_pair is =
     ap (λ q. behind_dash q.0 ++ behind_dash q.1) (sym (same_Some (Some s, None) p is))
@@ -134,12 +137,14 @@ one_name_key marker =
 
 -- ---- markers
 
-by_test : {A : Type 0} (name_of : A → List ℕ) (e : List ℕ × A) (t : List ℕ) (m : A) (test : Bool) (later : Option A) → pointwise nat_eq e.0 t ≡ test → name_of e.1 ≡ e.0 → (later ≡ Some m → t ≡ name_of m) → cond test (Some e.1) later ≡ Some m → t ≡ name_of m
+by_test : {A : Type 0} (name_of : A → List ℕ) (e : List ℕ × A) (t : List ℕ) (m : A) (test : Bool) (later : Option A)
+    → pointwise nat_eq e.0 t ≡ test → name_of e.1 ≡ e.0 → (later ≡ Some m → t ≡ name_of m) → cond test (Some e.1) later ≡ Some m → t ≡ name_of m
 by_test name_of e t m true later same told rest is =
     sym ((bytes_eq-Decides e.0 t).0 same) ∙ sym told ∙ ap name_of (same_Some e.1 m is)
 by_test name_of e t m false later same told rest is = rest is
 
-marker_named : {A : Type 0} (name_of : A → List ℕ) (table : List (List ℕ × A)) → AllByRecursion (λ e. name_of e.1 ≡ e.0) table → (t : List ℕ) (m : A) → named_in table t ≡ Some m → t ≡ name_of m
+marker_named : {A : Type 0} (name_of : A → List ℕ) (table : List (List ℕ × A)) → AllByRecursion (λ e. name_of e.1 ≡ e.0) table
+    → (t : List ℕ) (m : A) → named_in table t ≡ Some m → t ≡ name_of m
 marker_named name_of [] all t m is = absurd (none-some m is)
 marker_named name_of (e ∷ table) all t m is =
     by_test name_of e t m (pointwise nat_eq e.0 t) (named_in table t) refl all.0 (marker_named name_of table all.1 t m) is
@@ -173,7 +178,8 @@ name_of_names names.ScriptShortHeavy = codes "script/short/heavy"
 name_of_names names.VariantMediumHeavy = codes "variant/medium/heavy"
 
 pub one_name_of_names : OneName (named_in name_markers)
-one_name_of_names = by_written name_of_names (λ t m is. marker_named name_of_names name_markers (refl, (refl, (refl, (refl, (refl, (refl, (refl, (refl, (refl, (refl, (refl, (refl, (refl, (refl, (refl, (refl, tt)))))))))))))))) t m is)
+one_name_of_names = by_written name_of_names (λ t m is. marker_named name_of_names name_markers
+    (refl, (refl, (refl, (refl, (refl, (refl, (refl, (refl, (refl, (refl, (refl, (refl, (refl, (refl, (refl, (refl, tt)))))))))))))))) t m is)
 
 abbrev menu_name : MenuMarker → List ℕ
 menu_name menus.MediumLight = codes "language/menu/medium/light"

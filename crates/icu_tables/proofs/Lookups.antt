@@ -1,5 +1,6 @@
 -- What a look-up finds among rows that members put in, one after another.
-use Rattle.std.proofs.Common.{◌≡◌, ◌≢◌, ℕ, T, false, List, [], ◌∷◌, ◌++◌, Option, Some, None, option_map, option_and_then, IfSome, if◌then◌else◌, refl, sym, ap, ◌∙◌, subst}
+use Rattle.std.proofs.Common.{◌≡◌, ◌≢◌, ℕ, T, false, List, [], ◌∷◌, ◌++◌, Option, Some, None, option_map, option_and_then, IfSome, if◌then◌else◌}
+use Rattle.std.proofs.Common.{refl, sym, ap, ◌∙◌, subst}
 use Rattle.std.proofs.lemmas.Option.{none-some, same_Some}
 use Rattle.std.specs.BTreeMap.{insert_entry, is_at}
 use Rattle.std.specs.Cmp.{IsTotalOrder}
@@ -58,7 +59,8 @@ module _ {K V : Type 0} (compare : K → K → Ordering) where
   last_at q [] old = old
   last_at q (row ∷ rows) old = last_at q rows (if is_at (compare row.0) q then Some row.1 else old)
 
-  pub put_all-finds : IsTotalOrder compare → (rows old : List (K × V)) (q : K) → value_at compare (put_all compare old rows) q ≡ last_at q rows (value_at compare old q)
+  pub put_all-finds : IsTotalOrder compare → (rows old : List (K × V)) (q : K)
+      → value_at compare (put_all compare old rows) q ≡ last_at q rows (value_at compare old q)
   put_all-finds total [] old q = refl
   put_all-finds total (row ∷ rows) old q =
       put_all-finds total rows (insert_entry compare old row.0 row.1) q
@@ -102,7 +104,8 @@ module _ {K V : Type 0} (compare : K → K → Ordering) (says : List ℕ → Sh
       let all = parts_of (option_map (λ rows more. rows ++ more) (says name value)) (each_put says ms) rows is in
       let first = map_of_some (λ rows more. rows ++ more) (says name value) all.made all.made_is in
       let whole : rows ≡ first.0 ++ all.given = all.whole ∙ (λ i. first.2 i all.given) in
-      let parted : (old : Option V) → last_at compare q rows old ≡ last_at compare q all.given (last_at compare q first.0 old) = λ old. ap (λ r. last_at compare q r old) whole ∙ last_at-append compare q first.0 all.given old in
+      let parted : (old : Option V) → last_at compare q rows old ≡ last_at compare q all.given (last_at compare q first.0 old) = λ old. ap
+      (λ r. last_at compare q r old) whole ∙ last_at-append compare q first.0 all.given old in
       by first.0 all.given first.1 parted (text_cmp mine name) refl (decided ms all.given rise.2 all.given_is)
     where
       later : (found : Option Data) (first more : List (K × V)) → says name value ≡ Some first
@@ -149,7 +152,8 @@ each_append : {A : Type 0} (P : A → Type 0) (xs ys : List A) → AllByRecursio
 each_append P [] ys all more = more
 each_append P (x ∷ xs) ys all more = (all.0, each_append P xs ys all.1 more)
 
-module _ {R : Type 0} (P : R → Type 0) (says : List ℕ → Shape (List R)) (each : (name : List ℕ) (value : Data) (rows : List R) → says name value ≡ Some rows → AllByRecursion P rows) where
+module _ {R : Type 0} (P : R → Type 0) (says : List ℕ → Shape (List R)) (each : (name : List ℕ) (value : Data) (rows : List R)
+    → says name value ≡ Some rows → AllByRecursion P rows) where
   each_of : (ms : Members) (rows : List R) → each_put says ms ≡ Some rows → AllByRecursion P rows
   each_of no_members rows is = subst (AllByRecursion P) (same_Some [] rows is) tt
   each_of (member name value ms) rows is =
@@ -193,7 +197,8 @@ not_tied Greater apart = refl
 
 module _ {K V : Type 0} (compare : K → K → Ordering) (ties : TiesEqualAlone compare) where
   -- the one row of a key is found
-  pub row_found : (shape : Shape V) (value : Data) (key : K) (rows : List (K × V)) → named_row (Some key) shape value ≡ Some rows → last_at compare key rows None ≡ shape value
+  pub row_found : (shape : Shape V) (value : Data) (key : K) (rows : List (K × V)) → named_row (Some key) shape value ≡ Some rows
+      → last_at compare key rows None ≡ shape value
   row_found shape value key rows is =
       let held = map_of_some (λ v. with_row (Some key) v []) (shape value) rows is in
       ap (λ r. last_at compare key r None) held.2
@@ -203,12 +208,14 @@ module _ {K V : Type 0} (compare : K → K → Ordering) (ties : TiesEqualAlone 
   module _ (says : List ℕ → Shape (List (K × V))) (tells : List ℕ → K → Type 0)
       (each : (name : List ℕ) (value : Data) (rows : List (K × V)) → says name value ≡ Some rows → AllByRecursion (λ row. tells name row.0) rows)
       (one : (s t : List ℕ) (key : K) → tells s key → tells t key → s ≡ t) where
-    none_other : (q : K) (mine : List ℕ) → tells mine q → (name : List ℕ) → name ≢ mine → (rows : List (K × V)) → AllByRecursion (λ row. tells name row.0) rows → NoneAt compare q rows
+    none_other : (q : K) (mine : List ℕ) → tells mine q → (name : List ℕ) → name ≢ mine → (rows : List (K × V))
+        → AllByRecursion (λ row. tells name row.0) rows → NoneAt compare q rows
     none_other q mine told name apart rows all =
         each_weaker (λ row tells_row. not_tied (compare row.0 q)
         (λ tied. apart (one name mine q (subst (tells name) ((ties row.0 q).0 tied) tells_row) told))) rows all
 
     -- the member that is named for a key decides
-    pub level : (q : K) (mine : List ℕ) → tells mine q → (value : Data) (rows : List (K × V)) → NamesRise value → rows_by says value ≡ Some rows → DecidesAt compare says q mine (get mine value) rows
+    pub level : (q : K) (mine : List ℕ) → tells mine q → (value : Data) (rows : List (K × V)) → NamesRise value
+        → rows_by says value ≡ Some rows → DecidesAt compare says q mine (get mine value) rows
     level q mine told value rows rise is =
         decided_by compare says q mine (λ name v own apart said. none_other q mine told name apart own (each name v own said)) value rows rise is

@@ -1,5 +1,6 @@
 -- Names in groups: what a look-up finds, and what a row that is put into its group does to the one list.
-use Rattle.std.proofs.Common.{◌≡◌, List, [], ◌∷◌, unwrap_or, String, Option, Some, None, option_and_then, Result, Ok, Err, IsSome, IfSome, refl, sym, ap, ◌∙◌, subst}
+use Rattle.std.proofs.Common.{◌≡◌, List, [], ◌∷◌, unwrap_or, String, Option, Some, None, option_and_then, Result, Ok, Err, IsSome, IfSome, refl, sym}
+use Rattle.std.proofs.Common.{ap, ◌∙◌, subst}
 use Rattle.std.specs.Global.{Global}
 use Rattle.std.specs.Cmp.{IsTotalOrder}
 use Rattle.std.specs.List.Sorted.{IsStrictlySortedBy}
@@ -37,7 +38,8 @@ pub group_total : IsTotalOrder group_cmp
 group_total = then_total (on_total (λ (p : NameGroup). p.0) name_marker.total-law) (on_total (λ (p : NameGroup). p.1) data_locale.total-law)
 
 pub name_total : IsTotalOrder name_cmp
-name_total = then_total (on_total (λ (p : NameMarker × DataLocale × NameKey). (p.0, p.1)) group_total) (on_total (λ (p : NameMarker × DataLocale × NameKey). p.2) key_total)
+name_total = then_total (on_total (λ (p : NameMarker × DataLocale × NameKey). (p.0, p.1)) group_total)
+    (on_total (λ (p : NameMarker × DataLocale × NameKey). p.2) key_total)
 
 -- groups that tie are the same, as requests are
 same_group : TiesEqualAlone name_cmp → NameKey → (g h : NameGroup) → group_cmp g h ≡ Equal → g ≡ h
@@ -72,7 +74,8 @@ rise_after groups g names rise sorted = record {
 
 module _ (groups : Groups) (g : NameGroup) (key : NameKey) (rise : Rise groups) where
   -- a look-up in the one list is one among the groups, and then one among the names
-  pub name_in_groups : value_at name_cmp (flat_names groups) (request_of g key) ≡ option_and_then (λ names. value_at key_cmp names key) (value_at group_cmp groups g)
+  pub name_in_groups : value_at name_cmp (flat_names groups) (request_of g key) ≡ option_and_then (λ names. value_at key_cmp names key)
+      (value_at group_cmp groups g)
   name_in_groups = value_at-flat request_of key_cmp name_cmp group_total (λ g h k l. refl) groups g key rise.groups_rise
 
   -- where no group is there it finds nothing

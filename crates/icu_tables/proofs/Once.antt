@@ -15,7 +15,8 @@ if_map : {A B : Type 0} {P : A → Type 0} (Q : B → Type 0) (f : A → B) (o :
 if_map Q f None h step = tt
 if_map Q f (Some x) h step = step x h
 
-if_and_then : {A B : Type 0} {P : A → Type 0} (Q : B → Type 0) (f : A → Option B) (o : Option A) → IfSome o P → ((x : A) → P x → IfSome (f x) Q) → IfSome (option_and_then f o) Q
+if_and_then : {A B : Type 0} {P : A → Type 0} (Q : B → Type 0) (f : A → Option B) (o : Option A) → IfSome o P
+    → ((x : A) → P x → IfSome (f x) Q) → IfSome (option_and_then f o) Q
 if_and_then Q f None h step = tt
 if_and_then Q f (Some x) h step = step x h
 
@@ -41,7 +42,8 @@ rise_put : (k : List ℕ) (d : Data) (ms : Members) → NamesRise d → MembersR
 rise_put k d no_members value rise = (tt, value, tt)
 rise_put k d (member l e ms) value rise = by (text_cmp k l) refl (rise_put k d ms value rise.2)
   where
-    by : (o : Ordering) → text_cmp k l ≡ o → MembersRise (put k d ms) → MembersRise (match_ordering o (member k d (member l e ms)) (member l d ms) (member l e (put k d ms)))
+    by : (o : Ordering) → text_cmp k l ≡ o → MembersRise (put k d ms) → MembersRise
+        (match_ordering o (member k d (member l e ms)) (member l d ms) (member l e (put k d ms)))
     by Less is later = ((is, above_below k l ms is rise.0), value, rise)
     by Equal is later = (rise.0, value, rise.2)
     by Greater is later = (above_put l k d ms (text_total.antisymm l k ∙ ap ordering_reverse is) rise.0, rise.1, later)

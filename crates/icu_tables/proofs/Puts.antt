@@ -21,28 +21,37 @@ module _ {K V : Type 0} (compare : K → K → Ordering) where
   abbrev pub becomes : (List ℕ → Shape (List (K × V))) → List (K × V) → List Entry → Option (List (K × V))
   becomes says map left = option_map (put_all compare map) (each_put says (members_view left))
 
-  after : (now next : List (K × V)) (said more : Option (List (K × V))) → option_map (put_all compare now) said ≡ Some next → option_map (put_all compare now) (applied (option_map (λ rows more. rows ++ more) said) more) ≡ option_map (put_all compare next) more
+  after : (now next : List (K × V)) (said more : Option (List (K × V))) → option_map (put_all compare now) said ≡ Some next
+      → option_map (put_all compare now) (applied (option_map (λ rows more. rows ++ more) said) more) ≡ option_map (put_all compare next) more
   after now next None more put = absurd (none-some next put)
   after now next (Some rows) None put = refl
-  after now next (Some rows) (Some more) put = ap (λ map. Some map) (put_all-append now rows more ∙ ap (λ map. put_all compare map more) (same_Some (put_all compare now rows) next put))
+  after now next (Some rows) (Some more) put = ap (λ map. Some map) (put_all-append now rows more
+      ∙ ap (λ map. put_all compare map more) (same_Some (put_all compare now rows) next put))
 
   -- a member has put its rows
-  pub becomes-more : (says : List ℕ → Shape (List (K × V))) (now next : List (K × V)) (e : Entry) (left : List Entry) → option_map (put_all compare now) (says (string_bytes e.0) (view e.1)) ≡ Some next → becomes says now (e ∷ left) ≡ becomes says next left
+  pub becomes-more : (says : List ℕ → Shape (List (K × V))) (now next : List (K × V)) (e : Entry) (left : List Entry)
+      → option_map (put_all compare now) (says (string_bytes e.0) (view e.1)) ≡ Some next → becomes says now (e ∷ left) ≡ becomes says next left
   becomes-more says now next e left put = after now next (says (string_bytes e.0) (view e.1)) (each_put says (members_view left)) put
 
 module _ {K V W : Type 0} (compare : K → K → Ordering) (seen : V → W) where
   -- a row is seen where it was put
-  pub seen_rows-insert_entry : (rows : List (K × V)) (key : K) (value : V) → seen_rows seen (insert_entry compare rows key value) ≡ insert_entry compare (seen_rows seen rows) key (seen value)
+  pub seen_rows-insert_entry : (rows : List (K × V)) (key : K) (value : V) → seen_rows seen
+      (insert_entry compare rows key value) ≡ insert_entry compare (seen_rows seen rows) key (seen value)
   seen_rows-insert_entry [] key value = refl
   seen_rows-insert_entry (row ∷ rows) key value = by (compare key row.0) (seen_rows-insert_entry rows key value)
     where
-      by : (answer : Ordering) → seen_rows seen (insert_entry compare rows key value) ≡ insert_entry compare (seen_rows seen rows) key (seen value) → seen_rows seen (match_ordering answer ((key, value) ∷ row ∷ rows) ((row.0, value) ∷ rows) (row ∷ insert_entry compare rows key value)) ≡ match_ordering answer ((key, seen value) ∷ (row.0, seen row.1) ∷ seen_rows seen rows) ((row.0, seen value) ∷ seen_rows seen rows) ((row.0, seen row.1) ∷ insert_entry compare (seen_rows seen rows) key (seen value))
+      by : (answer : Ordering) → seen_rows seen (insert_entry compare rows key value) ≡ insert_entry compare (seen_rows seen rows) key
+          (seen value) → seen_rows seen (match_ordering answer ((key, value) ∷ row ∷ rows) ((row.0, value) ∷ rows)
+          (row ∷ insert_entry compare rows key value)) ≡ match_ordering answer
+          ((key, seen value) ∷ (row.0, seen row.1) ∷ seen_rows seen rows) ((row.0, seen value) ∷ seen_rows seen rows)
+          ((row.0, seen row.1) ∷ insert_entry compare (seen_rows seen rows) key (seen value))
       by Less later = refl
       by Equal later = refl
       by Greater later = ap (λ rest. (row.0, seen row.1) ∷ rest) later
 
   -- one row is put
-  pub row_put : (old new : List (K × V)) (key : K) (value : V) (said : Option (List (K × W))) → new ≡ insert_entry compare old key value → said ≡ Some ((key, seen value) ∷ []) → Puts compare (Ok tt) (seen_rows seen old) (seen_rows seen new) said
+  pub row_put : (old new : List (K × V)) (key : K) (value : V) (said : Option (List (K × W))) → new ≡ insert_entry compare old key value
+      → said ≡ Some ((key, seen value) ∷ []) → Puts compare (Ok tt) (seen_rows seen old) (seen_rows seen new) said
   row_put old new key value said inserts is =
       ap (option_map (put_all compare (seen_rows seen old))) is
       ∙ ap (λ rows. Some rows) (sym (seen_rows-insert_entry old key value))

@@ -15,9 +15,11 @@ use Rattle.std.proofs.lemmas.Option.{cond_some, option_and_then_some, none-some,
 use Rattle.std.proofs.lemmas.Slice.Eq.{bytes_eq-Decides}
 use borrow.Author.Tests.{ltb-true}
 use Rattle.icu_locale_core.specs.TextSet.{text_cmp}
-use Rattle.icu_locale_core.specs.Subtag.{is_language, is_script, is_region, is_variant, is_subtag, lowercase, titlecase, uppercase, is_alphabetic, is_numeric, is_alphanumeric}
+use Rattle.icu_locale_core.specs.Subtag.{is_language, is_script, is_region, is_variant, is_subtag, lowercase, titlecase, uppercase, is_alphabetic}
+use Rattle.icu_locale_core.specs.Subtag.{is_numeric, is_alphanumeric}
 use Rattle.icu_tables.specs.Shape.{both}
-use Rattle.icu_tables.specs.Subtags.{in_class, if_written, key_of, key_pair, is_dash, has_dash, cut_at_dash, read_language, read_script, read_region, read_variant, read_subtag}
+use Rattle.icu_tables.specs.Subtags.{in_class, if_written, key_of, key_pair, is_dash, has_dash, cut_at_dash, read_language, read_script, read_region}
+use Rattle.icu_tables.specs.Subtags.{read_variant, read_subtag}
 
 -- values compare as their texts do
 abbrev pub ComparesTexts : {A : Type 0} → (A → List ℕ) → (A → A → Ordering) → Type 0

@@ -14,9 +14,12 @@ returns-in-Some-rules-clause-answered c =
     let read = c.in-Some-rules.read in
     let kept = subst (λ (o : Option ReadRules). IfSome o (AreRulesOf c.args.tables.now)) c.in-Some-rules.is c.requires.rules in
     let rules = subst (λ (o : Option Aliases). IsSomeAnd o (λ table. AreRules table (rules_over read table))) c.in-Some.is kept in
-    line_over_rules c.args.tables.now c.in-Ok.expander read c.in-Some.aliases c.args.asked.now c.args.line.now c.line_by.new.room.items c.in-Ok.ensures.made c.in-Some.is rules c.requires.task c.line_by.result c.line_by.ensures.answered
+    line_over_rules c.args.tables.now c.in-Ok.expander read c.in-Some.aliases c.args.asked.now c.args.line.now c.line_by.new.room.items
+    c.in-Ok.ensures.made c.in-Some.is rules c.requires.task c.line_by.result c.line_by.ensures.answered
 
 -- they are read
 pub returns-clause-answered : goal.returns-clause-answered
 returns-clause-answered c =
-    line_over_rules c.args.tables.now c.in-Ok.expander c.in-Ok-read.read c.in-Some.aliases c.args.asked.now c.args.line.now c.line_by-outcome.new.room.items c.in-Ok.ensures.made c.in-Some.is c.in-Ok-read.ensures.rules c.requires.task c.line_by-outcome.result c.line_by-outcome.ensures.answered
+    line_over_rules c.args.tables.now c.in-Ok.expander c.in-Ok-read.read c.in-Some.aliases c.args.asked.now c.args.line.now
+    c.line_by-outcome.new.room.items c.in-Ok.ensures.made c.in-Some.is c.in-Ok-read.ensures.rules c.requires.task
+    c.line_by-outcome.result c.line_by-outcome.ensures.answered

@@ -7,7 +7,8 @@ use Rattle.icu_locale_c.proofs.negotiations.read_available.Goals as goal
 
 pub returns-in-Ok-list_available-clause-over : goal.returns-in-Ok-list_available-clause-over
 returns-in-Ok-list_available-clause-over c =
-    list_over c.args.tables.now c.in-Ok.expander c.in-Ok-list_available.negotiator.expander c.into_available.result c.in-Ok.ensures.made c.in-Ok-list_available.ensures.expander c.into_available.ensures.over
+    list_over c.args.tables.now c.in-Ok.expander c.in-Ok-list_available.negotiator.expander c.into_available.result c.in-Ok.ensures.made
+    c.in-Ok-list_available.ensures.expander c.into_available.ensures.over
 
 pub returns-in-Err-NotSettled-clause-refused : goal.returns-in-Err-NotSettled-clause-refused
 returns-in-Err-NotSettled-clause-refused c =

@@ -7,9 +7,14 @@ use Rattle.icu_locale_c.proofs.words.named_by.Goals as goal
 
 pub returns-in-Some-clause-refused : goal.returns-in-Some-clause-refused
 returns-in-Some-clause-refused c =
-    let first = c.in-Some.field-0.0.now in let rest = slice_split is_space c.in-Some.field-0.1.now in
-    (refl, subst (λ ws. AreNoPlain (codes "name" ∷ c.args.chain.now ∷ ws)) (sym c.in-Some.ensures) (none_of_more (codes "name") c.args.chain.now first rest (some_word c.in-Some.field-0.1.now)))
+    let first = c.in-Some.field-0.0.now in let rest = slice_split is_space c.in-Some.field-0.1.now in (
+      refl,
+      subst (λ ws. AreNoPlain (codes "name" ∷ c.args.chain.now ∷ ws)) (sym c.in-Some.ensures)
+          (none_of_more (codes "name") c.args.chain.now first rest (some_word c.in-Some.field-0.1.now)),
+    )
 
 pub returns-in-None-clause-refused : goal.returns-in-None-clause-refused
 returns-in-None-clause-refused c =
-    same_words (codes "name" ∷ c.args.chain.now ∷ slice_split is_space c.args.text.now) (codes "name" ∷ c.args.chain.now ∷ c.args.text.now ∷ []) (ap (λ ws. codes "name" ∷ c.args.chain.now ∷ ws) c.in-None.ensures) c.named.result c.named.ensures.refused
+    same_words (codes "name" ∷ c.args.chain.now ∷ slice_split is_space c.args.text.now)
+    (codes "name" ∷ c.args.chain.now ∷ c.args.text.now ∷ []) (ap (λ ws. codes "name" ∷ c.args.chain.now ∷ ws) c.in-None.ensures)
+    c.named.result c.named.ensures.refused

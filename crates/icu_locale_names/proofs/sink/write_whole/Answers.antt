@@ -9,6 +9,8 @@ loop-rest-preserved g c =
     let before = c.loop-rest.invariant in
     record {
       written = before.written ++ take c.in-Ok.count c.loop-rest.rest.now;
-      parted = before.parted ∙ ap (λ r. before.written ++ r) (sym (take-append-drop c.in-Ok.count c.loop-rest.rest.now)) ∙ sym (append_assoc before.written _ _) ∙ ap (λ r. (before.written ++ take c.in-Ok.count c.loop-rest.rest.now) ++ r) (sym c.split_at.ensures.back);
-      appended = Appends-trans (g.W.Write.contents c.args.sink.now) (g.W.Write.contents c.loop-rest.sink) (g.W.Write.contents c.write.new.self) before.written (take c.in-Ok.count c.loop-rest.rest.now) before.appended c.in-Ok.ensures.bytes;
+      parted = before.parted ∙ ap (λ r. before.written ++ r) (sym (take-append-drop c.in-Ok.count c.loop-rest.rest.now))
+          ∙ sym (append_assoc before.written _ _) ∙ ap (λ r. (before.written ++ take c.in-Ok.count c.loop-rest.rest.now) ++ r) (sym c.split_at.ensures.back);
+      appended = Appends-trans (g.W.Write.contents c.args.sink.now) (g.W.Write.contents c.loop-rest.sink)
+          (g.W.Write.contents c.write.new.self) before.written (take c.in-Ok.count c.loop-rest.rest.now) before.appended c.in-Ok.ensures.bytes;
     }

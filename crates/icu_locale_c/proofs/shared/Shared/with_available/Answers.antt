@@ -10,4 +10,5 @@ returns-clause-made c =
     let same : c.in-Ok.tables.value ≡ c.args.self.now.tables = search rules in
     let kept : IsListOver c.args.self.now.tables c.in_ok-available.available = search rules in
     let spelled : SpellsAll None (listed c.args.line.now) (identifiers_of c.in_ok-available.available) = search rules in
-    listed_in (λ b. b.value) c.args.self.now.tables c.in-Ok.tables.value c.in_ok-available.available c.args.line.now same kept spelled c.boxed.result c.boxed.ensures.made
+    listed_in (λ b. b.value) c.args.self.now.tables c.in-Ok.tables.value c.in_ok-available.available c.args.line.now same kept spelled
+    c.boxed.result c.boxed.ensures.made

@@ -21,10 +21,14 @@ loop-shown-preserved c =
     let first = c.loop-shown.text.items in
     let middle = c.append_next.new.text.items in
     let joins = subst (λ p. Joins sep (p ∷ []) first c.loop-shown.so_far middle c.in_ok-so_far.so_far) c.lend.ensures c.in_ok-so_far.ensures.joined in
-    let left : map piece_of (drop i qs) ≡ piece_of shown ∷ map piece_of (drop (i + 1) qs) = ap (map piece_of) (drop_more qs i shown c.loop-shown-test.true) ∙ ap (λ s. piece_of s ∷ map piece_of (drop (i + 1) qs)) (sym c.shown-item.is) in
+    let left : map piece_of (drop i qs) ≡ piece_of shown ∷ map piece_of (drop (i + 1) qs) = ap (map piece_of)
+    (drop_more qs i shown c.loop-shown-test.true) ∙ ap (λ s. piece_of s ∷ map piece_of (drop (i + 1) qs)) (sym c.shown-item.is) in
     record {
-      grown = grown_more _ first middle c.loop-shown.invariant.grown (grown_by_joins sep (piece_of shown ∷ []) first c.loop-shown.so_far middle c.in_ok-so_far.so_far joins);
-      rest = λ new after more. c.loop-shown.invariant.rest new after (subst (λ ps. Joins sep ps first c.loop-shown.so_far new after) (sym left) (joins_more sep (piece_of shown ∷ []) (map piece_of (drop (i + 1) qs)) first c.loop-shown.so_far middle c.in_ok-so_far.so_far new after joins more));
+      grown = grown_more _ first middle c.loop-shown.invariant.grown (grown_by_joins sep
+          (piece_of shown ∷ []) first c.loop-shown.so_far middle c.in_ok-so_far.so_far joins);
+      rest = λ new after more. c.loop-shown.invariant.rest new after (subst (λ ps. Joins sep ps first c.loop-shown.so_far new after)
+          (sym left) (joins_more sep (piece_of shown ∷ []) (map piece_of (drop (i + 1) qs)) first c.loop-shown.so_far middle
+          c.in_ok-so_far.so_far new after joins more));
     }
 
 -- none is left

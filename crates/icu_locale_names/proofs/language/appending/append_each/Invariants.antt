@@ -8,5 +8,6 @@ use Rattle.icu_locale_names.proofs.language.appending.append_each.Given as goal
 abbrev pub invariant-loop-shown : goal.invariant-loop-shown
 invariant-loop-shown l = record {
   grown : IsGrown l.initial.text.items l.text.items;
-  rest : (new : List ℕ) (after : Joined) → Joins l.separator (map piece_of (drop l.shown-index l.qualifiers)) l.text.items l.so_far new after → Joins l.separator (map piece_of l.qualifiers) l.initial.text.items l.initial.so_far new after;
+  rest : (new : List ℕ) (after : Joined) → Joins l.separator (map piece_of (drop l.shown-index l.qualifiers)) l.text.items l.so_far new
+      after → Joins l.separator (map piece_of l.qualifiers) l.initial.text.items l.initial.so_far new after;
 }

@@ -27,10 +27,13 @@ loop-item-preserved c =
     let middle = c.append_item.new.text.items in
     let adds = c.in_ok-more.ensures.added in
     let rest = flat_map f (map part_of (drop (i + 1) items)) in
-    let left : flat_map f (map part_of (drop i items)) ≡ f (part_of item) ++ rest = ap (λ xs. flat_map f (map part_of xs)) (drop_more items i item c.loop-item-test.true) ∙ ap (λ x. f (part_of x) ++ rest) (sym c.item-item.is) in
+    let left : flat_map f (map part_of (drop i items)) ≡ f (part_of item) ++ rest = ap (λ xs. flat_map f (map part_of xs))
+    (drop_more items i item c.loop-item-test.true) ∙ ap (λ x. f (part_of x) ++ rest) (sym c.item-item.is) in
     record {
       grown = grown_more _ first middle c.loop-item.invariant.grown (grown_by first (text_of (f (part_of item))) middle adds.text);
-      rest = λ new is_raw more. subst (AddsPieces _ _ new) (sym (or_assoc c.loop-item.is_raw c.in_ok-more.more is_raw)) (c.loop-item.invariant.rest new (c.in_ok-more.more || is_raw) (subst (λ ps. AddsPieces ps first new (c.in_ok-more.more || is_raw)) (sym left) (adds_more (f (part_of item)) rest first middle new c.in_ok-more.more is_raw adds more)));
+      rest = λ new is_raw more. subst (AddsPieces _ _ new) (sym (or_assoc c.loop-item.is_raw c.in_ok-more.more is_raw))
+          (c.loop-item.invariant.rest new (c.in_ok-more.more || is_raw) (subst (λ ps. AddsPieces ps first new (c.in_ok-more.more || is_raw))
+          (sym left) (adds_more (f (part_of item)) rest first middle new c.in_ok-more.more is_raw adds more)));
     }
 
 -- none is left
@@ -40,4 +43,5 @@ returns-clause-added c =
     let items = c.args.name.now.pattern.now in
     let t = c.loop-item.text.items in
     let none : drop c.loop-item.item-index items ≡ [] = drop_all c.loop-item.item-index items (omega (arith, c.loop-item-test.false)) in
-    subst (AddsPieces _ _ t) (or_none c.loop-item.is_raw) (c.loop-item.invariant.rest t false (subst (λ xs. AddsPieces (flat_map f (map part_of xs)) t t false) (sym none) (adds_none t)))
+    subst (AddsPieces _ _ t) (or_none c.loop-item.is_raw) (c.loop-item.invariant.rest t false
+    (subst (λ xs. AddsPieces (flat_map f (map part_of xs)) t t false) (sym none) (adds_none t)))

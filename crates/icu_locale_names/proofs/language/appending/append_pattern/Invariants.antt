@@ -8,5 +8,7 @@ use Rattle.icu_locale_names.proofs.language.appending.append_pattern.Given as go
 abbrev pub invariant-loop-item : goal.invariant-loop-item
 invariant-loop-item l = record {
   grown : IsGrown l.initial.text.items l.text.items;
-  rest : (new : List ℕ) (is_raw : Bool) → AddsPieces (flat_map (filled_in l.fn.name) (map part_of (drop l.item-index l.fn.name.pattern.now))) l.text.items new is_raw → AddsPieces (flat_map (filled_in l.fn.name) (map part_of l.fn.name.pattern.now)) l.initial.text.items new (l.is_raw || is_raw);
+  rest : (new : List ℕ) (is_raw : Bool) → AddsPieces (flat_map (filled_in l.fn.name)
+      (map part_of (drop l.item-index l.fn.name.pattern.now))) l.text.items new is_raw
+      → AddsPieces (flat_map (filled_in l.fn.name) (map part_of l.fn.name.pattern.now)) l.initial.text.items new (l.is_raw || is_raw);
 }

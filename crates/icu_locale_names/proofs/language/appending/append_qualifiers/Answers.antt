@@ -16,8 +16,10 @@ returns-clause-added c =
     let v = map piece_of name.variants.now in
     let old = c.args.text.now.items in
     let none : Joined = record { is_any = false; is_raw = false } in
-    let two = joins_more sep s r _ c.in_ok-extension.extension _ c.in_ok-script.script _ c.in_ok-region.region c.in_ok-script.ensures.joined c.in_ok-region.ensures.joined in
+    let two = joins_more sep s r _ c.in_ok-extension.extension _ c.in_ok-script.script _ c.in_ok-region.region c.in_ok-script.ensures.joined
+    c.in_ok-region.ensures.joined in
     let three = joins_more sep e (s ++ r) old none _ c.in_ok-extension.extension _ c.in_ok-region.region c.in_ok-extension.ensures.joined two in
     let four = joins_more sep (e ++ (s ++ r)) v old none _ c.in_ok-region.region _ c.in_ok-all.all three c.in_ok-all.ensures.joined in
     let whole : (e ++ (s ++ r)) ++ v ≡ qualifiers_of name = λ i. (c.plain_if_any.ensures i ++ (c.lend_if_any.ensures i ++ c.lend_if_any-2.ensures i)) ++ v in
-    subst (λ qs. AddsPieces (joined sep qs) old c.append_each.new.text.items c.in_ok-all.all.is_raw) whole (adds_joined sep ((e ++ (s ++ r)) ++ v) old _ c.in_ok-all.all four)
+    subst (λ qs. AddsPieces (joined sep qs) old c.append_each.new.text.items c.in_ok-all.all.is_raw) whole
+    (adds_joined sep ((e ++ (s ++ r)) ++ v) old _ c.in_ok-all.all four)

@@ -19,6 +19,7 @@ loop-piece-preserved g c =
     let before = c.loop-piece.invariant in
     record {
       written = before.written ++ c.in-Some.piece.text.now;
-      parted = before.parted ∙ ap (λ ps. before.written ++ text_of ps) c.in-Some.ensures.steps ∙ sym (append_assoc before.written c.in-Some.piece.text.now (text_of (pieces_left c.next.new.self)));
+      parted = before.parted ∙ ap (λ ps. before.written ++ text_of ps) c.in-Some.ensures.steps
+          ∙ sym (append_assoc before.written c.in-Some.piece.text.now (text_of (pieces_left c.next.new.self)));
       wrote = λ plain. let first = before.wrote plain in search (rules, put_two);
     }

@@ -23,7 +23,9 @@ returns-in_err-write_whole-clause-part g c =
     let text = text_of (pieces_of c.args.name.now) in
     let before = subst (Written text (contents c.args.sink.now) (contents c.loop-piece.sink)) c.in-Some.ensures.steps c.loop-piece.invariant in
     let refused = err_from_is_err_and c.from_residual.result c.from_residual.ensures.1 in
-    rw refused.1 (AppendsPart-behind text (contents c.args.sink.now) (contents c.loop-piece.sink) (contents c.write_whole.new.sink) (lent_piece c.in-Some.piece) (pieces_left c.next.new.self) before (subst (AppendsPart (contents c.loop-piece.sink) (contents c.write_whole.new.sink)) c.as_bytes.ensures.value c.in_err-write_whole.ensures.part))
+    rw refused.1 (AppendsPart-behind text (contents c.args.sink.now) (contents c.loop-piece.sink) (contents c.write_whole.new.sink)
+    (lent_piece c.in-Some.piece) (pieces_left c.next.new.self) before (subst
+    (AppendsPart (contents c.loop-piece.sink) (contents c.write_whole.new.sink)) c.as_bytes.ensures.value c.in_err-write_whole.ensures.part))
 
 -- one more piece is written
 pub loop-piece-preserved : goal.loop-piece-preserved
@@ -31,11 +33,14 @@ loop-piece-preserved g c =
     let contents = g.W.Write.contents in
     let text = text_of (pieces_of c.args.name.now) in
     let before = subst (Written text (contents c.args.sink.now) (contents c.loop-piece.sink)) c.in-Some.ensures.steps c.loop-piece.invariant in
-    Written-more text (contents c.args.sink.now) (contents c.loop-piece.sink) (contents c.write_whole.new.sink) (lent_piece c.in-Some.piece) (pieces_left c.next.new.self) before (subst (Appends (contents c.loop-piece.sink) (contents c.write_whole.new.sink)) c.as_bytes.ensures.value c.in_ok-write_whole.ensures.whole)
+    Written-more text (contents c.args.sink.now) (contents c.loop-piece.sink) (contents c.write_whole.new.sink) (lent_piece c.in-Some.piece)
+    (pieces_left c.next.new.self) before (subst (Appends (contents c.loop-piece.sink) (contents c.write_whole.new.sink))
+    c.as_bytes.ensures.value c.in_ok-write_whole.ensures.whole)
 
 -- all pieces are written
 pub returns-clause-whole : goal.returns-clause-whole
 returns-clause-whole g c =
     let contents = g.W.Write.contents in
     let text = text_of (pieces_of c.args.name.now) in
-    Written-all text (contents c.args.sink.now) (contents c.loop-piece.sink) (subst (Written text (contents c.args.sink.now) (contents c.loop-piece.sink)) c.in-None.ensures.steps.0 c.loop-piece.invariant)
+    Written-all text (contents c.args.sink.now) (contents c.loop-piece.sink)
+    (subst (Written text (contents c.args.sink.now) (contents c.loop-piece.sink)) c.in-None.ensures.steps.0 c.loop-piece.invariant)

@@ -24,4 +24,5 @@ returns-clause-members c =
     let left = dedup_is (pointwise nat_eq) sorted c.dedup.new.self.items c.dedup.ensures.filtered in
     let past : length c.deref-script-items.result.now ≤ c.loop-script.script-index = omega arith in
     let whole = c.loop-script.invariant ∙ take_all c.loop-script.script-index c.deref-script-items.result.now past ∙ c.deref-script-items.ensures.value in
-    ap keys_of c.from_sorted.ensures ∙ whole ∙ unique_is_set c.args.scripts.items sorted c.dedup.new.self.items left c.sort_unstable.ensures.permutation c.sort_unstable.ensures.sorted
+    ap keys_of c.from_sorted.ensures ∙ whole ∙ unique_is_set c.args.scripts.items sorted c.dedup.new.self.items left
+    c.sort_unstable.ensures.permutation c.sort_unstable.ensures.sorted

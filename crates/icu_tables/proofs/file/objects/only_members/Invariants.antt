@@ -7,4 +7,5 @@ use Rattle.icu_tables.proofs.file.objects.only_members.Given as goal
 abbrev pub invariant-loop-name : goal.invariant-loop-name
 invariant-loop-name l =
     let known = map (λ name. name.now) l.names in
-    list_all (λ key. is_name_listed known (string_bytes key)) l.initial.name-iterator ≡ list_all (λ key. is_name_listed known (string_bytes key)) l.name-iterator
+    list_all (λ key. is_name_listed known (string_bytes key)) l.initial.name-iterator ≡ list_all
+    (λ key. is_name_listed known (string_bytes key)) l.name-iterator

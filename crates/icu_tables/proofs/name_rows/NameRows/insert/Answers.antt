@@ -15,7 +15,8 @@ pub returns-in-Some : goal.returns-in-Some
 returns-in-Some c =
     let group : NameGroup = (c.args.marker, c.args.locale) in
     let ties = c.keys_are_told_apart.ensures.names in
-    rw (← c.self.view_is) (inserts_there _ group c.args.key c.self.invariant c.args.name ties _ _ c.insert.result (sym c.in-Some.ensures.value) c.insert.ensures)
+    rw (← c.self.view_is) (inserts_there _ group c.args.key c.self.invariant c.args.name ties _ _ c.insert.result
+    (sym c.in-Some.ensures.value) c.insert.ensures)
 
 -- the group is new
 pub from_sorted-requires : goal.from_sorted-requires

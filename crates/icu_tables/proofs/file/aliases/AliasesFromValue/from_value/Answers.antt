@@ -7,7 +7,8 @@ pub returns-in_err-fill-8 : goal.returns-in_err-fill-8
 returns-in_err-fill-8 c =
     let passed_on = err_from_is_err_and c.from_residual-in_err-fill-8.result c.from_residual-in_err-fill-8.ensures.1 in
     let refused = rw c.new-table.ensures at c.in_err-fill-8.ensures in
-    rw (passed_on.1, passed_on.2, c.in_ok-only_members.ensures) (refused_before _ _ _ (refused_before _ _ _ (refused_before _ _ _ (refused_last _ _ _ refused))))
+    rw (passed_on.1, passed_on.2, c.in_ok-only_members.ensures) (refused_before _ _ _
+    (refused_before _ _ _ (refused_before _ _ _ (refused_last _ _ _ refused))))
 
 pub returns-in_err-fill-9 : goal.returns-in_err-fill-9
 returns-in_err-fill-9 c =
@@ -41,4 +42,17 @@ returns c =
     let complex_region = rw c.new-table.ensures at c.in_ok-fill-9.ensures in
     let variant = rw c.new-table.ensures at c.in_ok-fill-10.ensures in
     let subdivision = rw c.new-table.ensures at c.in_ok-fill-11.ensures in
-    rw (c.in_ok-only_members.ensures, language_variants, language, sgn_region, language_len2, language_len3, script, region_alpha, region_num, complex_region, variant, subdivision)
+    rw (
+      c.in_ok-only_members.ensures,
+      language_variants,
+      language,
+      sgn_region,
+      language_len2,
+      language_len3,
+      script,
+      region_alpha,
+      region_num,
+      complex_region,
+      variant,
+      subdivision,
+    )

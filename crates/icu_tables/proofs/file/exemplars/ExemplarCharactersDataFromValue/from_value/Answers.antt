@@ -7,7 +7,15 @@ use Rattle.icu_tables.proofs.file.exemplars.ExemplarCharactersDataFromValue.from
 pub returns-in-Ok : goal.returns-in-Ok
 returns-in-Ok c =
     let test = test_from_IsInversionList c.in_ok-ranges.ranges.items (c.in-Ok.ensures.accepted.0 refl) in
-    rw (c.in_ok-only_members.ensures, c.in_ok-ranges.ensures, c.in_ok-strings.ensures, map-same c.in_ok-ranges.ranges.items, test, c.in-Ok.ensures.ranges, c.in-Ok.ensures.strings)
+    rw (
+      c.in_ok-only_members.ensures,
+      c.in_ok-ranges.ensures,
+      c.in_ok-strings.ensures,
+      map-same c.in_ok-ranges.ranges.items,
+      test,
+      c.in-Ok.ensures.ranges,
+      c.in-Ok.ensures.strings,
+    )
 
 -- it is none
 pub returns-in-Err : goal.returns-in-Err
