@@ -109,8 +109,8 @@ pub record StopsAmong (c : LineCommand) (t : Tables) (read read' wrote wrote' : 
 abbrev pub StopsListing : LineCommand → Tables → Stream → Stream → CliError → Type 0
 StopsListing c t read read' e =
     ((c.task ≡ Negotiate) × HoldsSettled t × IsUnread (ReadsUnended read read') e)
-    ⊎ ((line : List ℕ) × (has_ended : Bool) × (mid : Stream) × ReadsLine read mid line has_ended
-    × IsUnlisted c t line e)
+    ⊎ ((line : List ℕ) × (has_ended : Bool) × (mid : Stream)
+    × ReadsLine read mid line has_ended × IsUnlisted c t line e)
 
 -- what is left of a command once its tables are loaded; left is what the reader had left then
 abbrev pub StopsLoaded : Command → Tables → Stream → Stream → Stream → Stream → Stream → CliError
@@ -120,7 +120,8 @@ StopsLoaded command.Settled t read left read' wrote wrote' e =
 StopsLoaded (command.Lines c) t read left read' wrote wrote' e =
     (StopsListing c t read read' e × (wrote' ≡ wrote)) ⊎ StopsAmong c t read read' wrote wrote' e
 
--- what a refused stream leaves: it stopped before it read more, or once its tables were loaded
+-- what a refused stream leaves: it stopped before it read more, or once its tables were loaded; its
+-- tables were there when the reader had left
 abbrev pub IsRefusedStream : Command → Tables → Stream → Stream → Stream → Stream → Stream
     → CliError → Type 0
 IsRefusedStream c t read left read' wrote wrote' e =
@@ -157,8 +158,8 @@ abbrev pub ReadsNoTables : Stream → Stream → CliError → Type 0
 ReadsNoTables read read' e = (line : List ℕ) × (has_ended : Bool) × (mid : Stream)
     × ReadsLine read mid line has_ended × LeavesBehind mid read' × IsRefusedReading line e
 
--- what a refused stream over the tables of the first line leaves: it stopped while it read that line,
--- at that line, or once it had its tables
+-- what a refused stream over the tables of the first line leaves: it stopped while it read that
+-- line, at that line, or once it had its tables
 abbrev pub IsRefusedJsonStream : Command → Stream → Stream → Stream → Stream → CliError → Type 0
 IsRefusedJsonStream c read read' wrote wrote' e =
     (IsUnread (ReadsUnended read read') e × (wrote' ≡ wrote))

@@ -52,8 +52,8 @@ WritesOutput (command.Lines c) t input wrote wrote' status =
 
 -- ---- where a call stops, and why it may stop there
 
--- before lines are read: a table is not held, likely tables are not settled, or rules find no memory;
--- `settled` takes none
+-- before lines are read: a table is not held, likely tables are not settled, or rules find no
+-- memory, of which `settled` takes none
 abbrev pub IsUnloaded : Command → Tables → CliError → Type 0
 IsUnloaded c t (error.Data e) = (e ≡ not_found) × (has_tables c t ≡ false)
 IsUnloaded c t error.NotSettled = IsUnsettled c t
@@ -70,8 +70,8 @@ IsUnread Left e = ⊥
 abbrev pub IsUnlisted : LineCommand → Tables → List ℕ → CliError → Type 0
 IsUnlisted c t line e = (c.task ≡ Negotiate) × HoldsSettled t × IsFaultyList c.syntax line e
 
--- among the answers to the lines of a text: where memory was refused whole lines alone are written, and
--- a failed write leaves the earlier lines and a beginning of the one in hand
+-- among the answers to the lines of a text: where memory was refused whole lines alone are written,
+-- and a failed write leaves the earlier lines and a beginning of the one in hand
 abbrev pub WritesUntil : CliError → Work → List ℕ → Stream → Stream → Type 0
 WritesUntil error.Memory work text wrote wrote' = WritesWholeLines work text wrote wrote'
 WritesUntil error.Write work text wrote wrote' = WritesPart work text wrote wrote'
@@ -106,18 +106,20 @@ abbrev pub IsRefusedOutput : Command → Tables → List ℕ → Stream → Stre
 IsRefusedOutput c t input wrote wrote' e =
     (IsUnloaded c t e × (wrote' ≡ wrote)) ⊎ StopsOutput c t input wrote wrote' e
 
--- what a command reads: `settled` nothing more, so left stays, and every other the lines to their end
+-- what a command reads: `settled` nothing, so that left stays, and every other the lines to their
+-- end
 abbrev pub ReadsInput : Command → Stream → Stream → Stream → List ℕ → Type 0
 ReadsInput command.Settled read left read' input = (input ≡ []) × (read' ≡ left)
 ReadsInput (command.Lines c) read left read' input = ReadsAll read read' input
 
--- a run that begins when left is what the reader has left, and some of its lines may have been read
+-- a run over tables that were there when the reader had left; some of its lines may have been read
+-- before
 abbrev pub IsRunFrom : Command → Tables → Stream → Stream → Stream → Stream → Stream → Status
     → Type 0
 IsRunFrom c t read left read' wrote wrote' status = (input : List ℕ)
     × ReadsInput c read left read' input × WritesOutput c t input wrote wrote' status
 
--- a run over tables that were there
+-- a run over tables that were there before anything was read
 abbrev pub IsRun : Command → Tables → Stream → Stream → Stream → Stream → Status → Type 0
 IsRun c t read read' wrote wrote' status = IsRunFrom c t read read read' wrote wrote' status
 
@@ -126,7 +128,8 @@ abbrev pub IsRefusedRun : Command → Tables → Stream → Stream → Stream �
 IsRefusedRun c t read read' wrote wrote' e =
     (IsUnloaded c t e × (read' ≡ read) × (wrote' ≡ wrote))
     ⊎ (AnswersLines c × IsUnread (Unit {0}) e × (wrote' ≡ wrote))
-    ⊎ ((input : List ℕ) × ReadsInput c read read read' input × StopsOutput c t input wrote wrote' e)
+    ⊎ ((input : List ℕ) × ReadsInput c read read read' input
+    × StopsOutput c t input wrote wrote' e)
 
 -- the reader was read to its end, and its first line gives tables with these rows
 pub record ReadsTables (read read' : Stream) (t : Tables) (rest : List ℕ) : Type 0 where
@@ -140,8 +143,8 @@ abbrev pub IsJsonRun : Command → Stream → Stream → Stream → Stream → S
 IsJsonRun c read read' wrote wrote' status = (t : Tables) × (rest : List ℕ)
     × ReadsTables read read' t rest × WritesOutput c t rest wrote wrote' status
 
--- what a refused run over the tables of the first line leaves: it stopped while it read, at that line, or
--- once it had its tables
+-- what a refused run over the tables of the first line leaves: it stopped while it read, at that
+-- line, or once it had its tables
 abbrev pub IsRefusedJsonRun : Command → Stream → Stream → Stream → Stream → CliError → Type 0
 IsRefusedJsonRun c read read' wrote wrote' e =
     (IsUnread (Unit {0}) e × (wrote' ≡ wrote))
