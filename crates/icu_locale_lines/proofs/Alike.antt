@@ -20,7 +20,9 @@ use Rattle.icu_locale.specs.LikelyTable.{likely}
 use Rattle.icu_locale.specs.Negotiation.{Negotiation}
 use Rattle.icu_locale.specs.declared.canonicalizer.rules.Rules.{Rules}
 use Rattle.icu_locale.specs.declared.expander.TransformResult.{TransformResult}
-use Rattle.icu_locale_lines.specs.Answers.{IsAnswerBy, IsIdentifierAnswer, IsLocaleAnswer, IsListAnswer, IsSpelledAnswer, IsCanonicalized, IsWholeCanonicalized, IsDirected, IsNamed, IsTransformed, IsWholeTransformed, with_locale, HoldsIdentifiers}
+use Rattle.icu_locale_lines.specs.Answers.{IsAnswerBy, IsIdentifierAnswer, IsLocaleAnswer, IsListAnswer, IsSpelledAnswer, IsCanonicalized}
+use Rattle.icu_locale_lines.specs.Answers.{IsWholeCanonicalized, IsDirected, IsNamed, IsTransformed, IsWholeTransformed, with_locale}
+use Rattle.icu_locale_lines.specs.Answers.{HoldsIdentifiers}
 use Rattle.icu_locale_lines.specs.Lists.{IsNegotiatedLine, SpellsAll, listed}
 use Rattle.icu_locale_lines.specs.Locales.{is_tab, SpellsLocale}
 use Rattle.icu_locale_lines.specs.Texts.{canonical_line, transformed_line, whole_line, mark}
@@ -80,7 +82,8 @@ module _ (facts : SyntaxFacts) (s : Syntax) (line text : List ℕ) (a : Bool) wh
     no_whole_fault e fault = facts.nothing s line e (bare x) fault (facts.known x is) (facts.alike s line x is spells)
 
     -- an answer that is the same for the identifier and the bare locale identifier
-    each_alike : (IsWhole : LocaleIdentifier → List ℕ → Bool → Type 0) (IsLine : LanguageIdentifier → List ℕ → Bool → Type 0) → IsWhole (bare x) text a ↔ IsLine x text a
+    each_alike : (IsWhole : LocaleIdentifier → List ℕ → Bool → Type 0) (IsLine : LanguageIdentifier → List ℕ → Bool → Type 0)
+        → IsWhole (bare x) text a ↔ IsLine x text a
         → IsSpelledAnswer s IsWhole line text a ↔ IsIdentifierAnswer IsLine line text a
     each_alike IsWhole IsLine both = (forth, back)
       where
@@ -89,7 +92,13 @@ module _ (facts : SyntaxFacts) (s : Syntax) (line text : List ℕ) (a : Bool) wh
         forth (inr h) = absurd (no_whole_fault h.0 h.1)
 
         back : IsIdentifierAnswer IsLine line text a → IsSpelledAnswer s IsWhole line text a
-        back (inl h) = inl (bare x, facts.known x is, facts.alike s line x is spells, both.1 (subst (λ y. IsLine y text a) (facts.alone line h.0 x h.1 is h.2 spells) h.3))
+        back (inl h) = inl (
+          bare x,
+          facts.known x is,
+          facts.alike s line x is spells,
+          both.1
+              (subst (λ y. IsLine y text a) (facts.alone line h.0 x h.1 is h.2 spells) h.3),
+        )
         back (inr h) = absurd (not_refused line x h.0 is spells h.1)
 
     transformed_alike : (form : Transform) (table : LikelySubtags) → IsWholeTransformed form table (bare x) text a ↔ IsTransformed form table x text a
@@ -98,14 +107,20 @@ module _ (facts : SyntaxFacts) (s : Syntax) (line text : List ℕ) (a : Bool) wh
       λ h. (h.0, h.1, h.2, h.3 ∙ sym (line_bare h.0 h.1), h.4),
     )
 
-    canonical_answers_alike : (table : LikelySubtags) (rules : Rules) → position is_tab line ≡ None → IsSpelledAnswer s (IsWholeCanonicalized table rules) line text a ↔ IsLocaleAnswer table rules line text a
+    canonical_answers_alike : (table : LikelySubtags) (rules : Rules) → position is_tab line ≡ None
+        → IsSpelledAnswer s (IsWholeCanonicalized table rules) line text a ↔ IsLocaleAnswer table rules line text a
     canonical_answers_alike table rules none = (forth, back)
       where
         here : SpellsLocale line (without_extensions x)
         here = spelled_alone line x none (is, spells)
 
         forth : IsSpelledAnswer s (IsWholeCanonicalized table rules) line text a → IsLocaleAnswer table rules line text a
-        forth (inl h) = inl (without_extensions x, here, to_canonical table rules x text a (subst (λ w. IsWholeCanonicalized table rules w text a) (the_bare h.0 h.1 h.2) h.3))
+        forth (inl h) = inl (
+          without_extensions x,
+          here,
+          to_canonical table rules x text a
+              (subst (λ w. IsWholeCanonicalized table rules w text a) (the_bare h.0 h.1 h.2) h.3),
+        )
         forth (inr h) = absurd (no_whole_fault h.0 h.1)
 
         back : IsLocaleAnswer table rules line text a → IsSpelledAnswer s (IsWholeCanonicalized table rules) line text a
@@ -113,7 +128,8 @@ module _ (facts : SyntaxFacts) (s : Syntax) (line text : List ℕ) (a : Bool) wh
           bare x,
           facts.known x is,
           facts.alike s line x is spells,
-          from_canonical table rules x text a (subst (λ l. IsCanonicalized table rules l text a) (locale_one facts.alone line h.0 (without_extensions x) h.1 here) h.2),
+          from_canonical table rules x text a (subst (λ l. IsCanonicalized table rules l text a)
+              (locale_one facts.alone line h.0 (without_extensions x) h.1 here) h.2),
         )
         back (inr h) = absurd (no_locale_fault facts.alone line (without_extensions x) h.0 here h.1)
 
@@ -125,19 +141,34 @@ module _ (facts : SyntaxFacts) (s : Syntax) (line text : List ℕ) (a : Bool) wh
   in_syntax (t ∷ ts) (x ∷ xs) each =
       ((bare x, facts.known x each.0.0, facts.alike s t x each.0.0 each.0.1, refl), in_syntax ts xs each.1)
 
-  lists_alike : (n : Negotiation) (xs : List LanguageIdentifier) → SpellsAll None (listed line) xs → IsListAnswer (Some s) n line text a ↔ IsListAnswer None n line text a
+  lists_alike : (n : Negotiation) (xs : List LanguageIdentifier) → SpellsAll None (listed line) xs → IsListAnswer (Some s) n line text a
+      ↔ IsListAnswer None n line text a
   lists_alike n xs each = (forth, back)
     where
       also : SpellsAll (Some s) (listed line) xs
       also = in_syntax (listed line) xs each
 
       forth : IsListAnswer (Some s) n line text a → IsListAnswer None n line text a
-      forth (inl h) = inl (xs, each, subst (λ ys. IsNegotiatedLine n ys text) (all_one facts.alone facts.once facts.nothing (Some s) (listed line) h.0 xs h.1 also) h.2, h.3)
-      forth (inr h) = let f = h.1 in absurd (no_fault facts.alone facts.once facts.nothing (Some s) f.earlier f.text f.later h.0 xs (subst (λ ts. SpellsAll (Some s) ts xs) f.parted also) f.refused)
+      forth (inl h) = inl (
+        xs,
+        each,
+        subst (λ ys. IsNegotiatedLine n ys text)
+            (all_one facts.alone facts.once facts.nothing (Some s) (listed line) h.0 xs h.1 also) h.2,
+        h.3,
+      )
+      forth (inr h) = let f = h.1 in absurd (no_fault facts.alone facts.once facts.nothing (Some s) f.earlier f.text f.later h.0 xs
+          (subst (λ ts. SpellsAll (Some s) ts xs) f.parted also) f.refused)
 
       back : IsListAnswer None n line text a → IsListAnswer (Some s) n line text a
-      back (inl h) = inl (xs, also, subst (λ ys. IsNegotiatedLine n ys text) (all_one facts.alone facts.once facts.nothing None (listed line) h.0 xs h.1 each) h.2, h.3)
-      back (inr h) = let f = h.1 in absurd (no_fault facts.alone facts.once facts.nothing None f.earlier f.text f.later h.0 xs (subst (λ ts. SpellsAll None ts xs) f.parted each) f.refused)
+      back (inl h) = inl (
+        xs,
+        also,
+        subst (λ ys. IsNegotiatedLine n ys text)
+            (all_one facts.alone facts.once facts.nothing None (listed line) h.0 xs h.1 each) h.2,
+        h.3,
+      )
+      back (inr h) = let f = h.1 in absurd (no_fault facts.alone facts.once facts.nothing None f.earlier f.text f.later h.0 xs
+          (subst (λ ts. SpellsAll None ts xs) f.parted each) f.refused)
 
   pub answers_alike : (work : Tools) → HoldsIdentifiers work line → IsAnswerBy (Some s) work line text a ↔ IsAnswerBy None work line text a
   answers_alike (tools.Transform form e) (none, x, is, spells) =

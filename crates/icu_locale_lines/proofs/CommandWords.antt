@@ -1,5 +1,6 @@
 -- The words that name a command.
-use Rattle.std.proofs.Common.{◌≡◌, ◌≢◌, ◌⊎◌, ℕ, ◌≤◌, ◌<◌, Bool, true, false, List, [], ◌∷◌, ◌++◌, length, map, get_or, codes, inl, inr, refl, ap, sym, subst, ◌∙◌, arith}
+use Rattle.std.proofs.Common.{◌≡◌, ◌≢◌, ◌⊎◌, ℕ, ◌≤◌, ◌<◌, Bool, true, false, List, [], ◌∷◌, ◌++◌, length, map, get_or, codes, inl, inr, refl, ap, sym}
+use Rattle.std.proofs.Common.{subst, ◌∙◌, arith}
 use Rattle.std.specs.Char.{to_ascii_lowercase}
 use Rattle.std.proofs.lemmas.Bool.{and_parts}
 use Rattle.std.proofs.lemmas.Bool.Decides.{nat_tests}
@@ -18,7 +19,8 @@ use Rattle.icu_locale_lines.specs.declared.command.Task.TheVariants as task
 use Rattle.icu_locale_names.specs.declared.name_chain.NameChain.{NameChain}
 
 -- a list of three
-pub three : {X : Type 0} (xs : List X) (x y z : X) → 3 ≤ length xs → length xs < 4 → x ≡ get_or xs 0 x → y ≡ get_or xs 1 y → z ≡ get_or xs 2 z → xs ≡ x ∷ y ∷ z ∷ []
+pub three : {X : Type 0} (xs : List X) (x y z : X) → 3 ≤ length xs → length xs < 4 → x ≡ get_or xs 0 x → y ≡ get_or xs 1 y
+    → z ≡ get_or xs 2 z → xs ≡ x ∷ y ∷ z ∷ []
 three [] x y z low high first second third = absurd (omega arith)
 three (u ∷ []) x y z low high first second third = absurd (omega arith)
 three (u ∷ v ∷ []) x y z low high first second third = absurd (omega arith)
@@ -44,7 +46,13 @@ name_only chain text t are =
           let words = name.words in
           let named : chain ≡ chain_word name.kind = cc in
           let same : text ≡ name.text = cc in
-          record { kind = name.kind; preferences = name.preferences; is = name.is; named = named; spelled = subst (λ u. SpellsPreferences u name.preferences) (sym same) name.spelled }
+          record {
+            kind = name.kind;
+            preferences = name.preferences;
+            is = name.is;
+            named = named;
+            spelled = subst (λ u. SpellsPreferences u name.preferences) (sym same) name.spelled;
+          }
     ]
 
 -- the last of two lists that are one
@@ -69,7 +77,8 @@ unspelled x is spells =
     first order e = cc
 
 -- three words of a task are those of a name
-pub three_named : (words : List (List ℕ)) (word chain text : List ℕ) → words ≡ word ∷ chain ∷ text ∷ [] → (t : Task) → AreTaskWords words t → (word ≡ codes "name") × AreArguments t (chain ∷ text ∷ [])
+pub three_named : (words : List (List ℕ)) (word chain text : List ℕ) → words ≡ word ∷ chain ∷ text ∷ [] → (t : Task) → AreTaskWords words t
+    → (word ≡ codes "name") × AreArguments t (chain ∷ text ∷ [])
 three_named words word chain text is t (arguments, are, whole) =
     let behind : arguments ≡ chain ∷ text ∷ [] = cc in
     let first : word ≡ task_word t = cc in
@@ -77,12 +86,14 @@ three_named words word chain text is t (arguments, are, whole) =
     (first ∙ ap task_word (name_only chain text t these).is, these)
 
 -- words of a command are one, or three of which the first is `name`
-pub counted_words : (words : List (List ℕ)) (c : Command) → AreCommandWords words c → (length words ≡ 1) ⊎ ((chain : List ℕ) × (text : List ℕ) × (words ≡ codes "name" ∷ chain ∷ text ∷ []))
+pub counted_words : (words : List (List ℕ)) (c : Command) → AreCommandWords words c → (length words ≡ 1)
+    ⊎ ((chain : List ℕ) × (text : List ℕ) × (words ≡ codes "name" ∷ chain ∷ text ∷ []))
 counted_words words Settled are = inl (ap length are)
 counted_words words (Lines c) are = counted words c.task are.1
 
 -- so three words are those of a name
-pub three_words : (word chain text : List ℕ) (c : Command) → AreCommandWords (word ∷ chain ∷ text ∷ []) c → AreCommandWords (codes "name" ∷ chain ∷ text ∷ []) c × (word ≡ codes "name")
+pub three_words : (word chain text : List ℕ) (c : Command) → AreCommandWords (word ∷ chain ∷ text ∷ []) c
+    → AreCommandWords (codes "name" ∷ chain ∷ text ∷ []) c × (word ≡ codes "name")
 three_words word chain text Settled are = absurd (cc)
 three_words word chain text (Lines c) are =
     let name = (three_named (word ∷ chain ∷ text ∷ []) word chain text refl c.task are.1).0 in
@@ -103,7 +114,8 @@ never_task (w ∷ v ∷ []) t are =
     unspelled spells.0 spells.1 spells.2
 never_task (w ∷ v ∷ u ∷ us) t are = by (counted (w ∷ v ∷ u ∷ (us ++ codes "json" ∷ [])) t are)
   where
-    by : (length (w ∷ v ∷ u ∷ (us ++ codes "json" ∷ [])) ≡ 1) ⊎ ((chain : List ℕ) × (text : List ℕ) × (w ∷ v ∷ u ∷ (us ++ codes "json" ∷ []) ≡ codes "name" ∷ chain ∷ text ∷ [])) → ⊥
+    by : (length (w ∷ v ∷ u ∷ (us ++ codes "json" ∷ [])) ≡ 1) ⊎ ((chain : List ℕ) × (text : List ℕ)
+        × (w ∷ v ∷ u ∷ (us ++ codes "json" ∷ []) ≡ codes "name" ∷ chain ∷ text ∷ [])) → ⊥
     by (inl one) = omega (arith, one)
     by (inr (chain, text, is)) = not_nil us (codes "json") (cc)
 
@@ -117,15 +129,21 @@ never_json front (Lines c) are = never_task front c.task are.1
 -- words with `json` behind them are those of a command with tables as JSON
 pub with_json : (front : List (List ℕ)) (c : Command × Bool) → AreWords (front ++ codes "json" ∷ []) c.0 c.1 → AreCommandWords front c.0 × (c.1 ≡ true)
 with_json front (c, false) are = absurd (never_json front c are)
-with_json front (c, true) (before, are, is) = (subst (λ words. AreCommandWords words c) (sym (append_cancel_right front before (codes "json" ∷ []) is)) are, refl)
+with_json front (c, true) (before, are, is) = (
+  subst (λ words. AreCommandWords words c)
+      (sym (append_cancel_right front before (codes "json" ∷ []) is)) are,
+  refl,
+)
 
 -- words without `json` behind them are those of a command over the sample
-pub without_json : (words : List (List ℕ)) → ((front : List (List ℕ)) → words ≡ front ++ codes "json" ∷ [] → ⊥) → (c : Command × Bool) → AreWords words c.0 c.1 → AreCommandWords words c.0 × (c.1 ≡ false)
+pub without_json : (words : List (List ℕ)) → ((front : List (List ℕ)) → words ≡ front ++ codes "json" ∷ [] → ⊥) → (c : Command × Bool)
+    → AreWords words c.0 c.1 → AreCommandWords words c.0 × (c.1 ≡ false)
 without_json words none (c, false) are = (are, refl)
 without_json words none (c, true) (front, are, is) = absurd (none front is)
 
 -- words that end with another word do not end with `json`
-pub ends_otherwise : (words before : List (List ℕ)) (word : List ℕ) → words ≡ before ++ word ∷ [] → word ≢ codes "json" → (front : List (List ℕ)) → words ≡ front ++ codes "json" ∷ [] → ⊥
+pub ends_otherwise : (words before : List (List ℕ)) (word : List ℕ) → words ≡ before ++ word ∷ [] → word ≢ codes "json"
+    → (front : List (List ℕ)) → words ≡ front ++ codes "json" ∷ [] → ⊥
 ends_otherwise words before word is other front json = other (ends before front word (codes "json") (sym is ∙ json))
 
 -- no words do not end with `json`
@@ -134,7 +152,8 @@ no_words f [] none front e = not_nil front (codes "json") (sym e)
 no_words f (w ∷ ws) none front e = absurd (omega (arith, none))
 
 -- a name's words are those of one command
-pub name_alone : (chain text : List ℕ) (c : Command) → AreCommandWords (codes "name" ∷ chain ∷ text ∷ []) c → (t : Task) × IsName t chain text × (c ≡ Lines (plain t))
+pub name_alone : (chain text : List ℕ) (c : Command) → AreCommandWords (codes "name" ∷ chain ∷ text ∷ []) c → (t : Task)
+    × IsName t chain text × (c ≡ Lines (plain t))
 name_alone chain text Settled are = absurd (cc)
 name_alone chain text (Lines c) (none, are) =
     let these = three_named (codes "name" ∷ chain ∷ text ∷ []) (codes "name") chain text refl c.task are in

@@ -1,5 +1,6 @@
 -- First lines of texts that come by parts.
-use Rattle.std.proofs.Common.{◌≡◌, ◌≢◌, ◌⊎◌, ℕ, suc, ◌+◌, Bool, not, true, false, ◌||◌, List, [], ◌∷◌, ◌++◌, length, inl, inr, refl, ap, sym, subst, ◌∙◌, length-append, take, drop, cond, arith}
+use Rattle.std.proofs.Common.{◌≡◌, ◌≢◌, ◌⊎◌, ℕ, suc, ◌+◌, Bool, not, true, false, ◌||◌, List, [], ◌∷◌, ◌++◌, length, inl, inr, refl, ap, sym, subst}
+use Rattle.std.proofs.Common.{◌∙◌, length-append, take, drop, cond, arith}
 use Rattle.std.specs.List.{list_any, position_or_len}
 use Rattle.std.proofs.lemmas.Bool.{false≢true}
 use Rattle.std.proofs.lemmas.Bool.Decides.{nat_tests}
@@ -22,10 +23,12 @@ two_more n = omega arith
 -- a byte before a text
 module _ (c : ℕ) (t : List ℕ) where
   first_behind : is_line_feed c ≡ false → first_line (c ∷ t) ≡ c ∷ first_line t
-  first_behind other = ap (λ b. take (cond (not b) (1 + position_or_len is_line_feed t) 0) (c ∷ t)) other ∙ ap (λ n. take n (c ∷ t)) (one_more (position_or_len is_line_feed t))
+  first_behind other = ap (λ b. take (cond (not b) (1 + position_or_len is_line_feed t) 0) (c ∷ t)) other
+      ∙ ap (λ n. take n (c ∷ t)) (one_more (position_or_len is_line_feed t))
 
   after_behind : is_line_feed c ≡ false → after_first_line (c ∷ t) ≡ after_first_line t
-  after_behind other = ap (λ b. drop (cond (not b) (1 + position_or_len is_line_feed t) 0 + 1) (c ∷ t)) other ∙ ap (λ n. drop n (c ∷ t)) (two_more (position_or_len is_line_feed t))
+  after_behind other = ap (λ b. drop (cond (not b) (1 + position_or_len is_line_feed t) 0 + 1) (c ∷ t)) other
+      ∙ ap (λ n. drop n (c ∷ t)) (two_more (position_or_len is_line_feed t))
 
   first_here : is_line_feed c ≡ true → first_line (c ∷ t) ≡ []
   first_here is = ap (λ b. take (cond (not b) (1 + position_or_len is_line_feed t) 0) (c ∷ t)) is
@@ -66,7 +69,8 @@ whole_by_length t same = by (cut_at t)
     by : IsWhole t ⊎ IsCut t → IsWhole t
     by (inl whole) = whole
     by (inr cut) =
-        let longer : length t ≡ length (first_line t) + suc (length (after_first_line t)) = ap length cut.0 ∙ length-append (first_line t) (10 ∷ after_first_line t) in
+        let longer : length t ≡ length (first_line t) + suc (length (after_first_line t)) = ap length cut.0
+        ∙ length-append (first_line t) (10 ∷ after_first_line t) in
         absurd (omega (arith, longer, same))
 
 pub cut_by_length : (t : List ℕ) → length (first_line t) ≢ length t → IsCut t

@@ -1,5 +1,6 @@
 -- The answer to one line.
-use Rattle.std.proofs.Common.{◌≡◌, ◌≢◌, ◌⊎◌, Bool, true, false, Option, None, refl, sym, List, [], ◌∷◌, ◌++◌, Some, ℕ, zero, suc, get_or, Result, Ok, Err, IfOk, inl, inr, subst, ap, ◌∙◌}
+use Rattle.std.proofs.Common.{◌≡◌, ◌≢◌, ◌⊎◌, Bool, true, false, Option, None, refl, sym, List, [], ◌∷◌, ◌++◌, Some, ℕ, zero, suc, get_or, Result, Ok}
+use Rattle.std.proofs.Common.{Err, IfOk, inl, inr, subst, ap, ◌∙◌}
 use Rattle.std.specs.List.{slice_get, position}
 use Rattle.std.proofs.lemmas.Option.{same_Some, none-some}
 use Rattle.icu_locale.specs.LikelyTable.{likely}
@@ -30,7 +31,8 @@ use Rattle.icu_locale_lines.proofs.LineCuts.{before_first-no_position}
 use Rattle.icu_locale_lines.proofs.LocaleLines.{value_text-no_position}
 
 -- what is put behind the others is a line of another kind too
-pub if_adds : (P Q : List ℕ → Bool → Type 0) → ((t : List ℕ) (a : Bool) → P t a → Q t a) → (old new : List ℕ) (r : Result Bool CliError) → IfOk r (AddsLine P old new) → IfOk r (AddsLine Q old new)
+pub if_adds : (P Q : List ℕ → Bool → Type 0) → ((t : List ℕ) (a : Bool) → P t a → Q t a) → (old new : List ℕ) (r : Result Bool CliError)
+    → IfOk r (AddsLine P old new) → IfOk r (AddsLine Q old new)
 if_adds P Q more old new (Ok a) h = record { line = h.line; added = h.added; is = more h.line a h.is }
 if_adds P Q more old new (Err e) h = tt
 
@@ -40,8 +42,10 @@ if_alone P old new none (Ok a) h = subst (λ t. P t a) (sym (h.added ∙ ap (λ 
 if_alone P old new none (Err e) h = tt
 
 -- the line of a refusal
-pub if_fault : (Q : List ℕ → Bool → Type 0) (e : ParseError) → (IsFault : Type 0) → (e ≡ parse_error.Memory) ⊎ IsFault → ((t : List ℕ) (a : Bool) → IsFault → (t ≡ refused_line (parse_error_name e)) → (a ≡ false) → Q t a) → (old new : List ℕ) (r : Result Bool CliError)
-    → IfOk r (AddsLine (λ t a. (t ≡ refused_line (parse_error_name e)) × (a ≡ false)) old new) → IfOk r (λ _. e ≢ parse_error.Memory) → IfOk r (AddsLine Q old new)
+pub if_fault : (Q : List ℕ → Bool → Type 0) (e : ParseError) → (IsFault : Type 0) → (e ≡ parse_error.Memory) ⊎ IsFault
+    → ((t : List ℕ) (a : Bool) → IsFault → (t ≡ refused_line (parse_error_name e)) → (a ≡ false) → Q t a) → (old new : List ℕ) (r : Result Bool CliError)
+    → IfOk r (AddsLine (λ t a. (t ≡ refused_line (parse_error_name e)) × (a ≡ false)) old new) → IfOk r (λ _. e ≢ parse_error.Memory)
+    → IfOk r (AddsLine Q old new)
 if_fault Q e IsFault (inl memory) more old new (Ok a) h told = absurd (told memory)
 if_fault Q e IsFault (inr fault) more old new (Ok a) h told = record { line = h.line; added = h.added; is = more h.line a fault h.is.0 h.is.1 }
 if_fault Q e IsFault why more old new (Err e') h told = tt
@@ -51,18 +55,22 @@ kind_of (Ok x) = kind.Memory
 kind_of (Err e) = e.kind
 
 -- want of memory has no line
-pub if_unnamed : {T : Type 0} (e : DataError) → ◌≡◌ {A = Result T DataError} (Err e) (Err (record { kind = kind.Memory })) → (Q : List ℕ → Bool → Type 0) (old new : List ℕ) (r : Result Bool CliError)
+pub if_unnamed : {T : Type 0} (e : DataError) → ◌≡◌ {A = Result T DataError} (Err e) (Err (record { kind = kind.Memory }))
+    → (Q : List ℕ → Bool → Type 0) (old new : List ℕ) (r : Result Bool CliError)
     → IfOk r (λ _. e.kind ≢ kind.Memory) → IfOk r (AddsLine Q old new)
 if_unnamed e lacks Q old new (Ok a) told = absurd (told (ap kind_of lacks))
 if_unnamed e lacks Q old new (Err x) told = tt
 
 module _ (line_of : Locale → TransformResult → List ℕ) (likely : LikelySubtags) (rules : Rules) (old : Locale) where
   -- the line of a canonical locale
-  pub canonicalized_from_line : (new : Locale) (m : TransformResult) → IsCanonical likely rules old new → m ≡ answer_of (is_applied likely rules old) → (t : List ℕ) (a : Bool) → (t ≡ line_of new m) × (a ≡ true) → IsCanonicalizedTo line_of likely rules old t a
+  pub canonicalized_from_line : (new : Locale) (m : TransformResult) → IsCanonical likely rules old new
+      → m ≡ answer_of (is_applied likely rules old) → (t : List ℕ) (a : Bool) → (t ≡ line_of new m) × (a ≡ true)
+      → IsCanonicalizedTo line_of likely rules old t a
   canonicalized_from_line new m canonical answer t a h = inl (new, canonical, subst (λ k. t ≡ line_of new k) answer h.0, h.1)
 
   -- the line of what comes again
-  pub refused_from_line : (refusal : CanonicalizeError) → IsRefusal likely rules old refusal → (t : List ℕ) (a : Bool) → TellsRefusal refusal t a → IsCanonicalizedTo line_of likely rules old t a
+  pub refused_from_line : (refusal : CanonicalizeError) → IsRefusal likely rules old refusal → (t : List ℕ) (a : Bool)
+      → TellsRefusal refusal t a → IsCanonicalizedTo line_of likely rules old t a
   refused_from_line Memory why t a h = absurd h
   refused_from_line (NoFixedPoint z) why t a h = inr (inl (z, why, h.0, h.1))
   refused_from_line (NoSubdivisionFixedPoint v) why t a h = inr (inr (v, why, h.0, h.1))
@@ -75,13 +83,15 @@ module _ (IsLine : LanguageIdentifier → List ℕ → Bool → Type 0) (line : 
   answer_in (Some s) x (whole, known, spells, same) t a is = inl (whole, known, spells, subst (λ i. IsLine i t a) (sym same) is)
 
   -- the line of why it spells none
-  pub refused_in : (syntax : Option Syntax) (e : ParseError) (t : List ℕ) (a : Bool) → IsFaultIn syntax line e → t ≡ refused_line (parse_error_name e) → a ≡ false
+  pub refused_in : (syntax : Option Syntax) (e : ParseError) (t : List ℕ) (a : Bool) → IsFaultIn syntax line e
+      → t ≡ refused_line (parse_error_name e) → a ≡ false
       → IsAnswerOf syntax IsLine (λ w. IsLine w.locale.id) line t a
   refused_in None e t a fault text failed = inr (e, fault, text, failed)
   refused_in (Some s) e t a fault text failed = inr (e, fault, text, failed)
 
 -- a line without a tab spells a locale without extensions
-pub spelled_alone : (line : List ℕ) (x : LanguageIdentifier) → position is_tab line ≡ None → IsIdentifier x × Spells line x → SpellsLocale line (without_extensions x)
+pub spelled_alone : (line : List ℕ) (x : LanguageIdentifier) → position is_tab line ≡ None → IsIdentifier x × Spells line x
+    → SpellsLocale line (without_extensions x)
 spelled_alone line x none spelled = record {
   known = spelled.0;
   id = subst (λ t. Spells t x) (sym (before_first-no_position is_tab line none)) spelled.1;
@@ -96,7 +106,8 @@ get_or-slice_get (y ∷ ys) zero x d at = same_Some y x at
 get_or-slice_get (y ∷ ys) (suc j) x d at = get_or-slice_get ys j x d at
 
 -- the line of a match is that of what was negotiated
-pub negotiated_from_line : (n : Negotiation) (requests : List LanguageIdentifier) (i j : ℕ) (x : LanguageIdentifier) → IsNegotiated (likely n.expander) requests n.available (Some (i, j)) → x ≡ get_or n.available j x
+pub negotiated_from_line : (n : Negotiation) (requests : List LanguageIdentifier) (i j : ℕ) (x : LanguageIdentifier)
+    → IsNegotiated (likely n.expander) requests n.available (Some (i, j)) → x ≡ get_or n.available j x
     → (t : List ℕ) (a : Bool) → (t ≡ matched_line i x) × (a ≡ true) → IsNegotiatedLine n requests t × (a ≡ true)
 negotiated_from_line n requests i j x negotiated here t a h =
     let m = negotiated.matches in

@@ -1,5 +1,6 @@
 -- Where a text is cut: at its first line feed, and at any other separator, as memchr finds it.
-use Rattle.std.proofs.Common.{◌≡◌, ℕ, ◌<◌, ◌≤◌, Bool, true, false, List, length, Option, Some, None, refl, ap, sym, ◌∙◌, arith, cond, nat_lt, ◌≢◌, ◌+◌, [], ◌∷◌, take, drop}
+use Rattle.std.proofs.Common.{◌≡◌, ℕ, ◌<◌, ◌≤◌, Bool, true, false, List, length, Option, Some, None, refl, ap, sym, ◌∙◌, arith, cond, nat_lt, ◌≢◌}
+use Rattle.std.proofs.Common.{◌+◌, [], ◌∷◌, take, drop}
 use Rattle.std.specs.List.{position, position_or_len, before_first, after_first}
 use Rattle.std.proofs.lemmas.Bool.Decides.{nat_tests}
 use Rattle.std.proofs.lemmas.List.Sums.{position_or_len_is}
@@ -16,10 +17,12 @@ not_true false never = refl
 
 pub position_from_first : (test : ℕ → Bool) (t : List ℕ) (r : Option ℕ) → IsFirstByte test t r → r ≡ position test t
 position_from_first test t None none =
-    let place : position_or_len test t ≡ length t = position_or_len_is test t (length t) 0 (omega arith) (λ k below. not_true _ (none k (omega arith) below)) (λ less. absurd (omega (arith, less))) in
+    let place : position_or_len test t ≡ length t = position_or_len_is test t (length t) 0 (omega arith)
+    (λ k below. not_true _ (none k (omega arith) below)) (λ less. absurd (omega (arith, less))) in
     grind (arith, nat_tests)
 position_from_first test t (Some k) (first, is) =
-    let place : position_or_len test t ≡ k = position_or_len_is test t k 0 (omega (arith, first.high)) (λ j below. not_true _ (first.before j (omega arith) below)) (λ _. is) in
+    let place : position_or_len test t ≡ k = position_or_len_is test t k 0 (omega (arith, first.high))
+    (λ j below. not_true _ (first.before j (omega arith) below)) (λ _. is) in
     let high : k < length t = first.high in
     grind (arith, nat_tests)
 
@@ -48,10 +51,11 @@ module _ (p : ℕ → Bool) (t : List ℕ) where
 
   -- without one all stands before it
   past_end : position p t ≡ None → length t ≤ position_or_len p t
-  past_end none = elim (nat_lt (position_or_len p t) (length t)) as (λ b. nat_lt (position_or_len p t) (length t) ≡ b → cond b (Some (position_or_len p t)) None ≡ None → length t ≤ position_or_len p t) [
-    | true ↦ λ is some. absurd (none-some _ (sym some))
-    | false ↦ λ is some. grind (arith, nat_tests)
-  ] refl none
+  past_end none = elim (nat_lt (position_or_len p t) (length t)) as (λ b. nat_lt (position_or_len p t) (length t) ≡ b
+      → cond b (Some (position_or_len p t)) None ≡ None → length t ≤ position_or_len p t) [
+        | true ↦ λ is some. absurd (none-some _ (sym some))
+        | false ↦ λ is some. grind (arith, nat_tests)
+      ] refl none
 
   pub before_first-no_position : position p t ≡ None → before_first p t ≡ t
   before_first-no_position none = take_all (position_or_len p t) t (past_end none)

@@ -1,5 +1,6 @@
 -- How a line of identifiers is read, text by text.
-use Rattle.std.proofs.Common.{◌≡◌, ◌⊎◌, ℕ, ◌<◌, Bool, true, false, ◌==◌, List, [], ◌∷◌, ◌++◌, length, get_or, take, drop, Option, Result, Err, inl, inr, refl, ap, sym, subst, ◌∙◌, arith, map, zero, suc}
+use Rattle.std.proofs.Common.{◌≡◌, ◌⊎◌, ℕ, ◌<◌, Bool, true, false, ◌==◌, List, [], ◌∷◌, ◌++◌, length, get_or, take, drop, Option, Result, Err, inl}
+use Rattle.std.proofs.Common.{inr, refl, ap, sym, subst, ◌∙◌, arith, map, zero, suc}
 use Rattle.std.specs.Borrow.{Bor}
 use Rattle.std.proofs.lemmas.Bool.{false≢true}
 use Rattle.std.proofs.lemmas.List.{map-append}
@@ -14,18 +15,21 @@ use Rattle.icu_locale_extensions.specs.declared.syntax.Syntax.{Syntax}
 use Rattle.icu_locale_lines.specs.Lists.{is_space, listed, SpellsAll, SpellsIn, IsFault, IsFaultIn, IsFirstFault}
 
 -- one more at the end of both lists
-pub AllZip-push : {A B : Type 0} (P : A → B → Type 0) (xs : List A) (ys : List B) (x : A) (y : B) → AllZip P xs ys → P x y → AllZip P (xs ++ x ∷ []) (ys ++ y ∷ [])
+pub AllZip-push : {A B : Type 0} (P : A → B → Type 0) (xs : List A) (ys : List B) (x : A) (y : B) → AllZip P xs ys → P x y
+    → AllZip P (xs ++ x ∷ []) (ys ++ y ∷ [])
 AllZip-push P [] [] x y each one = (one, tt)
 AllZip-push P [] (b ∷ ys) x y each one = absurd each
 AllZip-push P (a ∷ xs) [] x y each one = absurd each
 AllZip-push P (a ∷ xs) (b ∷ ys) x y each one = (each.0, AllZip-push P xs ys x y each.1 one)
 
 -- one more text is read
-pub SpellsAll-push : (syntax : Option Syntax) (texts : List (Bor (List ℕ))) (old new : List LanguageIdentifier) (text : Bor (List ℕ)) (x : LanguageIdentifier) → SpellsAll syntax (map (λ t. t.now) texts) old → SpellsIn syntax text.now x → new ≡ old ++ x ∷ []
+pub SpellsAll-push : (syntax : Option Syntax) (texts : List (Bor (List ℕ))) (old new : List LanguageIdentifier) (text : Bor (List ℕ))
+    (x : LanguageIdentifier) → SpellsAll syntax (map (λ t. t.now) texts) old → SpellsIn syntax text.now x → new ≡ old ++ x ∷ []
     → SpellsAll syntax (map (λ t. t.now) (texts ++ text ∷ [])) new
 SpellsAll-push syntax texts old new text x each one pushed =
     subst (λ ts. SpellsAll syntax ts new) (sym (map-append (λ (t : Bor (List ℕ)). t.now) texts (text ∷ [])))
-    (subst (SpellsAll syntax (map (λ t. t.now) texts ++ text.now ∷ [])) (sym pushed) (AllZip-push (SpellsIn syntax) (map (λ t. t.now) texts) old text.now x each one))
+    (subst (SpellsAll syntax (map (λ t. t.now) texts ++ text.now ∷ [])) (sym pushed)
+    (AllZip-push (SpellsIn syntax) (map (λ t. t.now) texts) old text.now x each one))
 
 -- a line that is not empty is cut at each space
 pub listed_some : (line : List ℕ) → false ≡ (length line == 0) → listed line ≡ slice_split is_space line
@@ -69,7 +73,9 @@ fault_from_reading syntax t InvalidSubtag reads = inr (by (starts_by syntax t) r
 fault_from_reading syntax t Memory reads = inl refl
 
 -- the texts before the one in hand were read, and that one is refused
-pub refused_here : (syntax : Option Syntax) (texts : List (List ℕ)) (n : ℕ) (identifiers : List LanguageIdentifier) → SpellsAll syntax (take n texts) identifiers → n < length texts → (t : List ℕ) → t ≡ get_or texts n t → (e : ParseError) → (e ≡ Memory) ⊎ IsFaultIn syntax t e
+pub refused_here : (syntax : Option Syntax) (texts : List (List ℕ)) (n : ℕ) (identifiers : List LanguageIdentifier)
+    → SpellsAll syntax (take n texts) identifiers → n < length texts → (t : List ℕ) → t ≡ get_or texts n t → (e : ParseError) → (e ≡ Memory)
+    ⊎ IsFaultIn syntax t e
     → (e ≡ Memory) ⊎ IsFirstFault syntax texts e
 refused_here syntax texts n identifiers spelled low t here e (inl memory) = inl memory
 refused_here syntax texts n identifiers spelled low t here e (inr refusal) = inr (record {

@@ -1,5 +1,6 @@
 -- How a line that is a locale is cut and read.
-use Rattle.std.proofs.Common.{◌≡◌, ◌⊎◌, ◌↔◌, ℕ, ◌+◌, true, false, List, [], drop, Option, None, Some, Result, Ok, Err, IfOk, IfErr, inl, inr, refl, ap, sym, subst, ◌∙◌}
+use Rattle.std.proofs.Common.{◌≡◌, ◌⊎◌, ◌↔◌, ℕ, ◌+◌, true, false, List, [], drop, Option, None, Some, Result, Ok, Err, IfOk, IfErr, inl, inr, refl}
+use Rattle.std.proofs.Common.{ap, sym, subst, ◌∙◌}
 use Rattle.std.specs.List.{position}
 use Rattle.std.specs.Option.{option_map}
 use Rattle.std.proofs.lemmas.Bool.{true_from_ne_false}
@@ -39,15 +40,18 @@ pub readable_from_read : (text : List ℕ) (v : List (List ℕ)) → (done v ≡
 readable_from_read text v refused = true_from_ne_false (is_value text) (λ unreadable. subst is_done (refused.1 unreadable) tt)
 
 -- why a text was not read as a value
-pub refused_from_read : (text : List ℕ) (e : ParseError) → (failed e ≡ failed InvalidSubtag) ↔ (is_value text ≡ false) → (failed e ≡ failed InvalidLanguage → ⊥) → IsRefusedValue (Some text) e
+pub refused_from_read : (text : List ℕ) (e : ParseError) → (failed e ≡ failed InvalidSubtag) ↔ (is_value text ≡ false)
+    → (failed e ≡ failed InvalidLanguage → ⊥) → IsRefusedValue (Some text) e
 refused_from_read text Memory refused other = inl refl
 refused_from_read text InvalidSubtag refused other = inr (refused.0 refl, refl)
 refused_from_read text InvalidLanguage refused other = absurd (other refl)
 
 -- the locale of an identifier alone, with the value of a text put at `rg`
-pub overridden_from_parts : (x : LanguageIdentifier) (text : List ℕ) (plain : Locale) (value : List (List ℕ)) → plain.id ≡ x → plain.extensions.unicode.keywords ≡ [] → plain.extensions.transform.lang ≡ None
+pub overridden_from_parts : (x : LanguageIdentifier) (text : List ℕ) (plain : Locale) (value : List (List ℕ)) → plain.id ≡ x
+    → plain.extensions.unicode.keywords ≡ [] → plain.extensions.transform.lang ≡ None
     → value ≡ read_value text → is_value text ≡ true → (r : Result Locale ParseError)
-    → IfOk r (λ new. new.id ≡ plain.id) → IfOk r (λ new. new.extensions.unicode.keywords ≡ with_value plain.extensions.unicode.keywords rg value) → IfOk r (λ new. new.extensions.transform.lang ≡ plain.extensions.transform.lang)
+    → IfOk r (λ new. new.id ≡ plain.id) → IfOk r (λ new. new.extensions.unicode.keywords ≡ with_value plain.extensions.unicode.keywords rg
+    value) → IfOk r (λ new. new.extensions.transform.lang ≡ plain.extensions.transform.lang)
     → IfOk r (IsLocaleOf x (Some text))
 overridden_from_parts x text plain value id keywords transform read readable (Ok new) same put kept = record {
   readable = readable;
@@ -63,7 +67,8 @@ memory_alone text (Err e) h = inl h
 
 -- the parts of a line are read
 module _ (line t : List ℕ) (first : t ≡ identifier_text line) where
-  pub spelled_from_parts : (u : Option (List ℕ)) → u ≡ value_text line → (x : LanguageIdentifier) → IsIdentifier x × Spells t x → (r : Result Locale ParseError) → IfOk r (IsLocaleOf x u) → IfOk r (SpellsLocale line)
+  pub spelled_from_parts : (u : Option (List ℕ)) → u ≡ value_text line → (x : LanguageIdentifier) → IsIdentifier x × Spells t x
+      → (r : Result Locale ParseError) → IfOk r (IsLocaleOf x u) → IfOk r (SpellsLocale line)
   spelled_from_parts u behind x spelled (Ok new) made =
       let of = subst (λ v. IsLocaleOf x v new) behind made in
       record {
@@ -76,7 +81,8 @@ module _ (line t : List ℕ) (first : t ≡ identifier_text line) where
   spelled_from_parts u behind x spelled (Err e) made = tt
 
   -- the value is refused where the identifier was read
-  pub fault_from_value : (u : Option (List ℕ)) → u ≡ value_text line → (x : LanguageIdentifier) → IsIdentifier x × Spells t x → (r : Result Locale ParseError) → IfErr r (IsRefusedValue u) → IfErr r (λ e. (e ≡ Memory) ⊎ IsLocaleFault line e)
+  pub fault_from_value : (u : Option (List ℕ)) → u ≡ value_text line → (x : LanguageIdentifier) → IsIdentifier x × Spells t x
+      → (r : Result Locale ParseError) → IfErr r (IsRefusedValue u) → IfErr r (λ e. (e ≡ Memory) ⊎ IsLocaleFault line e)
   fault_from_value u behind x spelled (Ok new) h = tt
   fault_from_value u behind x spelled (Err e) (inl memory) = inl memory
   fault_from_value u behind x spelled (Err e) (inr fault) = inr (record {

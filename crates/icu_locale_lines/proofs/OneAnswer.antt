@@ -1,5 +1,6 @@
 -- A line has one answer at most.
-use Rattle.std.proofs.Common.{◌≡◌, ◌≢◌, ◌↔◌, ◌⊎◌, ℕ, ◌<◌, ◌≤◌, Bool, true, ◌&&◌, List, [], ◌∷◌, ◌++◌, map, Option, Some, None, Result, Ok, Err, refl, ap, sym, subst, ◌∙◌, inl, inr, arith}
+use Rattle.std.proofs.Common.{◌≡◌, ◌≢◌, ◌↔◌, ◌⊎◌, ℕ, ◌<◌, ◌≤◌, Bool, true, ◌&&◌, List, [], ◌∷◌, ◌++◌, map, Option, Some, None, Result, Ok, Err, refl}
+use Rattle.std.proofs.Common.{ap, sym, subst, ◌∙◌, inl, inr, arith}
 use Rattle.std.specs.Prelude.{slice_index_or, nat_le}
 use Rattle.std.specs.List.{list_all, slice_get}
 use Rattle.std.specs.Char.{is_ascii_alphabetic, to_ascii_lowercase}
@@ -39,7 +40,9 @@ use Rattle.icu_locale_lines.specs.Locales.{SpellsLocale, SpellsSome, IsLocaleFau
 use Rattle.icu_locale_lines.specs.Lists.{IsNegotiatedLine, TellsMatch, listed, SpellsAll, SpellsIn, IsFault, IsFaultIn}
 use Rattle.icu_locale_lines.specs.declared.work.form.Transform.{Transform}
 use Rattle.icu_locale_lines.specs.declared.work.form.Transform.TheVariants.{Maximize, Minimize, MinimizeScript}
-use Rattle.icu_locale_lines.specs.Answers.{IsAnswer, IsAnswerBy, IsForm, IsTransformed, IsDirected, IsNamed, IsCanonicalizedTo, IsIdentifierAnswer, IsLocaleAnswer, IsListAnswer, IsSpelledAnswer, IsWholeTransformed, IsWholeCanonicalized, with_id, with_locale}
+use Rattle.icu_locale_lines.specs.Answers.{IsAnswer, IsAnswerBy, IsForm, IsTransformed, IsDirected, IsNamed, IsCanonicalizedTo, IsIdentifierAnswer}
+use Rattle.icu_locale_lines.specs.Answers.{IsLocaleAnswer, IsListAnswer, IsSpelledAnswer, IsWholeTransformed, IsWholeCanonicalized, with_id}
+use Rattle.icu_locale_lines.specs.Answers.{with_locale}
 use Rattle.icu_locale_lines.specs.Names.{IsNamedLine, name_asked}
 use Rattle.icu_locale_lines.specs.Texts.{transformed_line, canonical_line, whole_line, refused_line, matched_line}
 
@@ -116,24 +119,30 @@ module _ (one two : List ℕ) (a b : Bool) where
   named_one (Ok pieces) h k = same h.0 k.0 refl h.1 k.1
   named_one (Err e) h k = same h.0 k.0 refl h.1 k.1
 
-  module _ (minimal_one : (favor : Favor) (table : LikelySubtags) (x y z : LanguageIdentifier) → IsMinimalForm favor table x y → IsMinimalForm favor table x z → y ≡ z) where
-    minimal_fits : (favor : Favor) (table : LikelySubtags) (x y z : LanguageIdentifier) (m n : TransformResult) → IsMinimalForm favor table x y × ((m ≡ Modified) ↔ (y ≢ x)) → IsMinimalForm favor table x z × ((n ≡ Modified) ↔ (z ≢ x)) → (y ≡ z) × (m ≡ n)
+  module _ (minimal_one : (favor : Favor) (table : LikelySubtags) (x y z : LanguageIdentifier) → IsMinimalForm favor table x y
+      → IsMinimalForm favor table x z → y ≡ z) where
+    minimal_fits : (favor : Favor) (table : LikelySubtags) (x y z : LanguageIdentifier) (m n : TransformResult)
+        → IsMinimalForm favor table x y × ((m ≡ Modified) ↔ (y ≢ x)) → IsMinimalForm favor table x z × ((n ≡ Modified) ↔ (z ≢ x)) → (y ≡ z) × (m ≡ n)
     minimal_fits favor table x y z m n p q =
         let e = minimal_one favor table x y z p.0 q.0 in
         (e, result_one m n p.1 (subst (λ w. (n ≡ Modified) ↔ (w ≢ x)) (sym e) q.1))
 
-    form_one : (form : Transform) (table : LikelySubtags) (x y z : LanguageIdentifier) (m n : TransformResult) → IsForm form table x y m → IsForm form table x z n → (y ≡ z) × (m ≡ n)
+    form_one : (form : Transform) (table : LikelySubtags) (x y z : LanguageIdentifier) (m n : TransformResult) → IsForm form table x y m
+        → IsForm form table x z n → (y ≡ z) × (m ≡ n)
     form_one Maximize table x y z m n p q = (p.0 ∙ sym q.0, result_one m n p.1 q.1)
     form_one Minimize table x y z m n p q = minimal_fits RegionFirst table x y z m n p q
     form_one MinimizeScript table x y z m n p q = minimal_fits ScriptFirst table x y z m n p q
 
-    transformed_one : (form : Transform) (table : LikelySubtags) (x : LanguageIdentifier) → IsTransformed form table x one a → IsTransformed form table x two b → SameAnswer one two a b
+    transformed_one : (form : Transform) (table : LikelySubtags) (x : LanguageIdentifier) → IsTransformed form table x one a
+        → IsTransformed form table x two b → SameAnswer one two a b
     transformed_one form table x h k =
         let e = form_one form table x h.0 k.0 h.1 k.1 h.2 k.2 in
         same h.3 k.3 (λ i. transformed_line (e.0 i) (e.1 i)) h.4 k.4
 
   -- the answer to an identifier is one where its line is
-  identifier_one : (spelled_once : (t : List ℕ) (x y : LanguageIdentifier) → IsIdentifier x → IsIdentifier y → Spells t x → Spells t y → x ≡ y) (IsLine : LanguageIdentifier → List ℕ → Bool → Type 0) → ((x : LanguageIdentifier) → IsLine x one a → IsLine x two b → SameAnswer one two a b) → (line : List ℕ) → IsIdentifierAnswer IsLine line one a → IsIdentifierAnswer IsLine line two b → SameAnswer one two a b
+  identifier_one : (spelled_once : (t : List ℕ) (x y : LanguageIdentifier) → IsIdentifier x → IsIdentifier y → Spells t x → Spells t y
+      → x ≡ y) (IsLine : LanguageIdentifier → List ℕ → Bool → Type 0) → ((x : LanguageIdentifier) → IsLine x one a → IsLine x two b
+      → SameAnswer one two a b) → (line : List ℕ) → IsIdentifierAnswer IsLine line one a → IsIdentifierAnswer IsLine line two b → SameAnswer one two a b
   identifier_one spelled_once IsLine line_one line (inl h) (inl k) =
       let e = spelled_once line h.0 k.0 h.1 k.1 h.2 k.2 in
       line_one k.0 (subst (λ x. IsLine x one a) e h.3) k.3
@@ -149,10 +158,12 @@ pub record CanonicalFacts (likely : LikelySubtags) (rules : Rules) : Type 0 wher
   pub apart : (old : Locale) (z : LanguageIdentifier) (v : List (List ℕ)) → ComesAgainFirst likely rules old z → ValueComesAgainFirst likely rules old v → ⊥
 
 module _ (line_of : Locale → TransformResult → List ℕ) (likely : LikelySubtags) (rules : Rules) (facts : CanonicalFacts likely rules) (old : Locale) where
-  canonical_line_one : (m : TransformResult) (new other : Locale) → IsCanonical likely rules old new → IsCanonical likely rules old other → line_of new m ≡ line_of other m
+  canonical_line_one : (m : TransformResult) (new other : Locale) → IsCanonical likely rules old new → IsCanonical likely rules old other
+      → line_of new m ≡ line_of other m
   canonical_line_one m new other c d = ap (λ l. line_of l m) (facts.one old new other c d)
 
-  canonicalized_one : (one two : List ℕ) (a b : Bool) → IsCanonicalizedTo line_of likely rules old one a → IsCanonicalizedTo line_of likely rules old two b → SameAnswer one two a b
+  canonicalized_one : (one two : List ℕ) (a b : Bool) → IsCanonicalizedTo line_of likely rules old one a
+      → IsCanonicalizedTo line_of likely rules old two b → SameAnswer one two a b
   canonicalized_one one two a b (inl h) (inl k) = same h.2 k.2 (canonical_line_one _ h.0 k.0 h.1 k.1) h.3 k.3
   canonicalized_one one two a b (inl h) (inr (inl k)) = absurd (facts.refused old h.0 (NoFixedPoint k.0) h.1 k.1)
   canonicalized_one one two a b (inl h) (inr (inr k)) = absurd (facts.refused old h.0 (NoSubdivisionFixedPoint k.0) h.1 k.1)
@@ -171,7 +182,8 @@ first_one i j k l (inr p) (inr q) = (p.0, omega (arith, p.1, q.1))
 
 -- what is negotiated is one
 module _ (table : LikelySubtags) (requests available : List LanguageIdentifier) (one two : List ℕ) where
-  negotiated_one : (found other : Option (ℕ × ℕ)) → IsNegotiated table requests available found → IsNegotiated table requests available other → TellsMatch available found one → TellsMatch available other two → one ≡ two
+  negotiated_one : (found other : Option (ℕ × ℕ)) → IsNegotiated table requests available found
+      → IsNegotiated table requests available other → TellsMatch available found one → TellsMatch available other two → one ≡ two
   negotiated_one None None p q h k = h ∙ sym k
   negotiated_one None (Some n) p q h k = absurd (p n.0 n.1 q.matches)
   negotiated_one (Some m) None p q h k = absurd (q m.0 m.1 p.matches)
@@ -209,15 +221,18 @@ module _ (spelled_once : (t : List ℕ) (x y : LanguageIdentifier) → IsIdentif
       by (inr r) (inr s) = r.1.1 ∙ sym s.1.1
 
   module _ (one two : List ℕ) (a b : Bool) where
-    locale_answer_one : (likely : LikelySubtags) (rules : Rules) → CanonicalFacts likely rules → (line : List ℕ) → IsLocaleAnswer likely rules line one a → IsLocaleAnswer likely rules line two b → SameAnswer one two a b
+    locale_answer_one : (likely : LikelySubtags) (rules : Rules) → CanonicalFacts likely rules → (line : List ℕ)
+        → IsLocaleAnswer likely rules line one a → IsLocaleAnswer likely rules line two b → SameAnswer one two a b
     locale_answer_one likely rules facts line (inl h) (inl k) =
-        canonicalized_one canonical_line likely rules facts k.0 one two a b (subst (λ old. IsCanonicalizedTo canonical_line likely rules old one a) (locale_one line h.0 k.0 h.1 k.1) h.2) k.2
+        canonicalized_one canonical_line likely rules facts k.0 one two a b (subst
+        (λ old. IsCanonicalizedTo canonical_line likely rules old one a) (locale_one line h.0 k.0 h.1 k.1) h.2) k.2
     locale_answer_one likely rules facts line (inl h) (inr k) = absurd (no_locale_fault line h.0 k.0 h.1 k.1)
     locale_answer_one likely rules facts line (inr h) (inl k) = absurd (no_locale_fault line k.0 h.0 k.1 h.1)
     locale_answer_one likely rules facts line (inr h) (inr k) =
         same h.2 k.2 (ap (λ e. refused_line (parse_error_name e)) (locale_fault_one line h.0 k.0 h.1 k.1)) h.3 k.3
 
-  module _ (whole_once : (s : Syntax) (t : List ℕ) (x y : LocaleIdentifier) → IsLocaleIdentifier x → IsLocaleIdentifier y → SpellsBy s t x → SpellsBy s t y → x ≡ y)
+  module _ (whole_once : (s : Syntax) (t : List ℕ) (x y : LocaleIdentifier) → IsLocaleIdentifier x → IsLocaleIdentifier y → SpellsBy s t x
+      → SpellsBy s t y → x ≡ y)
       (nothing : (s : Syntax) (t : List ℕ) (e : ParseError) (x : LocaleIdentifier) → IsFaultBy s t e → IsLocaleIdentifier x → ¬ (SpellsBy s t x)) where
     -- why a text spells no locale identifier is told by the text
     fault_by_one : (s : Syntax) (t : List ℕ) (e f : ParseError) → IsFaultBy s t e → IsFaultBy s t f → e ≡ f
@@ -230,7 +245,9 @@ module _ (spelled_once : (t : List ℕ) (x y : LanguageIdentifier) → IsIdentif
     fault_by_one s t Memory f p q = absurd p
 
     -- the answer to a locale identifier is one where its line is
-    spelled_one : (one two : List ℕ) (a b : Bool) (s : Syntax) (IsLine : LocaleIdentifier → List ℕ → Bool → Type 0) → ((x : LocaleIdentifier) → IsLine x one a → IsLine x two b → SameAnswer one two a b) → (line : List ℕ) → IsSpelledAnswer s IsLine line one a → IsSpelledAnswer s IsLine line two b → SameAnswer one two a b
+    spelled_one : (one two : List ℕ) (a b : Bool) (s : Syntax) (IsLine : LocaleIdentifier → List ℕ → Bool → Type 0)
+        → ((x : LocaleIdentifier) → IsLine x one a → IsLine x two b → SameAnswer one two a b) → (line : List ℕ)
+        → IsSpelledAnswer s IsLine line one a → IsSpelledAnswer s IsLine line two b → SameAnswer one two a b
     spelled_one one two a b s IsLine line_one line (inl h) (inl k) =
         let e = whole_once s line h.0 k.0 h.1 k.1 h.2 k.2 in
         line_one k.0 (subst (λ x. IsLine x one a) e h.3) k.3
@@ -265,14 +282,16 @@ module _ (spelled_once : (t : List ℕ) (x y : LanguageIdentifier) → IsIdentif
         λ i. e i ∷ others i
 
     -- texts that all spell identifiers have no fault
-    pub no_fault : (s : Option Syntax) (earlier : List (List ℕ)) (text : List ℕ) (later : List (List ℕ)) (e : ParseError) (xs : List LanguageIdentifier) → SpellsAll s (earlier ++ text ∷ later) xs → IsFaultIn s text e → ⊥
+    pub no_fault : (s : Option Syntax) (earlier : List (List ℕ)) (text : List ℕ) (later : List (List ℕ)) (e : ParseError)
+        (xs : List LanguageIdentifier) → SpellsAll s (earlier ++ text ∷ later) xs → IsFaultIn s text e → ⊥
     no_fault s [] text later e [] p why = p
     no_fault s [] text later e (x ∷ xs) p why = not_refused_in s text x e p.0 why
     no_fault s (t ∷ ts) text later e [] p why = p
     no_fault s (t ∷ ts) text later e (x ∷ xs) p why = no_fault s ts text later e xs p.1 why
 
     -- the first fault is one
-    fault_one : (s : Option Syntax) (ps : List (List ℕ)) (t : List ℕ) (bs cs : List (List ℕ)) (u : List ℕ) (ds : List (List ℕ)) (e f : ParseError) (xs ys : List LanguageIdentifier) → ps ++ t ∷ bs ≡ cs ++ u ∷ ds
+    fault_one : (s : Option Syntax) (ps : List (List ℕ)) (t : List ℕ) (bs cs : List (List ℕ)) (u : List ℕ) (ds : List (List ℕ))
+        (e f : ParseError) (xs ys : List LanguageIdentifier) → ps ++ t ∷ bs ≡ cs ++ u ∷ ds
         → SpellsAll s ps xs → SpellsAll s cs ys → IsFaultIn s t e → IsFaultIn s u f → e ≡ f
     fault_one s [] t bs [] u ds e f xs ys is p q r k = fault_in_one s u e f (subst (λ w. IsFaultIn s w e) (ap first_of is) r) k
     fault_one s [] t bs (c ∷ cs) u ds e f xs [] is p q r k = absurd q
@@ -283,7 +302,8 @@ module _ (spelled_once : (t : List ℕ) (x y : LanguageIdentifier) → IsIdentif
     fault_one s (g ∷ ps) t bs (c ∷ cs) u ds e f (x ∷ xs) [] is p q r k = absurd q
     fault_one s (g ∷ ps) t bs (c ∷ cs) u ds e f (x ∷ xs) (y ∷ ys) is p q r k = fault_one s ps t bs cs u ds e f xs ys (ap others_of is) p.1 q.1 r k
 
-    list_answer_one : (s : Option Syntax) (one two : List ℕ) (a b : Bool) (n : Negotiation) (line : List ℕ) → IsListAnswer s n line one a → IsListAnswer s n line two b → SameAnswer one two a b
+    list_answer_one : (s : Option Syntax) (one two : List ℕ) (a b : Bool) (n : Negotiation) (line : List ℕ) → IsListAnswer s n line one a
+        → IsListAnswer s n line two b → SameAnswer one two a b
     list_answer_one s one two a b n line (inl h) (inl k) =
         let requests = all_one s (listed line) h.0 k.0 h.1 k.1 in
         let line : IsNegotiatedLine n k.0 one = subst (λ xs. IsNegotiatedLine n xs one) requests h.2 in
@@ -297,18 +317,23 @@ module _ (spelled_once : (t : List ℕ) (x y : LanguageIdentifier) → IsIdentif
     list_answer_one s one two a b n line (inr h) (inr k) =
         let f = h.1 in
         let g = k.1 in
-        let e = fault_one s f.earlier f.text f.later g.earlier g.text g.later h.0 k.0 f.identifiers g.identifiers (sym f.parted ∙ g.parted) f.spelled g.spelled f.refused g.refused in
+        let e = fault_one s f.earlier f.text f.later g.earlier g.text g.later h.0 k.0 f.identifiers g.identifiers
+        (sym f.parted ∙ g.parted) f.spelled g.spelled f.refused g.refused in
         same h.2 k.2 (ap (λ e. refused_line (parse_error_name e)) e) h.3 k.3
 
-    module _ (minimal_one : (favor : Favor) (table : LikelySubtags) (x y z : LanguageIdentifier) → IsMinimalForm favor table x y → IsMinimalForm favor table x z → y ≡ z) (facts : (likely : LikelySubtags) (rules : Rules) → CanonicalFacts likely rules) (line one two : List ℕ) (a b : Bool) where
+    module _ (minimal_one : (favor : Favor) (table : LikelySubtags) (x y z : LanguageIdentifier) → IsMinimalForm favor table x y
+        → IsMinimalForm favor table x z → y ≡ z) (facts : (likely : LikelySubtags) (rules : Rules) → CanonicalFacts likely rules)
+        (line one two : List ℕ) (a b : Bool) where
       plain_one : (work : Tools) → IsAnswerBy None work line one a → IsAnswerBy None work line two b → SameAnswer one two a b
-      plain_one (tools.Transform form e) h k = identifier_one one two a b spelled_once (IsTransformed form (likely e)) (transformed_one one two a b minimal_one form (likely e)) line h k
+      plain_one (tools.Transform form e) h k = identifier_one one two a b spelled_once (IsTransformed form (likely e))
+          (transformed_one one two a b minimal_one form (likely e)) line h k
       plain_one (tools.Canonicalize c) h k = locale_answer_one one two a b (likely c.expander) c.rules (facts (likely c.expander) c.rules) line h k
       plain_one (tools.Direction d) h k = identifier_one one two a b spelled_once (IsDirected d) (λ x p q. same p.0 q.0 refl p.1 q.1) line h k
       plain_one (tools.Negotiate n) h k = list_answer_one None one two a b n line h k
       plain_one (tools.Name n) h k = identifier_one one two a b spelled_once (IsNamed n) (λ x p q. named_one one two a b (name_asked n x) p q) line h k
 
-      whole_transformed_one : (form : Transform) (table : LikelySubtags) (x : LocaleIdentifier) → IsWholeTransformed form table x one a → IsWholeTransformed form table x two b → SameAnswer one two a b
+      whole_transformed_one : (form : Transform) (table : LikelySubtags) (x : LocaleIdentifier) → IsWholeTransformed form table x one a
+          → IsWholeTransformed form table x two b → SameAnswer one two a b
       whole_transformed_one form table x h k =
           let e = form_one one two a b minimal_one form table x.locale.id h.0 k.0 h.1 k.1 h.2 k.2 in
           same h.3 k.3 (λ i. whole_line (with_id x (e.0 i)) (e.1 i)) h.4 k.4
@@ -316,10 +341,13 @@ module _ (spelled_once : (t : List ℕ) (x y : LanguageIdentifier) → IsIdentif
       whole_one : (s : Syntax) (work : Tools) → IsAnswerBy (Some s) work line one a → IsAnswerBy (Some s) work line two b → SameAnswer one two a b
       whole_one s (tools.Transform form e) h k = spelled_one one two a b s (IsWholeTransformed form (likely e)) (whole_transformed_one form (likely e)) line h k
       whole_one s (tools.Canonicalize c) h k =
-          spelled_one one two a b s (IsWholeCanonicalized (likely c.expander) c.rules) (λ x p q. canonicalized_one (λ new m. whole_line (with_locale x new) m) (likely c.expander) c.rules (facts (likely c.expander) c.rules) x.locale one two a b p q) line h k
+          spelled_one one two a b s (IsWholeCanonicalized (likely c.expander) c.rules)
+          (λ x p q. canonicalized_one (λ new m. whole_line (with_locale x new) m) (likely c.expander) c.rules
+          (facts (likely c.expander) c.rules) x.locale one two a b p q) line h k
       whole_one s (tools.Direction d) h k = spelled_one one two a b s (λ x. IsDirected d x.locale.id) (λ x p q. same p.0 q.0 refl p.1 q.1) line h k
       whole_one s (tools.Negotiate n) h k = list_answer_one (Some s) one two a b n line h k
-      whole_one s (tools.Name n) h k = spelled_one one two a b s (λ x. IsNamed n x.locale.id) (λ x p q. named_one one two a b (name_asked n x.locale.id) p q) line h k
+      whole_one s (tools.Name n) h k = spelled_one one two a b s (λ x. IsNamed n x.locale.id)
+          (λ x p q. named_one one two a b (name_asked n x.locale.id) p q) line h k
 
       pub answer_one : (work : Work) → IsAnswer work line one a → IsAnswer work line two b → SameAnswer one two a b
       answer_one work h k = by work.syntax h k

@@ -1,5 +1,6 @@
 -- How far a run has come.
-use Rattle.std.proofs.Common.{◌≡◌, ◌≢◌, ◌↔◌, ◌<◌, ◌≤◌, ℕ, Bool, true, false, ◌&&◌, List, [], ◌∷◌, ◌++◌, length, take, drop, Option, ⊎_elim, refl, ap, sym, subst, ◌∙◌, append_assoc, append-nil, length-drop, arith}
+use Rattle.std.proofs.Common.{◌≡◌, ◌≢◌, ◌↔◌, ◌<◌, ◌≤◌, ℕ, Bool, true, false, ◌&&◌, List, [], ◌∷◌, ◌++◌, length, take, drop, Option, ⊎_elim, refl, ap}
+use Rattle.std.proofs.Common.{sym, subst, ◌∙◌, append_assoc, append-nil, length-drop, arith}
 use Rattle.std.specs.List.{AllZip}
 use Rattle.std.specs.Io.KnownBytes.{Appends}
 use Rattle.std.proofs.KnownBytes.{Appends-nil, Appends-trans}
@@ -31,7 +32,8 @@ pub record Progress (work : Work) (input : List ℕ) (old new : Option (List ℕ
   pub whole : text_of_lines answers ≡ sent ++ pending
   pub status_is : (status ≡ Accepted) ↔ (all_accepted answers ≡ true)
 
-text_of-push : (answers : List (List ℕ × Bool)) (text : List ℕ) (accepted : Bool) → text_of_lines (answers ++ (text, accepted) ∷ []) ≡ text_of_lines answers ++ text
+text_of-push : (answers : List (List ℕ × Bool)) (text : List ℕ) (accepted : Bool)
+    → text_of_lines (answers ++ (text, accepted) ∷ []) ≡ text_of_lines answers ++ text
 text_of-push answers text accepted = flat_map-append (λ a. a.0) answers ((text, accepted) ∷ []) ∙ ap (λ t. text_of_lines answers ++ t) (append-nil text)
 
 and_true : (a b : Bool) → (a && (b && true)) ≡ true → (a ≡ true) × (b ≡ true)
@@ -120,7 +122,8 @@ Progress-start work input old = record {
 
 module _ (work : Work) (input : List ℕ) (old mid : Option (List ℕ)) (pending : List ℕ) (status : Status) where
   -- one more line
-  pub Progress-more : (line : List ℕ) (rest : List (List ℕ)) → Progress work input old mid pending status (line ∷ rest) → (accepted : Bool) (new : List ℕ) → AddsLine (IsAnswer work line) pending new accepted
+  pub Progress-more : (line : List ℕ) (rest : List (List ℕ)) → Progress work input old mid pending status (line ∷ rest)
+      → (accepted : Bool) (new : List ℕ) → AddsLine (IsAnswer work line) pending new accepted
       → (later : Status) → (later ≡ Accepted) ↔ ((status ≡ Accepted) × (accepted ≡ true)) → Progress work input old mid new later rest
   Progress-more line rest before accepted new adds later after = record {
     answered = before.answered ++ line ∷ [];
@@ -129,10 +132,13 @@ module _ (work : Work) (input : List ℕ) (old mid : Option (List ℕ)) (pending
     each = AllZip-push (λ line a. IsAnswer work line a.0 a.1) before.answered before.answers line (adds.line, accepted) before.each adds.is;
     sent = before.sent;
     written = before.written;
-    whole = text_of-push before.answers adds.line accepted ∙ ap (λ t. t ++ adds.line) before.whole ∙ append_assoc before.sent pending adds.line ∙ ap (λ t. before.sent ++ t) (sym adds.added);
+    whole = text_of-push before.answers adds.line accepted ∙ ap (λ t. t ++ adds.line) before.whole
+        ∙ append_assoc before.sent pending adds.line ∙ ap (λ t. before.sent ++ t) (sym adds.added);
     status_is = (
-      λ e. let both = after.0 e in list_all-append was_accepted before.answers ((adds.line, accepted) ∷ []) ∙ true_and (all_accepted before.answers) accepted (before.status_is.0 both.0) both.1,
-      λ e. let both = and_true (all_accepted before.answers) accepted (sym (list_all-append was_accepted before.answers ((adds.line, accepted) ∷ [])) ∙ e) in after.1 (before.status_is.1 both.0, both.1),
+      λ e. let both = after.0 e in list_all-append was_accepted before.answers ((adds.line, accepted) ∷ [])
+          ∙ true_and (all_accepted before.answers) accepted (before.status_is.0 both.0) both.1,
+      λ e. let both = and_true (all_accepted before.answers) accepted (sym (list_all-append was_accepted before.answers
+          ((adds.line, accepted) ∷ [])) ∙ e) in after.1 (before.status_is.1 both.0, both.1),
     );
   }
 
@@ -158,14 +164,16 @@ module _ (work : Work) (input : List ℕ) (old mid : Option (List ℕ)) (pending
         parted = before.parted;
         answers = before.answers;
         each = before.each;
-        written = subst (Appends old new) (sym (append-nil (text_of_lines before.answers) ∙ before.whole)) (Appends-trans old mid new before.sent pending before.written appended);
+        written = subst (Appends old new) (sym (append-nil (text_of_lines before.answers) ∙ before.whole))
+            (Appends-trans old mid new before.sent pending before.written appended);
       },
     )
 
     pub WritesAll-sent : rest ≡ [] → Appends mid new pending → WritesAll work input old new status
     WritesAll-sent none appended = record {
       answers = before.answers;
-      each = subst (λ ls. AreAnswers work ls before.answers) (sym (before.parted ∙ ap (λ r. before.answered ++ r) none ∙ append-nil before.answered)) before.each;
+      each = subst (λ ls. AreAnswers work ls before.answers) (sym (before.parted ∙ ap (λ r. before.answered ++ r) none
+          ∙ append-nil before.answered)) before.each;
       written = subst (Appends old new) (sym before.whole) (Appends-trans old mid new before.sent pending before.written appended);
       status_is = before.status_is;
     }
@@ -173,9 +181,11 @@ module _ (work : Work) (input : List ℕ) (old mid : Option (List ℕ)) (pending
     -- a failed write leaves whole lines and a beginning of the next
     pub WritesPart-from_part : AppendsPart mid new pending → WritesPart work input old new
     WritesPart-from_part part =
-        let whole : text_of_lines before.answers ≡ (before.sent ++ part.written) ++ part.left = before.whole ∙ ap (λ p. before.sent ++ p) part.parted ∙ sym (append_assoc before.sent part.written part.left) in
+        let whole : text_of_lines before.answers ≡ (before.sent ++ part.written) ++ part.left = before.whole
+        ∙ ap (λ p. before.sent ++ p) part.parted ∙ sym (append_assoc before.sent part.written part.left) in
         let within = cut_within before.answers (before.sent ++ part.written) part.left whole part.short in
-        let (first, line, later, parted, zipped, one) = zip_cut (λ line a. IsAnswer work line a.0 a.1) before.answered within.before within.answer within.after (subst (AreAnswers work before.answered) within.parted before.each) in
+        let (first, line, later, parted, zipped, one) = zip_cut (λ line a. IsAnswer work line a.0 a.1) before.answered within.before
+        within.answer within.after (subst (AreAnswers work before.answered) within.parted before.each) in
         record {
           line = line;
           rest = later ++ rest;

@@ -13,18 +13,22 @@ use Rattle.icu_locale_lines.specs.declared.work.Work.{Work}
 use Rattle.icu_locale_lines.specs.Lines.{Stream}
 use Rattle.icu_locale_lines.specs.Runs.{ReadsAll, WritesAll, WritesWholeLines, WritesPart}
 use Rattle.icu_locale_lines.specs.Commands.{text_answered, IsWorkOf}
-use Rattle.icu_locale_lines.specs.WholeRuns.{WritesLines, WritesUntil, StopsAmongLines, StopsLines, IsRun, IsRefusedRun, IsRefusedOutput, ReadsTables, IsRefusedJsonRun}
+use Rattle.icu_locale_lines.specs.WholeRuns.{WritesLines, WritesUntil, StopsAmongLines, StopsLines, IsRun, IsRefusedRun, IsRefusedOutput, ReadsTables}
+use Rattle.icu_locale_lines.specs.WholeRuns.{IsRefusedJsonRun}
 
 module _ (t : Tables) (wrote wrote' read read' : Stream) (r : Result Status CliError) where
   -- lines of an input that was read
-  pub lines_run : (c : LineCommand) (input : List ℕ) → ReadsAll read read' input → IfOk r (WritesLines c t input wrote wrote') → IfOk r (IsRun (Lines c) t read read' wrote wrote')
+  pub lines_run : (c : LineCommand) (input : List ℕ) → ReadsAll read read' input → IfOk r (WritesLines c t input wrote wrote')
+      → IfOk r (IsRun (Lines c) t read read' wrote wrote')
   lines_run c input all h = IfOk-weaker r _ _ (λ s h. (input, all, h)) h
 
-  pub lines_refused : (c : LineCommand) (input : List ℕ) → ReadsAll read read' input → IfErr r (StopsLines c t input wrote wrote') → IfErr r (IsRefusedRun (Lines c) t read read' wrote wrote')
+  pub lines_refused : (c : LineCommand) (input : List ℕ) → ReadsAll read read' input → IfErr r (StopsLines c t input wrote wrote')
+      → IfErr r (IsRefusedRun (Lines c) t read read' wrote wrote')
   lines_refused c input all h = IfErr-weaker r _ _ (λ e h. inr (inr (input, all, h))) h
 
   -- output over the tables of its first line
-  pub json_refused : (c : Command) (rest : List ℕ) → ReadsTables read read' t rest → IfErr r (IsRefusedOutput c t rest wrote wrote') → IfErr r (IsRefusedJsonRun c read read' wrote wrote')
+  pub json_refused : (c : Command) (rest : List ℕ) → ReadsTables read read' t rest → IfErr r (IsRefusedOutput c t rest wrote wrote')
+      → IfErr r (IsRefusedJsonRun c read read' wrote wrote')
   json_refused c rest reads h = IfErr-weaker r _ _ (λ e h. inr (inr (t, rest, reads, h))) h
 
 module _ (c : LineCommand) (t : Tables) (input : List ℕ) (wrote wrote' : Stream) where
@@ -41,7 +45,8 @@ module _ (c : LineCommand) (t : Tables) (input : List ℕ) (wrote wrote' : Strea
   no_unsettled (inr h) = h.left
 
 -- the work of a command on an input, and the text whose lines it answers
-module _ (c : LineCommand) (t : Tables) (input : List ℕ) (work : Work) (work_of : IsWorkOf c t input work) (text : List ℕ) (answered : text_answered c input ≡ text) (wrote wrote' : Option (List ℕ)) (r : Result Status CliError) where
+module _ (c : LineCommand) (t : Tables) (input : List ℕ) (work : Work) (work_of : IsWorkOf c t input work) (text : List ℕ)
+    (answered : text_answered c input ≡ text) (wrote wrote' : Option (List ℕ)) (r : Result Status CliError) where
   pub lines_written : IfOk r (WritesAll work text wrote wrote') → IfOk r (WritesLines c t input wrote wrote')
   lines_written h = by r h
     where
@@ -52,10 +57,13 @@ module _ (c : LineCommand) (t : Tables) (input : List ℕ) (work : Work) (work_o
   stops : (e : CliError) → WritesUntil e work text wrote wrote' → StopsAmongLines c t input wrote wrote' e
   stops e left = record { work = work; work_of = work_of; left = subst (λ x. WritesUntil e work x wrote wrote') (sym answered) left }
 
-  pub lines_stopped : IfErr r (λ e. (e ≡ Memory) ⊎ (e ≡ Write)) → (r ≡ Err Memory → WritesWholeLines work text wrote wrote') → (r ≡ Err Write → WritesPart work text wrote wrote') → IfErr r (StopsLines c t input wrote wrote')
+  pub lines_stopped : IfErr r (λ e. (e ≡ Memory) ⊎ (e ≡ Write)) → (r ≡ Err Memory → WritesWholeLines work text wrote wrote')
+      → (r ≡ Err Write → WritesPart work text wrote wrote') → IfErr r (StopsLines c t input wrote wrote')
   lines_stopped which memory write = by r which memory write
     where
-      by : (s : Result Status CliError) → IfErr s (λ e. (e ≡ Memory) ⊎ (e ≡ Write)) → (s ≡ Err Memory → WritesWholeLines work text wrote wrote') → (s ≡ Err Write → WritesPart work text wrote wrote') → IfErr s (StopsLines c t input wrote wrote')
+      by : (s : Result Status CliError) → IfErr s (λ e. (e ≡ Memory) ⊎ (e ≡ Write))
+          → (s ≡ Err Memory → WritesWholeLines work text wrote wrote') → (s ≡ Err Write → WritesPart work text wrote wrote')
+          → IfErr s (StopsLines c t input wrote wrote')
       by (Ok s) which memory write = tt
       by (Err e) (inl is) memory write = inr (stops e (subst (λ x. WritesUntil x work text wrote wrote') (sym is) (memory (ap Err is))))
       by (Err e) (inr is) memory write = inr (stops e (subst (λ x. WritesUntil x work text wrote wrote') (sym is) (write (ap Err is))))

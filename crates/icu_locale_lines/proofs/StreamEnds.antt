@@ -1,5 +1,6 @@
 -- How the ends of a stream's parts make the ends of the stream.
-use Rattle.std.proofs.Common.{◌≡◌, ℕ, Bool, false, List, [], ◌∷◌, ◌++◌, Option, Some, None, Result, Ok, Err, IfOk, IfErr, inl, inr, refl, ap, sym, subst, ◌∙◌, append_assoc, append-nil}
+use Rattle.std.proofs.Common.{◌≡◌, ℕ, Bool, false, List, [], ◌∷◌, ◌++◌, Option, Some, None, Result, Ok, Err, IfOk, IfErr, inl, inr, refl, ap, sym}
+use Rattle.std.proofs.Common.{subst, ◌∙◌, append_assoc, append-nil}
 use Rattle.std.specs.List.{list_any}
 use Rattle.std.specs.Io.KnownBytes.{Consumes, IsAtEnd, prepend_known}
 use Rattle.std.proofs.KnownBytes.{Consumes-trans}
@@ -26,7 +27,8 @@ use Rattle.icu_locale_lines.specs.Lines.{is_line_feed, first_line, after_first_l
 use Rattle.icu_locale_lines.specs.Lists.{listed, SpellsAll}
 use Rattle.icu_locale_lines.specs.Loads.{IsExpanderOf}
 use Rattle.icu_locale_lines.specs.Runs.{ReadsAll, WritesAll}
-use Rattle.icu_locale_lines.specs.Streams.{StopsStream, StopsAmong, StopsLoaded, IsRefusedStream, ReadsLine, ReadsTablesLine, LeavesBehind, IsJsonStream, IsRefusedJsonStream}
+use Rattle.icu_locale_lines.specs.Streams.{StopsStream, StopsAmong, StopsLoaded, IsRefusedStream, ReadsLine, ReadsTablesLine, LeavesBehind}
+use Rattle.icu_locale_lines.specs.Streams.{IsJsonStream, IsRefusedJsonStream}
 use Rattle.icu_locale_lines.specs.WholeRuns.{IsRunFrom}
 use Rattle.icu_locale_lines.specs.Commands.{IsWorkOf, text_answered}
 use Rattle.icu_locale_lines.proofs.FirstLines.{place_of_end, alone}
@@ -43,7 +45,8 @@ ended_alone rest None end = tt
 ended_alone [] (Some xs) end = end
 ended_alone (c ∷ rest) (Some xs) end = absurd (cc)
 
-consumed_alone : (rest : List ℕ) (read start : Stream) (bs : List ℕ) → IsAtEnd (prepend_known rest read) → Consumes start (prepend_known rest read) bs → Consumes start read bs
+consumed_alone : (rest : List ℕ) (read start : Stream) (bs : List ℕ) → IsAtEnd (prepend_known rest read)
+    → Consumes start (prepend_known rest read) bs → Consumes start read bs
 consumed_alone rest None start bs end all = all
 consumed_alone [] (Some xs) start bs end all = all
 consumed_alone (c ∷ rest) (Some xs) start bs end all = absurd (cc)
@@ -60,13 +63,16 @@ module _ (syntax : Option Syntax) (line : List ℕ) (none : list_any is_line_fee
   pub answered_behind : (text : List ℕ) → text_answered (asked syntax) ((line ++ 10 ∷ []) ++ text) ≡ text
   answered_behind text = ap after_first_line (append_assoc line (10 ∷ []) text) ∙ (place_of_end line text none).1
 
-  pub listed_behind : (t : Tables) (n : Negotiation) → IsExpanderOf t n.expander → AreSettled (likely n.expander) → SpellsAll syntax (listed line) n.available → (text : List ℕ) → IsWorkOf (asked syntax) t ((line ++ 10 ∷ []) ++ text) (work_over syntax n)
+  pub listed_behind : (t : Tables) (n : Negotiation) → IsExpanderOf t n.expander → AreSettled (likely n.expander)
+      → SpellsAll syntax (listed line) n.available → (text : List ℕ) → IsWorkOf (asked syntax) t ((line ++ 10 ∷ []) ++ text) (work_over syntax n)
   listed_behind t n over settled spelled text =
       let first = ap first_line (append_assoc line (10 ∷ []) text) ∙ (place_of_end line text none).0 in
       record { syntax = refl; tools = (over, settled, subst (λ l. SpellsAll syntax (listed l) n.available) (sym first) spelled) }
 
   -- where the input ended with that line, nothing is answered
-  pub ended_run : (t : Tables) (n : Negotiation) → IsExpanderOf t n.expander → AreSettled (likely n.expander) → SpellsAll syntax (listed line) n.available → (start read wrote : Stream) (rest : List ℕ) → IsAtEnd (prepend_known rest read) → Consumes start (prepend_known rest read) (line ++ [])
+  pub ended_run : (t : Tables) (n : Negotiation) → IsExpanderOf t n.expander → AreSettled (likely n.expander)
+      → SpellsAll syntax (listed line) n.available → (start read wrote : Stream) (rest : List ℕ) → IsAtEnd (prepend_known rest read)
+      → Consumes start (prepend_known rest read) (line ++ [])
       → (left : Stream) → IsRunFrom (command.Lines (asked syntax)) t start left read wrote wrote Accepted
   ended_run t n over settled spelled start read wrote rest end all left =
       let whole = alone line none in (
@@ -83,8 +89,11 @@ module _ (syntax : Option Syntax) (line : List ℕ) (none : list_any is_line_fee
       )
 
 -- a command whose lines follow a head
-module _ (c : LineCommand) (t : Tables) (start mid : Stream) (head : List ℕ) (head_read : Consumes start mid head) (w : Work) (work_of : (text : List ℕ) → IsWorkOf c t (head ++ text) w) (answered : (text : List ℕ) → text_answered c (head ++ text) ≡ text) (left read' wrote wrote' : Stream) where
-  pub run_behind : (r : Result Status CliError) → IfOk r (λ status. (input : List ℕ) × ReadsAll mid read' input × WritesAll w input wrote wrote' status) → IfOk r (IsRunFrom (command.Lines c) t start left read' wrote wrote')
+module _ (c : LineCommand) (t : Tables) (start mid : Stream) (head : List ℕ) (head_read : Consumes start mid head) (w : Work)
+    (work_of : (text : List ℕ) → IsWorkOf c t (head ++ text) w) (answered : (text : List ℕ) → text_answered c (head ++ text) ≡ text)
+    (left read' wrote wrote' : Stream) where
+  pub run_behind : (r : Result Status CliError) → IfOk r (λ status. (input : List ℕ) × ReadsAll mid read' input
+      × WritesAll w input wrote wrote' status) → IfOk r (IsRunFrom (command.Lines c) t start left read' wrote wrote')
   run_behind (Err e) h = tt
   run_behind (Ok s) (input, all, writes) = (
     head ++ input,
@@ -95,7 +104,8 @@ module _ (c : LineCommand) (t : Tables) (start mid : Stream) (head : List ℕ) (
   stops : (e : CliError) → StopsStream w mid read' wrote wrote' e → StopsAmong c t start read' wrote wrote' e
   stops e h = record { head = head; mid = mid; head_read = head_read; work = w; work_of = work_of; answered = answered; stops = h }
 
-  pub stopped_behind : (r : Result Status CliError) → IfErr r (StopsStream w mid read' wrote wrote') → IfErr r (StopsLoaded (command.Lines c) t start left read' wrote wrote')
+  pub stopped_behind : (r : Result Status CliError) → IfErr r (StopsStream w mid read' wrote wrote')
+      → IfErr r (StopsLoaded (command.Lines c) t start left read' wrote wrote')
   stopped_behind r h = IfErr-weaker r _ _ (λ e h. inr (stops e h)) h
 
 module _ (t : Tables) (start left read' wrote wrote' : Stream) where
@@ -110,13 +120,15 @@ module _ (t : Tables) (start left read' wrote wrote' : Stream) where
   no_unsettled c (inl (inr h, same)) = h.4.2
   no_unsettled c (inr h) = h.stops
 
-  pub refused_loaded : (c : Command) (r : Result Status CliError) → IfErr r (StopsLoaded c t start left read' wrote wrote') → IfErr r (IsRefusedStream c t start left read' wrote wrote')
+  pub refused_loaded : (c : Command) (r : Result Status CliError) → IfErr r (StopsLoaded c t start left read' wrote wrote')
+      → IfErr r (IsRefusedStream c t start left read' wrote wrote')
   refused_loaded c r h = IfErr-weaker r _ _ (λ e stops. inr stops) h
 
 -- ---- over the tables of the first line
 
 -- the first line, read with nothing before it, and the tables of its text
-pub tables_line : (t : Tables) (read mid : Stream) (line : List ℕ) (has_ended : Bool) → ReadsLine (prepend_known [] read) mid line has_ended → rows_in line ≡ Ok (rows_of t) → ReadsTablesLine read mid t
+pub tables_line : (t : Tables) (read mid : Stream) (line : List ℕ) (has_ended : Bool) → ReadsLine (prepend_known [] read) mid line has_ended
+    → rows_in line ≡ Ok (rows_of t) → ReadsTablesLine read mid t
 tables_line t read mid line has_ended reads rows = record {
   line = line;
   has_ended = has_ended;
@@ -124,7 +136,8 @@ tables_line t read mid line has_ended reads rows = record {
   rows = rows;
 }
 
-module _ (c : Command) (t : Tables) (read mid left read' wrote wrote' : Stream) (reads : ReadsTablesLine read mid t) (behind : LeavesBehind mid left) (r : Result Status CliError) where
+module _ (c : Command) (t : Tables) (read mid left read' wrote wrote' : Stream) (reads : ReadsTablesLine read mid t)
+    (behind : LeavesBehind mid left) (r : Result Status CliError) where
   pub json_run : IfOk r (IsRunFrom c t mid left read' wrote wrote') → IfOk r (IsJsonStream c read read' wrote wrote')
   json_run h = IfOk-weaker r _ _ (λ s h. (t, mid, left, reads, behind, h)) h
 

@@ -1,5 +1,6 @@
 -- Lines that are answered as they come.
-use Rattle.std.proofs.Common.{◌≡◌, ◌⊎◌, ◌↔◌, ℕ, zero, suc, ◌<◌, ◌==◌, ◌||◌, Bool, false, List, [], ◌∷◌, ◌++◌, length, take, drop, get_or, Result, Err, None, Some, inl, inr, refl, ap, sym, subst, ◌∙◌, append_assoc, append-nil, arith}
+use Rattle.std.proofs.Common.{◌≡◌, ◌⊎◌, ◌↔◌, ℕ, zero, suc, ◌<◌, ◌==◌, ◌||◌, Bool, false, List, [], ◌∷◌, ◌++◌, length, take, drop, get_or, Result, Err}
+use Rattle.std.proofs.Common.{None, Some, inl, inr, refl, ap, sym, subst, ◌∙◌, append_assoc, append-nil, arith}
 use Rattle.std.specs.List.{list_any}
 use Rattle.std.specs.Io.KnownBytes.{Appends, Consumes, Keeps, IsAtEnd, prepend_known}
 use Rattle.std.proofs.KnownBytes.{Appends-trans, Appends-nil, Appends-kept, Consumes-nil, Consumes-trans, Consumes-kept}
@@ -20,7 +21,8 @@ use Rattle.icu_locale_lines.specs.laws.Parts.{lines_of_parts, AllZip-append, all
 -- the lines of whole lines and what follows them
 pub lines_after : (done t : List ℕ) → EndsLines done → lines (done ++ t) ≡ lines done ++ lines t
 lines_after done t (inl none) = ap (λ d. lines (d ++ t)) none ∙ ap (λ d. lines d ++ lines t) (sym none)
-lines_after done t (inr (front, is)) = ap (λ d. lines (d ++ t)) is ∙ ap lines (append_assoc front (10 ∷ []) t) ∙ lines_of_parts front t ∙ ap (λ d. lines d ++ lines t) (sym is)
+lines_after done t (inr (front, is)) = ap (λ d. lines (d ++ t)) is ∙ ap lines (append_assoc front (10 ∷ []) t) ∙ lines_of_parts front t
+    ∙ ap (λ d. lines d ++ lines t) (sym is)
 
 pub EndsLines-append : (a b : List ℕ) → EndsLines a → EndsLines b → EndsLines (a ++ b)
 EndsLines-append a b first (inl none) = subst EndsLines (sym (ap (λ x. a ++ x) none ∙ append-nil a)) first
@@ -32,7 +34,8 @@ take-push n [] low = absurd (omega (arith, low))
 take-push zero (x ∷ xs) low = refl
 take-push (suc n) (x ∷ xs) low = ap (λ t. x ∷ t) (take-push n xs (omega (arith, low)))
 
-pub list_any-drop : (n : ℕ) (xs : List ℕ) → n < length xs → (get_or xs n 0 == 10) ≡ false → list_any is_line_feed (drop (suc n) xs) ≡ false → list_any is_line_feed (drop n xs) ≡ false
+pub list_any-drop : (n : ℕ) (xs : List ℕ) → n < length xs → (get_or xs n 0 == 10) ≡ false → list_any is_line_feed (drop (suc n) xs) ≡ false
+    → list_any is_line_feed (drop n xs) ≡ false
 list_any-drop n [] low other rest = absurd (omega (arith, low))
 list_any-drop zero (x ∷ xs) low other rest = ap (λ b. b || list_any is_line_feed xs) other ∙ rest
 list_any-drop (suc n) (x ∷ xs) low other rest = list_any-drop n xs (omega (arith, low)) other rest
@@ -42,7 +45,8 @@ text_of-append xs ys = flat_map-append (λ (t : List ℕ × Bool). t.0) xs ys
 
 module _ (work : Work) (old mid new : Stream) where
   -- whole lines were answered, and then some of what follows
-  pub WritesUpTo-behind : (done t part : List ℕ) (rest : List (List ℕ)) (status : Status) → EndsLines done → WritesAll work done old mid status → WritesUpTo work t mid new part rest → WritesUpTo work (done ++ t) old new part rest
+  pub WritesUpTo-behind : (done t part : List ℕ) (rest : List (List ℕ)) (status : Status) → EndsLines done
+      → WritesAll work done old mid status → WritesUpTo work t mid new part rest → WritesUpTo work (done ++ t) old new part rest
   WritesUpTo-behind done t part rest status ends first later = record {
     answered = lines done ++ later.answered;
     parted = lines_after done t ends ∙ ap (λ l. lines done ++ l) later.parted ∙ sym (append_assoc (lines done) later.answered rest);
@@ -53,10 +57,12 @@ module _ (work : Work) (old mid new : Stream) where
         (Appends-trans old mid new (text_of_lines first.answers) (text_of_lines later.answers ++ part) first.written later.written);
   }
 
-  pub WritesWholeLines-behind : (done t : List ℕ) (status : Status) → EndsLines done → WritesAll work done old mid status → WritesWholeLines work t mid new → WritesWholeLines work (done ++ t) old new
+  pub WritesWholeLines-behind : (done t : List ℕ) (status : Status) → EndsLines done → WritesAll work done old mid status
+      → WritesWholeLines work t mid new → WritesWholeLines work (done ++ t) old new
   WritesWholeLines-behind done t status ends first later = (later.0, WritesUpTo-behind done t [] later.0 status ends first later.1)
 
-  pub WritesPart-behind : (done t : List ℕ) (status : Status) → EndsLines done → WritesAll work done old mid status → WritesPart work t mid new → WritesPart work (done ++ t) old new
+  pub WritesPart-behind : (done t : List ℕ) (status : Status) → EndsLines done → WritesAll work done old mid status
+      → WritesPart work t mid new → WritesPart work (done ++ t) old new
   WritesPart-behind done t status ends first later = record {
     line = later.line;
     rest = later.rest;
@@ -71,7 +77,8 @@ module _ (work : Work) (old mid new : Stream) where
   }
 
   -- all was answered
-  pub WritesAll-behind : (done t : List ℕ) (one two whole : Status) → EndsLines done → WritesAll work done old mid one → WritesAll work t mid new two → (whole ≡ Accepted) ↔ ((one ≡ Accepted) × (two ≡ Accepted)) → WritesAll work (done ++ t) old new whole
+  pub WritesAll-behind : (done t : List ℕ) (one two whole : Status) → EndsLines done → WritesAll work done old mid one
+      → WritesAll work t mid new two → (whole ≡ Accepted) ↔ ((one ≡ Accepted) × (two ≡ Accepted)) → WritesAll work (done ++ t) old new whole
   WritesAll-behind done t one two whole ends first later both = record {
     answers = first.answers ++ later.answers;
     each = subst (λ ls. AreAnswers work ls (first.answers ++ later.answers)) (sym (lines_after done t ends))
@@ -89,7 +96,8 @@ module _ (work : Work) (old mid new : Stream) where
   }
 
 -- the whole lines were answered
-pub WritesWholeLines-answered : (work : Work) (front : List ℕ) (old new : Stream) (status : Status) → WritesAll work front old new status → WritesWholeLines work front old new
+pub WritesWholeLines-answered : (work : Work) (front : List ℕ) (old new : Stream) (status : Status) → WritesAll work front old new status
+    → WritesWholeLines work front old new
 WritesWholeLines-answered work front old new status w = (
   [],
   record {
@@ -124,7 +132,8 @@ some_ends a b some (inl none) = absurd (false≢true (some ∙ ap (λ x. length 
 some_ends a b some (inr (front, is)) = inr (a ++ front, ap (λ x. a ++ x) is ∙ sym (append_assoc a front (10 ∷ [])))
 
 -- a part that was cut behind its last line feed, whose front was put behind what was carried
-module _ (carry part front rest held : List ℕ) (parted : part ≡ front ++ rest) (front_ends : EndsLines front) (some : false ≡ (length front == 0)) (held_is : held ≡ carry ++ front) where
+module _ (carry part front rest held : List ℕ) (parted : part ≡ front ++ rest) (front_ends : EndsLines front)
+    (some : false ≡ (length front == 0)) (held_is : held ≡ carry ++ front) where
   whole_text : carry ++ part ≡ held ++ rest
   whole_text = ap (λ p. carry ++ p) parted ∙ sym (append_assoc carry front rest) ∙ ap (λ h. h ++ rest) (sym held_is)
 
@@ -135,7 +144,8 @@ module _ (carry part front rest held : List ℕ) (parted : part ≡ front ++ res
     pub part_leaves : (Leaves : Work → List ℕ → Stream → Stream → Type 0) → Leaves work held old new → LeavesEnded Leaves work (carry ++ part) old new
     part_leaves Leaves leaves = record { ended = held; left = rest; whole = held_ends; parted = whole_text; leaves = leaves }
 
-    pub part_whole : (status : Status) → WritesAll work held old new status → (left : List ℕ) → left ≡ rest → AnswersEnded work (carry ++ part) left old new status
+    pub part_whole : (status : Status) → WritesAll work held old new status → (left : List ℕ) → left ≡ rest
+        → AnswersEnded work (carry ++ part) left old new status
     part_whole status w left left_is = record {
       ended = held;
       whole = held_ends;
@@ -160,23 +170,30 @@ StreamProgress-none work read wrote carry none = record {
   unended = ap (list_any is_line_feed) none;
 }
 
-module _ (work : Work) (read mid wrote between : Stream) (status : Status) (carry : List ℕ) (before : StreamProgress work read mid wrote between status carry) where
+module _ (work : Work) (read mid wrote between : Stream) (status : Status) (carry : List ℕ)
+    (before : StreamProgress work read mid wrote between status carry) where
   -- what was read with one more part
   consumed_more : (new : Stream) (part : List ℕ) → Consumes mid new part → Consumes read new (before.done ++ (carry ++ part))
-  consumed_more new part more = subst (Consumes read new) (append_assoc before.done carry part) (Consumes-trans read mid new (before.done ++ carry) part before.consumed more)
+  consumed_more new part more = subst (Consumes read new) (append_assoc before.done carry part)
+      (Consumes-trans read mid new (before.done ++ carry) part before.consumed more)
 
   -- one more part is answered
-  pub StreamProgress-more : (new wrote' : Stream) (part left : List ℕ) (ended later : Status) → Consumes mid new part → AnswersEnded work (carry ++ part) left between wrote' ended → list_any is_line_feed left ≡ false → (later ≡ Accepted) ↔ ((status ≡ Accepted) × (ended ≡ Accepted)) → StreamProgress work read new wrote wrote' later left
+  pub StreamProgress-more : (new wrote' : Stream) (part left : List ℕ) (ended later : Status) → Consumes mid new part
+      → AnswersEnded work (carry ++ part) left between wrote' ended → list_any is_line_feed left ≡ false → (later ≡ Accepted)
+      ↔ ((status ≡ Accepted) × (ended ≡ Accepted)) → StreamProgress work read new wrote wrote' later left
   StreamProgress-more new wrote' part left ended later more answers none both = record {
     done = before.done ++ answers.ended;
     whole = EndsLines-append before.done answers.ended before.whole answers.whole;
-    consumed = subst (Consumes read new) (ap (λ t. before.done ++ t) answers.parted ∙ sym (append_assoc before.done answers.ended left)) (consumed_more new part more);
+    consumed = subst (Consumes read new) (ap (λ t. before.done ++ t) answers.parted ∙ sym (append_assoc before.done answers.ended left))
+        (consumed_more new part more);
     answered = WritesAll-behind work wrote between wrote' before.done answers.ended status ended later before.whole before.answered answers.answered both;
     unended = none;
   }
 
   -- what a refused part leaves, behind the lines before
-  lines_behind : (Leaves : Work → List ℕ → Stream → Stream → Type 0) (wrote' : Stream) → ((t : List ℕ) → Leaves work t between wrote' → Leaves work (before.done ++ t) wrote wrote') → (new : Stream) (part : List ℕ) → LeavesLines Leaves work new (carry ++ part) between wrote' → LeavesLines Leaves work new (before.done ++ (carry ++ part)) wrote wrote'
+  lines_behind : (Leaves : Work → List ℕ → Stream → Stream → Type 0) (wrote' : Stream)
+      → ((t : List ℕ) → Leaves work t between wrote' → Leaves work (before.done ++ t) wrote wrote') → (new : Stream) (part : List ℕ)
+      → LeavesLines Leaves work new (carry ++ part) between wrote' → LeavesLines Leaves work new (before.done ++ (carry ++ part)) wrote wrote'
   lines_behind Leaves wrote' behind new part (inl l) = inl record {
     ended = before.done ++ l.ended;
     left = l.left;
@@ -187,9 +204,24 @@ module _ (work : Work) (read mid wrote between : Stream) (status : Status) (carr
   lines_behind Leaves wrote' behind new part (inr end) = inr (end.0, behind (carry ++ part) end.1)
 
   -- a part was refused
-  pub StreamProgress-refused : (new wrote' : Stream) (part : List ℕ) → Consumes mid new part → (e : CliError) → (e ≡ Memory) ⊎ (e ≡ Write) → ((r : Result Status CliError) → r ≡ Err e → r ≡ Err Memory → LeavesLines WritesWholeLines work new (carry ++ part) between wrote') → ((r : Result Status CliError) → r ≡ Err e → r ≡ Err Write → LeavesLines WritesPart work new (carry ++ part) between wrote') → StopsStream work read new wrote wrote' e
-  StreamProgress-refused new wrote' part more e (inl is) memory write = subst (StopsStream work read new wrote wrote') (sym is) (before.done ++ (carry ++ part), consumed_more new part more, lines_behind WritesWholeLines wrote' (λ t w. WritesWholeLines-behind work wrote between wrote' before.done t status before.whole before.answered w) new part (memory (Err e) refl (ap Err is)))
-  StreamProgress-refused new wrote' part more e (inr is) memory write = subst (StopsStream work read new wrote wrote') (sym is) (inl (before.done ++ (carry ++ part), consumed_more new part more, lines_behind WritesPart wrote' (λ t w. WritesPart-behind work wrote between wrote' before.done t status before.whole before.answered w) new part (write (Err e) refl (ap Err is))))
+  pub StreamProgress-refused : (new wrote' : Stream) (part : List ℕ) → Consumes mid new part → (e : CliError) → (e ≡ Memory) ⊎ (e ≡ Write)
+      → ((r : Result Status CliError) → r ≡ Err e → r ≡ Err Memory → LeavesLines WritesWholeLines work new (carry ++ part) between wrote')
+      → ((r : Result Status CliError) → r ≡ Err e → r ≡ Err Write → LeavesLines WritesPart work new (carry ++ part) between wrote')
+      → StopsStream work read new wrote wrote' e
+  StreamProgress-refused new wrote' part more e (inl is) memory write = subst (StopsStream work read new wrote wrote') (sym is) (
+    before.done ++ (carry ++ part),
+    consumed_more new part more,
+    lines_behind WritesWholeLines wrote'
+        (λ t w. WritesWholeLines-behind work wrote between wrote' before.done t status before.whole before.answered w) new part
+            (memory (Err e) refl (ap Err is)),
+  )
+  StreamProgress-refused new wrote' part more e (inr is) memory write = subst (StopsStream work read new wrote wrote') (sym is)
+      (inl (
+        before.done ++ (carry ++ part),
+        consumed_more new part more,
+        lines_behind WritesPart wrote'
+            (λ t w. WritesPart-behind work wrote between wrote' before.done t status before.whole before.answered w) new part (write (Err e) refl (ap Err is)),
+      ))
 
   -- a failed read
   pub StreamProgress-unread : (new : Stream) → Keeps mid new → StopsBetween work read new wrote between
@@ -214,7 +246,9 @@ module _ (work : Work) (read mid wrote between : Stream) (status : Status) (carr
   }
 
   -- the end of the input, whose last line is answered where it is not empty
-  pub StreamProgress-end : (new wrote' : Stream) (nothing : List ℕ) → nothing ≡ [] → Consumes mid new nothing → IsAtEnd new → (last whole : Status) → WritesAll work carry between wrote' last → (whole ≡ Accepted) ↔ ((status ≡ Accepted) × (last ≡ Accepted)) → (input : List ℕ) × ReadsAll read new input × WritesAll work input wrote wrote' whole
+  pub StreamProgress-end : (new wrote' : Stream) (nothing : List ℕ) → nothing ≡ [] → Consumes mid new nothing → IsAtEnd new
+      → (last whole : Status) → WritesAll work carry between wrote' last → (whole ≡ Accepted) ↔ ((status ≡ Accepted) × (last ≡ Accepted))
+      → (input : List ℕ) × ReadsAll read new input × WritesAll work input wrote wrote' whole
   StreamProgress-end new wrote' nothing none more ended last whole answers both = (
     before.done ++ carry,
     record {
@@ -224,7 +258,8 @@ module _ (work : Work) (read mid wrote between : Stream) (status : Status) (carr
     WritesAll-behind work wrote between wrote' before.done carry status last whole before.whole before.answered answers both,
   )
 
-module _ (work : Work) (read read' wrote mid new : Stream) (status : Status) (carry : List ℕ) (before : StreamProgress work read read' wrote mid status carry) (kept : Keeps mid new) where
+module _ (work : Work) (read read' wrote mid new : Stream) (status : Status) (carry : List ℕ)
+    (before : StreamProgress work read read' wrote mid status carry) (kept : Keeps mid new) where
   -- what was written is flushed
   pub StreamProgress-flushed : StreamProgress work read read' wrote new status carry
   StreamProgress-flushed = record {

@@ -7,7 +7,8 @@ use Rattle.icu_locale_names.specs.declared.name_chain.NameChain.{NameChain}
 use Rattle.icu_locale_names.specs.declared.options.DisplayNamesPreferences.{DisplayNamesPreferences}
 use Rattle.icu_locale_extensions.specs.declared.syntax.Syntax.{Syntax}
 use Rattle.icu_locale_extensions.specs.declared.syntax.Syntax.TheVariants.{Unicode, Bcp47, Posix}
-use Rattle.icu_locale_lines.specs.Commands.{AreArguments, AreTaskWords, AreCommandWords, AreWords, AreStreamWords, SpellsPreferences, plain, task_word, syntax_word}
+use Rattle.icu_locale_lines.specs.Commands.{AreArguments, AreTaskWords, AreCommandWords, AreWords, AreStreamWords, SpellsPreferences, plain}
+use Rattle.icu_locale_lines.specs.Commands.{task_word, syntax_word}
 use Rattle.icu_locale_lines.specs.declared.command.Command.{Command}
 use Rattle.icu_locale_lines.specs.declared.command.Command.TheVariants.{Settled, Lines}
 use Rattle.icu_locale_lines.specs.declared.command.Task.{Task}

@@ -29,7 +29,8 @@ same_likely t e f over also =
     (option_or (same_extension e.extended f.extended (sym over.extended ∙ also.extended) k i) (und_row ((language i).und) k))
 
 -- one that is not settled tells of all
-pub unsettled_from_one : (c : Command) (t : Tables) (e : LocaleExpander) → Negotiates c → has_likely t ≡ true → IsExpanderOf t e → ¬ (AreSettled (likely e)) → IsUnsettled c t
+pub unsettled_from_one : (c : Command) (t : Tables) (e : LocaleExpander) → Negotiates c → has_likely t ≡ true → IsExpanderOf t e
+    → ¬ (AreSettled (likely e)) → IsUnsettled c t
 unsettled_from_one c t e negotiates held over unsettled = record {
   negotiates = negotiates;
   held = held;

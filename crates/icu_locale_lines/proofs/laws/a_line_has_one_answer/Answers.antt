@@ -11,5 +11,6 @@ returns c = λ work line one two a b h k.
       refused = form.refused likely rules;
       apart = form.apart likely rules;
     } in
-    let answers = answer_one c.spelled_once.ensures c.spelled_once_by.ensures c.refusals_are_faults.ensures.nothing c.minimal_form_is_one.ensures.one facts line one two a b work h k in
+    let answers = answer_one c.spelled_once.ensures c.spelled_once_by.ensures c.refusals_are_faults.ensures.nothing
+    c.minimal_form_is_one.ensures.one facts line one two a b work h k in
     (answers.text, answers.accepted)

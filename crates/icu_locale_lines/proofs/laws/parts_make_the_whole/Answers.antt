@@ -23,6 +23,7 @@ answers_one work one (l ∷ ls) (x ∷ xs) (y ∷ ys) p q =
 pub returns : goal.returns
 returns c = λ work front rest one two all of_one of_two of_all first second whole.
     let parts = answers_of_parts work front rest first.answers second.answers first.each second.each in
-    let answers = answers_one work (c.a_line_has_one_answer.ensures work) (lines (front ++ 10 ∷ rest)) whole.answers (first.answers ++ second.answers) whole.each parts in
+    let answers = answers_one work (c.a_line_has_one_answer.ensures work) (lines (front ++ 10 ∷ rest)) whole.answers
+    (first.answers ++ second.answers) whole.each parts in
     whole.written ∙ ap text_of_lines answers ∙ flat_map-append (λ (t : List ℕ × Bool). t.0) first.answers second.answers
     ∙ (λ i. sym first.written i ++ sym second.written i)

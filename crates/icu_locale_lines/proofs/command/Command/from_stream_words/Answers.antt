@@ -10,7 +10,8 @@ pub returns-in_default-syntax_of-clause-only : goal.returns-in_default-syntax_of
 returns-in_default-syntax_of-clause-only c = λ other are.
     let whole = ap (map string_bytes) c.in-Some.ensures.cases.0 in
     let these = subst (λ ws. AreStreamWords ws other.0 other.1) whole are in
-    let plainly = without_syntax (string_bytes c.in-Some.word.now) (map string_bytes c.in-Some.rest.now) (λ s is. let found = c.syntax_of.ensures.only s (c.as_str.ensures.value ∙ is) in search rules) other.0 other.1 these in
+    let plainly = without_syntax (string_bytes c.in-Some.word.now) (map string_bytes c.in-Some.rest.now)
+    (λ s is. let found = c.syntax_of.ensures.only s (c.as_str.ensures.value ∙ is) in search rules) other.0 other.1 these in
     c.from_words.ensures.only other (subst (λ ws. AreWords ws other.0 other.1) (sym whole) plainly)
 
 -- the words behind it are those of no task
@@ -18,7 +19,8 @@ pub returns-in_err-command-clause-only : goal.returns-in_err-command-clause-only
 returns-in_err-command-clause-only c = λ other are.
     let word = sym c.as_str.ensures.value ∙ c.in-Some-syntax_of.ensures.named in
     let whole = ap (map string_bytes) c.in-Some.ensures.cases.0 ∙ ap (λ w. w ∷ map string_bytes c.in-Some.rest.now) word in
-    let of = behind_syntax (map string_bytes c.in-Some.rest.now) c.in-Some-syntax_of.syntax other.0 other.1 (subst (λ ws. AreStreamWords ws other.0 other.1) whole are) in
+    let of = behind_syntax (map string_bytes c.in-Some.rest.now) c.in-Some-syntax_of.syntax other.0 other.1
+    (subst (λ ws. AreStreamWords ws other.0 other.1) whole are) in
     let named = c.from_words-2.ensures.only (Lines (plain of.0), other.1) of.2 in
     absurd (search rules)
 
@@ -26,7 +28,8 @@ pub returns-in-Lines-clause-only : goal.returns-in-Lines-clause-only
 returns-in-Lines-clause-only c = λ other are.
     let word = sym c.as_str.ensures.value ∙ c.in-Some-syntax_of.ensures.named in
     let whole = ap (map string_bytes) c.in-Some.ensures.cases.0 ∙ ap (λ w. w ∷ map string_bytes c.in-Some.rest.now) word in
-    let of = behind_syntax (map string_bytes c.in-Some.rest.now) c.in-Some-syntax_of.syntax other.0 other.1 (subst (λ ws. AreStreamWords ws other.0 other.1) whole are) in
+    let of = behind_syntax (map string_bytes c.in-Some.rest.now) c.in-Some-syntax_of.syntax other.0 other.1
+    (subst (λ ws. AreStreamWords ws other.0 other.1) whole are) in
     let named = c.from_words-2.ensures.only (Lines (plain of.0), other.1) of.2 in
     let is = of.1 in
     search rules

@@ -6,8 +6,18 @@ use Rattle.icu_locale_lines.proofs.command.Command.name.Goals as goal
 
 pub returns-clause-named : goal.returns-clause-named
 returns-clause-named c =
-    subst (λ l. AreCommandWords (codes "name" ∷ c.args.chain.now ∷ c.args.text.now ∷ []) (Lines l)) (sym c.plain.ensures)
-    (refl, (c.args.chain.now ∷ c.args.text.now ∷ [], (c.args.text.now, ap (λ w. w ∷ c.args.text.now ∷ []) c.in-Some.ensures.named, c.in_ok-preferences.ensures.named), refl))
+    subst (λ l. AreCommandWords (codes "name" ∷ c.args.chain.now ∷ c.args.text.now ∷ []) (Lines l)) (sym c.plain.ensures) (
+      refl,
+      (
+        c.args.chain.now ∷ c.args.text.now ∷ [],
+        (
+          c.args.text.now,
+          ap (λ w. w ∷ c.args.text.now ∷ []) c.in-Some.ensures.named,
+          c.in_ok-preferences.ensures.named,
+        ),
+        refl,
+      ),
+    )
 
 -- preferences that are refused are those of no command
 pub returns-in_err-preferences-clause-only : goal.returns-in_err-preferences-clause-only

@@ -13,10 +13,13 @@ returns-clause-output g c =
     let first = c.in_ok-first.first in
     let held = read c.read_first_line.new.reader in
     let mid = prepend_known first.rest.items held in
-    let reads = tables_line c.in_ok-tables.tables (read c.args.reader.now) mid first.line.items first.has_ended c.in_ok-first.ensures.line (ap rows_in (sym c.deref.ensures.value) ∙ c.in_ok-tables.ensures.rows) in
+    let reads = tables_line c.in_ok-tables.tables (read c.args.reader.now) mid first.line.items first.has_ended c.in_ok-first.ensures.line
+    (ap rows_in (sym c.deref.ensures.value) ∙ c.in_ok-tables.ensures.rows) in
     let behind : LeavesBehind mid held = record { rest = first.rest.items; short = c.in_ok-first.ensures.short (omega arith); behind = refl } in
-    json_run c.args.command.now c.in_ok-tables.tables (read c.args.reader.now) mid held (read c.stream_over.new.reader) (wrote c.args.writer.now) (wrote c.stream_over.new.writer) reads behind c.stream_over.result
-    (subst (λ b. IfOk c.stream_over.result (IsRunFrom c.args.command.now c.in_ok-tables.tables (prepend_known b held) held (read c.stream_over.new.reader) (wrote c.args.writer.now) (wrote c.stream_over.new.writer))) c.deref-2.ensures.value c.stream_over.ensures.output)
+    json_run c.args.command.now c.in_ok-tables.tables (read c.args.reader.now) mid held (read c.stream_over.new.reader)
+    (wrote c.args.writer.now) (wrote c.stream_over.new.writer) reads behind c.stream_over.result
+    (subst (λ b. IfOk c.stream_over.result (IsRunFrom c.args.command.now c.in_ok-tables.tables (prepend_known b held) held
+    (read c.stream_over.new.reader) (wrote c.args.writer.now) (wrote c.stream_over.new.writer))) c.deref-2.ensures.value c.stream_over.ensures.output)
 
 pub returns-clause-refused : goal.returns-clause-refused
 returns-clause-refused g c =
@@ -25,7 +28,10 @@ returns-clause-refused g c =
     let first = c.in_ok-first.first in
     let held = read c.read_first_line.new.reader in
     let mid = prepend_known first.rest.items held in
-    let reads = tables_line c.in_ok-tables.tables (read c.args.reader.now) mid first.line.items first.has_ended c.in_ok-first.ensures.line (ap rows_in (sym c.deref.ensures.value) ∙ c.in_ok-tables.ensures.rows) in
+    let reads = tables_line c.in_ok-tables.tables (read c.args.reader.now) mid first.line.items first.has_ended c.in_ok-first.ensures.line
+    (ap rows_in (sym c.deref.ensures.value) ∙ c.in_ok-tables.ensures.rows) in
     let behind : LeavesBehind mid held = record { rest = first.rest.items; short = c.in_ok-first.ensures.short (omega arith); behind = refl } in
-    json_refused c.args.command.now c.in_ok-tables.tables (read c.args.reader.now) mid held (read c.stream_over.new.reader) (wrote c.args.writer.now) (wrote c.stream_over.new.writer) reads behind c.stream_over.result
-    (subst (λ b. IfErr c.stream_over.result (IsRefusedStream c.args.command.now c.in_ok-tables.tables (prepend_known b held) held (read c.stream_over.new.reader) (wrote c.args.writer.now) (wrote c.stream_over.new.writer))) c.deref-2.ensures.value c.stream_over.ensures.refused)
+    json_refused c.args.command.now c.in_ok-tables.tables (read c.args.reader.now) mid held (read c.stream_over.new.reader)
+    (wrote c.args.writer.now) (wrote c.stream_over.new.writer) reads behind c.stream_over.result
+    (subst (λ b. IfErr c.stream_over.result (IsRefusedStream c.args.command.now c.in_ok-tables.tables (prepend_known b held) held
+    (read c.stream_over.new.reader) (wrote c.args.writer.now) (wrote c.stream_over.new.writer))) c.deref-2.ensures.value c.stream_over.ensures.refused)

@@ -3,7 +3,9 @@ use Rattle.std.specs.Io.KnownBytes.{Consumes, IsAtEnd, prepend_known}
 use Rattle.std.proofs.lemmas.Result.{err_from_is_err_and}
 use Rattle.icu_locale_lines.specs.Runs.{WritesAll, WritesWholeLines, WritesPart}
 use Rattle.icu_locale_lines.specs.declared.runs.Status.TheVariants.{Accepted}
-use Rattle.icu_locale_lines.proofs.Streaming.{Consumes-prepended, StreamProgress-none, StreamProgress-more, StreamProgress-refused, StreamProgress-unread, StreamProgress-stopped, StreamProgress-end, StreamProgress-flushed, StreamProgress-unflushed}
+use Rattle.icu_locale_lines.proofs.Streaming.{Consumes-prepended, StreamProgress-none, StreamProgress-more, StreamProgress-refused}
+use Rattle.icu_locale_lines.proofs.Streaming.{StreamProgress-unread, StreamProgress-stopped, StreamProgress-end, StreamProgress-flushed}
+use Rattle.icu_locale_lines.proofs.Streaming.{StreamProgress-unflushed}
 use Rattle.icu_locale_lines.proofs.runs.stream.stream_lines.Goals as goal
 
 -- what was read before was refused
@@ -17,7 +19,8 @@ returns-in_err-status-clause-refused g c =
     let held = c.new-carry.result.items in
     let e = c.in_err-status.field-0.0 in
     let passed_on = err_from_is_err_and c.from_residual.result c.from_residual.ensures.1 in
-    rw (passed_on.1, passed_on.2) (StreamProgress-refused work start start (wrote c.args.writer.now) (wrote c.args.writer.now) Accepted held (StreamProgress-none work start (wrote c.args.writer.now) held c.new-carry.ensures.items)
+    rw (passed_on.1, passed_on.2) (StreamProgress-refused work start start (wrote c.args.writer.now) (wrote c.args.writer.now) Accepted held
+    (StreamProgress-none work start (wrote c.args.writer.now) held c.new-carry.ensures.items)
     (read c.args.reader.now) (wrote c.answer_part.new.writer) first (Consumes-prepended first (read c.args.reader.now)) e c.in_err-status.ensures.refused
     (λ r is target. inl (c.in_err-status.ensures.memory (sym is ∙ target)))
     (λ r is target. inl (c.in_err-status.ensures.write (sym is ∙ target))))
@@ -28,7 +31,8 @@ returns-in_err-last-in-Ok-eq0-clause-refused g c =
     let read = g.R.Read.remaining in
     let wrote = g.W.Write.contents in
     let start = prepend_known c.args.first.now (read c.args.reader.now) in
-    let before = StreamProgress-flushed c.args.work.now start (read c.loop.reader) (wrote c.args.writer.now) (wrote c.loop.writer) (wrote c.flush.new.self) c.loop.status c.loop.carry.items c.loop.invariant c.flush.ensures.bytes in
+    let before = StreamProgress-flushed c.args.work.now start (read c.loop.reader) (wrote c.args.writer.now) (wrote c.loop.writer)
+    (wrote c.flush.new.self) c.loop.status c.loop.carry.items c.loop.invariant c.flush.ensures.bytes in
     let work = c.args.work.now in
     let none : c.in-Ok-eq0.field-0 ≡ 0 = search rules in
     let more = subst (λ n. Consumes (read c.loop.reader) (read c.read.new.self) (take n c.read.new.buf)) none c.in-Ok-eq0.ensures.bytes.0 in
@@ -36,10 +40,19 @@ returns-in_err-last-in-Ok-eq0-clause-refused g c =
     let same = c.as_slice.ensures.value ∙ sym (append-nil c.loop.carry.items) in
     let e = c.in_err-last-in-Ok-eq0.field-0.0 in
     let passed_on = err_from_is_err_and c.from_residual-in_err-last-in-Ok-eq0.result c.from_residual-in_err-last-in-Ok-eq0.ensures.1 in
-    rw (passed_on.1, passed_on.2) (StreamProgress-refused work start (read c.loop.reader) (wrote c.args.writer.now) (wrote c.flush.new.self) c.loop.status c.loop.carry.items before
+    rw (passed_on.1, passed_on.2) (StreamProgress-refused work start (read c.loop.reader) (wrote c.args.writer.now)
+    (wrote c.flush.new.self) c.loop.status c.loop.carry.items before
     (read c.read.new.self) (wrote c.write_answers.new.writer) [] more e c.in_err-last-in-Ok-eq0.ensures.refused
-    (λ r is target. inr (ended, subst (λ t. WritesWholeLines work t (wrote c.flush.new.self) (wrote c.write_answers.new.writer)) same (c.in_err-last-in-Ok-eq0.ensures.memory (sym is ∙ target))))
-    (λ r is target. inr (ended, subst (λ t. WritesPart work t (wrote c.flush.new.self) (wrote c.write_answers.new.writer)) same (c.in_err-last-in-Ok-eq0.ensures.write (sym is ∙ target)))))
+    (λ r is target. inr (
+      ended,
+      subst (λ t. WritesWholeLines work t (wrote c.flush.new.self) (wrote c.write_answers.new.writer)) same
+          (c.in_err-last-in-Ok-eq0.ensures.memory (sym is ∙ target)),
+    ))
+    (λ r is target. inr (
+      ended,
+      subst (λ t. WritesPart work t (wrote c.flush.new.self) (wrote c.write_answers.new.writer)) same
+          (c.in_err-last-in-Ok-eq0.ensures.write (sym is ∙ target)),
+    )))
 
 -- the input is at its end, and its last line is answered
 pub returns-in-Ok-eq0-clause-whole : goal.returns-in-Ok-eq0-clause-whole
@@ -47,14 +60,16 @@ returns-in-Ok-eq0-clause-whole g c =
     let read = g.R.Read.remaining in
     let wrote = g.W.Write.contents in
     let start = prepend_known c.args.first.now (read c.args.reader.now) in
-    let before = StreamProgress-flushed c.args.work.now start (read c.loop.reader) (wrote c.args.writer.now) (wrote c.loop.writer) (wrote c.flush.new.self) c.loop.status c.loop.carry.items c.loop.invariant c.flush.ensures.bytes in
+    let before = StreamProgress-flushed c.args.work.now start (read c.loop.reader) (wrote c.args.writer.now) (wrote c.loop.writer)
+    (wrote c.flush.new.self) c.loop.status c.loop.carry.items c.loop.invariant c.flush.ensures.bytes in
     let work = c.args.work.now in
     let none : c.in-Ok-eq0.field-0 ≡ 0 = search rules in
     let more = subst (λ n. Consumes (read c.loop.reader) (read c.read.new.self) (take n c.read.new.buf)) none c.in-Ok-eq0.ensures.bytes.0 in
     let ended : IsAtEnd (read c.read.new.self) = search rules in
     StreamProgress-end work start (read c.loop.reader) (wrote c.args.writer.now) (wrote c.flush.new.self) c.loop.status c.loop.carry.items before
     (read c.read.new.self) (wrote c.write_answers.new.writer) [] refl more ended c.in_ok-last-in-Ok-eq0.last c.and.result
-    (subst (λ t. WritesAll work t (wrote c.flush.new.self) (wrote c.write_answers.new.writer) c.in_ok-last-in-Ok-eq0.last) c.as_slice.ensures.value c.in_ok-last-in-Ok-eq0.ensures.whole) c.and.ensures
+    (subst (λ t. WritesAll work t (wrote c.flush.new.self) (wrote c.write_answers.new.writer) c.in_ok-last-in-Ok-eq0.last)
+    c.as_slice.ensures.value c.in_ok-last-in-Ok-eq0.ensures.whole) c.and.ensures
 
 -- a part was refused
 pub returns-in_err-ended-in-Ok-clause-refused : goal.returns-in_err-ended-in-Ok-clause-refused
@@ -62,11 +77,13 @@ returns-in_err-ended-in-Ok-clause-refused g c =
     let read = g.R.Read.remaining in
     let wrote = g.W.Write.contents in
     let start = prepend_known c.args.first.now (read c.args.reader.now) in
-    let before = StreamProgress-flushed c.args.work.now start (read c.loop.reader) (wrote c.args.writer.now) (wrote c.loop.writer) (wrote c.flush.new.self) c.loop.status c.loop.carry.items c.loop.invariant c.flush.ensures.bytes in
+    let before = StreamProgress-flushed c.args.work.now start (read c.loop.reader) (wrote c.args.writer.now) (wrote c.loop.writer)
+    (wrote c.flush.new.self) c.loop.status c.loop.carry.items c.loop.invariant c.flush.ensures.bytes in
     let more = subst (Consumes (read c.loop.reader) (read c.read.new.self)) (sym c.split_at.ensures.front) c.in-Ok.ensures.bytes.0 in
     let e = c.in_err-ended-in-Ok.field-0.0 in
     let passed_on = err_from_is_err_and c.from_residual-in_err-ended-in-Ok.result c.from_residual-in_err-ended-in-Ok.ensures.1 in
-    rw (passed_on.1, passed_on.2) (StreamProgress-refused c.args.work.now start (read c.loop.reader) (wrote c.args.writer.now) (wrote c.flush.new.self) c.loop.status c.loop.carry.items before
+    rw (passed_on.1, passed_on.2) (StreamProgress-refused c.args.work.now start (read c.loop.reader) (wrote c.args.writer.now)
+    (wrote c.flush.new.self) c.loop.status c.loop.carry.items before
     (read c.read.new.self) (wrote c.answer_part-in-Ok.new.writer) c.split_at.result.0.now more e c.in_err-ended-in-Ok.ensures.refused
     (λ r is target. inl (c.in_err-ended-in-Ok.ensures.memory (sym is ∙ target)))
     (λ r is target. inl (c.in_err-ended-in-Ok.ensures.write (sym is ∙ target))))
@@ -77,7 +94,8 @@ returns-in-Err-clause-refused g c =
     let read = g.R.Read.remaining in
     let wrote = g.W.Write.contents in
     let start = prepend_known c.args.first.now (read c.args.reader.now) in
-    let before = StreamProgress-flushed c.args.work.now start (read c.loop.reader) (wrote c.args.writer.now) (wrote c.loop.writer) (wrote c.flush.new.self) c.loop.status c.loop.carry.items c.loop.invariant c.flush.ensures.bytes in
+    let before = StreamProgress-flushed c.args.work.now start (read c.loop.reader) (wrote c.args.writer.now) (wrote c.loop.writer)
+    (wrote c.flush.new.self) c.loop.status c.loop.carry.items c.loop.invariant c.flush.ensures.bytes in
     StreamProgress-unread c.args.work.now start (read c.loop.reader) (wrote c.args.writer.now) (wrote c.flush.new.self) c.loop.status c.loop.carry.items before
     (read c.read.new.self) c.in-Err.ensures.bytes
 
@@ -87,10 +105,12 @@ loop-preserved g c =
     let read = g.R.Read.remaining in
     let wrote = g.W.Write.contents in
     let start = prepend_known c.args.first.now (read c.args.reader.now) in
-    let before = StreamProgress-flushed c.args.work.now start (read c.loop.reader) (wrote c.args.writer.now) (wrote c.loop.writer) (wrote c.flush.new.self) c.loop.status c.loop.carry.items c.loop.invariant c.flush.ensures.bytes in
+    let before = StreamProgress-flushed c.args.work.now start (read c.loop.reader) (wrote c.args.writer.now) (wrote c.loop.writer)
+    (wrote c.flush.new.self) c.loop.status c.loop.carry.items c.loop.invariant c.flush.ensures.bytes in
     let more = subst (Consumes (read c.loop.reader) (read c.read.new.self)) (sym c.split_at.ensures.front) c.in-Ok.ensures.bytes.0 in
     StreamProgress-more c.args.work.now start (read c.loop.reader) (wrote c.args.writer.now) (wrote c.flush.new.self) c.loop.status c.loop.carry.items before
-    (read c.read.new.self) (wrote c.answer_part-in-Ok.new.writer) c.split_at.result.0.now c.answer_part-in-Ok.new.carry.items c.in_ok-ended-in-Ok.ended c.and-status.result more
+    (read c.read.new.self) (wrote c.answer_part-in-Ok.new.writer) c.split_at.result.0.now c.answer_part-in-Ok.new.carry.items
+    c.in_ok-ended-in-Ok.ended c.and-status.result more
     c.in_ok-ended-in-Ok.ensures.whole (c.in_ok-ended-in-Ok.ensures.carried before.unended) c.and-status.ensures
 
 -- a flush failed
@@ -99,11 +119,13 @@ returns-then-is_err-clause-refused g c =
     let read = g.R.Read.remaining in
     let wrote = g.W.Write.contents in
     let start = prepend_known c.args.first.now (read c.args.reader.now) in
-    inr (StreamProgress-unflushed c.args.work.now start (read c.loop.reader) (wrote c.args.writer.now) (wrote c.loop.writer) (wrote c.flush.new.self) c.loop.status c.loop.carry.items c.loop.invariant c.flush.ensures.bytes)
+    inr (StreamProgress-unflushed c.args.work.now start (read c.loop.reader) (wrote c.args.writer.now) (wrote c.loop.writer)
+    (wrote c.flush.new.self) c.loop.status c.loop.carry.items c.loop.invariant c.flush.ensures.bytes)
 
 -- a line that has not ended has more bytes than are kept
 pub returns-then-len-longest-clause-refused : goal.returns-then-len-longest-clause-refused
 returns-then-len-longest-clause-refused g c =
     let read = g.R.Read.remaining in
     let wrote = g.W.Write.contents in
-    StreamProgress-stopped c.args.work.now (prepend_known c.args.first.now (read c.args.reader.now)) (read c.loop.reader) (wrote c.args.writer.now) (wrote c.loop.writer) c.loop.status c.loop.carry.items c.loop.invariant
+    StreamProgress-stopped c.args.work.now (prepend_known c.args.first.now (read c.args.reader.now)) (read c.loop.reader)
+    (wrote c.args.writer.now) (wrote c.loop.writer) c.loop.status c.loop.carry.items c.loop.invariant

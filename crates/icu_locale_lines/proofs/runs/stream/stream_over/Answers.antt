@@ -18,7 +18,8 @@ returns-in-Ready-clause-output g c =
     let k = c.in-Lines.command in
     let loaded = subst (IsLoaded k c.args.tables.now) c.in-Ready.is c.in_ok-work.ensures.loaded in
     rw c.in-Lines.is (run_behind k c.args.tables.now start start [] (Consumes-nil start) c.in-Ready.work (λ text. (loaded text).0) (λ text. (loaded text).1)
-    (read c.args.reader.now) (read c.stream_lines.new.reader) (wrote c.args.writer.now) (wrote c.stream_lines.new.writer) c.stream_lines.result c.stream_lines.ensures.whole)
+    (read c.args.reader.now) (read c.stream_lines.new.reader) (wrote c.args.writer.now)
+    (wrote c.stream_lines.new.writer) c.stream_lines.result c.stream_lines.ensures.whole)
 
 pub returns-in-Ready-clause-refused : goal.returns-in-Ready-clause-refused
 returns-in-Ready-clause-refused g c =
@@ -27,9 +28,11 @@ returns-in-Ready-clause-refused g c =
     let start = prepend_known c.args.before.now (read c.args.reader.now) in
     let k = c.in-Lines.command in
     let loaded = subst (IsLoaded k c.args.tables.now) c.in-Ready.is c.in_ok-work.ensures.loaded in
-    rw c.in-Lines.is (refused_loaded c.args.tables.now start (read c.args.reader.now) (read c.stream_lines.new.reader) (wrote c.args.writer.now) (wrote c.stream_lines.new.writer) (Lines k) c.stream_lines.result
+    rw c.in-Lines.is (refused_loaded c.args.tables.now start (read c.args.reader.now) (read c.stream_lines.new.reader)
+    (wrote c.args.writer.now) (wrote c.stream_lines.new.writer) (Lines k) c.stream_lines.result
     (stopped_behind k c.args.tables.now start start [] (Consumes-nil start) c.in-Ready.work (λ text. (loaded text).0) (λ text. (loaded text).1)
-    (read c.args.reader.now) (read c.stream_lines.new.reader) (wrote c.args.writer.now) (wrote c.stream_lines.new.writer) c.stream_lines.result c.stream_lines.ensures.refused))
+    (read c.args.reader.now) (read c.stream_lines.new.reader) (wrote c.args.writer.now)
+    (wrote c.stream_lines.new.writer) c.stream_lines.result c.stream_lines.ensures.refused))
 
 -- all was loaded, so nothing is refused for a table
 pub returns-in-Negotiate-clause-data : goal.returns-in-Negotiate-clause-data
@@ -38,7 +41,8 @@ returns-in-Negotiate-clause-data g c =
     let wrote = g.W.Write.contents in
     let start = prepend_known c.args.before.now (read c.args.reader.now) in
     let loaded = subst (IsLoaded c.in-Lines.command c.args.tables.now) c.in-Negotiate.is c.in_ok-work.ensures.loaded in (
-      λ e. absurd (no_data c.args.tables.now start (read c.args.reader.now) (read c.stream_requests.new.reader) (wrote c.args.writer.now) (wrote c.stream_requests.new.writer) (asked c.in-Negotiate.syntax) not_found
+      λ e. absurd (no_data c.args.tables.now start (read c.args.reader.now) (read c.stream_requests.new.reader) (wrote c.args.writer.now)
+          (wrote c.stream_requests.new.writer) (asked c.in-Negotiate.syntax) not_found
           (IfErr-at_err _ e (c.stream_requests.ensures.refused c.args.tables.now loaded.1 loaded.2))),
       λ h. let refused = c.load.ensures.data.1 (subst (λ k. has_tables k c.args.tables.now ≡ false) c.in-Lines.is h) in search rules,
     )
@@ -49,7 +53,8 @@ returns-in-Negotiate-clause-unsettled g c =
     let wrote = g.W.Write.contents in
     let start = prepend_known c.args.before.now (read c.args.reader.now) in
     let loaded = subst (IsLoaded c.in-Lines.command c.args.tables.now) c.in-Negotiate.is c.in_ok-work.ensures.loaded in (
-      λ e. absurd (no_unsettled c.args.tables.now start (read c.args.reader.now) (read c.stream_requests.new.reader) (wrote c.args.writer.now) (wrote c.stream_requests.new.writer) (asked c.in-Negotiate.syntax)
+      λ e. absurd (no_unsettled c.args.tables.now start (read c.args.reader.now) (read c.stream_requests.new.reader)
+          (wrote c.args.writer.now) (wrote c.stream_requests.new.writer) (asked c.in-Negotiate.syntax)
           (IfErr-at_err _ e (c.stream_requests.ensures.refused c.args.tables.now loaded.1 loaded.2))),
       λ h. let refused = c.load.ensures.unsettled.1 (subst (λ k. IsUnsettled k c.args.tables.now) c.in-Lines.is h) in search rules,
     )
@@ -61,6 +66,8 @@ returns-in-Negotiate-clause-refused g c =
     let start = prepend_known c.args.before.now (read c.args.reader.now) in
     let t = c.args.tables.now in
     let loaded = subst (IsLoaded c.in-Lines.command t) c.in-Negotiate.is c.in_ok-work.ensures.loaded in
-    rw c.in-Lines.is (refused_loaded t start (read c.args.reader.now) (read c.stream_requests.new.reader) (wrote c.args.writer.now) (wrote c.stream_requests.new.writer) (Lines c.in-Lines.command) c.stream_requests.result
-    (subst (λ k. IfErr c.stream_requests.result (StopsLoaded (Lines k) t start (read c.args.reader.now) (read c.stream_requests.new.reader) (wrote c.args.writer.now) (wrote c.stream_requests.new.writer))) (sym loaded.0)
+    rw c.in-Lines.is (refused_loaded t start (read c.args.reader.now) (read c.stream_requests.new.reader) (wrote c.args.writer.now)
+    (wrote c.stream_requests.new.writer) (Lines c.in-Lines.command) c.stream_requests.result
+    (subst (λ k. IfErr c.stream_requests.result (StopsLoaded (Lines k) t start (read c.args.reader.now) (read c.stream_requests.new.reader)
+    (wrote c.args.writer.now) (wrote c.stream_requests.new.writer))) (sym loaded.0)
     (c.stream_requests.ensures.refused t loaded.1 loaded.2)))

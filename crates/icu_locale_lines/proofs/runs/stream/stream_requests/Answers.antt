@@ -18,7 +18,8 @@ returns-then-first-clause-output g c = λ t over settled.
     let start = prepend_known c.args.before.now (g.R.Read.remaining c.args.reader.now) in
     let read = g.R.Read.remaining c.read_first_line.new.reader in
     let all = subst (λ ends. Consumes start (prepend_known first.rest.items read) (first.line.items ++ line_end ends)) c.if-first.true reads.consumed in
-    ended_run c.args.syntax first.line.items reads.alone t made.negotiator (subst (IsExpanderOf t) (sym made.ensures.expander) over) (subst (λ e. AreSettled (likely e)) (sym made.ensures.expander) settled)
+    ended_run c.args.syntax first.line.items reads.alone t made.negotiator (subst (IsExpanderOf t) (sym made.ensures.expander) over)
+    (subst (λ e. AreSettled (likely e)) (sym made.ensures.expander) settled)
     (subst (λ line. SpellsAll c.args.syntax (listed line) made.negotiator.available) c.deref.ensures.value made.ensures.available)
     start read (g.W.Write.contents c.args.writer.now) first.rest.items (reads.at_end c.if-first.true) all (g.R.Read.remaining c.args.reader.now)
 
@@ -30,10 +31,17 @@ returns-clause-output g c = λ t over settled.
     let start = prepend_known c.args.before.now (g.R.Read.remaining c.args.reader.now) in
     let mid = prepend_known first.rest.items (g.R.Read.remaining c.read_first_line.new.reader) in
     let head = subst (λ ends. Consumes start mid (first.line.items ++ line_end ends)) c.if-first.false reads.consumed in
-    let work_of = listed_behind c.args.syntax first.line.items reads.alone t made.negotiator (subst (IsExpanderOf t) (sym made.ensures.expander) over) (subst (λ e. AreSettled (likely e)) (sym made.ensures.expander) settled)
+    let work_of = listed_behind c.args.syntax first.line.items reads.alone t made.negotiator
+    (subst (IsExpanderOf t) (sym made.ensures.expander) over) (subst (λ e. AreSettled (likely e)) (sym made.ensures.expander) settled)
     (subst (λ line. SpellsAll c.args.syntax (listed line) made.negotiator.available) c.deref.ensures.value made.ensures.available) in
-    run_behind (asked c.args.syntax) t start mid (first.line.items ++ 10 ∷ []) head (work_over c.args.syntax made.negotiator) work_of (answered_behind c.args.syntax first.line.items reads.alone) (g.R.Read.remaining c.args.reader.now) (g.R.Read.remaining c.stream_lines.new.reader) (g.W.Write.contents c.args.writer.now) (g.W.Write.contents c.stream_lines.new.writer) c.stream_lines.result
-    (subst (λ b. IfOk c.stream_lines.result (λ status. (input : List ℕ) × ReadsAll (prepend_known b (g.R.Read.remaining c.read_first_line.new.reader)) (g.R.Read.remaining c.stream_lines.new.reader) input × WritesAll (work_over c.args.syntax made.negotiator) input (g.W.Write.contents c.args.writer.now) (g.W.Write.contents c.stream_lines.new.writer) status)) c.deref-2.ensures.value c.stream_lines.ensures.whole)
+    run_behind (asked c.args.syntax) t start mid (first.line.items ++ 10 ∷ []) head (work_over c.args.syntax made.negotiator) work_of
+    (answered_behind c.args.syntax first.line.items reads.alone) (g.R.Read.remaining c.args.reader.now)
+    (g.R.Read.remaining c.stream_lines.new.reader) (g.W.Write.contents c.args.writer.now)
+    (g.W.Write.contents c.stream_lines.new.writer) c.stream_lines.result
+    (subst (λ b. IfOk c.stream_lines.result (λ status. (input : List ℕ) × ReadsAll
+    (prepend_known b (g.R.Read.remaining c.read_first_line.new.reader)) (g.R.Read.remaining c.stream_lines.new.reader) input
+    × WritesAll (work_over c.args.syntax made.negotiator) input (g.W.Write.contents c.args.writer.now)
+    (g.W.Write.contents c.stream_lines.new.writer) status)) c.deref-2.ensures.value c.stream_lines.ensures.whole)
 
 pub returns-clause-refused : goal.returns-clause-refused
 returns-clause-refused g c = λ t over settled.
@@ -43,7 +51,13 @@ returns-clause-refused g c = λ t over settled.
     let start = prepend_known c.args.before.now (g.R.Read.remaining c.args.reader.now) in
     let mid = prepend_known first.rest.items (g.R.Read.remaining c.read_first_line.new.reader) in
     let head = subst (λ ends. Consumes start mid (first.line.items ++ line_end ends)) c.if-first.false reads.consumed in
-    let work_of = listed_behind c.args.syntax first.line.items reads.alone t made.negotiator (subst (IsExpanderOf t) (sym made.ensures.expander) over) (subst (λ e. AreSettled (likely e)) (sym made.ensures.expander) settled)
+    let work_of = listed_behind c.args.syntax first.line.items reads.alone t made.negotiator
+    (subst (IsExpanderOf t) (sym made.ensures.expander) over) (subst (λ e. AreSettled (likely e)) (sym made.ensures.expander) settled)
     (subst (λ line. SpellsAll c.args.syntax (listed line) made.negotiator.available) c.deref.ensures.value made.ensures.available) in
-    stopped_behind (asked c.args.syntax) t start mid (first.line.items ++ 10 ∷ []) head (work_over c.args.syntax made.negotiator) work_of (answered_behind c.args.syntax first.line.items reads.alone) (g.R.Read.remaining c.args.reader.now) (g.R.Read.remaining c.stream_lines.new.reader) (g.W.Write.contents c.args.writer.now) (g.W.Write.contents c.stream_lines.new.writer) c.stream_lines.result
-    (subst (λ b. IfErr c.stream_lines.result (StopsStream (work_over c.args.syntax made.negotiator) (prepend_known b (g.R.Read.remaining c.read_first_line.new.reader)) (g.R.Read.remaining c.stream_lines.new.reader) (g.W.Write.contents c.args.writer.now) (g.W.Write.contents c.stream_lines.new.writer))) c.deref-2.ensures.value c.stream_lines.ensures.refused)
+    stopped_behind (asked c.args.syntax) t start mid (first.line.items ++ 10 ∷ []) head (work_over c.args.syntax made.negotiator) work_of
+    (answered_behind c.args.syntax first.line.items reads.alone) (g.R.Read.remaining c.args.reader.now)
+    (g.R.Read.remaining c.stream_lines.new.reader) (g.W.Write.contents c.args.writer.now)
+    (g.W.Write.contents c.stream_lines.new.writer) c.stream_lines.result
+    (subst (λ b. IfErr c.stream_lines.result (StopsStream (work_over c.args.syntax made.negotiator)
+    (prepend_known b (g.R.Read.remaining c.read_first_line.new.reader)) (g.R.Read.remaining c.stream_lines.new.reader)
+    (g.W.Write.contents c.args.writer.now) (g.W.Write.contents c.stream_lines.new.writer))) c.deref-2.ensures.value c.stream_lines.ensures.refused)

@@ -16,20 +16,24 @@ returns-clause-output g c =
     let k = c.in-Lines.command in
     let t = c.args.tables.now in
     let input = c.in_ok-input.input.items in
-    let all : ReadsAll (read c.args.reader.now) (read c.read_all.new.reader) input = record { consumed = c.in_ok-input.ensures.whole; ended = c.in_ok-input.ensures.end } in
+    let all : ReadsAll (read c.args.reader.now) (read c.read_all.new.reader) input = record
+    { consumed = c.in_ok-input.ensures.whole; ended = c.in_ok-input.ensures.end } in
     rw c.in-Lines.is (lines_run t before after (read c.args.reader.now) (read c.read_all.new.reader) c.write.result k input all
     (subst (λ i. IfOk c.write.result (WritesLines k t i before after)) c.deref.ensures.value (c.write.ensures.output k t c.in_ok-loaded.ensures.loaded)))
 
 -- all was loaded, so nothing was refused for a table
 pub returns-clause-data : goal.returns-clause-data
 returns-clause-data g c = (
-  λ e. absurd (no_data c.in-Lines.command c.args.tables.now c.deref.result.now (g.W.Write.contents c.args.writer.now) (g.W.Write.contents c.write.new.writer) not_found (IfErr-at_err _ e (c.write.ensures.left c.in-Lines.command c.args.tables.now c.in_ok-loaded.ensures.loaded))),
+  λ e. absurd (no_data c.in-Lines.command c.args.tables.now c.deref.result.now (g.W.Write.contents c.args.writer.now)
+      (g.W.Write.contents c.write.new.writer) not_found (IfErr-at_err _ e (c.write.ensures.left c.in-Lines.command c.args.tables.now
+      c.in_ok-loaded.ensures.loaded))),
   λ h. let refused = c.load.ensures.data.1 (subst (λ k. has_tables k c.args.tables.now ≡ false) c.in-Lines.is h) in search rules,
 )
 
 pub returns-clause-unsettled : goal.returns-clause-unsettled
 returns-clause-unsettled g c = (
-  λ e. absurd (no_unsettled c.in-Lines.command c.args.tables.now c.deref.result.now (g.W.Write.contents c.args.writer.now) (g.W.Write.contents c.write.new.writer) (IfErr-at_err _ e (c.write.ensures.left c.in-Lines.command c.args.tables.now c.in_ok-loaded.ensures.loaded))),
+  λ e. absurd (no_unsettled c.in-Lines.command c.args.tables.now c.deref.result.now (g.W.Write.contents c.args.writer.now)
+      (g.W.Write.contents c.write.new.writer) (IfErr-at_err _ e (c.write.ensures.left c.in-Lines.command c.args.tables.now c.in_ok-loaded.ensures.loaded))),
   λ h. let refused = c.load.ensures.unsettled.1 (subst (λ k. IsUnsettled k c.args.tables.now) c.in-Lines.is h) in search rules,
 )
 
@@ -42,6 +46,7 @@ returns-clause-refused g c =
     let k = c.in-Lines.command in
     let t = c.args.tables.now in
     let input = c.in_ok-input.input.items in
-    let all : ReadsAll (read c.args.reader.now) (read c.read_all.new.reader) input = record { consumed = c.in_ok-input.ensures.whole; ended = c.in_ok-input.ensures.end } in
+    let all : ReadsAll (read c.args.reader.now) (read c.read_all.new.reader) input = record
+    { consumed = c.in_ok-input.ensures.whole; ended = c.in_ok-input.ensures.end } in
     rw c.in-Lines.is (lines_refused t before after (read c.args.reader.now) (read c.read_all.new.reader) c.write.result k input all
     (subst (λ i. IfErr c.write.result (StopsLines k t i before after)) c.deref.ensures.value (c.write.ensures.left k t c.in_ok-loaded.ensures.loaded)))

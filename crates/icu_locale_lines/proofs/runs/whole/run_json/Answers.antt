@@ -19,4 +19,5 @@ returns-clause-refused g c =
       rows = ap rows_in (sym first) ∙ c.in_ok-tables.ensures.rows;
       rest_is = c.cut.ensures.rest ∙ ap after_first_line c.deref.ensures.value;
     } in
-    json_refused tables (wrote c.args.writer.now) (wrote c.write_output.new.writer) (read c.args.reader.now) (read c.read_all.new.reader) c.write_output.result c.args.command.now rest reads c.write_output.ensures.refused
+    json_refused tables (wrote c.args.writer.now) (wrote c.write_output.new.writer) (read c.args.reader.now)
+    (read c.read_all.new.reader) c.write_output.result c.args.command.now rest reads c.write_output.ensures.refused

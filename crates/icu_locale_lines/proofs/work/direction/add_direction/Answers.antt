@@ -13,4 +13,5 @@ returns-in-Ok-clause-answer c =
 pub returns-in-Err-clause-answer : goal.returns-in-Err-clause-answer
 returns-in-Err-clause-answer c =
     if_fault _ c.in-Err.refusal (IsFaultIn c.args.syntax c.args.line.now c.in-Err.refusal) c.in-Err.ensures.refused
-    (refused_in (IsDirected c.args.directionality.now) c.args.line.now c.args.syntax c.in-Err.refusal) _ _ c.add_fault.result c.add_fault.ensures.answer c.add_fault.ensures.told
+    (refused_in (IsDirected c.args.directionality.now) c.args.line.now c.args.syntax c.in-Err.refusal) _ _ c.add_fault.result
+    c.add_fault.ensures.answer c.add_fault.ensures.told

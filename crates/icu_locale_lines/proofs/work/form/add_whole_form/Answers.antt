@@ -6,8 +6,15 @@ use Rattle.icu_locale_lines.proofs.work.form.add_whole_form.Goals as goal
 
 pub returns-in-Ok-clause-answer : goal.returns-in-Ok-clause-answer
 returns-in-Ok-clause-answer c =
-    if_adds _ _ (λ t a h. inl (c.in-Ok.whole, c.in-Ok.ensures.found.0, c.in-Ok.ensures.found.1, (c.apply-changed.new.identifier, c.apply-changed.result, c.apply-changed.ensures, h.0, h.1))) _ _ c.add_changed.result c.add_changed.ensures.answer
+    if_adds _ _ (λ t a h. inl (
+      c.in-Ok.whole,
+      c.in-Ok.ensures.found.0,
+      c.in-Ok.ensures.found.1,
+      (c.apply-changed.new.identifier, c.apply-changed.result, c.apply-changed.ensures, h.0, h.1),
+    )) _ _ c.add_changed.result c.add_changed.ensures.answer
 
 pub returns-in-Err-clause-answer : goal.returns-in-Err-clause-answer
 returns-in-Err-clause-answer c =
-    if_fault _ c.in-Err.refusal (IsFaultBy c.args.syntax c.args.line.now c.in-Err.refusal) (fault_from_reading c.args.syntax c.args.line.now c.in-Err.refusal c.in-Err.ensures) (λ t a fault text failed. inr (c.in-Err.refusal, fault, text, failed)) _ _ c.add_fault.result c.add_fault.ensures.answer c.add_fault.ensures.told
+    if_fault _ c.in-Err.refusal (IsFaultBy c.args.syntax c.args.line.now c.in-Err.refusal)
+    (fault_from_reading c.args.syntax c.args.line.now c.in-Err.refusal c.in-Err.ensures)
+    (λ t a fault text failed. inr (c.in-Err.refusal, fault, text, failed)) _ _ c.add_fault.result c.add_fault.ensures.answer c.add_fault.ensures.told

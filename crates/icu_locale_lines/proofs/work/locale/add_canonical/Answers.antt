@@ -6,8 +6,12 @@ use Rattle.icu_locale_lines.proofs.work.locale.add_canonical.Goals as goal
 
 pub returns-in-Ok-clause-answer : goal.returns-in-Ok-clause-answer
 returns-in-Ok-clause-answer c =
-    if_adds _ _ (canonicalized_from_line canonical_line (likely c.args.canonicalizer.now.expander) (lent c.args.canonicalizer.now.rules) c.args.locale.now c.canonicalize.new.locale c.in-Ok.changed c.in-Ok.ensures.outcome.canonical c.in-Ok.ensures.outcome.answer) _ _ c.add_locale_line.result c.add_locale_line.ensures.answer
+    if_adds _ _ (canonicalized_from_line canonical_line (likely c.args.canonicalizer.now.expander)
+    (lent c.args.canonicalizer.now.rules) c.args.locale.now c.canonicalize.new.locale c.in-Ok.changed c.in-Ok.ensures.outcome.canonical
+    c.in-Ok.ensures.outcome.answer) _ _ c.add_locale_line.result c.add_locale_line.ensures.answer
 
 pub returns-in-Err-clause-answer : goal.returns-in-Err-clause-answer
 returns-in-Err-clause-answer c =
-    if_adds _ _ (refused_from_line canonical_line (likely c.args.canonicalizer.now.expander) (lent c.args.canonicalizer.now.rules) c.args.locale.now c.in-Err.refusal c.in-Err.ensures.outcome.refusal) _ _ c.add_refusal.result c.add_refusal.ensures.answer
+    if_adds _ _ (refused_from_line canonical_line (likely c.args.canonicalizer.now.expander)
+    (lent c.args.canonicalizer.now.rules) c.args.locale.now c.in-Err.refusal c.in-Err.ensures.outcome.refusal) _ _ c.add_refusal.result
+    c.add_refusal.ensures.answer

@@ -9,4 +9,5 @@ returns-in-Ok-clause-answer c =
 
 pub returns-in-Err-clause-answer : goal.returns-in-Err-clause-answer
 returns-in-Err-clause-answer c =
-    if_fault _ c.in-Err.refusal (IsLocaleFault c.args.line.now c.in-Err.refusal) c.in-Err.ensures.refused (λ t a fault text failed. inr (c.in-Err.refusal, fault, text, failed)) _ _ c.add_fault.result c.add_fault.ensures.answer c.add_fault.ensures.told
+    if_fault _ c.in-Err.refusal (IsLocaleFault c.args.line.now c.in-Err.refusal) c.in-Err.ensures.refused
+    (λ t a fault text failed. inr (c.in-Err.refusal, fault, text, failed)) _ _ c.add_fault.result c.add_fault.ensures.answer c.add_fault.ensures.told

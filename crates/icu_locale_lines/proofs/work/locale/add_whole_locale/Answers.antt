@@ -6,8 +6,11 @@ use Rattle.icu_locale_lines.proofs.work.locale.add_whole_locale.Goals as goal
 
 pub returns-in-Ok-clause-answer : goal.returns-in-Ok-clause-answer
 returns-in-Ok-clause-answer c =
-    if_adds _ _ (λ t a h. inl (c.in-Ok.whole, c.in-Ok.ensures.found.0, c.in-Ok.ensures.found.1, h)) _ _ c.add_canonical_whole.result c.add_canonical_whole.ensures.answer
+    if_adds _ _ (λ t a h. inl (c.in-Ok.whole, c.in-Ok.ensures.found.0, c.in-Ok.ensures.found.1, h)) _ _ c.add_canonical_whole.result
+    c.add_canonical_whole.ensures.answer
 
 pub returns-in-Err-clause-answer : goal.returns-in-Err-clause-answer
 returns-in-Err-clause-answer c =
-    if_fault _ c.in-Err.refusal (IsFaultBy c.args.syntax c.args.line.now c.in-Err.refusal) (fault_from_reading c.args.syntax c.args.line.now c.in-Err.refusal c.in-Err.ensures) (λ t a fault text failed. inr (c.in-Err.refusal, fault, text, failed)) _ _ c.add_fault.result c.add_fault.ensures.answer c.add_fault.ensures.told
+    if_fault _ c.in-Err.refusal (IsFaultBy c.args.syntax c.args.line.now c.in-Err.refusal)
+    (fault_from_reading c.args.syntax c.args.line.now c.in-Err.refusal c.in-Err.ensures)
+    (λ t a fault text failed. inr (c.in-Err.refusal, fault, text, failed)) _ _ c.add_fault.result c.add_fault.ensures.answer c.add_fault.ensures.told

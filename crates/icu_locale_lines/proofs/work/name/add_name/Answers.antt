@@ -5,9 +5,11 @@ use Rattle.icu_locale_lines.proofs.work.name.add_name.Goals as goal
 
 pub returns-in-Ok-clause-answer : goal.returns-in-Ok-clause-answer
 returns-in-Ok-clause-answer c =
-    if_adds _ _ (answer_in (IsNamed c.args.naming.now) c.args.line.now c.args.syntax c.in-Ok.identifier c.in-Ok.ensures.read) _ _ c.add.result c.add.ensures.answer
+    if_adds _ _ (answer_in (IsNamed c.args.naming.now) c.args.line.now c.args.syntax c.in-Ok.identifier c.in-Ok.ensures.read) _ _
+    c.add.result c.add.ensures.answer
 
 pub returns-in-Err-clause-answer : goal.returns-in-Err-clause-answer
 returns-in-Err-clause-answer c =
     if_fault _ c.in-Err.refusal (IsFaultIn c.args.syntax c.args.line.now c.in-Err.refusal) c.in-Err.ensures.refused
-    (refused_in (IsNamed c.args.naming.now) c.args.line.now c.args.syntax c.in-Err.refusal) _ _ c.add_fault.result c.add_fault.ensures.answer c.add_fault.ensures.told
+    (refused_in (IsNamed c.args.naming.now) c.args.line.now c.args.syntax c.in-Err.refusal) _ _ c.add_fault.result
+    c.add_fault.ensures.answer c.add_fault.ensures.told

@@ -6,4 +6,5 @@ use Rattle.icu_locale_lines.proofs.work.name.add_nameless.Goals as goal
 
 pub returns-in-IdentifierNotFound-clause-answer : goal.returns-in-IdentifierNotFound-clause-answer
 returns-in-IdentifierNotFound-clause-answer c =
-    if_adds _ _ (λ t a h. (h.0 ∙ ap (λ kind. refused_line (kind_name kind)) (sym c.in-IdentifierNotFound.is), h.1)) _ _ c.add_known.result c.add_known.ensures.answer
+    if_adds _ _ (λ t a h. (h.0 ∙ ap (λ kind. refused_line (kind_name kind)) (sym c.in-IdentifierNotFound.is), h.1)) _ _ c.add_known.result
+    c.add_known.ensures.answer

@@ -6,6 +6,7 @@ use Rattle.icu_locale_lines.proofs.work.load.Loaded.load.Goals as goal
 -- the tables are held, and not settled
 pub returns-then-not-is_settled-clause-unsettled : goal.returns-then-not-is_settled-clause-unsettled
 returns-then-not-is_settled-clause-unsettled c = (
-  λ same. unsettled_from_one (Lines c.args.command.now) c.args.tables.now c.in_ok-expander-in-Negotiate.expander (search rules) (search rules) c.in_ok-expander-in-Negotiate.ensures.made (search rules),
+  λ same. unsettled_from_one (Lines c.args.command.now) c.args.tables.now c.in_ok-expander-in-Negotiate.expander (search rules)
+      (search rules) c.in_ok-expander-in-Negotiate.ensures.made (search rules),
   λ unsettled. refl,
 )

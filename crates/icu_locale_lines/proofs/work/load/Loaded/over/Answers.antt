@@ -19,5 +19,8 @@ returns-in_ok-negotiator-in-Negotiate-clause-work c = λ k t loaded.
     let over = subst (IsExpanderOf t) (sym made.ensures.expander) of.1 in
     let settled = subst (λ e. AreSettled (likely e)) (sym made.ensures.expander) of.2 in
     let available = subst (λ line. SpellsAll c.in-Negotiate.syntax (listed line) made.negotiator.available) c.cut.ensures.first made.ensures.available in
-    let answered = ap (λ l. text_answered l c.args.input.now) of.0 ∙ sym c.cut.ensures.rest in
-    (subst (λ l. IsWorkOf l t c.args.input.now (work_over c.in-Negotiate.syntax made.negotiator)) (sym of.0) (record { syntax = refl; tools = (over, settled, available) }), answered)
+    let answered = ap (λ l. text_answered l c.args.input.now) of.0 ∙ sym c.cut.ensures.rest in (
+      subst (λ l. IsWorkOf l t c.args.input.now (work_over c.in-Negotiate.syntax made.negotiator)) (sym of.0)
+          (record { syntax = refl; tools = (over, settled, available) }),
+      answered,
+    )
