@@ -1,4 +1,4 @@
-// A language written in lower case.
+//! A language written in lower case.
 ghost use Rattle.std.specs.Prelude.{◌≡◌, ◌++◌, codes, map, true};
 ghost use Rattle.std.specs.Fmt.{WritesOnOk};
 ghost use Rattle.std.specs.Option.{option_to_list};
