@@ -213,7 +213,7 @@ module _ (work : Work) (read mid wrote between : Stream) (status : Status) (carr
     consumed_more new part more,
     lines_behind WritesWholeLines wrote'
         (λ t w. WritesWholeLines-behind work wrote between wrote' before.done t status before.whole before.answered w) new part
-            (memory (Err e) refl (ap Err is)),
+        (memory (Err e) refl (ap Err is)),
   )
   StreamProgress-refused new wrote' part more e (inr is) memory write = subst (StopsStream work read new wrote wrote') (sym is)
       (inl (
