@@ -8,11 +8,13 @@ use Rattle.std.proofs.lemmas.Bool.Decides.{nat_tests}
 use Rattle.std.proofs.lemmas.List.Elements.{All-from_get_or}
 use Rattle.std.proofs.lemmas.List.Splits.{slice_split_none, slice_split_at, length-slice_split}
 use Rattle.icu_locale_lines.specs.Lists.{is_space}
-use Rattle.icu_locale_lines.specs.Commands.{AreCommandWords, AreStreamWords, AreTaskWords, plain, syntax_word}
+use Rattle.icu_locale_lines.specs.Commands.{AreCommandWords, AreStreamWords, AreTaskWords, plain, syntax_word, task_word}
 use Rattle.icu_locale_lines.specs.laws.Commands.{counted, behind_syntax, without_syntax}
 use Rattle.icu_locale_lines.specs.declared.command.Command.TheVariants.{Lines}
 use Rattle.icu_locale_lines.specs.declared.command.LineCommand.{LineCommand}
 use Rattle.icu_locale_lines.specs.declared.command.Task.{Task}
+use Rattle.icu_locale_lines.specs.declared.command.Task.TheVariants.{Transform, Canonicalize, Direction, Negotiate, Name}
+use Rattle.icu_locale_lines.specs.declared.work.form.Transform.TheVariants.{Maximize, Minimize, MinimizeScript}
 use Rattle.icu_locale_lines.specs.declared.error.CliError.{CliError}
 use Rattle.icu_locale_extensions.specs.declared.syntax.Syntax.{Syntax}
 use Rattle.icu_locale_c.specs.Calls.{AreNoCommand, Names, NamesNone}
@@ -134,3 +136,27 @@ pub names_none : {A : Type 0} (text bytes : List ℕ) → text ≡ bytes → (r 
     → IfErr r (λ e. (e ≡ refusal.Command) × AreNoCommand (slice_split is_space text)) → IfErr r (λ e. (e ≡ refusal.Command) × NamesNone bytes)
 names_none text bytes same (Ok a) none = tt
 names_none text bytes same (Err e) none = (none.0, λ utf8. subst (λ (t : List ℕ). AreNoCommand (slice_split is_space t)) same none.1)
+
+-- the word of a task has no space
+word_alone : (task : Task) → slice_split is_space (task_word task) ≡ task_word task ∷ []
+word_alone (Transform Maximize) = refl
+word_alone (Transform Minimize) = refl
+word_alone (Transform MinimizeScript) = refl
+word_alone Canonicalize = refl
+word_alone Direction = refl
+word_alone Negotiate = refl
+word_alone (Name chain preferences) = refl
+
+-- a text that is the word of a task is one word
+pub word_whole : (text : List ℕ) (c : LineCommand) → AreCommandWords (text ∷ []) (Lines c) → slice_split is_space text ≡ text ∷ []
+word_whole text c are =
+    let whole = are.1.2 in
+    let is : text ≡ task_word c.task = cc in
+    subst (λ w. slice_split is_space w ≡ w ∷ []) (sym is) (word_alone c.task)
+
+-- and its words are those of the task
+pub word_plain : (text : List ℕ) (c : LineCommand) → AreCommandWords (text ∷ []) (Lines c) → AreCommandWords (slice_split is_space text) (Lines c)
+word_plain text c are = subst (λ ws. AreCommandWords ws (Lines c)) (sym (word_whole text c are)) are
+
+pub word_named : (text : List ℕ) (c : LineCommand) → AreCommandWords (text ∷ []) (Lines c) → Names text c
+word_named text c are = inl (word_plain text c are)

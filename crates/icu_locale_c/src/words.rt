@@ -24,11 +24,15 @@ pub fn read_command(alloc: Global, text: &[u8]) -> Result<LineCommand, Refusal>
     }
 }
 
+// Most texts are one word, which is compared as it is.
 fn command_in(alloc: Global, text: &str) -> Result<LineCommand, Refusal>
     ensures named { IfOk result (Names text.now) }
     ensures refused { IfErr result (λ e. (e ≡ Refusal.Command)
         × AreNoCommand (slice_split is_space text.now)) }
 {
+    if let Ok(command) = one_word(text) {
+        return Ok(command);
+    }
     match cut(text) {
         Some((word, rest)) => match syntax_of(word) {
             Some(syntax) => with_syntax(alloc, syntax, rest),
@@ -59,6 +63,10 @@ fn plain_in(alloc: Global, text: &str) -> Result<LineCommand, Refusal>
     ensures refused { IfErr result (λ e. (e ≡ Refusal.Command)
         × AreNoPlain (slice_split is_space text.now)) }
 {
+    let refusal = match one_word(text) {
+        Ok(command) => return Ok(command),
+        Err(refusal) => refusal,
+    };
     match cut(text) {
         Some((word, rest)) => {
             if word == "name" {
@@ -67,7 +75,7 @@ fn plain_in(alloc: Global, text: &str) -> Result<LineCommand, Refusal>
                 Err(Refusal::Command)
             }
         }
-        None => one_word(text),
+        None => Err(refusal),
     }
 }
 

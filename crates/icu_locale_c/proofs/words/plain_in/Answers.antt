@@ -2,8 +2,11 @@ use Rattle.std.proofs.Common.{rules, refl, ap, codes, ◌≡◌, ◌≢◌, ◌�
 use Rattle.std.specs.List.{slice_split}
 use Rattle.icu_locale_lines.specs.Lists.{is_space}
 use Rattle.icu_locale_c.specs.inner.Words.{AreNoPlain}
-use Rattle.icu_locale_c.proofs.CommandTexts.{none_of_others, some_word, same_words}
+use Rattle.icu_locale_c.proofs.CommandTexts.{none_of_others, some_word, same_words, word_plain}
 use Rattle.icu_locale_c.proofs.words.plain_in.Goals as goal
+
+pub returns-in-Ok-clause-named : goal.returns-in-Ok-clause-named
+returns-in-Ok-clause-named c = word_plain c.args.text.now c.in-Ok.command c.in-Ok.ensures.named
 
 pub returns-then-eq-clause-refused : goal.returns-then-eq-clause-refused
 returns-then-eq-clause-refused c =
@@ -20,5 +23,6 @@ returns-else-eq-clause-refused c =
     )
 
 pub returns-in-None-clause-refused : goal.returns-in-None-clause-refused
-returns-in-None-clause-refused c = same_words (slice_split is_space c.args.text.now)
-    (c.args.text.now ∷ []) c.in-None.ensures c.one_word.result c.one_word.ensures.refused
+returns-in-None-clause-refused c =
+    let none = c.in-Err.ensures.refused in
+    (none.0, subst AreNoPlain (sym c.in-None.ensures) none.1)
