@@ -11,7 +11,9 @@ use crate::negotiations::requests_line;
 use crate::refusal::Refusal;
 use icu_locale::{Available, CanonicalizerRef, LocaleExpander, ReadRules};
 use icu_locale_extensions::Syntax;
-use icu_locale_lines::{CliError, LineCommand, Loaded, Task, answer_locale, load_expander};
+use icu_locale_lines::{
+    CliError, LineCommand, Loaded, Task, Tools, Transform, Work, answer_locale, load_expander,
+};
 use icu_provider::Aliases;
 use icu_tables::Tables;
 use std::alloc::Global;
@@ -40,7 +42,34 @@ pub fn line_of(
             None => Err(Refusal::Negotiate),
         },
         Task::Canonicalize => locale_line(alloc, tables, rules, asked, room, line),
+        Task::Transform(form) => form_line(tables, form, asked, room, line),
         _ => plain_line(alloc, tables, asked, room, line),
+    }
+}
+
+// The line of a form over likely subtags, which a few references make.
+fn form_line(
+    tables: &Tables,
+    form: Transform,
+    asked: &LineCommand,
+    room: &mut Vec<u8>,
+    line: &[u8],
+) -> Result<bool, Refusal>
+    requires { asked.now.task ≡ Task.Transform form }
+    ensures answered { IfOk result (IsLineOf (without_list tables.now) asked.now line.now
+        room.new.items) }
+    ensures refused { IfErr result (IsRefusedLine (without_list tables.now) asked.now) }
+{
+    let Ok(expander) = load_expander(tables) else {
+        return Err(Refusal::Table);
+    };
+    let work = Work {
+        syntax: asked.syntax,
+        tools: Tools::Transform(form, expander),
+    };
+    match work.answer(room, line) {
+        Ok(accepted) => Ok(accepted),
+        Err(_) => Err(Refusal::Memory),
     }
 }
 
