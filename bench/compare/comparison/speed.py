@@ -81,8 +81,10 @@ def branches(costs, program, plain, others):
     yield "| command | goal |" + "".join(f" {it.name} |" for it in (program, plain, *others))
     yield "|---|---|" + "---|" * (2 + len(others))
     for command in COMMANDS:
-        cells = [costs.shown(it, command) for it in (program, plain, *others)]
-        yield f"| `{command}` | {costs.unit.goals.get(command, '–')} | {' | '.join(cells)} |"
+        goal, found = costs.unit.goals.get(command), costs.of(program, command)
+        cells = [bold(costs.shown(program, command), goal and found and found <= goal)]
+        cells += [costs.shown(it, command) for it in (plain, *others)]
+        yield f"| `{command}` | {goal or '–'} | {' | '.join(cells)} |"
 
 
 def report(program, plain, others, beside, inputs, lines, rounds):
