@@ -18,10 +18,10 @@ pub struct Ways {
 }
 
 impl Drawn for Ways {
-    fn draw(numbers: &mut Numbers, _subtags: &Subtags) -> Ways {
+    fn draw(numbers: &mut Numbers, subtags: &Subtags) -> Ways {
         Ways {
-            left_to_right: chosen(numbers),
-            right_to_left: chosen(numbers),
+            left_to_right: Drawn::draw(numbers, subtags),
+            right_to_left: Drawn::draw(numbers, subtags),
         }
     }
 }
@@ -30,12 +30,13 @@ impl Ways {
     /// As the crates hold them.
     pub fn held(self, alloc: Global, subtags: &Subtags) -> Result<ScriptDirection, DataError> {
         let mut held = ScriptDirection::new(alloc);
-        for (place, script) in subtags.scripts.iter().enumerate() {
-            if is_marked(self.left_to_right, place) {
-                held.insert_ltr(*script)?;
+        for script in subtags.scripts {
+            let (ltr, rtl) = self.of(subtags, Some(script));
+            if ltr {
+                held.insert_ltr(script)?;
             }
-            if is_marked(self.right_to_left, place) {
-                held.insert_rtl(*script)?;
+            if rtl {
+                held.insert_rtl(script)?;
             }
         }
         Ok(held)
@@ -43,32 +44,13 @@ impl Ways {
 
     // Whether a script that is there runs left to right, and whether it runs right to left.
     fn of(self, subtags: &Subtags, script: Option<Script>) -> (bool, bool) {
-        let place = subtags
-            .scripts
-            .iter()
-            .position(|other| Some(*other) == script);
-        match place {
-            Some(place) => {
-                (
-                    is_marked(self.left_to_right, place),
-                    is_marked(self.right_to_left, place),
-                )
+        for place in 0..3 {
+            if script == Some(subtags.scripts[place]) {
+                return (self.left_to_right[place], self.right_to_left[place]);
             }
-            None => (false, false),
         }
+        (false, false)
     }
-}
-
-fn chosen(numbers: &mut Numbers) -> [bool; 3] {
-    [
-        numbers.is_chosen(),
-        numbers.is_chosen(),
-        numbers.is_chosen(),
-    ]
-}
-
-fn is_marked(marks: [bool; 3], place: usize) -> bool {
-    marks.get(place).copied().unwrap_or(false)
 }
 
 // Left to right comes first.
@@ -91,17 +73,12 @@ fn compare_direction(
     (ltr, rtl): (bool, bool),
 ) -> Result<(), Fault> {
     let id = x.held(alloc, subtags)?;
-    report.see(directionality.get(&id) == direction(ltr, rtl), "get", x)?;
-    report.see(
-        directionality.is_left_to_right(&id) == ltr,
-        "is_left_to_right",
-        x,
-    )?;
-    report.see(
-        directionality.is_right_to_left(&id) == rtl,
-        "is_right_to_left",
-        x,
-    )?;
+    let is_so = directionality.get(&id) == direction(ltr, rtl);
+    report.see(is_so, "get", x);
+    let is_so = directionality.is_left_to_right(&id) == ltr;
+    report.see(is_so, "is_left_to_right", x);
+    let is_so = directionality.is_right_to_left(&id) == rtl;
+    report.see(is_so, "is_right_to_left", x);
     Ok(())
 }
 
@@ -113,7 +90,7 @@ fn compare_everyone(
     ways: Ways,
     variants: u8,
 ) -> Result<(), Fault> {
-    for x in everyone(subtags, variants, alloc)? {
+    for x in everyone(subtags, variants) {
         let runs = ways.of(subtags, maximal(rows, subtags, &x).script);
         compare_direction(alloc, report, directionality, subtags, &x, runs)?;
     }

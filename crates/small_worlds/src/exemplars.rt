@@ -1,6 +1,6 @@
 //! Sets of exemplar characters, by their ranges and strings.
 use crate::fault::Fault;
-use crate::numbers::Numbers;
+use crate::numbers::{Drawn, Numbers};
 use crate::plain::Plain;
 use crate::report::Report;
 use crate::subtags::Subtags;
@@ -29,60 +29,65 @@ const TEXTS: [&str; 7] = ["", "a", "d", "g", "ba", "ab", "\u{10ffff}"];
 // The bounds of the ranges.
 const BOUNDS: [u32; 8] = [0, 97, 98, 99, 100, 101, 103, 0x10_ffff];
 
-/// A set of one world, and its kind.
-#[derive(Drop)]
+/// A set of one world: which of the bounds and of the strings it has.
+#[derive(Clone, Copy)]
 pub struct Exemplars {
-    kind: ExemplarMarker,
-    bounds: Vec<u32>,
-    strings: Vec<&'static str>,
+    bounds: [bool; 8],
+    strings: [bool; 3],
+}
+
+impl Drawn for Exemplars {
+    fn draw(numbers: &mut Numbers, subtags: &Subtags) -> Exemplars {
+        Exemplars {
+            bounds: Drawn::draw(numbers, subtags),
+            strings: Drawn::draw(numbers, subtags),
+        }
+    }
 }
 
 impl Exemplars {
-    // The next one, of a kind.
-    fn new(
-        alloc: Global,
-        numbers: &mut Numbers,
-        kind: ExemplarMarker,
-    ) -> Result<Exemplars, AllocError> {
+    // The bounds, of which the last is left out where it has no other to make a range with.
+    fn bounds(&self, alloc: Global) -> Result<Vec<u32>, AllocError> {
         let mut bounds = Vec::new(alloc);
-        for bound in BOUNDS {
-            if numbers.is_chosen() {
-                bounds.push(bound)?;
+        for (bound, is_there) in BOUNDS.iter().zip(&self.bounds) {
+            if *is_there {
+                bounds.push(*bound)?;
             }
         }
         if bounds.len() % 2 == 1 {
             let _ = bounds.pop();
         }
+        Ok(bounds)
+    }
+
+    fn strings(&self, alloc: Global) -> Result<Vec<String>, AllocError> {
         let mut strings = Vec::new(alloc);
-        for string in STRINGS {
-            if numbers.is_chosen() {
-                strings.push(string)?;
+        for (string, is_there) in STRINGS.iter().zip(&self.strings) {
+            if *is_there {
+                strings.push(String::from_str(alloc, string)?)?;
             }
         }
-        Ok(Exemplars {
-            kind,
-            bounds,
-            strings,
-        })
+        Ok(strings)
     }
 
     fn held(&self, alloc: Global) -> Result<ExemplarCharactersData, Fault> {
-        let mut ranges = Vec::new(alloc);
-        ranges.extend_from_slice(&self.bounds)?;
-        let mut strings = Vec::new(alloc);
-        for string in &self.strings {
-            strings.push(String::from_str(alloc, string)?)?;
-        }
-        Ok(ExemplarCharactersData::try_new(ranges, strings)?)
+        let bounds = self.bounds(alloc)?;
+        Ok(ExemplarCharactersData::try_new(bounds, self.strings(alloc)?)?)
     }
 
     // Whether some pair of bounds holds a character.
     fn has(&self, character: char) -> bool {
         let code = u32::from(character);
-        self.bounds.chunks(2).any(|pair| match pair {
-            [first, second] => *first <= code && code < *second,
-            _ => false,
-        })
+        let mut first = None;
+        for (bound, is_there) in BOUNDS.iter().zip(&self.bounds) {
+            match first {
+                _ if !*is_there => {}
+                None => first = Some(*bound),
+                Some(first) if first <= code && code < *bound => return true,
+                Some(_) => first = None,
+            }
+        }
+        false
     }
 
     // A text of one character asks for this, and every other text for the strings.
@@ -90,18 +95,18 @@ impl Exemplars {
         let mut characters = text.chars();
         match (characters.next(), characters.next()) {
             (Some(character), None) => self.has(character),
-            _ => self.strings.iter().any(|string| *string == text),
+            _ => self.has_string(text),
         }
     }
-}
 
-/// The next sets, one of each kind.
-pub fn draw_exemplars(alloc: Global, numbers: &mut Numbers) -> Result<Vec<Exemplars>, AllocError> {
-    let mut sets = Vec::new(alloc);
-    for kind in KINDS {
-        sets.push(Exemplars::new(alloc, numbers, kind)?)?;
+    fn has_string(&self, text: &str) -> bool {
+        for (string, is_there) in STRINGS.iter().zip(&self.strings) {
+            if *is_there && *string == text {
+                return true;
+            }
+        }
+        false
     }
-    Ok(sets)
 }
 
 // The locale that the sets stand at.
@@ -114,10 +119,10 @@ fn root(subtags: &Subtags) -> DataLocale {
 }
 
 // The tables with these sets.
-fn tables_of(alloc: Global, sets: &[Exemplars], subtags: &Subtags) -> Result<Tables, Fault> {
+fn tables_of(alloc: Global, sets: &[Exemplars; 5], subtags: &Subtags) -> Result<Tables, Fault> {
     let mut tables = Tables::new(alloc);
-    for exemplars in sets {
-        tables.insert_exemplars(exemplars.kind, root(subtags), exemplars.held(alloc)?)?;
+    for (kind, exemplars) in KINDS.iter().zip(sets) {
+        tables.insert_exemplars(*kind, root(subtags), exemplars.held(alloc)?)?;
     }
     Ok(tables)
 }
@@ -144,33 +149,27 @@ fn compare_set(
     set: &ExemplarCharactersBorrowed<'_>,
     exemplars: &Exemplars,
     und: &Plain,
-) -> Result<(), Fault> {
+) {
     for character in CHARACTERS {
-        report.see(
-            set.contains(character) == exemplars.has(character),
-            "contains",
-            und,
-        )?;
+        let is_so = set.contains(character) == exemplars.has(character);
+        report.see(is_so, "contains", und);
     }
     for text in TEXTS {
-        report.see(
-            set.contains_str(text) == exemplars.has_text(text),
-            "contains_str",
-            und,
-        )?;
+        let is_so = set.contains_str(text) == exemplars.has_text(text);
+        report.see(is_so, "contains_str", und);
     }
-    Ok(())
 }
 
 fn compare_made(
     report: &mut Report,
     tables: &Tables,
-    exemplars: &Exemplars,
+    (kind, exemplars): (ExemplarMarker, &Exemplars),
     subtags: &Subtags,
 ) -> Result<(), Fault> {
-    let set = made(tables, exemplars.kind, root(subtags))?;
+    let set = made(tables, kind, root(subtags))?;
     let und = Plain::of_language(subtags.languages[0]);
-    compare_set(report, &set.as_borrowed(), exemplars, &und)
+    compare_set(report, &set.as_borrowed(), exemplars, &und);
+    Ok(())
 }
 
 /// The calls of the sets of exemplar characters, each made by the constructor of its kind.
@@ -178,11 +177,11 @@ pub fn compare_exemplars(
     alloc: Global,
     report: &mut Report,
     subtags: &Subtags,
-    sets: &[Exemplars],
+    sets: &[Exemplars; 5],
 ) -> Result<(), Fault> {
     let tables = tables_of(alloc, sets, subtags)?;
-    for exemplars in sets {
-        compare_made(report, &tables, exemplars, subtags)?;
+    for (kind, exemplars) in KINDS.iter().zip(sets) {
+        compare_made(report, &tables, (*kind, exemplars), subtags)?;
     }
     Ok(())
 }

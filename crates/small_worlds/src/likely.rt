@@ -1,5 +1,5 @@
 //! Rows of likely subtags, and maximal forms by a walk over them.
-use crate::numbers::{Drawn, Numbers, draw_list};
+use crate::numbers::{Drawn, Numbers};
 use crate::plain::Plain;
 use crate::subtags::Subtags;
 use icu_locale_core::{Language, Region, Script};
@@ -98,24 +98,21 @@ impl Drawn for Row {
 #[derive(Drop)]
 pub struct Likely {
     und: Triple,
-    extended: Vec<Row>,
-    common: Vec<Row>,
+    extended: [Row; 5],
+    common: [Row; 8],
+}
+
+impl Drawn for Likely {
+    fn draw(numbers: &mut Numbers, subtags: &Subtags) -> Likely {
+        Likely {
+            und: Drawn::draw(numbers, subtags),
+            extended: Drawn::draw(numbers, subtags),
+            common: Drawn::draw(numbers, subtags),
+        }
+    }
 }
 
 impl Likely {
-    /// The next ones.
-    pub fn new(
-        alloc: Global,
-        numbers: &mut Numbers,
-        subtags: &Subtags,
-    ) -> Result<Likely, AllocError> {
-        Ok(Likely {
-            und: Drawn::draw(numbers, subtags),
-            extended: draw_list(alloc, numbers, subtags, 5)?,
-            common: draw_list(alloc, numbers, subtags, 8)?,
-        })
-    }
-
     /// The common tables.
     pub fn common(
         &self,
@@ -161,12 +158,22 @@ fn found(rows: &[Row], x: &Plain) -> Option<Triple> {
     } else {
         OF_A_LANGUAGE
     } {
-        let last = rows.iter().rev().find(|row| row.serves(key, x));
-        if let Some(row) = last {
-            return Some(row.triple);
+        let last = last(rows, key, x);
+        if last.is_some() {
+            return last;
         }
     }
     None
+}
+
+fn last(rows: &[Row], key: Key, x: &Plain) -> Option<Triple> {
+    let mut last = None;
+    for row in rows {
+        if row.serves(key, x) {
+            last = Some(row.triple);
+        }
+    }
+    last
 }
 
 /// The maximal form: what is missing is taken from the row that is found.

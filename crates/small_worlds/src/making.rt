@@ -67,7 +67,7 @@ impl<'w> Maker<'w> {
         expander: LocaleExpander<'w>,
     ) -> Result<LocaleDirectionality<'w>, DataError> {
         match (self.making, self.with_extended) {
-            (Making::Tables, _) => self.directionality_of_tables(),
+            (Making::Tables, _) => self.directionality_of_tables(expander),
             (Making::Provider, false) => LocaleDirectionality::try_new_common_unstable(self.tables),
             (Making::Provider, true) => {
                 LocaleDirectionality::try_new_extended_unstable(self.tables)
@@ -82,15 +82,18 @@ impl<'w> Maker<'w> {
         }
     }
 
-    fn directionality_of_tables(self) -> Result<LocaleDirectionality<'w>, DataError> {
-        let language = self.tables.load_likely_language()?;
-        let script_region = self.tables.load_likely_script_region()?;
+    fn directionality_of_tables(
+        self,
+        over: LocaleExpander<'w>,
+    ) -> Result<LocaleDirectionality<'w>, DataError> {
+        let (language, script_region) = (over.language, over.script_region);
         let directions = self.tables.load_script_direction()?;
-        if !self.with_extended {
-            return Ok(LocaleDirectionality::new_common(language, script_region, directions));
-        }
-        let extended = self.tables.load_likely_extended()?;
-        Ok(LocaleDirectionality::new_extended(language, script_region, extended, directions))
+        Ok(match over.extended {
+            None => LocaleDirectionality::new_common(language, script_region, directions),
+            Some(extended) => {
+                LocaleDirectionality::new_extended(language, script_region, extended, directions)
+            }
+        })
     }
 
     /// The canonicalizer, over the expander where it takes one.
@@ -100,7 +103,7 @@ impl<'w> Maker<'w> {
         expander: LocaleExpander<'w>,
     ) -> Result<LocaleCanonicalizer<'w>, DataError> {
         match (self.making, self.with_extended) {
-            (Making::Tables, _) => self.canonicalizer_of_tables(alloc),
+            (Making::Tables, _) => self.canonicalizer_of_tables(alloc, expander),
             (Making::Provider, false) => {
                 LocaleCanonicalizer::try_new_common_unstable(alloc, self.tables)
             }
@@ -117,14 +120,18 @@ impl<'w> Maker<'w> {
         }
     }
 
-    fn canonicalizer_of_tables(self, alloc: Global) -> Result<LocaleCanonicalizer<'w>, DataError> {
-        let language = self.tables.load_likely_language()?;
-        let script_region = self.tables.load_likely_script_region()?;
+    fn canonicalizer_of_tables(
+        self,
+        alloc: Global,
+        over: LocaleExpander<'w>,
+    ) -> Result<LocaleCanonicalizer<'w>, DataError> {
+        let (language, script_region) = (over.language, over.script_region);
         let aliases = self.tables.load_aliases()?;
-        if !self.with_extended {
-            return LocaleCanonicalizer::new_common(alloc, language, script_region, aliases);
+        match over.extended {
+            None => LocaleCanonicalizer::new_common(alloc, language, script_region, aliases),
+            Some(extended) => {
+                LocaleCanonicalizer::new_extended(alloc, language, script_region, extended, aliases)
+            }
         }
-        let extended = self.tables.load_likely_extended()?;
-        LocaleCanonicalizer::new_extended(alloc, language, script_region, extended, aliases)
     }
 }

@@ -3,7 +3,6 @@ use crate::subtags::Subtags;
 use icu_locale_core::{Language, Region, Script, Subtag};
 use rand::RngExt;
 use rand_pcg::Pcg32;
-use std::alloc::{AllocError, Global};
 
 /// The numbers that are left.
 #[derive(Drop)]
@@ -97,26 +96,24 @@ impl<A: Drawn, B: Drawn, C: Drawn> Drawn for (A, B, C) {
     }
 }
 
-/// So many of a kind.
-pub fn draw_list<T: Drawn>(
-    alloc: Global,
-    numbers: &mut Numbers,
-    subtags: &Subtags,
-    count: usize,
-) -> Result<Vec<T>, AllocError> {
-    let mut list = Vec::new(alloc);
-    for _ in 0..count {
-        list.push(T::draw(numbers, subtags))?;
+impl<T: Drawn + Copy, const N: usize> Drawn for [T; N] {
+    fn draw(numbers: &mut Numbers, subtags: &Subtags) -> [T; N] {
+        let mut all = [T::draw(numbers, subtags); N];
+        for place in 1..N {
+            all[place] = T::draw(numbers, subtags);
+        }
+        all
     }
-    Ok(list)
 }
 
 /// None, one or two of a kind.
-pub fn draw_few<T: Drawn>(
-    alloc: Global,
-    numbers: &mut Numbers,
-    subtags: &Subtags,
-) -> Result<Vec<T>, AllocError> {
-    let count = numbers.place();
-    draw_list(alloc, numbers, subtags, count)
+pub fn draw_few<T: Drawn>(numbers: &mut Numbers, subtags: &Subtags) -> [Option<T>; 2] {
+    match numbers.place() {
+        0 => [None, None],
+        1 => [Some(T::draw(numbers, subtags)), None],
+        _ => [
+            Some(T::draw(numbers, subtags)),
+            Some(T::draw(numbers, subtags)),
+        ],
+    }
 }

@@ -3,7 +3,7 @@ use crate::fault::Fault;
 use crate::numbers::{Drawn, Numbers};
 use crate::subtags::Subtags;
 use icu_locale_core::{Language, LanguageIdentifier, Region, Script, Variants};
-use std::alloc::{AllocError, Global};
+use std::alloc::Global;
 
 /// The sets of one variant each.
 pub const MARKS: [u8; 3] = [1, 2, 4];
@@ -32,8 +32,8 @@ impl Plain {
     pub fn bare(&self, subtags: &Subtags) -> Plain {
         Plain {
             language: self.language,
-            script: self.script.filter(|script| *script != subtags.scripts[0]),
-            region: self.region.filter(|region| *region != subtags.regions[0]),
+            script: known(self.script, subtags.scripts[0]),
+            region: known(self.region, subtags.regions[0]),
             variants: self.variants,
         }
     }
@@ -80,6 +80,14 @@ impl Drawn for Plain {
     }
 }
 
+fn known<T: Copy + PartialEq>(subtag: Option<T>, unknown: T) -> Option<T> {
+    if subtag == Some(unknown) {
+        None
+    } else {
+        subtag
+    }
+}
+
 // The bits of the variants of an identifier; a bit of none where one is of no world.
 fn marks_of(held: &LanguageIdentifier, subtags: &Subtags) -> u8 {
     let mut marks = 0;
@@ -99,32 +107,20 @@ fn mark_of<V: PartialEq>(variants: &[V; 3], variant: &V) -> u8 {
 }
 
 /// Every identifier of the worlds with a set of variants.
-pub fn everyone(subtags: &Subtags, variants: u8, alloc: Global) -> Result<Vec<Plain>, AllocError> {
-    let mut all = Vec::new(alloc);
-    for language in subtags.languages {
-        let plain = Plain {
+pub fn everyone(subtags: &Subtags, variants: u8) -> [Plain; 48] {
+    let mut all = [Plain::of_language(subtags.languages[0]); 48];
+    for place in 0..48 {
+        all[place] = Plain {
+            language: subtags.languages[place / 16 % 3],
+            script: none_or_one(&subtags.scripts, place / 4 % 4),
+            region: none_or_one(&subtags.regions, place % 4),
             variants,
-            ..Plain::of_language(language)
         };
-        put_scripts(&mut all, subtags, &plain)?;
     }
-    Ok(all)
+    all
 }
 
-fn put_scripts(all: &mut Vec<Plain>, subtags: &Subtags, plain: &Plain) -> Result<(), AllocError> {
-    put_regions(all, subtags, plain)?;
-    for script in subtags.scripts {
-        let script = Some(script);
-        put_regions(all, subtags, &Plain { script, ..*plain })?;
-    }
-    Ok(())
-}
-
-fn put_regions(all: &mut Vec<Plain>, subtags: &Subtags, plain: &Plain) -> Result<(), AllocError> {
-    all.push(*plain)?;
-    for region in subtags.regions {
-        let region = Some(region);
-        all.push(Plain { region, ..*plain })?;
-    }
-    Ok(())
+// None at first, and then one of three.
+fn none_or_one<T: Copy>(three: &[T; 3], place: usize) -> Option<T> {
+    three.get(place.checked_sub(1)?).copied()
 }

@@ -9,6 +9,8 @@ const SHOWN: usize = 20;
 #[derive(Drop)]
 pub struct Report {
     text: String,
+    // Whether memory was refused for the text.
+    is_cut: bool,
     differences: usize,
     /// The world in hand.
     pub world: usize,
@@ -40,6 +42,7 @@ impl Report {
     pub fn new(alloc: Global) -> Report {
         Report {
             text: String::new(alloc),
+            is_cut: false,
             differences: 0,
             world: 0,
             met: Met {
@@ -63,20 +66,23 @@ impl Report {
     }
 
     /// A call that has to answer as its slow body does.
-    pub fn see(&mut self, agrees: bool, call: &str, at: &Plain) -> Result<(), AllocError> {
+    pub fn see(&mut self, agrees: bool, call: &str, at: &Plain) {
         if agrees {
-            return Ok(());
+            return;
         }
         self.differences = self.differences.saturating_add(1);
         if self.differences <= SHOWN {
             let world = self.world;
-            write!(self.text, "world {world}: {call} differs at {at:?}\n")?;
+            let told = write!(self.text, "world {world}: {call} differs at {at:?}\n");
+            self.is_cut |= told.is_err();
         }
-        Ok(())
     }
 
     /// The whole text, which ends with the number of worlds.
     pub fn end(mut self, count: usize) -> Result<String, AllocError> {
+        if self.is_cut {
+            return Err(AllocError);
+        }
         if !self.met.is_all() {
             self.text.push_str("some kind of answer was not met\n")?;
         }

@@ -4,7 +4,6 @@ use crate::numbers::{Drawn, Numbers, draw_few};
 use crate::plain::{MARKS, Plain};
 use crate::subtags::Subtags;
 use icu_locale_core::{Language, Region, Script};
-use std::alloc::{AllocError, Global};
 
 /// What a rule matches, and what stands in its place.
 #[derive(Clone, Copy)]
@@ -24,16 +23,15 @@ impl Drawn for Rule {
 
 /// The regions of which one replaces a region: none, one or two.
 #[derive(Clone, Copy)]
-pub struct Regions {
-    pub two: [Region; 2],
-    pub count: usize,
-}
+pub struct Regions(pub [Option<Region>; 2]);
 
 impl Drawn for Regions {
     fn draw(numbers: &mut Numbers, subtags: &Subtags) -> Regions {
-        Regions {
-            two: [Drawn::draw(numbers, subtags), Drawn::draw(numbers, subtags)],
-            count: numbers.place(),
+        let [first, second]: [Region; 2] = Drawn::draw(numbers, subtags);
+        match numbers.place() {
+            0 => Regions([None, None]),
+            1 => Regions([Some(first), None]),
+            _ => Regions([Some(first), Some(second)]),
         }
     }
 }
@@ -51,39 +49,39 @@ impl Drawn for Mark {
 /// The rules of one world. In a map the last row with a key counts.
 #[derive(Drop)]
 pub struct Rules {
-    pub language_variants: Vec<Rule>,
-    pub language: Vec<Rule>,
-    pub sgn_region: Vec<(Region, Language)>,
-    pub language_len2: Vec<(Language, Plain)>,
-    pub language_len3: Vec<(Language, Plain)>,
-    pub script: Vec<(Script, Script)>,
-    pub region_alpha: Vec<(Region, Region)>,
-    pub region_num: Vec<(Region, Region)>,
-    pub complex_region: Vec<(Region, Regions)>,
-    pub variant: Vec<(Mark, Mark)>,
+    pub language_variants: [Option<Rule>; 2],
+    pub language: [Option<Rule>; 2],
+    pub sgn_region: [Option<(Region, Language)>; 2],
+    pub language_len2: [Option<(Language, Plain)>; 2],
+    pub language_len3: [Option<(Language, Plain)>; 2],
+    pub script: [Option<(Script, Script)>; 2],
+    pub region_alpha: [Option<(Region, Region)>; 2],
+    pub region_num: [Option<(Region, Region)>; 2],
+    pub complex_region: [Option<(Region, Regions)>; 2],
+    pub variant: [Option<(Mark, Mark)>; 2],
 }
 
-impl Rules {
-    /// The next ones: few of each kind, so that many runs end.
-    pub fn new(alloc: Global, numbers: &mut Numbers, with: &Subtags) -> Result<Rules, AllocError> {
-        Ok(Rules {
-            language_variants: of_variants(draw_few(alloc, numbers, with)?),
-            language: draw_few(alloc, numbers, with)?,
-            sgn_region: draw_few(alloc, numbers, with)?,
-            language_len2: draw_few(alloc, numbers, with)?,
-            language_len3: draw_few(alloc, numbers, with)?,
-            script: draw_few(alloc, numbers, with)?,
-            region_alpha: draw_few(alloc, numbers, with)?,
-            region_num: draw_few(alloc, numbers, with)?,
-            complex_region: draw_few(alloc, numbers, with)?,
-            variant: draw_few(alloc, numbers, with)?,
-        })
+// Few of each kind, so that many runs end.
+impl Drawn for Rules {
+    fn draw(numbers: &mut Numbers, subtags: &Subtags) -> Rules {
+        Rules {
+            language_variants: of_variants(draw_few(numbers, subtags)),
+            language: draw_few(numbers, subtags),
+            sgn_region: draw_few(numbers, subtags),
+            language_len2: draw_few(numbers, subtags),
+            language_len3: draw_few(numbers, subtags),
+            script: draw_few(numbers, subtags),
+            region_alpha: draw_few(numbers, subtags),
+            region_num: draw_few(numbers, subtags),
+            complex_region: draw_few(numbers, subtags),
+            variant: draw_few(numbers, subtags),
+        }
     }
 }
 
 // Rules whose sources have a language and variants alone.
-fn of_variants(mut rules: Vec<Rule>) -> Vec<Rule> {
-    for rule in rules.iter_mut() {
+fn of_variants(mut rules: [Option<Rule>; 2]) -> [Option<Rule>; 2] {
+    for rule in rules.iter_mut().flatten() {
         rule.source.script = None;
         rule.source.region = None;
     }
@@ -91,19 +89,18 @@ fn of_variants(mut rules: Vec<Rule>) -> Vec<Rule> {
 }
 
 // The value of a key.
-fn value<K: PartialEq + Copy, V: Copy>(rows: &[(K, V)], key: K) -> Option<V> {
-    let row = rows.iter().rev().find(|row| row.0 == key)?;
-    Some(row.1)
+fn value<K: PartialEq + Copy, V: Copy>(rows: &[Option<(K, V)>; 2], key: K) -> Option<V> {
+    let mut value = None;
+    for row in rows.iter().flatten() {
+        if row.0 == key {
+            value = Some(row.1);
+        }
+    }
+    value
 }
 
 fn fits<T: PartialEq + Copy>(rule: Option<T>, source: Option<T>) -> bool {
     rule.is_none() || rule == source
-}
-
-// A text of variants that is empty cannot be read.
-fn by_variants<'r>(rules: &'r Rules, x: &Plain) -> Option<&'r Rule> {
-    rules.language_variants.iter().find(|rule| rule.source.variants != 0
-        && matches(x, &rule.source))
 }
 
 /// Whether a rule matches an identifier.
@@ -138,13 +135,20 @@ pub fn replaced(x: &Plain, rule: &Plain, replacement: &Plain) -> Plain {
     }
 }
 
+// A text of variants that is empty cannot be read.
 fn by_rule(rules: &Rules, x: &Plain) -> Option<Plain> {
-    let rule = if x.variants == 0 {
-        rules.language.iter().find(|rule| matches(x, &rule.source))?
+    let list = if x.variants == 0 {
+        &rules.language
     } else {
-        by_variants(rules, x)?
+        &rules.language_variants
     };
-    Some(replaced(x, &rule.source, &rule.replacement))
+    for rule in list.iter().flatten() {
+        let is_read = x.variants == 0 || rule.source.variants != 0;
+        if is_read && matches(x, &rule.source) {
+            return Some(replaced(x, &rule.source, &rule.replacement));
+        }
+    }
+    None
 }
 
 fn by_sign_region(rules: &Rules, subtags: &Subtags, x: &Plain) -> Option<Plain> {
@@ -179,11 +183,8 @@ pub fn by_language_alias(rules: &Rules, x: &Plain) -> Option<Plain> {
 }
 
 fn by_script(rules: &Rules, x: &Plain) -> Option<Plain> {
-    let script = value(&rules.script, x.script?);
-    script.map(|script| Plain {
-        script: Some(script),
-        ..*x
-    })
+    let script = Some(value(&rules.script, x.script?)?);
+    Some(Plain { script, ..*x })
 }
 
 fn with_region(x: &Plain, region: Region) -> Plain {
@@ -212,10 +213,13 @@ fn by_complex_region(rules: &Rules, rows: &[Row], subtags: &Subtags, x: &Plain) 
         ..*x
     };
     let likely = maximal(rows, subtags, &alone).region;
-    let mut regions = list.two.iter().take(list.count);
-    let chosen = regions.find(|region| Some(**region) == likely);
-    let first = list.two.iter().take(list.count).next();
-    Some(with_region(x, *chosen.or(first)?))
+    let [first, second] = list.0;
+    let chosen = if likely.is_some() && second == likely {
+        second
+    } else {
+        first
+    };
+    Some(with_region(x, chosen?))
 }
 
 fn by_variant(rules: &Rules, x: &Plain) -> Option<Plain> {

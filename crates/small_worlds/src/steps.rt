@@ -19,23 +19,22 @@ fn is_held(wanted: &Option<Plain>, held: &Option<LanguageIdentifier>, subtags: &
 }
 
 fn compare_search(
-    alloc: Global,
     report: &mut Report,
     canonicalizer: &LocaleCanonicalizer<'_>,
     world: World<'_>,
-    x: &Plain,
+    (x, id): (&Plain, &LanguageIdentifier),
     transform: bool,
 ) -> Result<(), Fault> {
-    let id = x.held(alloc, world.subtags)?;
     let wanted = if transform {
         by_language_alias(world.rules, x)
     } else {
         next(world.rules, world.rows, world.subtags, x)
     };
-    let Ok(found) = laws::search(canonicalizer, &id, transform, &mut Turns::new()) else {
+    let Ok(found) = laws::search(canonicalizer, id, transform, &mut Turns::new()) else {
         return Err(Fault::Starved);
     };
-    Ok(report.see(is_held(&wanted, &found, world.subtags), "search", x)?)
+    report.see(is_held(&wanted, &found, world.subtags), "search", x);
+    Ok(())
 }
 
 fn compare_rule(
@@ -43,18 +42,20 @@ fn compare_rule(
     report: &mut Report,
     subtags: &Subtags,
     rule: &Rule,
-    x: &Plain,
+    (x, id): (&Plain, &LanguageIdentifier),
 ) -> Result<(), Fault> {
-    let id = x.held(alloc, subtags)?;
     let source = rule.source.held(alloc, subtags)?;
-    let is_so = laws::rule_matches(&id, &source) == matches(x, &rule.source);
-    report.see(is_so, "rule_matches", x)?;
     let replacement = rule.replacement.held(alloc, subtags)?;
-    let Ok(made) = laws::replacement(&id, &source, &replacement) else {
-        return Err(Fault::Starved);
-    };
-    let wanted = replaced(x, &rule.source, &rule.replacement);
-    Ok(report.see(wanted.is_held_as(&made, subtags), "replacement", x)?)
+    let is_so = laws::rule_matches(id, &source) == matches(x, &rule.source);
+    report.see(is_so, "rule_matches", x);
+    match laws::replacement(id, &source, &replacement) {
+        Ok(made) => {
+            let wanted = replaced(x, &rule.source, &rule.replacement);
+            report.see(wanted.is_held_as(&made, subtags), "replacement", x);
+            Ok(())
+        }
+        Err(_) => Err(Fault::Starved),
+    }
 }
 
 /// The steps from an identifier, by all rules and by those of a transform language, and the rules without variants by
@@ -66,10 +67,12 @@ pub fn compare_steps(
     world: World<'_>,
     x: &Plain,
 ) -> Result<(), Fault> {
-    compare_search(alloc, report, canonicalizer, world, x, false)?;
-    compare_search(alloc, report, canonicalizer, world, x, true)?;
-    for rule in &world.rules.language {
-        compare_rule(alloc, report, world.subtags, rule, x)?;
+    let id = x.held(alloc, world.subtags)?;
+    for transform in [false, true] {
+        compare_search(report, canonicalizer, world, (x, &id), transform)?;
+    }
+    for rule in world.rules.language.iter().flatten() {
+        compare_rule(alloc, report, world.subtags, rule, (x, &id))?;
     }
     Ok(())
 }

@@ -6,7 +6,7 @@ use crate::subtags::Subtags;
 use crate::values::ValueRow;
 use icu_locale_core::{Region, Variant};
 use icu_provider::{Aliases, LanguageStrStrPair, StrStrPair};
-use std::alloc::Global;
+use std::alloc::{AllocError, Global};
 
 // An identifier as a text.
 fn text(alloc: Global, subtags: &Subtags, x: &Plain) -> Result<String, Fault> {
@@ -15,24 +15,30 @@ fn text(alloc: Global, subtags: &Subtags, x: &Plain) -> Result<String, Fault> {
 }
 
 // The variants of an identifier as a text.
-fn variants_text(alloc: Global, subtags: &Subtags, x: &Plain) -> Result<String, Fault> {
+fn variants_text(alloc: Global, subtags: &Subtags, x: &Plain) -> Result<String, AllocError> {
     let mut text = String::new(alloc);
-    for variant in x.held(alloc, subtags)?.variants.iter() {
-        if !text.is_empty() {
-            text.push('-')?;
+    for (variant, mark) in subtags.variants.iter().zip(&MARKS) {
+        if x.variants & *mark != 0 {
+            put_variant(&mut text, *variant)?;
         }
-        text.push_str(variant.as_str())?;
     }
     Ok(text)
+}
+
+fn put_variant(text: &mut String, variant: Variant) -> Result<(), AllocError> {
+    if !text.is_empty() {
+        text.push('-')?;
+    }
+    text.push_str(variant.as_str())
 }
 
 fn put_variant_rules(
     alloc: Global,
     aliases: &mut Aliases,
-    rules: &[Rule],
+    rules: &[Option<Rule>; 2],
     subtags: &Subtags,
 ) -> Result<(), Fault> {
-    for rule in rules {
+    for rule in rules.iter().flatten() {
         aliases.push_language_variants(LanguageStrStrPair(
             rule.source.language,
             variants_text(alloc, subtags, &rule.source)?,
@@ -45,10 +51,10 @@ fn put_variant_rules(
 fn put_rules(
     alloc: Global,
     aliases: &mut Aliases,
-    rules: &[Rule],
+    rules: &[Option<Rule>; 2],
     subtags: &Subtags,
 ) -> Result<(), Fault> {
-    for rule in rules {
+    for rule in rules.iter().flatten() {
         aliases.push_language(StrStrPair(
             text(alloc, subtags, &rule.source)?,
             text(alloc, subtags, &rule.replacement)?,
@@ -63,34 +69,34 @@ fn put_languages(
     rules: &Rules,
     subtags: &Subtags,
 ) -> Result<(), Fault> {
-    for (region, language) in &rules.sgn_region {
+    for (region, language) in rules.sgn_region.iter().flatten() {
         aliases.insert_sgn_region(*region, *language)?;
     }
-    for (language, alias) in &rules.language_len2 {
+    for (language, alias) in rules.language_len2.iter().flatten() {
         aliases.insert_language_len2(*language, text(alloc, subtags, alias)?)?;
     }
-    for (language, alias) in &rules.language_len3 {
+    for (language, alias) in rules.language_len3.iter().flatten() {
         aliases.insert_language_len3(*language, text(alloc, subtags, alias)?)?;
     }
     Ok(())
 }
 
 fn put_subtags(aliases: &mut Aliases, rules: &Rules) -> Result<(), Fault> {
-    for (script, alias) in &rules.script {
+    for (script, alias) in rules.script.iter().flatten() {
         aliases.insert_script(*script, *alias)?;
     }
-    for (region, alias) in &rules.region_alpha {
+    for (region, alias) in rules.region_alpha.iter().flatten() {
         aliases.insert_region_alpha(*region, *alias)?;
     }
-    for (region, alias) in &rules.region_num {
+    for (region, alias) in rules.region_num.iter().flatten() {
         aliases.insert_region_num(*region, *alias)?;
     }
     Ok(())
 }
 
-fn regions(alloc: Global, regions: &Regions) -> Result<Vec<Region>, Fault> {
+fn regions(alloc: Global, regions: &Regions) -> Result<Vec<Region>, AllocError> {
     let mut list = Vec::new(alloc);
-    for region in regions.two.iter().take(regions.count) {
+    for region in regions.0.iter().flatten() {
         list.push(*region)?;
     }
     Ok(list)
@@ -112,10 +118,10 @@ fn put_lists(
     rules: &Rules,
     subtags: &Subtags,
 ) -> Result<(), Fault> {
-    for (region, list) in &rules.complex_region {
+    for (region, list) in rules.complex_region.iter().flatten() {
         aliases.insert_complex_region(*region, regions(alloc, list)?)?;
     }
-    for (from, to) in &rules.variant {
+    for (from, to) in rules.variant.iter().flatten() {
         aliases.insert_variant(variant(subtags, *from), variant(subtags, *to))?;
     }
     Ok(())

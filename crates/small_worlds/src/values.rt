@@ -95,9 +95,11 @@ pub type ValueRow = (Subtag, RowText);
 
 /// The value that follows another: the last row whose key it is leads to it, if that row's text can be read.
 pub fn next_value(rows: &[ValueRow], value: PlainValue) -> Option<PlainValue> {
-    let row = rows
-        .iter()
-        .rev()
-        .find(|row| row.0.as_str() == value.text())?;
-    row.1.reads_as()
+    let mut next = None;
+    for (subdivision, text) in rows {
+        if subdivision.as_str() == value.text() {
+            next = text.reads_as();
+        }
+    }
+    next
 }

@@ -1,13 +1,13 @@
 //! The worlds, one after another.
 use crate::canonical::{World, compare_canonical};
 use crate::directions::{Ways, compare_directions};
-use crate::exemplars::{Exemplars, compare_exemplars, draw_exemplars};
+use crate::exemplars::{Exemplars, compare_exemplars};
 use crate::fault::Fault;
 use crate::forms::compare_forms;
 use crate::likely::Likely;
 use crate::making::{Maker, Making};
 use crate::negotiation::compare_negotiations;
-use crate::numbers::{Drawn, Numbers, draw_list};
+use crate::numbers::{Drawn, Numbers};
 use crate::report::Report;
 use crate::rules::Rules;
 use crate::subtags::Subtags;
@@ -22,22 +22,24 @@ use std::alloc::Global;
 struct Parts {
     likely: Likely,
     rules: Rules,
-    values: Vec<ValueRow>,
+    values: [ValueRow; 4],
     ways: Ways,
-    exemplars: Vec<Exemplars>,
+    exemplars: [Exemplars; 5],
+}
+
+impl Drawn for Parts {
+    fn draw(numbers: &mut Numbers, subtags: &Subtags) -> Parts {
+        Parts {
+            likely: Drawn::draw(numbers, subtags),
+            rules: Drawn::draw(numbers, subtags),
+            values: Drawn::draw(numbers, subtags),
+            ways: Drawn::draw(numbers, subtags),
+            exemplars: Drawn::draw(numbers, subtags),
+        }
+    }
 }
 
 impl Parts {
-    fn new(alloc: Global, numbers: &mut Numbers, subtags: &Subtags) -> Result<Parts, Fault> {
-        Ok(Parts {
-            likely: Likely::new(alloc, numbers, subtags)?,
-            rules: Rules::new(alloc, numbers, subtags)?,
-            values: draw_list(alloc, numbers, subtags, 4)?,
-            ways: Ways::draw(numbers, subtags),
-            exemplars: draw_exemplars(alloc, numbers)?,
-        })
-    }
-
     // The rules and the rows of values as the crates hold them.
     fn aliases(&self, alloc: Global, subtags: &Subtags) -> Result<Aliases, Fault> {
         let mut aliases = Aliases::new(alloc);
@@ -114,7 +116,7 @@ fn compare_next(
     subtags: &Subtags,
     numbers: &mut Numbers,
 ) -> Result<(), Fault> {
-    let parts = Parts::new(alloc, numbers, subtags)?;
+    let parts = Parts::draw(numbers, subtags);
     let tables = parts.tables(alloc, subtags)?;
     compare_parts(alloc, report, &parts, &tables, subtags, numbers)
 }
