@@ -5,10 +5,10 @@ ghost use Rattle.icu_provider.specs.Requests.{exemplar_cmp, locale_cmp, menu_cmp
 ghost use Rattle.icu_provider.specs.contracts.names.NameMarkerPartialEq.TheImpl as name_marker;
 ghost use Rattle.icu_tables.specs.Tables.{held, name_in};
 
+use crate::known::{english, identifier, sample, tables};
 use crate::memory::budget::HeldWriter;
 use crate::refusing::{KINDS, refusal, willing};
 use icu_locale_core::{Language, LanguageIdentifier};
-use icu_locale_lines::sample;
 use icu_locale_names::{
     DisplayNamesPreferences, LanguageIdentifierDisplayName, LanguageIdentifierDisplayNameBorrowed,
     LanguageIdentifierDisplayNameOptions, NameChain, NameWriteError,
@@ -21,22 +21,13 @@ use icu_provider::{
 use icu_tables::Tables;
 use std::alloc::Global;
 use std::process::Abort;
-use std::test::Fail;
 
 const PATTERNS: &str =
     "{\"names\":{\"region/medium/light\":{\"en\":{\"150\":\"Europe\"}}},\"essentials\":{\"en\":{\"pattern\":[0,\" (\",1,\")\"],\"separator\":[0,\", \",1]}}}";
 
 /// Patterns, and the name of one region.
-pub fn patterns(alloc: Global) -> Result<Tables, Fail> {
-    match Tables::from_json(alloc, PATTERNS.as_bytes()) {
-        Ok(tables) => Ok(tables),
-        Err(_) => Err(Fail::new("the names cannot be read")),
-    }
-}
-
-/// The preferences of English.
-pub fn english() -> Result<DisplayNamesPreferences, Fail> {
-    Ok(DisplayNamesPreferences::new(Language::try_from_str("en")?, None, None))
+pub fn patterns(rt: &impl Abort, alloc: Global) -> Tables {
+    tables(rt, alloc, PATTERNS)
 }
 
 /// The chains.
@@ -74,27 +65,31 @@ const MARKERS: [NameMarker; 4] = [
     NameMarker::VariantMediumHeavy,
 ];
 
+// What refuses a name where a load of a part is refused: a part that is not found is passed over.
+fn refusal_of_a_part(kind: DataErrorKind) -> Option<DataError> {
+    if kind == DataErrorKind::IdentifierNotFound {
+        None
+    } else {
+        refusal(kind)
+    }
+}
+
 fn refused_at_a_name(
     rt: &impl Abort,
     alloc: Global,
     tables: &Tables,
     subject: &LanguageIdentifier,
     kind: DataErrorKind,
-) -> Result<(), Fail> {
+) {
     for marker in MARKERS {
         let mut provider = willing(tables);
         provider.names = refusal(kind);
         provider.names_at = Some(marker);
         for chain in CHAINS {
-            let refused = named(alloc, &provider, english()?, subject, chain).err();
-            if kind == DataErrorKind::IdentifierNotFound {
-                assert!(rt; refused.is_none());
-            } else {
-                assert!(rt; refused == refusal(kind));
-            }
+            let refused = named(alloc, &provider, english(rt), subject, chain).err();
+            assert!(rt; refused == refusal_of_a_part(kind));
         }
     }
-    Ok(())
 }
 
 // Patterns are asked for by each chain, and must be there.
@@ -104,14 +99,13 @@ fn refused_at_the_patterns(
     tables: &Tables,
     subject: &LanguageIdentifier,
     kind: DataErrorKind,
-) -> Result<(), Fail> {
+) {
     let mut provider = willing(tables);
     provider.essentials = refusal(kind);
     for chain in CHAINS {
-        let refused = named(alloc, &provider, english()?, subject, chain).err();
+        let refused = named(alloc, &provider, english(rt), subject, chain).err();
         assert!(rt; refused == refusal(kind));
     }
-    Ok(())
 }
 
 // Names in menus are asked for by the four chains of menus.
@@ -121,11 +115,11 @@ fn refused_at_the_menus(
     tables: &Tables,
     subject: &LanguageIdentifier,
     kind: DataErrorKind,
-) -> Result<(), Fail> {
+) {
     let mut provider = willing(tables);
     provider.menus = refusal(kind);
     for chain in CHAINS {
-        let refused = named(alloc, &provider, english()?, subject, chain).err();
+        let refused = named(alloc, &provider, english(rt), subject, chain).err();
         let asks = matches!(
             chain,
             NameChain::MenuLight
@@ -133,27 +127,23 @@ fn refused_at_the_menus(
                 | NameChain::MenuHeavy
                 | NameChain::ShortMenuHeavy
         );
-        if asks && kind != DataErrorKind::IdentifierNotFound {
-            assert!(rt; refused == refusal(kind));
-        } else {
-            assert!(rt; refused.is_none());
-        }
+        let wanted = if asks { refusal_of_a_part(kind) } else { None };
+        assert!(rt; refused == wanted);
     }
-    Ok(())
 }
 
 #[test]
-fn each_refusal_at_each_load_of_a_name(rt: HostRuntime) -> Result<(), Fail> {
-    let tables = patterns(rt.alloc())?;
+fn each_refusal_at_each_load_of_a_name(rt: HostRuntime) {
+    let alloc = rt.alloc();
+    let tables = patterns(&rt, alloc);
     for subject in SUBJECTS {
-        let subject = LanguageIdentifier::try_from_str(rt.alloc(), subject)?;
+        let subject = identifier(&rt, alloc, subject);
         for kind in KINDS {
-            refused_at_a_name(&rt, rt.alloc(), &tables, &subject, kind)?;
-            refused_at_the_patterns(&rt, rt.alloc(), &tables, &subject, kind)?;
-            refused_at_the_menus(&rt, rt.alloc(), &tables, &subject, kind)?;
+            refused_at_a_name(&rt, alloc, &tables, &subject, kind);
+            refused_at_the_patterns(&rt, alloc, &tables, &subject, kind);
+            refused_at_the_menus(&rt, alloc, &tables, &subject, kind);
         }
     }
-    Ok(())
 }
 
 // One variant, two, and many.
@@ -255,8 +245,9 @@ impl DataProvider for RefusingTwo<'_> {
 }
 
 #[test]
-fn the_script_is_asked_for_before_the_region(rt: HostRuntime) -> Result<(), Fail> {
-    let tables = patterns(rt.alloc())?;
+fn the_script_is_asked_for_before_the_region(rt: HostRuntime) {
+    let alloc = rt.alloc();
+    let tables = patterns(&rt, alloc);
     let provider = RefusingTwo {
         tables: &tables,
         first: NameMarker::RegionMediumLight,
@@ -268,17 +259,9 @@ fn the_script_is_asked_for_before_the_region(rt: HostRuntime) -> Result<(), Fail
             kind: DataErrorKind::Custom,
         },
     };
-    let subject = LanguageIdentifier::try_from_str(rt.alloc(), "it-Latn-US")?;
-    let refused = named(
-        rt.alloc(),
-        &provider,
-        english()?,
-        &subject,
-        NameChain::Light,
-    )
-    .err();
+    let subject = identifier(&rt, alloc, "it-Latn-US");
+    let refused = named(alloc, &provider, english(&rt), &subject, NameChain::Light).err();
     assert!(rt; refused == refusal(DataErrorKind::Custom));
-    Ok(())
 }
 
 /// Names with raw subtags, by the chain `light` over the sample: the text, and the spans of what is raw.
@@ -298,95 +281,27 @@ fn failed_writes(
     alloc: Global,
     name: LanguageIdentifierDisplayNameBorrowed<'_>,
     text: &[u8],
-) -> Result<(), Fail> {
+) {
     for room in 0..text.len() {
         let mut sink = HeldWriter::new(room);
         let mut parts = Vec::new(alloc);
-        parts.push((1, 2))?;
+        parts.push((1, 2)).expect(rt, "memory");
         let written = name.try_write_to_parts(&mut sink, &mut parts);
         assert!(rt; written.err() == Some(NameWriteError::Sink));
-        assert_eq!(rt; sink.written(), &text[..room]);
+        assert!(rt; sink.written() == &text[..room]);
         assert!(rt; parts.len() == 1 && parts.as_slice().first().copied() == Some((1, 2)));
     }
-    Ok(())
 }
 
 #[test]
-fn a_failed_write_leaves_the_spans(rt: HostRuntime) -> Result<(), Fail> {
-    let tables = sample(rt.alloc())?;
+fn a_failed_write_leaves_the_spans(rt: HostRuntime) {
+    let alloc = rt.alloc();
+    let tables = sample(&rt, alloc);
     for (subject, text, _) in &RAW {
-        let subject = LanguageIdentifier::try_from_str(rt.alloc(), subject)?;
-        let name = named(rt.alloc(), &tables, english()?, &subject, NameChain::Light)?;
-        failed_writes(&rt, rt.alloc(), name.as_borrowed(), text.as_bytes())?;
+        let subject = identifier(&rt, alloc, subject);
+        let name = named(alloc, &tables, english(&rt), &subject, NameChain::Light).expect(
+            &rt, "a name",
+        );
+        failed_writes(&rt, alloc, name.as_borrowed(), text.as_bytes());
     }
-    Ok(())
-}
-
-// Whether a name has the text that a chain gives.
-fn is_by(
-    alloc: Global,
-    tables: &Tables,
-    subject: &LanguageIdentifier,
-    chain: NameChain,
-    name: LanguageIdentifierDisplayName<'_>,
-) -> Result<bool, Fail> {
-    let other = named(alloc, tables, english()?, subject, chain)?;
-    let (text, wanted) = (name.as_borrowed(), other.as_borrowed());
-    Ok(format!(in alloc; "{text}")? == format!(in alloc; "{wanted}")?)
-}
-
-#[test]
-fn light_constructors_name_by_their_chains(rt: HostRuntime) -> Result<(), Fail> {
-    let (alloc, of) = (rt.alloc(), english()?);
-    let tables = sample(alloc)?;
-    let x = LanguageIdentifier::try_from_str(alloc, "ku-Latn-US")?;
-    let o = LanguageIdentifierDisplayNameOptions::default();
-    let name = LanguageIdentifierDisplayName::try_new_tiny_unstable(alloc, &tables, of, &x, o)?;
-    assert!(rt; is_by(alloc, &tables, &x, NameChain::Tiny, name)?);
-    let name = LanguageIdentifierDisplayName::try_new_light_unstable(alloc, &tables, of, &x, o)?;
-    assert!(rt; is_by(alloc, &tables, &x, NameChain::Light, name)?);
-    let name = LanguageIdentifierDisplayName::try_new_short_light_unstable(
-        alloc, &tables, of, &x, o,
-    )?;
-    assert!(rt; is_by(alloc, &tables, &x, NameChain::ShortLight, name)?);
-    let name = LanguageIdentifierDisplayName::try_new_long_light_unstable(
-        alloc, &tables, of, &x, o,
-    )?;
-    assert!(rt; is_by(alloc, &tables, &x, NameChain::LongLight, name)?);
-    let name = LanguageIdentifierDisplayName::try_new_menu_light_unstable(
-        alloc, &tables, of, &x, o,
-    )?;
-    assert!(rt; is_by(alloc, &tables, &x, NameChain::MenuLight, name)?);
-    let name = LanguageIdentifierDisplayName::try_new_short_menu_light_unstable(
-        alloc, &tables, of, &x, o,
-    )?;
-    assert!(rt; is_by(alloc, &tables, &x, NameChain::ShortMenuLight, name)?);
-    Ok(())
-}
-
-#[test]
-fn heavy_constructors_name_by_their_chains(rt: HostRuntime) -> Result<(), Fail> {
-    let (alloc, of) = (rt.alloc(), english()?);
-    let tables = sample(alloc)?;
-    let x = LanguageIdentifier::try_from_str(alloc, "ku-Latn-US")?;
-    let o = LanguageIdentifierDisplayNameOptions::default();
-    let name = LanguageIdentifierDisplayName::try_new_heavy_unstable(alloc, &tables, of, &x, o)?;
-    assert!(rt; is_by(alloc, &tables, &x, NameChain::Heavy, name)?);
-    let name = LanguageIdentifierDisplayName::try_new_short_heavy_unstable(
-        alloc, &tables, of, &x, o,
-    )?;
-    assert!(rt; is_by(alloc, &tables, &x, NameChain::ShortHeavy, name)?);
-    let name = LanguageIdentifierDisplayName::try_new_long_heavy_unstable(
-        alloc, &tables, of, &x, o,
-    )?;
-    assert!(rt; is_by(alloc, &tables, &x, NameChain::LongHeavy, name)?);
-    let name = LanguageIdentifierDisplayName::try_new_menu_heavy_unstable(
-        alloc, &tables, of, &x, o,
-    )?;
-    assert!(rt; is_by(alloc, &tables, &x, NameChain::MenuHeavy, name)?);
-    let name = LanguageIdentifierDisplayName::try_new_short_menu_heavy_unstable(
-        alloc, &tables, of, &x, o,
-    )?;
-    assert!(rt; is_by(alloc, &tables, &x, NameChain::ShortMenuHeavy, name)?);
-    Ok(())
 }

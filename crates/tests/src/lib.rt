@@ -6,9 +6,13 @@
 #![tactic(auto)]
 
 #[cfg(test)]
+mod chains;
+#[cfg(test)]
 mod constructors;
 #[cfg(test)]
 mod faults;
+#[cfg(test)]
+mod known;
 #[cfg(test)]
 mod languages;
 #[cfg(test)]

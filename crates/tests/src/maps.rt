@@ -1,7 +1,6 @@
 //! Sorted maps, whatever the order of inserts.
 use icu_provider::{DataError, SortedMap};
 use std::alloc::Global;
-use std::test::Fail;
 
 // A map with a row for each number, whose value is one more.
 fn filled(alloc: Global, keys: &[u16]) -> Result<SortedMap<u16, u16>, DataError> {
@@ -23,10 +22,10 @@ fn filled_in_steps(alloc: Global, first: u16, step: u16) -> Result<SortedMap<u16
 }
 
 #[test]
-fn each_order_of_inserts_gives_the_same_walk(rt: HostRuntime) -> Result<(), Fail> {
+fn each_order_of_inserts_gives_the_same_walk(rt: HostRuntime) {
     // rising, falling and mixed
     for (first, step) in [(0, 1), (199, 199), (0, 77)] {
-        let map = filled_in_steps(rt.alloc(), first, step)?;
+        let map = filled_in_steps(rt.alloc(), first, step).expect(&rt, "memory");
         assert!(rt; map.len() == 200, "in steps of {step}");
         assert!(rt;
             map.iter().map(|(key, _)| *key).eq(0..200),
@@ -37,55 +36,47 @@ fn each_order_of_inserts_gives_the_same_walk(rt: HostRuntime) -> Result<(), Fail
             "in steps of {step}"
         );
     }
-    Ok(())
 }
 
 #[test]
-fn an_insert_at_a_key_that_is_there_changes_its_value_alone(rt: HostRuntime) -> Result<(), Fail> {
-    let mut map = filled(rt.alloc(), &[5, 3, 9])?;
-    map.insert(5, 70)?;
-    assert_eq!(rt; map.as_slice(), [(3, 4), (5, 70), (9, 10)].as_slice());
-    assert_eq!(rt; map.get(&5).copied(), Some(70));
-    assert_eq!(rt; map.get(&4).copied(), None);
+fn an_insert_at_a_key_that_is_there_changes_its_value_alone(rt: HostRuntime) {
+    let mut map = filled(rt.alloc(), &[5, 3, 9]).expect(&rt, "memory");
+    map.insert(5, 70).expect(&rt, "memory");
+    assert!(rt; map.as_slice() == [(3, 4), (5, 70), (9, 10)].as_slice());
+    assert!(rt; map.get(&5).copied() == Some(70));
+    assert!(rt; map.get(&4).copied() == None);
     assert!(rt; map.contains_key(&9));
     assert!(rt; !map.contains_key(&10));
-    Ok(())
 }
 
 #[test]
-fn keys_of_two_parts_rise_by_the_first_and_then_the_second(rt: HostRuntime) -> Result<(), Fail> {
+fn keys_of_two_parts_rise_by_the_first_and_then_the_second(rt: HostRuntime) {
     let mut map = SortedMap::<(u8, u8), char>::new(rt.alloc());
     for (first, second, value) in [(2, 1, 'c'), (1, 9, 'b'), (2, 2, 'd'), (1, 2, 'a')] {
-        map.insert((first, second), value)?;
+        map.insert((first, second), value).expect(&rt, "memory");
     }
     assert!(rt; map.iter().map(|(_, value)| *value).eq(['a', 'b', 'c', 'd']));
     assert!(rt; map.get(&(2, 1)) == Some(&'c') && map.get(&(1, 1)) == None);
-    Ok(())
 }
 
 #[test]
-fn a_map_to_nothing_is_a_set(rt: HostRuntime) -> Result<(), Fail> {
+fn a_map_to_nothing_is_a_set(rt: HostRuntime) {
     let mut set = SortedMap::<u8, ()>::new(rt.alloc());
     assert!(rt; set.is_empty());
     for key in [7, 3, 7] {
-        set.insert(key, ())?;
+        set.insert(key, ()).expect(&rt, "memory");
     }
-    assert_eq!(rt; set.len(), 2);
+    assert!(rt; set.len() == 2);
     assert!(rt; set.contains_key(&7));
     assert!(rt; !set.contains_key(&4));
-    Ok(())
 }
 
 #[test]
-fn a_walk_shows_what_is_left(rt: HostRuntime) -> Result<(), Fail> {
-    let map = filled(rt.alloc(), &[2, 1, 3])?;
+fn a_walk_shows_what_is_left(rt: HostRuntime) {
+    let map = filled(rt.alloc(), &[2, 1, 3]).expect(&rt, "memory");
     let mut rows = map.iter();
-    assert_eq!(rt;
-        rows.next().map(|(key, value)| (*key, *value)),
-        Some((1, 2))
-    );
-    assert_eq!(rt; rows.as_slice(), [(2, 3), (3, 4)].as_slice());
-    assert_eq!(rt; rows.clone()?.count(), 2);
-    assert_eq!(rt; rows.count(), 2);
-    Ok(())
+    assert!(rt; rows.next().map(|(key, value)| (*key, *value)) == Some((1, 2)));
+    assert!(rt; rows.as_slice() == [(2, 3), (3, 4)].as_slice());
+    assert!(rt; rows.clone().expect(&rt, "memory").count() == 2);
+    assert!(rt; rows.count() == 2);
 }

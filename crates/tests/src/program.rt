@@ -1,13 +1,14 @@
 //! Runs of the program: words, input, and what is written, with its status.
+use crate::faults::is_named;
+use crate::known::{sample, text, words};
 use icu_locale_core::ParseError;
 use icu_locale_lines::{
-    CliError, Command, LineCommand, SAMPLE, Status, Task, Transform, run, run_json, sample,
+    CliError, Command, LineCommand, SAMPLE, Status, Task, Transform, run, run_json,
 };
 use icu_provider::{DataError, DataErrorKind};
 use icu_tables::{TableError, Tables};
 use std::alloc::Global;
 use std::process::Abort;
-use std::test::Fail;
 
 /// A line a row: words, input, output, and 0, 1 or the words of the refusal. Spaces round a bar say nothing; `\n`, `\t` and
 // `\r` are what they are in a text of Rust, and `\s` is a space.
@@ -107,147 +108,145 @@ impl Drop for Row {
 }
 
 /// The row of a line.
-pub fn read_row(alloc: Global, line: &str) -> Result<Row, Fail> {
+pub fn read_row(rt: &impl Abort, alloc: Global, line: &str) -> Row {
     let mut fields = line.split('|');
-    Ok(Row {
-        words: field(alloc, fields.next())?,
-        input: field(alloc, fields.next())?,
-        output: field(alloc, fields.next())?,
-        status: field(alloc, fields.next())?,
-    })
+    Row {
+        words: field(rt, alloc, fields.next()),
+        input: field(rt, alloc, fields.next()),
+        output: field(rt, alloc, fields.next()),
+        status: field(rt, alloc, fields.next()),
+    }
 }
 
-fn field(alloc: Global, text: Option<&str>) -> Result<String, Fail> {
+fn field(rt: &impl Abort, alloc: Global, text: Option<&str>) -> String {
     let mut parts = text.unwrap_or("").trim().split('\\');
-    let mut field = String::from_str(alloc, parts.next().unwrap_or(""))?;
+    let mut field = String::from_str(alloc, parts.next().unwrap_or("")).expect(rt, "memory");
     for part in parts {
-        unescape(&mut field, part)?;
+        unescape(rt, &mut field, part);
     }
-    Ok(field)
+    field
 }
 
 // What stands behind a backslash.
-fn unescape(field: &mut String, part: &str) -> Result<(), Fail> {
-    let Some((name, rest)) = part.split_at_checked(1) else {
-        return Err(Fail::new("nothing stands behind a backslash"));
-    };
+fn unescape(rt: &impl Abort, field: &mut String, part: &str) {
+    let (name, rest) = part
+        .split_at_checked(1)
+        .expect(rt, "a mark behind a backslash");
     let character = match name {
         "n" => '\n',
         "t" => '\t',
         "r" => '\r',
         "s" => ' ',
-        _ => return Err(Fail::new("no such escape")),
+        _ => panic!(rt; "no such escape: {name}"),
     };
-    field.push(character)?;
-    field.push_str(rest)?;
-    Ok(())
+    field.push(character).expect(rt, "memory");
+    field.push_str(rest).expect(rt, "memory");
 }
 
 /// The command of words.
-pub fn command(alloc: Global, words: &str) -> Result<Result<(Command, bool), CliError>, Fail> {
-    let mut list = Vec::new(alloc);
-    for word in words.split_whitespace() {
-        list.push(String::from_str(alloc, word)?)?;
-    }
-    Ok(Command::from_words(alloc, &list))
+pub fn command(rt: &impl Abort, alloc: Global, line: &str) -> Result<(Command, bool), CliError> {
+    Command::from_words(alloc, &words(rt, alloc, line))
 }
 
 /// The status of a run, or the words of its refusal.
-pub fn told(alloc: Global, ended: Result<Status, CliError>) -> Result<String, Fail> {
-    Ok(match ended {
-        Ok(Status::Accepted) => String::from_str(alloc, "0")?,
-        Ok(Status::Refused) => String::from_str(alloc, "1")?,
-        Err(refusal) => format!(in alloc; "{refusal}")?,
-    })
+pub fn told(rt: &impl Abort, alloc: Global, ended: Result<Status, CliError>) -> String {
+    match ended {
+        Ok(Status::Accepted) => text(rt, alloc, &"0"),
+        Ok(Status::Refused) => text(rt, alloc, &"1"),
+        Err(refusal) => text(rt, alloc, &refusal),
+    }
 }
 
 fn ended(
+    rt: &impl Abort,
     alloc: Global,
     tables: &Tables,
     words: &str,
     input: &str,
     written: &mut Vec<u8>,
-) -> Result<Result<Status, CliError>, Fail> {
+) -> Result<Status, CliError> {
     let mut reader = input.as_bytes();
-    Ok(match command(alloc, words)? {
+    match command(rt, alloc, words) {
         Ok((command, true)) => run_json(alloc, &command, &mut reader, written),
         Ok((command, false)) => run(alloc, &command, tables, &mut reader, written),
         Err(refusal) => Err(refusal),
-    })
+    }
 }
 
-fn one_run(rt: &impl Abort, alloc: Global, tables: &Tables, line: &str) -> Result<(), Fail> {
-    let row = read_row(alloc, line)?;
+/// What a row's run wrote, and how it ended, must be as the row has it.
+pub fn is_as_wanted(
+    rt: &impl Abort,
+    alloc: Global,
+    row: &Row,
+    written: &[u8],
+    ended: Result<Status, CliError>,
+) {
+    let (words, input) = (&row.words, &row.input);
+    assert_eq!(rt; written, row.output.as_bytes(), "at {words} | {input}");
+    assert_eq!(rt; told(rt, alloc, ended), row.status, "at {words} | {input}");
+}
+
+fn one_run(rt: &impl Abort, alloc: Global, tables: &Tables, line: &str) {
+    let row = read_row(rt, alloc, line);
     let mut written = Vec::new(alloc);
-    let ended = ended(alloc, tables, &row.words, &row.input, &mut written)?;
-    assert_eq!(rt; written.as_slice(), row.output.as_bytes(), "at {line}");
-    assert_eq!(rt; told(alloc, ended)?, row.status, "at {line}");
-    Ok(())
+    let ended = ended(rt, alloc, tables, &row.words, &row.input, &mut written);
+    is_as_wanted(rt, alloc, &row, &written, ended);
 }
 
 #[test]
-fn runs(rt: HostRuntime) -> Result<(), Fail> {
-    let tables = sample(rt.alloc())?;
+fn runs(rt: HostRuntime) {
+    let alloc = rt.alloc();
+    let tables = sample(&rt, alloc);
     for line in RUNS.lines() {
         if !line.is_empty() {
-            one_run(&rt, rt.alloc(), &tables, line)?;
+            one_run(&rt, alloc, &tables, line);
         }
     }
-    Ok(())
 }
 
 // What a run over the sample gives, a run over the sample's text gives too.
-fn one_run_by_text(rt: &impl Abort, alloc: Global, line: &str) -> Result<(), Fail> {
-    let row = read_row(alloc, line)?;
-    let Ok((command, false)) = command(alloc, &row.words)? else {
-        return Ok(());
+fn one_run_by_text(rt: &impl Abort, alloc: Global, line: &str) {
+    let row = read_row(rt, alloc, line);
+    let Ok((command, false)) = command(rt, alloc, &row.words) else {
+        return;
     };
-    let text = format!(in alloc; "{SAMPLE}\n{}", row.input)?;
+    let text = format!(in alloc; "{SAMPLE}\n{}", row.input).expect(rt, "memory");
     let mut written = Vec::new(alloc);
     let ended = run_json(alloc, &command, &mut text.as_bytes(), &mut written);
-    assert_eq!(rt; written.as_slice(), row.output.as_bytes(), "at {line}");
-    assert_eq!(rt; told(alloc, ended)?, row.status, "at {line}");
-    Ok(())
+    is_as_wanted(rt, alloc, &row, &written, ended);
 }
 
 #[test]
-fn runs_over_the_text_of_the_sample(rt: HostRuntime) -> Result<(), Fail> {
+fn runs_over_the_text_of_the_sample(rt: HostRuntime) {
     for line in RUNS.lines() {
         if !line.is_empty() {
-            one_run_by_text(&rt, rt.alloc(), line)?;
+            one_run_by_text(&rt, rt.alloc(), line);
         }
     }
-    Ok(())
 }
 
 // A run over the sample, of whose lines some are refused.
-fn refused_run(
-    rt: &impl Abort,
-    alloc: Global,
-    command: &Command,
-    mut input: &[u8],
-    output: &[u8],
-) -> Result<(), Fail> {
-    let tables = sample(alloc)?;
+fn refused_run(rt: &impl Abort, alloc: Global, command: &Command, mut input: &[u8], output: &[u8]) {
+    let tables = sample(rt, alloc);
     let mut written = Vec::new(alloc);
     let ended = run(alloc, command, &tables, &mut input, &mut written);
     assert!(rt; ended == Ok(Status::Refused));
-    assert_eq!(rt; written.as_slice(), output);
-    Ok(())
+    assert!(rt; written.as_slice() == output);
 }
 
 #[test]
-fn bytes_past_ascii(rt: HostRuntime) -> Result<(), Fail> {
+fn bytes_past_ascii(rt: HostRuntime) {
+    let alloc = rt.alloc();
     refused_run(
         &rt,
-        rt.alloc(),
+        alloc,
         &Command::Lines(LineCommand::plain(Task::Transform(Transform::Maximize))),
         b"en-\xff\n\xff",
         b"?\tInvalidSubtag\n?\tInvalidLanguage\n",
-    )?;
+    );
     refused_run(
         &rt,
-        rt.alloc(),
+        alloc,
         &Command::Lines(LineCommand::plain(Task::Canonicalize)),
         b"en\tabc-\xff\n\xff\tabc",
         b"?\tInvalidSubtag\n?\tInvalidLanguage\n",
@@ -255,7 +254,7 @@ fn bytes_past_ascii(rt: HostRuntime) -> Result<(), Fail> {
 }
 
 #[test]
-fn words_of_refusals(rt: HostRuntime) -> Result<(), Fail> {
+fn words_of_refusals(rt: HostRuntime) {
     let custom = DataError {
         kind: DataErrorKind::Custom,
     };
@@ -273,7 +272,6 @@ fn words_of_refusals(rt: HostRuntime) -> Result<(), Fail> {
         ),
         (CliError::NotSettled, "tables not settled"),
     ] {
-        assert_eq!(rt; format!(in rt.alloc(); "{refusal}")?.as_str(), want);
+        is_named(&rt, rt.alloc(), refusal, want);
     }
-    Ok(())
 }

@@ -1,13 +1,11 @@
 //! Walks over the tables of the sample.
-use crate::languages::english;
-use icu_locale_core::{Language, Region, Script, Subtag, Variant};
-use icu_locale_lines::sample;
+use crate::known::{english, language, region, sample, script, subtag, variant};
+use icu_locale_core::Language;
 use icu_provider::{
     Aliases, DataProvider, ExemplarCharactersData, ExemplarMarker, ScriptDirection,
 };
 use icu_tables::Tables;
 use std::process::Abort;
-use std::test::Fail;
 
 fn lists_of_aliases(rt: &impl Abort, held: &Aliases) {
     let [by_variants] = held.language_variants() else {
@@ -24,25 +22,23 @@ fn lists_of_aliases(rt: &impl Abort, held: &Aliases) {
     assert!(rt; [by_language.0.as_str(), by_language.1.as_str()] == ["und-DD", "und-DE"]);
 }
 
-fn maps_of_aliases(rt: &impl Abort, held: &Aliases) -> Result<(), Fail> {
-    let germany = Region::try_from_str("DE")?;
-    let german_sign = Language::try_from_str("gsg")?;
+fn maps_of_aliases(rt: &impl Abort, held: &Aliases) {
+    let germany = region(rt, "DE");
+    let german_sign = language(rt, "gsg");
     assert!(rt; held.get_sgn_region(germany) == Some(german_sign));
-    let former = Region::try_from_str("SU")?;
-    let parts = [Region::try_from_str("RU")?, Region::try_from_str("AM")?];
+    let former = region(rt, "SU");
+    let parts = [region(rt, "RU"), region(rt, "AM")];
     assert!(rt; held.get_complex_region(former) == Some(parts.as_slice()));
-    let polytoni = Variant::try_from_str("polytoni")?;
-    let polyton = Variant::try_from_str("polyton")?;
+    let polytoni = variant(rt, "polytoni");
+    let polyton = variant(rt, "polyton");
     assert!(rt; held.get_variant(polytoni) == Some(polyton));
-    Ok(())
 }
 
-fn texts_of_aliases(rt: &impl Abort, held: &Aliases) -> Result<(), Fail> {
-    let serbo_croatian = Language::try_from_str("sh")?;
+fn texts_of_aliases(rt: &impl Abort, held: &Aliases) {
+    let serbo_croatian = language(rt, "sh");
     assert!(rt; held.get_language_len2(serbo_croatian) == Some("sr-Latn"));
-    let subdivision = Subtag::try_from_str("abcdefg")?;
+    let subdivision = subtag(rt, "abcdefg");
     assert!(rt; held.get_subdivision(subdivision) == Some("xyz"));
-    Ok(())
 }
 
 // How many rows the maps of languages and scripts have.
@@ -64,36 +60,34 @@ fn counts_of_regions(held: &Aliases) -> [usize; 3] {
     ]
 }
 
-fn are_aliases_of_the_sample(rt: &impl Abort, held: &Aliases) -> Result<(), Fail> {
+fn are_aliases_of_the_sample(rt: &impl Abort, held: &Aliases) {
     lists_of_aliases(rt, held);
-    maps_of_aliases(rt, held)?;
-    texts_of_aliases(rt, held)?;
+    maps_of_aliases(rt, held);
+    texts_of_aliases(rt, held);
     assert!(rt; counts_of_languages(held) == [1, 1, 0, 0]);
     assert!(rt; counts_of_regions(held) == [0, 0, 1]);
     assert!(rt; [held.iter_variant().count(), held.iter_subdivision().count()] == [1, 1]);
-    Ok(())
 }
 
 #[test]
-fn aliases_of_the_sample(rt: HostRuntime) -> Result<(), Fail> {
-    let tables = sample(rt.alloc())?;
-    let held = tables.load_aliases()?;
-    are_aliases_of_the_sample(&rt, held)
+fn aliases_of_the_sample(rt: HostRuntime) {
+    let tables = sample(&rt, rt.alloc());
+    let held = tables.load_aliases().expect(&rt, "aliases");
+    are_aliases_of_the_sample(&rt, held);
 }
 
 // Which scripts run which way: none both ways.
-fn are_directions_of_the_sample(rt: &impl Abort, held: &ScriptDirection) -> Result<(), Fail> {
-    for script in ["Latn", "Hans", "Hant", "Armn"] {
-        let script = Script::try_from_str(script)?;
+fn are_directions_of_the_sample(rt: &impl Abort, held: &ScriptDirection) {
+    for text in ["Latn", "Hans", "Hant", "Armn"] {
+        let script = script(rt, text);
         assert!(rt; held.is_ltr(script) && !held.is_rtl(script));
     }
-    for script in ["Arab", "Hebr"] {
-        let script = Script::try_from_str(script)?;
+    for text in ["Arab", "Hebr"] {
+        let script = script(rt, text);
         assert!(rt; held.is_rtl(script) && !held.is_ltr(script));
     }
-    let other = Script::try_from_str("Grek")?;
+    let other = script(rt, "Grek");
     assert!(rt; !held.is_rtl(other) && !held.is_ltr(other));
-    Ok(())
 }
 
 fn are_exemplars_of_the_sample(rt: &impl Abort, held: &ExemplarCharactersData) {
@@ -113,11 +107,15 @@ fn counts_of_names(held: &Tables) -> [usize; 4] {
 }
 
 #[test]
-fn directions_and_exemplars_of_the_sample(rt: HostRuntime) -> Result<(), Fail> {
-    let tables = sample(rt.alloc())?;
-    are_directions_of_the_sample(&rt, tables.load_script_direction()?)?;
-    let set = tables.load_exemplars(ExemplarMarker::Main, english()?.locale)?;
+fn directions_and_exemplars_of_the_sample(rt: HostRuntime) {
+    let tables = sample(&rt, rt.alloc());
+    let directions = tables
+        .load_script_direction()
+        .expect(&rt, "script direction");
+    are_directions_of_the_sample(&rt, directions);
+    let set = tables
+        .load_exemplars(ExemplarMarker::Main, english(&rt).locale)
+        .expect(&rt, "a set");
     are_exemplars_of_the_sample(&rt, set);
     assert!(rt; counts_of_names(&tables) == [1, 9, 1, 1]);
-    Ok(())
 }

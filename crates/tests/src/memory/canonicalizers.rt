@@ -1,17 +1,16 @@
 //! Making canonicalizers, and canonicalizing.
+use crate::known::{identifier, key, sample, tables, value};
 use crate::memory::budget::{Answered, Call, by_budget, take_all};
 use icu_locale::{CanonicalizeError, LocaleCanonicalizer, LocaleExpander, TransformResult};
-use icu_locale_core::{Key, LanguageIdentifier, Locale, ParseError, Value};
-use icu_locale_lines::sample;
+use icu_locale_core::{LanguageIdentifier, Locale, ParseError};
 use icu_provider::{Aliases, DataErrorKind, DataProvider};
 use icu_tables::Tables;
 use std::alloc::{AllocError, Global};
 use std::process::Abort;
-use std::test::Fail;
 
 // Rules, an identifier, a transform language or none, and what becomes of them where no memory is left: what they are
 // then, or the identifier that comes again. Nothing of them has variants.
-const WITHOUT_MEMORY: [(&str, &str, &str, &str); 13] = [
+static WITHOUT_MEMORY: [(&str, &str, &str, &str); 13] = [
     (ENDING, "sh", "", "sr-Latn"),
     (ENDING, "sh-Cyrl", "", "sr-Cyrl"),
     (ENDING, "aa", "", "cc"),
@@ -39,24 +38,25 @@ const ITSELF: &str = "{\"aliases\":{\"language_len2\":{\"aa\":\"aa\"}}}";
 
 // What a call answers while no memory is left.
 fn starved(
+    rt: &impl Abort,
     alloc: Global,
     canonicalizer: &LocaleCanonicalizer<'_>,
     locale: &mut Locale,
-) -> Result<Result<TransformResult, CanonicalizeError>, AllocError> {
-    let held = take_all(alloc)?;
+) -> Result<TransformResult, CanonicalizeError> {
+    let held = take_all(alloc).expect(rt, "memory");
     let answer = canonicalizer.canonicalize(locale);
     drop(held);
-    Ok(answer)
+    answer
 }
 
 // A locale of an identifier and a transform language.
-fn locale(alloc: Global, id: &str, transform: &str) -> Result<Locale, ParseError> {
-    let mut locale = Locale::new(alloc, LanguageIdentifier::try_from_str(alloc, id)?);
+fn locale(rt: &impl Abort, alloc: Global, id: &str, transform: &str) -> Locale {
+    let mut locale = Locale::new(alloc, identifier(rt, alloc, id));
     if !transform.is_empty() {
-        let transform = LanguageIdentifier::try_from_str(alloc, transform)?;
+        let transform = identifier(rt, alloc, transform);
         locale.extensions.transform.lang = Some(transform);
     }
-    Ok(locale)
+    locale
 }
 
 // What became of a locale, or what comes again.
@@ -80,69 +80,61 @@ fn starved_call(
     alloc: Global,
     canonicalizer: &LocaleCanonicalizer<'_>,
     (id, transform, want): (&str, &str, &str),
-) -> Result<(), Fail> {
-    let mut after = locale(alloc, id, transform)?;
-    let answer = starved(alloc, canonicalizer, &mut after)?;
-    let is_kept = answer.is_ok() || after == locale(alloc, id, transform)?;
+) {
+    let mut after = locale(rt, alloc, id, transform);
+    let answer = starved(rt, alloc, canonicalizer, &mut after);
+    let is_kept = answer.is_ok() || after == locale(rt, alloc, id, transform);
     assert!(rt; is_kept, "at {id} {transform}");
-    assert_eq!(rt;
-        told(alloc, answer, &after)?.as_str(),
-        want,
-        "at {id} {transform}"
-    );
-    Ok(())
+    let told = told(alloc, answer, &after).expect(rt, "memory");
+    assert!(rt; told.as_str() == want, "{told} at {id} {transform}");
 }
 
-fn starved_row(
-    rt: &impl Abort,
-    alloc: Global,
-    sample: &Tables,
-    row: (&str, &str, &str, &str),
-) -> Result<(), Fail> {
-    let Ok(own) = Tables::from_json(alloc, row.0.as_bytes()) else {
-        return Err(Fail::new("the rules cannot be read"));
-    };
-    over_own_aliases(rt, alloc, sample, &own, (row.1, row.2, row.3))
+fn starved_row(rt: &impl Abort, alloc: Global, sample: &Tables, row: (&str, &str, &str, &str)) {
+    let own = tables(rt, alloc, row.0);
+    let canonicalizer = over_aliases(rt, alloc, sample, &own);
+    starved_call(rt, alloc, &canonicalizer, (row.1, row.2, row.3));
 }
 
-fn over_own_aliases(
+// A canonicalizer over the own rules and the tables of the sample.
+fn over_aliases<'t>(
     rt: &impl Abort,
     alloc: Global,
-    sample: &Tables,
-    own: &Tables,
-    call: (&str, &str, &str),
-) -> Result<(), Fail> {
-    let expander = LocaleExpander::try_new_common_unstable(sample)?;
-    let canonicalizer = LocaleCanonicalizer::new_with_expander(
-        alloc,
-        own.load_aliases()?,
-        expander,
-    )?;
-    starved_call(rt, alloc, &canonicalizer, call)
+    sample: &'t Tables,
+    own: &'t Tables,
+) -> LocaleCanonicalizer<'t> {
+    let expander = LocaleExpander::try_new_common_unstable(sample).expect(rt, "tables");
+    let aliases = own.load_aliases().expect(rt, "aliases");
+    LocaleCanonicalizer::new_with_expander(alloc, aliases, expander).expect(rt, "rules")
 }
 
 #[test]
-fn canonicalizing_without_variants_takes_no_memory(rt: HostRuntime) -> Result<(), Fail> {
-    let tables = sample(rt.alloc())?;
-    for row in WITHOUT_MEMORY {
-        starved_row(&rt, rt.alloc(), &tables, row)?;
+fn canonicalizing_without_variants_takes_no_memory(rt: HostRuntime) {
+    let alloc = rt.alloc();
+    let tables = sample(&rt, alloc);
+    for row in &WITHOUT_MEMORY {
+        starved_row(&rt, alloc, &tables, *row);
     }
-    Ok(())
 }
 
-// What a call on a locale with a value at `rg` answers while no memory is left, and whether the locale is as it was.
+// What a call on a locale with a value at `rg` answers while no memory is left (nothing, where it
+// is refused), and whether the locale is as it was.
 fn starved_value(
+    rt: &impl Abort,
     alloc: Global,
     canonicalizer: &LocaleCanonicalizer<'_>,
     text: &str,
-) -> Result<(Result<TransformResult, CanonicalizeError>, bool), Fail> {
-    let mut locale = Locale::new(alloc, LanguageIdentifier::try_from_str(alloc, "en")?);
-    let value = Value::try_from_str(alloc, text)?;
+) -> (Option<TransformResult>, bool) {
+    let mut locale = Locale::new(alloc, identifier(rt, alloc, "en"));
+    let value = value(rt, alloc, text);
     let keywords = &mut locale.extensions.unicode.keywords;
-    let _ = keywords.set(Key::try_from_str("rg")?, value)?;
-    let before = locale.try_clone()?;
-    let answer = starved(alloc, canonicalizer, &mut locale)?;
-    Ok((answer, locale == before))
+    let _ = keywords.set(key(rt, "rg"), value).expect(rt, "memory");
+    let before = locale.try_clone().expect(rt, "memory");
+    let changed = match starved(rt, alloc, canonicalizer, &mut locale) {
+        Ok(changed) => Some(changed),
+        Err(CanonicalizeError::Memory) => None,
+        Err(refusal) => panic!(rt; "{refusal}"),
+    };
+    (changed, locale == before)
 }
 
 const VALUES: &str =
@@ -150,21 +142,25 @@ const VALUES: &str =
 
 // A value of one piece is copied without memory, one of two is not.
 #[test]
-fn values_without_memory(rt: HostRuntime) -> Result<(), Fail> {
-    let tables = sample(rt.alloc())?;
-    let Ok(own) = Tables::from_json(rt.alloc(), VALUES.as_bytes()) else {
-        return Err(Fail::new("the rules cannot be read"));
-    };
-    let expander = LocaleExpander::try_new_common_unstable(&tables)?;
-    let aliases = own.load_aliases()?;
-    let canonicalizer = LocaleCanonicalizer::new_with_expander(rt.alloc(), aliases, expander)?;
-    let (kept, is_same) = starved_value(rt.alloc(), &canonicalizer, "xyz")?;
-    assert!(rt; is_same && matches!(kept, Ok(TransformResult::Unmodified)));
-    let (replaced, is_same) = starved_value(rt.alloc(), &canonicalizer, "abcdefg")?;
-    assert!(rt; !is_same && matches!(replaced, Ok(TransformResult::Modified)));
-    let (refused, is_same) = starved_value(rt.alloc(), &canonicalizer, "hijklmn")?;
-    assert!(rt; is_same && matches!(refused, Err(CanonicalizeError::Memory)));
-    Ok(())
+fn values_without_memory(rt: HostRuntime) {
+    let alloc = rt.alloc();
+    let sample = sample(&rt, alloc);
+    let own = tables(&rt, alloc, VALUES);
+    values_over(&rt, alloc, &sample, &own);
+}
+
+fn values_over(rt: &impl Abort, alloc: Global, sample: &Tables, own: &Tables) {
+    let canonicalizer = over_aliases(rt, alloc, sample, own);
+    for (value, answer) in [
+        ("xyz", (Some(TransformResult::Unmodified), true)),
+        ("abcdefg", (Some(TransformResult::Modified), false)),
+        ("hijklmn", (None, true)),
+    ] {
+        assert!(rt;
+            starved_value(rt, alloc, &canonicalizer, value) == answer,
+            "at {value}"
+        );
+    }
 }
 
 // Making a canonicalizer, which then replaces a language.
@@ -224,18 +220,20 @@ impl Canonicalize<'_, '_> {
 }
 
 #[test]
-fn canonicalizers(rt: HostRuntime) -> Result<(), Fail> {
-    let tables = sample(rt.alloc())?;
-    let expander = LocaleExpander::try_new_common_unstable(&tables)?;
-    let aliases = tables.load_aliases()?;
+fn canonicalizers(rt: HostRuntime) {
+    let alloc = rt.alloc();
+    let tables = sample(&rt, alloc);
+    let expander = LocaleExpander::try_new_common_unstable(&tables).expect(&rt, "tables");
+    let aliases = tables.load_aliases().expect(&rt, "aliases");
     let make = MakeCanonicalizer { aliases, expander };
-    assert!(rt; by_budget(rt.alloc(), &make)?.is_good());
-    let canonicalizer = LocaleCanonicalizer::new_with_expander(rt.alloc(), aliases, expander)?;
+    assert!(rt; by_budget(alloc, &make).expect(&rt, "memory").is_good());
+    let canonicalizer = LocaleCanonicalizer::new_with_expander(alloc, aliases, expander).expect(
+        &rt, "tables",
+    );
     let call = Canonicalize {
         canonicalizer: &canonicalizer,
         from: "ja-Latn-fonipa-hepburn-heploc",
         to: "ja-Latn-alalc97-fonipa",
     };
-    assert!(rt; by_budget(rt.alloc(), &call)?.is_good());
-    Ok(())
+    assert!(rt; by_budget(alloc, &call).expect(&rt, "memory").is_good());
 }

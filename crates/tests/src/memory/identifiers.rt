@@ -1,12 +1,11 @@
 //! Reading and copying identifiers, inserts, and negotiators.
+use crate::known::sample;
 use crate::memory::budget::{Answered, Call, by_budget, take_all};
 use icu_locale::{LocaleExpander, Negotiator, NegotiatorError};
 use icu_locale_core::{LanguageIdentifier, ParseError};
-use icu_locale_lines::sample;
 use icu_provider::SortedMap;
 use std::alloc::Global;
 use std::slice;
-use std::test::Fail;
 
 // Reading and copying an identifier with variants.
 #[derive(Drop)]
@@ -44,21 +43,29 @@ impl Call for ReadWithoutVariants {
 }
 
 #[test]
-fn identifiers(rt: HostRuntime) -> Result<(), Fail> {
-    assert!(rt; by_budget(rt.alloc(), &ReadAndCopy)?.is_good());
-    assert!(rt; by_budget(rt.alloc(), &ReadWithoutVariants)?.is_whole());
-    Ok(())
+fn identifiers(rt: HostRuntime) {
+    let alloc = rt.alloc();
+    assert!(rt;
+        by_budget(alloc, &ReadAndCopy)
+            .expect(&rt, "memory")
+            .is_good()
+    );
+    assert!(rt;
+        by_budget(alloc, &ReadWithoutVariants)
+            .expect(&rt, "memory")
+            .is_whole()
+    );
 }
 
 #[test]
-fn a_refused_insert_leaves_the_table(rt: HostRuntime) -> Result<(), Fail> {
+fn a_refused_insert_leaves_the_table(rt: HostRuntime) {
     let alloc = rt.alloc();
     let mut map: SortedMap<u64, u64> = SortedMap::new(alloc);
     for key in 0..64 {
-        map.insert(2 * key, key)?;
+        map.insert(2 * key, key).expect(&rt, "memory");
     }
-    let spare = Vec::<u8>::with_capacity(alloc, 65_536)?;
-    let held = take_all(alloc)?;
+    let spare = Vec::<u8>::with_capacity(alloc, 65_536).expect(&rt, "memory");
+    let held = take_all(alloc).expect(&rt, "memory");
     let refused = map.insert(7, 7).is_err();
     let unchanged = map.len() == 64 && map.get(&7).is_none() && map.get(&8) == Some(&4);
     let present = map.insert(8, 9).is_ok() && map.get(&8) == Some(&9);
@@ -68,8 +75,7 @@ fn a_refused_insert_leaves_the_table(rt: HostRuntime) -> Result<(), Fail> {
     assert!(rt; unchanged);
     assert!(rt; present);
     assert!(rt; map.insert(7, 7).is_ok());
-    assert_eq!(rt; map.len(), 65);
-    Ok(())
+    assert!(rt; map.len() == 65);
 }
 
 // Making a negotiator over a list that finds memory itself.
@@ -108,9 +114,13 @@ fn second_is_found(alloc: Global, negotiator: &Negotiator<'_>) -> Answered {
 }
 
 #[test]
-fn negotiators(rt: HostRuntime) -> Result<(), Fail> {
-    let tables = sample(rt.alloc())?;
-    let expander = LocaleExpander::try_new_common_unstable(&tables)?;
-    assert!(rt; by_budget(rt.alloc(), &MakeNegotiator(expander))?.is_good());
-    Ok(())
+fn negotiators(rt: HostRuntime) {
+    let alloc = rt.alloc();
+    let tables = sample(&rt, alloc);
+    let expander = LocaleExpander::try_new_common_unstable(&tables).expect(&rt, "tables");
+    assert!(rt;
+        by_budget(alloc, &MakeNegotiator(expander))
+            .expect(&rt, "memory")
+            .is_good()
+    );
 }

@@ -3,7 +3,6 @@ use crate::memory::budget::{Answered, Call, by_budget};
 use icu_locale_core::ParseError;
 use icu_locale_extensions::{LocaleIdentifier, Syntax};
 use std::alloc::Global;
-use std::test::Fail;
 
 // Texts that keep something.
 const KEPT: [(Syntax, &str); 7] = [
@@ -48,14 +47,22 @@ fn copy(identifier: &LocaleIdentifier) -> Answered {
 }
 
 #[test]
-fn locale_identifiers(rt: HostRuntime) -> Result<(), Fail> {
+fn locale_identifiers(rt: HostRuntime) {
+    let alloc = rt.alloc();
     for (syntax, text) in KEPT {
-        assert!(rt; by_budget(rt.alloc(), &ReadAndCopy(syntax, text))?.is_good());
+        assert!(rt;
+            by_budget(alloc, &ReadAndCopy(syntax, text))
+                .expect(&rt, "memory")
+                .is_good()
+        );
     }
     for (syntax, text) in NOTHING_KEPT {
-        assert!(rt; by_budget(rt.alloc(), &ReadAndCopy(syntax, text))?.is_whole());
+        assert!(rt;
+            by_budget(alloc, &ReadAndCopy(syntax, text))
+                .expect(&rt, "memory")
+                .is_whole()
+        );
     }
-    Ok(())
 }
 
 // Writing a locale identifier behind a text, which stays as it was where memory was refused.
@@ -74,8 +81,13 @@ impl Call for Append {
 }
 
 #[test]
-fn written_locale_identifiers(rt: HostRuntime) -> Result<(), Fail> {
-    let identifier = LocaleIdentifier::try_from_str(rt.alloc(), "en-u-hc-h12-a-bcd-x-mine")?;
-    assert!(rt; by_budget(rt.alloc(), &Append(identifier))?.is_good());
-    Ok(())
+fn written_locale_identifiers(rt: HostRuntime) {
+    let alloc = rt.alloc();
+    let identifier = LocaleIdentifier::try_from_str(alloc, "en-u-hc-h12-a-bcd-x-mine");
+    let identifier = identifier.expect(&rt, "memory");
+    assert!(rt;
+        by_budget(alloc, &Append(identifier))
+            .expect(&rt, "memory")
+            .is_good()
+    );
 }

@@ -1,88 +1,92 @@
 //! Names of identifiers.
-use crate::languages::{RAW, english, named, patterns};
+use crate::known::{english, identifier, sample, variant};
+use crate::languages::{RAW, named, patterns};
 use crate::memory::budget::{Answered, Call, HeldWriter, by_budget, take_all};
 use crate::refusing::{refusal, willing};
-use icu_locale_core::{LanguageIdentifier, Variant};
-use icu_locale_lines::sample;
+use icu_locale_core::LanguageIdentifier;
 use icu_locale_names::{
     DisplayNamesPreferences, LanguageIdentifierDisplayNameBorrowed, NameChain, NameWriteError,
 };
 use icu_provider::{DataError, DataErrorKind, NameKey, NameMarker};
 use icu_tables::Tables;
 use std::alloc::Global;
-use std::test::Fail;
+use std::process::Abort;
 
 // What a name of two variants answers where no memory is left and names of one marker are refused.
 fn without_memory(
+    rt: &impl Abort,
     alloc: Global,
     tables: &Tables,
     subject: &LanguageIdentifier,
     marker: NameMarker,
-) -> Result<Option<DataError>, Fail> {
+) -> Option<DataError> {
     let mut provider = willing(tables);
     provider.names = refusal(DataErrorKind::Custom);
     provider.names_at = Some(marker);
-    let of = english()?;
-    let held = take_all(alloc)?;
+    let of = english(rt);
+    let held = take_all(alloc).expect(rt, "memory");
     let refused = named(alloc, &provider, of, subject, NameChain::Light).err();
     drop(held);
-    Ok(refused)
+    refused
 }
 
 #[test]
-fn memory_lacks_behind_the_region_and_before_the_variants(rt: HostRuntime) -> Result<(), Fail> {
-    let tables = patterns(rt.alloc())?;
-    let two = LanguageIdentifier::try_from_str(rt.alloc(), "it-fonipa-posix")?;
-    let behind_a_region = LanguageIdentifier::try_from_str(rt.alloc(), "it-US-fonipa-posix")?;
-    let one = LanguageIdentifier::try_from_str(rt.alloc(), "it-Latn-US-fonipa")?;
+fn memory_lacks_behind_the_region_and_before_the_variants(rt: HostRuntime) {
+    let alloc = rt.alloc();
+    let tables = patterns(&rt, alloc);
+    let two = identifier(&rt, alloc, "it-fonipa-posix");
+    let behind_a_region = identifier(&rt, alloc, "it-US-fonipa-posix");
+    let one = identifier(&rt, alloc, "it-Latn-US-fonipa");
     let custom = refusal(DataErrorKind::Custom);
     let memory = refusal(DataErrorKind::Memory);
     let region = NameMarker::RegionMediumLight;
     let variant = NameMarker::VariantMediumHeavy;
     let short = NameMarker::RegionShortTiny;
-    assert!(rt; without_memory(rt.alloc(), &tables, &behind_a_region, region)? == custom);
-    assert!(rt; without_memory(rt.alloc(), &tables, &two, variant)? == memory);
-    assert!(rt; without_memory(rt.alloc(), &tables, &two, short)? == memory);
-    assert!(rt; without_memory(rt.alloc(), &tables, &one, variant)? == custom);
-    assert!(rt; without_memory(rt.alloc(), &tables, &one, short)?.is_none());
-    Ok(())
+    assert!(rt; without_memory(&rt, alloc, &tables, &behind_a_region, region) == custom);
+    assert!(rt; without_memory(&rt, alloc, &tables, &two, variant) == memory);
+    assert!(rt; without_memory(&rt, alloc, &tables, &two, short) == memory);
+    assert!(rt; without_memory(&rt, alloc, &tables, &one, variant) == custom);
+    assert!(rt; without_memory(&rt, alloc, &tables, &one, short).is_none());
 }
 
 // What a name answers where there is memory, and the name of one variant is refused.
 #[test]
-fn a_refused_variant_is_no_want_of_memory(rt: HostRuntime) -> Result<(), Fail> {
-    let tables = patterns(rt.alloc())?;
-    let two = LanguageIdentifier::try_from_str(rt.alloc(), "it-fonipa-posix")?;
-    for variant in ["fonipa", "posix"] {
+fn a_refused_variant_is_no_want_of_memory(rt: HostRuntime) {
+    let alloc = rt.alloc();
+    let tables = patterns(&rt, alloc);
+    let two = identifier(&rt, alloc, "it-fonipa-posix");
+    for text in ["fonipa", "posix"] {
         let mut provider = willing(&tables);
         provider.names = refusal(DataErrorKind::Custom);
-        provider.names_of = Some(NameKey::Variant(Variant::try_from_str(variant)?));
-        let refused = named(rt.alloc(), &provider, english()?, &two, NameChain::Light).err();
+        provider.names_of = Some(NameKey::Variant(variant(&rt, text)));
+        let refused = named(alloc, &provider, english(&rt), &two, NameChain::Light).err();
         assert!(rt; refused == refusal(DataErrorKind::Custom));
     }
-    Ok(())
 }
 
 fn written_without_memory(
+    rt: &impl Abort,
     alloc: Global,
     name: LanguageIdentifierDisplayNameBorrowed<'_>,
-) -> Result<(Option<NameWriteError>, usize, usize), Fail> {
+) -> (Option<NameWriteError>, usize, usize) {
     let mut sink = HeldWriter::new(64);
     let mut parts = Vec::new(alloc);
-    let held = take_all(alloc)?;
+    let held = take_all(alloc).expect(rt, "memory");
     let refused = name.try_write_to_parts(&mut sink, &mut parts).err();
     drop(held);
-    Ok((refused, sink.written().len(), parts.len()))
+    (refused, sink.written().len(), parts.len())
 }
 
 #[test]
-fn spans_that_find_no_room(rt: HostRuntime) -> Result<(), Fail> {
-    let tables = patterns(rt.alloc())?;
-    let subject = LanguageIdentifier::try_from_str(rt.alloc(), "tlh-Qabc-150")?;
-    let name = named(rt.alloc(), &tables, english()?, &subject, NameChain::Light)?;
-    let (refused, taken, spans) = written_without_memory(rt.alloc(), name.as_borrowed())?;
+fn spans_that_find_no_room(rt: HostRuntime) {
+    let alloc = rt.alloc();
+    let tables = patterns(&rt, alloc);
+    let subject = identifier(&rt, alloc, "tlh-Qabc-150");
+    let name = named(alloc, &tables, english(&rt), &subject, NameChain::Light).expect(
+        &rt, "a name",
+    );
+    let (refused, taken, spans) = written_without_memory(&rt, alloc, name.as_borrowed());
     assert!(rt; refused == Some(NameWriteError::Memory) && taken == 0 && spans == 0);
-    Ok(())
 }
 
 // Writing a name, with the spans of its raw subtags.
@@ -138,18 +142,18 @@ impl Call for MakeName<'_> {
 }
 
 #[test]
-fn names_at_every_budget(rt: HostRuntime) -> Result<(), Fail> {
-    let tables = sample(rt.alloc())?;
+fn names_at_every_budget(rt: HostRuntime) {
+    let alloc = rt.alloc();
+    let tables = sample(&rt, alloc);
     for (subject, text, spans) in &RAW {
-        let subject = LanguageIdentifier::try_from_str(rt.alloc(), subject)?;
+        let subject = identifier(&rt, alloc, subject);
         let call = MakeName {
             tables: &tables,
             subject: &subject,
-            of: english()?,
+            of: english(&rt),
             text,
             spans,
         };
-        assert!(rt; by_budget(rt.alloc(), &call)?.is_good());
+        assert!(rt; by_budget(alloc, &call).expect(&rt, "memory").is_good());
     }
-    Ok(())
 }

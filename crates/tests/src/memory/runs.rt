@@ -1,13 +1,14 @@
 //! Runs and streams of the programs: whole lines alone are written.
+use crate::known::{sample, words};
 use crate::line_streams::PartReader;
 use crate::memory::budget::{Answered, Call, HeldWriter, at_budget, by_budget};
 use icu_locale_lines::{
     CliError, Command, LineCommand, SAMPLE, Status, Task, Transform, run, run_buffered, run_json,
-    sample, stream, stream_json, stream_words,
+    stream, stream_json, stream_words,
 };
 use icu_tables::Tables;
 use std::alloc::Global;
-use std::test::Fail;
+use std::process::Abort;
 
 // Commands, inputs, and what is written where there is memory.
 const RUNS: [(Command, &str, &str); 4] = [
@@ -127,48 +128,58 @@ impl Call for StreamedJson<'_> {
     }
 }
 
+fn streams_by_parts(rt: &impl Abort, alloc: Global, tables: &Tables, at_once: usize) {
+    for row in &RUNS {
+        let streamed = Streamed {
+            tables,
+            row,
+            at_once,
+        };
+        assert!(rt; by_budget(alloc, &streamed).expect(rt, "memory").is_good());
+    }
+}
+
 #[test]
-fn a_stream_writes_whole_lines(rt: HostRuntime) -> Result<(), Fail> {
-    let tables = sample(rt.alloc())?;
+fn a_stream_writes_whole_lines(rt: HostRuntime) {
+    let alloc = rt.alloc();
+    let tables = sample(&rt, alloc);
+    for at_once in [7, 4096] {
+        streams_by_parts(&rt, alloc, &tables, at_once);
+    }
     for row in &RUNS {
         let (command, input, answers) = row;
-        for at_once in [7, 4096] {
-            let streamed = Streamed {
-                tables: &tables,
-                row,
-                at_once,
-            };
-            assert!(rt; by_budget(rt.alloc(), &streamed)?.is_good());
-        }
-        let text = format!(in rt.alloc(); "{SAMPLE}\n{input}")?;
+        let text = format!(in alloc; "{SAMPLE}\n{input}").expect(&rt, "memory");
         let text = text.as_str();
         let of_text = StreamedJson {
             command,
             text,
             answers,
         };
-        assert!(rt; by_budget(rt.alloc(), &of_text)?.is_good());
+        assert!(rt; by_budget(alloc, &of_text).expect(&rt, "memory").is_good());
     }
-    Ok(())
 }
 
 #[test]
-fn a_run_writes_whole_lines(rt: HostRuntime) -> Result<(), Fail> {
-    let tables = sample(rt.alloc())?;
+fn a_run_writes_whole_lines(rt: HostRuntime) {
+    let alloc = rt.alloc();
+    let tables = sample(&rt, alloc);
     for row in &RUNS {
         let (command, input, answers) = row;
         let tables = &tables;
-        assert!(rt; by_budget(rt.alloc(), &Run { tables, row })?.is_good());
-        let text = format!(in rt.alloc(); "{SAMPLE}\n{input}")?;
+        assert!(rt;
+            by_budget(alloc, &Run { tables, row })
+                .expect(&rt, "memory")
+                .is_good()
+        );
+        let text = format!(in alloc; "{SAMPLE}\n{input}").expect(&rt, "memory");
         let text = text.as_str();
         let of_text = RunJson {
             command,
             text,
             answers,
         };
-        assert!(rt; by_budget(rt.alloc(), &of_text)?.is_good());
+        assert!(rt; by_budget(alloc, &of_text).expect(&rt, "memory").is_good());
     }
-    Ok(())
 }
 
 // A run whose output is kept in a buffer, and of whose lines the last takes more memory than anything before it.
@@ -207,17 +218,18 @@ fn written_out(ended: Result<Status, CliError>, writer: &HeldWriter) -> Answered
 }
 
 // Small tables and two lines, of which the last has variants, and at its end a piece that is none.
-fn two_lines(alloc: Global) -> Result<String, Fail> {
+fn two_lines(rt: &impl Abort, alloc: Global) -> String {
     let mut text = String::from_str(
         alloc,
         "{\"likely_language\":{\"und\":[\"en\",\"Latn\",\"US\"],\"language\":{\"en\":[\"Latn\",\"US\"]}},\
         \"likely_script_region\":{}}\nen\nen",
-    )?;
+    )
+    .expect(rt, "memory");
     for variant in 1_000..2_500_u16 {
-        write!(text, "-{variant}")?;
+        write!(text, "-{variant}").expect(rt, "memory");
     }
-    text.push_str("-x\n")?;
-    Ok(text)
+    text.push_str("-x\n").expect(rt, "memory");
+    text
 }
 
 // The same as a stream, whose output is kept in a buffer until more is read.
@@ -238,35 +250,33 @@ impl Call for BufferedStream<'_> {
 
 // At some budget all but the list of the last line's variants has room.
 #[test]
-fn a_stream_that_ends_early_writes_out_its_lines(rt: HostRuntime) -> Result<(), Fail> {
-    let mut words = Vec::new(rt.alloc());
-    words.push(String::from_str(rt.alloc(), "maximize")?)?;
-    words.push(String::from_str(rt.alloc(), "json")?)?;
-    let input = two_lines(rt.alloc())?;
+fn a_stream_that_ends_early_writes_out_its_lines(rt: HostRuntime) {
+    let alloc = rt.alloc();
+    let words = words(&rt, alloc, "maximize json");
+    let input = two_lines(&rt, alloc);
     let call = BufferedStream {
         words: &words,
         input: input.as_str(),
     };
     let mut partly = false;
     for size in 4..20_usize {
-        let answered = at_budget(rt.alloc(), &call, size.saturating_mul(4_096))?;
+        let answered = at_budget(alloc, &call, size.saturating_mul(4_096)).expect(&rt, "memory");
         assert!(rt; answered != Answered::Wrong);
         partly = partly || answered == Answered::Partly;
     }
     assert!(rt; partly);
-    assert!(rt; call.answer(rt.alloc()) == Answered::Whole);
-    Ok(())
+    assert!(rt; call.answer(alloc) == Answered::Whole);
 }
 
 #[test]
-fn a_run_that_ends_early_writes_out_its_lines(rt: HostRuntime) -> Result<(), Fail> {
-    let input = two_lines(rt.alloc())?;
+fn a_run_that_ends_early_writes_out_its_lines(rt: HostRuntime) {
+    let alloc = rt.alloc();
+    let input = two_lines(&rt, alloc);
     let call = BufferedRun {
         input: input.as_str(),
     };
     // all but the list of the last line's variants has room
-    assert!(rt; at_budget(rt.alloc(), &call, 32_768)? == Answered::Partly);
-    assert!(rt; at_budget(rt.alloc(), &call, 16)? == Answered::Refused);
-    assert!(rt; call.answer(rt.alloc()) == Answered::Whole);
-    Ok(())
+    assert!(rt; at_budget(alloc, &call, 32_768).expect(&rt, "memory") == Answered::Partly);
+    assert!(rt; at_budget(alloc, &call, 16).expect(&rt, "memory") == Answered::Refused);
+    assert!(rt; call.answer(alloc) == Answered::Whole);
 }

@@ -1,13 +1,11 @@
 //! Reading tables.
+use crate::known::english;
 use crate::memory::budget::{Answered, Call, by_budget};
 use crate::memory::canonicalizers::{CIRCLING, ENDING};
-use icu_locale_core::Language;
 use icu_locale_lines::SAMPLE;
-use icu_locale_names::DisplayNamesPreferences;
 use icu_provider::{DataLocale, DataProvider};
 use icu_tables::{TableError, Tables};
 use std::alloc::Global;
-use std::test::Fail;
 
 const PATTERNS: &str =
     "{\"essentials\":{\"en\":{\"pattern\":[0,\" (\",1,\")\"],\"separator\":[0,\", \",1]}}}";
@@ -48,16 +46,13 @@ fn told(tables: &Tables, english: DataLocale) -> (usize, bool) {
 }
 
 #[test]
-fn tables_from_json(rt: HostRuntime) -> Result<(), Fail> {
-    let english = Language::try_from_str("en")?;
-    let english = DisplayNamesPreferences::new(english, None, None).locale;
+fn tables_from_json(rt: HostRuntime) {
     for (text, told) in TEXTS {
         let call = ReadTables {
             text,
-            english,
+            english: english(&rt).locale,
             told,
         };
-        assert!(rt; by_budget(rt.alloc(), &call)?.is_good());
+        assert!(rt; by_budget(rt.alloc(), &call).expect(&rt, "memory").is_good());
     }
-    Ok(())
 }
