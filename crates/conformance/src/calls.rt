@@ -1,7 +1,7 @@
 //! The calls that rows name.
 use crate::fault::Fault;
 use crate::likely::{self, Likely};
-use crate::texts::{self, Kind};
+use crate::texts::{self, Kind, four_words, written};
 use crate::world::World;
 use crate::{canonical, language_names, menus, names, negotiation};
 use icu_locale_extensions::Syntax;
@@ -148,21 +148,19 @@ fn answer_text(alloc: Global, world: &World, call: Call, text: &str) -> Result<S
 }
 
 fn answer_words(alloc: Global, call: Call, text: &str) -> Result<String, Fault> {
-    let mut words = text.split(' ');
-    let first = words.next().unwrap_or("");
-    let second = words.next().unwrap_or("");
+    let [first, second, third, _] = four_words(text);
     match call {
         Call::RuleMatches => canonical::rule_matches(alloc, first, second),
         Call::Order => texts::order(alloc, first, second),
-        _ => canonical::replacement(alloc, first, second, words.next().unwrap_or("")),
+        _ => canonical::replacement(alloc, first, second, third),
     }
 }
 
 // What the tables of a JSON text hold, or the refusal's name.
-fn held(alloc: Global, text: &[u8]) -> Result<String, Fault> {
-    match Tables::from_json(alloc, text) {
+fn held(alloc: Global, json: &[u8]) -> Result<String, Fault> {
+    match Tables::from_json(alloc, json) {
         Ok(tables) => held_names(alloc, &tables),
-        Err(refusal) => Ok(format!(in alloc; "{refusal}")?),
+        Err(refusal) => written(alloc, &refusal),
     }
 }
 
@@ -190,13 +188,13 @@ fn held_names(alloc: Global, tables: &Tables) -> Result<String, Fault> {
 }
 
 // `Json` where each beginning short of the whole is refused so, else how long one is that is not.
-fn cuts(alloc: Global, text: &[u8]) -> Result<String, Fault> {
-    for length in 0..text.len() {
-        if !is_json_refusal(alloc, &text[..length]) {
+fn cuts(alloc: Global, json: &[u8]) -> Result<String, Fault> {
+    for length in 0..json.len() {
+        if !is_json_refusal(alloc, &json[..length]) {
             return Ok(format!(in alloc; "otherwise after {length} bytes")?);
         }
     }
-    Ok(String::from_str(alloc, "Json")?)
+    written(alloc, &"Json")
 }
 
 fn is_json_refusal(alloc: Global, text: &[u8]) -> bool {

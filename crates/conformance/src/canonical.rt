@@ -1,6 +1,7 @@
 //! Canonical forms, rule by rule and whole.
 use crate::fault::Fault;
 use crate::likely::{mark, yes_or_no};
+use crate::texts::written;
 use crate::world::World;
 use icu_locale::{CanonicalizeError, LocaleCanonicalizer, TransformResult, Turns, laws};
 use icu_locale_core::{Key, LanguageIdentifier, Locale, Value};
@@ -36,15 +37,15 @@ fn extend(alloc: Global, locale: &mut Locale, word: &str) -> Result<(), Fault> {
 }
 
 // A locale in the form in which it is read.
-fn written(alloc: Global, locale: &Locale) -> Result<String, Fault> {
-    let mut text = format!(in alloc; "{}", locale.id)?;
+fn write_locale(text: &mut String, locale: &Locale) -> Result<(), Fault> {
+    write!(text, "{}", locale.id)?;
     if let Some(lang) = &locale.extensions.transform.lang {
         write!(text, " t={lang}")?;
     }
     for key in ["rg", "sd"] {
-        write_value(&mut text, locale, key)?;
+        write_value(text, locale, key)?;
     }
-    Ok(text)
+    Ok(())
 }
 
 fn write_value(text: &mut String, locale: &Locale, key: &str) -> Result<(), Fault> {
@@ -70,9 +71,9 @@ fn canonicalized(
     let mut after = before.try_clone()?;
     let answer = canonicalizer.canonicalize(&mut after);
     if !counts_alike(canonicalizer, before, &after, answer.is_ok())? {
-        return Ok(String::from_str(alloc, "the counted call differs")?);
+        return written(alloc, &"the counted call differs");
     }
-    told(alloc, answer, before, &after)
+    told(alloc, &answer, before, &after)
 }
 
 // Whether the counted call makes of a locale what the other has made of it, and succeeds where that did.
@@ -89,28 +90,32 @@ fn counts_alike(
 
 fn told(
     alloc: Global,
-    answer: Result<TransformResult, CanonicalizeError>,
+    answer: &Result<TransformResult, CanonicalizeError>,
     before: &Locale,
     after: &Locale,
 ) -> Result<String, Fault> {
     match answer {
-        Ok(changed) => {
-            let (text, mark) = (written(alloc, after)?, mark(changed));
-            Ok(format!(in alloc; "{text} {mark}")?)
-        }
-        Err(_) if before != after => Ok(String::from_str(alloc, "refused, and changed")?),
+        Ok(changed) => accepted(alloc, *changed, after),
+        Err(_) if before != after => written(alloc, &"refused, and changed"),
         Err(refusal) => refused(alloc, refusal),
     }
 }
 
-fn refused(alloc: Global, refusal: CanonicalizeError) -> Result<String, Fault> {
-    let mut text = format!(in alloc; "{refusal}")?;
-    match refusal {
-        CanonicalizeError::Memory => return Err(Fault::Memory(AllocError)),
-        CanonicalizeError::NoFixedPoint(again) => write!(text, " {again}")?,
-        CanonicalizeError::NoSubdivisionFixedPoint(again) => write!(text, " {again}")?,
-    }
+fn accepted(alloc: Global, changed: TransformResult, after: &Locale) -> Result<String, Fault> {
+    let mut text = String::new(alloc);
+    write_locale(&mut text, after)?;
+    write!(text, " {}", mark(changed))?;
     Ok(text)
+}
+
+fn refused(alloc: Global, refusal: &CanonicalizeError) -> Result<String, Fault> {
+    match refusal {
+        CanonicalizeError::Memory => Err(Fault::Memory(AllocError)),
+        CanonicalizeError::NoFixedPoint(again) => { Ok(format!(in alloc; "{refusal} {again}")?) }
+        CanonicalizeError::NoSubdivisionFixedPoint(again) => {
+            Ok(format!(in alloc; "{refusal} {again}")?)
+        }
+    }
 }
 
 /// What follows an identifier in one turn, by all rules or by those of a transform language.
@@ -127,8 +132,8 @@ fn follow(
     id: &LanguageIdentifier,
 ) -> Result<String, Fault> {
     match laws::search(canonicalizer, id, transform, &mut Turns::new()) {
-        Ok(Some(next)) => Ok(format!(in alloc; "{next}")?),
-        Ok(None) => Ok(String::from_str(alloc, "none")?),
+        Ok(Some(next)) => written(alloc, &next),
+        Ok(None) => written(alloc, &"none"),
         Err(_) => Err(Fault::Memory(AllocError)),
     }
 }
@@ -137,7 +142,7 @@ fn follow(
 pub fn rule_matches(alloc: Global, source: &str, rule: &str) -> Result<String, Fault> {
     let source = LanguageIdentifier::try_from_str(alloc, source)?;
     let rule = LanguageIdentifier::try_from_str(alloc, rule)?;
-    Ok(String::from_str(alloc, yes_or_no(laws::rule_matches(&source, &rule)))?)
+    written(alloc, &yes_or_no(laws::rule_matches(&source, &rule)))
 }
 
 /// What a rule and its replacement make of a source.
@@ -151,7 +156,7 @@ pub fn replacement(
     let rule = LanguageIdentifier::try_from_str(alloc, rule)?;
     let replacement = LanguageIdentifier::try_from_str(alloc, replacement)?;
     match laws::replacement(&source, &rule, &replacement) {
-        Ok(made) => Ok(format!(in alloc; "{made}")?),
+        Ok(made) => written(alloc, &made),
         Err(_) => Err(Fault::Memory(AllocError)),
     }
 }

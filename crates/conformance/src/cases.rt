@@ -92,7 +92,17 @@ fn is_right(alloc: Global, world: &World, line: &str, text: &mut String) -> Resu
         return Ok(false);
     };
     let (name, input) = row.split_once(' ').unwrap_or((row, ""));
-    match one_answer(alloc, world, name, input) {
+    let given = one_answer(alloc, world, name, input);
+    judged((row, wanted), &given, text)
+}
+
+// Whether an answer is the one that is wanted.
+fn judged(
+    (row, wanted): (&str, &str),
+    given: &Result<String, Fault>,
+    text: &mut String,
+) -> Result<bool, Fault> {
+    match given {
         Ok(given) if given.as_str() == wanted => return Ok(true),
         Ok(given) => write!(text, "{row} gives {given}, and not {wanted}\n")?,
         Err(fault) => write!(text, "{row} is not run: {fault:?}\n")?,
@@ -125,7 +135,7 @@ fn unescape(bytes: &mut Vec<u8>, part: &str) -> Result<(), Fault> {
     let Some(digits) = byte.strip_prefix('x') else {
         return Err(Fault::Row);
     };
-    bytes.push(u8::from_str_radix(digits, 16).map_err(|_| Fault::Row)?)?;
+    bytes.push(u8::from_str_radix(digits, 16).ok().ok_or(Fault::Row)?)?;
     bytes.extend_from_slice(rest.as_bytes())?;
     Ok(())
 }

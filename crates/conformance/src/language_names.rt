@@ -1,23 +1,23 @@
 //! Names of identifiers: their texts, reports and spans.
 use crate::fault::Fault;
 use crate::names::preferences;
+use crate::texts::{four_words, written};
 use crate::world::World;
 use icu_locale_core::LanguageIdentifier;
 use icu_locale_names::{
-    LanguageDisplay, LanguageIdentifierDisplayName, LanguageIdentifierDisplayNameOptions, NameChain,
+    LanguageDisplay, LanguageIdentifierDisplayName, LanguageIdentifierDisplayNameBorrowed,
+    LanguageIdentifierDisplayNameOptions, NameChain,
 };
-use std::alloc::Global;
+use std::alloc::{AllocError, Global};
 
 /// The name that a chain gives for preferences, an identifier and, if there is one, a display. The answer is the
 /// text, then `Ok` or `Err`, and then the spans of raw subtags.
-pub fn language_name(alloc: Global, world: &World, text: &str) -> Result<String, Fault> {
-    let mut words = text.split(' ');
-    let Some(chain) = NameChain::from_word(words.next().unwrap_or("")) else {
-        return Err(Fault::Row);
-    };
-    let preferences = preferences(alloc, words.next().unwrap_or(""))?;
-    let subject = LanguageIdentifier::try_from_str(alloc, words.next().unwrap_or(""))?;
-    let options = options(words.next())?;
+pub fn language_name(alloc: Global, world: &World, words: &str) -> Result<String, Fault> {
+    let [chain, locale, subject, display] = four_words(words);
+    let chain = NameChain::from_word(chain).ok_or(Fault::Row)?;
+    let preferences = preferences(alloc, locale)?;
+    let options = options(display)?;
+    let subject = LanguageIdentifier::try_from_str(alloc, subject)?;
     match LanguageIdentifierDisplayName::try_new_unstable(
         alloc,
         world.names(),
@@ -26,39 +26,60 @@ pub fn language_name(alloc: Global, world: &World, text: &str) -> Result<String,
         &subject,
         options,
     ) {
-        Ok(name) => written(alloc, &name),
-        Err(refusal) => Ok(format!(in alloc; "{refusal}")?),
+        Ok(name) => name_and_spans(alloc, &name),
+        Err(refusal) => written(alloc, &refusal),
     }
 }
 
 // The display that a word names: without one there is no choice.
-fn options(word: Option<&str>) -> Result<LanguageIdentifierDisplayNameOptions, Fault> {
+fn options(word: &str) -> Result<LanguageIdentifierDisplayNameOptions, Fault> {
     let language_display = match word {
-        None => return Ok(LanguageIdentifierDisplayNameOptions::default()),
-        Some("dialect") => Some(LanguageDisplay::Dialect),
-        Some("standard") => Some(LanguageDisplay::Standard),
-        Some(_) => return Err(Fault::Row),
+        "" => return Ok(LanguageIdentifierDisplayNameOptions::default()),
+        "dialect" => Some(LanguageDisplay::Dialect),
+        "standard" => Some(LanguageDisplay::Standard),
+        _ => return Err(Fault::Row),
     };
     Ok(LanguageIdentifierDisplayNameOptions { language_display })
 }
 
 // The text, the report and the spans of a name. What Display writes must be the text.
-fn written(alloc: Global, name: &LanguageIdentifierDisplayName<'_>) -> Result<String, Fault> {
+fn name_and_spans(
+    alloc: Global,
+    name: &LanguageIdentifierDisplayName<'_>,
+) -> Result<String, Fault> {
     let lent = name.as_borrowed();
     let mut bytes: Vec<u8> = Vec::new(alloc);
     let mut spans = Vec::new(alloc);
-    let report = match lent.try_write_to_parts(&mut bytes, &mut spans) {
-        Ok(report) => report,
-        Err(refusal) => return Ok(format!(in alloc; "{refusal}")?),
-    };
-    let mut answer = format!(in alloc; "{lent}")?;
-    if answer.as_bytes() != bytes.as_slice() {
+    match lent.try_write_to_parts(&mut bytes, &mut spans) {
+        Ok(report) if report.is_ok() => told(alloc, lent, &bytes, " | Ok", &spans),
+        Ok(_) => told(alloc, lent, &bytes, " | Err |", &spans),
+        Err(refusal) => written(alloc, &refusal),
+    }
+}
+
+fn told(
+    alloc: Global,
+    lent: LanguageIdentifierDisplayNameBorrowed<'_>,
+    bytes: &[u8],
+    report: &str,
+    spans: &[(usize, usize)],
+) -> Result<String, Fault> {
+    let mut answer = written(alloc, &lent)?;
+    if answer.as_bytes() != bytes {
         return Err(Fault::Row);
     }
-    answer.push_str(if report.is_ok() { " | Ok" } else { " | Err |" })?;
-    for span in &spans {
-        let (start, end) = *span;
+    write_report(&mut answer, report, spans)?;
+    Ok(answer)
+}
+
+fn write_report(
+    answer: &mut String,
+    report: &str,
+    spans: &[(usize, usize)],
+) -> Result<(), AllocError> {
+    answer.push_str(report)?;
+    for (start, end) in spans {
         write!(answer, " ({start}, {end})")?;
     }
-    Ok(answer)
+    Ok(())
 }

@@ -1,5 +1,6 @@
 //! Likely subtags, settled tables and directions.
 use crate::fault::Fault;
+use crate::texts::written;
 use crate::world::World;
 use icu_locale::{Direction, TransformResult};
 use icu_locale_core::LanguageIdentifier;
@@ -28,7 +29,7 @@ pub enum Likely {
 pub fn answer(alloc: Global, world: &World, call: Likely, text: &[u8]) -> Result<String, Fault> {
     match LanguageIdentifier::try_from_utf8(alloc, text) {
         Ok(id) => answer_identifier(alloc, world, call, id),
-        Err(refusal) => Ok(format!(in alloc; "{refusal}")?),
+        Err(refusal) => written(alloc, &refusal),
     }
 }
 
@@ -73,8 +74,8 @@ fn transformed(
 
 fn likely_script(alloc: Global, world: &World, id: &LanguageIdentifier) -> Result<String, Fault> {
     match world.expander()?.get_likely_script(id) {
-        Some(script) => Ok(format!(in alloc; "{script}")?),
-        None => Ok(String::from_str(alloc, "none")?),
+        Some(script) => written(alloc, &script),
+        None => written(alloc, &"none"),
     }
 }
 
@@ -90,7 +91,7 @@ fn directed(
         Likely::LeftToRight => yes_or_no(directionality.is_left_to_right(id)),
         _ => name(directionality.get(id)),
     };
-    Ok(String::from_str(alloc, answer)?)
+    written(alloc, &answer)
 }
 
 fn name(direction: Option<Direction>) -> &'static str {
@@ -108,5 +109,5 @@ pub fn yes_or_no(is_so: bool) -> &'static str {
 
 /// Whether the tables are settled.
 pub fn settled(alloc: Global, world: &World) -> Result<String, Fault> {
-    Ok(String::from_str(alloc, yes_or_no(world.expander()?.is_settled()))?)
+    written(alloc, &yes_or_no(world.expander()?.is_settled()))
 }

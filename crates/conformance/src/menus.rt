@@ -1,6 +1,7 @@
 //! Names in menus and patterns, as tables hold them.
 use crate::fault::Fault;
 use crate::names::preferences;
+use crate::texts::{four_words, written};
 use crate::world::World;
 use icu_locale_core::Language;
 use icu_provider::{DataProvider, LocaleNamesEssentials, MenuMarker, PatternItem};
@@ -8,20 +9,20 @@ use std::alloc::Global;
 
 /// The core and the extension of the name in menus of a marker, a locale and a language.
 pub fn menu(alloc: Global, world: &World, text: &str) -> Result<String, Fault> {
-    let mut words = text.split(' ');
-    let marker = match words.next() {
-        Some("light") => MenuMarker::MediumLight,
-        Some("heavy") => MenuMarker::MediumHeavy,
+    let [marker, locale, language, _] = four_words(text);
+    let marker = match marker {
+        "light" => MenuMarker::MediumLight,
+        "heavy" => MenuMarker::MediumHeavy,
         _ => return Err(Fault::Row),
     };
-    let locale = preferences(alloc, words.next().unwrap_or(""))?.locale;
-    let language = Language::try_from_str(words.next().unwrap_or(""))?;
+    let locale = preferences(alloc, locale)?.locale;
+    let language = Language::try_from_str(language)?;
     match world.own.load_menu(marker, locale, language) {
         Ok(name) => {
             let (core, extension) = (name.core.as_str(), name.extension.as_str());
             Ok(format!(in alloc; "[{core}] [{extension}]")?)
         }
-        Err(refusal) => Ok(format!(in alloc; "{refusal}")?),
+        Err(refusal) => written(alloc, &refusal),
     }
 }
 
@@ -29,23 +30,28 @@ pub fn menu(alloc: Global, world: &World, text: &str) -> Result<String, Fault> {
 pub fn essentials(alloc: Global, world: &World, text: &str) -> Result<String, Fault> {
     let locale = preferences(alloc, text)?.locale;
     match world.own.load_essentials(locale) {
-        Ok(patterns) => written(alloc, patterns),
-        Err(refusal) => Ok(format!(in alloc; "{refusal}")?),
+        Ok(patterns) => shown(alloc, patterns),
+        Err(refusal) => written(alloc, &refusal),
     }
 }
 
-fn written(alloc: Global, patterns: &LocaleNamesEssentials) -> Result<String, Fault> {
+fn shown(alloc: Global, patterns: &LocaleNamesEssentials) -> Result<String, Fault> {
     let mut answer = String::new(alloc);
+    write_patterns(&mut answer, patterns)?;
+    Ok(answer)
+}
+
+fn write_patterns(answer: &mut String, patterns: &LocaleNamesEssentials) -> Result<(), Fault> {
     for item in patterns.locale_pattern.items() {
-        write_item(&mut answer, item)?;
+        write_item(answer, item)?;
         answer.push_str(" ")?;
     }
     answer.push_str("then")?;
     for item in patterns.locale_separator.items() {
         answer.push_str(" ")?;
-        write_item(&mut answer, item)?;
+        write_item(answer, item)?;
     }
-    Ok(answer)
+    Ok(())
 }
 
 fn write_item(answer: &mut String, item: &PatternItem) -> Result<(), Fault> {

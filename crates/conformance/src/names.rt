@@ -1,6 +1,7 @@
 //! Exemplar sets, and names of regions, scripts and variants.
 use crate::fault::Fault;
 use crate::likely::yes_or_no;
+use crate::texts::written;
 use crate::world::World;
 use icu_locale::exemplar_chars::ExemplarCharacters;
 use icu_locale_core::{LanguageIdentifier, Locale, Region, Script, Variant};
@@ -16,11 +17,11 @@ use std::fmt;
 pub fn inversion_list(alloc: Global, text: &str) -> Result<String, Fault> {
     let mut bounds = Vec::new(alloc);
     for word in text.split_whitespace() {
-        bounds.push(u32::from_str_radix(word, 10).map_err(|_| Fault::Row)?)?;
+        bounds.push(u32::from_str_radix(word, 10).ok().ok_or(Fault::Row)?)?;
     }
     match ExemplarCharactersData::try_new(bounds, Vec::new(alloc)) {
-        Ok(_) => Ok(String::from_str(alloc, "accepted")?),
-        Err(refusal) => Ok(format!(in alloc; "{refusal}")?),
+        Ok(_) => written(alloc, &"accepted"),
+        Err(refusal) => written(alloc, &refusal),
     }
 }
 
@@ -31,7 +32,7 @@ pub fn exemplars(alloc: Global, world: &World, text: &str) -> Result<String, Fau
     let locale = preferences(alloc, words.next().unwrap_or(""))?.locale;
     match exemplar_set(world.exemplars(), constructor, locale)? {
         Ok(set) => has(alloc, &set, words.next().unwrap_or("")),
-        Err(refusal) => Ok(format!(in alloc; "{refusal}")?),
+        Err(refusal) => written(alloc, &refusal),
     }
 }
 
@@ -68,7 +69,7 @@ fn has(alloc: Global, set: &ExemplarCharacters<'_>, text: &str) -> Result<String
             return Err(Fault::Row);
         }
     }
-    Ok(String::from_str(alloc, yes_or_no(is_in))?)
+    written(alloc, &yes_or_no(is_in))
 }
 
 /// The preferences of a locale's text.
@@ -98,7 +99,7 @@ pub fn name(alloc: Global, world: &World, kind: &str, text: &str) -> Result<Stri
 }
 
 // A name and the same name lent again, which must be written alike, or the refusal's name.
-fn written<N: fmt::Display, B: fmt::Display>(
+fn lent_alike<N: fmt::Display, B: fmt::Display>(
     alloc: Global,
     name: &N,
     lent: B,
@@ -151,8 +152,8 @@ fn region(
         _ => return Err(Fault::Row),
     };
     match name {
-        Ok(name) => written(alloc, &name, name.as_borrowed()),
-        Err(refusal) => Ok(format!(in alloc; "{refusal}")?),
+        Ok(name) => lent_alike(alloc, &name, name.as_borrowed()),
+        Err(refusal) => written(alloc, &refusal),
     }
 }
 
@@ -192,8 +193,8 @@ fn script(
         _ => return Err(Fault::Row),
     };
     match name {
-        Ok(name) => written(alloc, &name, name.as_borrowed()),
-        Err(refusal) => Ok(format!(in alloc; "{refusal}")?),
+        Ok(name) => lent_alike(alloc, &name, name.as_borrowed()),
+        Err(refusal) => written(alloc, &refusal),
     }
 }
 
@@ -215,7 +216,7 @@ fn variant(
         _ => return Err(Fault::Row),
     };
     match name {
-        Ok(name) => written(alloc, &name, name.as_borrowed()),
-        Err(refusal) => Ok(format!(in alloc; "{refusal}")?),
+        Ok(name) => lent_alike(alloc, &name, name.as_borrowed()),
+        Err(refusal) => written(alloc, &refusal),
     }
 }

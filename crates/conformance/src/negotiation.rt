@@ -1,5 +1,6 @@
 //! Negotiation: which available identifier means what a request means.
 use crate::fault::Fault;
+use crate::texts::written;
 use crate::world::World;
 use icu_locale::{LocaleExpander, Negotiator};
 use icu_locale_core::{LanguageIdentifier, ParseError};
@@ -22,17 +23,25 @@ fn listed(alloc: Global, text: &str) -> Result<Vec<LanguageIdentifier>, ParseErr
 /// available identifier; else `none`, or the name of what refuses the texts or the tables.
 pub fn negotiate(alloc: Global, world: &World, text: &str) -> Result<String, Fault> {
     let (available, requests) = text.split_once('|').ok_or(Fault::Row)?;
-    let available = match listed(alloc, available) {
-        Ok(available) => available,
-        Err(refusal) => return Ok(format!(in alloc; "available: {refusal}")?),
-    };
+    match listed(alloc, available) {
+        Ok(available) => negotiate_among(alloc, world.expander()?, available, requests),
+        Err(refusal) => Ok(format!(in alloc; "available: {refusal}")?),
+    }
+}
+
+fn negotiate_among(
+    alloc: Global,
+    expander: LocaleExpander<'_>,
+    available: Vec<LanguageIdentifier>,
+    requests: &str,
+) -> Result<String, Fault> {
     let requests = match listed(alloc, requests) {
         Ok(requests) => requests,
-        Err(refusal) => return Ok(format!(in alloc; "{refusal}")?),
+        Err(refusal) => return written(alloc, &refusal),
     };
-    match Negotiator::try_new(alloc, world.expander()?, available) {
+    match Negotiator::try_new(alloc, expander, available) {
         Ok(negotiator) => found(alloc, &negotiator, &requests),
-        Err(refusal) => Ok(format!(in alloc; "{refusal}")?),
+        Err(refusal) => written(alloc, &refusal),
     }
 }
 
@@ -42,7 +51,7 @@ fn found(
     requests: &[LanguageIdentifier],
 ) -> Result<String, Fault> {
     let Some((request, place)) = negotiator.negotiate(requests) else {
-        return Ok(String::from_str(alloc, "none")?);
+        return written(alloc, &"none");
     };
     match negotiator.available().get(place) {
         Some(id) => Ok(format!(in alloc; "{request} {id}")?),
@@ -53,10 +62,10 @@ fn found(
 // A text with one of the words of each part, joined; the word `-` adds nothing.
 fn joined(alloc: Global, text: &str, word: &str) -> Result<String, Fault> {
     if word == "-" {
-        return Ok(String::from_str(alloc, text)?);
+        return written(alloc, &text);
     }
     if text.is_empty() {
-        return Ok(String::from_str(alloc, word)?);
+        return written(alloc, &word);
     }
     Ok(format!(in alloc; "{text}-{word}")?)
 }
@@ -78,8 +87,12 @@ fn combined(alloc: Global, parts: &str) -> Result<Vec<LanguageIdentifier>, Fault
     for part in parts.split('|') {
         texts = extended(alloc, &texts, part)?;
     }
+    Ok(read_all(alloc, &texts)?)
+}
+
+fn read_all(alloc: Global, texts: &[String]) -> Result<Vec<LanguageIdentifier>, ParseError> {
     let mut list = Vec::new(alloc);
-    for text in &texts {
+    for text in texts {
         list.push(LanguageIdentifier::try_from_str(alloc, text.as_str())?)?;
     }
     Ok(list)
@@ -103,14 +116,42 @@ fn maximal_forms(
 /// forms answers it, among identifiers combined from the parts before it.
 pub fn negotiate_each(alloc: Global, world: &World, text: &str) -> Result<String, Fault> {
     let (available, requests) = text.split_once(" / ").ok_or(Fault::Row)?;
-    let expander = world.expander()?;
-    let available = combined(alloc, available)?;
     let requests = combined(alloc, requests)?;
+    compare_among(
+        alloc,
+        world.expander()?,
+        combined(alloc, available)?,
+        &requests,
+    )
+}
+
+fn compare_among(
+    alloc: Global,
+    expander: LocaleExpander<'_>,
+    available: Vec<LanguageIdentifier>,
+    requests: &[LanguageIdentifier],
+) -> Result<String, Fault> {
     let forms = maximal_forms(alloc, &expander, &available)?;
     match Negotiator::try_new(alloc, expander, available) {
-        Ok(negotiator) => compared(alloc, &expander, &negotiator, &requests, &forms),
-        Err(refusal) => Ok(format!(in alloc; "{refusal}")?),
+        Ok(negotiator) => compared(alloc, &expander, &negotiator, requests, &forms),
+        Err(refusal) => written(alloc, &refusal),
     }
+}
+
+// What a search gives for one request: that it is the first, and the place of its maximal form.
+fn searched(
+    expander: &LocaleExpander<'_>,
+    request: &LanguageIdentifier,
+    forms: &[LanguageIdentifier],
+) -> Result<Option<(usize, usize)>, ParseError> {
+    let mut form = request.try_clone()?;
+    let _ = expander.maximize(&mut form);
+    for (place, other) in forms.iter().enumerate() {
+        if *other == form {
+            return Ok(Some((0, place)));
+        }
+    }
+    Ok(None)
 }
 
 fn compared(
@@ -121,10 +162,8 @@ fn compared(
     forms: &[LanguageIdentifier],
 ) -> Result<String, Fault> {
     for request in requests {
-        let mut form = request.try_clone()?;
-        let _ = expander.maximize(&mut form);
-        let wanted = forms.iter().position(|other| *other == form);
-        if negotiator.negotiate(slice::from_ref(request)) != wanted.map(|place| (0, place)) {
+        let wanted = searched(expander, request, forms)?;
+        if negotiator.negotiate(slice::from_ref(request)) != wanted {
             return Ok(format!(in alloc; "otherwise for {request}")?);
         }
     }

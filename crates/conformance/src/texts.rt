@@ -32,14 +32,30 @@ pub enum Kind {
     Locale(Syntax),
 }
 
+/// A value as it is written.
+pub fn written<T: fmt::Display>(alloc: Global, value: &T) -> Result<String, Fault> {
+    Ok(format!(in alloc; "{value}")?)
+}
+
+/// The first four words of a text; where one is missing, the empty one.
+pub fn four_words(text: &str) -> [&str; 4] {
+    let mut words = text.split(' ');
+    [
+        words.next().unwrap_or(""),
+        words.next().unwrap_or(""),
+        words.next().unwrap_or(""),
+        words.next().unwrap_or(""),
+    ]
+}
+
 // What was read, as it is written, or the refusal's name.
 fn shown<T: fmt::Display + Drop>(
     alloc: Global,
     read: Result<T, ParseError>,
 ) -> Result<String, Fault> {
     match read {
-        Ok(value) => Ok(format!(in alloc; "{value}")?),
-        Err(refusal) => Ok(format!(in alloc; "{refusal}")?),
+        Ok(value) => written(alloc, &value),
+        Err(refusal) => written(alloc, &refusal),
     }
 }
 
@@ -107,13 +123,22 @@ fn compare<T: PartialEq + Drop>(original: &T, copy: T) -> Result<(), Fault> {
 
 /// The set of the words, which are variants.
 pub fn variants(alloc: Global, text: &str) -> Result<String, Fault> {
+    let set = variants_of(alloc, text)?;
+    compare(&set, set.try_clone()?)?;
+    counted(alloc, &set)
+}
+
+fn variants_of(alloc: Global, text: &str) -> Result<Variants, ParseError> {
     let mut list = Vec::new(alloc);
     for word in text.split_whitespace() {
         list.push(Variant::try_from_str(word)?)?;
     }
-    let set = Variants::try_from_list(list)?;
-    compare(&set, set.try_clone()?)?;
-    let mut answer = format!(in alloc; "{}", set.len())?;
+    Variants::try_from_list(list)
+}
+
+// How many variants there are, and each of them.
+fn counted(alloc: Global, set: &Variants) -> Result<String, Fault> {
+    let mut answer = written(alloc, &set.len())?;
     for variant in set.iter() {
         write!(answer, " {variant}")?;
     }
@@ -129,18 +154,22 @@ pub fn order(alloc: Global, first: &str, second: &str) -> Result<String, Fault> 
         Ordering::Equal => "equal",
         Ordering::Greater => "greater",
     };
-    Ok(String::from_str(alloc, order)?)
+    written(alloc, &order)
 }
 
 /// Words that put a value at a key (`nu=thai`), take one out (`-nu`) or ask for one (`?nu`): what was asked for.
 pub fn keywords(alloc: Global, text: &str) -> Result<String, Fault> {
-    let mut map = Keywords::new(alloc);
     let mut answer = String::new(alloc);
-    for word in text.split_whitespace() {
-        keyword(alloc, &mut map, word, &mut answer)?;
-    }
-    compare(&map, map.try_clone()?)?;
+    answer_keywords(alloc, text, &mut answer)?;
     Ok(answer)
+}
+
+fn answer_keywords(alloc: Global, text: &str, answer: &mut String) -> Result<(), Fault> {
+    let mut map = Keywords::new(alloc);
+    for word in text.split_whitespace() {
+        keyword(alloc, &mut map, word, answer)?;
+    }
+    compare(&map, map.try_clone()?)
 }
 
 fn keyword(
