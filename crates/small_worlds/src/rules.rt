@@ -81,9 +81,11 @@ impl Drawn for Rules {
 
 // Rules whose sources have a language and variants alone.
 fn of_variants(mut rules: [Option<Rule>; 2]) -> [Option<Rule>; 2] {
-    for rule in rules.iter_mut().flatten() {
-        rule.source.script = None;
-        rule.source.region = None;
+    for row in &mut rules {
+        if let Some(rule) = row {
+            rule.source.script = None;
+            rule.source.region = None;
+        }
     }
     rules
 }
@@ -91,9 +93,11 @@ fn of_variants(mut rules: [Option<Rule>; 2]) -> [Option<Rule>; 2] {
 // The value of a key.
 fn value<K: PartialEq + Copy, V: Copy>(rows: &[Option<(K, V)>; 2], key: K) -> Option<V> {
     let mut value = None;
-    for row in rows.iter().flatten() {
-        if row.0 == key {
-            value = Some(row.1);
+    for row in rows {
+        if let Some(row) = row {
+            if row.0 == key {
+                value = Some(row.1);
+            }
         }
     }
     value
@@ -142,10 +146,12 @@ fn by_rule(rules: &Rules, x: &Plain) -> Option<Plain> {
     } else {
         &rules.language_variants
     };
-    for rule in list.iter().flatten() {
-        let is_read = x.variants == 0 || rule.source.variants != 0;
-        if is_read && matches(x, &rule.source) {
-            return Some(replaced(x, &rule.source, &rule.replacement));
+    for row in list {
+        if let Some(rule) = row {
+            let is_read = x.variants == 0 || rule.source.variants != 0;
+            if is_read && matches(x, &rule.source) {
+                return Some(replaced(x, &rule.source, &rule.replacement));
+            }
         }
     }
     None

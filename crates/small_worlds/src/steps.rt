@@ -71,8 +71,10 @@ pub fn compare_steps(
     for transform in [false, true] {
         compare_search(report, canonicalizer, world, (x, &id), transform)?;
     }
-    for rule in world.rules.language.iter().flatten() {
-        compare_rule(alloc, report, world.subtags, rule, (x, &id))?;
+    for row in &world.rules.language {
+        if let Some(rule) = row {
+            compare_rule(alloc, report, world.subtags, rule, (x, &id))?;
+        }
     }
     Ok(())
 }

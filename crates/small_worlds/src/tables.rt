@@ -38,12 +38,14 @@ fn put_variant_rules(
     rules: &[Option<Rule>; 2],
     subtags: &Subtags,
 ) -> Result<(), Fault> {
-    for rule in rules.iter().flatten() {
-        aliases.push_language_variants(LanguageStrStrPair(
-            rule.source.language,
-            variants_text(alloc, subtags, &rule.source)?,
-            text(alloc, subtags, &rule.replacement)?,
-        ))?;
+    for row in rules {
+        if let Some(rule) = row {
+            aliases.push_language_variants(LanguageStrStrPair(
+                rule.source.language,
+                variants_text(alloc, subtags, &rule.source)?,
+                text(alloc, subtags, &rule.replacement)?,
+            ))?;
+        }
     }
     Ok(())
 }
@@ -54,11 +56,13 @@ fn put_rules(
     rules: &[Option<Rule>; 2],
     subtags: &Subtags,
 ) -> Result<(), Fault> {
-    for rule in rules.iter().flatten() {
-        aliases.push_language(StrStrPair(
-            text(alloc, subtags, &rule.source)?,
-            text(alloc, subtags, &rule.replacement)?,
-        ))?;
+    for row in rules {
+        if let Some(rule) = row {
+            aliases.push_language(StrStrPair(
+                text(alloc, subtags, &rule.source)?,
+                text(alloc, subtags, &rule.replacement)?,
+            ))?;
+        }
     }
     Ok(())
 }
@@ -69,35 +73,49 @@ fn put_languages(
     rules: &Rules,
     subtags: &Subtags,
 ) -> Result<(), Fault> {
-    for (region, language) in rules.sgn_region.iter().flatten() {
-        aliases.insert_sgn_region(*region, *language)?;
+    for row in &rules.sgn_region {
+        if let Some((region, language)) = row {
+            aliases.insert_sgn_region(*region, *language)?;
+        }
     }
-    for (language, alias) in rules.language_len2.iter().flatten() {
-        aliases.insert_language_len2(*language, text(alloc, subtags, alias)?)?;
+    for row in &rules.language_len2 {
+        if let Some((language, alias)) = row {
+            aliases.insert_language_len2(*language, text(alloc, subtags, alias)?)?;
+        }
     }
-    for (language, alias) in rules.language_len3.iter().flatten() {
-        aliases.insert_language_len3(*language, text(alloc, subtags, alias)?)?;
+    for row in &rules.language_len3 {
+        if let Some((language, alias)) = row {
+            aliases.insert_language_len3(*language, text(alloc, subtags, alias)?)?;
+        }
     }
     Ok(())
 }
 
 fn put_subtags(aliases: &mut Aliases, rules: &Rules) -> Result<(), Fault> {
-    for (script, alias) in rules.script.iter().flatten() {
-        aliases.insert_script(*script, *alias)?;
+    for row in &rules.script {
+        if let Some((script, alias)) = row {
+            aliases.insert_script(*script, *alias)?;
+        }
     }
-    for (region, alias) in rules.region_alpha.iter().flatten() {
-        aliases.insert_region_alpha(*region, *alias)?;
+    for row in &rules.region_alpha {
+        if let Some((region, alias)) = row {
+            aliases.insert_region_alpha(*region, *alias)?;
+        }
     }
-    for (region, alias) in rules.region_num.iter().flatten() {
-        aliases.insert_region_num(*region, *alias)?;
+    for row in &rules.region_num {
+        if let Some((region, alias)) = row {
+            aliases.insert_region_num(*region, *alias)?;
+        }
     }
     Ok(())
 }
 
 fn regions(alloc: Global, regions: &Regions) -> Result<Vec<Region>, AllocError> {
     let mut list = Vec::new(alloc);
-    for region in regions.0.iter().flatten() {
-        list.push(*region)?;
+    for row in &regions.0 {
+        if let Some(region) = row {
+            list.push(*region)?;
+        }
     }
     Ok(list)
 }
@@ -118,11 +136,15 @@ fn put_lists(
     rules: &Rules,
     subtags: &Subtags,
 ) -> Result<(), Fault> {
-    for (region, list) in rules.complex_region.iter().flatten() {
-        aliases.insert_complex_region(*region, regions(alloc, list)?)?;
+    for row in &rules.complex_region {
+        if let Some((region, list)) = row {
+            aliases.insert_complex_region(*region, regions(alloc, list)?)?;
+        }
     }
-    for (from, to) in rules.variant.iter().flatten() {
-        aliases.insert_variant(variant(subtags, *from), variant(subtags, *to))?;
+    for row in &rules.variant {
+        if let Some((from, to)) = row {
+            aliases.insert_variant(variant(subtags, *from), variant(subtags, *to))?;
+        }
     }
     Ok(())
 }
