@@ -42,6 +42,10 @@ Accepts (Err e) test = (e ≡ Shape) × (test ≡ false)
 abbrev pub texts_of : List (Bor (List ℕ)) → List (List ℕ)
 texts_of texts = map (λ text. text.now) texts
 
+-- a table of names, whose texts are behind references
+abbrev pub names_of : {A : Type 0} → List (Bor (List ℕ) × A) → List (List ℕ × A)
+names_of table = map (λ row. (row.0.now, row.1)) table
+
 -- tables as their rows were read, one by one
 abbrev pub language_seen : LikelySubtagsForLanguage → LikelySubtagsForLanguage
 language_seen table = record {

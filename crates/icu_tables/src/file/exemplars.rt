@@ -4,7 +4,7 @@ ghost use Rattle.icu_tables.specs.Shape.{bound};
 
 use crate::TableError;
 use crate::file::locales::locale_named;
-use crate::file::marked::Marker;
+use crate::file::marked::{Marker, named_among};
 use crate::file::members::{NamesKeys, PutsRows, RowByRow, put_members};
 use crate::file::objects::{only_members, required};
 use crate::file::values::FromValue;
@@ -100,19 +100,20 @@ impl NamesKeys<(ExemplarMarker, DataLocale)> for ExemplarsOf {
     }
 }
 
+const MARKERS: [(&str, ExemplarMarker); 5] = [
+    ("main", ExemplarMarker::Main),
+    ("auxiliary", ExemplarMarker::Auxiliary),
+    ("punctuation", ExemplarMarker::Punctuation),
+    ("numbers", ExemplarMarker::Numbers),
+    ("index", ExemplarMarker::Index),
+];
+
 impl Marker for ExemplarMarker {
     ghost use Rattle.icu_tables.specs.Names.{exemplar_markers};
 
     ghost markers = { exemplar_markers };
 
     fn marker_named(name: &str) -> Option<ExemplarMarker> {
-        match name {
-            "main" => Some(ExemplarMarker::Main),
-            "auxiliary" => Some(ExemplarMarker::Auxiliary),
-            "punctuation" => Some(ExemplarMarker::Punctuation),
-            "numbers" => Some(ExemplarMarker::Numbers),
-            "index" => Some(ExemplarMarker::Index),
-            _ => None,
-        }
+        named_among(&MARKERS, name)
     }
 }

@@ -1,5 +1,8 @@
 //! Rows by marker, locale and key.
+ghost use Rattle.std.specs.Prelude.{◌≡◌};
 ghost use Rattle.icu_tables.specs.NamedRows.{request_in};
+ghost use Rattle.icu_tables.specs.Names.{named_in};
+ghost use Rattle.icu_tables.specs.inner.Reads.{names_of};
 
 use crate::TableError;
 use crate::file::locales::locale_named;
@@ -21,6 +24,18 @@ pub(crate) trait Marker: Copy + Ord + Drop {
 
     fn marker_named(name: &str) -> Option<Self>
         ensures { result ≡ named_in markers name.now };
+}
+
+// What a name stands for in a table of names.
+pub(crate) fn named_among<M: Copy>(table: &[(&str, M)], name: &str) -> Option<M>
+    ensures { result ≡ named_in (names_of table.now) name.now }
+{
+    for (known, marker) in table {
+        if *known == name {
+            return Some(*marker);
+        }
+    }
+    None
 }
 
 // What the name of a row's member is read as below a marker, if it is a key.

@@ -11,7 +11,7 @@ ghost use Rattle.icu_tables.specs.inner.Reads.{Fills};
 
 use crate::file::keys::RowKey;
 use crate::file::locales::locale_named;
-use crate::file::marked::{Marked, MarkedKey, Marker};
+use crate::file::marked::{Marked, MarkedKey, Marker, named_among};
 use crate::file::members::rows_said;
 use crate::file::values::FromValue;
 use crate::kinds::{names_languages, names_regions, names_scripts};
@@ -54,31 +54,32 @@ fn in_groups(
     Ok(rows)
 }
 
+const NAME_MARKERS: [(&str, NameMarker); 16] = [
+    ("region/medium/tiny", NameMarker::RegionMediumTiny),
+    ("region/medium/light", NameMarker::RegionMediumLight),
+    ("region/short/tiny", NameMarker::RegionShortTiny),
+    ("region/short/light", NameMarker::RegionShortLight),
+    ("language/medium/tiny", NameMarker::LanguageMediumTiny),
+    ("language/medium/light", NameMarker::LanguageMediumLight),
+    ("language/medium/heavy", NameMarker::LanguageMediumHeavy),
+    ("language/short/light", NameMarker::LanguageShortLight),
+    ("language/short/heavy", NameMarker::LanguageShortHeavy),
+    ("language/long/light", NameMarker::LanguageLongLight),
+    ("language/long/heavy", NameMarker::LanguageLongHeavy),
+    ("script/medium/tiny", NameMarker::ScriptMediumTiny),
+    ("script/medium/light", NameMarker::ScriptMediumLight),
+    ("script/medium/heavy", NameMarker::ScriptMediumHeavy),
+    ("script/short/heavy", NameMarker::ScriptShortHeavy),
+    ("variant/medium/heavy", NameMarker::VariantMediumHeavy),
+];
+
 impl Marker for NameMarker {
     ghost use Rattle.icu_tables.specs.Names.{name_markers};
 
     ghost markers = { name_markers };
 
     fn marker_named(name: &str) -> Option<NameMarker> {
-        match name {
-            "region/medium/tiny" => Some(NameMarker::RegionMediumTiny),
-            "region/medium/light" => Some(NameMarker::RegionMediumLight),
-            "region/short/tiny" => Some(NameMarker::RegionShortTiny),
-            "region/short/light" => Some(NameMarker::RegionShortLight),
-            "language/medium/tiny" => Some(NameMarker::LanguageMediumTiny),
-            "language/medium/light" => Some(NameMarker::LanguageMediumLight),
-            "language/medium/heavy" => Some(NameMarker::LanguageMediumHeavy),
-            "language/short/light" => Some(NameMarker::LanguageShortLight),
-            "language/short/heavy" => Some(NameMarker::LanguageShortHeavy),
-            "language/long/light" => Some(NameMarker::LanguageLongLight),
-            "language/long/heavy" => Some(NameMarker::LanguageLongHeavy),
-            "script/medium/tiny" => Some(NameMarker::ScriptMediumTiny),
-            "script/medium/light" => Some(NameMarker::ScriptMediumLight),
-            "script/medium/heavy" => Some(NameMarker::ScriptMediumHeavy),
-            "script/short/heavy" => Some(NameMarker::ScriptShortHeavy),
-            "variant/medium/heavy" => Some(NameMarker::VariantMediumHeavy),
-            _ => None,
-        }
+        named_among(&NAME_MARKERS, name)
     }
 }
 
@@ -118,17 +119,18 @@ impl FromValue for MenuNameParts {
     }
 }
 
+const MENU_MARKERS: [(&str, MenuMarker); 2] = [
+    ("language/menu/medium/light", MenuMarker::MediumLight),
+    ("language/menu/medium/heavy", MenuMarker::MediumHeavy),
+];
+
 impl Marker for MenuMarker {
     ghost use Rattle.icu_tables.specs.Names.{menu_markers};
 
     ghost markers = { menu_markers };
 
     fn marker_named(name: &str) -> Option<MenuMarker> {
-        match name {
-            "language/menu/medium/light" => Some(MenuMarker::MediumLight),
-            "language/menu/medium/heavy" => Some(MenuMarker::MediumHeavy),
-            _ => None,
-        }
+        named_among(&MENU_MARKERS, name)
     }
 }
 
