@@ -1,5 +1,5 @@
 //! The tables that a command needs, before the input is read.
-ghost use Rattle.std.specs.Prelude.{◌≡◌, ◌↔◌, Err, IfOk, IfErr, IsSomeAnd, is_ok, is_some, false};
+ghost use Rattle.std.specs.Prelude.{◌≡◌, ◌↔◌, ◌&&◌, Some, Err, IfOk, IfErr, IsSomeAnd, is_ok, is_some, false};
 ghost use Rattle.icu_locale.specs.LikelyTable.{likely};
 ghost use Rattle.icu_locale.specs.Rules.{AreRules};
 ghost use Rattle.icu_locale_lines.specs.Lists.{listed, SpellsAll};
@@ -61,17 +61,11 @@ impl<'d> Loaded<'d> {
                 Ok(Loaded::Ready(Work { syntax, tools }))
             }
             Task::Canonicalize => {
-                let expander = load_expander(tables)?;
-                let canonicalizer = load_canonicalizer(alloc, tables, expander)?;
-                let tools = Tools::Canonicalize(canonicalizer);
+                let tools = Tools::Canonicalize(load_canonicalizer(alloc, tables)?);
                 Ok(Loaded::Ready(Work { syntax, tools }))
             }
             Task::Direction => {
-                let expander = load_expander(tables)?;
-                let directionality = LocaleDirectionality::try_new_with_expander_unstable(
-                    tables, expander,
-                )?;
-                let tools = Tools::Direction(directionality);
+                let tools = Tools::Direction(load_directionality(tables)?);
                 Ok(Loaded::Ready(Work { syntax, tools }))
             }
             Task::Negotiate => {
@@ -152,21 +146,31 @@ pub fn load_expander(tables: &Tables) -> Result<LocaleExpander<'_>, CliError>
     }
 }
 
-// The canonicalizer over the tables and the expander.
-fn load_canonicalizer<'d>(
-    alloc: Global,
-    tables: &'d Tables,
-    expander: LocaleExpander<'d>,
-) -> Result<LocaleCanonicalizer<'d>, CliError>
-    ensures expander { IfOk result (λ c. c.expander ≡ expander.entry) }
-    ensures rules { IfOk result (λ c. IsSomeAnd tables.now.aliases
+// The canonicalizer over the tables: likely tables are asked for before aliases.
+fn load_canonicalizer(alloc: Global, tables: &Tables) -> Result<LocaleCanonicalizer<'_>, CliError>
+    ensures expander { IfOk result (λ c. IsExpanderOf tables.entry.now c.expander) }
+    ensures rules { IfOk result (λ c. IsSomeAnd tables.entry.now.aliases
         (λ table. AreRules table c.rules)) }
     ensures data { (result ≡ Err (CliError.Data not_found))
-        ↔ (is_some tables.now.aliases ≡ false) }
+        ↔ (has_likely tables.entry.now && is_some tables.entry.now.aliases ≡ false) }
     ensures refused { IfErr result IsRefusedTable }
 {
+    let expander = load_expander(tables)?;
     let aliases = tables.load_aliases()?;
     LocaleCanonicalizer::new_with_expander(alloc, aliases, expander).map_err(|_| CliError::Memory)
+}
+
+// The direction of scripts over the tables: likely tables are asked for before it.
+fn load_directionality(tables: &Tables) -> Result<LocaleDirectionality<'_>, CliError>
+    ensures expander { IfOk result (λ d. IsExpanderOf tables.entry.now d.expander) }
+    ensures scripts { IfOk result (λ d. tables.entry.now.script_direction
+        ≡ Some d.script_direction.now) }
+    ensures loaded { is_ok result
+        ≡ has_likely tables.entry.now && is_some tables.entry.now.script_direction }
+    ensures refused { IfErr result (λ e. e ≡ CliError.Data not_found) }
+{
+    let expander = load_expander(tables)?;
+    Ok(LocaleDirectionality::try_new_with_expander_unstable(tables, expander)?)
 }
 
 /// The negotiator over settled tables and the identifiers that a line lists.
