@@ -112,7 +112,8 @@ StopsListing c t read read' e =
     ⊎ ((line : List ℕ) × (has_ended : Bool) × (mid : Stream)
     × ReadsLine read mid line has_ended × IsUnlisted c t line e)
 
--- what is left of a command once its tables are loaded; left is what the reader had left then
+-- what is left of a command once its tables are loaded, with all of read to answer; of that the
+-- reader still held left
 abbrev pub StopsLoaded : Command → Tables → Stream → Stream → Stream → Stream → Stream → CliError
     → Type 0
 StopsLoaded command.Settled t read left read' wrote wrote' e =
@@ -120,8 +121,8 @@ StopsLoaded command.Settled t read left read' wrote wrote' e =
 StopsLoaded (command.Lines c) t read left read' wrote wrote' e =
     (StopsListing c t read read' e × (wrote' ≡ wrote)) ⊎ StopsAmong c t read read' wrote wrote' e
 
--- what a refused stream leaves: it stopped before it read more, or once its tables were loaded; its
--- tables were there when the reader had left
+-- what a refused stream leaves, with read and left as above: it stopped before it read more, or once
+-- its tables were loaded
 abbrev pub IsRefusedStream : Command → Tables → Stream → Stream → Stream → Stream → Stream
     → CliError → Type 0
 IsRefusedStream c t read left read' wrote wrote' e =
@@ -147,7 +148,7 @@ pub record ReadsTablesLine (read mid : Stream) (t : Tables) : Type 0 where
   pub reads : ReadsLine read mid line has_ended
   pub rows : rows_in line ≡ Ok (rows_of t)
 
--- a stream over the tables of the first line; left is what the reader had left then
+-- a stream over the tables of the first line; left is what the reader still held behind them
 abbrev pub IsJsonStream : Command → Stream → Stream → Stream → Stream → Status → Type 0
 IsJsonStream c read read' wrote wrote' status = (t : Tables) × (mid : Stream) × (left : Stream)
     × ReadsTablesLine read mid t × LeavesBehind mid left

@@ -112,8 +112,7 @@ abbrev pub ReadsInput : Command → Stream → Stream → Stream → List ℕ �
 ReadsInput command.Settled read left read' input = (input ≡ []) × (read' ≡ left)
 ReadsInput (command.Lines c) read left read' input = ReadsAll read read' input
 
--- a run over tables that were there when the reader had left; some of its lines may have been read
--- before
+-- a run over tables that are loaded, with all of read to answer; of that the reader still held left
 abbrev pub IsRunFrom : Command → Tables → Stream → Stream → Stream → Stream → Stream → Status
     → Type 0
 IsRunFrom c t read left read' wrote wrote' status = (input : List ℕ)
