@@ -1,11 +1,10 @@
--- Arrays: how many items there are, and what each that was read or refused says of the whole; texts as a set, and names among known ones.
+-- Arrays: how many items there are, and what each that was read or refused says of the whole; texts as a set.
 use Rattle.std.proofs.Common.{◌≡◌, Option, Some, None, refl, ap, ◌∙◌, ℕ, List, [], ◌∷◌, ◌++◌, length, drop, map, option_map, sym, append_assoc}
-use Rattle.std.proofs.Common.{nat_eq, subst, Bool, true, false}
+use Rattle.std.proofs.Common.{nat_eq, subst}
 use Rattle.std.specs.Cmp.Lexicographic.{pointwise, texts_ties}
 use Rattle.std.specs.List.{dedup}
 use Rattle.std.specs.List.Sorted.{IsStrictlySortedBy, IsSorted, IsPermutation}
 use Rattle.std.proofs.lemmas.List.Kept.{IsStrictlySortedBy-dedup}
-use Rattle.std.proofs.lemmas.Slice.Eq.{bytes_eq-Decides}
 use Rattle.icu_tables.specs.declared.error.TableError.{TableError}
 use Rattle.icu_tables.specs.inner.Reads.{Refuses}
 use Rattle.icu_tables.specs.Shape.{applied, Shape, two_items, three_items, each_item}
@@ -73,11 +72,3 @@ pub unique_is_set : (list sorted left : List (List ℕ)) → left ≡ dedup (poi
     → IsSorted text_cmp sorted → left ≡ rising (from_list list)
 unique_is_set list sorted left is moved order =
     sym (rising-from_list left (unique_rises sorted left is order)) ∙ ap (λ texts. rising (from_list texts)) is ∙ ap rising (from_list-dedup list sorted moved)
-
-by_test : (known name : List ℕ) (test : Bool) → pointwise nat_eq known name ≡ test → (name ≡ known → ⊥) → test ≡ false
-by_test known name true is other = absurd (other (sym ((bytes_eq-Decides known name).0 is)))
-by_test known name false is other = refl
-
--- a name that is not the known one fails its test
-pub unlike : (known name : List ℕ) → (name ≡ known → ⊥) → pointwise nat_eq known name ≡ false
-unlike known name other = by_test known name (pointwise nat_eq known name) refl other
