@@ -11,7 +11,7 @@ use std::alloc::Global;
 use std::process::Abort;
 
 /// A line a row: words, input, output, and 0, 1 or the words of the refusal. Spaces round a bar say nothing; `\n`, `\t` and
-// `\r` are what they are in a text of Rust, and `\s` is a space.
+/// `\r` are what they are in a text of Rust, and `\s` is a space.
 pub const RUNS: &str = r#"
 maximize | zh-CN\nund-SA\n | zh-Hans-CN\tM\nar-Arab-SA\tM\n | 0
 maximize | zh-CN\nEN_us\n\n | zh-Hans-CN\tM\nen-Latn-US\tM\n?\tInvalidLanguage\n | 1
