@@ -6,6 +6,7 @@ mod Items
 mod KeyNames
 mod Lookups
 mod MarkedLookups
+mod MemberReads
 mod Members
 mod NameGroups
 mod Once

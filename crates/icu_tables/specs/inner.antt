@@ -1,4 +1,5 @@
 -- What only private functions cite.
 pub mod KeyLaws
+pub mod Members
 pub mod Once
 pub mod Reads

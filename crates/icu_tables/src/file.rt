@@ -23,9 +23,8 @@ mod values;
 use crate::file::exemplars::MarkedExemplars;
 use crate::file::locales::Locales;
 use crate::file::marked::Marked;
-use crate::file::members::{RowByRow, fill_by};
-use crate::file::names::fill_names;
-use crate::file::objects::{fill, only_members};
+use crate::file::members::RowByRow;
+use crate::file::objects::{MemberReader, only_members};
 use crate::file::values::FromValue;
 use crate::{TableError, Tables};
 use serde_json::Value;
@@ -99,32 +98,20 @@ impl FromValue for Tables {
     fn from_value(alloc: Global, value: &Value) -> Result<Self, TableError> {
         only_members(value, &MEMBERS)?;
         let mut tables = Tables::new(alloc);
-        fill(alloc, value, "likely_language", &mut tables.likely_language)?;
-        fill(
-            alloc,
-            value,
-            "likely_script_region",
-            &mut tables.likely_script_region,
-        )?;
-        fill(alloc, value, "likely_extended", &mut tables.likely_extended)?;
-        fill(alloc, value, "aliases", &mut tables.aliases)?;
-        fill(alloc, value, "direction", &mut tables.script_direction)?;
-        fill_by(
-            alloc,
-            value,
-            "exemplars",
-            &MarkedExemplars,
-            &mut tables.exemplars,
-        )?;
-        fill_names(alloc, value, &mut tables.names)?;
-        fill_by(alloc, value, "menus", &Marked, &mut tables.menus)?;
-        fill_by(
-            alloc,
-            value,
-            "essentials",
-            &RowByRow { keys: Locales },
-            &mut tables.essentials,
-        )?;
-        Ok(tables)
+        MemberReader::of(alloc, value)
+            .fill("likely_language", &mut tables.likely_language)
+            .fill("likely_script_region", &mut tables.likely_script_region)
+            .fill("likely_extended", &mut tables.likely_extended)
+            .fill("aliases", &mut tables.aliases)
+            .fill("direction", &mut tables.script_direction)
+            .fill_by("exemplars", &MarkedExemplars, &mut tables.exemplars)
+            .fill_names(&mut tables.names)
+            .fill_by("menus", &Marked, &mut tables.menus)
+            .fill_by(
+                "essentials",
+                &RowByRow { keys: Locales },
+                &mut tables.essentials,
+            )
+            .finish(tables)
     }
 }

@@ -4,7 +4,7 @@ ghost use Rattle.icu_tables.specs.inner.Reads.{alias_seen};
 ghost use Rattle.icu_tables.specs.Rows.{rule, variants_rule};
 
 use crate::TableError;
-use crate::file::objects::{fill, only_members};
+use crate::file::objects::{MemberReader, only_members};
 use crate::file::values::FromValue;
 use icu_locale_core::Language;
 use icu_provider::{Aliases, LanguageStrStrPair, RowList, StrStrPair};
@@ -88,22 +88,18 @@ impl FromValue for Aliases {
     fn from_value(alloc: Global, value: &Value) -> Result<Self, TableError> {
         only_members(value, &MEMBERS)?;
         let mut table = Aliases::new(alloc);
-        fill(
-            alloc,
-            value,
-            "language_variants",
-            &mut table.language_variants,
-        )?;
-        fill(alloc, value, "language", &mut table.language)?;
-        fill(alloc, value, "sgn_region", &mut table.sgn_region)?;
-        fill(alloc, value, "language_len2", &mut table.language_len2)?;
-        fill(alloc, value, "language_len3", &mut table.language_len3)?;
-        fill(alloc, value, "script", &mut table.script)?;
-        fill(alloc, value, "region_alpha", &mut table.region_alpha)?;
-        fill(alloc, value, "region_num", &mut table.region_num)?;
-        fill(alloc, value, "complex_region", &mut table.complex_region)?;
-        fill(alloc, value, "variant", &mut table.variant)?;
-        fill(alloc, value, "subdivision", &mut table.subdivision)?;
-        Ok(table)
+        MemberReader::of(alloc, value)
+            .fill("language_variants", &mut table.language_variants)
+            .fill("language", &mut table.language)
+            .fill("sgn_region", &mut table.sgn_region)
+            .fill("language_len2", &mut table.language_len2)
+            .fill("language_len3", &mut table.language_len3)
+            .fill("script", &mut table.script)
+            .fill("region_alpha", &mut table.region_alpha)
+            .fill("region_num", &mut table.region_num)
+            .fill("complex_region", &mut table.complex_region)
+            .fill("variant", &mut table.variant)
+            .fill("subdivision", &mut table.subdivision)
+            .finish(table)
     }
 }

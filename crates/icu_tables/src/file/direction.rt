@@ -5,7 +5,7 @@ ghost use Rattle.icu_locale_core.specs.TextSet.{from_list, rising};
 ghost use Rattle.icu_tables.specs.Rows.{direction_rows};
 
 use crate::TableError;
-use crate::file::objects::{fill, only_members};
+use crate::file::objects::{MemberReader, only_members};
 use crate::file::values::FromValue;
 use icu_locale_core::Script;
 use icu_provider::{ScriptDirection, SortedMap};
@@ -56,8 +56,9 @@ impl FromValue for ScriptDirection {
     fn from_value(alloc: Global, value: &Value) -> Result<Self, TableError> {
         only_members(value, &["rtl", "ltr"])?;
         let mut table = ScriptDirection::new(alloc);
-        fill(alloc, value, "rtl", &mut table.rtl)?;
-        fill(alloc, value, "ltr", &mut table.ltr)?;
-        Ok(table)
+        MemberReader::of(alloc, value)
+            .fill("rtl", &mut table.rtl)
+            .fill("ltr", &mut table.ltr)
+            .finish(table)
     }
 }

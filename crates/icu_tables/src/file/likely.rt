@@ -2,7 +2,7 @@
 ghost use Rattle.icu_tables.specs.inner.Reads.{language_seen, script_region_seen, extended_seen};
 
 use crate::TableError;
-use crate::file::objects::{fill, only_members, required};
+use crate::file::objects::{MemberReader, only_members, required};
 use crate::file::values::FromValue;
 use icu_provider::{LikelySubtagsExtended, LikelySubtagsForLanguage, LikelySubtagsForScriptRegion};
 use serde_json::Value;
@@ -25,10 +25,11 @@ impl FromValue for LikelySubtagsForLanguage {
         )?;
         let und = required(alloc, value, "und")?;
         let mut table = LikelySubtagsForLanguage::new(alloc, und);
-        fill(alloc, value, "language", &mut table.language)?;
-        fill(alloc, value, "language_script", &mut table.language_script)?;
-        fill(alloc, value, "language_region", &mut table.language_region)?;
-        Ok(table)
+        MemberReader::of(alloc, value)
+            .fill("language", &mut table.language)
+            .fill("language_script", &mut table.language_script)
+            .fill("language_region", &mut table.language_region)
+            .finish(table)
     }
 }
 
@@ -45,10 +46,11 @@ impl FromValue for LikelySubtagsForScriptRegion {
     fn from_value(alloc: Global, value: &Value) -> Result<Self, TableError> {
         only_members(value, &["script_region", "script", "region"])?;
         let mut table = LikelySubtagsForScriptRegion::new(alloc);
-        fill(alloc, value, "script_region", &mut table.script_region)?;
-        fill(alloc, value, "script", &mut table.script)?;
-        fill(alloc, value, "region", &mut table.region)?;
-        Ok(table)
+        MemberReader::of(alloc, value)
+            .fill("script_region", &mut table.script_region)
+            .fill("script", &mut table.script)
+            .fill("region", &mut table.region)
+            .finish(table)
     }
 }
 
@@ -75,12 +77,13 @@ impl FromValue for LikelySubtagsExtended {
             ],
         )?;
         let mut table = LikelySubtagsExtended::new(alloc);
-        fill(alloc, value, "language", &mut table.language)?;
-        fill(alloc, value, "language_script", &mut table.language_script)?;
-        fill(alloc, value, "language_region", &mut table.language_region)?;
-        fill(alloc, value, "script_region", &mut table.script_region)?;
-        fill(alloc, value, "script", &mut table.script)?;
-        fill(alloc, value, "region", &mut table.region)?;
-        Ok(table)
+        MemberReader::of(alloc, value)
+            .fill("language", &mut table.language)
+            .fill("language_script", &mut table.language_script)
+            .fill("language_region", &mut table.language_region)
+            .fill("script_region", &mut table.script_region)
+            .fill("script", &mut table.script)
+            .fill("region", &mut table.region)
+            .finish(table)
     }
 }

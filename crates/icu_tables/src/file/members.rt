@@ -5,10 +5,12 @@ ghost use Rattle.serde_json.specs.View.{view};
 ghost use Rattle.icu_tables.specs.Fields.{said_or};
 ghost use Rattle.icu_tables.specs.NamedRows.{named_row};
 ghost use Rattle.icu_tables.specs.Puts.{map_by, rows_by};
+ghost use Rattle.icu_tables.specs.inner.Members.{GoesOn};
 ghost use Rattle.icu_tables.specs.inner.Reads.{Fills, Puts, Reads};
 ghost use Rattle.icu_tables.specs.Rows.{seen_rows};
 
 use crate::TableError;
+use crate::file::objects::MemberReader;
 use crate::file::values::FromValue;
 use icu_provider::SortedMap;
 use serde_json::Value;
@@ -82,8 +84,26 @@ pub(crate) fn rows_said<K: Ord + Drop, V: Drop, P: PutsRows<K, V>>(
     Ok(rows)
 }
 
+impl<'v> MemberReader<'v> {
+    // Fills a map with the rows of the next member, and with none if it is not there.
+    pub(crate) fn fill_by<K: Ord + Drop, V: Drop, P: PutsRows<K, V>>(
+        mut self,
+        name: &str,
+        how: &P,
+        map: &mut SortedMap<K, V>,
+    ) -> MemberReader<'v>
+        ensures { GoesOn self.entry result (seen_rows P.seen map.new)
+            (λ object. said_or (Some []) (map_by K.cmp (P.says how.now)) (get name.now object)) }
+    {
+        if self.outcome.is_ok() {
+            self.outcome = fill_by(self.alloc, self.object, name, how, map);
+        }
+        self
+    }
+}
+
 // Puts what a member says into a map in place of its rows, and no rows if it is not there.
-pub(crate) fn fill_by<K: Ord + Drop, V: Drop, P: PutsRows<K, V>>(
+fn fill_by<K: Ord + Drop, V: Drop, P: PutsRows<K, V>>(
     alloc: Global,
     object: &Value,
     name: &str,

@@ -7,12 +7,14 @@ ghost use Rattle.icu_tables.specs.Fields.{said_or};
 ghost use Rattle.icu_tables.specs.NamedRows.{marked_names};
 ghost use Rattle.icu_tables.specs.Puts.{map_by};
 ghost use Rattle.icu_tables.specs.Rows.{seen_rows};
+ghost use Rattle.icu_tables.specs.inner.Members.{GoesOn};
 ghost use Rattle.icu_tables.specs.inner.Reads.{Fills};
 
 use crate::file::keys::RowKey;
 use crate::file::locales::locale_named;
 use crate::file::marked::{Marked, MarkedKey, Marker, named_among};
 use crate::file::members::rows_said;
+use crate::file::objects::MemberReader;
 use crate::file::values::FromValue;
 use crate::kinds::{names_languages, names_regions, names_scripts};
 use crate::{NameRows, TableError};
@@ -22,12 +24,22 @@ use serde_json::Value;
 use std::alloc::Global;
 use std::collections::BTreeMap;
 
+impl<'v> MemberReader<'v> {
+    // Fills names with those of the member of that name, and with none if it is not there.
+    pub(crate) fn fill_names(mut self, names: &mut NameRows) -> MemberReader<'v>
+        ensures { GoesOn self.entry result (seen_rows string_bytes names.new)
+            (λ object. said_or (Some []) (map_by name_cmp marked_names)
+            (get (codes "names") object)) }
+    {
+        if self.outcome.is_ok() {
+            self.outcome = fill_names(self.alloc, self.object, names);
+        }
+        self
+    }
+}
+
 // Puts the names of a file in place of what is there, and none where the file has no such member.
-pub(crate) fn fill_names(
-    alloc: Global,
-    object: &Value,
-    names: &mut NameRows,
-) -> Result<(), TableError>
+fn fill_names(alloc: Global, object: &Value, names: &mut NameRows) -> Result<(), TableError>
     ensures { let found = get (codes "names") (view object.now) in
         Fills result (seen_rows string_bytes names.new)
         (said_or (Some []) (map_by name_cmp marked_names) found) }

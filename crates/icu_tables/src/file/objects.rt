@@ -1,8 +1,9 @@
 //! Objects of fixed members.
-ghost use Rattle.std.specs.Prelude.{◌≡◌, Some, None};
+ghost use Rattle.std.specs.Prelude.{◌≡◌, Some, None, Ok};
 ghost use Rattle.serde_json.specs.Find.{get};
 ghost use Rattle.serde_json.specs.View.{view};
 ghost use Rattle.icu_tables.specs.Fields.{said_or, is_name_listed, has_only, present};
+ghost use Rattle.icu_tables.specs.inner.Members.{GoesOn, or_refusal};
 ghost use Rattle.icu_tables.specs.inner.Reads.{Accepts, Fills, Reads, texts_of};
 
 use crate::TableError;
@@ -47,7 +48,7 @@ pub(crate) fn required<T: FromValue>(
 }
 
 // Puts what a member says in the place of what stands for it where it is absent.
-pub(crate) fn fill<T: FromValue>(
+fn fill<T: FromValue>(
     alloc: Global,
     object: &Value,
     name: &str,
@@ -60,6 +61,49 @@ pub(crate) fn fill<T: FromValue>(
         *target = T::from_value(alloc, value)?;
     }
     Ok(())
+}
+
+// Members of an object, read one after another. After a refusal no more is read.
+#[derive(Drop)]
+pub(crate) struct MemberReader<'v> {
+    pub(crate) alloc: Global,
+    pub(crate) object: &'v Value,
+    pub(crate) outcome: Result<(), TableError>,
+}
+
+impl<'v> MemberReader<'v> {
+    // Nothing was read yet.
+    pub(crate) fn of(alloc: Global, object: &'v Value) -> MemberReader<'v>
+        ensures object { result.object.now ≡ object.now }
+        ensures outcome { result.outcome ≡ Ok tt }
+    {
+        MemberReader {
+            alloc,
+            object,
+            outcome: Ok(()),
+        }
+    }
+
+    // Fills a place with what the next member says.
+    pub(crate) fn fill<T: FromValue>(mut self, name: &str, target: &mut T) -> MemberReader<'v>
+        ensures { GoesOn self.entry result (T.seen target.new)
+            (λ object. said_or (Some (T.seen target.old)) T.shape (get name.now object)) }
+    {
+        if self.outcome.is_ok() {
+            self.outcome = fill(self.alloc, self.object, name, target);
+        }
+        self
+    }
+
+    // The table that was filled, or the refusal.
+    pub(crate) fn finish<T: Drop>(self, table: T) -> Result<T, TableError>
+        ensures { result ≡ or_refusal self.entry.outcome table }
+    {
+        match self.outcome {
+            Ok(()) => Ok(table),
+            Err(refusal) => Err(refusal),
+        }
+    }
 }
 
 // A member that may be left out.
