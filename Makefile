@@ -14,7 +14,7 @@ C_FILES = libicu_locale.a libicu_locale.so libicu_locale.so.0 pkgconfig/icu_loca
 all:
 	tools/build $(PROGRAMS)
 
-c: $(PROGRAMS)
+c:
 	tools/build-c
 
 wheel npm crate: out/c/libicu_locale.a
@@ -41,7 +41,7 @@ compare:
 $(PROGRAMS):
 	tools/build $@
 
-out/c/libicu_locale.a: | $(PROGRAMS)
+out/c/libicu_locale.a:
 	tools/build-c
 
 install: $(PROGRAMS)
