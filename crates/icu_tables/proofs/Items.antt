@@ -32,21 +32,19 @@ refused_before refusal.Shape made said h = ap (λ f. applied f said) h
 refused_before refusal.Memory made said h = tt
 
 -- no two items where there are others than two
-pub two_items-other : {A B : Type 0} (first : Shape A) (second : Shape B) (values : List Value) → (length values ≡ 2 → ⊥)
-    → two_items first second (items_view values) ≡ None
-two_items-other first second [] other = refl
-two_items-other first second (a ∷ []) other = refl
-two_items-other first second (a ∷ b ∷ []) other = absurd (other refl)
-two_items-other first second (a ∷ b ∷ c ∷ values) other = refl
+pub two_items-other : (values : List Value) → (length values ≡ 2 → ⊥) → two_items (items_view values) ≡ None
+two_items-other [] other = refl
+two_items-other (a ∷ []) other = refl
+two_items-other (a ∷ b ∷ []) other = absurd (other refl)
+two_items-other (a ∷ b ∷ c ∷ values) other = refl
 
 -- no three items where there are others than three
-pub three_items-other : {A B C : Type 0} (first : Shape A) (second : Shape B) (third : Shape C) (values : List Value)
-    → (length values ≡ 3 → ⊥) → three_items first second third (items_view values) ≡ None
-three_items-other first second third [] other = refl
-three_items-other first second third (a ∷ []) other = refl
-three_items-other first second third (a ∷ b ∷ []) other = refl
-three_items-other first second third (a ∷ b ∷ c ∷ []) other = absurd (other refl)
-three_items-other first second third (a ∷ b ∷ c ∷ d ∷ values) other = refl
+pub three_items-other : (values : List Value) → (length values ≡ 3 → ⊥) → three_items (items_view values) ≡ None
+three_items-other [] other = refl
+three_items-other (a ∷ []) other = refl
+three_items-other (a ∷ b ∷ []) other = refl
+three_items-other (a ∷ b ∷ c ∷ []) other = absurd (other refl)
+three_items-other (a ∷ b ∷ c ∷ d ∷ values) other = refl
 
 -- a list before what follows, if that is there
 abbrev pub prefixed : {A : Type 0} → List A → Option (List A) → Option (List A)

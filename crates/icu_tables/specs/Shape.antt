@@ -25,26 +25,28 @@ text value = as_str value
 abbrev pub text_as : {A : Type 0} → (List ℕ → Option A) → Shape A
 text_as says value = option_and_then says (as_str value)
 
--- exactly two items
-abbrev pub two_items : {A B : Type 0} → Shape A → Shape B → Items → Option (A × B)
-two_items first second (item a (item b no_items)) = both (first a) (second b)
-two_items first second _ = None
+-- the items, if there are exactly two
+abbrev pub two_items : Items → Option (Data × Data)
+two_items (item a (item b no_items)) = Some (a, b)
+two_items _ = None
 
 -- an array of exactly these two
 abbrev pub pair_of : {A B : Type 0} → Shape A → Shape B → Shape (A × B)
-pair_of first second value = option_and_then (two_items first second) (as_array value)
+pair_of first second value =
+    option_and_then (λ two. both (first two.0) (second two.1))
+    (option_and_then two_items (as_array value))
 
--- exactly three items
-abbrev pub three_items : {A B C : Type 0} → Shape A → Shape B → Shape C
-    → Items → Option (A × B × C)
-three_items first second third (item a (item b (item c no_items))) =
-    applied (applied (option_map (λ x y z. (x, y, z)) (first a)) (second b)) (third c)
-three_items first second third _ = None
+-- the items, if there are exactly three
+abbrev pub three_items : Items → Option (Data × Data × Data)
+three_items (item a (item b (item c no_items))) = Some (a, b, c)
+three_items _ = None
 
 -- an array of exactly these three
 abbrev pub triple_of : {A B C : Type 0} → Shape A → Shape B → Shape C → Shape (A × B × C)
 triple_of first second third value =
-    option_and_then (three_items first second third) (as_array value)
+    option_and_then (λ three. applied (applied (option_map (λ x y z. (x, y, z))
+    (first three.0)) (second three.1)) (third three.2))
+    (option_and_then three_items (as_array value))
 
 -- what each item says, in order
 abbrev pub each_item : {A : Type 0} → Shape A → Items → Option (List A)
