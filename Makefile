@@ -1,8 +1,8 @@
 # `make` proves the two programs and what they stand on, and leaves them here; `make c` proves the calls for C, and
 # leaves their libraries in out/c; `make test` checks every crate; `make install` copies the programs and their manual
 # pages, and what `make c` has left; `make wheel`, `make npm`, `make crate` and `make deb` leave packages in out/packages;
-# `make compare` measures icu_locale_cli beside others, once it is built; `make clean` takes away what was built, and the
-# next `make` then proves all from nothing.
+# `make compare` measures icu_locale_cli beside others, once it is built; `make clean` takes away what was built, but not
+# what `rt ci`, which `make` and `make test` run, keeps on the machine.
 PROGRAMS = icu_locale_cli icu_locale_stream
 PREFIX = /usr/local
 LIBDIR = $(PREFIX)/lib
