@@ -12,7 +12,7 @@ ghost use Rattle.icu_locale_core.specs.laws.Maps.{rows_equiv};
 ghost use Rattle.icu_locale_extensions.specs.Extensions.{is_tkey, IsTkey, IsField};
 ghost use Rattle.icu_locale_extensions.specs.Rows.{HaveFirstOf, flat, dashed};
 
-use crate::texts::Subtags;
+use crate::texts::{Subtags, write_after_dash};
 use icu_locale_core::ParseError;
 use std::alloc::Global;
 use std::collections::{BTreeMap, btree_map};
@@ -226,10 +226,8 @@ pub(crate) fn write_row<const LOW: usize, W: fmt::Write>(
 ) -> fmt::Result
     ensures { WritesOnOk W.write_str_gives f.old result (dashed (mark.now ∷ pieces.now)) f.new }
 {
-    f.write_str("-")?;
-    f.write_str(mark)?;
-    f.write_str("-")?;
-    f.write_str(pieces.as_str())
+    write_after_dash(mark, f)?;
+    write_after_dash(pieces.as_str(), f)
 }
 
 impl fmt::Debug for Fields {

@@ -10,7 +10,7 @@ use crate::attributes::Attributes;
 use crate::fields::Fields;
 use crate::lower::write_lower_if_any;
 use crate::others::{Others, write_above_t, write_below_t};
-use crate::texts::Subtags;
+use crate::texts::{Subtags, write_after_dash};
 use icu_locale_core::{LanguageIdentifier, Locale, ParseError};
 use std::alloc::Global;
 use std::fmt;
@@ -214,8 +214,7 @@ fn write_attributes<W: fmt::Write>(
     ensures { WritesOnOk W.write_str_gives f.old result (dashed attributes.now) f.new }
 {
     for attribute in attributes.iter() {
-        f.write_str("-")?;
-        f.write_str(attribute.as_str())?;
+        write_after_dash(attribute.as_str(), f)?;
     }
     Ok(())
 }

@@ -1,8 +1,9 @@
 //! The pieces of a field, of another extension and of private use.
-ghost use Rattle.std.specs.Prelude.{◌≡◌, true, map, Some, IfOk, IfErr, IsOk, List, ℕ, nat_eq};
+ghost use Rattle.std.specs.Prelude.{◌≡◌, ◌++◌, codes, true, map, Some, IfOk, IfErr, IsOk, List, ℕ, nat_eq};
 ghost use Rattle.std.proofs.Common.{rules};
 ghost use Rattle.std.specs.Cmp.Lexicographic.{pointwise};
 ghost use Rattle.std.specs.Cmp.Rules.{comparing};
+ghost use Rattle.std.specs.Fmt.{WritesOnOk};
 ghost use Rattle.std.specs.List.{list_all};
 ghost use Rattle.icu_locale_core.specs.Identifier.{pieces};
 ghost use Rattle.icu_locale_core.specs.Subtag.{is_alphanumeric};
@@ -117,6 +118,14 @@ impl<const LOW: usize> fmt::Debug for Subtags<LOW> {
     fn fmt<W: fmt::Write>(&self, f: &mut fmt::Formatter<W>) -> fmt::Result {
         f.write_str(self.as_str())
     }
+}
+
+// A text with `-` before it.
+pub(crate) fn write_after_dash<W: fmt::Write>(text: &str, f: &mut fmt::Formatter<W>) -> fmt::Result
+    ensures { WritesOnOk W.write_str_gives f.old result (codes "-" ++ text.now) f.new }
+{
+    f.write_str("-")?;
+    f.write_str(text)
 }
 
 // Whether each piece has low to 8 letters or digits.
