@@ -1,19 +1,17 @@
-use Rattle.std.proofs.Common.{ap}
-use Rattle.serde_json.specs.View.{view}
-use Rattle.icu_tables.proofs.MemberReads.{Tells-start, Tells-more, Reads-told}
+use Rattle.icu_tables.proofs.MemberReads.{◌and_fills◌, Tells-start, Reads-told}
 use Rattle.icu_tables.proofs.file.TablesFromValue.from_value.Goals as goal
 
 -- what was read of each member tells what the object says
 pub returns : goal.returns
 returns c =
     let empty = c.new-tables.ensures in
-    rw c.in_ok-only_members.ensures (Reads-told _ _ _ _ _ _ (Tells-more _ _ _ _ _ _ _ (Tells-more _ _ _ _ _ _ _ (Tells-more _ _ _ _ _ _ _ (Tells-more _ _ _ _ _ _ _ (Tells-more _ _ _ _ _ _ _ (Tells-more _ _ _ _ _ _ _ (Tells-more _ _ _ _ _ _ _ (Tells-more _ _ _ _ _ _ _ (Tells-more _ _ _ _ _ _ _ (Tells-start _ _ _ (ap view c.of.ensures.object) c.of.ensures.outcome)
-    (rw empty at c.fill.ensures))
-    (rw empty at c.fill-2.ensures))
-    (rw empty at c.fill-3.ensures))
-    (rw empty at c.fill-4.ensures))
-    (rw empty at c.fill-5.ensures))
-    c.fill_by.ensures)
-    c.fill_names.ensures)
-    c.fill_by-2.ensures)
-    c.fill_by-3.ensures) c.finish.ensures)
+    rw c.in_ok-only_members.ensures (Reads-told _ _ _ (Tells-start c.of.ensures.object c.of.ensures.outcome
+    and_fills (rw empty at c.fill.ensures)
+    and_fills (rw empty at c.fill-2.ensures)
+    and_fills (rw empty at c.fill-3.ensures)
+    and_fills (rw empty at c.fill-4.ensures)
+    and_fills (rw empty at c.fill-5.ensures)
+    and_fills c.fill_by.ensures
+    and_fills c.fill_names.ensures
+    and_fills c.fill_by-2.ensures
+    and_fills c.fill_by-3.ensures) c.finish.ensures)
