@@ -1,10 +1,12 @@
 -- Arrays: how many items there are, and what each that was read or refused says of the whole; texts as a set.
 use Rattle.std.proofs.Common.{◌≡◌, Option, Some, None, refl, ap, ◌∙◌, ℕ, List, [], ◌∷◌, ◌++◌, length, drop, map, option_map, sym, append_assoc}
-use Rattle.std.proofs.Common.{nat_eq, subst}
+use Rattle.std.proofs.Common.{nat_eq, subst, get_or, ◌+◌, ◌<◌, ◌≤◌}
 use Rattle.std.specs.Cmp.Lexicographic.{pointwise, texts_ties}
 use Rattle.std.specs.List.{dedup}
 use Rattle.std.specs.List.Sorted.{IsStrictlySortedBy, IsSorted, IsPermutation}
+use Rattle.std.proofs.lemmas.List.{append-nil, at_drop_more, drop_all, map-append}
 use Rattle.std.proofs.lemmas.List.Kept.{IsStrictlySortedBy-dedup}
+use Rattle.serde_json.specs.View.{view}
 use Rattle.icu_tables.specs.declared.error.TableError.{TableError}
 use Rattle.icu_tables.specs.inner.Reads.{Refuses}
 use Rattle.icu_tables.specs.Shape.{applied, Shape, two_items, three_items, each_item}
@@ -60,6 +62,41 @@ module _ {T A : Type 0} (seen : T → A) (shape : Shape A) (values : List Value)
   -- the items that were read, before those from a place on, are what the array says
   abbrev pub IsReadUpTo : ℕ → List T → Type 0
   IsReadUpTo at done = each_item shape (items_view values) ≡ prefixed (map seen done) (each_item shape (items_view (drop at values)))
+
+  next_item : (at : ℕ) (done : List T) (value : Value) → at < length values → value ≡ get_or values at value → IsReadUpTo at done
+      → each_item shape (items_view values) ≡ prefixed (map seen done) (applied (option_map (λ x xs. x ∷ xs) (shape (view value)))
+      (each_item shape (items_view (drop (at + 1) values))))
+  next_item at done value within is so_far =
+      so_far ∙ at_drop_more (λ left. prefixed (map seen done) (each_item shape (items_view left))) values at value within
+      ∙ ap (λ item. prefixed (map seen done) (applied (option_map (λ x xs. x ∷ xs) (shape (view item)))
+      (each_item shape (items_view (drop (at + 1) values))))) (sym is)
+
+  -- one item more was read
+  pub read_more : (at : ℕ) (done : List T) (value : Value) (x : T) → at < length values → value ≡ get_or values at value
+      → shape (view value) ≡ Some (seen x) → IsReadUpTo at done → IsReadUpTo (at + 1) (done ++ x ∷ [])
+  read_more at done value x within is said so_far =
+      let rest = each_item shape (items_view (drop (at + 1) values)) in
+      next_item at done value within is so_far
+      ∙ ap (λ read. prefixed (map seen done) (applied (option_map (λ x xs. x ∷ xs) read) rest)) said
+      ∙ prefixed-more (map seen done) (seen x) rest
+      ∙ ap (λ all. prefixed all rest) (sym (map-append seen done (x ∷ [])))
+
+  -- an item is refused, so the array is
+  pub read_refused : (e : TableError) (at : ℕ) (done : List T) (value : Value) → at < length values → value ≡ get_or values at value
+      → Refuses e (shape (view value)) → IsReadUpTo at done → Refuses e (each_item shape (items_view values))
+  read_refused refusal.Json at done value within is refused so_far = refused
+  read_refused refusal.Shape at done value within is refused so_far =
+      next_item at done value within is so_far
+      ∙ ap (λ read. prefixed (map seen done) (applied (option_map (λ x xs. x ∷ xs) read)
+      (each_item shape (items_view (drop (at + 1) values))))) refused
+  read_refused refusal.Memory at done value within is refused so_far = tt
+
+  -- all items were read
+  pub read_all : (at : ℕ) (done : List T) → length values ≤ at → IsReadUpTo at done
+      → each_item shape (items_view values) ≡ Some (map seen done)
+  read_all at done past so_far =
+      so_far ∙ ap (λ left. prefixed (map seen done) (each_item shape (items_view left))) (drop_all at values past)
+      ∙ ap (λ all. Some all) (append-nil (map seen done))
 
 -- what is left rises
 pub unique_rises : (sorted left : List (List ℕ)) → left ≡ dedup (pointwise nat_eq) sorted → IsSorted text_cmp sorted → IsStrictlySortedBy text_cmp left
