@@ -2,8 +2,9 @@
 use Rattle.std.proofs.Common.{◌≡◌, ◌↔◌, IsTrue, ℕ, List, Bool, true, false, ◌&&◌, Option, Some, None, if◌then◌else◌, refl, ap, sym, ◌∙◌}
 use Rattle.std.specs.Option.{option_or}
 use Rattle.std.specs.Str.{bytes_eq}
-use Rattle.std.proofs.Math.Bool.{and-true}
+use Rattle.std.proofs.Math.Bool.{and-true, and_comm}
 use Rattle.std.proofs.lemmas.Bool.{false_from_ne_true, false≢true}
+use Rattle.std.proofs.lemmas.Bool.Decides.{same_from_decides}
 use Rattle.std.proofs.lemmas.Slice.Eq.{bytes_eq-Decides}
 use Rattle.icu_locale_core.specs.Subtag.{und}
 use Rattle.icu_provider.specs.declared.data_locale.DataLocale.{DataLocale}
@@ -12,7 +13,7 @@ use Rattle.icu_locale.specs.declared.expander.Favor.TheVariants.{RegionFirst, Sc
 use Rattle.icu_locale.specs.declared.expander.looks.LikelyKey.TheVariants.{LanguageRegion, LanguageScript, LanguageAlone}
 use Rattle.icu_locale.specs.LikelySubtags.{LikelySubtags, Triple, known_subtag, unknown_script, unknown_region, maximal_of_bare, maximal_locale}
 use Rattle.icu_locale.specs.inner.Trials.{locale_with, same_locale, alone, with_favored, with_other, trials, first_trial, IsTried, gives}
-use Rattle.icu_locale.specs.inner.Trials.{gives_script, gives_region}
+use Rattle.icu_locale.specs.inner.Trials.{gives_script, gives_region, drops_region, drops_script}
 use Rattle.icu_locale.proofs.Maximal.{same_locale-Decides, text_itself}
 use Rattle.icu_locale.proofs.Settling.{fill_by, maximal-told}
 
@@ -27,6 +28,9 @@ module _ (likely : LikelySubtags) (favor : Favor) (m : DataLocale) where
 
   abbrev answer : Bool → Bool → Bool → DataLocale
   answer a b c = if a then alone m else (if b then with_favored favor m else (if c then with_other favor m else m))
+
+  pub tried_first : leads (alone m) ≡ true → IsTried likely favor m (alone m)
+  tried_first a = sym (λ i. answer (a i) (leads (with_favored favor m)) (leads (with_other favor m)))
 
   pub tried_second : leads (alone m) ≡ false → leads (with_favored favor m) ≡ true → IsTried likely favor m (with_favored favor m)
   tried_second a b = sym (λ i. answer (a i) (b i) (leads (with_other favor m)))
@@ -58,6 +62,9 @@ or-none : (x y : Option Triple) → option_or x (option_or y None) ≡ option_or
 or-none None None = refl
 or-none None (Some t) = refl
 or-none (Some t) y = refl
+
+test_swap : (x y : List ℕ) → bytes_eq x y ≡ bytes_eq y x
+test_swap x y = same_from_decides _ _ (bytes_eq-Decides x y) (λ t. sym ((bytes_eq-Decides y x).0 t), λ e. (bytes_eq-Decides y x).1 (sym e))
 
 module _ (likely : LikelySubtags) (l : List ℕ) (known : bytes_eq l und ≡ false) where
   -- a text with the language as a part of the test
@@ -119,6 +126,88 @@ module _ (likely : LikelySubtags) (l : List ℕ) (known : bytes_eq l und ≡ fal
   pub script_told : (p : Option Triple) (s r : List ℕ) → likely (LanguageAlone l) ≡ p → known_subtag unknown_script (Some s) ≡ Some s
       → leads likely RegionFirst (locale_with l (Some s) (Some r)) (locale_with l (Some s) None) ≡ gives_region (option_or (likely (LanguageScript l s)) p) r
   script_told p s r f bare = ap (λ x. same_locale x (locale_with l (Some s) (Some r))) (script_bare s bare ∙ script_max s _ p refl f) ∙ script_test _ s r
+
+  -- over a region that is given
+  module _ (r : List ℕ) (bare_r : known_subtag unknown_region (Some r) ≡ Some r) where
+    abbrev with_region : Option Triple → DataLocale
+    with_region row = fill_by false (locale_with l None (Some r)) row
+
+    alone_of_region : (row : Option Triple) → alone (with_region row) ≡ locale_with l None None
+    alone_of_region None = refl
+    alone_of_region (Some t) = refl
+
+    region_of_region : (row : Option Triple) → with_favored RegionFirst (with_region row) ≡ locale_with l None (Some r)
+    region_of_region None = refl
+    region_of_region (Some t) = refl
+
+    drops_region_test : (p own : Option Triple) → same_locale (fill_by false (locale_with l None None) p) (with_region (option_or own p)) ≡ drops_region p own r
+    drops_region_test None None = with_language false
+    drops_region_test None (Some o) = with_language false
+    drops_region_test (Some t) None = with_language (bytes_eq t.1 t.1 && bytes_eq t.2 r) ∙ ap (λ x. x && bytes_eq t.2 r) (text_itself t.1)
+    drops_region_test (Some t) (Some o) = with_language (bytes_eq t.1 o.1 && bytes_eq t.2 r) ∙ and_comm (bytes_eq t.1 o.1) (bytes_eq t.2 r)
+        ∙ ap (λ x. bytes_eq t.2 r && x) (test_swap t.1 o.1)
+
+    abbrev row_of_region : Option Triple
+    row_of_region = option_or (likely (LanguageRegion l r)) (likely (LanguageAlone l))
+
+    drops_region_told : leads likely RegionFirst (with_region row_of_region) (alone (with_region row_of_region))
+        ≡ drops_region (likely (LanguageAlone l)) (likely (LanguageRegion l r)) r
+    drops_region_told = ap (leads likely RegionFirst (with_region row_of_region)) (alone_of_region row_of_region)
+        ∙ ap (λ x. same_locale x (with_region row_of_region)) (alone_max _ refl) ∙ drops_region_test _ _
+
+    pub region_drops : drops_region (likely (LanguageAlone l)) (likely (LanguageRegion l r)) r ≡ true
+        → IsTried likely RegionFirst (maximal_of_bare likely (locale_with l None (Some r))) (locale_with l None None)
+    region_drops e = moved likely RegionFirst _ (with_region row_of_region) _ (region_max r _ _ refl refl)
+        (sym (alone_of_region row_of_region) ∙ tried_first likely RegionFirst (with_region row_of_region) (drops_region_told ∙ e))
+
+    pub region_stays : drops_region (likely (LanguageAlone l)) (likely (LanguageRegion l r)) r ≡ false
+        → IsTried likely RegionFirst (maximal_of_bare likely (locale_with l None (Some r))) (locale_with l None (Some r))
+    region_stays e =
+        let itself = ap (leads likely RegionFirst (with_region row_of_region)) (region_of_region row_of_region)
+        ∙ leads-from likely RegionFirst (with_region row_of_region) (locale_with l None (Some r)) (region_bare r bare_r ∙ region_max r _ _ refl refl) in
+        moved likely RegionFirst _ (with_region row_of_region) _ (region_max r _ _ refl refl)
+        (sym (region_of_region row_of_region) ∙ tried_second likely RegionFirst (with_region row_of_region) (drops_region_told ∙ e) itself)
+
+  -- over a script that is given
+  module _ (s : List ℕ) (bare_s : known_subtag unknown_script (Some s) ≡ Some s) where
+    abbrev with_script : Option Triple → DataLocale
+    with_script row = fill_by false (locale_with l (Some s) None) row
+
+    alone_of_script : (row : Option Triple) → alone (with_script row) ≡ locale_with l None None
+    alone_of_script None = refl
+    alone_of_script (Some t) = refl
+
+    script_of_script : (row : Option Triple) → with_favored ScriptFirst (with_script row) ≡ locale_with l (Some s) None
+    script_of_script None = refl
+    script_of_script (Some t) = refl
+
+    drops_script_test : (p own : Option Triple) → same_locale (fill_by false (locale_with l None None) p) (with_script (option_or own p)) ≡ drops_script p own s
+    drops_script_test None None = with_language false
+    drops_script_test None (Some o) = with_language false
+    drops_script_test (Some t) None = with_language (bytes_eq t.1 s && bytes_eq t.2 t.2) ∙ ap (λ x. bytes_eq t.1 s && x) (text_itself t.2)
+        ∙ and-true (bytes_eq t.1 s)
+    drops_script_test (Some t) (Some o) = with_language (bytes_eq t.1 s && bytes_eq t.2 o.2) ∙ ap (λ x. bytes_eq t.1 s && x) (test_swap t.2 o.2)
+
+    abbrev row_of_script : Option Triple
+    row_of_script = option_or (likely (LanguageScript l s)) (likely (LanguageAlone l))
+
+    drops_script_told : leads likely ScriptFirst (with_script row_of_script) (alone (with_script row_of_script))
+        ≡ drops_script (likely (LanguageAlone l)) (likely (LanguageScript l s)) s
+    drops_script_told = ap (leads likely ScriptFirst (with_script row_of_script)) (alone_of_script row_of_script)
+        ∙ ap (λ x. same_locale x (with_script row_of_script)) (alone_max _ refl) ∙ drops_script_test _ _
+
+    pub script_drops : drops_script (likely (LanguageAlone l)) (likely (LanguageScript l s)) s ≡ true
+        → IsTried likely ScriptFirst (maximal_of_bare likely (locale_with l (Some s) None)) (locale_with l None None)
+    script_drops e = moved likely ScriptFirst _ (with_script row_of_script) _ (script_max s _ _ refl refl)
+        (sym (alone_of_script row_of_script) ∙ tried_first likely ScriptFirst (with_script row_of_script) (drops_script_told ∙ e))
+
+    pub script_stays : drops_script (likely (LanguageAlone l)) (likely (LanguageScript l s)) s ≡ false
+        → IsTried likely ScriptFirst (maximal_of_bare likely (locale_with l (Some s) None)) (locale_with l (Some s) None)
+    script_stays e =
+        let itself = ap (leads likely ScriptFirst (with_script row_of_script)) (script_of_script row_of_script)
+        ∙ leads-from likely ScriptFirst (with_script row_of_script) (locale_with l (Some s) None) (script_bare s bare_s ∙ script_max s _ _ refl refl) in
+        moved likely ScriptFirst _ (with_script row_of_script) _ (script_max s _ _ refl refl)
+        (sym (script_of_script row_of_script) ∙ tried_second likely ScriptFirst (with_script row_of_script) (drops_script_told ∙ e) itself)
 
   -- over a script and a region that the row of the language alone does not give
   module _ (p : Option Triple) (is_plain : likely (LanguageAlone l) ≡ p) (s r : List ℕ) (not_alone : gives p s r ≡ false) where
