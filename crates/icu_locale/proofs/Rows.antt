@@ -140,7 +140,8 @@ module _ (likely : LikelySubtags) (l : List ℕ) (known : bytes_eq l und ≡ fal
     region_of_region None = refl
     region_of_region (Some t) = refl
 
-    drops_region_test : (p own : Option Triple) → same_locale (fill_by false (locale_with l None None) p) (with_region (option_or own p)) ≡ drops_region p own r
+    drops_region_test : (p own : Option Triple) → same_locale (fill_by false (locale_with l None None) p) (with_region (option_or own p))
+        ≡ drops_region p own r
     drops_region_test None None = with_language false
     drops_region_test None (Some o) = with_language false
     drops_region_test (Some t) None = with_language (bytes_eq t.1 t.1 && bytes_eq t.2 r) ∙ ap (λ x. x && bytes_eq t.2 r) (text_itself t.1)
@@ -181,7 +182,8 @@ module _ (likely : LikelySubtags) (l : List ℕ) (known : bytes_eq l und ≡ fal
     script_of_script None = refl
     script_of_script (Some t) = refl
 
-    drops_script_test : (p own : Option Triple) → same_locale (fill_by false (locale_with l None None) p) (with_script (option_or own p)) ≡ drops_script p own s
+    drops_script_test : (p own : Option Triple) → same_locale (fill_by false (locale_with l None None) p) (with_script (option_or own p))
+        ≡ drops_script p own s
     drops_script_test None None = with_language false
     drops_script_test None (Some o) = with_language false
     drops_script_test (Some t) None = with_language (bytes_eq t.1 s && bytes_eq t.2 t.2) ∙ ap (λ x. bytes_eq t.1 s && x) (text_itself t.2)
