@@ -157,7 +157,10 @@ fn load_canonicalizer(alloc: Global, tables: &Tables) -> Result<LocaleCanonicali
 {
     let expander = load_expander(tables)?;
     let aliases = tables.load_aliases()?;
-    LocaleCanonicalizer::new_with_expander(alloc, aliases, expander).map_err(|_| CliError::Memory)
+    match LocaleCanonicalizer::new_with_expander(alloc, aliases, expander) {
+        Ok(canonicalizer) => Ok(canonicalizer),
+        Err(_) => Err(CliError::Memory),
+    }
 }
 
 // The direction of scripts over the tables: likely tables are asked for before it.
