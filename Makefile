@@ -1,18 +1,19 @@
 # `make` proves the two programs and what they stand on, and leaves them here; `make c` proves the calls for C, and
 # leaves their libraries in out/c; `make test` checks every crate; `make install` copies the programs and their manual
 # pages, and what `make c` has left; `make wheel`, `make npm`, `make crate` and `make deb` leave packages in out/packages;
-# `make compare` measures icu_locale_cli beside others, once it is built; `make clean` takes away what was built, but not
-# what `rt ci`, which `make` and `make test` run, keeps on the machine.
+# `make compare` measures icu_locale_cli beside others, once it is built; `make clean` takes away what was built, and the
+# next `make` then proves all from nothing.
 PROGRAMS = icu_locale_cli icu_locale_stream
 PREFIX = /usr/local
 LIBDIR = $(PREFIX)/lib
+PROVED = $(MAKE) -O -j 8 -f tools/proved.mk
 C_FILES = libicu_locale.a libicu_locale.so libicu_locale.so.0 pkgconfig/icu_locale.pc
 
 .PHONY: all c wheel npm crate deb test compare install uninstall clean
 .SILENT: test
 
 all:
-	tools/build $(PROGRAMS)
+	$(PROVED) $(PROGRAMS)
 
 c:
 	tools/build-c
@@ -39,7 +40,7 @@ compare:
 
 # Builds a program, and the libraries, only where they are not there.
 $(PROGRAMS):
-	tools/build $@
+	$(PROVED) $@
 
 out/c/libicu_locale.a:
 	tools/build-c

@@ -61,24 +61,3 @@ a_command() {
         *) stop "'$given' is no command of icu_locale_cli" ;;
     esac
 }
-
-# stands_on CRATE..: these crates, and those of the repository that they stand on, as crates.txt has them
-stands_on() {
-    local crate
-    for crate in "$@"; do
-        if [ -d "crates/$crate" ]; then
-            printf '%s\n' "$crate"
-            stands_on $(sed -n -E "s/^$crate( [a-z]+)?://p" crates.txt)
-        fi
-    done
-}
-
-# copied FOLDER CRATE..: puts these crates and those that they stand on into a folder, as a repository of their own without
-# edits, with the libraries that are built
-copied() {
-    local folder="$1" crates
-    crates="$(stands_on "${@:2}" | sort -u)"
-    cp HANDLES "$folder"
-    grep -E "^($(paste -sd '|' <<< "$crates"))[ :]" crates.txt > "$folder/crates.txt"
-    sed 's|^|crates/|' <<< "$crates" | xargs tar --exclude=must-fail --exclude=incremental -cf - | tar -C "$folder" -xf -
-}
