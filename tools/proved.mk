@@ -20,7 +20,7 @@ named = std $(shell sed -n -E 's/^$(1)( staticlib)?://p' crates.txt)
 ours = $(filter $(1),$(LIBRARIES))
 folder = $(if $(call ours,$(1)),$(CURDIR)/crates/$(1)/out/rlib,$(KIT)/rlibs)
 externs = $(foreach it,$(call named,$(1)),--extern $(it)=$(call folder,$(it))/$(it).rlib)
-sources = $(shell find crates/$(1)/src crates/$(1)/specs crates/$(1)/proofs -type f 2> /dev/null) crates.txt
+sources = $(shell find crates/$(1)/src crates/$(1)/specs crates/$(1)/proofs -type f 2> /dev/null) crates.txt $(KIT)/KIT-ID
 below = $(foreach it,$(call named,$(1)),$(if $(call ours,$(it)),crates/$(it)/out/rlib/$(it).rlib/format))
 
 # How many processors a library takes: all where no other can be proved beside it.
@@ -34,6 +34,7 @@ jobs.icu_locale_lines = 4
 
 define library
 crates/$(1)/out/rlib/$(1).rlib/format: $(call sources,$(1)) $(call below,$(1))
+	rm -rf crates/$(1)/out/rlib
 	mkdir -p crates/$(1)/out/rlib
 	cd crates/$(1) && $(PROVE) $(call externs,$(1)) --crate-name $(1) --jobs $(jobs.$(1)) --statements -o out/rlib/$(1).rlib src/lib.rt
 endef
