@@ -23,13 +23,13 @@ externs = $(foreach it,$(call named,$(1)),--extern $(it)=$(call folder,$(it))/$(
 sources = $(shell find crates/$(1)/src crates/$(1)/specs crates/$(1)/proofs -type f 2> /dev/null) crates.txt $(KIT)/KIT-ID
 below = $(foreach it,$(call named,$(1)),$(if $(call ours,$(it)),crates/$(it)/out/rlib/$(it).rlib/format))
 
-# How many processors a library takes: all where no other can be proved beside it.
+# How many processes a library takes: few where others are proved beside it.
 jobs.icu_locale_core = 4
-jobs.icu_locale_extensions = 1
+jobs.icu_locale_extensions = 2
 jobs.icu_provider = 3
 jobs.icu_tables = 2
-jobs.icu_locale = 2
-jobs.icu_locale_names = 1
+jobs.icu_locale = 3
+jobs.icu_locale_names = 2
 jobs.icu_locale_lines = 4
 
 define library
