@@ -6,16 +6,15 @@
 PROGRAMS = icu_locale_cli icu_locale_stream
 PREFIX = /usr/local
 LIBDIR = $(PREFIX)/lib
-PROVED = $(MAKE) -O -j 8 -f tools/proved.mk
 C_FILES = libicu_locale.a libicu_locale.so libicu_locale.so.0 pkgconfig/icu_locale.pc
 
 .PHONY: all c wheel npm crate deb test compare install uninstall clean
 .SILENT: test
 
 all:
-	$(PROVED) $(PROGRAMS)
+	tools/build $(PROGRAMS)
 
-c:
+c: $(PROGRAMS)
 	tools/build-c
 
 wheel npm crate: out/c/libicu_locale.a
@@ -40,9 +39,9 @@ compare:
 
 # Builds a program, and the libraries, only where they are not there.
 $(PROGRAMS):
-	$(PROVED) $@
+	tools/build $@
 
-out/c/libicu_locale.a:
+out/c/libicu_locale.a: | $(PROGRAMS)
 	tools/build-c
 
 install: $(PROGRAMS)
