@@ -13,7 +13,7 @@ use crate::langid::write_after_dash;
 use crate::value::write_pieces;
 use crate::{Key, ParseError, Value};
 use std::alloc::Global;
-use std::collections::BTreeMap;
+use std::collections::{BTreeMap, btree_map};
 use std::fmt;
 use std::marker::Model;
 
@@ -97,6 +97,13 @@ impl Keywords {
         ensures sets { SetsOnly text_cmp self.old self.new key None }
     {
         self.map.remove(&key)
+    }
+
+    /// The keywords in rising order of their keys.
+    pub fn iter(&self) -> btree_map::Iter<'_, Key, Value>
+        ensures { result ≡ self.now }
+    {
+        self.map.iter()
     }
 
     /// An equal map. Without keys it takes no memory.

@@ -9,7 +9,7 @@ use std::marker::Model;
 
 /// The pieces that are left of a text, cut at every `-` and `_`. The first is found already, so that a look at it costs
 /// nothing. It takes no memory.
-#[derive(Drop)]
+#[derive(Debug, Drop)]
 pub struct Pieces<'a> {
     first: Option<&'a [u8]>,
     rest: Option<&'a [u8]>,

@@ -5,7 +5,7 @@ ghost use Rattle.std.specs.Cmp.Lexicographic.{pointwise, lists_equiv};
 ghost use Rattle.std.specs.Fmt.{WritesOnOk};
 ghost use Rattle.std.specs.List.{All};
 ghost use Rattle.icu_locale_core.specs.Keywords.{row_eq, without_key};
-ghost use Rattle.icu_locale_core.specs.Maps.{IsSortedMap, value_at};
+ghost use Rattle.icu_locale_core.specs.Maps.{IsSortedMap, value_at, SetsOnly};
 ghost use Rattle.icu_locale_core.specs.Subtag.{lowercase};
 ghost use Rattle.icu_locale_core.specs.TextSet.{text_cmp};
 ghost use Rattle.icu_locale_core.specs.laws.Maps.{rows_equiv};
@@ -72,8 +72,8 @@ impl fmt::Debug for FieldKey {
 
 /// The fields of the transform extension (tfield of UTS #35, section 3.7.1): a finite map from keys to pieces.
 ///
-/// A contract sees the rows of the map, a key and its pieces each, the keys rising. Only `add` and `try_clone` take
-/// memory.
+/// A contract sees the rows of the map, a key and its pieces each, the keys rising. Only `add`, `set` and
+/// `try_clone` take memory.
 pub struct Fields {
     map: BTreeMap<FieldKey, Subtags<3>>,
     alloc: Global,
@@ -125,6 +125,25 @@ impl Fields {
             self.map.insert(key, value)?;
         }
         Ok(())
+    }
+
+    /// Puts pieces at a key, and gives the pieces that were there. At a key that is there it takes no memory.
+    ///
+    /// # Errors
+    ///
+    /// `Memory` where the map could not grow. It is unchanged then, and the pieces are dropped.
+    pub fn set(
+        &mut self,
+        key: FieldKey,
+        value: Subtags<3>,
+    ) -> Result<Option<Subtags<3>>, ParseError>
+        ensures sets { OnOk result (SetsOnly text_cmp self.old self.new key (Some value)) }
+        ensures before { IfOk result (λ before. before ≡ value_at text_cmp self.old key) }
+        ensures refused { IfErr result (λ e. e ≡ ParseError.Memory) }
+        ensures unchanged { OnErr result (self.new ≡ self.old) }
+        ensures present { IsSome (value_at text_cmp self.old key) → IsOk result }
+    {
+        Ok(self.map.insert(key, value)?)
     }
 
     /// Takes a key out, and gives the pieces that were there, if any.

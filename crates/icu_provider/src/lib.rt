@@ -1,5 +1,5 @@
 //! The data that the crates above are asked over: tables of likely subtags, of aliases and of directions, sets of exemplar
-//! characters, names, names in menus, patterns of names, and the trait of their sources.
+//! characters, names, names in menus, patterns of names, rules of language matching, and the trait of their sources.
 #![tactic(auto)]
 
 mod aliases;
@@ -10,6 +10,7 @@ mod essentials;
 mod exemplars;
 pub mod laws;
 mod likely;
+mod matching;
 mod names;
 mod provider;
 mod row_list;
@@ -22,6 +23,7 @@ pub use error::{DataError, DataErrorKind};
 pub use essentials::{DoublePlaceholderPattern, LocaleNamesEssentials, PatternItem};
 pub use exemplars::{CharacterRanges, ExemplarCharactersData, ExemplarMarker, ExemplarStrings};
 pub use likely::{LikelySubtagsExtended, LikelySubtagsForLanguage, LikelySubtagsForScriptRegion};
+pub use matching::{LanguageMatching, MatchPattern, MatchRule, MatchRules, RegionPattern};
 pub use names::{MenuMarker, MenuNameParts, NameKey, NameMarker};
 pub use provider::DataProvider;
 pub use row_list::RowList;
