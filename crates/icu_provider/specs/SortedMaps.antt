@@ -4,13 +4,12 @@ use Rattle.std.specs.List.{All, Contains}
 use Rattle.std.specs.declared.cmp.Ordering.{Ordering}
 use Rattle.std.specs.declared.cmp.Ordering.TheVariants.{Equal}
 use Rattle.std.specs.Ordering.{ordering_then}
-use Rattle.std.specs.Option.{option_map, option_cmp}
+use Rattle.std.specs.Option.{option_map}
 use Rattle.std.specs.Global.{Global}
 use Rattle.std.specs.String.{string_bytes}
 use Rattle.std.specs.BTreeMap.{insert_entry}
 use Rattle.icu_locale_core.specs.TextSet.{text_cmp}
 use Rattle.icu_locale_core.specs.Maps.{value_at, SetsOnly}
-use Rattle.icu_provider.specs.declared.data_locale.DataLocale.{DataLocale}
 use Rattle.icu_provider.specs.declared.error.DataError.{DataError}
 use Rattle.icu_provider.specs.declared.error.DataErrorKind.TheVariants.{Memory}
 pub use Rattle.icu_locale_core.specs.Maps.{IsSortedMap}
@@ -18,12 +17,6 @@ pub use Rattle.icu_locale_core.specs.Maps.{IsSortedMap}
 -- pairs of texts in the order of the first and then of the second
 abbrev pub pair_cmp : (List ℕ × List ℕ) → (List ℕ × List ℕ) → Ordering
 pair_cmp a b = ordering_then (text_cmp a.0 b.0) (text_cmp a.1 b.1)
-
--- locales in the order of their languages, then scripts, then regions, an absent part first
-abbrev pub locale_cmp : DataLocale → DataLocale → Ordering
-locale_cmp x y =
-    ordering_then (text_cmp x.language y.language)
-    (ordering_then (option_cmp text_cmp x.script y.script) (option_cmp text_cmp x.region y.region))
 
 -- an order ties equal keys alone
 abbrev pub TiesEqualAlone : {K : Type 0} → (K → K → Ordering) → Type 0
