@@ -1,8 +1,8 @@
 //! Rules of language matching (UTS #35 Part 1, section 4.4, Language Matching), as the caller hands them in.
 ghost use Rattle.std.specs.Prelude.{◌≡◌, []};
 
-use crate::SortedMap;
-use icu_locale_core::{Language, LanguageIdentifier, Region, Script};
+use crate::{DataLocale, SortedMap};
+use icu_locale_core::{Language, Region, Script};
 use std::alloc::Global;
 
 /// What a match rule says of the region of a form.
@@ -64,7 +64,7 @@ pub struct LanguageMatching {
     /// The regions that a macro region stands for, as `001` and `419`. A region without a row stands for itself.
     pub macros: SortedMap<Region, Vec<Region>>,
     /// The paradigm locales, which come first among equals.
-    pub paradigms: Vec<LanguageIdentifier>,
+    pub paradigms: Vec<DataLocale>,
 }
 
 impl Drop for MatchRules {
