@@ -6,7 +6,7 @@ use Rattle.std.proofs.lemmas.Option.{none-some}
 use Rattle.icu_locale_core.specs.declared.langid.LanguageIdentifier.{LanguageIdentifier}
 use Rattle.icu_locale.specs.LikelySubtags.{LikelySubtags}
 use Rattle.icu_locale.specs.Kinds.{next}
-use Rattle.icu_locale.specs.Run.{IsLaterEnd}
+use Rattle.icu_locale_runs.specs.Run.{IsLaterEnd}
 use Rattle.icu_locale.specs.Canonical.{IsCanonical, is_applied, answer_of, without_extensions}
 use Rattle.icu_locale.specs.Canonicalization.{Canonicalizes}
 use Rattle.icu_locale.specs.Cost.{AddsNoVariants}

@@ -12,15 +12,15 @@ use Rattle.icu_locale.specs.Kinds.{next, by_language_alias}
 use Rattle.icu_locale.specs.Canonical.{rg, sd, next_value, subdivision_alias, put_optional, AreCanonicalKeywords, IsCanonical, answer_of, is_applied}
 use Rattle.icu_locale.specs.Cost.{NeedsNoMemory, HasNothingToCopy}
 use Rattle.icu_locale.specs.Refusals.{ComesAgainFirst, RulesEnd, EndsInPlace, IsMemory, IsRefusal, ValueComesAgainFirst}
-use Rattle.icu_locale.specs.Run.{BecomesEnd, IsLaterEndOf}
+use Rattle.icu_locale_runs.specs.Run.{BecomesEnd, IsLaterEndOf}
 use Rattle.icu_locale.specs.declared.canonicalizer.CanonicalizeError.{CanonicalizeError}
 use Rattle.icu_locale.specs.declared.expander.TransformResult.TheVariants.{Unmodified}
 use Rattle.icu_locale.specs.declared.canonicalizer.rules.Rules.{Rules}
 use Rattle.icu_locale.proofs.Canonicals.{memory_from_end, none_first}
 use Rattle.icu_locale.proofs.Values.{canonical_at_rg, canonical_at_sd}
-use Rattle.icu_locale.proofs.Runs.{end_is_unique}
-use Rattle.icu_locale.proofs.LaterEnds.{none_stands_behind, none_behind_any, alone, stands_alone, in_place, kept, no_later_end, later_end_none}
-use Rattle.icu_locale.proofs.LaterEnds.{same_where_none, none_behind, EndsIfAny-later_end, EndsIfAny-becomes}
+use Rattle.icu_locale_runs.specs.laws.Runs.{end_is_unique}
+use Rattle.icu_locale_runs.specs.laws.LaterEnds.{none_stands_behind, none_behind_any, alone, stands_alone, in_place, kept, no_later_end, later_end_none}
+use Rattle.icu_locale_runs.specs.laws.LaterEnds.{same_where_none, none_behind, EndsIfAny-later_end, EndsIfAny-becomes}
 
 all_off : (a b c d : Bool) → a ≡ false → b ≡ false → c ≡ false → d ≡ false → (a || (b || (c || d))) ≡ false
 all_off a b c d p q r s = λ i. p i || (q i || (r i || s i))

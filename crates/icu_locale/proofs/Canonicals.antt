@@ -10,8 +10,7 @@ use Rattle.icu_locale_core.specs.declared.locale.Locale.{Locale}
 use Rattle.icu_locale_core.specs.laws.Identifiers.{identifiers_decide}
 use Rattle.icu_locale.specs.LikelySubtags.{LikelySubtags}
 use Rattle.icu_locale.specs.Kinds.{next, by_language_alias, next_of}
-use Rattle.icu_locale.specs.Run.{EndsAt, IsLaterEnd, IsRepeat, HasDistinct, EndsOrRepeats}
-use Rattle.icu_locale.specs.inner.Walk.{IsFullFront}
+use Rattle.icu_locale_runs.specs.Run.{EndsAt, IsLaterEnd, IsRepeat, HasDistinct, EndsOrRepeats}
 use Rattle.icu_locale.specs.inner.Universe.{universe}
 use Rattle.icu_locale.specs.Canonical.{rg, sd, next_value, IsCanonical}
 use Rattle.icu_locale.specs.Refusals.{IdentifiersEnd, RulesEnd, ComesAgainFirst, ValueComesAgainFirst, IsRefusal, IsMemory, IsOutOfMemory}
@@ -23,9 +22,9 @@ use Rattle.icu_locale.specs.declared.canonicalizer.changes.Changes.{Changes}
 use Rattle.icu_locale.specs.declared.canonicalizer.CanonicalizeError.{CanonicalizeError}
 use Rattle.icu_locale.specs.declared.canonicalizer.CanonicalizeError.TheVariants.{Memory, NoFixedPoint, NoSubdivisionFixedPoint}
 use Rattle.icu_locale.proofs.WithoutVariants.{free_bare, bare_next, bare_alias}
-use Rattle.icu_locale.proofs.Counts.{has_count, HasDistinct-from_count}
-use Rattle.icu_locale.proofs.LaterEnds.{none_stands_behind, none_behind_any, EndsAt-later_end, EndsIfAny-later_end, BecomesEnd-later_end, not_both, same_repeat}
-use Rattle.icu_locale.proofs.Runs.{ends_with_no_repeat, repeat_is_unique, EndsOrRepeats-from_count}
+use Rattle.icu_locale_runs.specs.laws.Counts.{HasDistinct-universe}
+use Rattle.icu_locale_runs.specs.laws.LaterEnds.{none_stands_behind, none_behind_any, EndsAt-later_end, EndsIfAny-later_end, BecomesEnd-later_end, not_both, same_repeat}
+use Rattle.icu_locale_runs.specs.laws.Runs.{ends_with_no_repeat, repeat_is_unique, EndsOrRepeats-universe}
 use Rattle.icu_locale.proofs.Values.{ValuesEnd-later, no_value_repeats, same_value_repeats}
 use Rattle.icu_locale.proofs.Universes.{IsUniverse-universe}
 
@@ -35,16 +34,15 @@ same_identifier y z =
     elim (cases_Bool _) [ inl equal ↦ inl (decides.0 equal) | inr other ↦ inr (λ e. false≢true (sym other ∙ decides.1 e)) ]
 
 -- each run of identifiers has a count
-count_of : (likely : LikelySubtags) (rules : Rules) (transform : Bool) (x : LanguageIdentifier) → (n : ℕ) × IsFullFront (next_of likely rules transform) x n
+count_of : (likely : LikelySubtags) (rules : Rules) (transform : Bool) (x : LanguageIdentifier) → (n : ℕ) × HasDistinct (next_of likely rules transform) x n
 count_of likely rules transform x =
-    let counted = has_count (next_of likely rules transform) x same_identifier (universe rules x) (IsUniverse-universe likely rules transform x) in
+    let counted = HasDistinct-universe (next_of likely rules transform) x same_identifier (universe rules x) (IsUniverse-universe likely rules transform x) in
     (counted.0, counted.2)
 
 -- so it ends or has a repeat
 pub end_or_repeat : (likely : LikelySubtags) (rules : Rules) (transform : Bool) (x : LanguageIdentifier) → EndsOrRepeats (next_of likely rules transform) x
 end_or_repeat likely rules transform x =
-    let counted = count_of likely rules transform x in
-    EndsOrRepeats-from_count (next_of likely rules transform) x counted.0 counted.1
+    EndsOrRepeats-universe (next_of likely rules transform) x same_identifier (universe rules x) (IsUniverse-universe likely rules transform x)
 
 -- ---- a whole locale
 
@@ -156,8 +154,7 @@ module _ (likely : LikelySubtags) (rules : Rules) (old : Locale) where
   transform_count : (start : Option LanguageIdentifier) → (b : ℕ) × MatchOption start (b ≡ 0) (λ l. HasDistinct (by_language_alias rules) l b)
   transform_count None = (0, refl)
   transform_count (Some l) =
-      let counted = count_of likely rules true l in
-      (counted.0, HasDistinct-from_count (by_language_alias rules) l counted.0 counted.1)
+      count_of likely rules true l
 
   identifiers_where_ends : (a b : ℕ) (y : LanguageIdentifier) → EndsAt (next likely rules) old.id y
       → HasDistinct (next likely rules) old.id a → MatchOption lang (b ≡ 0) (λ l. HasDistinct (by_language_alias rules) l b)

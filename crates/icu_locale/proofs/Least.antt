@@ -10,8 +10,10 @@ use Rattle.icu_locale.specs.LikelySubtags.{maximal_locale, subtags_of, with_loca
 use Rattle.icu_locale.specs.declared.expander.Favor.{Favor}
 use Rattle.icu_locale.specs.declared.expander.Favor.TheVariants.{RegionFirst, ScriptFirst}
 use Rattle.icu_locale.specs.Minimal.{count, Precedes, IsInClass, IsMinimalForm}
-use Rattle.icu_locale.specs.inner.Trials.{same_locale, alone, with_favored, with_other, first_trial, trials}
-use Rattle.icu_locale.proofs.Maximal.{same_locale-Decides, known_subtag-cases, maximal_locale-bare, filled_from-script, filled_from-region}
+use Rattle.icu_locale.specs.Locales.{same_locale}
+use Rattle.icu_locale.specs.inner.Trials.{alone, with_favored, with_other, first_trial, trials}
+use Rattle.icu_locale.specs.laws.Locales.{same_locale-Decides, known_subtag-cases, maximal_locale-bare}
+use Rattle.icu_locale.proofs.Maximal.{filled_from-script, filled_from-region}
 
 -- a subtag, taken or left
 abbrev chosen : Bool → Option (List ℕ) → Option (List ℕ)

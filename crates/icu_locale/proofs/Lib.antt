@@ -2,24 +2,18 @@ mod Alone
 mod Classes
 mod Directions
 mod Least
-mod Lists
 mod Rows
 mod Settling
 mod TableLaws
 mod TableRows
 pub mod CanonicalAgain
 pub mod Canonicals
-pub mod Counts
-pub mod LaterEnds
 pub mod Maximal
 pub mod Negotiating
 pub mod Parts
 pub mod Readings
-pub mod RunPlaces
-pub mod Runs
 pub mod SortedRows
 pub mod Subsets
 pub mod Universes
 pub mod Values
-pub mod Walks
 pub mod WithoutVariants

@@ -11,8 +11,8 @@ use Rattle.icu_locale_core.specs.laws.TextSets.{text_total, contains-rising, con
 use Rattle.icu_locale_core.specs.laws.TextSets.{is_among-Contains}
 use Rattle.icu_locale.specs.Rules.{is_known, part, replaced}
 use Rattle.icu_locale.specs.inner.Universe.{subsets, mixtures_of, of_script, of_region, of_variant}
-use Rattle.icu_locale.proofs.Lists.{Contains-here, Contains-there, Contains-cons_cases, Contains-map, Contains-from_map, Contains-flat_map}
-use Rattle.icu_locale.proofs.Lists.{Contains-from_flat_map}
+use Rattle.icu_locale_runs.specs.laws.Lists.{Contains-here, Contains-there, Contains-cons_cases, Contains-map, Contains-from_map, Contains-flat_map}
+use Rattle.icu_locale_runs.specs.laws.Lists.{Contains-from_flat_map}
 use Rattle.icu_locale.proofs.Subsets.{subset_among, among_subset, contains-one}
 
 -- the language, script and region of z, and each of its variants, are those of some of ps

@@ -12,9 +12,10 @@ use Rattle.icu_locale.specs.declared.expander.Favor.{Favor}
 use Rattle.icu_locale.specs.declared.expander.Favor.TheVariants.{RegionFirst, ScriptFirst}
 use Rattle.icu_locale.specs.declared.expander.looks.LikelyKey.TheVariants.{LanguageRegion, LanguageScript, LanguageAlone}
 use Rattle.icu_locale.specs.LikelySubtags.{LikelySubtags, Triple, known_subtag, unknown_script, unknown_region, maximal_of_bare, maximal_locale}
-use Rattle.icu_locale.specs.inner.Trials.{locale_with, same_locale, alone, with_favored, with_other, trials, first_trial, IsTried, gives}
+use Rattle.icu_locale.specs.Locales.{locale_with, same_locale}
+use Rattle.icu_locale.specs.inner.Trials.{alone, with_favored, with_other, trials, first_trial, IsTried, gives}
 use Rattle.icu_locale.specs.inner.Trials.{gives_script, gives_region, drops_region, drops_script}
-use Rattle.icu_locale.proofs.Maximal.{same_locale-Decides, text_itself}
+use Rattle.icu_locale.specs.laws.Locales.{same_locale-Decides, text_itself}
 use Rattle.icu_locale.proofs.Settling.{fill_by, maximal-told}
 
 -- how the trials end over a maximal form

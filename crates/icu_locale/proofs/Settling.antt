@@ -14,8 +14,8 @@ use Rattle.icu_locale.specs.declared.expander.looks.LikelyKey.TheVariants.{Langu
 use Rattle.icu_locale.specs.LikelySubtags.{LikelySubtags, Triple, known_subtag, unknown_script, unknown_region, bare_locale, known_keys, und_keys}
 use Rattle.icu_locale.specs.LikelySubtags.{first_found, maximal_of_bare, maximal_locale, subtags_of, with_locale, AreSettled}
 use Rattle.icu_locale.specs.inner.SettledRows.{key_locale, IsLocale, is_settled_locale, settles, HasUnsettled}
-use Rattle.icu_locale.specs.inner.Trials.{same_locale}
-use Rattle.icu_locale.proofs.Maximal.{same_locale-Decides, same_text, known_subtag-again}
+use Rattle.icu_locale.specs.Locales.{same_locale}
+use Rattle.icu_locale.specs.laws.Locales.{same_locale-Decides, same_text, known_subtag-again}
 
 -- a locale that is bare and its own maximal form
 record Stays (likely : LikelySubtags) (y : DataLocale) : Type 0 where

@@ -10,7 +10,7 @@ use Rattle.icu_locale_core.specs.TextSet.{TextSet, empty, contains, from_list, r
 use Rattle.icu_locale_core.specs.laws.TextSets.{text_total, is_among, contains-from_list, from_list-rising, contains-empty, length-rising_empty}
 use Rattle.icu_locale_core.specs.laws.TextSets.{same_set, same_from_tied, contains-insert, contains-difference}
 use Rattle.icu_locale.specs.inner.Universe.{subsets}
-use Rattle.icu_locale.proofs.Lists.{Contains-here, Contains-there, Contains-cons_cases, Contains-nil, Contains-map, Contains-from_map}
+use Rattle.icu_locale_runs.specs.laws.Lists.{Contains-here, Contains-there, Contains-cons_cases, Contains-nil, Contains-map, Contains-from_map}
 use Rattle.std.specs.FinMap as fin
 
 among_first : (t : List ℕ) (ts : List (List ℕ)) → is_among t (t ∷ ts) ≡ true

@@ -17,9 +17,9 @@ use Rattle.icu_locale.specs.LikelySubtags.{Triple}
 use Rattle.icu_locale.specs.LikelyTable.{LikelyRows, common_rows, extended_rows, row_at, common_row, extension_row, und_row, likely}
 use Rattle.icu_locale.specs.TableKeys.{HasKey, keys_by, row_keys, extension_keys, und_row_keys, table_keys}
 use Rattle.icu_locale.specs.declared.expander.LocaleExpander.{LocaleExpander}
-use Rattle.icu_locale.proofs.Maximal.{same_text}
+use Rattle.icu_locale.specs.laws.Locales.{same_text}
 use Rattle.icu_locale_core.specs.laws.TextSets.{text_same}
-use Rattle.icu_locale.proofs.Lists.{some_map, some_or}
+use Rattle.icu_locale_runs.specs.laws.Lists.{some_map, some_or}
 use Rattle.icu_locale.proofs.TableRows.{row_found, key_among, test_of, pair_same}
 
 -- ---- the triple at a key has the subtags of the key

@@ -25,8 +25,8 @@ use Rattle.icu_locale.specs.TableKeys.{keys_by}
 use Rattle.icu_locale.specs.inner.SettledRows.{settles, AllSettle, RowsSettle, UndRowsSettle, AllRowsSettle, HasUnsettled}
 use Rattle.icu_locale.specs.declared.expander.LocaleExpander.{LocaleExpander}
 use Rattle.icu_locale_core.specs.laws.TextSets.{text_same}
-use Rattle.icu_locale.proofs.Lists.{Contains-map, some_map, some_or}
-use Rattle.icu_locale.proofs.Maximal.{same_text}
+use Rattle.icu_locale_runs.specs.laws.Lists.{Contains-map, some_map, some_or}
+use Rattle.icu_locale.specs.laws.Locales.{same_text}
 use Rattle.icu_locale.proofs.Settling.{AreSettled-from_rows}
 
 both_tie : (a b : Ordering) → ordering_then a b ≡ Equal → (a ≡ Equal) × (b ≡ Equal)

@@ -17,12 +17,12 @@ use Rattle.icu_locale.specs.LikelySubtags.{LikelySubtags}
 use Rattle.icu_locale.specs.Rules.{is_known, matches, replaced, of_language}
 use Rattle.icu_locale.specs.Kinds.{rules_for, by_rule, sign_language, by_sign_region, language_alias, by_language_alias, by_script, region_alias}
 use Rattle.icu_locale.specs.Kinds.{by_region, chosen, likely_region, complex_region, by_complex_region, variant_alias, by_variant, next, next_of}
-use Rattle.icu_locale.specs.inner.Walk.{IsUniverse}
+use Rattle.icu_locale_runs.specs.Run.{IsUniverse}
 use Rattle.icu_locale.specs.inner.Universe.{parts_by_kind, parts, universe, of_script, of_region, of_variant}
 use Rattle.icu_locale.specs.declared.canonicalizer.rules.Rule.{Rule}
 use Rattle.icu_locale.specs.declared.canonicalizer.rules.Rules.{Rules}
 use Rattle.std.proofs.lemmas.Slice.Eq.{bytes_eq-Decides}
-use Rattle.icu_locale.proofs.Lists.{some_map, some_or, Contains-here, Contains-there, Contains-map, Contains-flat_map, Contains-find}
+use Rattle.icu_locale_runs.specs.laws.Lists.{some_map, some_or, Contains-here, Contains-there, Contains-map, Contains-flat_map, Contains-find}
 use Rattle.icu_locale.proofs.Parts.{IsMadeOf, IsMadeOf-itself, made_of-has, IsMadeOf-from, IsMadeOf-replaced, IsMadeOf-bare, IsMadeOf-script}
 use Rattle.icu_locale.proofs.Parts.{IsMadeOf-region, IsMadeOf-image}
 

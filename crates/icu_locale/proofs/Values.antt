@@ -12,20 +12,18 @@ use Rattle.icu_locale_core.specs.TextSet.{text_cmp}
 use Rattle.icu_locale_core.specs.laws.TextSets.{text_total, same_from_tied}
 use Rattle.icu_locale_core.specs.laws.Maps.{SetsOnly-insert_entry}
 use Rattle.icu_locale.specs.Canonical.{rg, sd, put_optional, next_value, AreCanonicalKeywords}
-use Rattle.icu_locale.specs.Run.{BecomesEnd, IsLaterEndOf, EndsOrRepeats}
+use Rattle.icu_locale_runs.specs.Run.{BecomesEnd, IsLaterEndOf, EndsOrRepeats, IsUniverse}
 use Rattle.icu_locale.specs.declared.canonicalizer.rules.Rules.{Rules}
-use Rattle.icu_locale.proofs.LaterEnds.{BecomesEnd-later_end, EndsIfAny-later_end, not_both, same_repeat}
+use Rattle.icu_locale_runs.specs.laws.LaterEnds.{BecomesEnd-later_end, EndsIfAny-later_end, not_both, same_repeat}
 use Rattle.icu_locale_core.specs.Value.{only_piece}
 use Rattle.icu_locale_core.specs.laws.Identifiers.{values_decide}
 use Rattle.icu_locale.specs.Refusals.{ValuesEnd, ValueRepeats}
 use Rattle.icu_locale.specs.inner.CanonicalParts.{IsValueRefusal, IsValuesRefusal, AreLaterValues}
 use Rattle.icu_locale.specs.inner.Universe.{values}
-use Rattle.icu_locale.specs.inner.Walk.{IsUniverse}
 use Rattle.icu_locale.specs.declared.canonicalizer.CanonicalizeError.{CanonicalizeError}
 use Rattle.icu_locale.specs.declared.canonicalizer.CanonicalizeError.TheVariants.{Memory, NoFixedPoint, NoSubdivisionFixedPoint}
-use Rattle.icu_locale.proofs.Counts.{has_count}
-use Rattle.icu_locale.proofs.Lists.{Contains-here, Contains-there, Contains-map}
-use Rattle.icu_locale.proofs.Runs.{EndsOrRepeats-from_count}
+use Rattle.icu_locale_runs.specs.laws.Lists.{Contains-here, Contains-there, Contains-map}
+use Rattle.icu_locale_runs.specs.laws.Runs.{EndsOrRepeats-universe}
 use Rattle.icu_locale.proofs.Universes.{has_row}
 
 -- what is put at a key stands there
@@ -95,8 +93,7 @@ module _ (rules : Rules) where
   -- so it ends or has a repeat
   pub value_end_or_repeat : (v : List (List ℕ)) → EndsOrRepeats (next_value rules) v
   value_end_or_repeat v =
-      let counted = has_count (next_value rules) v same_value (values rules v) (IsUniverse-values v) in
-      EndsOrRepeats-from_count (next_value rules) v counted.0 counted.2
+      EndsOrRepeats-universe (next_value rules) v same_value (values rules v) (IsUniverse-values v)
 
   module _ (keywords : KeywordRows) where
     pub ValuesEnd-later : (ends : Option (List (List ℕ)) × Option (List (List ℕ))) → AreLaterValues rules keywords ends → ValuesEnd rules keywords

@@ -15,11 +15,11 @@ use Rattle.icu_locale_core.specs.Maps.{value_at}
 use Rattle.icu_locale.specs.LikelySubtags.{LikelySubtags}
 use Rattle.icu_locale.specs.Kinds.{by_rule, sign_language, by_sign_region, language_alias, by_language_alias, by_script, region_alias, by_region}
 use Rattle.icu_locale.specs.Kinds.{complex_region, by_complex_region, variant_alias, by_variant, next}
-use Rattle.icu_locale.specs.Run.{at}
+use Rattle.icu_locale_runs.specs.Run.{at}
 use Rattle.icu_locale.specs.Cost.{AddsNoVariants}
 use Rattle.icu_locale.specs.declared.canonicalizer.rules.Rule.{Rule}
 use Rattle.icu_locale.specs.declared.canonicalizer.rules.Rules.{Rules}
-use Rattle.icu_locale.proofs.Lists.{Contains-find, some_map, some_or}
+use Rattle.icu_locale_runs.specs.laws.Lists.{Contains-find, some_map, some_or}
 use Rattle.icu_locale.proofs.Subsets.{image-empty}
 
 -- a set without none and with none is that set

@@ -10,7 +10,7 @@ use Rattle.icu_locale_core.specs.declared.locale.Locale.{Locale}
 use Rattle.icu_locale_core.specs.Maps.{value_at}
 use Rattle.icu_locale.specs.LikelySubtags.{LikelySubtags}
 use Rattle.icu_locale.specs.Kinds.{next, by_language_alias}
-use Rattle.icu_locale.specs.Run.{EndsAt, IsLaterEndOf, BecomesEnd}
+use Rattle.icu_locale_runs.specs.Run.{EndsAt, IsLaterEndOf, BecomesEnd}
 use Rattle.icu_locale.specs.declared.expander.TransformResult.{TransformResult}
 use Rattle.icu_locale.specs.declared.expander.TransformResult.TheVariants.{Modified, Unmodified}
 use Rattle.icu_locale.specs.declared.canonicalizer.rules.Rules.{Rules}

@@ -7,11 +7,12 @@ pub mod Index
 pub mod Kinds
 pub mod LikelySubtags
 pub mod LikelyTable
+pub mod Locales
 pub mod Minimal
 pub mod Negotiation
 pub mod Refusals
 pub mod RuleSet
 pub mod Rules
-pub mod Run
 pub mod TableKeys
 pub mod inner
+pub mod laws

@@ -8,7 +8,7 @@ use Rattle.icu_locale_core.specs.declared.locale.Locale.{Locale}
 use Rattle.icu_locale.specs.Canonical.{rg, sd, next_value}
 use Rattle.icu_locale.specs.Kinds.{next, by_language_alias}
 use Rattle.icu_locale.specs.LikelySubtags.{LikelySubtags}
-use Rattle.icu_locale.specs.Run.{EndsAt, EndsIfAny, IsRepeat}
+use Rattle.icu_locale_runs.specs.Run.{EndsAt, EndsIfAny, IsRepeat}
 use Rattle.icu_locale.specs.declared.canonicalizer.rules.Rules.{Rules}
 use Rattle.icu_locale.specs.declared.canonicalizer.CanonicalizeError.{CanonicalizeError}
 use Rattle.icu_locale.specs.declared.canonicalizer.CanonicalizeError.TheVariants.{Memory, NoFixedPoint, NoSubdivisionFixedPoint}

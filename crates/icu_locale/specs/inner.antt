@@ -3,4 +3,3 @@ pub mod Index
 pub mod SettledRows
 pub mod Trials
 pub mod Universe
-pub mod Walk

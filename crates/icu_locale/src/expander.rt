@@ -2,7 +2,8 @@
 
 ghost use Rattle.std.specs.Prelude.{◌≡◌, ◌≢◌, ◌↔◌, false, Some, None};
 ghost use Rattle.icu_locale.specs.LikelySubtags.{bare_locale, subtags_of, with_locale, maximal_of_bare, maximal_locale, maximal, likely_script, IsModified};
-ghost use Rattle.icu_locale.specs.inner.Trials.{alone, with_favored, with_other, IsTried, same_locale};
+ghost use Rattle.icu_locale.specs.Locales.{same_locale};
+ghost use Rattle.icu_locale.specs.inner.Trials.{alone, with_favored, with_other, IsTried};
 ghost use Rattle.icu_locale.specs.LikelyTable.{likely};
 ghost use Rattle.icu_locale.specs.Construction.{loaded_common, loaded_extended, StandsOn, IsMade};
 ghost use Rattle.icu_locale.specs.declared.expander.Favor.TheVariants.{RegionFirst, ScriptFirst};
@@ -204,8 +205,8 @@ impl<'d> LocaleExpander<'d> {
         self.maximal_locale(*trial) == *maximal
     }
 
-    // The maximal form of a language, a script and a region.
-    pub(crate) fn maximal_locale(&self, given: DataLocale) -> DataLocale
+    /// The maximal form of a language, a script and a region. It takes no memory.
+    pub fn maximal_locale(&self, given: DataLocale) -> DataLocale
         ensures { result ≡ maximal_locale (likely self.now) given }
     {
         self.maximal_of_bare(bare_locale(given))

@@ -8,7 +8,6 @@ pub mod exemplar_chars;
 mod expander;
 pub mod laws;
 mod negotiator;
-mod rewriting;
 mod settled;
 
 pub use as_expander::AsExpander;
@@ -17,7 +16,7 @@ pub use canonicalizer::rules::{ReadRules, Rule, Rules, RulesRef};
 pub use canonicalizer::{CanonicalizeError, LocaleCanonicalizer};
 pub use directionality::{Direction, LocaleDirectionality};
 pub use expander::{LocaleExpander, TransformResult};
+pub use icu_locale_runs::Turns;
 pub use negotiator::available::Available;
 pub use negotiator::lending::NegotiatorRef;
 pub use negotiator::{Negotiator, NegotiatorError};
-pub use rewriting::Turns;

@@ -25,7 +25,7 @@ ghost use Rattle.icu_locale.specs.inner.SettledRows.{
   UndRowsSettle,
   AllRowsSettle,
 };
-ghost use Rattle.icu_locale.specs.inner.Trials.{same_locale};
+ghost use Rattle.icu_locale.specs.Locales.{same_locale};
 
 use crate::LocaleExpander;
 use crate::expander::looks::{LikelyKey, LikelyMaps, bare_locale, extended_maps};

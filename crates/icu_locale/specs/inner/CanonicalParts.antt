@@ -12,7 +12,7 @@ use Rattle.icu_locale_core.specs.Keywords.{KeywordRows}
 use Rattle.icu_locale_core.specs.Maps.{value_at}
 use Rattle.icu_locale_core.specs.declared.locale.Locale.{Locale}
 use Rattle.icu_locale.specs.LikelySubtags.{LikelySubtags}
-use Rattle.icu_locale.specs.Run.{IsLaterEnd, IsLaterEndOf, IsRepeat, HasDistinct}
+use Rattle.icu_locale_runs.specs.Run.{IsLaterEnd, IsLaterEndOf, IsRepeat, HasDistinct}
 use Rattle.icu_locale.specs.Cost.{CountsSearches}
 use Rattle.icu_locale.specs.Canonical.{rg, sd, put_optional, next_value}
 use Rattle.icu_locale.specs.Refusals.{ComesAgainFirst, ValueRepeats}

@@ -12,7 +12,7 @@ use Rattle.icu_locale.specs.declared.expander.looks.LikelyKey.TheVariants.{Langu
 use Rattle.icu_locale.specs.declared.expander.looks.LikelyKey.TheVariants.{RegionAlone}
 use Rattle.icu_locale.specs.LikelySubtags.{LikelySubtags, Triple, bare_locale, maximal_locale, maximal, IsSettled}
 use Rattle.icu_locale.specs.declared.expander.LocaleExpander.{LocaleExpander}
-use Rattle.icu_locale.specs.inner.Trials.{same_locale}
+use Rattle.icu_locale.specs.Locales.{same_locale}
 
 -- the rows of the maps
 abbrev pub map_rows : LikelyMaps → LikelyRows

@@ -1,17 +1,12 @@
 -- How a minimal form is found: what only the expander's own functions cite.
 use Rattle.std.specs.Prelude.{ℕ, Bool, ◌&&◌, ◌||◌, not, false, List, Option, Some, None, is_some, ◌≡◌, [], ◌∷◌, if◌then◌else◌}
 use Rattle.std.specs.Str.{bytes_eq}
-use Rattle.std.specs.Option.{option_eq}
 use Rattle.icu_locale_core.specs.Subtag.{und}
 use Rattle.icu_provider.specs.declared.data_locale.DataLocale.{DataLocale}
 use Rattle.icu_locale.specs.LikelySubtags.{Triple, unknown_script, unknown_region, LikelySubtags, maximal_locale}
+use Rattle.icu_locale.specs.Locales.{same_locale}
 use Rattle.icu_locale.specs.declared.expander.Favor.{Favor}
 use Rattle.icu_locale.specs.declared.expander.Favor.TheVariants.{RegionFirst, ScriptFirst}
-
--- the locale of a language, a script and a region
-abbrev pub locale_with : List ℕ → Option (List ℕ) → Option (List ℕ) → DataLocale
-locale_with language script region =
-    record { language = language; script = script; region = region }
 
 -- a subtag that stands for none
 abbrev pub is_unknown : List ℕ → Option (List ℕ) → Bool
@@ -26,11 +21,6 @@ loses script region = is_unknown unknown_script script || is_unknown unknown_reg
 abbrev pub gains : DataLocale → Triple → Bool
 gains x t = (bytes_eq x.language und && not (bytes_eq t.0 und))
     || (not (is_some x.script) || not (is_some x.region))
-
--- whether two locales have the same subtags
-abbrev pub same_locale : DataLocale → DataLocale → Bool
-same_locale x y = bytes_eq x.language y.language
-    && (option_eq bytes_eq x.script y.script && option_eq bytes_eq x.region y.region)
 
 -- the language alone
 abbrev pub alone : DataLocale → DataLocale

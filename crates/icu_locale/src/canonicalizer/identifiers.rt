@@ -7,7 +7,7 @@ ghost use Rattle.icu_locale.specs.RuleSet.{lent};
 ghost use Rattle.icu_locale.specs.Kinds.{variant_alias, next_of};
 ghost use Rattle.icu_locale.specs.inner.CanonicalParts.{rewritten, IsRunRefusal, CountsSearchesOf};
 ghost use Rattle.icu_locale.specs.Refusals.{IsOutOfMemory};
-ghost use Rattle.icu_locale.specs.Run.{IsLaterEnd};
+ghost use Rattle.icu_locale_runs.specs.Run.{IsLaterEnd};
 ghost use Rattle.icu_locale.specs.Cost.{AddsNoVariants};
 ghost use Rattle.icu_locale_core.specs.laws.Identifiers.{identifiers_decide};
 ghost use Rattle.icu_locale.specs.inner.Universe.{universe};
@@ -15,11 +15,11 @@ ghost use Rattle.icu_locale.specs.declared.canonicalizer.CanonicalizeError.TheVa
 
 use super::kinds::{Rewrite, by_language_alias, find_rewrite, variant_alias};
 use super::replacing::replacement;
-use crate::rewriting::{Outcome, Rewriting, end_of_run};
 use crate::{
     AsExpander, CanonicalizeError, CanonicalizerRef, LocaleCanonicalizer, RulesRef, Turns,
 };
 use icu_locale_core::{LanguageIdentifier, Variants};
+use icu_locale_runs::{Outcome, Rewriting, end_of_run};
 
 /// What a turn rewrites of an identifier: by all rules, or by language aliases alone where it is a transform language. It
 /// is the only search for a rule that matches, and it adds one to the turns.

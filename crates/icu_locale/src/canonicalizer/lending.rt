@@ -7,7 +7,7 @@ ghost use Rattle.icu_locale.specs.Canonical.{without_extensions};
 ghost use Rattle.icu_locale.specs.Canonicalization.{Canonicalizes};
 ghost use Rattle.icu_locale.specs.Refusals.{IsRefusal, IsOutOfMemory};
 ghost use Rattle.icu_locale.specs.Cost.{CountsRuns, NeedsNoMemory, AddsNoVariants};
-ghost use Rattle.icu_locale.specs.Run.{IsLaterEndOf};
+ghost use Rattle.icu_locale_runs.specs.Run.{IsLaterEndOf};
 ghost use Rattle.icu_locale.specs.inner.CanonicalParts.{IsRunRefusalOf, IsIdentifierRefusal, CountsSearchesOf, AreLaterEnds, AreChanges};
 
 use super::changes::Changes;

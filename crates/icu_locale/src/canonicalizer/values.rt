@@ -8,13 +8,13 @@ ghost use Rattle.icu_locale.specs.Canonical.{rg, sd, next_value};
 ghost use Rattle.icu_locale.specs.Cost.{AddsNoPieces};
 ghost use Rattle.icu_locale.specs.Refusals.{IsOutOfMemory};
 ghost use Rattle.icu_locale.specs.RuleSet.{lent};
-ghost use Rattle.icu_locale.specs.Run.{IsLaterEndOf};
+ghost use Rattle.icu_locale_runs.specs.Run.{IsLaterEndOf};
 ghost use Rattle.icu_locale.specs.inner.CanonicalParts.{IsValueRefusal, IsValuesRefusal, AreLaterValues};
 ghost use Rattle.icu_locale.specs.inner.Universe.{values};
 
-use crate::rewriting::{Outcome, Rewriting, end_of_run};
 use crate::{CanonicalizeError, RulesRef, Turns};
 use icu_locale_core::{Key, Keywords, ParseError, Value};
+use icu_locale_runs::{Outcome, Rewriting, end_of_run};
 
 // One run of values: of one piece that is a key of `subdivision`, the value of its row follows.
 #[derive(Drop)]

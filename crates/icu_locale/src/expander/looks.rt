@@ -16,7 +16,8 @@ ghost use Rattle.icu_locale.specs.LikelySubtags.{
   maximal_of_bare,
 };
 ghost use Rattle.icu_locale.specs.LikelyTable.{row_at, common_rows, extended_rows, und_row, likely};
-ghost use Rattle.icu_locale.specs.inner.Trials.{locale_with, loses, gains};
+ghost use Rattle.icu_locale.specs.Locales.{locale_with};
+ghost use Rattle.icu_locale.specs.inner.Trials.{loses, gains};
 ghost use Rattle.icu_locale.specs.inner.SettledRows.{map_rows};
 
 use crate::expander::LocaleExpander;

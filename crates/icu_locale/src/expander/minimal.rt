@@ -13,7 +13,8 @@ ghost use Rattle.icu_locale.specs.LikelySubtags.{
 ghost use Rattle.icu_locale.specs.LikelyTable.{likely};
 ghost use Rattle.icu_locale.specs.declared.expander.Favor.TheVariants.{RegionFirst, ScriptFirst};
 ghost use Rattle.icu_locale.specs.declared.expander.looks.LikelyKey.TheVariants.{LanguageRegion, LanguageScript, LanguageAlone};
-ghost use Rattle.icu_locale.specs.inner.Trials.{locale_with, IsTried, gives, gives_script, gives_region, drops_region, drops_script};
+ghost use Rattle.icu_locale.specs.Locales.{locale_with};
+ghost use Rattle.icu_locale.specs.inner.Trials.{IsTried, gives, gives_script, gives_region, drops_region, drops_script};
 
 use crate::expander::looks::{LikelyKey, Triple, bare_locale};
 use crate::expander::{Favor, LocaleExpander};

@@ -7,7 +7,7 @@ ghost use Rattle.icu_locale_core.specs.declared.langid.LanguageIdentifier.{Langu
 ghost use Rattle.icu_locale_core.specs.declared.locale.Locale.{Locale};
 ghost use Rattle.icu_locale.specs.LikelySubtags.{LikelySubtags};
 ghost use Rattle.icu_locale.specs.Kinds.{next_of};
-ghost use Rattle.icu_locale.specs.Run.{EndsOrRepeats, EndsWithNoRepeat, HasOneEnd, KeepsEnd, HasOneRepeat, BecomesEnd};
+ghost use Rattle.icu_locale_runs.specs.Run.{EndsOrRepeats, EndsWithNoRepeat, HasOneEnd, KeepsEnd, HasOneRepeat, BecomesEnd};
 ghost use Rattle.icu_locale.specs.Canonical.{rg, sd, next_value, AreCanonicalKeywords, IsCanonical, is_applied};
 ghost use Rattle.icu_locale.specs.Cost.{NeedsNoMemory, HasNothingToCopy};
 ghost use Rattle.icu_locale.specs.Refusals.{ComesAgainFirst, RulesEnd, EndsInPlace, IsMemory, IsRefusal, ValueComesAgainFirst};

@@ -6,7 +6,7 @@ use Rattle.icu_locale_core.specs.TextSet.{text_cmp}
 use Rattle.icu_locale.specs.RuleSet.{lent}
 use Rattle.icu_locale.specs.Canonical.{rg, sd, next_value}
 use Rattle.icu_locale.specs.Cost.{AddsNoPieces}
-use Rattle.icu_locale.specs.Run.{IsLaterEndOf}
+use Rattle.icu_locale_runs.specs.Run.{IsLaterEndOf}
 use Rattle.icu_locale.specs.inner.CanonicalParts.{IsValueRefusal}
 use Rattle.icu_locale.proofs.Values.{refused_first, refused_second}
 use Rattle.icu_locale.proofs.canonicalizer.values.later_values.Goals as goal

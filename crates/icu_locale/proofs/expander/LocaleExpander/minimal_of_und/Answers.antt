@@ -1,5 +1,5 @@
 use Rattle.std.proofs.Common.{sym, ◌∙◌}
-use Rattle.icu_locale.specs.inner.Trials.{locale_with}
+use Rattle.icu_locale.specs.Locales.{locale_with}
 use Rattle.icu_locale.proofs.Rows.{moved}
 use Rattle.icu_locale.proofs.expander.LocaleExpander.minimal_of_und.Goals as goal
 

@@ -1,6 +1,6 @@
 use Rattle.icu_locale.specs.Kinds.{next_of}
 use Rattle.icu_locale.proofs.Canonicals.{end_or_repeat}
-use Rattle.icu_locale.proofs.Runs.{ends_with_no_repeat, end_is_unique, end_is_kept, repeat_is_unique}
+use Rattle.icu_locale_runs.specs.laws.Runs.{ends_with_no_repeat, end_is_unique, end_is_kept, repeat_is_unique}
 use Rattle.icu_locale.proofs.laws.canonicalization.runs_end_or_repeat.Goals as goal
 
 pub returns : goal.returns

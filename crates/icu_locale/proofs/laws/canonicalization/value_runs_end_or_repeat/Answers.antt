@@ -1,5 +1,5 @@
 use Rattle.icu_locale.specs.Canonical.{next_value}
-use Rattle.icu_locale.proofs.Runs.{ends_with_no_repeat, end_is_unique, end_is_kept, repeat_is_unique}
+use Rattle.icu_locale_runs.specs.laws.Runs.{ends_with_no_repeat, end_is_unique, end_is_kept, repeat_is_unique}
 use Rattle.icu_locale.proofs.Values.{value_end_or_repeat}
 use Rattle.icu_locale.proofs.laws.canonicalization.value_runs_end_or_repeat.Goals as goal
 

@@ -3,7 +3,7 @@ use Rattle.std.proofs.lemmas.Result.{err_from_is_err_and}
 use Rattle.icu_locale.specs.LikelyTable.{likely}
 use Rattle.icu_locale.specs.RuleSet.{lent}
 use Rattle.icu_locale.specs.Kinds.{next}
-use Rattle.icu_locale.specs.Run.{IsLaterEnd}
+use Rattle.icu_locale_runs.specs.Run.{IsLaterEnd}
 use Rattle.icu_locale.specs.inner.CanonicalParts.{rewritten}
 use Rattle.icu_locale.specs.declared.expander.TransformResult.TheVariants.{Modified, Unmodified}
 use Rattle.icu_locale.proofs.Alone.{nothing_next, canonicalized, refused, same_answer, changed_answer}

@@ -1,13 +1,13 @@
 -- Ends and repeats: a run has one end or one first repeat, and not both.
-use Rattle.std.proofs.Common.{◌≡◌, ℕ, zero, suc, ◌+◌, ◌-◌, ◌*◌, ◌<◌, ◌≤◌, inl, inr, Option, Some, None, option_and_then, unwrap_or, sym, ap, ◌∙◌}
+use Rattle.std.proofs.Common.{◌≡◌, ◌≢◌, ◌⊎◌, List, ℕ, zero, suc, ◌+◌, ◌-◌, ◌*◌, ◌<◌, ◌≤◌, inl, inr, Option, Some, None, option_and_then, unwrap_or, sym, ap, ◌∙◌}
 use Rattle.std.proofs.Common.{arith, add-zero, add-suc}
 use Rattle.std.proofs.Math.Nat.{mul-le-mul_right}
 use Rattle.std.proofs.lemmas.Bool.{cases_lt, cases_order}
 use Rattle.std.proofs.lemmas.Option.{none-some, same_Some}
-use Rattle.icu_locale.specs.Run.{at, EndsAt, ComesAgain, IsRepeat, HasOneEnd, HasOneRepeat, KeepsEnd, EndsOrRepeats, EndsWithNoRepeat}
-use Rattle.icu_locale.specs.inner.Walk.{IsFullFront}
-use Rattle.icu_locale.proofs.RunPlaces.{none_after, around_from, in_cycle}
-use Rattle.icu_locale.proofs.Counts.{some_value, count_positive}
+use Rattle.icu_locale_runs.specs.Run.{at, EndsAt, ComesAgain, IsRepeat, HasOneEnd, HasOneRepeat, KeepsEnd, EndsOrRepeats, EndsWithNoRepeat, IsUniverse}
+use Rattle.icu_locale_runs.specs.inner.Walk.{IsFullFront}
+use Rattle.icu_locale_runs.specs.laws.Places.{none_after, around_from, in_cycle}
+use Rattle.icu_locale_runs.specs.laws.Counts.{some_value, count_positive, has_count}
 
 module _ {X : Type 0} (next : X → Option X) (start : X) where
   -- past the place of an end nothing stands
@@ -116,3 +116,9 @@ module _ {X : Type 0} (next : X → Option X) (start : X) where
             let here = some_value (at next start i) start (is.front.goes i below) in
             inr (z, IsRepeat-from_pairs i z here (i, n, below, here, sym closes ∙ here) (least_pair n i is below closes))
       ]
+
+  -- so does a run that stays in a universe
+  pub EndsOrRepeats-universe : (same : (y z : X) → (y ≡ z) ⊎ (y ≢ z)) (states : List X) → IsUniverse next start states → EndsOrRepeats next start
+  EndsOrRepeats-universe same states universe =
+      let counted = has_count next start same states universe in
+      EndsOrRepeats-from_count counted.0 counted.2

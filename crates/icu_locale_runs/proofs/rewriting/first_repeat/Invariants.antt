@@ -1,6 +1,6 @@
 use Rattle.std.proofs.Common.{◌-◌, ◌*◌, length}
-use Rattle.icu_locale.proofs.Walks.{HasFollowed}
-use Rattle.icu_locale.proofs.rewriting.first_repeat.Given as goal
+use Rattle.icu_locale_runs.proofs.Walks.{HasFollowed}
+use Rattle.icu_locale_runs.proofs.rewriting.first_repeat.Given as goal
 
 abbrev pub invariant-walkers : goal.invariant-walkers
 invariant-walkers g l =

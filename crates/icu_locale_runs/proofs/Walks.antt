@@ -4,10 +4,10 @@ use Rattle.std.proofs.Common.{refl, sym, ap, ◌∙◌, subst, zero-add, arith}
 use Rattle.std.specs.Cmp.{IsEquivalence}
 use Rattle.std.proofs.lemmas.Bool.{cases_eq, cases_lt, false≢true, not-true, not-false}
 use Rattle.std.proofs.lemmas.Option.{none-some, same_Some}
-use Rattle.icu_locale.specs.Run.{at, StandsIn, IsRepeat}
-use Rattle.icu_locale.specs.inner.Walk.{IsFullFront, IsMeeting}
-use Rattle.icu_locale.proofs.RunPlaces.{none_after, meets_before, meets_again, never_none}
-use Rattle.icu_locale.proofs.Runs.{IsRepeat-from_pairs}
+use Rattle.icu_locale_runs.specs.Run.{at, StandsIn, IsRepeat}
+use Rattle.icu_locale_runs.specs.inner.Walk.{IsFullFront, IsMeeting}
+use Rattle.icu_locale_runs.specs.laws.Places.{none_after, meets_before, meets_again, never_none}
+use Rattle.icu_locale_runs.specs.laws.Runs.{IsRepeat-from_pairs}
 
 -- one walker is at some place and the other twice as far, and they have met at no place before
 pub record HasWalked {X : Type 0} (next : X → Option X) (start slow fast : X) (before after : ℕ) : Type 0 where

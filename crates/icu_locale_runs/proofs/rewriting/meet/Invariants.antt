@@ -1,6 +1,6 @@
 use Rattle.std.proofs.Common.{◌-◌, ◌*◌, length}
-use Rattle.icu_locale.proofs.Walks.{HasWalked}
-use Rattle.icu_locale.proofs.rewriting.meet.Given as goal
+use Rattle.icu_locale_runs.proofs.Walks.{HasWalked}
+use Rattle.icu_locale_runs.proofs.rewriting.meet.Given as goal
 
 abbrev pub invariant-walkers : goal.invariant-walkers
 invariant-walkers g l =

@@ -1,9 +1,8 @@
-//! Runs of replacements, of which UTS #35 Part 1, Annex C "LocaleId Canonicalization", has one for each identifier.
-//! Two walkers go along a run, one twice as fast as the other, so no list of states is kept. A count of searches for a
-//! rule, which only contracts see, stands here too.
+//! The walk along a run: two walkers go, one twice as fast as the other, so no list of states is kept. A count of
+//! searches, which only contracts see, stands here too.
 ghost use Rattle.std.specs.Prelude.{◌≡◌, ◌+◌, ℕ, ◌<◌, ◌≤◌, ◌*◌, List, Option, Some, true, IfOk, IfErr, IsOk, OnOk, IsSome};
-ghost use Rattle.icu_locale.specs.inner.Walk.{strokes, IsFullFront, IsMeeting, IsWalk, IsOutcome, IsUniverse};
-ghost use Rattle.icu_locale.specs.Run.{StandsIn, HasDistinct, IsRepeat};
+ghost use Rattle.icu_locale_runs.specs.inner.Walk.{strokes, IsFullFront, IsMeeting, IsWalk};
+ghost use Rattle.icu_locale_runs.specs.Run.{StandsIn, HasDistinct, IsRepeat, IsOutcome, IsUniverse};
 
 use std::marker::Model;
 use std::snapshot::Snapshot;
@@ -43,8 +42,8 @@ impl Turns {
         }
     }
 
-    /// One search more. `search` in `canonicalizer/identifiers.rt` takes it, and nothing else does.
-    pub(crate) fn take(&mut self)
+    /// One search more. `Rewriting::search` takes it, once a call.
+    pub fn take(&mut self)
         ensures { self.new ≡ self.old + 1 }
     {
         let below = mem::replace(&mut self.tally, Snapshot::of(&Tally::None));

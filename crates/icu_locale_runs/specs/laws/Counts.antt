@@ -8,8 +8,8 @@ use Rattle.std.proofs.lemmas.List.{get_or_default}
 use Rattle.std.proofs.lemmas.List.Edits.{length-remove, get_or-remove_below, get_or-remove_above}
 use Rattle.std.proofs.lemmas.List.FromFn.{length-map-range_with_len, get_or-map-range_with_len}
 use Rattle.std.proofs.lemmas.Option.{none-some, same_Some, option_and_then_some}
-use Rattle.icu_locale.specs.Run.{at, HasDistinct}
-use Rattle.icu_locale.specs.inner.Walk.{IsFront, IsFullFront, IsUniverse}
+use Rattle.icu_locale_runs.specs.Run.{at, HasDistinct, IsUniverse}
+use Rattle.icu_locale_runs.specs.inner.Walk.{IsFront, IsFullFront}
 
 -- a state that stands in a list at one place, and differs from what stands at another, is there without that other
 Contains-remove : {X : Type 0} (xs : List X) (k : ℕ) (x y : X) → k < length xs → get_or xs k x ≡ x → Contains xs y → y ≢ x → Contains (remove xs k) y
@@ -46,7 +46,7 @@ decide_option same (Some y) (Some z) =
     elim (same y z) [ inl e ↦ inl (ap Some e) | inr differ ↦ inr (λ e. differ (same_Some y z e)) ]
 
 -- an exact test decides whether two states are the same
-decided : {X : Type 0} (eq : X → X → Bool) → IsEquivalence eq → ((y z : X) → eq y z ≡ true → y ≡ z) → (y z : X) → (y ≡ z) ⊎ (y ≢ z)
+pub decided : {X : Type 0} (eq : X → X → Bool) → IsEquivalence eq → ((y z : X) → eq y z ≡ true → y ≡ z) → (y z : X) → (y ≡ z) ⊎ (y ≢ z)
 decided eq laws exact y z =
     elim (cases_Bool (eq y z)) [
       | inl equal ↦ inl (exact y z equal)
@@ -172,3 +172,10 @@ module _ {X : Type 0} (next : X → Option X) (start : X) where
         },
         long,
       )
+
+  -- a run that stays in a universe has so many different states, no more than the universe
+  pub HasDistinct-universe : (same : (y z : X) → (y ≡ z) ⊎ (y ≢ z)) (states : List X) → IsUniverse next start states
+      → (n : ℕ) × (n ≤ length states) × HasDistinct next start n
+  HasDistinct-universe same states universe =
+      let counted = has_count same states universe in
+      (counted.0, counted.1, HasDistinct-from_count counted.0 counted.2)

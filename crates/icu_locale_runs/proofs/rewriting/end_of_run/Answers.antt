@@ -1,7 +1,7 @@
 use Rattle.std.proofs.Common.{◌+◌, ◌≤◌, arith}
 use Rattle.std.proofs.lemmas.Result.{IfOk-from_err}
-use Rattle.icu_locale.proofs.Counts.{count_of_run, HasDistinct-from_count}
-use Rattle.icu_locale.proofs.rewriting.end_of_run.Goals as goal
+use Rattle.icu_locale_runs.specs.laws.Counts.{count_of_run, HasDistinct-from_count}
+use Rattle.icu_locale_runs.proofs.rewriting.end_of_run.Goals as goal
 
 pub returns-in_err-meet-clause-count : goal.returns-in_err-meet-clause-count
 returns-in_err-meet-clause-count g c =

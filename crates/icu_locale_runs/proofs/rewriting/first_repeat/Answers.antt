@@ -1,8 +1,8 @@
 use Rattle.std.proofs.Common.{sym, ◌∙◌, arith}
-use Rattle.icu_locale.proofs.Counts.{count_of_run}
-use Rattle.icu_locale.proofs.Walks.{differ_from_eq, differ_from_test, same_from_test, HasFollowed-start, followed_most, near_goes, far_goes}
-use Rattle.icu_locale.proofs.Walks.{followed_on, IsRepeat-from_walk, IsRepeat-at_start}
-use Rattle.icu_locale.proofs.rewriting.first_repeat.Goals as goal
+use Rattle.icu_locale_runs.specs.laws.Counts.{count_of_run}
+use Rattle.icu_locale_runs.proofs.Walks.{differ_from_eq, differ_from_test, same_from_test, HasFollowed-start, followed_most, near_goes, far_goes}
+use Rattle.icu_locale_runs.proofs.Walks.{followed_on, IsRepeat-from_walk, IsRepeat-at_start}
+use Rattle.icu_locale_runs.proofs.rewriting.first_repeat.Goals as goal
 
 pub returns-then-eq-clause-first : goal.returns-then-eq-clause-first
 returns-then-eq-clause-first g c =

@@ -3,8 +3,8 @@ use Rattle.std.proofs.Common.{◌≡◌, zero, suc, ℕ, Option, Some, None, opt
 use Rattle.std.specs.Option.{IsSome, IsSomeAnd, option_or}
 use Rattle.std.proofs.lemmas.Bool.{false≢true}
 use Rattle.std.proofs.lemmas.Option.{none-some, same_Some}
-use Rattle.icu_locale.specs.Run.{at, StandsIn, EndsAt, IsLaterEnd, IsLaterEndOf, EndsIfAny, BecomesEnd, IsRepeat, AllBehind}
-use Rattle.icu_locale.proofs.Runs.{ends_with_no_repeat, repeat_is_unique}
+use Rattle.icu_locale_runs.specs.Run.{at, StandsIn, EndsAt, IsLaterEnd, IsLaterEndOf, EndsIfAny, BecomesEnd, IsRepeat, AllBehind}
+use Rattle.icu_locale_runs.specs.laws.Runs.{ends_with_no_repeat, repeat_is_unique}
 
 module _ {X : Type 0} (next : X → Option X) where
   -- ---- where nothing follows the start

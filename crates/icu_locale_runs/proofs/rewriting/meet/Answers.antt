@@ -1,9 +1,9 @@
 use Rattle.std.proofs.Common.{None, sym, ◌∙◌, arith}
 use Rattle.std.proofs.lemmas.Bool.{false≢true}
-use Rattle.icu_locale.proofs.Counts.{count_of_run}
-use Rattle.icu_locale.proofs.Walks.{IsSome-from_some, differ_from_test, same_from_test, met_least, IsMeeting-from_walk, follows_at, count_by_end}
-use Rattle.icu_locale.proofs.Walks.{walked_most, walked_more, slow_goes, walked_on, stops_least, middle_stands, middle_least}
-use Rattle.icu_locale.proofs.rewriting.meet.Goals as goal
+use Rattle.icu_locale_runs.specs.laws.Counts.{count_of_run}
+use Rattle.icu_locale_runs.proofs.Walks.{IsSome-from_some, differ_from_test, same_from_test, met_least, IsMeeting-from_walk, follows_at, count_by_end}
+use Rattle.icu_locale_runs.proofs.Walks.{walked_most, walked_more, slow_goes, walked_on, stops_least, middle_stands, middle_least}
+use Rattle.icu_locale_runs.proofs.rewriting.meet.Goals as goal
 
 pub returns-in_default-clause-least : goal.returns-in_default-clause-least
 returns-in_default-clause-least g c =

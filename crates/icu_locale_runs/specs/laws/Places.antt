@@ -1,7 +1,7 @@
 -- Places of a run that hold the same state.
 use Rattle.std.proofs.Common.{◌≡◌, ℕ, zero, suc, ◌+◌, ◌-◌, ◌*◌, ◌/◌, ◌%◌, ◌<◌, ◌≤◌, Option, Some, None, option_and_then, sym, ap, ◌∙◌, arith, add-zero, add-suc}
 use Rattle.std.proofs.Math.Nat.{mul-le-mul_right}
-use Rattle.icu_locale.specs.Run.{at}
+use Rattle.icu_locale_runs.specs.Run.{at}
 
 -- a number that is at least another is that and some more
 pub at_same_number : {X : Type 0} (next : X → Option X) (start : X) (i j : ℕ) → i ≡ j → at next start i ≡ at next start j

@@ -1,7 +1,10 @@
--- A run is a start and whatever follows it, one state after another, until nothing follows. UTS #35 Part 1,
--- Annex C "LocaleId Canonicalization", has such runs: there a state is an identifier, and `next` one replacement.
+-- A run is a start and whatever follows it, one state after another, until nothing follows. UTS #35 Part 1 has such runs:
+-- in Annex C "LocaleId Canonicalization" a state is an identifier and `next` one replacement; in section 4.2 "Inheritance
+-- and Validity" a state is a locale and `next` its parent.
 use Rattle.std.specs.Prelude.{◌≡◌, ◌≢◌, ℕ, zero, suc, ◌<◌, ◌⊎◌, List, length, Option, Some, None, option_and_then, IsSome, IfSome, IsSomeAnd}
 use Rattle.std.specs.List.{AllPairs, Contains}
+use Rattle.icu_locale_runs.specs.declared.rewriting.Outcome.{Outcome}
+use Rattle.icu_locale_runs.specs.declared.rewriting.Outcome.TheVariants.{Same, Ends, Repeats}
 
 -- the state at a place of the run, where the start has place 0; none past the end
 abbrev pub at : {X : Type 0} → (X → Option X) → X → ℕ → Option X
@@ -89,3 +92,15 @@ KeepsEnd {X} next start =
 -- a run that ends has no state twice
 abbrev pub EndsWithNoRepeat : {X : Type 0} → (X → Option X) → X → Type 0
 EndsWithNoRepeat {X} next start = (y z : X) → EndsAt next start y → ¬ ComesAgain next start z
+
+-- the answer tells the truth of the run: nothing follows the start, or where it ends, or its first repeat
+abbrev pub IsOutcome : {X : Type 0} → (X → Option X) → X → Outcome X → Type 0
+IsOutcome next start Same = next start ≡ None
+IsOutcome next start (Ends y) = EndsLater next start y
+IsOutcome next start (Repeats z) = IsRepeat next start z
+
+-- the list has the start, and with each state the one that follows it
+pub record IsUniverse {X : Type 0} (next : X → Option X) (start : X)
+    (states : List X) : Type 0 where
+  pub has_start : Contains states start
+  pub leads : (y z : X) → Contains states y → next y ≡ Some z → Contains states z
