@@ -301,7 +301,7 @@ module _ (text : List ℕ) (value : Data) (rows : FileRows) (is_file : IsFile te
   rise = rise-read text value (only_said (is_utf8 text) (read text) value is_file.value_is)
 
   whole_file : file value ≡ Some rows
-  whole_file = of_shape (file value) rows (sym (ap or_json is_file.value_is) ∙ is_file.rows_are)
+  whole_file = of_shape (file value) rows (sym (ap (or_json file) is_file.value_is) ∙ is_file.rows_are)
 
   -- the members of the file
   abbrev made_of_members : Option LikelySubtagsForLanguage → Option LikelySubtagsForScriptRegion → Option LikelySubtagsExtended

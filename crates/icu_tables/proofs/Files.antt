@@ -58,7 +58,7 @@ pub map-same : {T : Type 0} (xs : List T) → map (λ x. x) xs ≡ xs
 map-same [] = refl
 map-same (x ∷ xs) = ap (λ more. x ∷ more) (map-same xs)
 
-lists_seen-same : {K V : Type 0} (rows : List (K × Vec V Global)) → seen_rows (λ list. map (λ v. v) list.items) rows ≡ seen_rows (λ list. list.items) rows
+pub lists_seen-same : {K V : Type 0} (rows : List (K × Vec V Global)) → seen_rows (λ list. map (λ v. v) list.items) rows ≡ seen_rows (λ list. list.items) rows
 lists_seen-same [] = refl
 lists_seen-same (row ∷ rows) = λ i. (row.0, map-same row.1.items i) ∷ lists_seen-same rows i
 
@@ -77,7 +77,7 @@ alias_seen-same table = λ i. record {
   subdivision = seen_rows string_bytes table.subdivision;
 }
 
-option_map-seen : {T A : Type 0} (f g : T → A) → ((x : T) → f x ≡ g x) → (o : Option T) → option_map f o ≡ option_map g o
+pub option_map-seen : {T A : Type 0} (f g : T → A) → ((x : T) → f x ≡ g x) → (o : Option T) → option_map f o ≡ option_map g o
 option_map-seen f g same None = refl
 option_map-seen f g same (Some x) = ap (λ y. Some y) (same x)
 
@@ -101,5 +101,5 @@ file_seen-is tables = λ i. record {
 -- what was read of the value of a text are the rows of the text
 pub rows_from_reads : (text : List ℕ) (value : Data) (result : Result Tables TableError) → json_of text ≡ Some value
     → Reads file_seen result (file value) → IfOk result (λ tables. rows_in text ≡ Ok (rows_of tables))
-rows_from_reads text value (Ok tables) is reads = ap or_json is ∙ ap or_shape reads ∙ ap (λ rows. Ok rows) (file_seen-is tables)
+rows_from_reads text value (Ok tables) is reads = ap (or_json file) is ∙ ap or_shape reads ∙ ap (λ rows. Ok rows) (file_seen-is tables)
 rows_from_reads text value (Err e) is reads = tt

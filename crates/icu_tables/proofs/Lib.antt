@@ -11,3 +11,4 @@ mod Members
 mod NameGroups
 mod Once
 mod Puts
+mod Supplements

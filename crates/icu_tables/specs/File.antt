@@ -135,15 +135,15 @@ abbrev pub json_of : List ℕ → Option Data
 json_of text = if is_utf8 text then read text else None
 
 -- `Shape` where there are no rows
-abbrev pub or_shape : Option FileRows → Result FileRows TableError
+abbrev pub or_shape : {A : Type 0} → Option A → Result A TableError
 or_shape None = Err refusal.Shape
 or_shape (Some rows) = Ok rows
 
--- the rows of a value, and `Json` where there is none
-abbrev pub or_json : Option Data → Result FileRows TableError
-or_json None = Err refusal.Json
-or_json (Some value) = or_shape (file value)
+-- the rows of a value of a shape, and `Json` where there is no value
+abbrev pub or_json : {A : Type 0} → Shape A → Option Data → Result A TableError
+or_json shape None = Err refusal.Json
+or_json shape (Some value) = or_shape (shape value)
 
 -- the rows in a text, or why there are none
 abbrev pub rows_in : List ℕ → Result FileRows TableError
-rows_in text = or_json (json_of text)
+rows_in text = or_json file (json_of text)

@@ -8,5 +8,6 @@ pub mod Puts
 pub mod Rows
 pub mod Shape
 pub mod Subtags
+pub mod Supplement
 pub mod Tables
 pub mod inner

@@ -1,4 +1,5 @@
 -- What only private functions cite.
+pub mod Further
 pub mod KeyLaws
 pub mod Members
 pub mod Once

@@ -14,11 +14,12 @@ mod keys;
 mod likely;
 mod locales;
 mod marked;
+mod matching;
 mod members;
 mod names;
 mod objects;
 mod subtags;
-mod values;
+pub(crate) mod values;
 
 use crate::file::exemplars::MarkedExemplars;
 use crate::file::locales::Locales;
@@ -56,7 +57,7 @@ impl Tables {
 }
 
 // The JSON value that a text is.
-fn parse(alloc: Global, text: &[u8]) -> Result<Value, TableError>
+pub(crate) fn parse(alloc: Global, text: &[u8]) -> Result<Value, TableError>
     ensures value { IfOk result (λ value. json_of text.now ≡ Some (view value)) }
     ensures none { IfErr result (λ e. e ≢ TableError.Memory → json_of text.now ≡ None) }
     ensures refused { IfErr result (λ e. e ≢ TableError.Memory → e ≡ TableError.Json) }

@@ -8,10 +8,12 @@ pub mod laws;
 mod locale_names;
 mod locale_tables;
 mod name_rows;
+mod supplement;
 mod tables;
 
 pub use error::TableError;
 pub use locale_names::LocaleNames;
 pub use locale_tables::LocaleTables;
 pub use name_rows::NameRows;
+pub use supplement::Supplement;
 pub use tables::Tables;

@@ -120,7 +120,7 @@ fn fill_by<K: Ord + Drop, V: Drop, P: PutsRows<K, V>>(
 }
 
 // The rows of a map in one list.
-fn in_one_list<K: Ord + Drop, V: Drop>(
+pub(crate) fn in_one_list<K: Ord + Drop, V: Drop>(
     alloc: Global,
     map: BTreeMap<K, V>,
 ) -> Result<SortedMap<K, V>, AllocError>

@@ -1,0 +1,42 @@
+-- What a supplement holds of what was read.
+use Rattle.std.proofs.Common.{◌≡◌, ℕ, List, Some, Result, Ok, Err, IfOk, ap, ◌∙◌}
+use Rattle.serde_json.specs.Data.{Data}
+use Rattle.icu_provider.specs.declared.matching.LanguageMatching.{LanguageMatching}
+use Rattle.icu_provider.specs.declared.matching.MatchRules.{MatchRules}
+use Rattle.icu_tables.specs.File.{json_of, or_json, or_shape}
+use Rattle.icu_tables.specs.Rows.{seen_rows}
+use Rattle.icu_tables.specs.Supplement.{rule_rows, matching_rows, rows_of, rows_in, supplement}
+use Rattle.icu_tables.specs.declared.error.TableError.{TableError}
+use Rattle.icu_tables.specs.declared.supplement.Supplement.{Supplement}
+use Rattle.icu_tables.specs.inner.Further.{rules_seen, matching_seen, supplement_seen}
+use Rattle.icu_tables.specs.inner.Reads.{Reads}
+use Rattle.icu_tables.proofs.Files.{map-same, lists_seen-same, option_map-seen}
+use Rattle.icu_tables.proofs.Members.{seen_rows-same}
+
+rules_seen-is : (rules : MatchRules) → rules_seen rules ≡ rule_rows rules
+rules_seen-is rules = λ i. record {
+  language = map-same rules.language.items i;
+  script = map-same rules.script.items i;
+  region = map-same rules.region.items i;
+}
+
+matching_seen-is : (table : LanguageMatching) → matching_seen table ≡ matching_rows table
+matching_seen-is table = λ i. record {
+  others = (table.other_language, table.other_script, table.other_region);
+  macros = lists_seen-same table.macros i;
+  paradigms = map-same table.paradigms.items i;
+  rules = seen_rows (λ rules. rules_seen-is rules i) table.rules;
+}
+
+-- a supplement is seen as the rows that it holds
+supplement_seen-is : (s : Supplement) → supplement_seen s ≡ rows_of s
+supplement_seen-is s = λ i. record {
+  parents = seen_rows-same s.parents i;
+  matching = option_map-seen matching_seen matching_rows matching_seen-is s.matching i;
+}
+
+-- what was read of the value of a text are the rows of the text
+pub rows_from_reads : (text : List ℕ) (value : Data) (result : Result Supplement TableError) → json_of text ≡ Some value
+    → Reads supplement_seen result (supplement value) → IfOk result (λ s. rows_in text ≡ Ok (rows_of s))
+rows_from_reads text value (Ok s) is reads = ap (or_json supplement) is ∙ ap or_shape reads ∙ ap (λ rows. Ok rows) (supplement_seen-is s)
+rows_from_reads text value (Err e) is reads = tt

@@ -1,0 +1,36 @@
+-- The rows of a supplement as they were read, one by one: what only the readers' own functions cite.
+use Rattle.std.specs.Prelude.{map, option_map}
+use Rattle.icu_provider.specs.declared.matching.LanguageMatching.{LanguageMatching}
+use Rattle.icu_provider.specs.declared.matching.MatchRules.{MatchRules}
+use Rattle.icu_tables.specs.Rows.{seen_rows}
+use Rattle.icu_tables.specs.Supplement.{RuleRows, MatchingRows, SupplementRows, PatternRows}
+use Rattle.icu_tables.specs.declared.file.matching.PatternParts.{PatternParts}
+use Rattle.icu_tables.specs.declared.supplement.Supplement.{Supplement}
+
+abbrev pub pattern_seen : PatternParts → PatternRows
+pattern_seen parts = record {
+  script = option_map (λ v. v) parts.script;
+  inside = option_map (λ v. v) parts.inside;
+  outside = option_map (λ v. v) parts.outside;
+}
+
+abbrev pub rules_seen : MatchRules → RuleRows
+rules_seen rules = record {
+  language = map (λ v. v) rules.language.items;
+  script = map (λ v. v) rules.script.items;
+  region = map (λ v. v) rules.region.items;
+}
+
+abbrev pub matching_seen : LanguageMatching → MatchingRows
+matching_seen table = record {
+  others = (table.other_language, table.other_script, table.other_region);
+  macros = seen_rows (λ regions. map (λ v. v) regions.items) table.macros;
+  paradigms = map (λ v. v) table.paradigms.items;
+  rules = seen_rows rules_seen table.rules;
+}
+
+abbrev pub supplement_seen : Supplement → SupplementRows
+supplement_seen supplement = record {
+  parents = seen_rows (λ v. v) supplement.parents;
+  matching = option_map matching_seen supplement.matching;
+}
