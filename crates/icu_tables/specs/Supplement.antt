@@ -21,6 +21,10 @@ use Rattle.icu_tables.specs.declared.error.TableError.{TableError}
 use Rattle.icu_tables.specs.declared.supplement.Supplement.{Supplement}
 use Rattle.serde_json.specs.Find.{as_number, as_u64}
 
+-- a supplement that holds nothing
+abbrev pub no_supplement : Supplement
+no_supplement = record { parents = []; matching = None }
+
 -- the match rules for a desired language, by level
 pub record RuleRows : Type 0 where
   pub language : List MatchRule

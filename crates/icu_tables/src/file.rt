@@ -3,6 +3,7 @@ ghost use Rattle.std.specs.Prelude.{◌≡◌, ◌≢◌, Some, None, Ok, Err, I
 ghost use Rattle.icu_tables.specs.inner.Reads.{file_seen};
 ghost use Rattle.icu_tables.specs.Rows.{rows_of};
 ghost use Rattle.icu_tables.specs.File.{json_of, rows_in};
+ghost use Rattle.icu_tables.specs.Supplement.{no_supplement};
 ghost use Rattle.serde_json.specs.View.{view};
 
 mod aliases;
@@ -27,7 +28,7 @@ use crate::file::marked::Marked;
 use crate::file::members::RowByRow;
 use crate::file::objects::{MemberReader, only_members};
 use crate::file::values::FromValue;
-use crate::{TableError, Tables};
+use crate::{Supplement, TableError, Tables};
 use serde_json::Value;
 use std::alloc::Global;
 
@@ -48,12 +49,24 @@ impl Tables {
     /// answer.
     pub fn from_json(alloc: Global, text: &[u8]) -> Result<Tables, TableError>
         ensures rows { IfOk result (λ tables. rows_in text.now ≡ Ok (rows_of tables)) }
+        ensures alone { IfOk result (λ tables. tables.supplement ≡ no_supplement) }
         ensures refused { IfErr result (λ e. e ≢ TableError.Memory
             → rows_in text.now ≡ Err e) }
     {
         let value = parse(alloc, text)?;
-        Tables::from_value(alloc, &value)
+        match Tables::from_value(alloc, &value) {
+            Ok(tables) => Ok(alone(alloc, tables)),
+            Err(refusal) => Err(refusal),
+        }
     }
+}
+
+// The tables without a supplement.
+fn alone(alloc: Global, mut tables: Tables) -> Tables
+    ensures { result ≡ record tables { supplement = no_supplement } }
+{
+    tables.supplement = Supplement::new(alloc);
+    tables
 }
 
 // The JSON value that a text is.

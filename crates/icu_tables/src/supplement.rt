@@ -1,6 +1,6 @@
 //! Supplements: tables that came later than those of a file of tables.
-ghost use Rattle.std.specs.Prelude.{◌≡◌, ◌≢◌, [], None, Ok, Err, IfOk, IfErr};
-ghost use Rattle.icu_tables.specs.Supplement.{rows_in, rows_of};
+ghost use Rattle.std.specs.Prelude.{◌≡◌, ◌≢◌, Ok, Err, IfOk, IfErr};
+ghost use Rattle.icu_tables.specs.Supplement.{no_supplement, rows_in, rows_of};
 
 use crate::TableError;
 use crate::file::parse;
@@ -29,7 +29,7 @@ impl Drop for Supplement {
 impl Supplement {
     /// A supplement that holds nothing. It takes no memory.
     pub fn new(alloc: Global) -> Self
-        ensures { result ≡ record { parents = []; matching = None } }
+        ensures { result ≡ no_supplement }
     {
         Supplement {
             parents: SortedMap::new(alloc),

@@ -3,10 +3,11 @@ ghost use Rattle.std.specs.Prelude.{◌≡◌, [], Some, None, option_copied};
 ghost use Rattle.icu_locale_core.specs.Maps.{value_at};
 ghost use Rattle.icu_provider.specs.SortedMaps.{Inserts, IsSortedMap};
 ghost use Rattle.icu_provider.specs.Requests.{exemplar_cmp, locale_cmp, menu_cmp, name_cmp};
+ghost use Rattle.icu_tables.specs.Supplement.{no_supplement};
 ghost use Rattle.icu_tables.specs.Tables.{held, name_in};
 
-use crate::NameRows;
 use crate::kinds::is_of_kind;
+use crate::{NameRows, Supplement};
 use icu_locale_core::Language;
 use icu_provider::{
     Aliases, DataError, DataErrorKind, DataLocale, DataProvider, ExemplarCharactersData,
@@ -38,6 +39,8 @@ pub struct Tables {
     pub menus: SortedMap<(MenuMarker, DataLocale, Language), MenuNameParts>,
     /// How the parts of names are put together, by locale.
     pub essentials: SortedMap<DataLocale, LocaleNamesEssentials>,
+    /// What stands beside the tables: parents, and rules of language matching. A JSON text of tables has none of it.
+    pub supplement: Supplement,
 }
 
 impl Drop for Tables {
@@ -52,6 +55,7 @@ impl Drop for Tables {
             names: _,
             menus: _,
             essentials: _,
+            supplement: _,
         } = self;
     }
 }
@@ -69,6 +73,7 @@ impl Tables {
           names = [];
           menus = [];
           essentials = [];
+          supplement = no_supplement;
         } }
     {
         Tables {
@@ -81,6 +86,7 @@ impl Tables {
             names: NameRows::new(alloc),
             menus: SortedMap::new(alloc),
             essentials: SortedMap::new(alloc),
+            supplement: Supplement::new(alloc),
         }
     }
 
@@ -117,6 +123,13 @@ impl Tables {
         ensures { self.new ≡ record self.old { script_direction = Some table } }
     {
         self.script_direction = Some(table);
+    }
+
+    /// Takes a supplement, in place of what was held.
+    pub fn set_supplement(&mut self, supplement: Supplement)
+        ensures { self.new ≡ record self.old { supplement = supplement } }
+    {
+        self.supplement = supplement;
     }
 
     /// Sets the exemplar characters of a marker and a locale. A set that is there gives way.
