@@ -1,5 +1,5 @@
 -- Ends and repeats: a run has one end or one first repeat, and not both.
-use Rattle.std.proofs.Common.{◌≡◌, ◌≢◌, ◌⊎◌, List, ℕ, zero, suc, ◌+◌, ◌-◌, ◌*◌, ◌<◌, ◌≤◌, inl, inr, Option, Some, None, option_and_then, unwrap_or, sym, ap, ◌∙◌}
+use Rattle.std.proofs.Common.{◌≡◌, ◌≢◌, ◌⊎◌, List, length, ℕ, zero, suc, ◌+◌, ◌-◌, ◌*◌, ◌<◌, ◌≤◌, inl, inr, Option, Some, None, option_and_then, unwrap_or, sym, ap, ◌∙◌}
 use Rattle.std.proofs.Common.{arith, add-zero, add-suc}
 use Rattle.std.proofs.Math.Nat.{mul-le-mul_right}
 use Rattle.std.proofs.lemmas.Bool.{cases_lt, cases_order}
@@ -46,7 +46,7 @@ module _ {X : Type 0} (next : X → Option X) (start : X) where
       none-some z (sym none ∙ (sym round ∙ here))
 
   -- the run from a state on the way is the rest of the run
-  at_rest : (i : ℕ) (y : X) → at next start i ≡ Some y → (d : ℕ) → at next y d ≡ at next start (i + d)
+  pub at_rest : (i : ℕ) (y : X) → at next start i ≡ Some y → (d : ℕ) → at next y d ≡ at next start (i + d)
   at_rest i y here zero = sym here ∙ ap (at next start) (sym (add-zero i))
   at_rest i y here (suc d) =
       ap (option_and_then next) (at_rest i y here d) ∙ ap (at next start) (sym (add-suc i d))
@@ -122,3 +122,18 @@ module _ {X : Type 0} (next : X → Option X) (start : X) where
   EndsOrRepeats-universe same states universe =
       let counted = has_count next start same states universe in
       EndsOrRepeats-from_count counted.0 counted.2
+
+  -- a run that ends has fewer places than its universe has members
+  pub place_in_universe : (same : (y z : X) → (y ≡ z) ⊎ (y ≢ z)) (states : List X) → IsUniverse next start states
+      → (y z : X) → EndsAt next start y → (i : ℕ) → at next start i ≡ Some z → i < length states
+  place_in_universe same states universe y z ends i here =
+      let counted = has_count next start same states universe in
+      elim counted.2.closes [
+        | inl none ↦ elim (cases_lt i counted.0) [
+          | inl early ↦ omega (arith, early, counted.1)
+          | inr late ↦ absurd (none-some z (sym (none_after next start counted.0 i late none) ∙ here))
+        ]
+        | inr (k, before, again) ↦
+            let there = some_value (at next start k) start (counted.2.front.goes k before) in
+            absurd (ends_with_no_repeat y _ ends (k, counted.0, before, there, sym again ∙ there))
+      ]

@@ -1,0 +1,16 @@
+use Rattle.std.proofs.Common.{Some, subst}
+use Rattle.icu_locale_fallback.specs.Chains.{inheritance, IsCircle}
+use Rattle.icu_locale_fallback.proofs.Variants.{circle_at, memory_of}
+use Rattle.icu_locale_fallback.proofs.identifiers.IdentifierFallbackIterator.to_list.Goals as goal
+
+pub returns-in-Some-clause-refused : goal.returns-in-Some-clause-refused
+returns-in-Some-clause-refused c =
+    let by = inheritance c.args.self.now.fallbacker c.args.self.now.config.priority in
+    circle_at by c.args.self.now.current c.subtags_of-start.result (Some c.in-Some.first) c.subtags_of-start.ensures
+    (subst (IsCircle by c.subtags_of-start.result) c.in-Some.is c.first_repeat_from-repeat.ensures)
+
+pub returns-clause-refused : goal.returns-clause-refused
+returns-clause-refused c =
+    let by = inheritance c.args.self.now.fallbacker c.args.self.now.config.priority in
+    memory_of by c.args.self.now.current c.subtags_of-start.result c.list_all.result c.subtags_of-start.ensures
+    (subst (IsCircle by c.subtags_of-start.result) c.in_default.is c.first_repeat_from-repeat.ensures) c.list_all.ensures.refused

@@ -1,0 +1,4 @@
+pub mod Chains
+pub mod Fallback
+pub mod Identifiers
+pub mod inner
