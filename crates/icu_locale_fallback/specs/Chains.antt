@@ -1,5 +1,5 @@
 -- Chains of locales: what a fallbacker is, and what its calls answer.
-use Rattle.std.specs.Prelude.{◌≡◌, ℕ, ◌<◌, ◌≤◌, List, Option, Some, None}
+use Rattle.std.specs.Prelude.{◌≡◌, ℕ, ◌<◌, ◌≤◌, List, codes, Option, Some, None}
 use Rattle.std.specs.declared.cmp.Ordering.{Ordering}
 use Rattle.std.specs.Ordering.{ordering_then}
 use Rattle.std.specs.Option.{option_cmp}
@@ -18,13 +18,13 @@ use Rattle.icu_locale_fallback.specs.declared.fallbacker.LocaleFallbackPriority.
 use Rattle.icu_locale_fallback.specs.declared.fallbacker.LocaleFallbacker.{LocaleFallbacker}
 use Rattle.icu_locale_fallback.specs.declared.fallbacker.LocaleFallbackIterator.{LocaleFallbackIterator}
 
--- locales in the order of their languages, then scripts, then regions, an absent part first
+-- locales in the order of their languages, then scripts, then regions, an absent part first: that of a table's keys
 abbrev pub locale_cmp : DataLocale → DataLocale → Ordering
 locale_cmp x y =
     ordering_then (text_cmp x.language y.language)
     (ordering_then (option_cmp text_cmp x.script y.script) (option_cmp text_cmp x.region y.region))
 
--- the parents of a table's rows
+-- the parents of a table's rows (section 4.2, Parent Locales)
 abbrev pub parents_of : List (DataLocale × DataLocale) → Parents
 parents_of rows x = value_at locale_cmp rows x
 
@@ -77,6 +77,11 @@ HasNoParents by = (x : DataLocale) → by.parents x ≡ None
 -- the list has the locales of the chain, each at its place, and the chain ends where the list does
 abbrev pub IsChain : Inheritance → DataLocale → List DataLocale → Type 0
 IsChain by x locales = (i : ℕ) → slice_get locales i ≡ at (next by) x i
+
+-- the name of a refusal, as Display writes it
+abbrev pub fallback_error_name : FallbackError → List ℕ
+fallback_error_name Memory = codes "Memory"
+fallback_error_name (Circle z) = codes "Circle"
 
 -- why a chain has no list: memory was refused, or it has a first locale that comes again
 abbrev pub IsRefusal : Inheritance → DataLocale → FallbackError → Type 0

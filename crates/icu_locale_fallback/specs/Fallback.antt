@@ -10,7 +10,7 @@ use Rattle.icu_locale.specs.Locales.{locale_with, same_locale}
 use Rattle.icu_locale_fallback.specs.declared.fallbacker.LocaleFallbackPriority.{LocaleFallbackPriority}
 use Rattle.icu_locale_fallback.specs.declared.fallbacker.LocaleFallbackPriority.TheVariants.{Language, Script, Region}
 
--- explicit parents: a locale has at most one
+-- explicit parents: a locale has at most one (section 4.2, Parent Locales)
 abbrev pub Parents : Type 0
 Parents = DataLocale → Option DataLocale
 
@@ -20,17 +20,19 @@ pub record Inheritance : Type 0 where
   pub likely : LikelySubtags
   pub parents : Parents
 
--- the root, which every locale inherits from
+-- the root, which every locale inherits from (section 4.2, Inheritance and Validity)
 abbrev pub root : DataLocale
 root = locale_with und None None
 
--- the script that a locale is written in, as likely subtags tell: that of its maximal form
+-- the script that a locale is written in: that of its maximal form (section 4.3, Likely Subtags)
 abbrev pub script_of : LikelySubtags → DataLocale → Option (List ℕ)
 script_of likely x = (maximal_locale likely x).script
 
+-- the script away
 abbrev pub without_script : DataLocale → DataLocale
 without_script x = locale_with x.language None x.region
 
+-- the region away
 abbrev pub without_region : DataLocale → DataLocale
 without_region x = locale_with x.language x.script None
 
@@ -90,7 +92,7 @@ abbrev pub truncated_by_region : DataLocale → DataLocale
 truncated_by_region x =
     if bytes_eq x.language und && not (is_some x.script) then root else locale_with und None x.region
 
--- truncation by what a chain keeps longest
+-- truncation by what a chain keeps longest (section 4.2, Inheritance and Validity)
 abbrev pub truncated : LocaleFallbackPriority → LikelySubtags → DataLocale → DataLocale
 truncated Language likely x = truncated_by_language likely x
 truncated Script likely x = truncated_by_script likely x
@@ -106,7 +108,7 @@ counted Region parent = None
 abbrev pub explicit_parent : Inheritance → DataLocale → Option DataLocale
 explicit_parent by x = counted by.priority (by.parents x)
 
--- what follows a locale: nothing the root, else the explicit parent, else the truncation
+-- what follows a locale: nothing the root, else the explicit parent, else the truncation (section 4.2, Parent Locales)
 abbrev pub next : Inheritance → DataLocale → Option DataLocale
 next by x =
     if same_locale x root then None

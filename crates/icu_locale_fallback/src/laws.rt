@@ -1,5 +1,5 @@
 //! Laws of locale fallback, over every table. Each function here takes nothing, answers nothing and carries proved facts.
-ghost use Rattle.std.specs.Prelude.{◌≡◌, ◌≢◌, ◌⊎◌, ◌+◌, ◌*◌, ℕ, List, Option, Some, length};
+ghost use Rattle.std.specs.Prelude.{◌≡◌, ◌≢◌, ◌⊎◌, ◌+◌, ◌*◌, ℕ, List, Option, Some, None, length};
 ghost use Rattle.icu_locale_core.specs.TextSet.{len};
 ghost use Rattle.icu_locale_core.specs.declared.langid.LanguageIdentifier.{LanguageIdentifier};
 ghost use Rattle.icu_provider.specs.declared.data_locale.DataLocale.{DataLocale};
@@ -17,6 +17,7 @@ pub fn chains_end_or_repeat()
         (rows : List (DataLocale × DataLocale)) (x : DataLocale)
         → EndsOrRepeats (next (over p table rows)) x }
     ensures root { (by : Inheritance) (x y : DataLocale) → EndsAt (next by) x y → y ≡ root }
+    ensures last { (by : Inheritance) → next by root ≡ None }
     ensures not_both { (by : Inheritance) (x : DataLocale) → EndsWithNoRepeat (next by) x }
     ensures kept { (by : Inheritance) (x : DataLocale) → KeepsEnd (next by) x }
     ensures one_repeat { (by : Inheritance) (x : DataLocale) → HasOneRepeat (next by) x }
