@@ -6,3 +6,4 @@ pub mod Texts
 pub mod Truncations
 pub mod Universes
 pub mod Variants
+pub mod Whole

@@ -4,10 +4,10 @@ ghost use Rattle.icu_locale_core.specs.TextSet.{len};
 ghost use Rattle.icu_locale_core.specs.declared.langid.LanguageIdentifier.{LanguageIdentifier};
 ghost use Rattle.icu_provider.specs.declared.data_locale.DataLocale.{DataLocale};
 ghost use Rattle.icu_locale.specs.LikelySubtags.{LikelySubtags, subtags_of, unknown_script, unknown_region};
-ghost use Rattle.icu_locale_runs.specs.Run.{StandsIn, EndsOrRepeats, EndsWithNoRepeat, KeepsEnd, HasOneRepeat, EndsAt, IsRepeat};
+ghost use Rattle.icu_locale_runs.specs.Run.{StandsIn, EndsOrRepeats, EndsWithNoRepeat, KeepsEnd, HasOneRepeat, EndsAt, IsRepeat, HasEachOnce};
 ghost use Rattle.icu_locale_fallback.specs.Fallback.{root, script_of, normal, next, Inheritance, explicit_parent, data_key};
-ghost use Rattle.icu_locale_fallback.specs.Chains.{over, IsTruncation, EndsWithin, HasAtMost, HasNoParents, most_truncations};
-ghost use Rattle.icu_locale_fallback.specs.Identifiers.{plain, next_identifier, IsChainOfSubtags, IsChainBehind};
+ghost use Rattle.icu_locale_fallback.specs.Chains.{over, IsChain, IsTruncation, EndsWithin, HasAtMost, HasNoParents, most_truncations};
+ghost use Rattle.icu_locale_fallback.specs.Identifiers.{plain, next_identifier, IsChainOfSubtags, IsChainBehind, IsIdentifierChain};
 ghost use Rattle.icu_locale_fallback.specs.declared.fallbacker.LocaleFallbackPriority.{LocaleFallbackPriority};
 
 /// Of each chain, exactly one holds: it ends, or it has a first locale that comes again. Where it ends, that is at the
@@ -88,6 +88,15 @@ pub fn variants_go_first()
         → EndsAt (next_identifier by) x (plain root) }
     ensures repeats { (by : Inheritance) (x : LanguageIdentifier) (z : DataLocale)
         → IsRepeat (next by) (subtags_of x) z → IsRepeat (next_identifier by) x (plain z) }
+{}
+
+/// The list of a chain has each locale or identifier of it once, and no other.
+pub fn lists_have_each_once()
+    ensures locales { (by : Inheritance) (x : DataLocale) (list : List DataLocale)
+        → IsChain by x list → HasEachOnce (next by) x list }
+    ensures identifiers { (by : Inheritance) (x : LanguageIdentifier)
+        (list : List LanguageIdentifier) → IsIdentifierChain by x list
+        → HasEachOnce (next_identifier by) x list }
 {}
 
 /// By language and by script, the key of a locale stands in its chain, unless its normal form has an explicit parent.
