@@ -48,15 +48,15 @@ struct icu_locale {
 
 /* The numbers that calls return. */
 enum {
-    /* icu_locale_open, icu_locale_share and icu_locale_available: it is done. */
+    /* icu_locale_open, icu_locale_supplement, icu_locale_share and icu_locale_available: it is done. */
     ICU_LOCALE_DONE = 0,
 
     /* icu_locale_answer: the line is accepted, and `out` begins with the answer. */
     ICU_LOCALE_ACCEPTED = 0,
 
     /* icu_locale_answer: the line is refused, and `out` begins with the program's answer to that: `?`, a tab and the name
-       of the refusal, as `InvalidLanguage`, `InvalidSubtag`, `NoFixedPoint`, `NoSubdivisionFixedPoint` or
-       `IdentifierNotFound`. */
+       of the refusal, as `InvalidLanguage`, `InvalidSubtag`, `NoFixedPoint`, `NoSubdivisionFixedPoint`,
+       `Circle` or `IdentifierNotFound`. */
     ICU_LOCALE_REFUSED = 1,
 
     /* icu_locale_is_settled. */
@@ -78,10 +78,10 @@ enum {
     /* Memory was asked for and refused. */
     ICU_LOCALE_MEMORY = 4,
 
-    /* icu_locale_open: the text is no JSON. */
+    /* icu_locale_open and icu_locale_supplement: the text is no JSON. */
     ICU_LOCALE_JSON = 5,
 
-    /* icu_locale_open: the JSON has not the shape of tables. */
+    /* icu_locale_open and icu_locale_supplement: the JSON has not the shape of tables, or of a supplement. */
     ICU_LOCALE_SHAPE = 6,
 
     /* icu_locale_answer: the words are those of no command that answers lines. */
@@ -97,7 +97,10 @@ enum {
     ICU_LOCALE_LIST = 10,
 
     /* icu_locale_available: the likely tables are not settled. */
-    ICU_LOCALE_UNSETTLED = 11
+    ICU_LOCALE_UNSETTLED = 11,
+
+    /* icu_locale_supplement: another handle has the tables too. */
+    ICU_LOCALE_SHARED = 12
 };
 
 /*
@@ -107,6 +110,16 @@ enum {
  * ICU_LOCALE_JSON, ICU_LOCALE_SHAPE, ICU_LOCALE_MEMORY: the handle is as it was, with what it held.
  */
 int32_t icu_locale_open(const uint8_t *json, size_t json_length, struct icu_locale *handle);
+
+/*
+ * Reads the supplement of the handle's tables of a JSON text, in place of the one that they have: the parents of locales,
+ * which `fallback` asks, and rules of language matching. It comes before the first icu_locale_share and
+ * icu_locale_available on the handle. Nothing of the text is kept. docs/supplement.schema.json says what it looks like.
+ *
+ * ICU_LOCALE_DONE: the tables have this supplement. What the handle holds besides is as it was.
+ * ICU_LOCALE_CLOSED, ICU_LOCALE_JSON, ICU_LOCALE_SHAPE, ICU_LOCALE_SHARED, ICU_LOCALE_MEMORY: all is as it was.
+ */
+int32_t icu_locale_supplement(struct icu_locale *handle, const uint8_t *json, size_t json_length);
 
 /*
  * Makes `to` a second handle to the tables of `from`, as for another thread. The tables are there once; they go when the
@@ -119,8 +132,8 @@ int32_t icu_locale_share(struct icu_locale *from, struct icu_locale *to);
 
 /*
  * Answers one line. `command` is the program's words, one space between two: `maximize`, `minimize`, `minimize-script`,
- * `canonicalize`, `direction`, `name CHAIN PREFERENCES` as in `name light en`, or `negotiate` where the handle holds a
- * list of what is available. `line` is one line of the program's input without its line feed: an identifier, or at
+ * `canonicalize`, `direction`, `fallback`, `name CHAIN PREFERENCES` as in `name light en`, or `negotiate` where the handle
+ * holds a list of what is available. `line` is one line of the program's input without its line feed: an identifier, or at
  * `canonicalize` an identifier, or an identifier, a tab and a value, or at `negotiate` the requests of one reader.
  *
  * Before these words may stand `locales`, `bcp47` or `posix`, as in `locales maximize`: the line holds locale identifiers

@@ -1,5 +1,5 @@
 // The calls of icu_locale.h for Node.js, by Node-API: `open(json)` makes an object that stands for tables, and
-// `share`, `available`, `answer`, `negotiate`, `isSettled`, `lend` and `close` take one; `borrow(number)` makes one of what
+// `supplement`, `share`, `available`, `answer`, `negotiate`, `isSettled`, `lend` and `close` take one; `borrow(number)` makes one of what
 // another worker has lent. index.js has what is made of these.
 #include "icu_locale.h"
 #include <node_api.h>
@@ -98,6 +98,17 @@ static napi_value open_tables(napi_env env, napi_callback_info info) {
     if (!tables) return number_of(env, ICU_LOCALE_MEMORY);
     int32_t number = icu_locale_open(json, length, &tables->handle);
     return number == ICU_LOCALE_DONE ? object : number_of(env, number);
+}
+
+// supplement(tables, json): the number of what it did.
+static napi_value supplement(napi_env env, napi_callback_info info) {
+    size_t count = 2, length;
+    napi_value values[2];
+    const uint8_t *json;
+    if (napi_get_cb_info(env, info, &count, values, NULL, NULL) != napi_ok || count < 2) return wrong(env);
+    struct tables *tables = tables_of(env, values[0]);
+    if (!tables || !bytes_of(env, values[1], &json, &length)) return wrong(env);
+    return number_of(env, icu_locale_supplement(&tables->handle, json, length));
 }
 
 // share(tables): a second object, or the number of a refusal.
@@ -244,7 +255,7 @@ NAPI_MODULE_INIT() {
     static const struct {
         const char *name;
         napi_callback call;
-    } calls[] = {{"open", open_tables}, {"share", share_tables}, {"available", available_of}, {"answer", answer},
+    } calls[] = {{"open", open_tables}, {"supplement", supplement}, {"share", share_tables}, {"available", available_of}, {"answer", answer},
                  {"negotiate", negotiate}, {"isSettled", is_settled}, {"lend", lend}, {"borrow", borrow},
                  {"close", close_tables}};
     for (size_t place = 0; place < sizeof calls / sizeof *calls; place++) {

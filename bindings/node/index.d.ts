@@ -13,8 +13,8 @@ export interface Reading {
 
 /** Why a call gives no answer. */
 export type Code =
-  | 'Closed' | 'Memory' | 'Json' | 'Shape' | 'Command' | 'Table' | 'Negotiate' | 'List' | 'Unsettled'
-  | 'InvalidLanguage' | 'InvalidSubtag' | 'NoFixedPoint' | 'NoSubdivisionFixedPoint' | 'IdentifierNotFound';
+  | 'Closed' | 'Memory' | 'Json' | 'Shape' | 'Command' | 'Table' | 'Negotiate' | 'List' | 'Unsettled' | 'Shared'
+  | 'InvalidLanguage' | 'InvalidSubtag' | 'NoFixedPoint' | 'NoSubdivisionFixedPoint' | 'Circle' | 'IdentifierNotFound';
 
 /** Further forms of requests, as `cldr-tables --further` writes them: the best first, of each that has some. */
 export type Further = Readonly<Record<string, readonly string[]>>;
@@ -36,8 +36,8 @@ export interface Match {
 
 /** Tables, by `Tables.fromJson`. A worker has its own, or borrows what another one lends. */
 export class Tables {
-  /** The tables of a JSON text. */
-  static fromJson(json: Text): Tables;
+  /** The tables of a JSON text, and their supplement of another one: the parents of locales, for `fallback`. */
+  static fromJson(json: Text, options?: { supplement?: Text }): Tables;
   /** The same tables once more. They are in memory once. */
   share(): Tables;
   /**
@@ -74,8 +74,13 @@ export class Tables {
   canonicalize(identifier: Text, value: Text): [string, string];
   /** Which way the likely script runs; null where that is not known. */
   direction(identifier: Text, options?: Reading): 'ltr' | 'rtl' | null;
-  /** The name without extensions, in the language of the preferences. The chain is `light` where none is named. */
-  name(identifier: Text, preferences: string, chain?: string, options?: Reading): string;
+  /** The identifiers that a loader asks after one another, from this one, without its extensions, to `und`. */
+  fallback(identifier: Text, options?: Reading): string[];
+  /**
+   * The name without extensions, in the language of the preferences. The chain is `light` where none is named. With
+   * `fallback` the name is in the first locale behind the preferences that the tables have.
+   */
+  name(identifier: Text, preferences: string, chain?: string, options?: Reading & { fallback?: boolean }): string;
   /** Whether the likely tables are settled. It looks at each row. */
   isSettled(): boolean;
   /** Lets the tables go. A second call does nothing. */

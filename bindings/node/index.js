@@ -7,8 +7,9 @@ const { markAsUncloneable = () => {} } = require('worker_threads');
 const calls = addon();
 const NUMBERS = {
   2: 'Closed', 4: 'Memory', 5: 'Json', 6: 'Shape', 7: 'Command', 8: 'Table', 9: 'Negotiate', 10: 'List',
-  11: 'Unsettled',
+  11: 'Unsettled', 12: 'Shared',
 };
+const DONE = 0;
 const LINE_REFUSED = 1;
 const LIST = 10;
 const NOT_MET = 1;
@@ -111,11 +112,15 @@ class Tables {
     markAsUncloneable(this);
   }
 
-  /** The tables of a JSON text, a string or a Buffer. */
-  static fromJson(json) {
+  /** The tables of a JSON text, a string or a Buffer, and their supplement of another one. */
+  static fromJson(json, { supplement } = {}) {
     const tables = new Tables();
     tables.#at = made(calls.open(bytes(json)));
-    return tables;
+    if (supplement === undefined) return tables;
+    const number = calls.supplement(tables.#at, bytes(supplement));
+    if (number === DONE) return tables;
+    tables.close();
+    throw new Refused(NUMBERS[number]);
   }
 
   /** The same tables once more. They are in memory once. */
@@ -228,8 +233,23 @@ class Tables {
     return told === 'none' ? null : told;
   }
 
-  /** The name, in the language of the preferences. What the tables have no name for stands as a subtag. */
-  name(identifier, preferences, chain = 'light', options = undefined) {
+  /** The identifiers that a loader asks after one another, from this one to `und`. */
+  fallback(identifier, options) {
+    return this.#told('fallback', identifier, options).split(' ');
+  }
+
+  /**
+   * The name, in the language of the preferences. What the tables have no name for stands as a subtag. With `fallback` it is
+   * in the first locale behind the preferences that the tables have.
+   */
+  name(identifier, preferences, chain = 'light', { fallback = false, ...options } = {}) {
+    for (const locale of fallback ? this.fallback(string(preferences)) : []) {
+      try {
+        return this.name(identifier, locale, chain, options);
+      } catch (refused) {
+        if (refused.code !== 'IdentifierNotFound') throw refused;
+      }
+    }
     try {
       return this.#form(`name ${string(chain)} ${string(preferences)}`, identifier, options);
     } catch (refused) {

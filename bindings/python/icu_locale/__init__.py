@@ -20,15 +20,16 @@ from ._accept import Headers
 from ._calls import version
 from ._forms import Further
 from ._negotiator import Match, Negotiator
-from ._refusals import (Closed, InvalidLanguage, InvalidList, InvalidSubtag, LineRefused, MemoryRefused, NameMissing, NoCldr,
-                        NoCommand, NoFixedPoint, NoJson, NoList, NoSubdivisionFixedPoint, NoTables, NotSettled, Refused,
-                        TableMissing, Text)
+from ._refusals import (Circle, Closed, InvalidLanguage, InvalidList, InvalidSubtag, LineRefused, MemoryRefused, NameMissing,
+                        NoCldr, NoCommand, NoFixedPoint, NoJson, NoList, NoSubdivisionFixedPoint, NoTables, NotSettled,
+                        Refused, TableMissing, TablesShared, Text)
 from ._switcher import Switcher
 from ._tables import Canonical, Direction, Syntax, Tables
 
 __all__ = ["Tables", "Negotiator", "Switcher", "Match", "Canonical", "Direction", "Syntax", "Headers", "Further", "Text",
-           "Refused", "Closed", "MemoryRefused", "NoJson", "NoTables", "NoCommand", "TableMissing", "NoList", "InvalidList", "NotSettled", "NoCldr",
-           "LineRefused", "InvalidLanguage", "InvalidSubtag", "NoFixedPoint", "NoSubdivisionFixedPoint", "NameMissing"]
+           "Refused", "Closed", "MemoryRefused", "NoJson", "NoTables", "NoCommand", "TableMissing", "NoList", "InvalidList",
+           "NotSettled", "TablesShared", "NoCldr", "LineRefused", "InvalidLanguage", "InvalidSubtag", "NoFixedPoint",
+           "NoSubdivisionFixedPoint", "Circle", "NameMissing"]
 
 __version__ = version()
 

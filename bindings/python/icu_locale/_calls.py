@@ -27,6 +27,7 @@ class Calls:
     def __init__(self, path: str) -> None:
         long, short, size_at = ctypes.CDLL(path), ctypes.PyDLL(path), ctypes.POINTER(SIZE)
         self.open = _call(long.icu_locale_open, *_TEXT, _HANDLE)
+        self.supplement = _call(long.icu_locale_supplement, _HANDLE, *_TEXT)
         self.share = _call(short.icu_locale_share, _HANDLE, _HANDLE)
         self.answer = _call(short.icu_locale_answer, _HANDLE, *_TEXT, *_TEXT, ctypes.c_void_p, SIZE, size_at)
         self.is_settled = _call(long.icu_locale_is_settled, _HANDLE)

@@ -66,6 +66,12 @@ class NotSettled(Refused, ValueError):
     number = 11
 
 
+class TablesShared(Refused, ValueError):
+    """Other handles have the tables too, so that they get no other supplement."""
+
+    number = 12
+
+
 class NoCldr(Refused, LookupError):
     """A file of CLDR or a locale is not there, or does not hold what its place promises."""
 
@@ -101,6 +107,12 @@ class NoSubdivisionFixedPoint(LineRefused):
     name = "NoSubdivisionFixedPoint"
 
 
+class Circle(LineRefused):
+    """The explicit parents behind a locale lead round in a circle."""
+
+    name = "Circle"
+
+
 class NameMissing(LineRefused, LookupError):
     """The tables were made without the locale of the preferences: they hold no pattern of names in it.
 
@@ -111,9 +123,9 @@ class NameMissing(LineRefused, LookupError):
 
 
 _BY_NUMBER: Dict[int, Type[Refused]] = {each.number: each for each in (
-    Closed, MemoryRefused, NoJson, NoTables, NoCommand, TableMissing, NoList, InvalidList, NotSettled)}
+    Closed, MemoryRefused, NoJson, NoTables, NoCommand, TableMissing, NoList, InvalidList, NotSettled, TablesShared)}
 _BY_NAME: Dict[str, Type[LineRefused]] = {each.name: each for each in (
-    InvalidLanguage, InvalidSubtag, NoFixedPoint, NoSubdivisionFixedPoint, NameMissing)}
+    InvalidLanguage, InvalidSubtag, NoFixedPoint, NoSubdivisionFixedPoint, Circle, NameMissing)}
 
 
 def refuse(number: int) -> NoReturn:

@@ -1,6 +1,6 @@
 """Tables, and what they are asked."""
 from os import PathLike
-from typing import Iterable, Literal, NamedTuple, Optional, Union
+from typing import Iterable, List, Literal, NamedTuple, Optional, Union
 
 from ._accept import Headers
 from ._forms import Further
@@ -44,8 +44,8 @@ class Tables(Held):
         self._switcher: Optional[Switcher] = None
 
     @classmethod
-    def from_json(cls, json: Text) -> "Tables":
-        """The tables of a JSON text.
+    def from_json(cls, json: Text, supplement: Optional[Text] = None) -> "Tables":
+        """The tables of a JSON text, and their supplement of another one: the parents of locales, for `fallback`.
 
         >>> Tables.from_json("{")
         Traceback (most recent call last):
@@ -58,6 +58,9 @@ class Tables(Held):
         """
         made, text = cls(), as_bytes(json)
         number = made._calls.open(text, len(text), made._root.handle)
+        if not number and supplement is not None:
+            text = as_bytes(supplement)
+            number = made._calls.supplement(made._root.handle, text, len(text))
         if number:
             refuse(number)
         made._is_open = True
@@ -67,13 +70,13 @@ class Tables(Held):
     def from_cldr(cls, folder: Union[str, "PathLike[str]"] = DEBIAN_CLDR, locales: Iterable[str] = (), *,
                   settled: bool = True) -> "Tables":
         """The tables of CLDR's folder `common`, which Debian has in the package unicode-cldr-core, with the names of some
-        locales. What keeps the likely tables from being settled is left out, as negotiation wants it, unless `settled`
+        locales, and their supplement. What keeps the likely tables from being settled is left out, as negotiation wants it, unless `settled`
         is False. It raises `NoCldr` where the folder or a locale is not there. It takes about a second.
         """
-        from .cldr.command import json_of
+        from .cldr.command import json_of, supplement_of
         if isinstance(locales, (str, bytes)):
             raise TypeError("one text is no list of locales")
-        return cls.from_json(json_of(folder, locales, settled))
+        return cls.from_json(json_of(folder, locales, settled), supplement_of(folder))
 
     def share(self) -> "Tables":
         """The same tables once more, to be closed apart. They are in memory once.
@@ -230,8 +233,26 @@ class Tables(Held):
         told = self._told(b"direction", identifier, syntax)
         return "ltr" if told == "ltr" else "rtl" if told == "rtl" else None
 
-    def name(self, identifier: Text, preferences: Text, chain: Text = "light", *, syntax: Syntax = "locales") -> str:
-        """The name of the identifier, without its extensions, in the language of the preferences. What the tables have no name for stands as a subtag.
+    def fallback(self, identifier: Text, *, syntax: Syntax = "locales") -> List[str]:
+        """The identifiers that a loader asks after one another, from this one, without its extensions, to `und`. The
+        explicit parents of locales are those of the supplement.
+
+        >>> from icu_locale.example import TABLES
+        >>> tables = Tables.from_json(TABLES, '{"parents": {"en-AU": "en-001", "aa": "bb", "bb": "aa"}}')
+        >>> tables.fallback("en-AU"), tables.fallback("zh-TW-u-ca-chinese")
+        (['en-AU', 'en-001', 'en', 'und'], ['zh-TW', 'zh-Hant-TW', 'zh-Hant', 'und'])
+        >>> tables.fallback("aa-DJ")
+        Traceback (most recent call last):
+            ...
+        icu_locale.Circle: Circle: 'aa-DJ'
+        """
+        return self._told(b"fallback", identifier, syntax).split(" ")
+
+    def name(self, identifier: Text, preferences: Text, chain: Text = "light", *, syntax: Syntax = "locales",
+             fallback: bool = False) -> str:
+        """The name of the identifier, without its extensions, in the language of the preferences. What the tables have no
+        name for stands as a subtag. With `fallback` the name is in the first locale behind the preferences that the tables
+        have.
 
         >>> from icu_locale.example import TABLES
         >>> tables = Tables.from_json(TABLES)
@@ -241,7 +262,14 @@ class Tables(Held):
         Traceback (most recent call last):
             ...
         icu_locale.NameMissing: IdentifierNotFound: the tables were made without the locale 'de', to name 'it' in
+        >>> tables.name("it", "en-AU", fallback=True)
+        'Italian'
         """
+        for locale in self.fallback(preferences) if fallback else ():
+            try:
+                return self.name(identifier, locale, chain, syntax=syntax)
+            except NameMissing:
+                pass
         command = b" ".join((b"name", as_bytes(chain), as_bytes(preferences)))
         try:
             return self._told(command, identifier, syntax).rpartition("\t")[0]

@@ -37,6 +37,7 @@ impl Drop for Handle {
 
 extern "C" {
     pub fn icu_locale_open(json: *const u8, length: usize, handle: *mut Handle) -> i32;
+    pub fn icu_locale_supplement(handle: *mut Handle, json: *const u8, length: usize) -> i32;
     pub fn icu_locale_share(from: *mut Handle, to: *mut Handle) -> i32;
     pub fn icu_locale_answer(
         handle: *mut Handle,

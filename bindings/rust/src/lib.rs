@@ -115,6 +115,34 @@ impl Tables {
         }
     }
 
+    /// The tables of a JSON text, and their supplement of another one: the parents of locales, for `fallback`.
+    ///
+    /// # Errors
+    ///
+    /// `Json`, `Shape` or `Memory`.
+    ///
+    /// ```
+    /// use icu_locale_calls::{Refusal, Tables, EXAMPLE};
+    /// let parents = r#"{"parents": {"en-AU": "en-001", "aa": "bb", "bb": "aa"}}"#;
+    /// let tables = Tables::from_json_with(EXAMPLE.as_bytes(), parents.as_bytes())?;
+    /// assert_eq!(tables.fallback("en-AU")?, ["en-AU", "en-001", "en", "und"]);
+    /// assert_eq!(tables.fallback("aa"), Err(Refusal::Circle));
+    /// # Ok::<(), Refusal>(())
+    /// ```
+    pub fn from_json_with(json: &[u8], supplement: &[u8]) -> Result<Self, Refusal> {
+        let mut handle = Handle::closed();
+        // SAFETY: the slice is one of Rust's, and the handle a closed one that nobody else has.
+        let mut number = unsafe { calls::icu_locale_open(json.as_ptr(), json.len(), &mut handle) };
+        if number == ACCEPTED {
+            // SAFETY: the same, of an open one.
+            number = unsafe { calls::icu_locale_supplement(&mut handle, supplement.as_ptr(), supplement.len()) };
+        }
+        match number {
+            ACCEPTED => Ok(Tables { pool: Pool::over(handle, None), syntax: Syntax::default() }),
+            number => Err(Refusal::of_number(number)),
+        }
+    }
+
     /// The same tables once more, to be let go apart. They are in memory once.
     ///
     /// # Errors
@@ -287,6 +315,44 @@ impl Tables {
     /// `InvalidLanguage`, `InvalidSubtag`, `NameMissing` or `Memory`, and `Command` where the preferences are none.
     pub fn name(&self, identifier: &str, preferences: &str) -> Result<String, Refusal> {
         self.form(&format!("name light {preferences}"), identifier)
+    }
+
+    /// The identifiers that a loader asks after one another, from this one, without its extensions, to `und`.
+    ///
+    /// # Errors
+    ///
+    /// Those of `maximize`, or `Circle`.
+    ///
+    /// ```
+    /// use icu_locale_calls::{Tables, EXAMPLE};
+    /// let tables = Tables::from_json(EXAMPLE.as_bytes())?;
+    /// assert_eq!(tables.fallback("zh-TW")?, ["zh-TW", "zh-Hant-TW", "zh-Hant", "und"]);
+    /// # Ok::<(), icu_locale_calls::Refusal>(())
+    /// ```
+    pub fn fallback(&self, identifier: &str) -> Result<Vec<String>, Refusal> {
+        Ok(self.told("fallback", identifier)?.split(' ').map(str::to_owned).collect())
+    }
+
+    /// The name of an identifier in the first locale behind the preferences that the tables have, by the chain `light`.
+    ///
+    /// # Errors
+    ///
+    /// Those of `name` and of `fallback`.
+    ///
+    /// ```
+    /// use icu_locale_calls::{Tables, EXAMPLE};
+    /// let tables = Tables::from_json(EXAMPLE.as_bytes())?;
+    /// assert_eq!(tables.name_by_fallback("it", "en-AU")?, "Italian");
+    /// # Ok::<(), icu_locale_calls::Refusal>(())
+    /// ```
+    pub fn name_by_fallback(&self, identifier: &str, preferences: &str) -> Result<String, Refusal> {
+        for locale in self.fallback(preferences)? {
+            match self.name(identifier, &locale) {
+                Err(Refusal::NameMissing) => {}
+                told => return told,
+            }
+        }
+        Err(Refusal::NameMissing)
     }
 
     /// Whether the likely tables are settled. It looks at each row.

@@ -21,6 +21,8 @@ pub enum Refusal {
     List,
     /// The likely tables are not settled.
     Unsettled,
+    /// Other handles have the tables too.
+    Shared,
     /// The line does not begin with a language.
     InvalidLanguage,
     /// A subtag of the line is none, or stands where it may not.
@@ -29,6 +31,8 @@ pub enum Refusal {
     NoFixedPoint,
     /// The rows of subdivisions come to no end.
     NoSubdivisionFixedPoint,
+    /// The explicit parents behind a locale lead round in a circle.
+    Circle,
     /// The tables hold no pattern of names in the language of the preferences.
     NameMissing,
 }
@@ -44,6 +48,7 @@ impl Refusal {
             9 => Refusal::Negotiate,
             10 => Refusal::List,
             11 => Refusal::Unsettled,
+            12 => Refusal::Shared,
             _ => unreachable!("the number {number} is that of no refusal of an open handle"),
         }
     }
@@ -54,6 +59,7 @@ impl Refusal {
             "InvalidSubtag" => Refusal::InvalidSubtag,
             "NoFixedPoint" => Refusal::NoFixedPoint,
             "NoSubdivisionFixedPoint" => Refusal::NoSubdivisionFixedPoint,
+            "Circle" => Refusal::Circle,
             _ => Refusal::NameMissing,
         }
     }
@@ -70,10 +76,12 @@ impl fmt::Display for Refusal {
             Refusal::Negotiate => "there is no list of what is available",
             Refusal::List => "the list has something that is no identifier",
             Refusal::Unsettled => "the likely tables are not settled",
+            Refusal::Shared => "other handles have the tables too",
             Refusal::InvalidLanguage => "the line does not begin with a language",
             Refusal::InvalidSubtag => "a subtag is none, or stands where it may not",
             Refusal::NoFixedPoint => "the rules come to no end",
             Refusal::NoSubdivisionFixedPoint => "the rows of subdivisions come to no end",
+            Refusal::Circle => "the parents lead round in a circle",
             Refusal::NameMissing => "there is no pattern of names in that language",
         })
     }

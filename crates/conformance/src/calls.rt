@@ -3,7 +3,7 @@ use crate::fault::Fault;
 use crate::likely::{self, Likely};
 use crate::texts::{self, Kind, four_words, written};
 use crate::world::World;
-use crate::{canonical, language_names, menus, names, negotiation};
+use crate::{canonical, chains, language_names, menus, names, negotiation};
 use icu_locale_extensions::Syntax;
 use icu_tables::{TableError, Tables};
 use std::alloc::Global;
@@ -53,13 +53,17 @@ pub enum Call {
     Menu,
     /// Shows the patterns of a locale.
     Essentials,
+    /// Writes the chain behind an identifier.
+    Chain,
+    /// Reads a supplement, and counts what it holds.
+    Supplement,
     /// Reads tables, and names what they hold.
     Json,
     /// Reads each beginning of a JSON text that is not the whole.
     JsonCuts,
 }
 
-const CALLS: [(&str, Call); 39] = [
+const CALLS: [(&str, Call); 41] = [
     ("read", Call::Read(Kind::Identifier)),
     ("language", Call::Read(Kind::Language)),
     ("script", Call::Read(Kind::Script)),
@@ -97,6 +101,8 @@ const CALLS: [(&str, Call); 39] = [
     ("language-name", Call::LanguageName),
     ("menu", Call::Menu),
     ("essentials", Call::Essentials),
+    ("chain", Call::Chain),
+    ("json-supplement", Call::Supplement),
     ("json", Call::Json),
     ("json-cuts", Call::JsonCuts),
 ];
@@ -116,6 +122,7 @@ pub fn answer(alloc: Global, world: &World, call: Call, input: &[u8]) -> Result<
     match call {
         Call::Read(kind) => texts::read(alloc, kind, input),
         Call::Likely(call) => likely::answer(alloc, world, call, input),
+        Call::Supplement => chains::held(alloc, input),
         Call::Json => held(alloc, input),
         Call::JsonCuts => cuts(alloc, input),
         _ => match str::from_utf8(input) {
@@ -128,6 +135,7 @@ pub fn answer(alloc: Global, world: &World, call: Call, input: &[u8]) -> Result<
 fn answer_text(alloc: Global, world: &World, call: Call, text: &str) -> Result<String, Fault> {
     match call {
         Call::Settled => likely::settled(alloc, world),
+        Call::Chain => chains::chain(alloc, world, text),
         Call::Negotiate => negotiation::negotiate(alloc, world, text),
         Call::NegotiateEach => negotiation::negotiate_each(alloc, world, text),
         Call::Canonicalize => canonical::canonicalize(alloc, world, text),

@@ -2,11 +2,11 @@
 //!
 //! A row is `CALL INPUT -> ANSWER`. Empty lines and lines that begin with `#` say nothing to the program. A line
 //! `sample JSON` sets the sample tables, and `tables JSON` the tables of the rows that follow: what they do not hold is
-//! the sample's. In the input of a row `\xHH` is a byte.
+//! the sample's. A line `supplement JSON` sets their supplement. In the input of a row `\xHH` is a byte.
 use crate::calls::{answer, named};
 use crate::fault::Fault;
 use crate::world::World;
-use icu_tables::Tables;
+use icu_tables::{Supplement, Tables};
 use std::alloc::Global;
 use std::process::ExitCode;
 
@@ -76,6 +76,11 @@ fn run_line(
     }
     if let Some(json) = line.strip_prefix("tables ") {
         world.own = Tables::from_json(alloc, json.as_bytes())?;
+        return Ok(());
+    }
+    if let Some(json) = line.strip_prefix("supplement ") {
+        let supplement = Supplement::from_json(alloc, json.as_bytes())?;
+        world.own.set_supplement(supplement);
         return Ok(());
     }
     report.rows = report.rows.saturating_add(1);

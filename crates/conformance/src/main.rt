@@ -6,6 +6,7 @@
 mod calls;
 mod canonical;
 mod cases;
+mod chains;
 mod fault;
 mod language_names;
 mod likely;

@@ -56,6 +56,7 @@ work_without_list asked t w of = record { syntax = (of []).0.syntax; tools = by 
     by task.Direction are same = are
     by task.Negotiate are same = absurd (never (same (10 ∷ [])))
     by (task.Name chain preferences) are same = are
+    by task.Fallback are same = are
 
 -- a list that was made over one expander of tables was made over each
 pub list_over : (t : Tables) (e f : LocaleExpander) (list : Available) → IsExpanderOf t e → f ≡ e → IsMadeOver (likely f) list → IsListOver t list

@@ -4,7 +4,10 @@ use Rattle.std.specs.List.{slice_split}
 use Rattle.std.specs.Str.{IsUtf8}
 use Rattle.icu_tables.specs.Rows.{rows_of}
 use Rattle.icu_tables.specs.File.{rows_in}
+use Rattle.icu_tables.specs.Supplement.{no_supplement}
+use Rattle.icu_tables.specs.Supplement as further
 use Rattle.icu_tables.specs.declared.error.TableError.TheVariants as table
+use Rattle.icu_tables.specs.declared.supplement.Supplement.{Supplement}
 use Rattle.icu_tables.specs.declared.tables.Tables.{Tables}
 use Rattle.icu_locale_lines.specs.Answers.{IsAnswer}
 use Rattle.icu_locale_lines.specs.Commands.{AreStreamWords, has_tables}
@@ -102,8 +105,33 @@ IsRefusedOpen json e = ⊥
 -- tables are read and held without a list, or what was held stays
 abbrev pub IsOpened : List ℕ → Option Held → Option Held → Result (Unit {0}) Refusal → Type 0
 IsOpened json old new (Ok u) =
-    IsSomeAnd new (λ h. (rows_in json ≡ Ok (rows_of h.tables)) × (h.available ≡ None))
+    IsSomeAnd new (λ h. (rows_in json ≡ Ok (rows_of h.tables))
+    × (h.tables.supplement ≡ no_supplement) × (h.available ≡ None))
 IsOpened json old new (Err e) = (new ≡ old) × IsRefusedOpen json e
+
+-- what is held, with another supplement of its tables
+abbrev pub with_supplement : Held → Supplement → Held
+with_supplement h s =
+    record { tables = record h.tables { supplement = s }; available = h.available }
+
+-- why the tables are given no supplement; that another handle has them too is told by no clause
+abbrev pub IsRefusedSupplement : Option Held → List ℕ → Refusal → Type 0
+IsRefusedSupplement held json refusal.Closed = held ≡ None
+IsRefusedSupplement held json refusal.Json =
+    IsSomeAnd held (λ h. further.rows_in json ≡ Err table.Json)
+IsRefusedSupplement held json refusal.Shape =
+    IsSomeAnd held (λ h. further.rows_in json ≡ Err table.Shape)
+IsRefusedSupplement held json refusal.Memory = IsSomeAnd held (λ h. Unit {0})
+IsRefusedSupplement held json refusal.Shared =
+    IsSomeAnd held (λ h. (s : Supplement) × (further.rows_in json ≡ Ok (further.rows_of s)))
+IsRefusedSupplement held json e = ⊥
+
+-- the tables that are held get the supplement of a text in place of theirs, or all stays
+abbrev pub IsSupplemented : Option Held → List ℕ → Option Held → Result (Unit {0}) Refusal
+    → Type 0
+IsSupplemented old json new (Ok u) = IsSomeAnd old (λ h. (s : Supplement)
+    × (further.rows_in json ≡ Ok (further.rows_of s)) × (new ≡ Some (with_supplement h s)))
+IsSupplemented old json new (Err e) = (new ≡ old) × IsRefusedSupplement old json e
 
 -- the same tables are held twice, the second time without a list, or what was held stays
 abbrev pub IsShared : Option Held → Option Held → Option Held → Result (Unit {0}) Refusal → Type 0
@@ -132,6 +160,7 @@ number refusal.Table = pos 8
 number refusal.Negotiate = pos 9
 number refusal.List = pos 10
 number refusal.Unsettled = pos 11
+number refusal.Shared = pos 12
 
 -- the number of what a call did that gives nothing: 0 where it did it
 abbrev pub done_number : Result (Unit {0}) Refusal → ℤ

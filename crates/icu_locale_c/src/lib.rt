@@ -2,7 +2,7 @@
 #![tactic(auto)]
 
 ghost use Rattle.std.specs.Prelude.{◌≡◌, None, Bool, Result};
-ghost use Rattle.icu_locale_c.specs.Calls.{IsCall, IsOpened, IsShared, IsSettledCall, done_number, answer_number, yes_number};
+ghost use Rattle.icu_locale_c.specs.Calls.{IsCall, IsOpened, IsShared, IsSupplemented, IsSettledCall, done_number, answer_number, yes_number};
 ghost use Rattle.icu_locale_c.specs.Negotiations.{IsAvailableCall, IsNegotiatedCall};
 ghost use Rattle.icu_locale_c.specs.declared.refusal.Refusal.{Refusal};
 
@@ -27,6 +27,16 @@ pub extern "C" fn icu_locale_open(alloc: Global, json: &[u8], handle: &mut Handl
         × IsOpened json.now handle.old.held handle.new.held outcome }
 {
     done_number(open(alloc, json, handle))
+}
+
+/// Reads the supplement of a handle's tables of a JSON text, in place of theirs. It is refused where another handle has
+/// them too; after a refusal all is as it was.
+#[unsafe(no_mangle)]
+pub extern "C" fn icu_locale_supplement(alloc: Global, handle: &mut Handle, json: &[u8]) -> i32
+    ensures { (outcome : Result (Unit {0}) Refusal) × (result ≡ done_number outcome)
+        × IsSupplemented handle.old.held json.now handle.new.held outcome }
+{
+    done_number(supplement(alloc, handle, json))
 }
 
 /// A second handle to the same tables, as for another thread. A handle that held others lets them go; after a refusal
@@ -119,6 +129,15 @@ fn open(alloc: Global, json: &[u8], handle: &mut Handle) -> Result<(), Refusal>
     };
     *handle = Handle::of(Shared::new(alloc, tables)?);
     Ok(())
+}
+
+fn supplement(alloc: Global, handle: &mut Handle, json: &[u8]) -> Result<(), Refusal>
+    ensures { IsSupplemented handle.old.held json.now handle.new.held result }
+{
+    let mut shared = handle.take(alloc)?;
+    let outcome = shared.supplement(alloc, json);
+    *handle = Handle::of(shared);
+    outcome
 }
 
 fn share(alloc: Global, from: &mut Handle, to: &mut Handle) -> Result<(), Refusal>

@@ -25,6 +25,8 @@ pub enum Refusal {
     List,
     // The likely tables are not settled.
     Unsettled,
+    // Another handle has the tables too.
+    Shared,
 }
 
 impl Refusal {
@@ -42,6 +44,7 @@ impl Refusal {
             Refusal::Negotiate => 9,
             Refusal::List => 10,
             Refusal::Unsettled => 11,
+            Refusal::Shared => 12,
         }
     }
 }

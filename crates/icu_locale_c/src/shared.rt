@@ -1,6 +1,6 @@
 //! Tables that several handles have, and what one of them keeps beside them.
 ghost use Rattle.std.specs.Prelude.{◌≡◌, Some, IfOk, IfErr, IfSome};
-ghost use Rattle.icu_locale_c.specs.Calls.{IsCall, IsSettledCall};
+ghost use Rattle.icu_locale_c.specs.Calls.{IsCall, IsSettledCall, IsSupplemented};
 ghost use Rattle.icu_locale_c.specs.Held.{Held, AreRulesOf, IsListOver, held, held_code, without_list};
 ghost use Rattle.icu_locale_c.specs.Negotiations.{IsListed, IsMet, IsRefusedListing, IsRefusedNegotiation};
 
@@ -10,7 +10,7 @@ use crate::refusal::Refusal;
 use crate::words::read_command;
 use icu_locale::{Available, ReadRules};
 use icu_locale_lines::load_expander;
-use icu_tables::Tables;
+use icu_tables::{Supplement, TableError, Tables};
 use std::alloc::Global;
 use std::marker::Model;
 use std::sync::Arc;
@@ -55,6 +55,25 @@ impl Shared {
             return Err(Refusal::Memory);
         };
         boxed(alloc, tables, None)
+    }
+
+    // Reads the supplement of the tables, in place of theirs, where no other handle has them.
+    pub fn supplement(&mut self, alloc: Global, json: &[u8]) -> Result<(), Refusal>
+        ensures { IsSupplemented (Some self.old) json.now (Some self.new) result }
+    {
+        let supplement = match Supplement::from_json(alloc, json) {
+            Ok(supplement) => supplement,
+            Err(TableError::Json) => return Err(Refusal::Json),
+            Err(TableError::Shape) => return Err(Refusal::Shape),
+            Err(TableError::Memory) => return Err(Refusal::Memory),
+        };
+        match Arc::get_mut(&mut self.tables) {
+            Some(tables) => {
+                tables.set_supplement(supplement);
+                Ok(())
+            }
+            None => Err(Refusal::Shared),
+        }
     }
 
     // The same tables once more, without a list.

@@ -23,6 +23,7 @@ use Rattle.icu_locale.specs.declared.expander.TransformResult.{TransformResult}
 use Rattle.icu_locale_lines.specs.Answers.{IsAnswerBy, IsIdentifierAnswer, IsLocaleAnswer, IsListAnswer, IsSpelledAnswer, IsCanonicalized}
 use Rattle.icu_locale_lines.specs.Answers.{IsWholeCanonicalized, IsDirected, IsNamed, IsTransformed, IsWholeTransformed, with_locale}
 use Rattle.icu_locale_lines.specs.Answers.{HoldsIdentifiers}
+use Rattle.icu_locale_lines.specs.Chains.{IsChained}
 use Rattle.icu_locale_lines.specs.Lists.{IsNegotiatedLine, SpellsAll, listed}
 use Rattle.icu_locale_lines.specs.Locales.{is_tab, SpellsLocale}
 use Rattle.icu_locale_lines.specs.Texts.{canonical_line, transformed_line, whole_line, mark}
@@ -177,3 +178,4 @@ module _ (facts : SyntaxFacts) (s : Syntax) (line text : List ℕ) (a : Bool) wh
   answers_alike (tools.Direction d) (none, x, is, spells) = each_alike x is spells (λ w. IsDirected d w.locale.id) (IsDirected d) (λ h. h, λ h. h)
   answers_alike (tools.Negotiate n) (xs, each) = lists_alike n xs each
   answers_alike (tools.Name n) (none, x, is, spells) = each_alike x is spells (λ w. IsNamed n w.locale.id) (IsNamed n) (λ h. h, λ h. h)
+  answers_alike (tools.Fallback f) (none, x, is, spells) = each_alike x is spells (λ w. IsChained f w.locale.id) (IsChained f) (λ h. h, λ h. h)

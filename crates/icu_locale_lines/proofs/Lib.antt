@@ -1,4 +1,5 @@
 mod Alike
+mod Chains
 mod CommandWords
 mod FirstLines
 mod LineAnswers

@@ -43,8 +43,11 @@ use Rattle.icu_locale_lines.specs.declared.work.form.Transform.TheVariants.{Maxi
 use Rattle.icu_locale_lines.specs.Answers.{IsAnswer, IsAnswerBy, IsForm, IsTransformed, IsDirected, IsNamed, IsCanonicalizedTo, IsIdentifierAnswer}
 use Rattle.icu_locale_lines.specs.Answers.{IsLocaleAnswer, IsListAnswer, IsSpelledAnswer, IsWholeTransformed, IsWholeCanonicalized, with_id}
 use Rattle.icu_locale_lines.specs.Answers.{with_locale}
+use Rattle.icu_locale_lines.specs.Chains.{IsChained}
 use Rattle.icu_locale_lines.specs.Names.{IsNamedLine, name_asked}
 use Rattle.icu_locale_lines.specs.Texts.{transformed_line, canonical_line, whole_line, refused_line, matched_line}
+use Rattle.icu_locale_fallback.specs.declared.fallbacker.LocaleFallbackerWithConfig.{LocaleFallbackerWithConfig}
+use Rattle.icu_locale_lines.proofs.Chains.{chained_one}
 
 -- two answers are the same
 pub record SameAnswer (one two : List ℕ) (a b : Bool) : Type 0 where
@@ -324,6 +327,9 @@ module _ (spelled_once : (t : List ℕ) (x y : LanguageIdentifier) → IsIdentif
     module _ (minimal_one : (favor : Favor) (table : LikelySubtags) (x y z : LanguageIdentifier) → IsMinimalForm favor table x y
         → IsMinimalForm favor table x z → y ≡ z) (facts : (likely : LikelySubtags) (rules : Rules) → CanonicalFacts likely rules)
         (line one two : List ℕ) (a b : Bool) where
+      same_chain : (f : LocaleFallbackerWithConfig) (x : LanguageIdentifier) → IsChained f x one a → IsChained f x two b → SameAnswer one two a b
+      same_chain f x p q = let e = chained_one f x one two a b p q in record { text = e.0; accepted = e.1 }
+
       plain_one : (work : Tools) → IsAnswerBy None work line one a → IsAnswerBy None work line two b → SameAnswer one two a b
       plain_one (tools.Transform form e) h k = identifier_one one two a b spelled_once (IsTransformed form (likely e))
           (transformed_one one two a b minimal_one form (likely e)) line h k
@@ -331,6 +337,7 @@ module _ (spelled_once : (t : List ℕ) (x y : LanguageIdentifier) → IsIdentif
       plain_one (tools.Direction d) h k = identifier_one one two a b spelled_once (IsDirected d) (λ x p q. same p.0 q.0 refl p.1 q.1) line h k
       plain_one (tools.Negotiate n) h k = list_answer_one None one two a b n line h k
       plain_one (tools.Name n) h k = identifier_one one two a b spelled_once (IsNamed n) (λ x p q. named_one one two a b (name_asked n x) p q) line h k
+      plain_one (tools.Fallback f) h k = identifier_one one two a b spelled_once (IsChained f) (λ x p q. same_chain f x p q) line h k
 
       whole_transformed_one : (form : Transform) (table : LikelySubtags) (x : LocaleIdentifier) → IsWholeTransformed form table x one a
           → IsWholeTransformed form table x two b → SameAnswer one two a b
@@ -348,6 +355,7 @@ module _ (spelled_once : (t : List ℕ) (x y : LanguageIdentifier) → IsIdentif
       whole_one s (tools.Negotiate n) h k = list_answer_one (Some s) one two a b n line h k
       whole_one s (tools.Name n) h k = spelled_one one two a b s (λ x. IsNamed n x.locale.id)
           (λ x p q. named_one one two a b (name_asked n x.locale.id) p q) line h k
+      whole_one s (tools.Fallback f) h k = spelled_one one two a b s (λ x. IsChained f x.locale.id) (λ x p q. same_chain f x.locale.id p q) line h k
 
       pub answer_one : (work : Work) → IsAnswer work line one a → IsAnswer work line two b → SameAnswer one two a b
       answer_one work h k = by work.syntax h k

@@ -27,6 +27,8 @@ use Rattle.icu_locale_lines.specs.Lines.{is_line_feed, first_line, after_first_l
 use Rattle.icu_locale_lines.specs.Lists.{listed, SpellsAll}
 use Rattle.icu_locale_lines.specs.Loads.{IsExpanderOf}
 use Rattle.icu_locale_lines.specs.Runs.{ReadsAll, WritesAll}
+use Rattle.icu_tables.specs.Supplement.{no_supplement}
+use Rattle.icu_locale_lines.specs.Streams.{ReadsBoth, IsSupplementStream, IsRefusedSupplementStream}
 use Rattle.icu_locale_lines.specs.Streams.{StopsStream, StopsAmong, StopsLoaded, IsRefusedStream, ReadsLine, ReadsTablesLine, LeavesBehind}
 use Rattle.icu_locale_lines.specs.Streams.{IsJsonStream, IsRefusedJsonStream}
 use Rattle.icu_locale_lines.specs.WholeRuns.{IsRunFrom}
@@ -128,12 +130,13 @@ module _ (t : Tables) (start left read' wrote wrote' : Stream) where
 
 -- the first line, read with nothing before it, and the tables of its text
 pub tables_line : (t : Tables) (read mid : Stream) (line : List ℕ) (has_ended : Bool) → ReadsLine (prepend_known [] read) mid line has_ended
-    → rows_in line ≡ Ok (rows_of t) → ReadsTablesLine read mid t
-tables_line t read mid line has_ended reads rows = record {
+    → rows_in line ≡ Ok (rows_of t) → t.supplement ≡ no_supplement → ReadsTablesLine read mid t
+tables_line t read mid line has_ended reads rows alone = record {
   line = line;
   has_ended = has_ended;
   reads = subst (λ r. ReadsLine r mid line has_ended) (prepend_none read) reads;
   rows = rows;
+  alone = alone;
 }
 
 module _ (c : Command) (t : Tables) (read mid left read' wrote wrote' : Stream) (reads : ReadsTablesLine read mid t)
@@ -143,3 +146,11 @@ module _ (c : Command) (t : Tables) (read mid left read' wrote wrote' : Stream) 
 
   pub json_refused : IfErr r (IsRefusedStream c t mid left read' wrote wrote') → IfErr r (IsRefusedJsonStream c read read' wrote wrote')
   json_refused h = IfErr-weaker r _ _ (λ e h. inr (inr (t, mid, left, reads, behind, h))) h
+
+module _ (c : Command) (t : Tables) (read mid left read' wrote wrote' : Stream) (reads : ReadsBoth read mid t)
+    (behind : LeavesBehind mid left) (r : Result Status CliError) where
+  pub both_run : IfOk r (IsRunFrom c t mid left read' wrote wrote') → IfOk r (IsSupplementStream c read read' wrote wrote')
+  both_run h = IfOk-weaker r _ _ (λ s h. (t, mid, left, reads, behind, h)) h
+
+  pub both_refused : IfErr r (IsRefusedStream c t mid left read' wrote wrote') → IfErr r (IsRefusedSupplementStream c read read' wrote wrote')
+  both_refused h = IfErr-weaker r _ _ (λ e h. inr (inr (inr (t, mid, left, reads, behind, h)))) h

@@ -24,6 +24,7 @@ use Rattle.icu_locale_lines.specs.declared.work.form.Transform.TheVariants.{Maxi
 use Rattle.icu_locale_lines.specs.declared.work.Work.{Work}
 use Rattle.icu_locale_lines.specs.declared.work.Tools.{Tools}
 use Rattle.icu_locale_lines.specs.declared.work.Tools.TheVariants as tools
+use Rattle.icu_locale_lines.specs.Chains.{IsChained}
 use Rattle.icu_locale_lines.specs.Lists.{listed, SpellsAll, IsFault, IsFirstFault, IsNegotiatedLine}
 use Rattle.icu_locale_lines.specs.Locales.{is_tab, SpellsLocale, IsLocaleFault}
 use Rattle.icu_locale_lines.specs.Names.{name_asked, IsNamedLine}
@@ -179,6 +180,8 @@ IsAnswerBy syntax (tools.Negotiate negotiation) line text accepted =
     IsListAnswer syntax negotiation line text accepted
 IsAnswerBy syntax (tools.Name n) line text accepted =
     IsAnswerOf syntax (IsNamed n) (λ x. IsNamed n x.locale.id) line text accepted
+IsAnswerBy syntax (tools.Fallback f) line text accepted =
+    IsAnswerOf syntax (IsChained f) (λ x. IsChained f x.locale.id) line text accepted
 
 -- the answer to a line
 abbrev pub IsAnswer : Work → List ℕ → List ℕ → Bool → Type 0

@@ -8,12 +8,13 @@ use Rattle.icu_locale_lines.specs.declared.command.Command.{Command}
 use Rattle.icu_locale_lines.specs.declared.command.Command.TheVariants.{Settled, Lines}
 use Rattle.icu_locale_lines.specs.declared.command.LineCommand.{LineCommand}
 use Rattle.icu_locale_lines.specs.declared.command.Task.{Task}
-use Rattle.icu_locale_lines.specs.declared.command.Task.TheVariants.{Transform, Canonicalize, Direction, Negotiate, Name}
+use Rattle.icu_locale_lines.specs.declared.command.Task.TheVariants.{Transform, Canonicalize, Direction, Negotiate, Name, Fallback}
 use Rattle.icu_locale_extensions.specs.declared.syntax.Syntax.{Syntax}
 use Rattle.icu_locale_extensions.specs.declared.syntax.Syntax.TheVariants.{Unicode, Bcp47, Posix}
 use Rattle.icu_locale_lines.specs.declared.work.form.Transform.TheVariants.{Maximize, Minimize, MinimizeScript}
 use Rattle.icu_locale_names.specs.LanguageChains.{chain_word}
 use Rattle.icu_locale.specs.LikelyTable.{likely}
+use Rattle.icu_locale_fallback.specs.declared.fallbacker.LocaleFallbackPriority.TheVariants.{Language}
 use Rattle.icu_locale.specs.Rules.{AreRules}
 use Rattle.icu_locale.specs.LikelySubtags.{AreSettled}
 use Rattle.icu_locale.specs.declared.expander.LocaleExpander.{LocaleExpander}
@@ -36,6 +37,7 @@ task_word Canonicalize = codes "canonicalize"
 task_word Direction = codes "direction"
 task_word Negotiate = codes "negotiate"
 task_word (Name chain preferences) = codes "name"
+task_word Fallback = codes "fallback"
 
 -- the word of each syntax
 abbrev pub syntax_word : Syntax → List ℕ
@@ -58,6 +60,11 @@ SpellsPreferences text preferences = (x : LanguageIdentifier) × IsIdentifier x 
       };
     })
 
+-- a task is for streams alone
+abbrev pub is_streamed_task : Task → Bool
+is_streamed_task Fallback = true
+is_streamed_task task = false
+
 -- the words behind that of a task: for `name` a chain and preferences
 abbrev pub AreArguments : Task → List (List ℕ) → Type 0
 AreArguments (Name chain preferences) words = (text : List ℕ)
@@ -79,6 +86,15 @@ abbrev pub AreWords : List (List ℕ) → Command → Bool → Type 0
 AreWords words c false = AreCommandWords words c
 AreWords words c true = (front : List (List ℕ)) × AreCommandWords front c
     × (words ≡ front ++ codes "json" ∷ [])
+
+-- a command is for streams alone
+abbrev pub is_streamed : Command → Bool
+is_streamed (Lines c) = is_streamed_task c.task
+is_streamed Settled = false
+
+-- the words of a command of a run, with `json` behind them for tables as JSON
+abbrev pub AreRunWords : List (List ℕ) → Command → Bool → Type 0
+AreRunWords words c json = AreWords words c json × (is_streamed c ≡ false)
 
 -- the word of a syntax, and then the words of a task
 pub record AreSyntaxWords (words : List (List ℕ)) (c : Command) (json : Bool) : Type 0 where
@@ -139,6 +155,8 @@ AreToolsOf syntax Negotiate t input (tools.Negotiate n) = IsExpanderOf t n.expan
 AreToolsOf syntax (Name chain preferences) t input (tools.Name n) =
     ((n.tables.tables.now ≡ t) × (n.tables.names ≡ t.names))
     × (n.chain ≡ chain) × (n.preferences ≡ preferences)
+AreToolsOf syntax Fallback t input (tools.Fallback f) = IsExpanderOf t f.fallbacker.expander
+    × (f.fallbacker.parents.now ≡ t.supplement.parents) × (f.config.priority ≡ Language)
 AreToolsOf syntax task t input other = ⊥
 
 -- the work of a command over tables

@@ -1,4 +1,5 @@
 pub mod Answers
+pub mod Chains
 pub mod Commands
 pub mod Lines
 pub mod Lists

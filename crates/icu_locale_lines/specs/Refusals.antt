@@ -2,8 +2,9 @@
 use Rattle.std.specs.Prelude.{◌≡◌, ◌⊎◌, ℕ, List, Err, codes, ◌++◌, Option}
 use Rattle.icu_locale.specs.LikelySubtags.{LikelySubtags, AreSettled}
 use Rattle.icu_tables.specs.File.{rows_in}
+use Rattle.icu_tables.specs.Supplement as further
 use Rattle.icu_locale_lines.specs.declared.error.CliError.{CliError}
-use Rattle.icu_locale_lines.specs.declared.error.CliError.TheVariants.{Tables, Data, Memory, Available, NotSettled, Usage, Read, Write}
+use Rattle.icu_locale_lines.specs.declared.error.CliError.TheVariants.{Tables, Supplement, Data, Memory, Available, NotSettled, Usage, Read, Write}
 use Rattle.icu_locale_lines.specs.Lists.{listed, SpellsAll, IsFirstFault}
 use Rattle.icu_locale_extensions.specs.declared.syntax.Syntax.{Syntax}
 use Rattle.icu_locale_lines.specs.Loads.{not_found}
@@ -19,6 +20,12 @@ abbrev pub IsRefusedReading : List ℕ → CliError → Type 0
 IsRefusedReading text (Tables e) = rows_in text ≡ Err e
 IsRefusedReading text Memory = Unit {0}
 IsRefusedReading text e = ⊥
+
+-- why a text gives no supplement
+abbrev pub IsRefusedSupplement : List ℕ → CliError → Type 0
+IsRefusedSupplement text (Supplement e) = further.rows_in text ≡ Err e
+IsRefusedSupplement text Memory = Unit {0}
+IsRefusedSupplement text e = ⊥
 
 -- why a table is not loaded: it is not held, or memory was refused
 abbrev pub IsRefusedTable : CliError → Type 0
@@ -52,6 +59,7 @@ table_error_name tables.Memory = codes "Memory"
 abbrev pub error_words : CliError → List ℕ
 error_words Usage = codes "usage: icu_locale_cli COMMAND [json]"
 error_words (Tables e) = codes "tables: " ++ table_error_name e
+error_words (Supplement e) = codes "supplement: " ++ table_error_name e
 error_words (Data e) = codes "data: " ++ kind_name e.kind
 error_words Read = codes "read failed"
 error_words Write = codes "write failed"

@@ -4,6 +4,9 @@ use Rattle.std.specs.List.{list_any}
 use Rattle.std.specs.Io.KnownBytes.{Consumes, IsAtEnd, prepend_known}
 use Rattle.icu_tables.specs.Rows.{rows_of}
 use Rattle.icu_tables.specs.File.{rows_in}
+use Rattle.icu_tables.specs.Supplement.{no_supplement}
+use Rattle.icu_tables.specs.Supplement as further
+use Rattle.icu_tables.specs.declared.supplement.Supplement.{Supplement}
 use Rattle.icu_tables.specs.declared.tables.Tables.{Tables}
 use Rattle.icu_locale_lines.specs.declared.command.Command.{Command}
 use Rattle.icu_locale_lines.specs.declared.command.Command.TheVariants as command
@@ -14,7 +17,7 @@ use Rattle.icu_locale_lines.specs.declared.error.CliError.TheVariants as error
 use Rattle.icu_locale_lines.specs.declared.runs.Status.{Status}
 use Rattle.icu_locale_lines.specs.declared.work.Work.{Work}
 use Rattle.icu_locale_lines.specs.Lines.{is_line_feed, Stream}
-use Rattle.icu_locale_lines.specs.Refusals.{IsRefusedReading}
+use Rattle.icu_locale_lines.specs.Refusals.{IsRefusedReading, IsRefusedSupplement}
 use Rattle.icu_locale_lines.specs.Runs.{WritesAll, WritesWholeLines, WritesPart}
 use Rattle.icu_locale_lines.specs.WholeRuns.{IsUnloaded, IsUnread, IsUnlisted, StopsSettled, IsRunFrom}
 use Rattle.icu_locale_lines.specs.Commands.{IsWorkOf, HoldsSettled, text_answered}
@@ -147,6 +150,7 @@ pub record ReadsTablesLine (read mid : Stream) (t : Tables) : Type 0 where
   pub has_ended : Bool
   pub reads : ReadsLine read mid line has_ended
   pub rows : rows_in line ≡ Ok (rows_of t)
+  pub alone : t.supplement ≡ no_supplement
 
 -- a stream over the tables of the first line; left is what the reader still held behind them
 abbrev pub IsJsonStream : Command → Stream → Stream → Stream → Stream → Status → Type 0
@@ -166,4 +170,47 @@ IsRefusedJsonStream c read read' wrote wrote' e =
     (IsUnread (ReadsUnended read read') e × (wrote' ≡ wrote))
     ⊎ (ReadsNoTables read read' e × (wrote' ≡ wrote))
     ⊎ ((t : Tables) × (mid : Stream) × (left : Stream) × ReadsTablesLine read mid t
+    × LeavesBehind mid left × IsRefusedStream c t mid left read' wrote wrote' e)
+
+-- ---- tables of the first line, and their supplement of the second
+
+-- the second line was read, and gives a supplement of tables with these rows
+pub record ReadsSupplement (between mid : Stream) (tables t : Tables) : Type 0 where
+  pub supplement : Supplement
+  pub line : List ℕ
+  pub has_ended : Bool
+  pub reads : ReadsLine between mid line has_ended
+  pub rows : further.rows_in line ≡ Ok (further.rows_of supplement)
+  pub is : t ≡ record tables { supplement = supplement }
+
+-- both lines were read
+pub record ReadsBoth (read mid : Stream) (t : Tables) : Type 0 where
+  pub tables : Tables
+  pub between : Stream
+  pub first : ReadsTablesLine read between tables
+  pub second : ReadsSupplement between mid tables t
+
+-- a stream over the tables of the first line and their supplement; left is what the reader still
+-- held behind them
+abbrev pub IsSupplementStream : Command → Stream → Stream → Stream → Stream → Status → Type 0
+IsSupplementStream c read read' wrote wrote' status = (t : Tables) × (mid : Stream)
+    × (left : Stream) × ReadsBoth read mid t × LeavesBehind mid left
+    × IsRunFrom c t mid left read' wrote wrote' status
+
+-- the second line did not end, or gives no supplement
+abbrev pub ReadsNoSupplement : Stream → Stream → CliError → Type 0
+ReadsNoSupplement between read' e = IsUnread (ReadsUnended between read') e
+    ⊎ ((line : List ℕ) × (has_ended : Bool) × (mid : Stream)
+    × ReadsLine between mid line has_ended × LeavesBehind mid read' × IsRefusedSupplement line e)
+
+-- what a refused stream over tables and their supplement leaves: it stopped while it read the first
+-- line, at that line, at the second, or once it had both
+abbrev pub IsRefusedSupplementStream : Command → Stream → Stream → Stream → Stream → CliError
+    → Type 0
+IsRefusedSupplementStream c read read' wrote wrote' e =
+    (IsUnread (ReadsUnended read read') e × (wrote' ≡ wrote))
+    ⊎ (ReadsNoTables read read' e × (wrote' ≡ wrote))
+    ⊎ ((tables : Tables) × (between : Stream) × ReadsTablesLine read between tables
+    × ReadsNoSupplement between read' e × (wrote' ≡ wrote))
+    ⊎ ((t : Tables) × (mid : Stream) × (left : Stream) × ReadsBoth read mid t
     × LeavesBehind mid left × IsRefusedStream c t mid left read' wrote wrote' e)

@@ -6,6 +6,7 @@ use Rattle.icu_locale.specs.LikelySubtags.{AreSettled}
 use Rattle.icu_locale.specs.declared.expander.LocaleExpander.{LocaleExpander}
 use Rattle.icu_tables.specs.Rows.{rows_of}
 use Rattle.icu_tables.specs.File.{rows_in}
+use Rattle.icu_tables.specs.Supplement.{no_supplement}
 use Rattle.icu_tables.specs.declared.tables.Tables.{Tables}
 use Rattle.icu_locale_lines.specs.declared.command.Command.{Command}
 use Rattle.icu_locale_lines.specs.declared.command.Command.TheVariants as command
@@ -135,6 +136,7 @@ pub record ReadsTables (read read' : Stream) (t : Tables) (rest : List ℕ) : Ty
   pub input : List ℕ
   pub all_read : ReadsAll read read' input
   pub rows : rows_in (first_line input) ≡ Ok (rows_of t)
+  pub alone : t.supplement ≡ no_supplement
   pub rest_is : rest ≡ after_first_line input
 
 -- a run over the tables of the first line

@@ -1,7 +1,7 @@
 //! What the program is asked to do.
 ghost use Rattle.std.specs.Prelude.{◌≡◌, ◌∷◌, [], Bool, None, Ok, Some, IfOk, IfErr, IfSome, map, codes};
 ghost use Rattle.std.specs.String.{string_bytes};
-ghost use Rattle.icu_locale_lines.specs.Commands.{AreArguments, AreCommandWords, AreStreamWords, AreWords, plain, syntax_word, task_word};
+ghost use Rattle.icu_locale_lines.specs.Commands.{AreArguments, AreCommandWords, AreRunWords, AreStreamWords, AreWords, is_streamed, plain, syntax_word, task_word};
 ghost use Rattle.icu_locale_lines.specs.declared.command.Command.TheVariants.{Lines};
 ghost use Rattle.icu_locale_lines.specs.declared.command.Task.{Task};
 ghost use Rattle.icu_locale_extensions.specs.declared.syntax.Syntax.{Syntax};
@@ -45,6 +45,8 @@ pub enum Task {
     Negotiate,
     /// The name of each identifier, by a chain and in the language of preferences.
     Name(NameChain, DisplayNamesPreferences),
+    /// The chain behind each identifier, by its language. Streams alone have it.
+    Fallback,
 }
 
 impl LineCommand {
@@ -62,8 +64,22 @@ impl Command {
     ///
     /// # Errors
     ///
-    /// `Usage` exactly where the words are not those of a command, and then `json` or nothing.
+    /// `Usage` exactly where the words are not those of a command of a run, and then `json` or nothing.
     pub fn from_words(alloc: Global, words: &[String]) -> Result<(Command, bool), CliError>
+        ensures named { IfOk result (λ c. AreRunWords (map string_bytes words.now) c.0 c.1) }
+        ensures only { (c : Command × Bool)
+            → AreRunWords (map string_bytes words.now) c.0 c.1 → result ≡ Ok c }
+        ensures refused { IfErr result (λ e. e ≡ CliError.Usage) }
+    {
+        let (command, json) = Command::from_plain_words(alloc, words)?;
+        if is_streamed(&command) {
+            return Err(CliError::Usage);
+        }
+        Ok((command, json))
+    }
+
+    // The command that the words name, of a run or of a stream, and whether the tables come as JSON.
+    fn from_plain_words(alloc: Global, words: &[String]) -> Result<(Command, bool), CliError>
         ensures named { IfOk result (λ c. AreWords (map string_bytes words.now) c.0 c.1) }
         ensures only { (c : Command × Bool)
             → AreWords (map string_bytes words.now) c.0 c.1 → result ≡ Ok c }
@@ -77,7 +93,8 @@ impl Command {
         }
     }
 
-    /// The same, with the word of a syntax before those of a task: `locales`, `bcp47` or `posix`.
+    /// The command of a stream: the same, but each task may be named, with the word of a syntax before those of a task or
+    /// without one: `locales`, `bcp47` or `posix`.
     ///
     /// # Errors
     ///
@@ -92,9 +109,9 @@ impl Command {
             return Err(CliError::Usage);
         };
         let Some(syntax) = syntax_of(word.as_str()) else {
-            return Command::from_words(alloc, words);
+            return Command::from_plain_words(alloc, words);
         };
-        let (command, json) = Command::from_words(alloc, rest)?;
+        let (command, json) = Command::from_plain_words(alloc, rest)?;
         match command {
             Command::Lines(plain) => {
                 let asked = LineCommand {
@@ -162,6 +179,16 @@ impl Command {
     }
 }
 
+// Whether a command is for streams alone.
+fn is_streamed(command: &Command) -> bool
+    ensures { result ≡ is_streamed command.now }
+{
+    match command {
+        Command::Lines(lines) => lines.task == Task::Fallback,
+        Command::Settled => false,
+    }
+}
+
 // The task of a word alone.
 fn task_of(word: &str) -> Option<Task>
     ensures named { IfSome result (λ t. (word.now ≡ task_word t) × AreArguments t []) }
@@ -175,6 +202,7 @@ fn task_of(word: &str) -> Option<Task>
         "canonicalize" => Some(Task::Canonicalize),
         "direction" => Some(Task::Direction),
         "negotiate" => Some(Task::Negotiate),
+        "fallback" => Some(Task::Fallback),
         _ => None,
     }
 }

@@ -17,6 +17,8 @@ pub enum CliError {
     Usage,
     /// The first line gives no tables. Nothing was written.
     Tables(TableError),
+    /// The second line gives no supplement of the tables. Nothing was written.
+    Supplement(TableError),
     /// A table that the command needs cannot be loaded. Nothing was written.
     Data(DataError),
     /// A read failed, or the input did not end. A run has written nothing, and a stream the lines that had come whole.
@@ -39,6 +41,10 @@ impl fmt::Display for CliError {
             CliError::Usage => f.write_str("usage: icu_locale_cli COMMAND [json]"),
             CliError::Tables(refusal) => {
                 f.write_str("tables: ")?;
+                f.write_str(table_error_name(*refusal))
+            }
+            CliError::Supplement(refusal) => {
+                f.write_str("supplement: ")?;
                 f.write_str(table_error_name(*refusal))
             }
             CliError::Data(refusal) => {

@@ -15,7 +15,9 @@ pub use error::CliError;
 pub use program::{program_words, run_buffered, run_words, stream_words};
 pub use runs::Status;
 pub use runs::input::read_all;
-pub use runs::stream::{stream, stream_json, stream_json_within, stream_within};
+pub use runs::stream::{
+    stream, stream_json, stream_json_within, stream_supplement_within, stream_within,
+};
 pub use runs::whole::{run, run_json};
 pub use sample_tables::{SAMPLE, sample};
 pub use work::form::Transform;

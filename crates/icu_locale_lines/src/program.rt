@@ -3,7 +3,7 @@
 use crate::command::Command;
 use crate::error::CliError;
 use crate::runs::Status;
-use crate::runs::stream::{stream_json_within, stream_within};
+use crate::runs::stream::{stream_json_within, stream_supplement_within, stream_within};
 use crate::runs::whole::{run, run_json};
 use crate::sample_tables::sample;
 use std::alloc::Global;
@@ -58,15 +58,15 @@ fn run_over_sample<R: Read, W: Write>(
     run(alloc, command, &tables, reader, writer)
 }
 
-/// Asks the words, and then streams a command: over the tables of the first line where `json` stands behind it, else over
-/// the sample. Before the command may stand the word of a syntax, and before that `longest` and a number, as
-/// `stream_within` has it. What a part of the input answers is kept until more is read, and then written out; so it is at
-/// the end, whatever that is. Tests show what it does.
+/// Asks the words, and then streams a command: over the tables of the first line where `json` stands behind it, with their
+/// supplement of the second where `json supplement` does, else over the sample. Before the command may stand the word of
+/// a syntax, and before that `longest` and a number, as `stream_within` has it. What a part of the input answers is kept
+/// until more is read, and then written out; so it is at the end, whatever that is. Tests show what it does.
 ///
 /// # Errors
 ///
-/// `Usage` where the words are those of no command, and those of `stream` and `stream_json`; `Memory` also where no room
-/// was found for what is kept.
+/// `Usage` where the words are those of no command, and those of `stream`, `stream_json` and `stream_supplement_within`;
+/// `Memory` also where no room was found for what is kept.
 pub fn stream_words<R: Read, W: Write + Drop>(
     alloc: Global,
     words: &[String],
@@ -74,9 +74,15 @@ pub fn stream_words<R: Read, W: Write + Drop>(
     writer: W,
 ) -> Result<Status, CliError> {
     let (longest, words) = longest_of(words)?;
+    let (supplement, words) = supplement_of(words);
     let (command, json) = Command::from_stream_words(alloc, words)?;
+    if supplement && !json {
+        return Err(CliError::Usage);
+    }
     let mut writer = BufWriter::new(alloc, writer).map_err(|_| CliError::Memory)?;
-    let status = if json {
+    let status = if supplement {
+        stream_supplement_within(alloc, &command, longest, reader, &mut writer)
+    } else if json {
         stream_json_within(alloc, &command, longest, reader, &mut writer)
     } else {
         stream_over_sample(alloc, &command, longest, reader, &mut writer)
@@ -94,6 +100,14 @@ fn stream_over_sample<R: Read, W: Write>(
 ) -> Result<Status, CliError> {
     let tables = sample(alloc)?;
     stream_within(alloc, command, &tables, longest, reader, writer)
+}
+
+// Whether the last word is `supplement`, and the words before it.
+fn supplement_of(words: &[String]) -> (bool, &[String]) {
+    match words.split_last() {
+        Some((last, front)) if last.as_str() == "supplement" => (true, front),
+        _ => (false, words),
+    }
 }
 
 // How many bytes of a line are kept at most, and the words behind those that say so.

@@ -3,6 +3,7 @@ ghost use Rattle.std.specs.Prelude.{◌≡◌, IfOk, IfErr, OnErr};
 ghost use Rattle.icu_locale_lines.specs.Answers.{AddsLine, Keeps, IsAnswer};
 
 pub mod direction;
+pub mod fallback;
 pub mod form;
 pub mod list;
 pub mod load;
@@ -11,12 +12,14 @@ pub mod name;
 
 use crate::error::CliError;
 use crate::work::direction::add_direction;
+use crate::work::fallback::add_chain;
 use crate::work::form::{Transform, add_form};
 use crate::work::list::add_requests;
 use crate::work::locale::add_locale;
 use crate::work::name::{Naming, add_name};
 use icu_locale::{LocaleCanonicalizer, LocaleDirectionality, LocaleExpander, Negotiator};
 use icu_locale_extensions::Syntax;
+use icu_locale_fallback::LocaleFallbackerWithConfig;
 
 /// What a command works with: the syntax of its lines, and what it asks of each.
 #[derive(Debug, Drop)]
@@ -40,6 +43,8 @@ pub enum Tools<'d> {
     Negotiate(Negotiator<'d>),
     /// Each identifier is named.
     Name(Naming<'d>),
+    /// The chain behind each identifier is written.
+    Fallback(LocaleFallbackerWithConfig<'d>),
 }
 
 impl<'d> Work<'d> {
@@ -95,6 +100,7 @@ impl<'d> Work<'d> {
             Tools::Direction(directionality) => add_direction(text, directionality, syntax, line),
             Tools::Negotiate(negotiator) => add_requests(text, &negotiator.lend(), syntax, line),
             Tools::Name(naming) => add_name(text, naming, syntax, line),
+            Tools::Fallback(fallbacker) => add_chain(text, fallbacker, syntax, line),
         }
     }
 }

@@ -7,11 +7,11 @@ use std::process::ExitCode;
 
 // What `--help` writes.
 const HELP: &str = "\
-usage: icu_locale_stream [longest N] [locales | bcp47 | posix] COMMAND [json]
+usage: icu_locale_stream [longest N] [locales | bcp47 | posix] COMMAND [json [supplement]]
        icu_locale_stream --help | --version
 
-Answers each line of standard input before it reads more. With json, the first line holds the tables; without it they
-are a small sample.
+Answers each line of standard input before it reads more. With json, the first line holds the tables, and with json
+supplement the second their supplement; without json they are a small sample.
 
   locales                  lines hold locale identifiers with extensions, which are written with the answer
   bcp47                    the same, and tags as browsers send them: i-klingon, zh-cmn-Hans, x-private
@@ -25,6 +25,7 @@ are a small sample.
   direction                which way the likely script runs: ltr, rtl or none
   negotiate                what is served for each line of requests; the first line lists what is available
   name CHAIN PREFERENCES   what each identifier is called, as in: name light en
+  fallback                 the chain of identifiers that are asked behind each one, up to und
   settled                  whether the tables are settled: yes or no
 
 CHAIN is tiny, light, short-light, long-light, menu-light, short-menu-light, heavy, short-heavy, long-heavy, menu-heavy
@@ -32,7 +33,7 @@ or short-menu-heavy. The status is 0 where each line was accepted, 1 where one w
 ";
 
 // What standard error says of words that are no command.
-const USAGE: &str = "usage: icu_locale_stream [longest N] [locales | bcp47 | posix] COMMAND [json]";
+const USAGE: &str = "usage: icu_locale_stream [longest N] [locales | bcp47 | posix] COMMAND [json [supplement]]";
 
 // What `--version` writes.
 const VERSION: &str = "icu_locale_stream 0.4.0\n";

@@ -17,6 +17,7 @@ from .names import Names, name_rows, note_others
 from .patterns import essentials, pattern_rows
 from .source import Common, NoCldr
 from .subtags import read_locale
+from .supplement import supplement
 
 DESCRIPTION = """\
 Writes the JSON tables of one run of icu_locale_cli, on one line: likely subtags, aliases and directions, and for each
@@ -27,7 +28,10 @@ The program looks up what it is asked and falls back from no locale to another. 
 from its parents up to `root`, is written as its own.
 
 With --further it writes no tables, but the further forms by which a request may be served: as JSON on one line, an
-object with a list for each request that has some. The packages for Python and Node.js take it where they serve readers."""
+object with a list for each request that has some. The packages for Python and Node.js take it where they serve readers.
+
+With --supplement it writes the supplement of the tables, as JSON on one line: the parents of locales, and the rules by
+which the nearest locale is found."""
 EPILOG = """\
 status: 0, or 2 where the words are wrong, or where the folder or a locale is not there
 example: ({name} /usr/share/unicode/cldr/common en; echo zh-TW) | ./icu_locale_cli name light en json"""
@@ -41,12 +45,16 @@ def arguments(parser_type, name, words):
                         help="leave out the likely subtags that keep the table from being settled")
     parser.add_argument("--further", action="store_true",
                         help="write the further forms of requests instead of tables; there is no LOCALE then")
+    parser.add_argument("--supplement", action="store_true",
+                        help="write the supplement of the tables instead of tables; there is no LOCALE then")
     parser.add_argument("common", metavar="COMMON",
                         help="CLDR's folder `common`, such as /usr/share/unicode/cldr/common of unicode-cldr-core")
     parser.add_argument("locales", metavar="LOCALE", nargs="*", help="a locale of CLDR, such as en or zh-Hant-HK")
     chosen = parser.parse_args(words)
-    if chosen.further and (chosen.locales or chosen.settled):
-        parser.error("--further goes with no LOCALE and not with --settled")
+    if chosen.further and (chosen.locales or chosen.settled or chosen.supplement):
+        parser.error("--further goes with no LOCALE and not with --settled or --supplement")
+    if chosen.supplement and (chosen.locales or chosen.settled):
+        parser.error("--supplement goes with no LOCALE and not with --settled")
     return chosen
 
 
@@ -96,12 +104,19 @@ def json_of(folder: Union[str, "PathLike[str]"], locales: Iterable[str], is_sett
     return on_one_line(tables_of(Common(folder), list(read_locales(locales)), is_settled, account or Account()))
 
 
+def supplement_of(folder: Union[str, "PathLike[str]"], account: Optional[Account] = None) -> bytes:
+    """The JSON text of the supplement of a CLDR folder, on one line. The account takes what is left out."""
+    return on_one_line(supplement(Common(folder), account or Account()))
+
+
 def main(parser_type, name, words):
     """Runs the command, and answers its status."""
     chosen, account = arguments(parser_type, name, words), Account()
     try:
         if chosen.further:
             text = on_one_line(further_forms(Common(chosen.common), account))
+        elif chosen.supplement:
+            text = supplement_of(chosen.common, account)
         else:
             text = json_of(chosen.common, chosen.locales, chosen.settled, account)
     except NoCldr as fault:

@@ -1,11 +1,13 @@
 //! A run that answers lines as they come: each answer is written before more is read.
-ghost use Rattle.std.specs.Prelude.{◌≡◌, ◌↔◌, Err, IfOk, IfErr, false, ◌⊎◌, ◌++◌, List, ℕ};
+ghost use Rattle.icu_tables.specs.Supplement.{rows_in, rows_of};
+ghost use Rattle.icu_locale_lines.specs.Refusals.{IsRefusedSupplement};
+ghost use Rattle.std.specs.Prelude.{◌≡◌, ◌↔◌, Ok, Err, IfOk, IfErr, false, ◌⊎◌, ◌++◌, List, ℕ};
 ghost use Rattle.std.specs.Io.KnownBytes.{prepend_known};
 ghost use Rattle.icu_locale.specs.LikelyTable.{likely};
 ghost use Rattle.icu_locale.specs.LikelySubtags.{AreSettled};
 ghost use Rattle.icu_tables.specs.declared.tables.Tables.{Tables};
 ghost use Rattle.icu_locale_lines.specs.Loads.{IsExpanderOf, not_found};
-ghost use Rattle.icu_locale_lines.specs.Streams.{StopsLoaded, IsRefusedStream, IsJsonStream, IsRefusedJsonStream, EndsLines, AnswersEnded, LeavesEnded, StopsStream};
+ghost use Rattle.icu_locale_lines.specs.Streams.{IsSupplementStream, IsRefusedSupplementStream, StopsLoaded, IsRefusedStream, IsJsonStream, IsRefusedJsonStream, EndsLines, AnswersEnded, LeavesEnded, StopsStream};
 ghost use Rattle.icu_locale_lines.specs.WholeRuns.{IsRun, IsRunFrom};
 ghost use Rattle.icu_locale_lines.specs.Commands.{IsUnsettled, has_tables};
 ghost use Rattle.icu_locale_lines.specs.declared.command.Command.TheVariants.{Lines};
@@ -24,7 +26,7 @@ use crate::work::load::{Loaded, list_available};
 use crate::work::{Tools, Work};
 use icu_locale::LocaleExpander;
 use icu_locale_extensions::Syntax;
-use icu_tables::Tables;
+use icu_tables::{Supplement, TableError, Tables};
 use std::alloc::Global;
 use std::io::{Read, Write};
 
@@ -137,6 +139,55 @@ pub fn stream_json_within<R: Read, W: Write>(
         reader,
         writer,
     )
+}
+
+/// Takes the tables of the first line and their supplement of the second, however long, and does as `stream_within` with
+/// what follows. It takes memory for both lines and what they give too.
+///
+/// # Errors
+///
+/// - `Tables` where the first line gives no tables, and `Supplement` where the second gives no supplement: nothing was
+///   written.
+/// - The others as `stream_within` answers them over what follows; `Read` and `Memory` also while both lines are read:
+///   nothing was written then.
+pub fn stream_supplement_within<R: Read, W: Write>(
+    alloc: Global,
+    command: &Command,
+    longest: usize,
+    reader: &mut R,
+    writer: &mut W,
+) -> Result<Status, CliError>
+    ensures output { IfOk result (IsSupplementStream command.now (R.remaining reader.old)
+        (R.remaining reader.new) (W.contents writer.old) (W.contents writer.new)) }
+    ensures refused { IfErr result (IsRefusedSupplementStream command.now
+        (R.remaining reader.old) (R.remaining reader.new) (W.contents writer.old)
+        (W.contents writer.new)) }
+{
+    let first = read_first_line(alloc, &[], reader)?;
+    let mut tables = read_tables(alloc, &first.line)?;
+    let second = read_first_line(alloc, &first.rest, reader)?;
+    tables.set_supplement(read_supplement(alloc, &second.line)?);
+    stream_over(
+        alloc,
+        command,
+        &tables,
+        longest,
+        &second.rest,
+        reader,
+        writer,
+    )
+}
+
+// The supplement of a JSON text.
+fn read_supplement(alloc: Global, json: &[u8]) -> Result<Supplement, CliError>
+    ensures rows { IfOk result (λ s. rows_in json.now ≡ Ok (rows_of s)) }
+    ensures refused { IfErr result (IsRefusedSupplement json.now) }
+{
+    match Supplement::from_json(alloc, json) {
+        Ok(supplement) => Ok(supplement),
+        Err(TableError::Memory) => Err(CliError::Memory),
+        Err(refusal) => Err(CliError::Supplement(refusal)),
+    }
 }
 
 // What a command answers to what is left of a reader, behind what was read of it before. `Settled` reads no more.

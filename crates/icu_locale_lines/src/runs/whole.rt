@@ -2,6 +2,7 @@
 ghost use Rattle.std.specs.Prelude.{◌≡◌, ◌↔◌, [], Ok, Err, IfOk, IfErr, false};
 ghost use Rattle.icu_tables.specs.Rows.{rows_of};
 ghost use Rattle.icu_tables.specs.File.{rows_in};
+ghost use Rattle.icu_tables.specs.Supplement.{no_supplement};
 ghost use Rattle.icu_locale_lines.specs.Loads.{not_found};
 ghost use Rattle.icu_locale_lines.specs.Texts.{settled_line};
 ghost use Rattle.icu_locale_lines.specs.Commands.{IsUnsettled, has_tables};
@@ -85,6 +86,7 @@ pub fn run_json<R: Read, W: Write>(
 // The tables of a JSON text.
 pub fn read_tables(alloc: Global, json: &[u8]) -> Result<Tables, CliError>
     ensures rows { IfOk result (λ tables. rows_in json.now ≡ Ok (rows_of tables)) }
+    ensures alone { IfOk result (λ tables. tables.supplement ≡ no_supplement) }
     ensures refused { IfErr result (IsRefusedReading json.now) }
 {
     match Tables::from_json(alloc, json) {

@@ -10,6 +10,7 @@ ghost use Rattle.icu_locale_lines.specs.Commands.{IsUnsettled, IsLoaded, IsWorkO
 ghost use Rattle.icu_locale_lines.specs.Refusals.{IsRefusedLoad, IsRefusedTable, IsRefusedList};
 ghost use Rattle.icu_locale_lines.specs.declared.command.LineCommand.{LineCommand};
 ghost use Rattle.icu_tables.specs.declared.tables.Tables.{Tables};
+ghost use Rattle.icu_locale_fallback.specs.declared.fallbacker.LocaleFallbackPriority.TheVariants.{Language};
 
 use crate::answer::write_answers;
 use crate::command::{Command, LineCommand, Task};
@@ -24,6 +25,9 @@ use icu_locale::{
 };
 use icu_locale_core::ParseError;
 use icu_locale_extensions::Syntax;
+use icu_locale_fallback::{
+    LocaleFallbackConfig, LocaleFallbackPriority, LocaleFallbacker, LocaleFallbackerWithConfig,
+};
 use icu_provider::DataProvider;
 use icu_tables::{LocaleTables, Tables};
 use std::alloc::Global;
@@ -81,6 +85,10 @@ impl<'d> Loaded<'d> {
                     chain,
                     preferences,
                 });
+                Ok(Loaded::Ready(Work { syntax, tools }))
+            }
+            Task::Fallback => {
+                let tools = Tools::Fallback(load_fallbacker(tables)?);
                 Ok(Loaded::Ready(Work { syntax, tools }))
             }
         }
@@ -174,6 +182,25 @@ fn load_directionality(tables: &Tables) -> Result<LocaleDirectionality<'_>, CliE
 {
     let expander = load_expander(tables)?;
     Ok(LocaleDirectionality::try_new_with_expander_unstable(tables, expander)?)
+}
+
+// What gives chains by language, over likely tables and the parents of the supplement.
+fn load_fallbacker(tables: &Tables) -> Result<LocaleFallbackerWithConfig<'_>, CliError>
+    ensures expander { IfOk result (λ f. IsExpanderOf tables.entry.now f.fallbacker.expander) }
+    ensures parents { IfOk result (λ f. f.fallbacker.parents.now
+        ≡ tables.entry.now.supplement.parents) }
+    ensures language { IfOk result (λ f. f.config.priority ≡ Language) }
+    ensures loaded { is_ok result ≡ has_likely tables.entry.now }
+    ensures refused { IfErr result (λ e. e ≡ CliError.Data not_found) }
+{
+    let expander = load_expander(tables)?;
+    let fallbacker = LocaleFallbacker {
+        expander,
+        parents: &tables.supplement.parents,
+    };
+    Ok(fallbacker.for_config(LocaleFallbackConfig {
+        priority: LocaleFallbackPriority::Language,
+    }))
 }
 
 /// The negotiator over settled tables and the identifiers that a line lists.

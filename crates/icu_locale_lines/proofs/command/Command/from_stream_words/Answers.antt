@@ -12,7 +12,7 @@ returns-in_default-syntax_of-clause-only c = λ other are.
     let these = subst (λ ws. AreStreamWords ws other.0 other.1) whole are in
     let plainly = without_syntax (string_bytes c.in-Some.word.now) (map string_bytes c.in-Some.rest.now)
     (λ s is. let found = c.syntax_of.ensures.only s (c.as_str.ensures.value ∙ is) in search rules) other.0 other.1 these in
-    c.from_words.ensures.only other (subst (λ ws. AreWords ws other.0 other.1) (sym whole) plainly)
+    c.from_plain_words.ensures.only other (subst (λ ws. AreWords ws other.0 other.1) (sym whole) plainly)
 
 -- the words behind it are those of no task
 pub returns-in_err-command-clause-only : goal.returns-in_err-command-clause-only
@@ -21,7 +21,7 @@ returns-in_err-command-clause-only c = λ other are.
     let whole = ap (map string_bytes) c.in-Some.ensures.cases.0 ∙ ap (λ w. w ∷ map string_bytes c.in-Some.rest.now) word in
     let of = behind_syntax (map string_bytes c.in-Some.rest.now) c.in-Some-syntax_of.syntax other.0 other.1
     (subst (λ ws. AreStreamWords ws other.0 other.1) whole are) in
-    let named = c.from_words-2.ensures.only (Lines (plain of.0), other.1) of.2 in
+    let named = c.from_plain_words-2.ensures.only (Lines (plain of.0), other.1) of.2 in
     absurd (search rules)
 
 pub returns-in-Lines-clause-only : goal.returns-in-Lines-clause-only
@@ -30,6 +30,6 @@ returns-in-Lines-clause-only c = λ other are.
     let whole = ap (map string_bytes) c.in-Some.ensures.cases.0 ∙ ap (λ w. w ∷ map string_bytes c.in-Some.rest.now) word in
     let of = behind_syntax (map string_bytes c.in-Some.rest.now) c.in-Some-syntax_of.syntax other.0 other.1
     (subst (λ ws. AreStreamWords ws other.0 other.1) whole are) in
-    let named = c.from_words-2.ensures.only (Lines (plain of.0), other.1) of.2 in
+    let named = c.from_plain_words-2.ensures.only (Lines (plain of.0), other.1) of.2 in
     let is = of.1 in
     search rules

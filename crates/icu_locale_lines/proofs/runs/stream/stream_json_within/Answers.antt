@@ -14,7 +14,7 @@ returns-clause-output g c =
     let held = read c.read_first_line.new.reader in
     let mid = prepend_known first.rest.items held in
     let reads = tables_line c.in_ok-tables.tables (read c.args.reader.now) mid first.line.items first.has_ended c.in_ok-first.ensures.line
-    (ap rows_in (sym c.deref.ensures.value) ∙ c.in_ok-tables.ensures.rows) in
+    (ap rows_in (sym c.deref.ensures.value) ∙ c.in_ok-tables.ensures.rows) c.in_ok-tables.ensures.alone in
     let behind : LeavesBehind mid held = record { rest = first.rest.items; short = c.in_ok-first.ensures.short (omega arith); behind = refl } in
     json_run c.args.command.now c.in_ok-tables.tables (read c.args.reader.now) mid held (read c.stream_over.new.reader)
     (wrote c.args.writer.now) (wrote c.stream_over.new.writer) reads behind c.stream_over.result
@@ -29,7 +29,7 @@ returns-clause-refused g c =
     let held = read c.read_first_line.new.reader in
     let mid = prepend_known first.rest.items held in
     let reads = tables_line c.in_ok-tables.tables (read c.args.reader.now) mid first.line.items first.has_ended c.in_ok-first.ensures.line
-    (ap rows_in (sym c.deref.ensures.value) ∙ c.in_ok-tables.ensures.rows) in
+    (ap rows_in (sym c.deref.ensures.value) ∙ c.in_ok-tables.ensures.rows) c.in_ok-tables.ensures.alone in
     let behind : LeavesBehind mid held = record { rest = first.rest.items; short = c.in_ok-first.ensures.short (omega arith); behind = refl } in
     json_refused c.args.command.now c.in_ok-tables.tables (read c.args.reader.now) mid held (read c.stream_over.new.reader)
     (wrote c.args.writer.now) (wrote c.stream_over.new.writer) reads behind c.stream_over.result

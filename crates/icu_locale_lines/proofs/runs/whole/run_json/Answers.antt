@@ -17,6 +17,7 @@ returns-clause-refused g c =
       input = c.in_ok-input.input.items;
       all_read = record { consumed = c.in_ok-input.ensures.whole; ended = c.in_ok-input.ensures.end };
       rows = ap rows_in (sym first) ∙ c.in_ok-tables.ensures.rows;
+      alone = c.in_ok-tables.ensures.alone;
       rest_is = c.cut.ensures.rest ∙ ap after_first_line c.deref.ensures.value;
     } in
     json_refused tables (wrote c.args.writer.now) (wrote c.write_output.new.writer) (read c.args.reader.now)

@@ -3,8 +3,8 @@ use Rattle.std.specs.String.{string_bytes}
 use Rattle.std.proofs.lemmas.List.{map-append}
 use Rattle.icu_locale_lines.specs.Commands.{AreWords}
 use Rattle.icu_locale_lines.proofs.CommandWords.{with_json, without_json, ends_otherwise, no_words}
-use Rattle.icu_locale_lines.proofs.command.Command.from_words.Goals as goal
-use Rattle.icu_locale_lines.proofs.command.Command.from_words.Goals.{in_default-via-in-Some+else-eq, in_default-via-in_default}
+use Rattle.icu_locale_lines.proofs.command.Command.from_plain_words.Goals as goal
+use Rattle.icu_locale_lines.proofs.command.Command.from_plain_words.Goals.{in_default-via-in-Some+else-eq, in_default-via-in_default}
 
 -- the texts of words with one behind them
 texts : {X : Type 0} (f : X → List ℕ) (words front : List X) (last : X) (text : List ℕ) → words ≡ front ++ last ∷ [] → f last ≡ text

@@ -1,0 +1,9 @@
+pub mod Apart
+pub mod Brought
+pub mod Greatest
+pub mod Groups
+pub mod Inserts
+pub mod Near
+pub mod Ranks
+pub mod Serving
+pub mod Trims

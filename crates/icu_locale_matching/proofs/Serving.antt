@@ -1,0 +1,246 @@
+-- What the nearest is: one, below the threshold, and at no distance where it can be.
+use Rattle.std.proofs.Common.{◌≡◌, ℕ, ◌+◌, ◌*◌, ◌<◌, ◌≤◌, Bool, true, false, Option, Some, None, refl, ap, sym, ◌∙◌, subst, arith, IsSomeAnd, map, not}
+use Rattle.std.specs.List.{slice_get}
+use Rattle.std.specs.Option.{option_map}
+use Rattle.std.specs.declared.cmp.Ordering.{Ordering}
+use Rattle.std.specs.declared.cmp.Ordering.TheVariants.{Less, Equal, Greater}
+use Rattle.std.specs.Ordering.{is_le, nat_cmp, bool_cmp, ordering_reverse, ordering_then, MatchOrdering}
+use Rattle.std.proofs.lemmas.Cmp.{ranked}
+use Rattle.std.proofs.lemmas.Option.{same_Some, none-some}
+use Rattle.icu_locale_core.specs.declared.langid.LanguageIdentifier.{LanguageIdentifier}
+use Rattle.icu_locale.specs.LikelySubtags.{maximal_locale, subtags_of}
+use Rattle.icu_locale.specs.Negotiation.{IsMatch}
+use Rattle.icu_locale_core.specs.TextSet.{text_cmp}
+use Rattle.icu_locale_core.specs.Maps.{value_at}
+use Rattle.icu_locale_matching.specs.Distance.{distance, distance_by, levels_for, TellsApart}
+use Rattle.icu_locale_matching.specs.Nearest.{Question, IsOffer, IsLeastOf, form_of, rank_cmp, rank_of, is_among, match_of, IsNearest, ServesFirst, AgreeOn, with_matching, ScriptsAreFar, KeepsScript}
+use Rattle.icu_provider.specs.declared.matching.LanguageMatching.{LanguageMatching}
+use Rattle.icu_locale_matching.specs.declared.rank.Rank.{Rank}
+use Rattle.icu_locale_matching.specs.declared.matcher.Match.{Match}
+use Rattle.icu_locale_matching.proofs.Ranks.{rank_total, IsLeastOf-same}
+use Rattle.icu_locale_matching.proofs.Apart.{distance_zero, distance_agrees, script_kept, script_other}
+
+-- ---- ranks that tie
+
+both_tied : (o p : Ordering) → ordering_then o p ≡ Equal → (o ≡ Equal) × (p ≡ Equal)
+both_tied Less p e = absurd (cc)
+both_tied Equal p e = (refl, e)
+both_tied Greater p e = absurd (cc)
+
+same_number : (m n : ℕ) (o : Ordering) → MatchOrdering o (m < n) (m ≡ n) (n < m) → o ≡ Equal → m ≡ n
+same_number m n Less is e = absurd (cc)
+same_number m n Equal is e = is
+same_number m n Greater is e = absurd (cc)
+
+numbers_tied : (m n : ℕ) → nat_cmp m n ≡ Equal → m ≡ n
+numbers_tied m n e = same_number m n _ (ranked m n _ refl) e
+
+bools_tied : (a b : Bool) → bool_cmp a b ≡ Equal → a ≡ b
+bools_tied false false e = refl
+bools_tied false true e = absurd (cc)
+bools_tied true false e = absurd (cc)
+bools_tied true true e = refl
+
+ranks_tied : (r s : Rank) → rank_cmp r s ≡ Equal → r ≡ s
+ranks_tied r s e =
+    let a = both_tied _ _ e in
+    let b = both_tied _ _ a.1 in
+    let c = both_tied _ _ b.1 in
+    let d = both_tied _ _ c.1 in
+    let f = both_tied _ _ d.1 in
+    let cost = numbers_tied r.cost s.cost a.0 in
+    let request = numbers_tied r.request s.request b.0 in
+    let spelled = bools_tied r.spelled_otherwise s.spelled_otherwise c.0 in
+    let unlikely = numbers_tied r.unlikeliness s.unlikeliness d.0 in
+    let paradigm = bools_tied r.off_paradigm s.off_paradigm f.0 in
+    let available = numbers_tied r.available s.available f.1 in
+    λ i. record {
+      cost = cost i;
+      request = request i;
+      spelled_otherwise = spelled i;
+      unlikeliness = unlikely i;
+      off_paradigm = paradigm i;
+      available = available i;
+    }
+
+tied_both_ways : (o p : Ordering) → o ≡ ordering_reverse p → is_le o ≡ true → is_le p ≡ true → o ≡ Equal
+tied_both_ways Less Less back a b = absurd (cc)
+tied_both_ways Less Equal back a b = absurd (cc)
+tied_both_ways Less Greater back a b = absurd (cc)
+tied_both_ways Equal p back a b = refl
+tied_both_ways Greater p back a b = absurd (cc)
+
+same_rank : (r s : Rank) → is_le (rank_cmp r s) ≡ true → is_le (rank_cmp s r) ≡ true → r ≡ s
+same_rank r s a b = ranks_tied r s (tied_both_ways _ _ (rank_total.antisymm r s) a b)
+
+-- ---- the nearest is one
+
+least_is_one : (P : Rank → Type 0) (a b : Option Rank) → IsLeastOf P a → IsLeastOf P b → a ≡ b
+least_is_one P None None none others = refl
+least_is_one P None (Some s) none least = absurd (none s least.0)
+least_is_one P (Some r) None least none = absurd (none r least.0)
+least_is_one P (Some r) (Some s) first second = ap Some (same_rank r s (first.1 s second.0) (second.1 r first.0))
+
+pub nearest_is_one : (q : Question) (a b : Option Match) → IsNearest q a → IsNearest q b → a ≡ b
+nearest_is_one q a b first second =
+    first.is ∙ ap (option_map match_of) (least_is_one (IsOffer q) first.best second.best first.least second.least) ∙ sym second.is
+
+-- ---- it is below the threshold
+
+below_of : (q : Question) (m : Match) (best : Option Rank) → IsLeastOf (IsOffer q) best → Some m ≡ option_map match_of best → m.distance < q.limits.threshold
+below_of q m None least is = absurd (none-some m (sym is))
+below_of q m (Some r) least is =
+    let same = ap (λ (n : Match). n.distance) (same_Some m (match_of r) is) in omega (arith, same, least.0.below)
+
+pub served_below : (q : Question) (m : Match) → IsNearest q (Some m) → m.distance < q.limits.threshold
+served_below q m nearest = below_of q m nearest.best nearest.least nearest.is
+
+-- ---- it may be served
+
+may_by : (q : Question) (m : Match) (best : Option Rank) → IsLeastOf (IsOffer q) best → Some m ≡ option_map match_of best → q.may m.available ≡ true
+may_by q m None least is = absurd (none-some m (sym is))
+may_by q m (Some r) least is =
+    let same = ap (λ (n : Match). n.available) (same_Some m (match_of r) is) in ap q.may same ∙ least.0.may
+
+pub served_may : (q : Question) (m : Match) → IsNearest q (Some m) → q.may m.available ≡ true
+served_may q m nearest = may_by q m nearest.best nearest.least nearest.is
+
+-- ---- it has the script of its request
+
+script_by : (q : Question) (m : Match) (best : Option Rank) → ScriptsAreFar q → IsLeastOf (IsOffer q) best → Some m ≡ option_map match_of best → KeepsScript q m
+script_by q m None far least is = absurd (none-some m (sym is))
+script_by q m (Some r) far least is =
+    let o = least.0 in
+    let same = same_Some m (match_of r) is in
+    let d = form_of q.likely o.request in
+    let s = form_of q.likely o.identifier in
+    let levels = levels_for q.matching d.language in
+    let cost = ap (λ (r : Rank). r.cost) o.is in
+    let near : distance_by levels d s < q.limits.threshold = omega (arith, cost, o.below) in
+    let other : q.limits.threshold ≤ levels.script.other = omega (arith, far.other, script_other q.matching (value_at text_cmp q.matching.rules d.language)) in
+    record {
+      request = o.request;
+      identifier = o.identifier;
+      requested = ap (λ (n : Match). slice_get q.requests n.request) same ∙ o.requested;
+      offered = ap (λ (n : Match). slice_get q.available n.available) same ∙ o.offered;
+      same = script_kept levels d s q.limits.threshold (far.rules r.request o.request o.requested) other near;
+    }
+
+pub served_script : (q : Question) (m : Match) → ScriptsAreFar q → IsNearest q (Some m) → KeepsScript q m
+served_script q m far nearest = script_by q m nearest.best far nearest.least nearest.is
+
+-- ---- the first request is met where it can be
+
+no_more : (m n : ℕ) (o p : Ordering) → MatchOrdering o (m < n) (m ≡ n) (n < m) → is_le (ordering_then o p) ≡ true → m ≤ n
+no_more m n Less p is le = omega (arith, is)
+no_more m n Equal p is le = omega (arith, is)
+no_more m n Greater p is le = absurd (cc)
+
+rest_no_more : (m n : ℕ) (o p : Ordering) → MatchOrdering o (m < n) (m ≡ n) (n < m) → m ≡ n → is_le (ordering_then o p) ≡ true → is_le p ≡ true
+rest_no_more m n Less p is same le = absurd (omega (arith, is, same))
+rest_no_more m n Equal p is same le = le
+rest_no_more m n Greater p is same le = absurd (cc)
+
+no_dearer : (r s : Rank) → is_le (rank_cmp r s) ≡ true → r.cost ≤ s.cost
+no_dearer r s le = no_more r.cost s.cost _ _ (ranked r.cost s.cost _ refl) le
+
+no_later : (r s : Rank) → is_le (rank_cmp r s) ≡ true → r.cost ≡ s.cost → r.request ≤ s.request
+no_later r s le same = no_more r.request s.request _ _ (ranked r.request s.request _ refl)
+    (rest_no_more r.cost s.cost _ _ (ranked r.cost s.cost _ refl) same le)
+
+module _ (q : Question) (j : ℕ) (tells : TellsApart q.matching) (room : 0 < q.limits.threshold)
+    (match : IsMatch q.likely q.requests q.available 0 j)
+    (may : q.may j ≡ true) where
+  equal_forms : form_of q.likely match.request ≡ form_of q.likely match.identifier
+  equal_forms = ap subtags_of match.same
+
+  exact : Rank
+  exact = rank_of q 0 match.request j match.identifier
+
+  pub exact_costs_nothing : (rank_of q 0 match.request j match.identifier).cost ≡ 0
+  exact_costs_nothing =
+      let none = (distance_zero q.matching (form_of q.likely match.request) (form_of q.likely match.identifier) tells).1 equal_forms in
+      omega (arith, none)
+
+  exact_offer : IsOffer q (rank_of q 0 match.request j match.identifier)
+  exact_offer = record {
+    request = match.request;
+    identifier = match.identifier;
+    requested = match.requested;
+    offered = match.offered;
+    is = refl;
+    below = omega (arith, exact_costs_nothing, room);
+    may = may;
+  }
+
+  serves : (r : Rank) → IsOffer q r → is_le (rank_cmp r (rank_of q 0 match.request j match.identifier)) ≡ true → ServesFirst q (match_of r)
+  serves r o le =
+      let none : r.cost ≡ 0 = omega (arith, no_dearer r _ le, exact_costs_nothing) in
+      let first : r.request ≡ 0 = omega (arith, no_later r _ le (none ∙ sym exact_costs_nothing)) in
+      let sum = ap (λ (s : Rank). s.cost) o.is in
+      let near : distance q.matching (form_of q.likely o.request) (form_of q.likely o.identifier) ≡ 0 = omega (arith, sum, none) in
+      record {
+        first = first;
+        near = none;
+        request = o.request;
+        identifier = o.identifier;
+        requested = ap (slice_get q.requests) (sym first) ∙ o.requested;
+        offered = o.offered;
+        same = (distance_zero q.matching (form_of q.likely o.request) (form_of q.likely o.identifier) tells).0 near;
+      }
+
+  serves_by : (best : Option Rank) → IsLeastOf (IsOffer q) best → IsSomeAnd (option_map match_of best) (ServesFirst q)
+  serves_by None least = absurd (least _ exact_offer)
+  serves_by (Some r) least = serves r least.0 (least.1 _ exact_offer)
+
+pub first_request_is_served : (q : Question) (j : ℕ) (result : Option Match) → TellsApart q.matching → 0 < q.limits.threshold
+    → IsMatch q.likely q.requests q.available 0 j → q.may j ≡ true → IsNearest q result → IsSomeAnd result (ServesFirst q)
+first_request_is_served q j result tells room match may nearest =
+    subst (λ m. IsSomeAnd m (ServesFirst q)) (sym nearest.is) (serves_by q j tells room match may nearest.best nearest.least)
+
+-- ---- what it depends on
+
+module _ (q : Question) (u : LanguageMatching) (agree : AgreeOn q u) where
+  same_ranks : (i : ℕ) (x : LanguageIdentifier) (j : ℕ) (y : LanguageIdentifier) → slice_get q.requests i ≡ Some x
+      → rank_of q i x j y ≡ rank_of (with_matching q u) i x j y
+  same_ranks i x j y stands =
+      let far = distance_agrees q.matching u (form_of q.likely x) (form_of q.likely y) (agree.rules i x stands) in
+      let paradigm = ap (λ ps. not (is_among (map (maximal_locale q.likely) ps) (form_of q.likely y))) agree.paradigms in
+      let r = rank_of q i x j y in
+      λ k. record {
+        cost = far k + q.limits.demotion * i;
+        request = i;
+        spelled_otherwise = r.spelled_otherwise;
+        unlikeliness = r.unlikeliness;
+        off_paradigm = paradigm k;
+        available = j;
+      }
+
+  to_other : (s : Rank) → IsOffer q s → IsOffer (with_matching q u) s
+  to_other s o = record {
+    request = o.request;
+    identifier = o.identifier;
+    requested = o.requested;
+    offered = o.offered;
+    is = o.is ∙ same_ranks s.request o.request s.available o.identifier o.requested;
+    below = o.below;
+    may = o.may;
+  }
+
+  from_other : (s : Rank) → IsOffer (with_matching q u) s → IsOffer q s
+  from_other s o = record {
+    request = o.request;
+    identifier = o.identifier;
+    requested = o.requested;
+    offered = o.offered;
+    is = o.is ∙ sym (same_ranks s.request o.request s.available o.identifier o.requested);
+    below = o.below;
+    may = o.may;
+  }
+
+pub other_rules : (q : Question) (u : LanguageMatching) (result : Option Match) → AgreeOn q u → IsNearest q result → IsNearest (with_matching q u) result
+other_rules q u result agree nearest = record {
+  best = nearest.best;
+  least = IsLeastOf-same nearest.best (to_other q u agree) (from_other q u agree) nearest.least;
+  is = nearest.is;
+}

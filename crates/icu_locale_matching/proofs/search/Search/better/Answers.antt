@@ -1,0 +1,63 @@
+use Rattle.std.proofs.Common.{◌≡◌, ◌+◌, ◌<◌, ◌≤◌, Some, sym, ap, ◌∙◌, subst, arith}
+use Rattle.icu_locale_matching.specs.declared.candidates.Candidate.{Candidate}
+use Rattle.std.proofs.lemmas.Bool.{false≢true}
+use Rattle.std.proofs.lemmas.Option.{same_Some}
+use Rattle.icu_locale.specs.LikelyTable.{likely}
+use Rattle.icu_locale_matching.specs.Nearest.{form_of, rank_at, rank_of}
+use Rattle.icu_locale_matching.specs.inner.Asked.{asked_of, limit, lesser, Improves, Beats}
+use Rattle.icu_locale_matching.proofs.Ranks.{limit_within, asked_distance, improves_itself, pair_beaten, lesser_improves, lesser_beats}
+use Rattle.icu_locale_matching.proofs.search.Search.better.Goals as goal
+
+-- the place may not be served
+pub returns-then-not-may_serve : goal.returns-then-not-may_serve
+returns-then-not-may_serve c =
+    let q = asked_of c.args.self.now c.args.asked.now.requests.now in
+    record {
+      improves = improves_itself q c.args.asked.now.place c.args.best;
+      beats = λ s o at. absurd (false≢true (sym c.if-not-may_serve.true ∙ c.may_serve.ensures ∙ ap q.may (sym at) ∙ o.offer.may));
+    }
+
+-- the pair costs too much
+pub returns-in-None : goal.returns-in-None
+returns-in-None c =
+    let m = c.args.self.now in
+    let a = c.args.asked.now in
+    let d = c.args.candidate.now in
+    let q = asked_of m a.requests.now in
+    let y = c.requires.row.identifier in
+    let is = asked_distance m a y d.form c.requires.asked (ap (λ (e : Candidate). e.form) c.requires.row.is) in
+    let demoted = c.requires.asked.demoted in
+    let far = c.in-None.ensures in
+    let dear : limit q.limits.threshold c.args.best ≤ (rank_of q a.place a.request.now d.place y).cost = omega
+    (arith, is, demoted, far, c.saturating_sub-limit.ensures, c.limit.ensures) in
+    record {
+      improves = improves_itself q a.place c.args.best;
+      beats = pair_beaten q a.place d.place a.request.now y c.requires.asked.stands c.requires.row.offered (sym c.may_serve.ensures ∙ c.if-not-may_serve.false) c.args.best dear;
+    }
+
+-- the lesser of the best and the pair
+pub returns-in-Some : goal.returns-in-Some
+returns-in-Some c =
+    let m = c.args.self.now in
+    let a = c.args.asked.now in
+    let d = c.args.candidate.now in
+    let q = asked_of m a.requests.now in
+    let r = c.rank.ensures in
+    let may = sym c.may_serve.ensures ∙ c.if-not-may_serve.false in
+    let y = r.identifier in
+    let same : c.requires.row.identifier ≡ y = same_Some _ _ (sym c.requires.row.offered ∙ r.offered) in
+    let is = asked_distance m a y d.form c.requires.asked (ap (λ (e : Candidate). e.form) c.requires.row.is ∙ ap (form_of (likely m.expander)) same) in
+    let demoted = c.requires.asked.demoted in
+    let near = c.in-Some.ensures in
+    let cost : c.in-Some.distance + a.demoted ≡ (rank_of q a.place a.request.now d.place y).cost = omega (arith, is, demoted, near.0) in
+    let within = limit_within q.limits.threshold c.args.best c.requires.best in
+    let below : (rank_of q a.place a.request.now d.place y).cost < q.limits.threshold = omega
+    (arith, cost, near.0, near.1, within, c.saturating_sub-limit.ensures, c.limit.ensures) in
+    let all : c.lesser.result ≡ lesser c.args.best (rank_of q a.place a.request.now d.place y) = c.lesser.ensures ∙ ap (lesser c.args.best)
+    (r.is ∙ ap (λ cost. rank_at q cost a.place a.request.now d.place y) cost) in
+    record {
+      improves = subst (λ t. Improves q a.place c.args.best (Some t)) (sym all)
+          (lesser_improves q a.place d.place a.request.now y c.requires.asked.stands r.offered may c.args.best below);
+      beats = λ s o at. subst (λ t. Beats (Some t) s) (sym all)
+          (lesser_beats q a.place d.place a.request.now y c.requires.asked.stands r.offered may c.args.best s o at);
+    }

@@ -1,0 +1,220 @@
+-- The nearest available locale (UTS #35 Part 1, section 4.4, Language Matching).
+use Rattle.std.specs.Prelude.{◌≡◌, ℕ, ◌+◌, ◌*◌, ◌<◌, ◌≤◌, Bool, true, false, ◌&&◌, not, List, map, Option, Some, None, IsSome, Vec, length, if◌then◌else◌}
+use Rattle.std.specs.List.{All, enumerate_from, filter, list_any, slice_get}
+use Rattle.std.specs.Global.{Global}
+use Rattle.std.specs.Str.{bytes_eq}
+use Rattle.icu_locale_core.specs.TextSet.{text_cmp}
+use Rattle.icu_locale_core.specs.Maps.{value_at}
+use Rattle.std.specs.Option.{option_eq, option_map}
+use Rattle.std.specs.Ordering.{ordering_then, nat_cmp, bool_cmp, is_le}
+use Rattle.std.specs.declared.cmp.Ordering.{Ordering}
+use Rattle.icu_locale_core.specs.laws.Identifiers.{same_parts}
+use Rattle.icu_locale_core.specs.declared.langid.LanguageIdentifier.{LanguageIdentifier}
+use Rattle.icu_provider.specs.declared.data_locale.DataLocale.{DataLocale}
+use Rattle.icu_locale.specs.LikelySubtags.{LikelySubtags, maximal_locale, subtags_of}
+use Rattle.icu_locale.specs.LikelyTable.{likely}
+use Rattle.icu_locale.specs.declared.expander.LocaleExpander.{LocaleExpander}
+use Rattle.icu_locale_matching.specs.Distance.{distance, is_macro, levels_for, AgreeAt}
+use Rattle.icu_provider.specs.declared.matching.LanguageMatching.{LanguageMatching}
+use Rattle.icu_locale_matching.specs.declared.limits.MatchLimits.{MatchLimits}
+use Rattle.icu_locale_matching.specs.declared.candidates.Candidate.{Candidate}
+use Rattle.icu_locale_matching.specs.declared.candidates.Candidates.{Candidates}
+use Rattle.icu_locale_matching.specs.declared.rank.Rank.{Rank}
+use Rattle.icu_locale_matching.specs.declared.matcher.Match.{Match}
+
+-- the maximal form of an identifier, variants aside
+abbrev pub form_of : LikelySubtags → LanguageIdentifier → DataLocale
+form_of likely x = maximal_locale likely (subtags_of x)
+
+-- two forms have the same subtags
+abbrev pub same_form : DataLocale → DataLocale → Bool
+same_form x y = bytes_eq x.language y.language
+    && (option_eq bytes_eq x.script y.script && option_eq bytes_eq x.region y.region)
+
+-- the language
+abbrev pub alone : DataLocale → DataLocale
+alone m = record { language = m.language; script = None; region = None }
+
+-- the language and the script
+abbrev pub without_region : DataLocale → DataLocale
+without_region m = record { language = m.language; script = m.script; region = None }
+
+-- 0 where m is the maximal form of its language alone, 1 where of its language and script, else 2
+abbrev pub unlikeliness : LikelySubtags → DataLocale → ℕ
+unlikeliness likely m =
+    if same_form (maximal_locale likely (alone m)) m then 0
+    else (if same_form (maximal_locale likely (without_region m)) m then 1 else 2)
+
+-- the maximal forms of the paradigm locales
+abbrev pub paradigms_of : LikelySubtags → LanguageMatching → List DataLocale
+paradigms_of likely t = map (maximal_locale likely) t.paradigms.items
+
+-- m is one of these forms
+abbrev pub is_among : List DataLocale → DataLocale → Bool
+is_among forms m = list_any (λ x. same_form x m) forms
+
+-- what a matcher knows of an available identifier at a place
+abbrev pub candidate_of : LikelySubtags → LanguageMatching → ℕ → LanguageIdentifier → Candidate
+candidate_of likely t place x = let form = form_of likely x in record {
+  place = place;
+  form = form;
+  is_macro = is_macro t.macros form.region;
+  unlikeliness = unlikeliness likely form;
+  off_paradigm = not (is_among (paradigms_of likely t) form);
+}
+
+-- what it knows of each
+abbrev pub candidates_of : LikelySubtags → LanguageMatching → List LanguageIdentifier → List Candidate
+candidates_of likely t xs = map (λ p. candidate_of likely t p.0 p.1) (enumerate_from 0 xs)
+
+-- whether a candidate has a language
+abbrev pub has_language : List ℕ → Candidate → Bool
+has_language l c = bytes_eq c.form.language l
+
+-- a group has the candidates of its language, and each of the first n candidates has a group
+pub record IsGrouped (forms : List Candidate) (n : ℕ) (groups : List (List ℕ × Vec Candidate Global))
+    : Type 0 where
+  pub group : (l : List ℕ) (g : Vec Candidate Global) → value_at text_cmp groups l ≡ Some g
+      → g.items ≡ filter (has_language l) forms
+  pub each : (k : ℕ) (c : Candidate) → k < n → slice_get forms k ≡ Some c
+      → IsSome (value_at text_cmp groups c.form.language)
+
+-- a list was made over a likely table, and the macro regions and paradigm locales of match rules
+pub record IsMadeOver (likely : LikelySubtags) (t : LanguageMatching) (c : Candidates)
+    : Type 0 where
+  pub forms : c.forms.items ≡ candidates_of likely t c.identifiers.items
+  pub grouped : IsGrouped c.forms.items (length c.forms.items) c.groups
+
+-- the available identifiers, as they were handed in
+abbrev pub identifiers_of : Candidates → List LanguageIdentifier
+identifiers_of c = c.identifiers.items
+
+-- what a matcher is
+pub record Matching : Type 0 where
+  pub expander : LocaleExpander
+  pub matching : LanguageMatching
+  pub limits : MatchLimits
+  pub available : List LanguageIdentifier
+
+-- what a match is asked over; `may` tells which places may be served
+pub record Question : Type 0 where
+  pub likely : LikelySubtags
+  pub matching : LanguageMatching
+  pub limits : MatchLimits
+  pub requests : List LanguageIdentifier
+  pub available : List LanguageIdentifier
+  pub may : ℕ → Bool
+
+-- each place may
+abbrev pub all_may : ℕ → Bool
+all_may j = true
+
+-- true is there
+abbrev pub is_true : Option Bool → Bool
+is_true None = false
+is_true (Some b) = b
+
+-- those at which a list has true
+abbrev pub may_of : List Bool → ℕ → Bool
+may_of may j = is_true (slice_get may j)
+
+-- what a matcher is asked by requests
+abbrev pub question : Matching → List LanguageIdentifier → (ℕ → Bool) → Question
+question m requests may = record {
+  likely = likely m.expander;
+  matching = m.matching;
+  limits = m.limits;
+  requests = requests;
+  available = m.available;
+  may = may;
+}
+
+-- what decides between a request at i and an available identifier at j: the cost; then the request, a like
+-- spelling, how likely the form is, paradigm locales, the place
+abbrev pub rank_at : Question → ℕ → ℕ → LanguageIdentifier → ℕ → LanguageIdentifier → Rank
+rank_at q cost i request j identifier =
+    let c = candidate_of q.likely q.matching j identifier in record {
+      cost = cost;
+      request = i;
+      spelled_otherwise = not (same_parts request identifier);
+      unlikeliness = c.unlikeliness;
+      off_paradigm = c.off_paradigm;
+      available = j;
+    }
+
+-- the cost: the distance of the maximal forms, and the demotion for each earlier request
+abbrev pub rank_of : Question → ℕ → LanguageIdentifier → ℕ → LanguageIdentifier → Rank
+rank_of q i request j identifier =
+    rank_at q (distance q.matching (form_of q.likely request) (form_of q.likely identifier)
+    + q.limits.demotion * i) i request j identifier
+
+-- by cost, then the others in their order
+abbrev pub rank_cmp : Rank → Rank → Ordering
+rank_cmp r s =
+    ordering_then (nat_cmp r.cost s.cost)
+    (ordering_then (nat_cmp r.request s.request)
+    (ordering_then (bool_cmp r.spelled_otherwise s.spelled_otherwise)
+    (ordering_then (nat_cmp r.unlikeliness s.unlikeliness)
+    (ordering_then (bool_cmp r.off_paradigm s.off_paradigm)
+    (nat_cmp r.available s.available)))))
+
+-- r is the rank of a request and an available identifier that may be served, below the threshold
+pub record IsOffer (q : Question) (r : Rank) : Type 0 where
+  pub request : LanguageIdentifier
+  pub identifier : LanguageIdentifier
+  pub requested : slice_get q.requests r.request ≡ Some request
+  pub offered : slice_get q.available r.available ≡ Some identifier
+  pub is : r ≡ rank_of q r.request request r.available identifier
+  pub below : r.cost < q.limits.threshold
+  pub may : q.may r.available ≡ true
+
+-- the least rank with P, if there is one
+abbrev pub IsLeastOf : (Rank → Type 0) → Option Rank → Type 0
+IsLeastOf P None = (s : Rank) → P s → ⊥
+IsLeastOf P (Some r) = P r × ((s : Rank) → P s → is_le (rank_cmp r s) ≡ true)
+
+-- what a rank says to the caller
+abbrev pub match_of : Rank → Match
+match_of r = record { request = r.request; available = r.available; distance = r.cost }
+
+-- the match with the least rank, and none where no pair is below the threshold
+pub record IsNearest (q : Question) (result : Option Match) : Type 0 where
+  pub best : Option Rank
+  pub least : IsLeastOf (IsOffer q) best
+  pub is : result ≡ option_map match_of best
+
+-- a match serves the first request at no distance, by an identifier with the maximal form of the request, variants aside
+pub record ServesFirst (q : Question) (m : Match) : Type 0 where
+  pub first : m.request ≡ 0
+  pub near : m.distance ≡ 0
+  pub request : LanguageIdentifier
+  pub identifier : LanguageIdentifier
+  pub requested : slice_get q.requests 0 ≡ Some request
+  pub offered : slice_get q.available m.available ≡ Some identifier
+  pub same : form_of q.likely request ≡ form_of q.likely identifier
+
+-- a table agrees with that of a question on what is asked
+pub record AgreeOn (q : Question) (u : LanguageMatching) : Type 0 where
+  pub rules : (i : ℕ) (x : LanguageIdentifier) → slice_get q.requests i ≡ Some x
+      → AgreeAt (form_of q.likely x).language q.matching u
+  pub paradigms : q.matching.paradigms.items ≡ u.paradigms.items
+
+-- a question over another table
+abbrev pub with_matching : Question → LanguageMatching → Question
+with_matching q u = record q { matching = u }
+
+-- the script rules of each language that is asked, and the distance of two scripts that no rule fits, are not below the
+-- threshold
+pub record ScriptsAreFar (q : Question) : Type 0 where
+  pub rules : (i : ℕ) (x : LanguageIdentifier) → slice_get q.requests i ≡ Some x
+      → All (λ r. q.limits.threshold ≤ r.distance)
+      (levels_for q.matching (form_of q.likely x).language).script.rules
+  pub other : q.limits.threshold ≤ q.matching.other_script
+
+-- a match serves a request by an identifier whose maximal form has the same script
+pub record KeepsScript (q : Question) (m : Match) : Type 0 where
+  pub request : LanguageIdentifier
+  pub identifier : LanguageIdentifier
+  pub requested : slice_get q.requests m.request ≡ Some request
+  pub offered : slice_get q.available m.available ≡ Some identifier
+  pub same : (form_of q.likely request).script ≡ (form_of q.likely identifier).script

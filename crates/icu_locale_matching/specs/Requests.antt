@@ -1,0 +1,55 @@
+-- What language ranges ask for, and canonical forms of what is available.
+use Rattle.std.specs.Prelude.{◌≡◌, ℕ, Bool, true, false, List, [], ◌∷◌, Option, MatchOption}
+use Rattle.std.specs.List.{cons_option}
+use Rattle.icu_locale_core.specs.declared.langid.LanguageIdentifier.{LanguageIdentifier}
+use Rattle.icu_locale.specs.Kinds.{next}
+use Rattle.icu_locale.specs.LikelySubtags.{LikelySubtags}
+use Rattle.icu_locale_runs.specs.Run.{EndsAt}
+use Rattle.icu_locale.specs.declared.canonicalizer.rules.Rules.{Rules}
+use Rattle.icu_locale_extensions.specs.Locales.{IsLocaleIdentifier}
+use Rattle.icu_locale_extensions.specs.Syntaxes.{SpellsBy}
+use Rattle.icu_locale_extensions.specs.declared.identifier.LocaleIdentifier.{LocaleIdentifier}
+use Rattle.icu_locale_extensions.specs.declared.syntax.Syntax.TheVariants.{Bcp47}
+use Rattle.icu_locale_matching.specs.Header.{Wish}
+
+-- a range is a tag of BCP 47, and y the canonical form of its identifier, extensions dropped (UTS #35 Part 1, Annex C)
+pub record IsRequest (likely : LikelySubtags) (rules : Rules) (range : List ℕ)
+    (y : LanguageIdentifier) : Type 0 where
+  pub tag : LocaleIdentifier
+  pub known : IsLocaleIdentifier tag
+  pub spells : SpellsBy Bcp47 range tag
+  pub canonical : EndsAt (next likely rules) tag.locale.id y
+
+-- a value with P, or none where there is none
+abbrev pub IsOnly : {X : Type 0} → (X → Type 0) → Option X → Type 0
+IsOnly {X} P o = MatchOption o ((x : X) → P x → ⊥) P
+
+-- a tag that the range spells
+abbrev pub IsTag : List ℕ → LocaleIdentifier → Type 0
+IsTag range x = IsLocaleIdentifier x × SpellsBy Bcp47 range x
+
+-- what wishes ask for, each by its range, in their order; a range that asks for nothing is passed over
+abbrev pub AreRequests : LikelySubtags → Rules → List Wish → List LanguageIdentifier → Type 0
+AreRequests likely rules [] ys = ys ≡ []
+AreRequests likely rules (w ∷ ws) ys =
+    (o : Option LanguageIdentifier) × (rest : List LanguageIdentifier)
+    × IsOnly (IsRequest likely rules w.0) o × AreRequests likely rules ws rest
+    × (ys ≡ cons_option o rest)
+
+-- y is the canonical form of x, or x as it is, where the rules come to no end
+abbrev pub IsBrought : LikelySubtags → Rules → LanguageIdentifier → Bool → LanguageIdentifier → Type 0
+IsBrought likely rules x true y = EndsAt (next likely rules) x y
+IsBrought likely rules x false y =
+    ((z : LanguageIdentifier) → EndsAt (next likely rules) x z → ⊥) × (y ≡ x)
+
+-- y is one or the other
+abbrev pub IsCanonicalOf : LikelySubtags → Rules → LanguageIdentifier → LanguageIdentifier → Type 0
+IsCanonicalOf likely rules x y = (ends : Bool) × IsBrought likely rules x ends y
+
+-- the canonical forms of some identifiers, in their order
+abbrev pub AreCanonical : LikelySubtags → Rules → List LanguageIdentifier
+    → List LanguageIdentifier → Type 0
+AreCanonical likely rules [] ys = ys ≡ []
+AreCanonical likely rules (x ∷ xs) ys =
+    (y : LanguageIdentifier) × (rest : List LanguageIdentifier)
+    × IsCanonicalOf likely rules x y × AreCanonical likely rules xs rest × (ys ≡ y ∷ rest)

@@ -1,0 +1,103 @@
+-- What is served (RFC 9110, section 12.5.4; RFC 4647, section 3.3.1, basic filtering).
+use Rattle.std.specs.Prelude.{◌≡◌, ℕ, Bool, true, false, ◌&&◌, not, List, [], ◌∷◌, map, Option, Some, None, if◌then◌else◌}
+use Rattle.std.specs.List.{list_any, position}
+use Rattle.std.specs.Option.{option_map, option_or}
+use Rattle.std.specs.Str.{bytes_eq}
+use Rattle.icu_locale_core.specs.Identifier.{subtags}
+use Rattle.icu_locale_core.specs.TextSet.{rising}
+use Rattle.icu_locale_core.specs.declared.langid.LanguageIdentifier.{LanguageIdentifier}
+use Rattle.icu_provider.specs.declared.matching.LanguageMatching.{LanguageMatching}
+use Rattle.icu_locale.specs.LikelySubtags.{LikelySubtags}
+use Rattle.icu_locale.specs.LikelyTable.{likely}
+use Rattle.icu_locale.specs.RuleSet.{lent}
+use Rattle.icu_locale.specs.declared.canonicalizer.lending.CanonicalizerRef.{CanonicalizerRef}
+use Rattle.icu_locale.specs.declared.canonicalizer.rules.Rules.{Rules}
+use Rattle.icu_locale_matching.specs.Header.{Wish, wishes_of, AreByWeight, wanted, refused, wants_any}
+use Rattle.icu_locale_matching.specs.Nearest.{Matching, question, IsNearest, may_of}
+use Rattle.icu_locale_matching.specs.Nearest as nearest
+use Rattle.icu_locale_matching.specs.Requests.{AreRequests, AreCanonical}
+use Rattle.icu_locale_matching.specs.declared.limits.MatchLimits.{MatchLimits}
+use Rattle.icu_locale_matching.specs.declared.matcher.Match.{Match}
+use Rattle.icu_locale_matching.specs.declared.server.ServedLocales.{ServedLocales}
+
+-- ---- what is refused
+
+-- the subtags of an identifier, its variants rising
+abbrev pub subtags_of : LanguageIdentifier → List (List ℕ)
+subtags_of x = subtags x (rising x.variants)
+
+-- one list of subtags is another, or its beginning
+abbrev pub begins : List (List ℕ) → List (List ℕ) → Bool
+begins [] tag = true
+begins (p ∷ ps) [] = false
+begins (p ∷ ps) (q ∷ qs) = bytes_eq p q && begins ps qs
+
+-- a range that is refused begins an identifier
+abbrev pub refuses : LanguageIdentifier → LanguageIdentifier → Bool
+refuses range x = begins (subtags_of range) (subtags_of x)
+
+-- an identifier may be served: no range that is refused begins it
+abbrev pub is_allowed : List LanguageIdentifier → LanguageIdentifier → Bool
+is_allowed ranges x = not (list_any (λ range. refuses range x) ranges)
+
+-- which identifiers may be served
+abbrev pub allowed : List LanguageIdentifier → List LanguageIdentifier → List Bool
+allowed ranges xs = map (is_allowed ranges) xs
+
+-- ---- what is served
+
+-- what a server is
+pub record Service : Type 0 where
+  pub rules : CanonicalizerRef
+  pub matching : LanguageMatching
+  pub limits : MatchLimits
+  pub available : List LanguageIdentifier
+
+-- what matches for it, over canonical forms
+abbrev pub matching_of : Service → List LanguageIdentifier → Matching
+matching_of s canonical = record {
+  expander = s.rules.expander;
+  matching = s.matching;
+  limits = s.limits;
+  available = canonical;
+}
+
+-- the first that may be served, where any is wanted
+abbrev pub first_allowed : Bool → List Bool → Option ℕ
+first_allowed any may = if any then position (λ b. b) may else None
+
+-- the place of a match
+abbrev pub place_of : Option Match → Option ℕ
+place_of found = option_map (λ m. m.available) found
+
+-- the nearest of what may be served, else the first of it where any language is wanted, else none
+pub record IsChoice (m : Matching) (requests : List LanguageIdentifier) (may : List Bool)
+    (any : Bool) (result : Option ℕ) : Type 0 where
+  pub found : Option Match
+  pub nearest : IsNearest (question m requests (may_of may)) found
+  pub is : result ≡ option_or (place_of found) (first_allowed any may)
+
+-- the place that is served for a header: the choice for what its wanted ranges ask for, by falling weight, among the
+-- canonical forms of what is available that no refused range begins
+pub record IsServed (s : Service) (header : List ℕ) (result : Option ℕ) : Type 0 where
+  pub wishes : List Wish
+  pub sorted : AreByWeight (wishes_of header) wishes
+  pub requests : List LanguageIdentifier
+  pub requested : AreRequests (likely s.rules.expander) (lent s.rules.rules) (wanted wishes) requests
+  pub out : List LanguageIdentifier
+  pub taken_out : AreRequests (likely s.rules.expander) (lent s.rules.rules) (refused wishes) out
+  pub canonical : List LanguageIdentifier
+  pub canonicalized : AreCanonical (likely s.rules.expander) (lent s.rules.rules) s.available canonical
+  pub choice : IsChoice (matching_of s canonical) requests (allowed out canonical) (wants_any wishes) result
+
+-- ---- what is prepared
+
+-- the available identifiers, as they were handed in
+abbrev pub identifiers_of : ServedLocales → List LanguageIdentifier
+identifiers_of s = s.identifiers.items
+
+-- a list was prepared over a likely table, rules and match rules: from the canonical forms
+pub record IsPreparedOver (likely : LikelySubtags) (rules : Rules) (t : LanguageMatching)
+    (s : ServedLocales) : Type 0 where
+  pub canonical : AreCanonical likely rules s.identifiers.items s.candidates.identifiers.items
+  pub candidates : nearest.IsMadeOver likely t s.candidates

@@ -1,0 +1,5 @@
+-- What only private functions cite.
+pub mod Added
+pub mod Asked
+pub mod Levels
+pub mod Parts

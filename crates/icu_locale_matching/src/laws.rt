@@ -1,0 +1,62 @@
+//! Laws of language matching: what follows from the definitions alone, over every table. Their functions do nothing.
+ghost use Rattle.std.specs.Prelude.{◌≡◌, ◌↔◌, ◌<◌, ℕ, true, Option, Some, IsSomeAnd};
+ghost use Rattle.icu_locale.specs.Negotiation.{IsMatch};
+ghost use Rattle.icu_provider.specs.declared.data_locale.DataLocale.{DataLocale};
+ghost use Rattle.icu_locale_matching.specs.Distance.{distance, TellsApart, AgreeAt};
+ghost use Rattle.icu_locale_matching.specs.Nearest.{Question, AgreeOn, with_matching, IsNearest, ServesFirst, ScriptsAreFar, KeepsScript};
+ghost use Rattle.icu_locale_matching.specs.declared.matcher.Match.{Match};
+ghost use Rattle.icu_provider.specs.declared.matching.LanguageMatching.{LanguageMatching};
+
+/// Where each rule has a distance above 0, and each macro region stands for some region, only equal forms have the distance 0.
+#[tactic(auto, using(crate::proofs::Apart::distance_zero))]
+pub fn only_equal_forms_have_no_distance()
+    ensures { (t : LanguageMatching) (d s : DataLocale) → TellsApart t
+        → (distance t d s ≡ 0) ↔ (d ≡ s) }
+{}
+
+/// A distance depends on the rules of the desired language alone, on the distances where no rule fits, and on the macro
+/// regions.
+#[tactic(auto, using(crate::proofs::Apart::distance_agrees))]
+pub fn other_languages_do_not_count()
+    ensures { (t u : LanguageMatching) (d s : DataLocale) → AgreeAt d.language t u
+        → distance t d s ≡ distance u d s }
+{}
+
+/// A question has one answer.
+pub fn the_nearest_is_one()
+    ensures { (q : Question) (a b : Option Match) → IsNearest q a → IsNearest q b → a ≡ b }
+{}
+
+/// What is served is nearer than the threshold.
+#[tactic(auto, using(crate::proofs::Serving::served_below))]
+pub fn what_is_served_is_below_the_threshold()
+    ensures { (q : Question) (m : Match) → IsNearest q (Some m)
+        → m.distance < q.limits.threshold }
+{}
+
+/// Where a negotiator meets the first request by an identifier that may be served, a matcher serves it at no distance, by an
+/// identifier with the same maximal form, variants aside.
+pub fn what_negotiates_is_served()
+    ensures { (q : Question) (j : ℕ) (result : Option Match) → TellsApart q.matching
+        → 0 < q.limits.threshold → IsMatch q.likely q.requests q.available 0 j
+        → q.may j ≡ true → IsNearest q result → IsSomeAnd result (ServesFirst q) }
+{}
+
+/// The answer depends on the rules of the languages that are asked alone, on the paradigm locales, on the macro regions and
+/// on the distances where no rule fits.
+pub fn other_rules_do_not_count()
+    ensures { (q : Question) (u : LanguageMatching) (result : Option Match) → AgreeOn q u
+        → IsNearest q result → IsNearest (with_matching q u) result }
+{}
+
+/// What is served may be served.
+#[tactic(auto, using(crate::proofs::Serving::served_may))]
+pub fn what_is_served_may_be()
+    ensures { (q : Question) (m : Match) → IsNearest q (Some m) → q.may m.available ≡ true }
+{}
+
+/// Where the threshold is at most the distance of two scripts, what is served has the script of its request.
+pub fn what_is_served_keeps_the_script()
+    ensures { (q : Question) (m : Match) → ScriptsAreFar q → IsNearest q (Some m)
+        → KeepsScript q m }
+{}

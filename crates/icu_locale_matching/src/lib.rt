@@ -1,0 +1,26 @@
+//! What to serve: the nearest available locale by the language matching of CLDR, over tables that a caller hands in, and the
+//! header Accept-Language.
+#![tactic(auto)]
+
+mod candidates;
+mod distances;
+mod filtering;
+mod header;
+pub mod laws;
+mod limits;
+mod macros;
+mod matcher;
+mod parts;
+mod patterns;
+mod rank;
+mod requests;
+mod search;
+mod server;
+mod weights;
+
+pub use candidates::Candidates;
+pub use distances::distance;
+pub use header::{AcceptLanguage, LentWish};
+pub use limits::MatchLimits;
+pub use matcher::{LocaleMatcher, Match};
+pub use server::{LocaleServer, ServedLocales};

@@ -1,0 +1,53 @@
+//! Whether a rule fits two forms.
+ghost use Rattle.std.specs.Prelude.{◌≡◌};
+ghost use Rattle.icu_locale_matching.specs.Distance.{fits_script, is_member, fits_region, fits_pattern, fits};
+
+use icu_locale_core::{Region, Script};
+use icu_provider::{DataLocale, MatchPattern, MatchRule, RegionPattern, SortedMap};
+
+// Whether a rule, which is one for the desired language, fits.
+pub(crate) fn fits(rule: &MatchRule, desired: &DataLocale, supported: &DataLocale) -> bool
+    ensures { result ≡ fits desired.now supported.now rule.now }
+{
+    supported.language == rule.language
+        && fits_pattern(&rule.desired, desired)
+        && fits_pattern(&rule.supported, supported)
+}
+
+// Whether the script and the region of a form fit.
+fn fits_pattern(pattern: &MatchPattern, form: &DataLocale) -> bool
+    ensures { result ≡ fits_pattern pattern.now form.now }
+{
+    fits_script(&pattern.script, &form.script) && fits_region(&pattern.region, &form.region)
+}
+
+// Whether a region, or none, fits.
+fn fits_region(pattern: &RegionPattern, region: &Option<Region>) -> bool
+    ensures { result ≡ fits_region pattern.now region.now }
+{
+    match pattern {
+        RegionPattern::Any => true,
+        RegionPattern::In(regions) => is_member(regions, region),
+        RegionPattern::NotIn(regions) => !is_member(regions, region),
+    }
+}
+
+// Whether a script, or none, fits.
+fn fits_script(pattern: &Option<Script>, script: &Option<Script>) -> bool
+    ensures { result ≡ fits_script pattern.now script.now }
+{
+    match pattern {
+        Some(_) => *script == *pattern,
+        None => true,
+    }
+}
+
+// Whether a region that is there is one of a set.
+fn is_member(regions: &SortedMap<Region, ()>, region: &Option<Region>) -> bool
+    ensures { result ≡ is_member regions.now region.now }
+{
+    match region {
+        Some(region) => regions.contains_key(region),
+        None => false,
+    }
+}

@@ -1,0 +1,302 @@
+//! The search for the nearest available locale.
+ghost use Rattle.std.specs.Prelude.{◌≡◌, ◌+◌, ◌<◌, ◌*◌, ◌^◌, ℕ, Some, length, option_copied};
+ghost use Rattle.std.specs.List.{All, filter, slice_get};
+ghost use Rattle.icu_locale_core.specs.laws.Identifiers.{same_parts};
+ghost use Rattle.icu_locale.specs.LikelyTable.{likely};
+ghost use Rattle.icu_locale_matching.specs.Nearest.{is_true, has_language, IsMadeOver, IsLeastOf, IsOffer};
+ghost use Rattle.icu_locale_matching.specs.inner.Asked.{may_shown, asked_of, IsOfferBefore, IsOfferAt, Beats, BeatsEach, Improves, IsRowOf, IsWithin, IsAsked, IsRankAt, later_limit, limit, lesser};
+ghost use Rattle.icu_provider.specs.declared.matching.MatchRule.{MatchRule};
+ghost use Rattle.icu_locale_matching.specs.declared.rank.Rank.{Rank as TheRank};
+
+use crate::candidates::{Candidate, Candidates, form_of};
+use crate::distances::{LentLevels, levels_for};
+use crate::limits::MatchLimits;
+use crate::macros::is_macro;
+use crate::rank::Rank;
+use icu_locale::LocaleExpander;
+use icu_locale_core::LanguageIdentifier;
+use icu_provider::{DataLocale, LanguageMatching};
+
+// What a search goes over.
+#[derive(Clone, Copy, Debug)]
+pub(crate) struct Search<'r> {
+    // What gives maximal forms.
+    pub(crate) expander: LocaleExpander<'r>,
+    // The match rules.
+    pub(crate) matching: &'r LanguageMatching,
+    // The limits.
+    pub(crate) limits: MatchLimits,
+    // What is available, made over the same tables.
+    pub(crate) candidates: &'r Candidates,
+    // Which places may be served; all, if none is there.
+    pub(crate) may: Option<&'r [bool]>,
+}
+
+// A request, and what is the same for each available identifier.
+#[derive(Clone, Copy)]
+pub(crate) struct Asked<'q, 'd> {
+    requests: &'q [LanguageIdentifier],
+    place: usize,
+    request: &'q LanguageIdentifier,
+    form: DataLocale,
+    is_macro: bool,
+    levels: LentLevels<'d>,
+    demoted: u32,
+}
+
+impl<'r> Search<'r> {
+    // Over what is lent.
+    pub(crate) fn over(
+        expander: LocaleExpander<'r>,
+        matching: &'r LanguageMatching,
+        limits: MatchLimits,
+        candidates: &'r Candidates,
+        may: Option<&'r [bool]>,
+    ) -> Self
+        ensures { result ≡ record {
+          expander = expander.entry;
+          matching = matching.entry;
+          limits = limits;
+          candidates = candidates.entry;
+          may = may.entry;
+        } }
+    {
+        Search {
+            expander,
+            matching,
+            limits,
+            candidates,
+            may,
+        }
+    }
+
+    // The least rank.
+    pub(crate) fn least(&self, requests: &[LanguageIdentifier]) -> Option<Rank>
+        requires { IsMadeOver (likely self.now.expander) self.now.matching.now
+            self.now.candidates.now }
+        ensures { IsLeastOf (IsOffer (asked_of self.now requests.now)) result }
+    {
+        let mut best = None;
+        let mut demoted = 0;
+        for place in 0..requests.len() {
+            if demoted >= self.later_limit(&best) {
+                return best;
+            }
+            best = self.least_at(requests, place, demoted, best);
+            demoted += u32::from(self.limits.demotion);
+        }
+        best
+    }
+
+    // The least rank up to the request at a place, where that before it is known.
+    fn least_at(
+        &self,
+        requests: &[LanguageIdentifier],
+        place: usize,
+        demoted: u32,
+        best: Option<Rank>,
+    ) -> Option<Rank>
+        requires made { IsMadeOver (likely self.now.expander) self.now.matching.now
+            self.now.candidates.now }
+        requires in_range { place < length requests.now }
+        requires demoted { demoted ≡ self.now.limits.demotion * place }
+        requires best { IsLeastOf (IsOfferBefore (asked_of self.now requests.now) place) best }
+        ensures { IsLeastOf (IsOfferBefore (asked_of self.now requests.now) (place + 1)) result }
+    {
+        let request = &requests[place];
+        let form = form_of(&self.expander, request);
+        let is_macro = is_macro(&self.matching.macros, &form.region);
+        let levels = levels_for(self.matching, &form.language);
+        let asked = Asked {
+            requests,
+            place,
+            request,
+            form,
+            is_macro,
+            levels,
+            demoted,
+        };
+        self.best_for(&asked, best)
+    }
+
+    // The best for a request: of near languages, and of the others where these can be better.
+    fn best_for(&self, asked: &Asked<'_, '_>, best: Option<Rank>) -> Option<Rank>
+        requires made { IsMadeOver (likely self.now.expander) self.now.matching.now
+            self.now.candidates.now }
+        requires asked { IsAsked self.now asked.now }
+        requires best { IsWithin self.now.limits.threshold best }
+        ensures improves { Improves (asked_of self.now asked.now.requests.now) asked.now.place
+            best result }
+        ensures beats { (s : TheRank)
+            → IsOfferAt (asked_of self.now asked.now.requests.now) asked.now.place s
+            → Beats result s }
+    {
+        let near = self.best_near(asked, best);
+        let others = u32::from(self.matching.other_language);
+        if others < self.limit(&near).saturating_sub(asked.demoted) {
+            self.best_among(asked, &self.candidates.forms, near)
+        } else {
+            near
+        }
+    }
+
+    // The best of the language of a request, and of those that its rules name.
+    fn best_near(&self, asked: &Asked<'_, '_>, best: Option<Rank>) -> Option<Rank>
+        requires made { IsMadeOver (likely self.now.expander) self.now.matching.now
+            self.now.candidates.now }
+        requires asked { IsAsked self.now asked.now }
+        requires best { IsWithin self.now.limits.threshold best }
+        ensures improves { Improves (asked_of self.now asked.now.requests.now) asked.now.place
+            best result }
+        ensures within { IsWithin self.now.limits.threshold result }
+        ensures own { BeatsEach (asked_of self.now asked.now.requests.now) asked.now.place
+            (filter (has_language asked.now.form.language) self.now.candidates.now.forms.items)
+            result }
+        ensures named { (k : ℕ) (r : MatchRule)
+            → slice_get asked.now.levels.language.rules.now k ≡ Some r
+            → BeatsEach (asked_of self.now asked.now.requests.now) asked.now.place
+            (filter (has_language r.language) self.now.candidates.now.forms.items) result }
+    {
+        let own = self.candidates.of_language(&asked.form.language);
+        let mut near = self.best_among(asked, own, best);
+        for rule in asked.levels.language.rules {
+            let named = self.candidates.of_language(&rule.language);
+            near = self.best_among(asked, named, near);
+        }
+        near
+    }
+
+    // The best of some candidates, or the best so far.
+    fn best_among(
+        &self,
+        asked: &Asked<'_, '_>,
+        part: &[Candidate],
+        mut best: Option<Rank>,
+    ) -> Option<Rank>
+        requires asked { IsAsked self.now asked.now }
+        requires part { All (IsRowOf (likely self.now.expander) self.now.matching.now
+            self.now.candidates.now.identifiers.items) part.now }
+        requires best { IsWithin self.now.limits.threshold best }
+        ensures improves { Improves (asked_of self.now asked.now.requests.now) asked.now.place
+            best result }
+        ensures within { IsWithin self.now.limits.threshold result }
+        ensures beats { BeatsEach (asked_of self.now asked.now.requests.now) asked.now.place
+            part.now result }
+    {
+        for candidate in part {
+            best = self.better(asked, candidate, best);
+        }
+        best
+    }
+
+    // The better of the best so far and a candidate.
+    fn better(
+        &self,
+        asked: &Asked<'_, '_>,
+        candidate: &Candidate,
+        best: Option<Rank>,
+    ) -> Option<Rank>
+        requires asked { IsAsked self.now asked.now }
+        requires row { IsRowOf (likely self.now.expander) self.now.matching.now
+            self.now.candidates.now.identifiers.items candidate.now }
+        requires best { IsWithin self.now.limits.threshold best }
+        ensures improves { Improves (asked_of self.now asked.now.requests.now) asked.now.place
+            best result }
+        ensures beats { (s : TheRank)
+            → IsOfferAt (asked_of self.now asked.now.requests.now) asked.now.place s
+            → s.available ≡ candidate.now.place → Beats result s }
+    {
+        if !self.may_serve(candidate.place) {
+            return best;
+        }
+        let limit = self.limit(&best).saturating_sub(asked.demoted);
+        let any_macro = asked.is_macro || candidate.is_macro;
+        match asked
+            .levels
+            .distance_below(any_macro, &asked.form, &candidate.form, limit)
+        {
+            Some(distance) => Some(lesser(best, self.rank(asked, candidate, distance))),
+            None => best,
+        }
+    }
+
+    // Whether a place may be served.
+    fn may_serve(&self, place: usize) -> bool
+        ensures { result ≡ may_shown self.now.may place }
+    {
+        match self.may {
+            Some(may) => is_true(may.get(place)),
+            None => true,
+        }
+    }
+
+    // The rank of a request and a candidate at a distance.
+    fn rank(&self, asked: &Asked<'_, '_>, candidate: &Candidate, distance: u32) -> Rank
+        requires row { IsRowOf (likely self.now.expander) self.now.matching.now
+            self.now.candidates.now.identifiers.items candidate.now }
+        requires fits { distance + asked.now.demoted < 2 ^ 32 }
+        ensures { IsRankAt self.now asked.now candidate.now distance result }
+    {
+        let identifier = &self.candidates.identifiers[candidate.place];
+        Rank {
+            cost: distance + asked.demoted,
+            request: asked.place,
+            spelled_otherwise: !is_same(asked.request, identifier),
+            unlikeliness: candidate.unlikeliness,
+            off_paradigm: candidate.off_paradigm,
+            available: candidate.place,
+        }
+    }
+
+    // What a rank of a later request has to cost less than, to be less.
+    fn later_limit(&self, best: &Option<Rank>) -> u32
+        requires { IsWithin self.now.limits.threshold best.now }
+        ensures value { result ≡ later_limit self.now.limits.threshold best.now }
+        ensures small { result < 2 ^ 16 }
+    {
+        let threshold = u32::from(self.limits.threshold);
+        match best {
+            Some(rank) => rank.cost,
+            None => threshold,
+        }
+    }
+
+    // What a rank has to cost less than, if it is to be less.
+    fn limit(&self, best: &Option<Rank>) -> u32
+        requires { IsWithin self.now.limits.threshold best.now }
+        ensures { result ≡ limit self.now.limits.threshold best.now }
+    {
+        let threshold = u32::from(self.limits.threshold);
+        match best {
+            Some(rank) => rank.cost + 1,
+            None => threshold,
+        }
+    }
+}
+
+// Whether true is there.
+fn is_true(given: Option<&bool>) -> bool
+    ensures { result ≡ is_true (option_copied given.entry) }
+{
+    match given {
+        Some(may) => *may,
+        None => false,
+    }
+}
+
+// The lesser of two ranks, of which the first may be missing.
+fn lesser(best: Option<Rank>, rank: Rank) -> Rank
+    ensures { result ≡ lesser best rank }
+{
+    match best {
+        Some(best) => { if rank < best { rank } else { best } }
+        None => rank,
+    }
+}
+
+// Whether two identifiers are equal.
+fn is_same(one: &LanguageIdentifier, other: &LanguageIdentifier) -> bool
+    ensures { result ≡ same_parts one.now other.now }
+{
+    *one == *other
+}
