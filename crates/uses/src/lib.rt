@@ -4,6 +4,7 @@
 mod canonical;
 mod fallback;
 mod files;
+mod inherits;
 mod keys;
 mod literal;
 mod meaning;
@@ -17,6 +18,7 @@ mod switcher;
 pub use canonical::canonicalize_twice;
 pub use fallback::{find_form, minimal_form};
 pub use files::likely_row;
+pub use inherits::inherits_from;
 pub use keys::{have_one_key, store_key};
 pub use literal::german_tables;
 pub use meaning::mean_the_same;
