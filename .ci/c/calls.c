@@ -44,6 +44,13 @@ static void refuses(struct icu_locale *handle, const char *requests, int32_t num
     meets(handle, requests, number, 0, 0);
 }
 
+static int32_t supplement_of(struct icu_locale *handle, const char *json) {
+    uint8_t *bytes = copy_of(json);
+    int32_t number = icu_locale_supplement(handle, bytes, strlen(json));
+    free(bytes);
+    return number;
+}
+
 // Before an open, and behind a close.
 static void closed(struct icu_locale *handle) {
     struct icu_locale other = {0};
@@ -51,6 +58,8 @@ static void closed(struct icu_locale *handle) {
     answers(handle, "no words", "en", ICU_LOCALE_CLOSED, "");
     want(icu_locale_is_settled(handle) == ICU_LOCALE_CLOSED, "is_settled over a closed handle");
     want(icu_locale_share(handle, &other) == ICU_LOCALE_CLOSED, "share of a closed handle");
+    want(supplement_of(handle, "{}") == ICU_LOCALE_CLOSED, "a supplement of a closed handle");
+    want(supplement_of(handle, "{") == ICU_LOCALE_CLOSED, "no supplement of a closed handle");
     want(list_of(handle, "en", &other) == ICU_LOCALE_CLOSED, "a list over a closed handle");
     want(list_of(handle, "en-", &other) == ICU_LOCALE_CLOSED, "a faulty list over a closed handle");
     refuses(handle, "en", ICU_LOCALE_CLOSED);
@@ -93,11 +102,40 @@ static void commands(struct icu_locale *handle) {
         answers(handle, "canonicalize", "ja", ICU_LOCALE_ACCEPTED, "ja\tU");
         answers(handle, "canonicalize", "ja\tab", ICU_LOCALE_REFUSED, "?\tInvalidSubtag");
     }
+    answers(handle, "fallback", "zh-TW", ICU_LOCALE_ACCEPTED, "zh-TW zh-Hant-TW zh-Hant und");
+    answers(handle, "fallback", "de-1996", ICU_LOCALE_ACCEPTED, "de-1996 de und");
+    answers(handle, "fallback", "", ICU_LOCALE_REFUSED, "?\tInvalidLanguage");
+    answers(handle, "locales fallback", "en-US-u-hc-h12", ICU_LOCALE_ACCEPTED, "en-US en und");
     answers(handle, "direction", "ar", ICU_LOCALE_ACCEPTED, "rtl");
     answers(handle, "direction", "und", ICU_LOCALE_ACCEPTED, "none");
     answers(handle, "name light en", "it-Qabc-150", ICU_LOCALE_ACCEPTED, "Italian (Qabc, Europe)\tR");
     answers(handle, "name light zh", "it", ICU_LOCALE_REFUSED, "?\tIdentifierNotFound");
     want(icu_locale_is_settled(handle) == ICU_LOCALE_SETTLED, "the sample is not settled");
+}
+
+// A supplement of tables that one handle has, and of tables that two have.
+static void supplements(const uint8_t *json, size_t length) {
+    struct icu_locale one = {0}, other = {0};
+    const char *parents = "{\"parents\":{\"en-AU\":\"en-001\",\"aa\":\"qbb\",\"qbb\":\"aa\"}}";
+    want(icu_locale_open(json, length, &one) == ICU_LOCALE_DONE, "tables to be supplemented");
+    answers(&one, "fallback", "en-AU", ICU_LOCALE_ACCEPTED, "en-AU en und");
+    want(supplement_of(&one, parents) == ICU_LOCALE_DONE, "a supplement");
+    answers(&one, "fallback", "en-AU", ICU_LOCALE_ACCEPTED, "en-AU en-001 en und");
+    answers(&one, "fallback", "aa-DJ", ICU_LOCALE_REFUSED, "?\tCircle");
+    want(supplement_of(&one, "") == ICU_LOCALE_JSON, "no text of a supplement");
+    want(supplement_of(&one, "{\"colour\":1}") == ICU_LOCALE_SHAPE, "a member that no supplement has");
+    answers(&one, "fallback", "en-AU", ICU_LOCALE_ACCEPTED, "en-AU en-001 en und");
+    commands(&one);
+    want(icu_locale_share(&one, &other) == ICU_LOCALE_DONE, "a share of supplemented tables");
+    answers(&other, "fallback", "en-AU", ICU_LOCALE_ACCEPTED, "en-AU en-001 en und");
+    want(supplement_of(&one, "{}") == ICU_LOCALE_SHARED, "a supplement of tables that are shared");
+    want(supplement_of(&other, "{}") == ICU_LOCALE_SHARED, "a supplement of a share");
+    want(supplement_of(&other, "{") == ICU_LOCALE_JSON, "no supplement of a share");
+    answers(&one, "fallback", "en-AU", ICU_LOCALE_ACCEPTED, "en-AU en-001 en und");
+    icu_locale_close(&one);
+    want(supplement_of(&other, "{}") == ICU_LOCALE_DONE, "a supplement where the other handle is closed");
+    answers(&other, "fallback", "en-AU", ICU_LOCALE_ACCEPTED, "en-AU en und");
+    icu_locale_close(&other);
 }
 
 static void wrong_words(struct icu_locale *handle) {
@@ -264,6 +302,7 @@ int main(int count, char **names) {
     want(icu_locale_share(&one, &other) == ICU_LOCALE_DONE, "a share");
     want(icu_locale_open(json, length, &one) == ICU_LOCALE_DONE, "an open of an open handle");
     alone(json, length);
+    supplements(json, length);
     free(json);
     commands(&other);
     wrong_words(&one);

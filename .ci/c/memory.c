@@ -29,6 +29,7 @@ static const char *rows[][3] = {
     {"canonicalize", "ja\tpiece000-piece001", "ja\tpiece000-piece001\tU"},
     {"name light en", "it-Latn-fonipa-posix", "Italian (Latin, IPA Phonetics, posix)\tR"},
     {"maximize", "e", "?\tInvalidLanguage"},
+    {"fallback", "en-AU-1996-fonipa", "en-AU-1996-fonipa en-AU en-001 en und"},
     {"negotiate", "fr de-1996-1901 zh-TW", "2\tzh-Hant"},
 };
 
@@ -89,6 +90,16 @@ static int negotiations(struct icu_locale *from) {
     return refusals;
 }
 
+// A supplement, and the same once more where memory was refused.
+static int supplement(struct icu_locale *handle) {
+    static const char parents[] = "{\"parents\":{\"en-AU\":\"en-001\"}}";
+    int32_t number = icu_locale_supplement(handle, (const uint8_t *)parents, sizeof parents - 1);
+    want(number == ICU_LOCALE_DONE || number == ICU_LOCALE_MEMORY, "a supplement");
+    if (number == ICU_LOCALE_DONE) return 0;
+    want(icu_locale_supplement(handle, (const uint8_t *)parents, sizeof parents - 1) == ICU_LOCALE_DONE, "the next supplement");
+    return 1;
+}
+
 // All that is done over two handles, and one with a list. Where a request is refused, what was held stays, and the call says so.
 static int run(void) {
     struct icu_locale one = {0}, other = {0};
@@ -97,6 +108,7 @@ static int run(void) {
     want(number == ICU_LOCALE_DONE ? !!one.at : number == ICU_LOCALE_MEMORY && !one.at, "an open");
     refusals += number == ICU_LOCALE_MEMORY;
     if (number != ICU_LOCALE_DONE) want(icu_locale_open(json, length, &one) == ICU_LOCALE_DONE, "the next open");
+    refusals += supplement(&one);
     for (int row = 0; row < ROWS; row++) {
         if (row_of(&one, row) != ICU_LOCALE_MEMORY) continue;
         refusals += 1;
@@ -109,6 +121,7 @@ static int run(void) {
     number = icu_locale_open(json, length, &one);
     want(one.at && (number == ICU_LOCALE_DONE || number == ICU_LOCALE_MEMORY), "an open of an open handle");
     refusals += number == ICU_LOCALE_MEMORY;
+    if (number == ICU_LOCALE_DONE) refusals += supplement(&one);
     for (int row = 0; row < ROWS; row++) refusals += row_of(&one, row) == ICU_LOCALE_MEMORY;
     icu_locale_close(&one);
     icu_locale_close(&other);

@@ -30,6 +30,23 @@ assert.throws(() => tables.maximize('en', { syntax: 'utf8' }), RangeError);
 refuses(() => tables.maximize('en-u'), 'InvalidSubtag');
 refuses(() => tables.maximize('zh-cmn'), 'InvalidSubtag');
 
+assert.deepStrictEqual(tables.fallback('zh-TW-u-ca-chinese'), ['zh-TW', 'zh-Hant-TW', 'zh-Hant', 'und']);
+assert.deepStrictEqual(tables.fallback('de_DE.UTF-8', { syntax: 'posix' }), ['de-DE', 'de', 'und']);
+const parents = '{"parents":{"en-AU":"en-001","aa":"qbb","qbb":"aa"}}';
+const supplemented = Tables.fromJson(example, { supplement: parents });
+for (const each of [supplemented, supplemented.share(), Tables.fromJson(example, { supplement: Buffer.from(parents) })]) {
+  assert.deepStrictEqual(each.fallback('en-AU'), ['en-AU', 'en-001', 'en', 'und']);
+  refuses(() => each.fallback('aa-DJ'), 'Circle');
+  assert.strictEqual(each.name('it', 'en-AU', 'light', { fallback: true }), 'Italian');
+  refuses(() => each.name('it', 'aa', 'light', { fallback: true }), 'Circle');
+  refuses(() => each.name('it', 'de-AT', 'light', { fallback: true }), 'IdentifierNotFound',
+    "IdentifierNotFound: the tables were made without the locale 'de-AT'");
+}
+refuses(() => Tables.fromJson(example, { supplement: '{' }), 'Json');
+refuses(() => Tables.fromJson(example, { supplement: '[]' }), 'Shape');
+assert.throws(() => Tables.fromJson(example, { supplement: 5 }), TypeError);
+refuses(() => tables.fallback(''), 'InvalidLanguage');
+
 refuses(() => Tables.fromJson('{'), 'Json');
 refuses(() => Tables.fromJson('[]'), 'Shape');
 refuses(() => tables.maximize('en-'), 'InvalidSubtag');

@@ -8,8 +8,8 @@ import unittest
 from pathlib import Path
 
 import icu_locale
-from icu_locale import (Closed, InvalidLanguage, InvalidList, InvalidSubtag, LineRefused, Match, NameMissing, Negotiator,
-                        NoCommand, NoJson, NoList, NotSettled, Refused, TableMissing, Tables)
+from icu_locale import (Circle, Closed, InvalidLanguage, InvalidList, InvalidSubtag, LineRefused, Match, NameMissing,
+                        Negotiator, NoCommand, NoJson, NoList, NoTables, NotSettled, Refused, TableMissing, Tables)
 from icu_locale.example import TABLES
 
 UNSETTLED = """{"likely_language": {"und": ["en", "Latn", "US"], "language": {"xx": ["Zzzz", "DE"]}},
@@ -47,6 +47,39 @@ class Examples(unittest.TestCase):
         for each in types:
             self.assertTrue(each.__doc__)
             self.assertEqual(each.__module__, "icu_locale")
+
+
+class Fallback(unittest.TestCase):
+    PARENTS = '{"parents": {"en-AU": "en-001", "aa": "qbb", "qbb": "aa"}}'
+
+    def test_chains(self):
+        with Tables.from_json(TABLES) as tables:
+            self.assertEqual(tables.fallback("en-AU"), ["en-AU", "en", "und"])
+            self.assertEqual(tables.fallback("zh_TW"), ["zh-TW", "zh-Hant-TW", "zh-Hant", "und"])
+            self.assertEqual(tables.fallback("de_DE.UTF-8", syntax="posix"), ["de-DE", "de", "und"])
+            self.assertRaises(InvalidLanguage, tables.fallback, "")
+        with Tables.from_json(TABLES, self.PARENTS.encode()) as tables, tables.share() as other:
+            for each in (tables, other):
+                self.assertEqual(each.fallback("en-AU-fonipa"), ["en-AU-fonipa", "en-AU", "en-001", "en", "und"])
+                with self.assertRaises(Circle) as refused:
+                    each.fallback("aa-DJ")
+                self.assertEqual((refused.exception.name, refused.exception.number), ("Circle", 1))
+
+    def test_supplements(self):
+        for supplement, refusal in [("", NoJson), ("{", NoJson), ("[]", NoTables), ('{"parents": 1}', NoTables)]:
+            self.assertRaises(refusal, Tables.from_json, TABLES, supplement)
+        self.assertRaises(TypeError, Tables.from_json, TABLES, 5)
+        Tables.from_json(TABLES, "{}").close()
+
+    def test_names(self):
+        with Tables.from_json(TABLES, self.PARENTS) as tables:
+            self.assertEqual(tables.name("it", "en-AU", fallback=True), "Italian")
+            self.assertEqual(tables.name("it", "en", fallback=True), "Italian")
+            for locale in ("de-AT", "und"):
+                with self.assertRaises(NameMissing) as refused:
+                    tables.name("it", locale, fallback=True)
+                self.assertIn(repr(locale), str(refused.exception))
+            self.assertRaises(Circle, tables.name, "it", "aa", fallback=True)
 
 
 class Syntaxes(unittest.TestCase):

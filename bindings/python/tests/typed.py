@@ -10,6 +10,8 @@ def shown(tables: Tables) -> List[str]:
     forms: List[str] = [tables.maximize("zh-TW"), tables.minimize(b"zh-Hant-TW", favor_script=True)]
     canonical: Canonical = tables.canonicalize_with("sh", "abcdefg")
     direction: Optional[Direction] = tables.direction("ar")
+    chain: List[str] = tables.fallback("en-AU")
+    forms += [tables.name("it-US", chain[0], fallback=True), *chain]
     return [*forms, canonical.identifier, canonical.value, direction or "none", tables.name("it-US", "en")]
 
 

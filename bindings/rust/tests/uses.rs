@@ -18,6 +18,21 @@ fn refusals() {
 }
 
 #[test]
+fn fallback() {
+    let parents = r#"{"parents":{"en-AU":"en-001","aa":"qbb","qbb":"aa"}}"#;
+    let tables = Tables::from_json_with(EXAMPLE.as_bytes(), parents.as_bytes()).unwrap();
+    for each in [tables.share().unwrap(), tables] {
+        assert_eq!(each.fallback("en-AU-u-hc-h12").unwrap(), ["en-AU", "en-001", "en", "und"]);
+        assert_eq!(each.fallback("aa-DJ"), Err(Refusal::Circle));
+        assert_eq!(each.name_by_fallback("it", "en-AU").as_deref(), Ok("Italian"));
+        assert_eq!(each.name_by_fallback("it", "de"), Err(Refusal::NameMissing));
+    }
+    assert_eq!(Tables::from_json_with(EXAMPLE.as_bytes(), b"{").err(), Some(Refusal::Json));
+    assert_eq!(Tables::from_json_with(EXAMPLE.as_bytes(), b"[]").err(), Some(Refusal::Shape));
+    assert_eq!(Tables::from_json_with(b"{", b"{}").err(), Some(Refusal::Json));
+}
+
+#[test]
 fn syntaxes() {
     let tables = Tables::from_json(EXAMPLE.as_bytes()).unwrap();
     assert_eq!(tables.maximize("EN-u-hc-h12-ca-buddhist").as_deref(), Ok("en-Latn-US-u-ca-buddhist-hc-h12"));
