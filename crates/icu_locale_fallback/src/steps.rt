@@ -67,6 +67,7 @@ fn without_implied(expander: &LocaleExpander<'_>, locale: DataLocale) -> DataLoc
     }
 }
 
+// Without the script.
 fn without_script(locale: &DataLocale) -> DataLocale
     ensures { result ≡ without_script locale.now }
 {
@@ -77,6 +78,7 @@ fn without_script(locale: &DataLocale) -> DataLocale
     }
 }
 
+// Without the region.
 fn without_region(locale: &DataLocale) -> DataLocale
     ensures { result ≡ without_region locale.now }
 {
@@ -144,6 +146,7 @@ fn truncated(
     }
 }
 
+// The region goes first, then a script that is implied, then the language.
 fn truncated_by_language(expander: &LocaleExpander<'_>, locale: &DataLocale) -> DataLocale
     ensures { result ≡ truncated_by_language (likely expander.now) locale.now }
 {
@@ -156,6 +159,7 @@ fn truncated_by_language(expander: &LocaleExpander<'_>, locale: &DataLocale) -> 
     }
 }
 
+// So too, but the language leaves its script.
 fn truncated_by_script(expander: &LocaleExpander<'_>, locale: &DataLocale) -> DataLocale
     ensures { result ≡ truncated_by_script (likely expander.now) locale.now }
 {
@@ -174,6 +178,7 @@ fn truncated_by_script(expander: &LocaleExpander<'_>, locale: &DataLocale) -> Da
     }
 }
 
+// Language and script go first, then the region.
 fn truncated_by_region(locale: &DataLocale) -> DataLocale
     ensures { result ≡ truncated_by_region locale.now }
 {
