@@ -12,7 +12,8 @@ use Rattle.icu_locale_runs.specs.Run.{IsUniverse}
 use Rattle.icu_locale.specs.laws.Locales.{same_from_test}
 use Rattle.icu_locale_runs.specs.laws.Lists.{Contains-here, Contains-there, Contains-cons_cases, Contains-nil, Contains-flat_map, Contains-from_flat_map}
 use Rattle.icu_locale_fallback.specs.Fallback.{root, truncated, Inheritance, counted, explicit_parent, next}
-use Rattle.icu_locale_fallback.specs.Chains.{locale_cmp, parents_of, most_truncations}
+use Rattle.icu_locale_fallback.specs.Chains.{parents_of, most_truncations}
+use Rattle.icu_provider.specs.Requests.{locale_cmp}
 use Rattle.icu_locale_fallback.specs.inner.Universe.{after, forms, universe}
 use Rattle.icu_locale_fallback.specs.declared.fallbacker.LocaleFallbackPriority.{LocaleFallbackPriority}
 use Rattle.icu_locale_fallback.specs.declared.fallbacker.LocaleFallbackPriority.TheVariants.{Language, Script, Region}

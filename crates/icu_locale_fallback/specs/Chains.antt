@@ -1,13 +1,10 @@
 -- Chains of locales: what a fallbacker is, and what its calls answer.
 use Rattle.std.specs.Prelude.{◌≡◌, ℕ, ◌<◌, ◌≤◌, List, codes, Option, Some, None}
-use Rattle.std.specs.declared.cmp.Ordering.{Ordering}
-use Rattle.std.specs.Ordering.{ordering_then}
-use Rattle.std.specs.Option.{option_cmp}
 use Rattle.std.specs.List.{slice_get}
 use Rattle.icu_locale_fallback.specs.declared.errors.FallbackError.{FallbackError}
 use Rattle.icu_locale_fallback.specs.declared.errors.FallbackError.TheVariants.{Memory, Circle}
-use Rattle.icu_locale_core.specs.TextSet.{text_cmp}
 use Rattle.icu_locale_core.specs.Maps.{value_at}
+use Rattle.icu_provider.specs.Requests.{locale_cmp}
 use Rattle.icu_provider.specs.declared.data_locale.DataLocale.{DataLocale}
 use Rattle.icu_locale.specs.LikelyTable.{likely}
 use Rattle.icu_locale_runs.specs.Run.{at, EndsAt, IsRepeat, HasDistinct}
@@ -17,12 +14,6 @@ use Rattle.icu_locale_fallback.specs.declared.fallbacker.LocaleFallbackPriority.
 use Rattle.icu_locale_fallback.specs.declared.fallbacker.LocaleFallbackPriority.TheVariants.{Language, Script, Region}
 use Rattle.icu_locale_fallback.specs.declared.fallbacker.LocaleFallbacker.{LocaleFallbacker}
 use Rattle.icu_locale_fallback.specs.declared.fallbacker.LocaleFallbackIterator.{LocaleFallbackIterator}
-
--- locales in the order of their languages, then scripts, then regions, an absent part first: that of a table's keys
-abbrev pub locale_cmp : DataLocale → DataLocale → Ordering
-locale_cmp x y =
-    ordering_then (text_cmp x.language y.language)
-    (ordering_then (option_cmp text_cmp x.script y.script) (option_cmp text_cmp x.region y.region))
 
 -- the parents of a table's rows (section 4.2, Parent Locales)
 abbrev pub parents_of : List (DataLocale × DataLocale) → Parents
