@@ -1,5 +1,5 @@
 -- How the ends of a stream's parts make the ends of the stream.
-use Rattle.std.proofs.Common.{◌≡◌, ℕ, Bool, false, List, [], ◌∷◌, ◌++◌, Option, Some, None, Result, Ok, Err, IfOk, IfErr, inl, inr, refl, ap, sym}
+use Rattle.std.proofs.Common.{◌≡◌, ℕ, Bool, false, List, [], ◌∷◌, ◌++◌, Option, Some, None, Result, Ok, Err, IfOk, IfErr, inl, inr, refl, ap, sym, ◌⊎◌}
 use Rattle.std.proofs.Common.{subst, ◌∙◌, append_assoc, append-nil}
 use Rattle.std.specs.List.{list_any}
 use Rattle.std.specs.Io.KnownBytes.{Consumes, IsAtEnd, prepend_known}
@@ -16,6 +16,7 @@ use Rattle.icu_locale_lines.specs.declared.command.LineCommand.{LineCommand}
 use Rattle.icu_locale_lines.specs.declared.command.Task.TheVariants.{Negotiate}
 use Rattle.icu_locale_lines.specs.declared.error.CliError.{CliError}
 use Rattle.icu_locale_lines.specs.declared.error.CliError.TheVariants.{Data, NotSettled}
+use Rattle.icu_locale_lines.specs.declared.error.CliError.TheVariants as error
 use Rattle.icu_locale_lines.specs.declared.command.Command.{Command}
 use Rattle.icu_provider.specs.declared.error.DataError.{DataError}
 use Rattle.icu_locale_lines.specs.declared.runs.Status.{Status}
@@ -31,7 +32,7 @@ use Rattle.icu_tables.specs.Supplement.{no_supplement}
 use Rattle.icu_locale_lines.specs.Streams.{ReadsBoth, IsSupplementStream, IsRefusedSupplementStream}
 use Rattle.icu_locale_lines.specs.Streams.{StopsStream, StopsAmong, StopsLoaded, IsRefusedStream, ReadsLine, ReadsTablesLine, LeavesBehind}
 use Rattle.icu_locale_lines.specs.Streams.{IsJsonStream, IsRefusedJsonStream}
-use Rattle.icu_locale_lines.specs.WholeRuns.{IsRunFrom}
+use Rattle.icu_locale_lines.specs.WholeRuns.{IsRunFrom, IsUnread}
 use Rattle.icu_locale_lines.specs.Commands.{IsWorkOf, text_answered}
 use Rattle.icu_locale_lines.proofs.FirstLines.{place_of_end, alone}
 use Rattle.icu_locale_lines.proofs.Streaming.{WritesAll-none}
@@ -146,6 +147,11 @@ module _ (c : Command) (t : Tables) (read mid left read' wrote wrote' : Stream) 
 
   pub json_refused : IfErr r (IsRefusedStream c t mid left read' wrote wrote') → IfErr r (IsRefusedJsonStream c read read' wrote wrote')
   json_refused h = IfErr-weaker r _ _ (λ e h. inr (inr (t, mid, left, reads, behind, h))) h
+
+-- a line that was not read
+pub unread_from : (Left : Type 0) (e : CliError) → (e ≡ error.Read) ⊎ (e ≡ error.Memory) → (e ≡ error.Read → Left) → IsUnread Left e
+unread_from Left e (inl is) left = subst (IsUnread Left) (sym is) (left is)
+unread_from Left e (inr is) left = subst (IsUnread Left) (sym is) tt
 
 module _ (c : Command) (t : Tables) (read mid left read' wrote wrote' : Stream) (reads : ReadsBoth read mid t)
     (behind : LeavesBehind mid left) (r : Result Status CliError) where

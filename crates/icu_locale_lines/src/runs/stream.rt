@@ -166,7 +166,8 @@ pub fn stream_supplement_within<R: Read, W: Write>(
     let first = read_first_line(alloc, &[], reader)?;
     let mut tables = read_tables(alloc, &first.line)?;
     let second = read_first_line(alloc, &first.rest, reader)?;
-    tables.set_supplement(read_supplement(alloc, &second.line)?);
+    let supplement = read_supplement(alloc, &second.line)?;
+    tables.set_supplement(supplement);
     stream_over(
         alloc,
         command,
