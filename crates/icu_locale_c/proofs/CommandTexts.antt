@@ -13,9 +13,8 @@ use Rattle.icu_locale_lines.specs.laws.Commands.{counted, behind_syntax, without
 use Rattle.icu_locale_lines.specs.declared.command.Command.TheVariants.{Lines}
 use Rattle.icu_locale_lines.specs.declared.command.LineCommand.{LineCommand}
 use Rattle.icu_locale_lines.specs.declared.command.Task.{Task}
-use Rattle.icu_locale_lines.specs.declared.command.Task.TheVariants.{Transform, Canonicalize, Direction, Negotiate, Name}
+use Rattle.icu_locale_lines.specs.declared.command.Task.TheVariants.{Transform, Canonicalize, Direction, Negotiate, Name, Fallback}
 use Rattle.icu_locale_lines.specs.declared.work.form.Transform.TheVariants.{Maximize, Minimize, MinimizeScript}
-use Rattle.icu_locale_lines.specs.declared.error.CliError.{CliError}
 use Rattle.icu_locale_extensions.specs.declared.syntax.Syntax.{Syntax}
 use Rattle.icu_locale_c.specs.Calls.{AreNoCommand, Names, NamesNone}
 use Rattle.icu_locale_c.specs.inner.Words.{AreNoPlain}
@@ -145,6 +144,7 @@ word_alone (Transform MinimizeScript) = refl
 word_alone Canonicalize = refl
 word_alone Direction = refl
 word_alone Negotiate = refl
+word_alone Fallback = refl
 word_alone (Name chain preferences) = refl
 
 -- a text that is the word of a task is one word

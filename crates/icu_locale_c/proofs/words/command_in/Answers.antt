@@ -1,4 +1,4 @@
-use Rattle.std.proofs.Common.{◌≡◌, sym, ◌∙◌, rules}
+use Rattle.std.proofs.Common.{rules}
 use Rattle.std.specs.List.{slice_split}
 use Rattle.icu_locale_lines.specs.Lists.{is_space}
 use Rattle.icu_locale_c.proofs.CommandTexts.{alone_refused, other_refused, syntax_named, syntax_refused, word_named}

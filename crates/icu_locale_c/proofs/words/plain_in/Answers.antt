@@ -1,4 +1,4 @@
-use Rattle.std.proofs.Common.{rules, refl, ap, codes, ◌≡◌, ◌≢◌, ◌∷◌, ◌∙◌, [], subst, sym}
+use Rattle.std.proofs.Common.{rules, refl, ap, codes, ◌≡◌, ◌≢◌, ◌∷◌, ◌∙◌, subst, sym}
 use Rattle.std.specs.List.{slice_split}
 use Rattle.icu_locale_lines.specs.Lists.{is_space}
 use Rattle.icu_locale_c.specs.inner.Words.{AreNoPlain}
