@@ -1,7 +1,7 @@
 -- A wish more.
-use Rattle.std.proofs.Common.{◌≡◌, ℕ, zero, suc, ◌+◌, ◌-◌, ◌<◌, ◌≤◌, Bool, true, false, not, ◌||◌, cond, nat_lt, ◌==◌, List, [], ◌∷◌, ◌++◌, length, take, drop, map, get_or, Option, Some, None, refl, sym, ap, ◌∙◌, subst, arith, inl, inr, AllPairs, append_assoc, length-append, length-drop, add-one}
-use Rattle.std.specs.List.{filter, filter_map, list_any, cons_option, insert, position, position_or_len, prefix_len}
-use Rattle.std.proofs.lemmas.Bool.{cases_lt, cases_order, cases_Bool, ltb-true, ltb-false, eqb-true}
+use Rattle.std.proofs.Common.{◌≡◌, ℕ, suc, ◌+◌, ◌-◌, ◌<◌, ◌≤◌, Bool, true, false, not, ◌||◌, cond, nat_lt, ◌==◌, List, [], ◌∷◌, ◌++◌, length, take, drop, map, get_or, Option, Some, None, refl, sym, ap, ◌∙◌, subst, arith, inl, inr, AllPairs, append_assoc, length-drop, add-one}
+use Rattle.std.specs.List.{filter, filter_map, list_any, cons_option, insert, position, position_or_len}
+use Rattle.std.proofs.lemmas.Bool.{false≢true, cases_order, cases_Bool, ltb-true, ltb-false, eqb-true}
 use Rattle.std.proofs.lemmas.Option.{none-some}
 use Rattle.std.proofs.Math.Seq.{drop-cons}
 use Rattle.std.proofs.lemmas.List.{take_more, take_all, get_or-take, length-take-le, take-map, drop-map, map-append, take-append-drop, drop-take, append-nil, get_or-drop}
@@ -241,3 +241,14 @@ module _ (ws : List Wish) (falls : AllPairs (λ u v. v.1 ≤ u.1) ws) where
 pub any-map : {X Y : Type 0} (show : X → Y) (p : Y → Bool) (xs : List X) → list_any p (map show xs) ≡ list_any (λ x. p (show x)) xs
 any-map show p [] = refl
 any-map show p (x ∷ xs) = ap (λ b. p (show x) || b) (any-map show p xs)
+
+-- ---- where there is no wish
+
+same_itself : (n : ℕ) → (n == n) ≡ true
+same_itself n = grind (arith, nat_tests)
+
+pub no_wishes : (ws : List Wish) → AreByWeight [] ws → (length ws == 0) ≡ false → ⊥
+no_wishes [] are some = false≢true (sym some)
+no_wishes (w ∷ ws) are some =
+    let here = ap (λ b. cond b (w ∷ filter (has_weight w.1) ws) (filter (has_weight w.1) ws)) (same_itself w.1) in
+    let none = ap length (sym here ∙ are.same w.1) in omega arith

@@ -1,5 +1,7 @@
 pub mod Apart
 pub mod Brought
+pub mod Choices
+pub mod Firsts
 pub mod Greatest
 pub mod Groups
 pub mod Inserts

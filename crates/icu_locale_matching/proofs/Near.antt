@@ -8,7 +8,7 @@ use Rattle.std.proofs.lemmas.Slice.Eq.{bytes_eq-Decides}
 use Rattle.icu_locale_core.specs.TextSet.{text_cmp}
 use Rattle.icu_locale_core.specs.Maps.{value_at}
 use Rattle.icu_locale.specs.LikelyTable.{likely}
-use Rattle.icu_locale_matching.specs.Distance.{Levels, levels_of, levels_for}
+use Rattle.icu_locale_matching.specs.Distance.{Levels, levels_of}
 use Rattle.icu_locale_matching.specs.Nearest.{Question, candidate_of, candidates_of, form_of, has_language}
 use Rattle.icu_locale_matching.specs.inner.Levels.{shown}
 use Rattle.icu_locale_matching.specs.inner.Asked.{asked_of, IsAsked, IsOfferAt, Beats, BeatsEach, limit}

@@ -62,7 +62,8 @@ pub record Levels : Type 0 where
   pub macros : Macros
 
 -- three lists of rules, and the distances where none fits
-abbrev pub levels_over : LanguageMatching → List MatchRule → List MatchRule → List MatchRule → Levels
+abbrev pub levels_over : LanguageMatching → List MatchRule → List MatchRule → List MatchRule
+    → Levels
 levels_over t language script region = record {
   language = record { rules = language; other = t.other_language };
   script = record { rules = script; other = t.other_script };
@@ -93,7 +94,8 @@ with_region x r = record { language = x.language; script = x.script; region = r 
 
 -- the forms that a form stands for: with each region of the row, or itself alone
 abbrev pub stands_for : Macros → DataLocale → List DataLocale
-stands_for macros x = option_map_or (map (λ r. with_region x (Some r))) (row_of macros x.region) (x ∷ [])
+stands_for macros x =
+    option_map_or (map (λ r. with_region x (Some r))) (row_of macros x.region) (x ∷ [])
 
 -- the greatest of some numbers, and 0 of none
 abbrev pub greatest : List ℕ → ℕ
@@ -102,11 +104,13 @@ greatest (n ∷ ns) = max n (greatest ns)
 
 -- the greatest distance of the region level to what the supported form stands for
 abbrev pub greatest_to : Levels → DataLocale → DataLocale → ℕ
-greatest_to levels d s = greatest (map (level_distance levels.region d) (stands_for levels.macros s))
+greatest_to levels d s =
+    greatest (map (level_distance levels.region d) (stands_for levels.macros s))
 
 -- the distance of the region level: the greatest over the pairs of regions that the two stand for
 abbrev pub region_distance : Levels → DataLocale → DataLocale → ℕ
-region_distance levels d s = greatest (map (λ x. greatest_to levels x s) (stands_for levels.macros d))
+region_distance levels d s =
+    greatest (map (λ x. greatest_to levels x s) (stands_for levels.macros d))
 
 -- ---- the sum
 

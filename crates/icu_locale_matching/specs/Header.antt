@@ -1,5 +1,5 @@
 -- The header Accept-Language (RFC 9110, section 12.5.4).
-use Rattle.std.specs.Prelude.{◌≡◌, ◌≤◌, ℕ, Bool, ◌==◌, ◌||◌, ◌&&◌, List, [], ◌∷◌, map, filter, take, length, codes, nat_lt, Option, Some, None, if◌then◌else◌, AllPairs}
+use Rattle.std.specs.Prelude.{◌≡◌, ◌≤◌, ℕ, Bool, ◌==◌, ◌||◌, ◌&&◌, List, [], ◌∷◌, filter, take, length, codes, nat_lt, Option, Some, None, if◌then◌else◌, AllPairs}
 use Rattle.std.specs.List.{slice_split, filter_map, list_any, before_first, after_first}
 use Rattle.std.specs.Option.{option_map}
 use Rattle.std.specs.Str.{bytes_eq}

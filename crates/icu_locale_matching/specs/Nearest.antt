@@ -64,7 +64,8 @@ candidate_of likely t place x = let form = form_of likely x in record {
 }
 
 -- what it knows of each
-abbrev pub candidates_of : LikelySubtags → LanguageMatching → List LanguageIdentifier → List Candidate
+abbrev pub candidates_of : LikelySubtags → LanguageMatching → List LanguageIdentifier
+    → List Candidate
 candidates_of likely t xs = map (λ p. candidate_of likely t p.0 p.1) (enumerate_from 0 xs)
 
 -- whether a candidate has a language

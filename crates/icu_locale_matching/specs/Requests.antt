@@ -37,7 +37,8 @@ AreRequests likely rules (w ∷ ws) ys =
     × (ys ≡ cons_option o rest)
 
 -- y is the canonical form of x, or x as it is, where the rules come to no end
-abbrev pub IsBrought : LikelySubtags → Rules → LanguageIdentifier → Bool → LanguageIdentifier → Type 0
+abbrev pub IsBrought : LikelySubtags → Rules → LanguageIdentifier → Bool → LanguageIdentifier
+    → Type 0
 IsBrought likely rules x true y = EndsAt (next likely rules) x y
 IsBrought likely rules x false y =
     ((z : LanguageIdentifier) → EndsAt (next likely rules) x z → ⊥) × (y ≡ x)

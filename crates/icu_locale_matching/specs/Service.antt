@@ -1,5 +1,5 @@
 -- What is served (RFC 9110, section 12.5.4; RFC 4647, section 3.3.1, basic filtering).
-use Rattle.std.specs.Prelude.{◌≡◌, ℕ, Bool, true, false, ◌&&◌, not, List, [], ◌∷◌, map, Option, Some, None, if◌then◌else◌}
+use Rattle.std.specs.Prelude.{◌≡◌, ℕ, Bool, true, false, ◌&&◌, not, List, [], ◌∷◌, map, Option, None, if◌then◌else◌}
 use Rattle.std.specs.List.{list_any, position}
 use Rattle.std.specs.Option.{option_map, option_or}
 use Rattle.std.specs.Str.{bytes_eq}
@@ -77,18 +77,25 @@ pub record IsChoice (m : Matching) (requests : List LanguageIdentifier) (may : L
   pub nearest : IsNearest (question m requests (may_of may)) found
   pub is : result ≡ option_or (place_of found) (first_allowed any may)
 
--- the place that is served for a header: the choice for what its wanted ranges ask for, by falling weight, among the
--- canonical forms of what is available that no refused range begins
-pub record IsServed (s : Service) (header : List ℕ) (result : Option ℕ) : Type 0 where
-  pub wishes : List Wish
-  pub sorted : AreByWeight (wishes_of header) wishes
+-- the place that is served for wishes: the choice for what the wanted ranges ask for, among the canonical forms of what
+-- is available that no refused range begins
+pub record IsServedFor (s : Service) (wishes : List Wish) (result : Option ℕ) : Type 0 where
   pub requests : List LanguageIdentifier
-  pub requested : AreRequests (likely s.rules.expander) (lent s.rules.rules) (wanted wishes) requests
+  pub requested : AreRequests (likely s.rules.expander) (lent s.rules.rules) (wanted wishes)
+      requests
   pub out : List LanguageIdentifier
   pub taken_out : AreRequests (likely s.rules.expander) (lent s.rules.rules) (refused wishes) out
   pub canonical : List LanguageIdentifier
-  pub canonicalized : AreCanonical (likely s.rules.expander) (lent s.rules.rules) s.available canonical
-  pub choice : IsChoice (matching_of s canonical) requests (allowed out canonical) (wants_any wishes) result
+  pub canonicalized : AreCanonical (likely s.rules.expander) (lent s.rules.rules) s.available
+      canonical
+  pub choice : IsChoice (matching_of s canonical) requests (allowed out canonical)
+      (wants_any wishes) result
+
+-- the place that is served for a header: that for its wishes by falling weight
+pub record IsServed (s : Service) (header : List ℕ) (result : Option ℕ) : Type 0 where
+  pub wishes : List Wish
+  pub sorted : AreByWeight (wishes_of header) wishes
+  pub served : IsServedFor s wishes result
 
 -- ---- what is prepared
 

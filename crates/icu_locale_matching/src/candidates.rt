@@ -25,9 +25,9 @@ pub(crate) struct Candidate {
     pub(crate) off_paradigm: bool,
 }
 
-/// What a `LocaleMatcher` is asked over: the available identifiers, and what a match asks of each, by language. It borrows no
-/// table, so that a program can keep it beside its tables, and lends it with them at each call, by `LocaleMatcher::over`.
-/// In contracts `IsMadeOver` says over which tables it was made.
+/// What a `LocaleMatcher` is asked over: the available identifiers, and what a match asks of each, by language. It
+/// borrows no table, so that a program can keep it beside its tables, and lends it with them at each call, by
+/// `LocaleMatcher::over`. In contracts `IsMadeOver` says over which tables it was made.
 #[derive(Debug)]
 pub struct Candidates {
     pub(crate) identifiers: Vec<LanguageIdentifier>,

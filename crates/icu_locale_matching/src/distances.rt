@@ -4,10 +4,11 @@ ghost use Rattle.std.specs.Option.{option_eq};
 ghost use Rattle.std.specs.Str.{bytes_eq};
 ghost use Rattle.std.specs.List.{find};
 ghost use Rattle.icu_locale_matching.specs.Distance.{fits, level_distance, distance_by, distance, levels_over, levels_for, is_macro, with_region, greatest, greatest_to, region_distance};
+ghost use Rattle.icu_locale_matching.specs.inner.Known.{AreKnown, fits_at};
 ghost use Rattle.icu_locale_matching.specs.inner.Levels.{shown_level, shown, IsBelow};
 
 use crate::macros::{Macros, is_macro, row_of};
-use crate::patterns::fits;
+use crate::patterns::{fits, fits_known, fits_pattern};
 use icu_locale_core::{Language, Region};
 use icu_provider::{DataLocale, LanguageMatching, MatchRule};
 
@@ -27,10 +28,10 @@ pub(crate) struct LentLevels<'d> {
     pub(crate) macros: &'d Macros,
 }
 
-/// The distance of a supported form from a desired one: at each of language, script and region nothing where the subtags
-/// are equal, else that of the first rule of the desired language that fits, else that of the level. Where the regions
-/// differ and one is a macro region, it is the greatest over the regions that they stand for. The forms are maximal forms,
-/// as `LocaleExpander::maximal_locale` gives them. It takes no memory.
+/// The distance of a supported form from a desired one: at each of language, script and region nothing where the
+/// subtags are equal, else that of the first rule of the desired language that fits, else that of the level. Where
+/// the regions differ and one is a macro region, it is the greatest over the regions that they stand for. The forms
+/// are maximal forms, as `LocaleExpander::maximal_locale` gives them. It takes no memory.
 pub fn distance(matching: &LanguageMatching, desired: &DataLocale, supported: &DataLocale) -> u32
     ensures { result ≡ distance matching.now desired.now supported.now }
 {
@@ -93,10 +94,51 @@ impl<'d> LentLevel<'d> {
         }
     }
 
+    // Whether the desired pattern of each of the first rules fits.
+    pub(crate) fn known(&self, desired: &DataLocale) -> [bool; 8]
+        ensures { AreKnown self.now.rules.now desired.now result }
+    {
+        [
+            self.fits_at(desired, 0),
+            self.fits_at(desired, 1),
+            self.fits_at(desired, 2),
+            self.fits_at(desired, 3),
+            self.fits_at(desired, 4),
+            self.fits_at(desired, 5),
+            self.fits_at(desired, 6),
+            self.fits_at(desired, 7),
+        ]
+    }
+
+    // Whether the desired pattern of the rule at a place fits.
+    fn fits_at(&self, desired: &DataLocale, place: usize) -> bool
+        ensures { result ≡ fits_at self.now.rules.now desired.now place }
+    {
+        match self.rules.get(place) {
+            Some(rule) => fits_pattern(&rule.desired, desired),
+            None => false,
+        }
+    }
+
+    // The distance of the first rule that fits, where this is known of desired patterns.
+    fn distance_known(&self, known: &[bool], desired: &DataLocale, supported: &DataLocale) -> u16
+        requires { AreKnown self.now.rules.now desired.now known.now }
+        ensures { result ≡ level_distance (shown_level self.now) desired.now supported.now }
+    {
+        for place in 0..self.rules.len() {
+            let rule = &self.rules[place];
+            if fits_known(known.get(place), rule, desired, supported) {
+                return rule.distance;
+            }
+        }
+        self.other
+    }
+
     // Nothing where the subtags of the level are the same.
     fn part(&self, same: bool, desired: &DataLocale, supported: &DataLocale) -> u32
         ensures value { result
-            ≡ (if same then 0 else level_distance (shown_level self.now) desired.now supported.now) }
+            ≡ (if same then 0
+            else level_distance (shown_level self.now) desired.now supported.now) }
         ensures small { result < 2 ^ 16 }
     {
         if same {
@@ -118,19 +160,21 @@ impl<'d> LentLevels<'d> {
             || is_macro(self.macros, &supported.region);
         self.language.part(same_language, desired, supported)
             + self.script.part(same_script, desired, supported)
-            + self.region_part(any_macro, desired, supported)
+            + self.region_part(any_macro, &[], desired, supported)
     }
 
     // The distance, if it is below a limit.
     pub(crate) fn distance_below(
         &self,
         any_macro: bool,
+        known: &[bool],
         desired: &DataLocale,
         supported: &DataLocale,
         limit: u32,
     ) -> Option<u32>
-        requires { any_macro ≡ (is_macro self.now.macros.now desired.now.region
+        requires macros { any_macro ≡ (is_macro self.now.macros.now desired.now.region
             || is_macro self.now.macros.now supported.now.region) }
+        requires known { AreKnown self.now.region.rules.now desired.now known.now }
         ensures { IsBelow limit (distance_by (shown self.now) desired.now supported.now) result }
     {
         let same_language = desired.language == supported.language;
@@ -143,7 +187,7 @@ impl<'d> LentLevels<'d> {
         if to_script >= limit {
             return None;
         }
-        let to_region = to_script + self.region_part(any_macro, desired, supported);
+        let to_region = to_script + self.region_part(any_macro, known, desired, supported);
         if to_region < limit {
             Some(to_region)
         } else {
@@ -152,10 +196,18 @@ impl<'d> LentLevels<'d> {
     }
 
     // Nothing where the regions are the same.
-    fn region_part(&self, any_macro: bool, desired: &DataLocale, supported: &DataLocale) -> u32
-        requires { any_macro ≡ (is_macro self.now.macros.now desired.now.region
+    fn region_part(
+        &self,
+        any_macro: bool,
+        known: &[bool],
+        desired: &DataLocale,
+        supported: &DataLocale,
+    ) -> u32
+        requires macros { any_macro ≡ (is_macro self.now.macros.now desired.now.region
             || is_macro self.now.macros.now supported.now.region) }
-        ensures value { result ≡ (if option_eq bytes_eq desired.now.region supported.now.region then 0
+        requires known { AreKnown self.now.region.rules.now desired.now known.now }
+        ensures value { result
+            ≡ (if option_eq bytes_eq desired.now.region supported.now.region then 0
             else region_distance (shown self.now) desired.now supported.now) }
         ensures small { result < 2 ^ 16 }
     {
@@ -165,7 +217,7 @@ impl<'d> LentLevels<'d> {
         if any_macro {
             u32::from(self.greatest(desired, supported))
         } else {
-            u32::from(self.region.distance(desired, supported))
+            u32::from(self.region.distance_known(known, desired, supported))
         }
     }
 

@@ -83,7 +83,8 @@ impl<'x> Subtags<'x> {
 
     // Takes the next subtag, and tells whether it is a text.
     fn takes(&mut self, text: &str) -> bool
-        ensures { (ps : List (List ℕ)) → begins (text.now ∷ ps) self.old ≡ (result && begins ps self.new) }
+        ensures { (ps : List (List ℕ)) → begins (text.now ∷ ps) self.old
+            ≡ (result && begins ps self.new) }
     {
         if let Some(language) = self.language {
             self.language = None;

@@ -1,5 +1,5 @@
 //! Reading the header.
-ghost use Rattle.std.specs.Prelude.{◌≡◌, ◌++◌, ◌∷◌, [], ◌≤◌, List, length, map, nat_lt, filter, AllPairs, None, IfOk, IsOk, OnOk};
+ghost use Rattle.std.specs.Prelude.{◌≡◌, ◌==◌, ◌++◌, ◌∷◌, [], ◌≤◌, List, length, map, nat_lt, filter, AllPairs, None, IfOk, IsOk, OnOk};
 ghost use Rattle.std.specs.List.{cons_option, position, position_or_len, list_any};
 ghost use Rattle.icu_locale_matching.specs.Header.{AreByWeight, Wish, shown, wanted, refused, is_any, wants_any, has_weight, is_weight, weight, read_element, wishes_of};
 ghost use Rattle.icu_locale_matching.specs.inner.Parts.{parts_if_any, shown_if_any};
@@ -18,9 +18,9 @@ pub struct LentWish<'h> {
     pub weight: u16,
 }
 
-/// The header Accept-Language (RFC 9110, section 12.5.4): the wishes of its first hundred elements by falling weight, those
-/// of equal weight in their order. What cannot be read is passed over. Several headers are one, joined by `,`. Contracts
-/// see the list of wishes.
+/// The header Accept-Language (RFC 9110, section 12.5.4): the wishes of its first hundred elements by falling weight,
+/// those of equal weight in their order. What cannot be read is passed over. Several headers are one, joined by `,`.
+/// Contracts see the list of wishes.
 #[derive(Debug, Drop)]
 pub struct AcceptLanguage<'h> {
     wishes: Vec<LentWish<'h>>,
@@ -46,6 +46,13 @@ impl<'h> AcceptLanguage<'h> {
     {
         let wishes = read_wishes(alloc, header)?;
         Ok(AcceptLanguage { wishes })
+    }
+
+    /// Whether there is no wish. It takes no memory.
+    pub fn is_empty(&self) -> bool
+        ensures { result ≡ (length self.now == 0) }
+    {
+        self.wishes.is_empty()
     }
 
     /// The wishes that are wanted, the most wanted first. It takes no memory.
@@ -115,8 +122,10 @@ fn wanted_and_refused<'l, 'h>(list: &'l [LentWish<'h>]) -> (&'l [LentWish<'h>], 
 
 // Puts the wish of an element, if it can be read, to its place.
 fn add_element<'h>(list: &mut Vec<LentWish<'h>>, text: &'h [u8]) -> Result<(), AllocError>
-    ensures added { OnOk result ((wishes : List Wish) → AreByWeight wishes (map shown list.old.items)
-        → AreByWeight (wishes ++ cons_option (read_element text.now) []) (map shown list.new.items)) }
+    ensures added { OnOk result ((wishes : List Wish)
+        → AreByWeight wishes (map shown list.old.items)
+        → AreByWeight (wishes ++ cons_option (read_element text.now) [])
+        (map shown list.new.items)) }
     ensures free { read_element text.now ≡ None → IsOk result }
 {
     match read_element(text) {

@@ -1,13 +1,16 @@
 //! Laws of language matching: what follows from the definitions alone, over every table. Their functions do nothing.
-ghost use Rattle.std.specs.Prelude.{◌≡◌, ◌↔◌, ◌<◌, ℕ, true, Option, Some, IsSomeAnd};
+ghost use Rattle.std.specs.Prelude.{◌≡◌, ◌↔◌, ◌<◌, ℕ, Bool, true, List, Option, Some, IsSomeAnd};
 ghost use Rattle.icu_locale.specs.Negotiation.{IsMatch};
 ghost use Rattle.icu_provider.specs.declared.data_locale.DataLocale.{DataLocale};
 ghost use Rattle.icu_locale_matching.specs.Distance.{distance, TellsApart, AgreeAt};
-ghost use Rattle.icu_locale_matching.specs.Nearest.{Question, AgreeOn, with_matching, IsNearest, ServesFirst, ScriptsAreFar, KeepsScript};
+ghost use Rattle.icu_locale_matching.specs.Nearest.{Matching, may_of, Question, AgreeOn, with_matching, IsNearest, ServesFirst, ScriptsAreFar, KeepsScript};
+ghost use Rattle.icu_locale_matching.specs.Service.{IsChoice};
 ghost use Rattle.icu_locale_matching.specs.declared.matcher.Match.{Match};
+ghost use Rattle.icu_locale_core.specs.declared.langid.LanguageIdentifier.{LanguageIdentifier};
 ghost use Rattle.icu_provider.specs.declared.matching.LanguageMatching.{LanguageMatching};
 
-/// Where each rule has a distance above 0, and each macro region stands for some region, only equal forms have the distance 0.
+/// Where each rule has a distance above 0, and each macro region stands for some region, only equal forms have the
+/// distance 0.
 #[tactic(auto, using(crate::proofs::Apart::distance_zero))]
 pub fn only_equal_forms_have_no_distance()
     ensures { (t : LanguageMatching) (d s : DataLocale) → TellsApart t
@@ -34,16 +37,16 @@ pub fn what_is_served_is_below_the_threshold()
         → m.distance < q.limits.threshold }
 {}
 
-/// Where a negotiator meets the first request by an identifier that may be served, a matcher serves it at no distance, by an
-/// identifier with the same maximal form, variants aside.
+/// Where a negotiator meets the first request by an identifier that may be served, a matcher serves it at no
+/// distance, by an identifier with the same maximal form, variants aside.
 pub fn what_negotiates_is_served()
     ensures { (q : Question) (j : ℕ) (result : Option Match) → TellsApart q.matching
         → 0 < q.limits.threshold → IsMatch q.likely q.requests q.available 0 j
         → q.may j ≡ true → IsNearest q result → IsSomeAnd result (ServesFirst q) }
 {}
 
-/// The answer depends on the rules of the languages that are asked alone, on the paradigm locales, on the macro regions and
-/// on the distances where no rule fits.
+/// The answer depends on the rules of the languages that are asked alone, on the paradigm locales, on the macro
+/// regions and on the distances where no rule fits.
 pub fn other_rules_do_not_count()
     ensures { (q : Question) (u : LanguageMatching) (result : Option Match) → AgreeOn q u
         → IsNearest q result → IsNearest (with_matching q u) result }
@@ -59,4 +62,10 @@ pub fn what_is_served_may_be()
 pub fn what_is_served_keeps_the_script()
     ensures { (q : Question) (m : Match) → ScriptsAreFar q → IsNearest q (Some m)
         → KeepsScript q m }
+{}
+
+/// What is served for a header may be served: no refused range is it or begins it.
+pub fn what_is_chosen_may_be()
+    ensures { (m : Matching) (requests : List LanguageIdentifier) (may : List Bool) (any : Bool)
+        (place : ℕ) → IsChoice m requests may any (Some place) → may_of may place ≡ true }
 {}

@@ -1,5 +1,5 @@
-//! What to serve: the nearest available locale by the language matching of CLDR, over tables that a caller hands in, and the
-//! header Accept-Language.
+//! What to serve: the nearest available locale by the language matching of CLDR, over tables that a caller hands in,
+//! and the header Accept-Language.
 #![tactic(auto)]
 
 mod candidates;

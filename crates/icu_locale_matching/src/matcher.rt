@@ -27,8 +27,8 @@ pub struct Match {
     pub distance: u32,
 }
 
-/// Finds the nearest available identifier, over tables and a list that it borrows. Contracts see the expander, the match
-/// rules, the limits and the available identifiers.
+/// Finds the nearest available identifier, over tables and a list that it borrows. Contracts see the expander, the
+/// match rules, the limits and the available identifiers.
 #[derive(Debug, Drop)]
 pub struct LocaleMatcher<'r> {
     expander: LocaleExpander<'r>,

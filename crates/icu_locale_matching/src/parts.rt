@@ -28,7 +28,8 @@ pub(crate) fn halves(text: &[u8], byte: u8) -> (&[u8], &[u8])
 
 // The first part of a text that is cut at each such byte, and what is left.
 pub(crate) fn cut(text: &[u8], byte: u8) -> (&[u8], Option<&[u8]>)
-    ensures parts { slice_split (λ b. b == byte) text.now ≡ result.0.now ∷ parts_if_any byte result.1 }
+    ensures parts { slice_split (λ b. b == byte) text.now
+        ≡ result.0.now ∷ parts_if_any byte result.1 }
     ensures shorter { IfSome result.1 (λ rest. length rest.now < length text.now) }
 {
     match place_of(text, byte) {

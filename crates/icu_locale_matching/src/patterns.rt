@@ -1,5 +1,5 @@
 //! Whether a rule fits two forms.
-ghost use Rattle.std.specs.Prelude.{◌≡◌};
+ghost use Rattle.std.specs.Prelude.{◌≡◌, IfSome, option_copied};
 ghost use Rattle.icu_locale_matching.specs.Distance.{fits_script, is_member, fits_region, fits_pattern, fits};
 
 use icu_locale_core::{Region, Script};
@@ -14,8 +14,35 @@ pub(crate) fn fits(rule: &MatchRule, desired: &DataLocale, supported: &DataLocal
         && fits_pattern(&rule.supported, supported)
 }
 
+// Whether a rule fits, where it may be known whether its desired pattern does.
+pub(crate) fn fits_known(
+    known: Option<&bool>,
+    rule: &MatchRule,
+    desired: &DataLocale,
+    supported: &DataLocale,
+) -> bool
+    requires { IfSome (option_copied known)
+        (λ b. b ≡ fits_pattern rule.now.desired desired.now) }
+    ensures { result ≡ fits desired.now supported.now rule.now }
+{
+    fits_desired(known, rule, desired)
+        && supported.language == rule.language
+        && fits_pattern(&rule.supported, supported)
+}
+
+fn fits_desired(known: Option<&bool>, rule: &MatchRule, desired: &DataLocale) -> bool
+    requires { IfSome (option_copied known)
+        (λ b. b ≡ fits_pattern rule.now.desired desired.now) }
+    ensures { result ≡ fits_pattern rule.now.desired desired.now }
+{
+    match known {
+        Some(fits) => *fits,
+        None => fits_pattern(&rule.desired, desired),
+    }
+}
+
 // Whether the script and the region of a form fit.
-fn fits_pattern(pattern: &MatchPattern, form: &DataLocale) -> bool
+pub(crate) fn fits_pattern(pattern: &MatchPattern, form: &DataLocale) -> bool
     ensures { result ≡ fits_pattern pattern.now form.now }
 {
     fits_script(&pattern.script, &form.script) && fits_region(&pattern.region, &form.region)

@@ -132,7 +132,8 @@ fn canonical_form(
     rules: &CanonicalizerRef<'_>,
     id: &LanguageIdentifier,
 ) -> Result<LanguageIdentifier, AllocError>
-    ensures { IfOk result (IsCanonicalOf (likely rules.now.expander) (lent rules.now.rules) id.now) }
+    ensures { IfOk result
+        (IsCanonicalOf (likely rules.now.expander) (lent rules.now.rules) id.now) }
 {
     let mut copy = match id.try_clone() {
         Ok(copy) => copy,

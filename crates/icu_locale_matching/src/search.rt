@@ -41,6 +41,8 @@ pub(crate) struct Asked<'q, 'd> {
     form: DataLocale,
     is_macro: bool,
     levels: LentLevels<'d>,
+    // Which of the first region rules have a desired pattern that fits.
+    known: [bool; 8],
     demoted: u32,
 }
 
@@ -107,6 +109,7 @@ impl<'r> Search<'r> {
         let form = form_of(&self.expander, request);
         let is_macro = is_macro(&self.matching.macros, &form.region);
         let levels = levels_for(self.matching, &form.language);
+        let known = levels.region.known(&form);
         let asked = Asked {
             requests,
             place,
@@ -114,6 +117,7 @@ impl<'r> Search<'r> {
             form,
             is_macro,
             levels,
+            known,
             demoted,
         };
         self.best_for(&asked, best)
@@ -211,10 +215,13 @@ impl<'r> Search<'r> {
         }
         let limit = self.limit(&best).saturating_sub(asked.demoted);
         let any_macro = asked.is_macro || candidate.is_macro;
-        match asked
-            .levels
-            .distance_below(any_macro, &asked.form, &candidate.form, limit)
-        {
+        match asked.levels.distance_below(
+            any_macro,
+            &asked.known,
+            &asked.form,
+            &candidate.form,
+            limit,
+        ) {
             Some(distance) => Some(lesser(best, self.rank(asked, candidate, distance))),
             None => best,
         }
@@ -254,7 +261,7 @@ impl<'r> Search<'r> {
         ensures value { result ≡ later_limit self.now.limits.threshold best.now }
         ensures small { result < 2 ^ 16 }
     {
-        let threshold = u32::from(self.limits.threshold);
+        let threshold = self.threshold();
         match best {
             Some(rank) => rank.cost,
             None => threshold,
@@ -266,11 +273,19 @@ impl<'r> Search<'r> {
         requires { IsWithin self.now.limits.threshold best.now }
         ensures { result ≡ limit self.now.limits.threshold best.now }
     {
-        let threshold = u32::from(self.limits.threshold);
+        let threshold = self.threshold();
         match best {
             Some(rank) => rank.cost + 1,
             None => threshold,
         }
+    }
+
+    // The threshold.
+    fn threshold(&self) -> u32
+        ensures value { result ≡ self.now.limits.threshold }
+        ensures small { result < 2 ^ 16 }
+    {
+        u32::from(self.limits.threshold)
     }
 }
 

@@ -1,13 +1,14 @@
 //! From the bytes of a header to the place of what is served.
-ghost use Rattle.std.specs.Prelude.{◌≡◌, IfOk};
+ghost use Rattle.std.specs.Prelude.{◌≡◌, [], IfOk, IsOk};
 ghost use Rattle.std.specs.Coded.{codes};
 ghost use Rattle.std.specs.List.{position};
 ghost use Rattle.std.specs.Option.{option_or};
 ghost use Rattle.icu_locale_core.specs.TextSet.{text_set_code};
 ghost use Rattle.icu_locale.specs.LikelyTable.{likely};
 ghost use Rattle.icu_locale.specs.RuleSet.{lent};
+ghost use Rattle.icu_locale_matching.specs.Header.{wishes_of};
 ghost use Rattle.icu_locale_matching.specs.Nearest as nearest;
-ghost use Rattle.icu_locale_matching.specs.Service.{Service, IsServed, IsChoice, IsPreparedOver, identifiers_of, first_allowed, place_of};
+ghost use Rattle.icu_locale_matching.specs.Service.{Service, IsServed, IsServedFor, IsChoice, IsPreparedOver, identifiers_of, first_allowed, place_of, allowed};
 
 use crate::candidates::Candidates;
 use crate::filtering::allowed;
@@ -21,9 +22,9 @@ use icu_provider::LanguageMatching;
 use std::alloc::{AllocError, Global};
 use std::marker::Model;
 
-/// What a `LocaleServer` serves: the available identifiers, and what a match asks of their canonical forms. It borrows no
-/// table, so that a program can keep it beside its tables, and lends it with them at each call, by `LocaleServer::over`.
-/// In contracts `IsPreparedOver` says over which tables it was made.
+/// What a `LocaleServer` serves: the available identifiers, and what a match asks of their canonical forms. It
+/// borrows no table, so that a program can keep it beside its tables, and lends it with them at each call, by
+/// `LocaleServer::over`. In contracts `IsPreparedOver` says over which tables it was made.
 #[derive(Debug)]
 pub struct ServedLocales {
     pub(crate) identifiers: Vec<LanguageIdentifier>,
@@ -40,8 +41,9 @@ impl Drop for ServedLocales {
 }
 
 impl ServedLocales {
-    /// Over rules, match rules and the identifiers that are available, which are brought to their canonical forms; one
-    /// whose rules come to no end stays as it is. It takes memory for a copy of each, and what `Candidates::try_new` takes.
+    /// Over rules, match rules and the identifiers that are available, which are brought to their canonical forms;
+    /// one whose rules come to no end stays as it is. It takes memory for a copy of each, and what
+    /// `Candidates::try_new` takes.
     ///
     /// # Errors
     ///
@@ -52,8 +54,8 @@ impl ServedLocales {
         matching: &LanguageMatching,
         identifiers: Vec<LanguageIdentifier>,
     ) -> Result<Self, AllocError>
-        ensures over { IfOk result (IsPreparedOver (likely rules.now.expander) (lent rules.now.rules)
-            matching.now) }
+        ensures over { IfOk result
+            (IsPreparedOver (likely rules.now.expander) (lent rules.now.rules) matching.now) }
         ensures available { IfOk result (λ s. identifiers_of s ≡ identifiers.items) }
     {
         let canonical = canonical_forms(alloc, rules, &identifiers)?;
@@ -72,8 +74,8 @@ impl ServedLocales {
     }
 }
 
-/// Serves the nearest available locale for the header Accept-Language, over tables and a list that it borrows. Contracts see
-/// the rules, the match rules, the limits and the available identifiers.
+/// Serves the nearest available locale for the header Accept-Language, over tables and a list that it borrows.
+/// Contracts see the rules, the match rules, the limits and the available identifiers.
 #[derive(Debug, Drop)]
 pub struct LocaleServer<'r> {
     rules: CanonicalizerRef<'r>,
@@ -107,7 +109,8 @@ impl<'r> LocaleServer<'r> {
         limits: MatchLimits,
         served: &'r ServedLocales,
     ) -> Self
-        requires { IsPreparedOver (likely rules.expander) (lent rules.rules) matching.now served.now }
+        requires { IsPreparedOver (likely rules.expander) (lent rules.rules) matching.now
+            served.now }
         ensures rules { result.rules ≡ rules.entry }
         ensures matching { result.matching ≡ matching.now }
         ensures limits { result.limits ≡ limits }
@@ -131,13 +134,15 @@ impl<'r> LocaleServer<'r> {
     /// The place of what is served for the header Accept-Language, in its bytes. Each range is read as a tag of BCP 47,
     /// brought to its canonical form, and asks for that without extensions; one that has none is passed over. What a
     /// refused range is or begins is taken out. Of the rest the nearest is served, else the first where `*` is wanted,
-    /// else none. It takes memory for the wishes, for what they ask for, and for a mark an available identifier.
+    /// else none. It takes memory for the wishes, for what they ask for, and, where a range is refused, for a mark an
+    /// available identifier.
     ///
     /// # Errors
     ///
-    /// `AllocError` where memory was refused.
+    /// `AllocError` where memory was refused: never for a header of which no element can be read.
     pub fn serve(&self, alloc: Global, header: &[u8]) -> Result<Option<usize>, AllocError>
-        ensures { IfOk result (IsServed self.now header.now) }
+        ensures served { IfOk result (IsServed self.now header.now) }
+        ensures free { wishes_of header.now ≡ [] → IsOk result }
     {
         place_served(
             alloc,
@@ -161,19 +166,87 @@ fn place_served(
 ) -> Result<Option<usize>, AllocError>
     requires { IsPreparedOver (likely rules.now.expander) (lent rules.now.rules) matching.now
         served.now }
-    ensures { IfOk result (IsServed (record {
+    ensures served { IfOk result (IsServed (record {
+      rules = rules.now;
+      matching = matching.now;
+      limits = limits;
+      available = identifiers_of served.now;
+    }) header.now) }
+    ensures free { wishes_of header.now ≡ [] → IsOk result }
+{
+    let header = AcceptLanguage::try_from_bytes(alloc, header)?;
+    if header.is_empty() {
+        return Ok(None);
+    }
+    place_for(alloc, rules, matching, limits, served, &header)
+}
+
+// The place that is served for wishes.
+fn place_for(
+    alloc: Global,
+    rules: &CanonicalizerRef<'_>,
+    matching: &LanguageMatching,
+    limits: MatchLimits,
+    served: &ServedLocales,
+    header: &AcceptLanguage<'_>,
+) -> Result<Option<usize>, AllocError>
+    requires { IsPreparedOver (likely rules.now.expander) (lent rules.now.rules) matching.now
+        served.now }
+    ensures { IfOk result (IsServedFor (record {
       rules = rules.now;
       matching = matching.now;
       limits = limits;
       available = identifiers_of served.now;
     }) header.now) }
 {
-    let header = AcceptLanguage::try_from_bytes(alloc, header)?;
     let requests = requests_of(alloc, rules, header.wanted())?;
     let out = requests_of(alloc, rules, header.refused())?;
-    let may = allowed(alloc, &out, served.candidates.identifiers())?;
     let matcher = LocaleMatcher::over(rules.expander, matching, limits, &served.candidates);
-    Ok(choice(&matcher, &requests, &may, header.wants_any()))
+    choice_without(alloc, &matcher, &requests, &out, header.wants_any())
+}
+
+// The choice among what no refused range begins.
+fn choice_without(
+    alloc: Global,
+    matcher: &LocaleMatcher<'_>,
+    requests: &[LanguageIdentifier],
+    out: &[LanguageIdentifier],
+    any: bool,
+) -> Result<Option<usize>, AllocError>
+    ensures { IfOk result (IsChoice matcher.now requests.now (allowed out.now matcher.now.available)
+        any) }
+{
+    if out.is_empty() {
+        return Ok(choice_of_all(matcher, requests, any));
+    }
+    let may = allowed(alloc, out, matcher.available())?;
+    Ok(choice(matcher, requests, &may, any))
+}
+
+// The choice where nothing is refused.
+#[tactic(auto, using(crate::proofs::Choices::nearest_of_all))]
+fn choice_of_all(
+    matcher: &LocaleMatcher<'_>,
+    requests: &[LanguageIdentifier],
+    any: bool,
+) -> Option<usize>
+    ensures { IsChoice matcher.now requests.now (allowed [] matcher.now.available) any result }
+{
+    match place_of(matcher.nearest(requests)) {
+        Some(place) => Some(place),
+        None => first_of(any, matcher.available()),
+    }
+}
+
+// The first identifier, where any is wanted.
+fn first_of(any: bool, identifiers: &[LanguageIdentifier]) -> Option<usize>
+    ensures { result ≡ first_allowed any (allowed [] identifiers.now) }
+{
+    if any && !identifiers.is_empty() {
+        Some(0)
+    } else {
+        None
+    }
 }
 
 // The nearest of what may be served, else the first of it where any is wanted.

@@ -28,6 +28,8 @@ mod providers;
 #[cfg(test)]
 mod refusing;
 #[cfg(test)]
+mod serving;
+#[cfg(test)]
 mod shown;
 #[cfg(test)]
 mod sizes;

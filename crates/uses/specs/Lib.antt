@@ -1,3 +1,4 @@
+pub mod Answering
 pub mod Fallback
 pub mod Keys
 pub mod Meaning

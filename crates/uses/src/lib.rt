@@ -1,6 +1,7 @@
 //! What callers do with the crates of locales: each caller is short, and its contract says what it may rest on.
 #![tactic(auto)]
 
+mod answering;
 mod canonical;
 mod fallback;
 mod files;
@@ -15,6 +16,7 @@ mod same_locale;
 mod spelling;
 mod switcher;
 
+pub use answering::place_to_answer_in;
 pub use canonical::canonicalize_twice;
 pub use fallback::{find_form, minimal_form};
 pub use files::likely_row;

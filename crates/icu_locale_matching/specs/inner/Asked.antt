@@ -8,6 +8,7 @@ use Rattle.icu_locale.specs.LikelyTable.{likely}
 use Rattle.icu_provider.specs.declared.matching.LanguageMatching.{LanguageMatching}
 use Rattle.icu_locale_matching.specs.Distance.{levels_for, is_macro}
 use Rattle.icu_locale_matching.specs.Nearest.{Question, all_may, may_of, IsOffer, candidate_of, form_of, rank_cmp, rank_at}
+use Rattle.icu_locale_matching.specs.inner.Known.{AreKnown}
 use Rattle.icu_locale_matching.specs.inner.Levels.{shown}
 use Rattle.icu_locale_matching.specs.declared.candidates.Candidate.{Candidate}
 use Rattle.icu_locale_matching.specs.declared.rank.Rank.{Rank}
@@ -77,6 +78,7 @@ pub record IsAsked (m : Search) (a : Asked) : Type 0 where
   pub form : a.form ≡ form_of (likely m.expander) a.request.now
   pub is_macro : a.is_macro ≡ is_macro m.matching.now.macros a.form.region
   pub levels : shown a.levels ≡ levels_for m.matching.now a.form.language
+  pub known : AreKnown a.levels.region.rules.now a.form a.known
   pub demoted : a.demoted ≡ m.limits.demotion * a.place
 
 -- what a rank of a later request has to cost less than, to be less

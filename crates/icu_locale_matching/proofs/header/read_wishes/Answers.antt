@@ -1,6 +1,6 @@
-use Rattle.std.proofs.Common.{◌≡◌, ◌==◌, ◌∙◌, ◌+◌, ◌≤◌, ◌++◌, ◌∷◌, [], sym, ap, subst, arith, map, take, drop, ℕ, List, IsOk}
+use Rattle.std.proofs.Common.{◌==◌, ◌∙◌, ◌∷◌, [], sym, ap, subst, arith, map, take, ℕ, List, IsOk}
 use Rattle.std.proofs.lemmas.Bool.{false≢true}
-use Rattle.std.specs.List.{slice_split, filter_map, cons_option}
+use Rattle.std.specs.List.{slice_split, filter_map}
 use Rattle.std.proofs.lemmas.List.Elements.{filter_map-append}
 use Rattle.icu_locale_matching.specs.Header.{AreByWeight, Wish, read_element}
 use Rattle.icu_locale_matching.specs.inner.Parts.{parts_if_any}

@@ -1,4 +1,4 @@
-use Rattle.std.proofs.Common.{◌≡◌, ◌==◌, ◌∙◌, sym, ◌∷◌, ap, take, Bool, ℕ, arith}
+use Rattle.std.proofs.Common.{◌==◌, ◌∙◌, sym, ◌∷◌, ap, take, Bool, ℕ}
 use Rattle.std.specs.List.{slice_split}
 use Rattle.std.proofs.lemmas.List.{drop-drop}
 use Rattle.icu_locale_core.specs.laws.Cuts.{slice_split-position, slice_split-no_position}

@@ -1,4 +1,4 @@
-use Rattle.std.proofs.Common.{◌≡◌, ◌∙◌, sym, arith, ℕ, ◌<◌, length, ◌-◌, get_or, true, false}
+use Rattle.std.proofs.Common.{◌≡◌, ◌∙◌, sym, arith, ◌<◌, length, ◌-◌, get_or, true, false}
 use Rattle.icu_locale_matching.specs.Header.{is_space}
 use Rattle.icu_locale_matching.proofs.Trims.{trim_end-space, trim_end-none}
 use Rattle.icu_locale_matching.proofs.parts.end_trimmed.Goals as goal

@@ -1,4 +1,4 @@
-use Rattle.std.proofs.Common.{length, refl, sym, subst, List, ◌++◌, ◌∷◌, [], ◌∙◌}
+use Rattle.std.proofs.Common.{length, refl, sym, subst, List}
 use Rattle.std.proofs.lemmas.Option.{slice_get_read}
 use Rattle.icu_locale.specs.LikelyTable.{likely}
 use Rattle.icu_locale.specs.RuleSet.{lent}

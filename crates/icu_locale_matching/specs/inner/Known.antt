@@ -1,0 +1,15 @@
+-- What is known of the rules of a level, for a desired form.
+use Rattle.std.specs.Prelude.{◌≡◌, ℕ, Bool, false, List, Some}
+use Rattle.std.specs.List.{slice_get}
+use Rattle.std.specs.Option.{option_map_or}
+use Rattle.icu_provider.specs.declared.data_locale.DataLocale.{DataLocale}
+use Rattle.icu_provider.specs.declared.matching.MatchRule.{MatchRule}
+use Rattle.icu_locale_matching.specs.Distance.{fits_pattern}
+
+-- the desired pattern of the rule at a place fits; false past the end
+abbrev pub fits_at : List MatchRule → DataLocale → ℕ → Bool
+fits_at rules d k = option_map_or (λ r. fits_pattern r.desired d) (slice_get rules k) false
+
+-- for the first rules it is known whether the desired pattern fits
+abbrev pub AreKnown : List MatchRule → DataLocale → List Bool → Type 0
+AreKnown rules d known = (k : ℕ) (b : Bool) → slice_get known k ≡ Some b → b ≡ fits_at rules d k

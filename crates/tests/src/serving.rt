@@ -1,0 +1,131 @@
+//! What is served for headers, over the sample tables and match rules that are made here.
+use crate::known::{identifier, language, region, sample, script};
+use icu_locale::{CanonicalizerRef, LocaleExpander, ReadRules};
+use icu_locale_core::{LanguageIdentifier, Region};
+use icu_locale_matching::{LocaleServer, MatchLimits, ServedLocales, distance};
+use icu_provider::{
+    DataLocale, DataProvider, LanguageMatching, MatchPattern, MatchRule, MatchRules, RegionPattern,
+    SortedMap,
+};
+use icu_tables::Tables;
+use std::alloc::Global;
+use std::process::Abort;
+
+fn identifiers(rt: &impl Abort, alloc: Global, texts: &[&str]) -> Vec<LanguageIdentifier> {
+    let mut list = Vec::new(alloc);
+    for text in texts {
+        let pushed = list.push(identifier(rt, alloc, text));
+        pushed.expect(rt, "memory");
+    }
+    list
+}
+
+fn serves(
+    rt: &impl Abort,
+    alloc: Global,
+    server: &LocaleServer<'_>,
+    header: &str,
+    wanted: Option<usize>,
+) {
+    let served = server.serve(alloc, header.as_bytes()).ok();
+    assert!(rt; served == Some(wanted));
+}
+
+fn serves_headers(rt: &impl Abort, alloc: Global, server: &LocaleServer<'_>) {
+    serves(rt, alloc, server, "", None);
+    serves(rt, alloc, server, "fr", None);
+    serves(rt, alloc, server, "fr, *;q=0.1", Some(0));
+    serves(rt, alloc, server, "de-DE;q=0.8, zh-Hant", Some(3));
+    serves(rt, alloc, server, "en-AU, en-US;q=0", Some(1));
+    serves(rt, alloc, server, "en;q=0, *", Some(2));
+    serves(rt, alloc, server, "de, de;q=0", None);
+    serves(
+        rt,
+        alloc,
+        server,
+        "en-GB;q=2, ?, zh-TW-u-co-stroke;Q=0.5",
+        Some(3),
+    );
+}
+
+fn over_tables(rt: &impl Abort, alloc: Global, tables: &Tables) {
+    let expander = LocaleExpander::try_new_common_unstable(tables).expect(rt, "tables");
+    let aliases = tables.load_aliases().expect(rt, "aliases");
+    let read = ReadRules::read(alloc, aliases).expect(rt, "tables");
+    let rules = CanonicalizerRef::over(&read, aliases, expander);
+    let matching = LanguageMatching::new(alloc, 80, 50, 4);
+    let available = identifiers(rt, alloc, &["en-US", "en-GB", "de", "zh-TW", "yue"]);
+    let served = ServedLocales::try_new(alloc, &rules, &matching, available);
+    let served = served.expect(rt, "memory");
+    let server = LocaleServer::over(rules, &matching, MatchLimits::default(), &served);
+    serves_headers(rt, alloc, &server);
+}
+
+#[test]
+fn headers(rt: HostRuntime) {
+    let alloc = rt.alloc();
+    let tables = sample(&rt, alloc);
+    over_tables(&rt, alloc, &tables);
+}
+
+// A region rule of `de`: 7 to `FR`.
+fn rules_of_german(rt: &impl Abort, alloc: Global) -> MatchRules {
+    let mut france = SortedMap::new(alloc);
+    let put = france.insert(region(rt, "FR"), ());
+    put.expect(rt, "memory");
+    let any = MatchPattern {
+        script: None,
+        region: RegionPattern::Any,
+    };
+    let there = MatchPattern {
+        script: None,
+        region: RegionPattern::In(france),
+    };
+    let mut rules = MatchRules::new(alloc);
+    let pushed = rules.region.push(MatchRule {
+        desired: any,
+        language: language(rt, "de"),
+        supported: there,
+        distance: 7,
+    });
+    pushed.expect(rt, "memory");
+    rules
+}
+
+fn german(rt: &impl Abort, place: &str) -> DataLocale {
+    DataLocale {
+        language: language(rt, "de"),
+        script: Some(script(rt, "Latn")),
+        region: Some(region(rt, place)),
+    }
+}
+
+fn two_regions(rt: &impl Abort, alloc: Global) -> Vec<Region> {
+    let mut list = Vec::new(alloc);
+    let first = list.push(region(rt, "DE"));
+    first.expect(rt, "memory");
+    let second = list.push(region(rt, "FR"));
+    second.expect(rt, "memory");
+    list
+}
+
+#[test]
+fn macro_regions(rt: HostRuntime) {
+    let alloc = rt.alloc();
+    let mut matching = LanguageMatching::new(alloc, 80, 50, 4);
+    let put = matching
+        .rules
+        .insert(language(&rt, "de"), rules_of_german(&rt, alloc));
+    put.expect(&rt, "memory");
+    let held = matching
+        .macros
+        .insert(region(&rt, "150"), two_regions(&rt, alloc));
+    held.expect(&rt, "memory");
+    let de = german(&rt, "DE");
+    let at = german(&rt, "AT");
+    let europe = german(&rt, "150");
+    assert!(rt; distance(&matching, &de, &at) == 4);
+    assert!(rt; distance(&matching, &de, &europe) == 7);
+    assert!(rt; distance(&matching, &europe, &at) == 4);
+    assert!(rt; distance(&matching, &europe, &europe) == 0);
+}
