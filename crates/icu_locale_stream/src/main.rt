@@ -33,7 +33,8 @@ or short-menu-heavy. The status is 0 where each line was accepted, 1 where one w
 ";
 
 // What standard error says of words that are no command.
-const USAGE: &str = "usage: icu_locale_stream [longest N] [locales | bcp47 | posix] COMMAND [json [supplement]]";
+const USAGE: &str =
+    "usage: icu_locale_stream [longest N] [locales | bcp47 | posix] COMMAND [json [supplement]]";
 
 // What `--version` writes.
 const VERSION: &str = "icu_locale_stream 0.4.0\n";

@@ -36,6 +36,8 @@ mod sizes;
 #[cfg(test)]
 mod streams;
 #[cfg(test)]
+mod supplements;
+#[cfg(test)]
 mod tables;
 #[cfg(test)]
 mod texts;

@@ -4,6 +4,7 @@
 //! of them fail, since what that builds, to check as it runs, never runs out of memory.
 pub mod budget;
 pub mod canonicalizers;
+mod chains;
 mod identifiers;
 mod locales;
 mod names;

@@ -66,6 +66,7 @@ direction json | {"likely_language":{"und":["en","Latn","US"]},"likely_script_re
 | | | usage: icu_locale_cli COMMAND [json]
 Maximize | | | usage: icu_locale_cli COMMAND [json]
 maximize JSON | | | usage: icu_locale_cli COMMAND [json]
+fallback | | | usage: icu_locale_cli COMMAND [json]
 name tiny en | en-US\n | English (US)\tR\n | 0
 name light en | it-Qabc-150\n | Italian (Qabc, Europe)\tR\n | 0
 name light EN | it\ne\nit-Latn-fonipa-posix\n | Italian\tN\n?\tInvalidLanguage\nItalian (Latin, IPA Phonetics, posix)\tR\n | 1
@@ -262,6 +263,7 @@ fn words_of_refusals(rt: HostRuntime) {
         (CliError::Usage, "usage: icu_locale_cli COMMAND [json]"),
         (CliError::Tables(TableError::Json), "tables: Json"),
         (CliError::Tables(TableError::Shape), "tables: Shape"),
+        (CliError::Supplement(TableError::Json), "supplement: Json"),
         (CliError::Data(custom), "data: Custom"),
         (CliError::Read, "read failed"),
         (CliError::Write, "write failed"),
