@@ -17,7 +17,7 @@ left out, and so are those of a language that an alias replaces, or whose likely
 from .account import Account
 from .aliases import read_aliases
 from .completion import known
-from .inheritance import Inheritance
+from .inheritance import ROOT, Inheritance
 from .likely import read_likely
 from .source import NoCldr
 from .subtags import UNKNOWN_SCRIPT, read_locale, read_subtag
@@ -25,6 +25,7 @@ from .subtags import UNKNOWN_SCRIPT, read_locale, read_subtag
 # Whose regions have a row, of the states in a validity file: a request is canonical, so a deprecated region is in none.
 IN_USE = ("regular", "macroregion", "special")
 FARTHEST_ONE_WAY, FARTHEST_BOTH_WAYS = 10, 20
+NO_LOCALE = "further forms: locales or parents of another form than a language, a script if any and a region if any"
 OTHER_PARENT = "further forms: parents of another language or script"
 FAR = "further forms: matches of languages that are too far apart"
 NO_SCRIPT = "further forms: matches of a language whose likely script CLDR does not know, or that an alias replaces"
@@ -47,7 +48,13 @@ def further_forms(common, account):
 
 def parents(common, account):
     """Each locale that has parents of its own language and script, and those."""
-    named = {read_locale(name): read_locale(parent) for name, parent in Inheritance(common).parents.items()}
+    named = {}
+    for name, parent in Inheritance(common).parents.items():
+        locale, above = read_locale(name), read_locale(parent)
+        if locale is None or above is None and parent != ROOT:
+            account.note(NO_LOCALE, f"{name} to {parent}")
+        else:
+            named[locale] = above
     for locale, parent in named.items():
         found = []
         while parent and parent[:2] == locale[:2] and str(parent) not in found:
