@@ -5,7 +5,11 @@ import subprocess
 import sys
 from pathlib import Path
 
-USAGE = "usage: icu_locale_cli COMMAND [json]"
+# What each program says where it is given no words.
+USAGES = {
+    "icu_locale_cli": "usage: icu_locale_cli COMMAND [json]",
+    "icu_locale_stream": "usage: icu_locale_stream [longest N] [locales | bcp47 | posix] COMMAND [json [supplement]]",
+}
 
 
 class Words(argparse.ArgumentParser):
@@ -25,23 +29,23 @@ def stop(name, why):
     sys.exit(2)
 
 
-def the_program(name, word):
-    """The path of a file that is icu_locale_cli; no other is run."""
+def the_program(name, word, wanted="icu_locale_cli"):
+    """The path of a file that is the wanted program; no other is run."""
     path = Path(word).resolve()
     if not path.exists():
         stop(name, f"there is no {word}; make builds the program")
-    if not (path.is_file() and os.access(path, os.X_OK) and says_its_usage(path)):
-        stop(name, f"{word} is not icu_locale_cli")
+    if not (path.is_file() and os.access(path, os.X_OK) and says_its_usage(path, wanted)):
+        stop(name, f"{word} is not {wanted}")
     return path
 
 
-def says_its_usage(path):
-    """Whether a program says how it is used where it is given no words."""
+def says_its_usage(path, wanted="icu_locale_cli"):
+    """Whether a program says how the wanted one is used, where it is given no words."""
     try:
         ended = subprocess.run([path], stdin=subprocess.DEVNULL, capture_output=True, check=False, timeout=10)
     except (OSError, subprocess.TimeoutExpired):
         return False
-    return ended.stderr.decode(errors="replace").split("\n")[0] == USAGE
+    return ended.stderr.decode(errors="replace").split("\n")[0] == USAGES[wanted]
 
 
 def a_file(name, word):

@@ -1,20 +1,20 @@
-"""The JSON Schema of the tables, and what it cannot say."""
+"""The JSON Schemas of tables and of supplements, and what they cannot say."""
 import json
 import math
 from pathlib import Path
 
-SCHEMA = Path(__file__).resolve().parents[2] / "docs" / "tables.schema.json"
+DOCS = Path(__file__).resolve().parents[2] / "docs"
 PACKAGE = "python3-jsonschema"
 DEEPEST = 127
 
 
-def validator():
-    """Whether a value fits the schema, as a function; None where Debian's package is not installed."""
+def validator(what):
+    """Whether a value fits the schema of what is named, as a function; None where Debian's package is not installed."""
     try:
         from jsonschema import Draft202012Validator
     except ImportError:
         return None
-    schema = json.loads(SCHEMA.read_text(encoding="utf-8"))
+    schema = json.loads((DOCS / f"{what}.schema.json").read_text(encoding="utf-8"))
     Draft202012Validator.check_schema(schema)
     return Draft202012Validator(schema).is_valid
 
@@ -73,7 +73,7 @@ def exemplar_bounds(value):
 
 
 def unsaid(text, value):
-    """Why a text that fits the schema is refused all the same, of the reasons that the schema lists, or None."""
+    """Why a text that fits its schema is refused all the same, of the reasons that the schema lists, or None."""
     if not is_spelled_whole(text):
         return "a number that is not spelled whole"
     if not all(is_inversion_list(bounds) for bounds in exemplar_bounds(value)):
