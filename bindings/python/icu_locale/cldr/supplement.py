@@ -8,6 +8,8 @@ A rule is written at its desired language, and once more the other way round whe
 of regions is written with the regions that its groups contain. A group of regions, as `001`, stands for one region of each
 kind that the rules tell apart, since a distance from a group is the greatest to what it contains.
 """
+import re
+
 from .further import groups_of, rows_of, within
 from .inheritance import ROOT, Inheritance
 from .likely import read_likely
@@ -18,6 +20,7 @@ from .subtags import UNKNOWN_LANGUAGE, UNKNOWN_REGION, UNKNOWN_SCRIPT, Identifie
 TO_ROOT = "parents: those that are the root, to which a chain comes anyhow"
 NO_LOCALE = "parents: locales or parents of another form than a language, a script if any and a region if any"
 NO_RULE = "match rules: those of a form that the tables have no place for"
+NO_PARADIGM = "match rules: paradigm locales of another form than a language, a script if any and a region if any"
 LEVELS = ("language", "script", "region")
 ANY = "*"
 
@@ -84,6 +87,7 @@ def matching(common, account):
         raise NoCldr("languageInfo.xml has no matches by distance, those of the type `written_new`")
     groups, sets = groups_of(common), sets_of(common, matches)
     others, rules, patterns = [], {}, []
+    note_uneven(matches, account)
     for count, level in enumerate(LEVELS, 1):
         for pair, distance, is_one_way in rows_of(matches, count):
             if all(subtag == ANY for form in pair for subtag in form):
@@ -99,20 +103,47 @@ def matching(common, account):
                 rules.setdefault(desired[0], {}).setdefault(level, []).append(rule(desired, supported, distance))
     if len(others) != len(LEVELS):
         raise NoCldr("languageInfo.xml does not say how far languages, scripts and regions are apart that no match names")
-    named = matches.find("paradigmLocales")
     return {
         "others": others,
-        "paradigms": [str(read_locale(name)) for name in named.get("locales").split()] if named is not None else [],
+        "paradigms": paradigms(matches, account),
         "macros": macros(groups, patterns),
         "rules": dict(sorted(rules.items())),
     }
 
 
+def note_uneven(matches, account):
+    """Says which rules have two forms of unlike levels, which no level of the tables holds."""
+    for row in matches.iter("languageMatch"):
+        forms = [row.get(name) for name in ("desired", "supported")]
+        if forms[0].count("_") != forms[1].count("_"):
+            account.note(NO_RULE, " to ".join(forms))
+
+
+def paradigms(matches, account):
+    """The paradigm locales."""
+    named, found = matches.find("paradigmLocales"), []
+    for name in named.get("locales").split() if named is not None else []:
+        locale = read_locale(name)
+        if locale is None:
+            account.note(NO_PARADIGM, name)
+        else:
+            found.append(str(locale))
+    return found
+
+
 def sets_of(common, matches):
     """The sets of regions by their variables: the regions that are no groups."""
     groups = groups_of(common)
-    return {row.get("id").lstrip("$"): sorted(leaves(groups, row.get("value").split("+")))
-            for row in matches.iter("matchVariable")}
+    return {row.get("id").lstrip("$"): sorted(members(groups, row.get("value"))) for row in matches.iter("matchVariable")}
+
+
+def members(groups, value):
+    """The regions of a variable's value: with those behind a `+`, and without those behind a `-`."""
+    found = set()
+    for sign, region in re.findall(r"([+-]?)(\w+)", value):
+        part = leaves(groups, [region])
+        found = found - part if sign == "-" else found | part
+    return found
 
 
 def leaves(groups, regions):
