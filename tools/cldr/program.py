@@ -28,3 +28,10 @@ def reads_supplement(stream, supplement):
     if said.startswith(REFUSED_SUPPLEMENT) and ended.returncode == 2:
         return said[len(REFUSED_SUPPLEMENT):]
     return "holds" if not said and ended.returncode == 0 else f"status {ended.returncode}, {said}"
+
+
+def chains(stream, tables, supplement, locales):
+    """The chain of each locale over tables and their supplement, of what has one."""
+    given = b"".join(text + b"\n" for text in (tables, supplement, *(locale.encode() for locale in locales)))
+    ended = subprocess.run([stream, "fallback", "json", "supplement"], input=given, capture_output=True, check=True)
+    return [line.split(" ") for line in ended.stdout.decode().splitlines()]

@@ -38,15 +38,19 @@ class Inheritance:
             return ROOT
         return first or ROOT
 
+    def names(self, name):
+        """A name of a file and what it inherits from, `root` last."""
+        found = [name]
+        while found[-1] != ROOT:
+            found.append(self.parent(found[-1]))
+        return found
+
     def chain(self, locale):
         """The files that a locale inherits from, `root` first and its own last."""
         name = str(locale).replace("-", "_")
         if not self.common.has_locale(name):
             raise NoCldr(f"CLDR has no locale {locale}")
-        names = [name]
-        while names[-1] != ROOT:
-            names.append(self.parent(names[-1]))
-        return [self.common.locale(name) for name in reversed(names) if self.common.has_locale(name)]
+        return [self.common.locale(name) for name in reversed(self.names(name)) if self.common.has_locale(name)]
 
     def resolved(self, locale, rows_of, account):
         """The texts of a locale by key: those of its chain, each in the place of what it inherits.
