@@ -83,15 +83,24 @@ fn streams_with_a_supplement(rt: HostRuntime) {
     );
 }
 
-// The language of three letters at a place: `qaa`, `qab` and so on.
-fn numbered(rt: &impl Abort, alloc: Global, place: usize) -> DataLocale {
-    let letters = "abcdefghijklmnopqrst";
-    let letter = |at: usize| letters.get(at..at.saturating_add(1)).unwrap_or("a");
-    let (first, second) = (letter(place / 20 % 20), letter(place % 20));
-    let head = letter(place / 400);
-    let name = format!(in alloc; "{head}{first}{second}").expect(rt, "memory");
+// The letter at a place below 26.
+fn letter(place: usize) -> u8 {
+    match u8::try_from(place) {
+        Ok(place) => b'a'.saturating_add(place),
+        Err(_) => b'z',
+    }
+}
+
+// The language of three letters at a place: `aaa`, `aab` and so on.
+fn numbered(rt: &impl Abort, place: usize) -> DataLocale {
+    let letters = [
+        letter(place / 400),
+        letter(place / 20 % 20),
+        letter(place % 20),
+    ];
+    let text = str::from_utf8(&letters).expect(rt, "letters");
     DataLocale {
-        language: language(rt, &name),
+        language: language(rt, text),
         script: None,
         region: None,
     }
@@ -101,8 +110,8 @@ fn numbered(rt: &impl Abort, alloc: Global, place: usize) -> DataLocale {
 fn long_parents(rt: &impl Abort, alloc: Global, count: usize) -> SortedMap<DataLocale, DataLocale> {
     let mut parents = SortedMap::new(alloc);
     for place in 0..count {
-        let next = numbered(rt, alloc, place.saturating_add(1));
-        let inserted = parents.insert(numbered(rt, alloc, place), next);
+        let next = numbered(rt, place.saturating_add(1));
+        let inserted = parents.insert(numbered(rt, place), next);
         inserted.expect(rt, "memory");
     }
     parents
@@ -116,44 +125,61 @@ fn expander<'t>(rt: &impl Abort, tables: &'t Tables) -> LocaleExpander<'t> {
     LocaleExpander::try_new_common_unstable(tables).expect(rt, "tables")
 }
 
+// A chain of 4,000 parents is listed and written.
+fn long_chain(
+    rt: &impl Abort,
+    alloc: Global,
+    tables: &Tables,
+    parents: &SortedMap<DataLocale, DataLocale>,
+) {
+    let fallbacker = LocaleFallbacker {
+        expander: expander(rt, tables),
+        parents,
+    };
+    let chains = fallbacker.for_config(BY_LANGUAGE);
+    let chain = chains.fallback_for(numbered(rt, 0));
+    let list = chain.to_list(alloc).expect(rt, "a chain");
+    assert!(rt; list.len() == 4_002);
+    assert!(rt; list.get(4_000) == Some(&numbered(rt, 4_000)));
+    let mut text = Vec::new(alloc);
+    let id = identifier(rt, alloc, "aaa-fonipa");
+    assert!(rt; chains.append_chain(alloc, id, &mut text) == Ok(()));
+    assert!(rt; text.len() == 16_018);
+}
+
+// A chain that leads back to its eighth language.
+fn long_circle(
+    rt: &impl Abort,
+    alloc: Global,
+    tables: &Tables,
+    parents: &SortedMap<DataLocale, DataLocale>,
+) {
+    let fallbacker = LocaleFallbacker {
+        expander: expander(rt, tables),
+        parents,
+    };
+    let chain = fallbacker
+        .for_config(BY_LANGUAGE)
+        .fallback_for(numbered(rt, 0));
+    let refused = chain.to_list(alloc).err();
+    assert!(rt; refused == Some(FallbackError::Circle(numbered(rt, 7))));
+}
+
 #[test]
-fn a_chain_of_four_thousand(rt: HostRuntime) {
+fn chains_of_four_thousand(rt: HostRuntime) {
     let alloc = rt.alloc();
     let tables = sample(&rt, alloc);
     let mut parents = long_parents(&rt, alloc, 4_000);
-    let first = numbered(&rt, alloc, 0);
-    let expander = expander(&rt, &tables);
-    let chains = LocaleFallbacker {
-        expander,
-        parents: &parents,
-    }
-    .for_config(BY_LANGUAGE);
-    let list = chains
-        .fallback_for(first)
-        .to_list(alloc)
-        .expect(&rt, "a chain");
-    assert!(rt; list.len() == 4_002);
-    assert!(rt; list.get(4_000) == Some(&numbered(&rt, alloc, 4_000)));
-    let mut text = Vec::new(alloc);
-    let id = identifier(&rt, alloc, "aaa-fonipa");
-    assert!(rt; chains.append_chain(alloc, id, &mut text) == Ok(()));
-    assert!(rt; text.len() == 4 * 4_002 + 10);
-    parents
-        .insert(numbered(&rt, alloc, 4_000), numbered(&rt, alloc, 7))
-        .expect(&rt, "memory");
-    let chains = LocaleFallbacker {
-        expander,
-        parents: &parents,
-    }
-    .for_config(BY_LANGUAGE);
-    let refused = chains.fallback_for(first).to_list(alloc).err();
-    assert!(rt; refused == Some(FallbackError::Circle(numbered(&rt, alloc, 7))));
+    long_chain(&rt, alloc, &tables, &parents);
+    let inserted = parents.insert(numbered(&rt, 4_000), numbered(&rt, 7));
+    inserted.expect(&rt, "memory");
+    long_circle(&rt, alloc, &tables, &parents);
 }
 
 #[test]
 fn refusals_of_chains(rt: HostRuntime) {
     let alloc = rt.alloc();
-    let locale = numbered(&rt, alloc, 0);
+    let locale = numbered(&rt, 0);
     is_named(&rt, alloc, FallbackError::Memory, "Memory");
     is_named(&rt, alloc, FallbackError::Circle(locale), "Circle");
 }
