@@ -1,18 +1,23 @@
 //! Values of keywords.
 ghost use Rattle.std.specs.Prelude.{◌≡◌, ◌≢◌, ◌++◌, ◌∷◌, [], false, filter, not, codes, ◌==◌, Some, Err, IsOk, IfOk, IfErr, nat_eq, List, ℕ};
 ghost use Rattle.std.proofs.Common.{rules};
-ghost use Rattle.std.specs.Cmp.Lexicographic.{pointwise};
+ghost use Rattle.std.specs.Cmp.{partial_order_from_own_ties};
+ghost use Rattle.std.specs.Cmp.Lexicographic.{pointwise, slice_cmp};
 ghost use Rattle.std.specs.Cmp.Rules.{comparing};
 ghost use Rattle.std.specs.Fmt.{WritesOnOk};
 ghost use Rattle.std.specs.List.{list_all, flat_map};
+ghost use Rattle.std.specs.Ordering.{as_partial_cmp};
 ghost use Rattle.icu_locale_core.specs.Subtag.{is_subtag};
+ghost use Rattle.icu_locale_core.specs.TextSet.{text_cmp};
 ghost use Rattle.icu_locale_core.specs.Value.{IsValue, ReadsValue, read_subtags, is_true, only_piece, written_value};
 ghost use Rattle.icu_locale_core.specs.inner.Values.{pieces_kept};
+ghost use Rattle.icu_locale_core.specs.laws.TextSets.{piece_lists_ties};
 
 use crate::langid::write_after_dash;
 use crate::pieces::Pieces;
 use crate::{ParseError, Subtag};
 use std::alloc::{AllocError, Global};
+use std::cmp::Ordering;
 use std::marker::Model;
 use std::{fmt, slice};
 
@@ -157,6 +162,30 @@ impl PartialEq for Value {
 
 impl Eq for Value {
     ghost laws = { Prim.search (comparing, rules) };
+}
+
+impl PartialOrd for Value {
+    ghost partial_cmp = { as_partial_cmp (slice_cmp text_cmp) };
+
+    ghost laws = { partial_order_from_own_ties (Prim.search (comparing, rules)) piece_lists_ties };
+
+    fn partial_cmp(&self, other: &Self) -> Option<Ordering> {
+        Some(self.cmp(other))
+    }
+}
+
+impl Ord for Value {
+    ghost cmp = { slice_cmp text_cmp };
+
+    ghost total = { Prim.search (comparing, rules) };
+
+    ghost matches_partial_cmp = { Prim.search (comparing, rules) };
+
+    ghost matches_eq = { piece_lists_ties };
+
+    fn cmp(&self, other: &Self) -> Ordering {
+        self.as_slice().cmp(other.as_slice())
+    }
 }
 
 impl fmt::Display for Value {

@@ -1,18 +1,23 @@
 //! The pieces of a field, of another extension and of private use.
 ghost use Rattle.std.specs.Prelude.{◌≡◌, ◌++◌, codes, true, map, Some, IfOk, IfErr, IsOk, List, ℕ, nat_eq};
 ghost use Rattle.std.proofs.Common.{rules};
-ghost use Rattle.std.specs.Cmp.Lexicographic.{pointwise};
+ghost use Rattle.std.specs.Cmp.{partial_order_from_own_ties};
+ghost use Rattle.std.specs.Cmp.Lexicographic.{pointwise, slice_cmp};
 ghost use Rattle.std.specs.Cmp.Rules.{comparing};
 ghost use Rattle.std.specs.Fmt.{WritesOnOk};
 ghost use Rattle.std.specs.List.{list_all};
+ghost use Rattle.std.specs.Ordering.{as_partial_cmp};
 ghost use Rattle.icu_locale_core.specs.Identifier.{pieces};
 ghost use Rattle.icu_locale_core.specs.Subtag.{is_alphanumeric};
+ghost use Rattle.icu_locale_core.specs.TextSet.{text_cmp};
 ghost use Rattle.icu_locale_core.specs.Value.{written_value};
+ghost use Rattle.icu_locale_core.specs.laws.TextSets.{piece_lists_ties};
 ghost use Rattle.icu_locale_extensions.specs.Extensions.{is_piece, are_pieces, ArePieces, ReadsPieces};
 ghost use Rattle.icu_locale_extensions.specs.inner.Texts.{IsPiecesText, spelled};
 
 use icu_locale_core::{ParseError, Pieces};
 use std::alloc::{AllocError, Global};
+use std::cmp::Ordering;
 use std::fmt;
 use std::marker::Model;
 
@@ -69,6 +74,13 @@ impl<const LOW: usize> Subtags<LOW> {
         unsafe { str::from_utf8_unchecked(&self.text) }
     }
 
+    /// A walk over the pieces. It takes no memory.
+    pub fn iter(&self) -> Pieces<'_>
+        ensures { result ≡ self.now }
+    {
+        Pieces::new(&self.text)
+    }
+
     /// Equal pieces.
     ///
     /// # Errors
@@ -106,6 +118,30 @@ impl<const LOW: usize> Eq for Subtags<LOW> {
     ghost laws = { Prim.search (comparing, rules) };
 }
 
+impl<const LOW: usize> PartialOrd for Subtags<LOW> {
+    ghost partial_cmp = { as_partial_cmp (slice_cmp text_cmp) };
+
+    ghost laws = { partial_order_from_own_ties (Prim.search (comparing, rules)) piece_lists_ties };
+
+    fn partial_cmp(&self, other: &Self) -> Option<Ordering> {
+        Some(self.cmp(other))
+    }
+}
+
+impl<const LOW: usize> Ord for Subtags<LOW> {
+    ghost cmp = { slice_cmp text_cmp };
+
+    ghost total = { Prim.search (comparing, rules) };
+
+    ghost matches_partial_cmp = { Prim.search (comparing, rules) };
+
+    ghost matches_eq = { piece_lists_ties };
+
+    fn cmp(&self, other: &Self) -> Ordering {
+        compared(self.iter(), other.iter())
+    }
+}
+
 impl<const LOW: usize> fmt::Display for Subtags<LOW> {
     ghost output = { λ ps. Some (written_value ps) };
 
@@ -117,6 +153,25 @@ impl<const LOW: usize> fmt::Display for Subtags<LOW> {
 impl<const LOW: usize> fmt::Debug for Subtags<LOW> {
     fn fmt<W: fmt::Write>(&self, f: &mut fmt::Formatter<W>) -> fmt::Result {
         f.write_str(self.as_str())
+    }
+}
+
+// The order of two lists of pieces: their first two that differ decide, and else their lengths.
+fn compared(left: Pieces<'_>, mut right: Pieces<'_>) -> Ordering
+    ensures { result ≡ slice_cmp text_cmp left.entry right.entry }
+{
+    for piece in left {
+        let Some(other) = right.next() else {
+            return Ordering::Greater;
+        };
+        match piece.cmp(other) {
+            Ordering::Equal => {}
+            order => return order,
+        }
+    }
+    match right.peek() {
+        Some(_) => Ordering::Less,
+        None => Ordering::Equal,
     }
 }
 

@@ -84,8 +84,8 @@ pub fn variants_go_first()
         → IsChainOfSubtags by x }
     ensures variants { (by : Inheritance) (x : LanguageIdentifier) → len x.variants ≢ 0
         → IsChainBehind by x }
-    ensures ends { (by : Inheritance) (x : LanguageIdentifier) → EndsAt (next by) (subtags_of x) root
-        → EndsAt (next_identifier by) x (plain root) }
+    ensures ends { (by : Inheritance) (x : LanguageIdentifier)
+        → EndsAt (next by) (subtags_of x) root → EndsAt (next_identifier by) x (plain root) }
     ensures repeats { (by : Inheritance) (x : LanguageIdentifier) (z : DataLocale)
         → IsRepeat (next by) (subtags_of x) z → IsRepeat (next_identifier by) x (plain z) }
 {}

@@ -122,7 +122,12 @@ pub contains-replaced : (s r a : TextSet) (q : List ℕ)
 contains-replaced s r a q =
     contains-union (difference s r) a q ∙ ap (λ b. b || contains a q) (contains-difference s r q)
 
+-- lists of texts are equal exactly where their order ties
+pub piece_lists_ties : (xs ys : List (List ℕ)) → pointwise (pointwise nat_eq) xs ys
+    ≡ eq_by_cmp (slice_cmp text_cmp) xs ys
+piece_lists_ties = lists_ties text_cmp texts_ties
+
 -- sets tie exactly where they have the same texts
 pub text_lists_ties : (s u : TextSet) → pointwise (pointwise nat_eq) (rising s) (rising u)
     ≡ eq_by_cmp (slice_cmp text_cmp) (rising s) (rising u)
-text_lists_ties s u = lists_ties text_cmp texts_ties (rising s) (rising u)
+text_lists_ties s u = piece_lists_ties (rising s) (rising u)
