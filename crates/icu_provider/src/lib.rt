@@ -1,5 +1,6 @@
 //! The data that the crates above are asked over: tables of likely subtags, of aliases and of directions, sets of exemplar
-//! characters, names, names in menus, patterns of names, rules of language matching, and the trait of their sources.
+//! characters, names, names in menus, patterns of names, names of what extensions say, rules of language matching, and the trait of
+//! their sources.
 #![tactic(auto)]
 
 mod aliases;
@@ -8,6 +9,7 @@ mod direction;
 mod error;
 mod essentials;
 mod exemplars;
+mod extension_names;
 pub mod laws;
 mod likely;
 mod matching;
@@ -15,6 +17,7 @@ mod names;
 mod provider;
 mod row_list;
 mod sorted_map;
+mod table_text;
 
 pub use aliases::{Aliases, LanguageStrStrPair, StrStrPair};
 pub use data_locale::DataLocale;
@@ -22,9 +25,11 @@ pub use direction::ScriptDirection;
 pub use error::{DataError, DataErrorKind};
 pub use essentials::{DoublePlaceholderPattern, LocaleNamesEssentials, PatternItem};
 pub use exemplars::{CharacterRanges, ExemplarCharactersData, ExemplarMarker, ExemplarStrings};
+pub use extension_names::{ExtensionNames, TextNames};
 pub use likely::{LikelySubtagsExtended, LikelySubtagsForLanguage, LikelySubtagsForScriptRegion};
 pub use matching::{LanguageMatching, MatchPattern, MatchRule, MatchRules, RegionPattern};
 pub use names::{MenuMarker, MenuNameParts, NameKey, NameMarker};
 pub use provider::DataProvider;
 pub use row_list::RowList;
 pub use sorted_map::{Rows, SortedMap};
+pub use table_text::TableText;
