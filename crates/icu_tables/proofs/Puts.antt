@@ -5,12 +5,15 @@ use Rattle.std.specs.declared.cmp.Ordering.{Ordering}
 use Rattle.std.specs.declared.cmp.Ordering.TheVariants.{Less, Equal, Greater}
 use Rattle.std.specs.Ordering.{match_ordering}
 use Rattle.std.specs.BTreeMap.{insert_entry}
+use Rattle.serde_json.specs.Data.{Data}
+use Rattle.serde_json.specs.Find.{as_str}
 use Rattle.serde_json.specs.View.{view, members_view}
 use Rattle.serde_json.proofs.Views.{Entry}
 use Rattle.icu_tables.specs.Puts.{put_all, each_put}
 use Rattle.icu_tables.specs.inner.Reads.{Puts}
 use Rattle.icu_tables.specs.Rows.{seen_rows}
 use Rattle.icu_tables.specs.Shape.{Shape, applied}
+use Rattle.icu_tables.specs.Supplement.{alias_row}
 
 module _ {K V : Type 0} (compare : K → K → Ordering) where
   put_all-append : (old first second : List (K × V)) → put_all compare old (first ++ second) ≡ put_all compare (put_all compare old first) second
@@ -56,3 +59,8 @@ module _ {K V W : Type 0} (compare : K → K → Ordering) (seen : V → W) wher
       ap (option_map (put_all compare (seen_rows seen old))) is
       ∙ ap (λ rows. Some rows) (sym (seen_rows-insert_entry old key value))
       ∙ ap (λ rows. Some (seen_rows seen rows)) (sym inserts)
+
+-- the row of an alias, where its name and its text are values
+pub alias_said : {V : Type 0} (reads : List ℕ → Option V) (name : List ℕ) (value : Data) (t : List ℕ) (key preferred : V)
+    → as_str value ≡ Some t → reads t ≡ Some preferred → reads name ≡ Some key → alias_row reads name value ≡ Some ((key, preferred) ∷ [])
+alias_said reads name value t key preferred text says named = rw (text, says, named) refl

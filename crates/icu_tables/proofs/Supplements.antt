@@ -1,6 +1,7 @@
 -- What a supplement holds of what was read.
 use Rattle.std.proofs.Common.{◌≡◌, ℕ, List, Some, Result, Ok, Err, IfOk, ap, ◌∙◌}
 use Rattle.serde_json.specs.Data.{Data}
+use Rattle.icu_provider.specs.declared.extension_names.ExtensionNames.{ExtensionNames}
 use Rattle.icu_provider.specs.declared.matching.LanguageMatching.{LanguageMatching}
 use Rattle.icu_provider.specs.declared.matching.MatchRules.{MatchRules}
 use Rattle.icu_tables.specs.File.{json_of, or_json, or_shape}
@@ -8,7 +9,7 @@ use Rattle.icu_tables.specs.Rows.{seen_rows}
 use Rattle.icu_tables.specs.Supplement.{rule_rows, matching_rows, rows_of, rows_in, supplement}
 use Rattle.icu_tables.specs.declared.error.TableError.{TableError}
 use Rattle.icu_tables.specs.declared.supplement.Supplement.{Supplement}
-use Rattle.icu_tables.specs.inner.Further.{rules_seen, matching_seen, supplement_seen}
+use Rattle.icu_tables.specs.inner.Further.{rules_seen, matching_seen, names_seen, supplement_seen}
 use Rattle.icu_tables.specs.inner.Reads.{Reads}
 use Rattle.icu_tables.proofs.Files.{map-same, lists_seen-same, option_map-seen}
 use Rattle.icu_tables.proofs.Members.{seen_rows-same}
@@ -28,11 +29,31 @@ matching_seen-is table = λ i. record {
   rules = seen_rows (λ rules. rules_seen-is rules i) table.rules;
 }
 
+-- maps of maps are seen as they are
+nested_seen-same : {K A B : Type 0} (rows : List (K × List (A × B)))
+    → seen_rows (seen_rows (λ v. v)) rows ≡ rows
+nested_seen-same rows = (λ i. seen_rows (λ held. seen_rows-same held i) rows) ∙ seen_rows-same rows
+
+names_seen-same : (names : ExtensionNames) → names_seen names ≡ names
+names_seen-same names = λ i. record {
+  types = nested_seen-same names.types i;
+  keys = seen_rows-same names.keys i;
+  values = nested_seen-same names.values i;
+  pattern = names.pattern;
+}
+
+-- maps of names are seen as they are
+all_names_seen-same : {K : Type 0} (rows : List (K × ExtensionNames)) → seen_rows names_seen rows ≡ rows
+all_names_seen-same rows = (λ i. seen_rows (λ names. names_seen-same names i) rows) ∙ seen_rows-same rows
+
 -- a supplement is seen as the rows that it holds
 supplement_seen-is : (s : Supplement) → supplement_seen s ≡ rows_of s
 supplement_seen-is s = λ i. record {
   parents = seen_rows-same s.parents i;
   matching = option_map-seen matching_seen matching_rows matching_seen-is s.matching i;
+  keywords = nested_seen-same s.keywords i;
+  fields = nested_seen-same s.fields i;
+  extension_names = all_names_seen-same s.extension_names i;
 }
 
 -- what was read of the value of a text are the rows of the text

@@ -1,8 +1,15 @@
--- What a supplement may hold, and what a text says as one: explicit parents and rules of language matching.
+-- What a supplement may hold, and what a text says as one: explicit parents, rules of language matching, aliases of
+-- values, and what parts of extensions are called.
 use Rattle.std.specs.Prelude.{codes, ℕ, List, [], map, nat_le, if◌then◌else◌, Option, Some, None, option_map, option_and_then, Result}
+use Rattle.std.specs.Cmp.Lexicographic.{slice_cmp}
+use Rattle.icu_locale_core.specs.Identifier.{pieces}
+use Rattle.icu_locale_core.specs.Subtag.{is_key, lowercase}
 use Rattle.icu_locale_core.specs.TextSet.{text_cmp}
+use Rattle.icu_locale_core.specs.Value.{is_value, read_value}
+use Rattle.icu_locale_extensions.specs.Extensions.{is_tkey, are_pieces}
 use Rattle.icu_provider.specs.Requests.{locale_cmp}
 use Rattle.icu_provider.specs.declared.data_locale.DataLocale.{DataLocale}
+use Rattle.icu_provider.specs.declared.extension_names.ExtensionNames.{ExtensionNames}
 use Rattle.icu_provider.specs.declared.matching.LanguageMatching.{LanguageMatching}
 use Rattle.icu_provider.specs.declared.matching.MatchPattern.{MatchPattern}
 use Rattle.icu_provider.specs.declared.matching.MatchRule.{MatchRule}
@@ -11,19 +18,26 @@ use Rattle.icu_provider.specs.declared.matching.RegionPattern.{RegionPattern}
 use Rattle.icu_provider.specs.declared.matching.RegionPattern.TheVariants.{Any, In, NotIn}
 use Rattle.icu_tables.specs.Fields.{Fields, fields, field, ◌and◌, required, rows, optional, object_of}
 use Rattle.icu_tables.specs.File.{json_of, or_json}
+use Rattle.icu_tables.specs.NamedRows
 use Rattle.icu_tables.specs.NamedRows.{named_row}
 use Rattle.icu_tables.specs.Names.{locale_key}
 use Rattle.icu_tables.specs.Puts.{map_by, put_all}
 use Rattle.icu_tables.specs.Rows.{seen_rows}
-use Rattle.icu_tables.specs.Shape.{Shape, text_as, triple_of, array_of, map_of}
-use Rattle.icu_tables.specs.Subtags.{language, script, region, language_key, region_key}
+use Rattle.icu_tables.specs.Shape.{Shape, text, text_as, triple_of, array_of, map_of}
+use Rattle.icu_tables.specs.Subtags.{in_class, key_of, language, script, region, language_key, region_key}
 use Rattle.icu_tables.specs.declared.error.TableError.{TableError}
 use Rattle.icu_tables.specs.declared.supplement.Supplement.{Supplement}
 use Rattle.serde_json.specs.Find.{as_number, as_u64}
 
 -- a supplement that holds nothing
 abbrev pub no_supplement : Supplement
-no_supplement = record { parents = []; matching = None }
+no_supplement = record {
+  parents = [];
+  matching = None;
+  keywords = [];
+  fields = [];
+  extension_names = [];
+}
 
 -- the match rules for a desired language, by level
 pub record RuleRows : Type 0 where
@@ -38,10 +52,21 @@ pub record MatchingRows : Type 0 where
   pub paradigms : List DataLocale
   pub rules : List (List ℕ × RuleRows)
 
+-- the pieces of a value
+abbrev pub Pieces : Type 0
+Pieces = List (List ℕ)
+
+-- aliases by key: a value, and the one preferred to it
+abbrev pub AliasesByKey : Type 0
+AliasesByKey = List (List ℕ × List (Pieces × Pieces))
+
 -- the rows of a supplement; a table that is left out is none
 pub record SupplementRows : Type 0 where
   pub parents : List (DataLocale × DataLocale)
   pub matching : Option MatchingRows
+  pub keywords : AliasesByKey
+  pub fields : AliasesByKey
+  pub extension_names : List (DataLocale × ExtensionNames)
 
 -- the rules that a table has for a language
 abbrev pub rule_rows : MatchRules → RuleRows
@@ -65,6 +90,9 @@ abbrev pub rows_of : Supplement → SupplementRows
 rows_of supplement = record {
   parents = supplement.parents;
   matching = option_map matching_rows supplement.matching;
+  keywords = supplement.keywords;
+  fields = supplement.fields;
+  extension_names = supplement.extension_names;
 }
 
 -- a locale in written form as a value
@@ -180,13 +208,82 @@ matching =
 abbrev pub locale_parent : List ℕ → Shape (List (DataLocale × DataLocale))
 locale_parent name = named_row (locale_key name) locale
 
+-- a key of a keyword as a key
+abbrev pub keyword_key : List ℕ → Option (List ℕ)
+keyword_key = key_of (λ x. x) (in_class is_key lowercase)
+
+-- a key of a field as a key
+abbrev pub field_key : List ℕ → Option (List ℕ)
+field_key = key_of (λ x. x) (in_class is_tkey lowercase)
+
+-- a text as the value of a keyword, in any case
+abbrev pub keyword_value : List ℕ → Option Pieces
+keyword_value t = if is_value t then Some (read_value t) else None
+
+-- a text as the value of a field, in any case
+abbrev pub field_value : List ℕ → Option Pieces
+field_value t = if are_pieces 3 (pieces t) then Some (map lowercase (pieces t)) else None
+
+-- the value that is preferred to the one that a member is named by; a name that is no value has none
+abbrev pub alias_row : {V : Type 0} → (List ℕ → Option V) → List ℕ → Shape (List (V × V))
+alias_row reads name = named_row (reads name) (text_as reads)
+
+-- the aliases of the key that a member is named by
+abbrev pub aliases_of_key : (List ℕ → Option (List ℕ)) → (List ℕ → Option Pieces) → List ℕ
+    → Shape AliasesByKey
+aliases_of_key key reads name = named_row (key name) (map_by (slice_cmp text_cmp) (alias_row reads))
+
+-- names by the text of what they name
+abbrev pub Names : Type 0
+Names = List (List ℕ × List ℕ)
+
+-- the row of a member whose name is a text of any content
+abbrev pub row_by_text : {V : Type 0} → Shape V → List ℕ → Shape (List (List ℕ × V))
+row_by_text shape name = named_row (Some name) shape
+
+-- an object of names
+abbrev pub names_by_text : Shape Names
+names_by_text = map_by text_cmp (row_by_text text)
+
+-- names by key
+abbrev pub names_by_key : List ℕ → Fields (List (List ℕ × Names))
+names_by_key name = rows name (map_by text_cmp (row_by_text names_by_text))
+
+-- what parts of extensions are called in one language
+abbrev pub extension_names : Shape ExtensionNames
+extension_names =
+    object_of (
+    fields (λ pattern types keys values. record {
+      types = types;
+      keys = keys;
+      values = values;
+      pattern = pattern;
+    })
+    and required (codes "pattern") NamedRows.pattern
+    and names_by_key (codes "types")
+    and rows (codes "keys") names_by_text
+    and names_by_key (codes "values"))
+
+-- what parts of extensions are called in the language of the locale that a member is named by
+abbrev pub locale_extension_names : List ℕ → Shape (List (DataLocale × ExtensionNames))
+locale_extension_names name = named_row (locale_key name) extension_names
+
 -- a supplement: any member may be left out
 abbrev pub supplement : Shape SupplementRows
 supplement =
     object_of (
-    fields (λ parents matching. record { parents = parents; matching = matching })
+    fields (λ parents matching keywords fields extension_names. record {
+      parents = parents;
+      matching = matching;
+      keywords = keywords;
+      fields = fields;
+      extension_names = extension_names;
+    })
     and rows (codes "parents") (map_by locale_cmp locale_parent)
-    and optional (codes "matching") matching)
+    and optional (codes "matching") matching
+    and rows (codes "keywords") (map_by text_cmp (aliases_of_key keyword_key keyword_value))
+    and rows (codes "fields") (map_by text_cmp (aliases_of_key field_key field_value))
+    and rows (codes "extension_names") (map_by locale_cmp locale_extension_names))
 
 -- the rows in a text, or why there are none
 abbrev pub rows_in : List ℕ → Result SupplementRows TableError

@@ -11,6 +11,7 @@ mod arrays;
 mod direction;
 mod essentials;
 mod exemplars;
+mod extension_names;
 mod keys;
 mod likely;
 mod locales;
@@ -19,7 +20,9 @@ mod matching;
 mod members;
 mod names;
 mod objects;
+mod preferred;
 mod subtags;
+mod supplements;
 pub(crate) mod values;
 
 use crate::file::exemplars::MarkedExemplars;

@@ -5,16 +5,26 @@ ghost use Rattle.icu_tables.specs.Supplement.{no_supplement, rows_in, rows_of};
 use crate::TableError;
 use crate::file::parse;
 use crate::file::values::FromValue;
-use icu_provider::{DataLocale, LanguageMatching, SortedMap};
+use icu_locale_core::{Key, Value};
+use icu_locale_extensions::{FieldKey, Subtags};
+use icu_provider::{DataLocale, ExtensionNames, LanguageMatching, SortedMap};
 use std::alloc::Global;
 
-/// What may stand beside tables: the explicit parents of locales, and rules of language matching. It borrows nothing.
+/// What may stand beside tables: the explicit parents of locales, rules of language matching, aliases of values, and what
+/// parts of extensions are called. It borrows nothing.
 #[derive(Debug)]
 pub struct Supplement {
     /// The explicit parent of a locale (UTS #35 Part 1, Parent Locales).
     pub parents: SortedMap<DataLocale, DataLocale>,
     /// The rules of language matching, if any are held (UTS #35 Part 1, section 4.4).
     pub matching: Option<LanguageMatching>,
+    /// The aliases of a keyword's values, by its key: a value, and the one preferred to it (CLDR, common/bcp47).
+    pub keywords: SortedMap<Key, SortedMap<Value, Value>>,
+    /// The aliases of a field's values, by its key.
+    pub fields: SortedMap<FieldKey, SortedMap<Subtags<3>, Subtags<3>>>,
+    /// What parts of extensions are called, by the locale in whose language (UTS #35 Part 2, "Locale Display Name
+    /// Algorithm").
+    pub extension_names: SortedMap<DataLocale, ExtensionNames>,
 }
 
 impl Drop for Supplement {
@@ -22,6 +32,9 @@ impl Drop for Supplement {
         let Supplement {
             parents: _,
             matching: _,
+            keywords: _,
+            fields: _,
+            extension_names: _,
         } = self;
     }
 }
@@ -34,12 +47,15 @@ impl Supplement {
         Supplement {
             parents: SortedMap::new(alloc),
             matching: None,
+            keywords: SortedMap::new(alloc),
+            fields: SortedMap::new(alloc),
+            extension_names: SortedMap::new(alloc),
         }
     }
 
-    /// The supplement of a JSON text: an object with the members `parents` and `matching`, any of which may be left out.
-    /// `specs/Supplement.antt` says what stands in each. A row whose key is not in written form is skipped. It takes
-    /// memory for the JSON value and for the tables.
+    /// The supplement of a JSON text: an object with the members `parents`, `matching`, `keywords`, `fields` and
+    /// `extension_names`, any of which may be left out. `specs/Supplement.antt` says what stands in each. A row whose key is not in written form
+    /// is skipped, and so is an alias of what is no value. It takes memory for the JSON value and for the tables.
     ///
     /// # Errors
     ///

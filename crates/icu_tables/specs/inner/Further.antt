@@ -1,5 +1,6 @@
 -- The rows of a supplement as they were read, one by one: what only the readers' own functions cite.
 use Rattle.std.specs.Prelude.{map, option_map}
+use Rattle.icu_provider.specs.declared.extension_names.ExtensionNames.{ExtensionNames}
 use Rattle.icu_provider.specs.declared.matching.LanguageMatching.{LanguageMatching}
 use Rattle.icu_provider.specs.declared.matching.MatchRules.{MatchRules}
 use Rattle.icu_tables.specs.Rows.{seen_rows}
@@ -29,8 +30,19 @@ matching_seen table = record {
   rules = seen_rows rules_seen table.rules;
 }
 
+abbrev pub names_seen : ExtensionNames → ExtensionNames
+names_seen names = record {
+  types = seen_rows (seen_rows (λ v. v)) names.types;
+  keys = seen_rows (λ v. v) names.keys;
+  values = seen_rows (seen_rows (λ v. v)) names.values;
+  pattern = names.pattern;
+}
+
 abbrev pub supplement_seen : Supplement → SupplementRows
 supplement_seen supplement = record {
   parents = seen_rows (λ v. v) supplement.parents;
   matching = option_map matching_seen supplement.matching;
+  keywords = seen_rows (seen_rows (λ v. v)) supplement.keywords;
+  fields = seen_rows (seen_rows (λ v. v)) supplement.fields;
+  extension_names = seen_rows names_seen supplement.extension_names;
 }

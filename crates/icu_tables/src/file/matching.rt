@@ -1,14 +1,14 @@
-//! Rules of language matching, and parents.
+//! Rules of language matching.
 ghost use Rattle.std.specs.Prelude.{◌≡◌, [], IfOk};
 ghost use Rattle.icu_tables.specs.Puts.{put_all};
 ghost use Rattle.icu_tables.specs.Supplement.{members_of, region_pattern, any_form};
-ghost use Rattle.icu_tables.specs.inner.Further.{pattern_seen, rules_seen, matching_seen, supplement_seen};
+ghost use Rattle.icu_tables.specs.inner.Further.{pattern_seen, rules_seen, matching_seen};
 
-use crate::file::locales::{Locales, locale_named};
-use crate::file::members::{RowByRow, in_one_list};
+use crate::TableError;
+use crate::file::locales::locale_named;
+use crate::file::members::in_one_list;
 use crate::file::objects::{MemberReader, only_members, required};
 use crate::file::values::FromValue;
-use crate::{Supplement, TableError};
 use icu_locale_core::{Region, Script};
 use icu_provider::{
     DataLocale, LanguageMatching, MatchPattern, MatchRule, MatchRules, RegionPattern, SortedMap,
@@ -233,28 +233,5 @@ impl FromValue for LanguageMatching {
             .fill("paradigms", &mut table.paradigms)
             .fill("rules", &mut table.rules)
             .finish(table)
-    }
-}
-
-impl FromValue for Supplement {
-    ghost use Rattle.icu_tables.specs.Supplement.{SupplementRows, supplement};
-
-    ghost Seen = { SupplementRows };
-
-    ghost seen = { supplement_seen };
-
-    ghost shape = { supplement };
-
-    fn from_value(alloc: Global, value: &Value) -> Result<Self, TableError> {
-        only_members(value, &["parents", "matching"])?;
-        let mut supplement = Supplement::new(alloc);
-        MemberReader::of(alloc, value)
-            .fill_by(
-                "parents",
-                &RowByRow { keys: Locales },
-                &mut supplement.parents,
-            )
-            .fill("matching", &mut supplement.matching)
-            .finish(supplement)
     }
 }
