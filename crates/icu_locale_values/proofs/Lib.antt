@@ -1,0 +1,10 @@
+pub mod Followed
+pub mod Found
+pub mod Made
+pub mod OneRefusal
+pub mod Putting
+pub mod Refused
+pub mod Ruled
+pub mod Stills
+pub mod Universes
+pub mod Walks

@@ -1,0 +1,16 @@
+use Rattle.std.proofs.Common.{subst}
+use Rattle.icu_locale_core.specs.TextSet.{text_cmp}
+use Rattle.icu_locale_values.specs.Aliases.{next_field}
+use Rattle.icu_locale_values.specs.Refusals.{IsFirstRepeat}
+use Rattle.icu_locale_values.specs.inner.Walked.{AreLaterEnds}
+use Rattle.icu_locale_values.proofs.canonicalizer.WholeCanonicalizer.field_ends.Goals as goal
+
+pub returns-in-Ok-clause-ends : goal.returns-in-Ok-clause-ends
+returns-in-Ok-clause-ends c =
+    subst (λ rows. AreLaterEnds text_cmp (next_field c.args.self.now.values.fields.now) rows c.in-Ok.ends.items) c.iter.ensures c.in-Ok.ensures.ends
+
+pub returns-in-Err-Repeats-clause-refusal : goal.returns-in-Err-Repeats-clause-refusal
+returns-in-Err-Repeats-clause-refusal c =
+    let refused = rw c.in-Err-Repeats.field-0-is at c.in-Err-Repeats.ensures.refused in
+    subst (λ rows. IsFirstRepeat text_cmp (next_field c.args.self.now.values.fields.now) rows c.in-Err-Repeats.key c.in-Err-Repeats.first)
+    c.iter.ensures refused

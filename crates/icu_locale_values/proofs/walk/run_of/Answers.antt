@@ -1,0 +1,21 @@
+use Rattle.std.proofs.Common.{◌≡◌, None, IfOk, option_copied, sym, subst}
+use Rattle.icu_locale_core.specs.Maps.{value_at}
+use Rattle.icu_locale_runs.specs.Run.{IsOutcome}
+use Rattle.icu_locale_values.specs.Aliases.{preferred}
+use Rattle.icu_locale_values.proofs.Universes.{IsUniverse-rows, alone_stands, same_alone}
+use Rattle.icu_locale_values.proofs.walk.run_of.Goals as goal
+
+pub end_of_run-requires : goal.end_of_run-requires
+end_of_run-requires g c = IsUniverse-rows g.V.Ord.cmp c.in-Some.rows.now c.args.value.now
+
+pub returns-clause-outcome : goal.returns-clause-outcome
+returns-clause-outcome g c =
+    subst (λ o. IfOk c.end_of_run.result (IsOutcome (preferred g.V.Ord.cmp (option_copied o)) c.args.value.now)) (sym c.in-Some.is) c.end_of_run.ensures.outcome
+
+-- where nothing follows the start, no memory is taken
+pub returns-clause-same : goal.returns-clause-same
+returns-clause-same g c = λ none.
+    let next = value_at g.V.Ord.cmp c.in-Some.rows.now in
+    let nothing : next c.args.value.now ≡ None = subst (λ o. preferred g.V.Ord.cmp (option_copied o) c.args.value.now ≡ None) c.in-Some.is none in
+    let fine = c.end_of_run.ensures.free (λ y stands. alone_stands next c.args.value.now nothing y stands) in
+    same_alone next c.args.value.now nothing c.end_of_run.result c.end_of_run.ensures.outcome fine

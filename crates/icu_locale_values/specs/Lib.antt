@@ -1,0 +1,4 @@
+pub mod Aliases
+pub mod Refusals
+pub mod Whole
+pub mod inner
