@@ -54,7 +54,7 @@ module _ (ws : List Wish) (w : Wish) (i : ℕ) (place : IsPlaceFor w.1 ws i) (fa
 same_number : (m n : ℕ) → (m == n) ≡ true → m ≡ n
 same_number m n e = eqb-true m n e
 
-filter_none : {X : Type 0} (p : X → Bool) (xs : List X) → ((k : ℕ) (d : X) → k < length xs → p (get_or xs k d) ≡ false) → filter p xs ≡ []
+pub filter_none : {X : Type 0} (p : X → Bool) (xs : List X) → ((k : ℕ) (d : X) → k < length xs → p (get_or xs k d) ≡ false) → filter p xs ≡ []
 filter_none p [] each = refl
 filter_none p (x ∷ xs) each =
     ap (λ b. cond b (x ∷ filter p xs) (filter p xs)) (each 0 x (omega arith))

@@ -6,6 +6,8 @@ pub mod Greatest
 pub mod Groups
 pub mod Inserts
 pub mod Near
-pub mod Ranks
+pub mod OneService
+mod Ranks
 pub mod Serving
 pub mod Trims
+pub mod Within

@@ -9,11 +9,10 @@ use Rattle.icu_locale_core.specs.declared.langid.LanguageIdentifier.{LanguageIde
 use Rattle.icu_provider.specs.declared.matching.LanguageMatching.{LanguageMatching}
 use Rattle.icu_locale.specs.LikelySubtags.{LikelySubtags}
 use Rattle.icu_locale.specs.LikelyTable.{likely}
-use Rattle.icu_locale.specs.RuleSet.{lent}
-use Rattle.icu_locale.specs.declared.canonicalizer.lending.CanonicalizerRef.{CanonicalizerRef}
 use Rattle.icu_locale.specs.declared.canonicalizer.rules.Rules.{Rules}
+use Rattle.icu_locale.specs.declared.expander.LocaleExpander.{LocaleExpander}
 use Rattle.icu_locale_matching.specs.Header.{Wish, wishes_of, AreByWeight, wanted, refused, wants_any}
-use Rattle.icu_locale_matching.specs.Nearest.{Matching, question, IsNearest, may_of}
+use Rattle.icu_locale_matching.specs.Nearest.{Matching, question, IsNearest, may_of, all_may}
 use Rattle.icu_locale_matching.specs.Nearest as nearest
 use Rattle.icu_locale_matching.specs.Requests.{AreRequests, AreCanonical}
 use Rattle.icu_locale_matching.specs.declared.limits.MatchLimits.{MatchLimits}
@@ -48,7 +47,8 @@ allowed ranges xs = map (is_allowed ranges) xs
 
 -- what a server is
 pub record Service : Type 0 where
-  pub rules : CanonicalizerRef
+  pub expander : LocaleExpander
+  pub rules : Rules
   pub matching : LanguageMatching
   pub limits : MatchLimits
   pub available : List LanguageIdentifier
@@ -56,7 +56,7 @@ pub record Service : Type 0 where
 -- what matches for it, over canonical forms
 abbrev pub matching_of : Service → List LanguageIdentifier → Matching
 matching_of s canonical = record {
-  expander = s.rules.expander;
+  expander = s.expander;
   matching = s.matching;
   limits = s.limits;
   available = canonical;
@@ -81,13 +81,11 @@ pub record IsChoice (m : Matching) (requests : List LanguageIdentifier) (may : L
 -- is available that no refused range begins
 pub record IsServedFor (s : Service) (wishes : List Wish) (result : Option ℕ) : Type 0 where
   pub requests : List LanguageIdentifier
-  pub requested : AreRequests (likely s.rules.expander) (lent s.rules.rules) (wanted wishes)
-      requests
+  pub requested : AreRequests (likely s.expander) s.rules (wanted wishes) requests
   pub out : List LanguageIdentifier
-  pub taken_out : AreRequests (likely s.rules.expander) (lent s.rules.rules) (refused wishes) out
+  pub taken_out : AreRequests (likely s.expander) s.rules (refused wishes) out
   pub canonical : List LanguageIdentifier
-  pub canonicalized : AreCanonical (likely s.rules.expander) (lent s.rules.rules) s.available
-      canonical
+  pub canonicalized : AreCanonical (likely s.expander) s.rules s.available canonical
   pub choice : IsChoice (matching_of s canonical) requests (allowed out canonical)
       (wants_any wishes) result
 
@@ -96,6 +94,15 @@ pub record IsServed (s : Service) (header : List ℕ) (result : Option ℕ) : Ty
   pub wishes : List Wish
   pub sorted : AreByWeight (wishes_of header) wishes
   pub served : IsServedFor s wishes result
+
+-- the nearest for requests, over canonical forms on both sides; each that is available may be served
+pub record IsNearestTo (s : Service) (requests : List LanguageIdentifier) (result : Option Match)
+    : Type 0 where
+  pub asked : List LanguageIdentifier
+  pub requested : AreCanonical (likely s.expander) s.rules requests asked
+  pub canonical : List LanguageIdentifier
+  pub canonicalized : AreCanonical (likely s.expander) s.rules s.available canonical
+  pub nearest : IsNearest (question (matching_of s canonical) asked all_may) result
 
 -- ---- what is prepared
 

@@ -3,13 +3,17 @@ ghost use Rattle.std.specs.Prelude.{◌≡◌, ◌<◌, ◌^◌, ◌||◌, if◌
 ghost use Rattle.std.specs.Option.{option_eq};
 ghost use Rattle.std.specs.Str.{bytes_eq};
 ghost use Rattle.std.specs.List.{find};
+ghost use Rattle.icu_locale.specs.LikelyTable.{likely};
+ghost use Rattle.icu_locale_matching.specs.Nearest.{form_of};
 ghost use Rattle.icu_locale_matching.specs.Distance.{fits, level_distance, distance_by, distance, levels_over, levels_for, is_macro, with_region, greatest, greatest_to, region_distance};
 ghost use Rattle.icu_locale_matching.specs.inner.Known.{AreKnown, fits_at};
 ghost use Rattle.icu_locale_matching.specs.inner.Levels.{shown_level, shown, IsBelow};
 
+use crate::candidates::form_of;
 use crate::macros::{Macros, is_macro, row_of};
 use crate::patterns::{fits, fits_known, fits_pattern};
-use icu_locale_core::{Language, Region};
+use icu_locale::LocaleExpander;
+use icu_locale_core::{Language, LanguageIdentifier, Region};
 use icu_provider::{DataLocale, LanguageMatching, MatchRule};
 
 // The rules of one level, and the distance where none fits.
@@ -36,6 +40,24 @@ pub fn distance(matching: &LanguageMatching, desired: &DataLocale, supported: &D
     ensures { result ≡ distance matching.now desired.now supported.now }
 {
     levels_for(matching, &desired.language).distance(desired, supported)
+}
+
+/// The distance of a supported identifier from a desired one, both as they are: that of their maximal forms. It takes no
+/// memory.
+pub fn distance_of(
+    expander: &LocaleExpander<'_>,
+    matching: &LanguageMatching,
+    desired: &LanguageIdentifier,
+    supported: &LanguageIdentifier,
+) -> u32
+    ensures { result ≡ distance matching.now (form_of (likely expander.now) desired.now)
+        (form_of (likely expander.now) supported.now) }
+{
+    distance(
+        matching,
+        &form_of(expander, desired),
+        &form_of(expander, supported),
+    )
 }
 
 // The levels for a desired language.
@@ -77,7 +99,8 @@ fn levels_over<'d>(
 impl<'d> LentLevel<'d> {
     // The first rule that fits.
     fn first_fit(&self, desired: &DataLocale, supported: &DataLocale) -> Option<&'d MatchRule>
-        ensures { option_copied result ≡ find (fits desired.now supported.now) self.now.rules.now }
+        ensures { option_copied result
+            ≡ find (fits desired.now supported.now) self.now.rules.now }
     {
         self.rules
             .iter()

@@ -1,10 +1,10 @@
 //! Laws of language matching: what follows from the definitions alone, over every table. Their functions do nothing.
-ghost use Rattle.std.specs.Prelude.{◌≡◌, ◌↔◌, ◌<◌, ℕ, Bool, true, List, Option, Some, IsSomeAnd};
+ghost use Rattle.std.specs.Prelude.{◌≡◌, ◌↔◌, ◌<◌, ℕ, Bool, true, List, length, Option, Some, IsSomeAnd};
 ghost use Rattle.icu_locale.specs.Negotiation.{IsMatch};
 ghost use Rattle.icu_provider.specs.declared.data_locale.DataLocale.{DataLocale};
 ghost use Rattle.icu_locale_matching.specs.Distance.{distance, TellsApart, AgreeAt};
 ghost use Rattle.icu_locale_matching.specs.Nearest.{Matching, may_of, Question, AgreeOn, with_matching, IsNearest, ServesFirst, ScriptsAreFar, KeepsScript};
-ghost use Rattle.icu_locale_matching.specs.Service.{IsChoice};
+ghost use Rattle.icu_locale_matching.specs.Service.{Service, IsChoice, IsServed, IsNearestTo};
 ghost use Rattle.icu_locale_matching.specs.declared.matcher.Match.{Match};
 ghost use Rattle.icu_locale_core.specs.declared.langid.LanguageIdentifier.{LanguageIdentifier};
 ghost use Rattle.icu_provider.specs.declared.matching.LanguageMatching.{LanguageMatching};
@@ -68,4 +68,26 @@ pub fn what_is_served_keeps_the_script()
 pub fn what_is_chosen_may_be()
     ensures { (m : Matching) (requests : List LanguageIdentifier) (may : List Bool) (any : Bool)
         (place : ℕ) → IsChoice m requests may any (Some place) → may_of may place ≡ true }
+{}
+
+/// What is served for a header is one.
+pub fn what_is_served_is_one()
+    ensures { (s : Service) (header : List ℕ) (a b : Option ℕ) → IsServed s header a
+        → IsServed s header b → a ≡ b }
+{
+    icu_locale_extensions::laws::spelled_once_by();
+}
+
+/// The nearest for requests is one.
+pub fn the_nearest_to_requests_is_one()
+    ensures { (s : Service) (requests : List LanguageIdentifier) (a b : Option Match)
+        → IsNearestTo s requests a → IsNearestTo s requests b → a ≡ b }
+{}
+
+/// What is served for a header, or for requests, is available.
+pub fn what_is_served_is_available()
+    ensures header { (s : Service) (header : List ℕ) (place : ℕ)
+        → IsServed s header (Some place) → place < length s.available }
+    ensures requests { (s : Service) (requests : List LanguageIdentifier) (m : Match)
+        → IsNearestTo s requests (Some m) → m.available < length s.available }
 {}

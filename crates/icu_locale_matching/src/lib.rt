@@ -19,7 +19,7 @@ mod server;
 mod weights;
 
 pub use candidates::Candidates;
-pub use distances::distance;
+pub use distances::{distance, distance_of};
 pub use header::{AcceptLanguage, LentWish};
 pub use limits::MatchLimits;
 pub use matcher::{LocaleMatcher, Match};

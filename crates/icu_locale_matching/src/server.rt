@@ -8,7 +8,7 @@ ghost use Rattle.icu_locale.specs.LikelyTable.{likely};
 ghost use Rattle.icu_locale.specs.RuleSet.{lent};
 ghost use Rattle.icu_locale_matching.specs.Header.{wishes_of};
 ghost use Rattle.icu_locale_matching.specs.Nearest as nearest;
-ghost use Rattle.icu_locale_matching.specs.Service.{Service, IsServed, IsServedFor, IsChoice, IsPreparedOver, identifiers_of, first_allowed, place_of, allowed};
+ghost use Rattle.icu_locale_matching.specs.Service.{Service, IsServed, IsServedFor, IsNearestTo, IsChoice, IsPreparedOver, identifiers_of, first_allowed, place_of, allowed};
 
 use crate::candidates::Candidates;
 use crate::filtering::allowed;
@@ -90,7 +90,8 @@ impl<'r> Model for LocaleServer<'r> {
     ghost coded = { Prim.hlevel (codes, text_set_code) };
 
     ghost view = { λ s. record {
-      rules = s.rules;
+      expander = s.rules.expander;
+      rules = lent s.rules.rules;
       matching = s.matching.now;
       limits = s.limits;
       available = identifiers_of s.served.now;
@@ -111,7 +112,8 @@ impl<'r> LocaleServer<'r> {
     ) -> Self
         requires { IsPreparedOver (likely rules.expander) (lent rules.rules) matching.now
             served.now }
-        ensures rules { result.rules ≡ rules.entry }
+        ensures expander { result.expander ≡ rules.entry.expander }
+        ensures rules { result.rules ≡ lent rules.entry.rules }
         ensures matching { result.matching ≡ matching.now }
         ensures limits { result.limits ≡ limits }
         ensures available { result.available ≡ identifiers_of served.now }
@@ -153,6 +155,53 @@ impl<'r> LocaleServer<'r> {
             header,
         )
     }
+
+    /// The nearest available locale for requests, and which request it serves, over canonical forms on both sides; a
+    /// request whose rules come to no end asks as it is. It takes memory for a copy of each request.
+    ///
+    /// # Errors
+    ///
+    /// `AllocError` where memory was refused.
+    pub fn nearest(
+        &self,
+        alloc: Global,
+        requests: &[LanguageIdentifier],
+    ) -> Result<Option<Match>, AllocError>
+        ensures { IfOk result (IsNearestTo self.now requests.now) }
+    {
+        nearest_to(
+            alloc,
+            &self.rules,
+            self.matching,
+            self.limits,
+            self.served,
+            requests,
+        )
+    }
+}
+
+// The nearest for requests over what is lent.
+fn nearest_to(
+    alloc: Global,
+    rules: &CanonicalizerRef<'_>,
+    matching: &LanguageMatching,
+    limits: MatchLimits,
+    served: &ServedLocales,
+    requests: &[LanguageIdentifier],
+) -> Result<Option<Match>, AllocError>
+    requires { IsPreparedOver (likely rules.now.expander) (lent rules.now.rules) matching.now
+        served.now }
+    ensures { IfOk result (IsNearestTo (record {
+      expander = rules.now.expander;
+      rules = lent rules.now.rules;
+      matching = matching.now;
+      limits = limits;
+      available = identifiers_of served.now;
+    }) requests.now) }
+{
+    let asked = canonical_forms(alloc, rules, requests)?;
+    let matcher = LocaleMatcher::over(rules.expander, matching, limits, &served.candidates);
+    Ok(matcher.nearest(&asked))
 }
 
 // The place that is served over what is lent.
@@ -167,7 +216,8 @@ fn place_served(
     requires { IsPreparedOver (likely rules.now.expander) (lent rules.now.rules) matching.now
         served.now }
     ensures served { IfOk result (IsServed (record {
-      rules = rules.now;
+      expander = rules.now.expander;
+      rules = lent rules.now.rules;
       matching = matching.now;
       limits = limits;
       available = identifiers_of served.now;
@@ -193,7 +243,8 @@ fn place_for(
     requires { IsPreparedOver (likely rules.now.expander) (lent rules.now.rules) matching.now
         served.now }
     ensures { IfOk result (IsServedFor (record {
-      rules = rules.now;
+      expander = rules.now.expander;
+      rules = lent rules.now.rules;
       matching = matching.now;
       limits = limits;
       available = identifiers_of served.now;
