@@ -5,12 +5,8 @@ use Rattle.icu_locale_names.specs.LanguageNames.{joined}
 use Rattle.icu_locale_names.specs.Pieces.{Piece, plain, text_of, has_raw}
 use Rattle.icu_locale_names.specs.declared.language.appending.Joined.{Joined}
 use Rattle.icu_locale_names.specs.inner.Appended.{AddsPieces, IsGrown, Joins, behind, are_some}
-use Rattle.icu_locale_names.specs.inner.Walk.{behind_separator}
-
--- the text of pieces and others behind them
-pub text_of-append : (ps qs : List Piece) → text_of (ps ++ qs) ≡ text_of ps ++ text_of qs
-text_of-append [] qs = refl
-text_of-append (p ∷ ps) qs = ap (λ t. p.text ++ t) (text_of-append ps qs) ∙ sym (append_assoc p.text (text_of ps) (text_of qs))
+use Rattle.icu_locale_names.specs.Walk.{behind_separator}
+use Rattle.icu_locale_names.specs.laws.Pieces.{text_of-append}
 
 pub or_assoc : (a b c : Bool) → ((a || b) || c) ≡ (a || (b || c))
 or_assoc true b c = refl

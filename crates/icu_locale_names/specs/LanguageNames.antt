@@ -232,20 +232,39 @@ glued base [] pattern separator = base ∷ []
 glued base (q ∷ qs) pattern separator =
     flat_map (filled base (joined separator (q ∷ qs))) pattern
 
--- a head with the names of variants behind its qualifiers, put together by patterns
-abbrev pub whole_of : Head → List Piece → LocaleNamesEssentials → List Piece
-whole_of head variants patterns =
-    glued head.base (head.qualifiers ++ variants)
-    patterns.locale_pattern (separator_text patterns.locale_separator)
+-- what a name is put together of
+pub record NameParts : Type 0 where
+  pub base : Piece
+  pub qualifiers : List Piece
+  pub pattern : List PatternPart
+  pub separator : List ℕ
 
--- the pieces of the name of an identifier, or the first refusal: of the language, the script, the
+-- the pieces that parts are put together to
+abbrev pub pieces_by_parts : NameParts → List Piece
+pieces_by_parts n = glued n.base n.qualifiers n.pattern n.separator
+
+-- a head with the names of variants behind its qualifiers, and the patterns
+abbrev pub parts_with : Head → List Piece → LocaleNamesEssentials → NameParts
+parts_with head variants patterns = record {
+  base = head.base;
+  qualifiers = head.qualifiers ++ variants;
+  pattern = patterns.locale_pattern;
+  separator = separator_text patterns.locale_separator;
+}
+
+-- the parts of the name of an identifier, or the first refusal: of the language, the script, the
 -- region, the variants, and the patterns, which must be there
-abbrev pub name_of : LocaleAnswers → LanguageChain → LanguageDisplay → LanguageIdentifier
-    → Result (List Piece) DataError
-name_of answers chain display x =
+abbrev pub name_parts_of : LocaleAnswers → LanguageChain → LanguageDisplay → LanguageIdentifier
+    → Result NameParts DataError
+name_parts_of answers chain display x =
     and_then (head_of answers chain display x) (λ head.
     and_then (variants_of answers.name (rising x.variants)) (λ variants.
-    made_of (whole_of head variants) answers.essentials))
+    made_of (parts_with head variants) answers.essentials))
+
+-- the pieces of the name of an identifier, or that refusal
+abbrev pub name_of : LocaleAnswers → LanguageChain → LanguageDisplay → LanguageIdentifier
+    → Result (List Piece) DataError
+name_of answers chain display x = made_of pieces_by_parts (name_parts_of answers chain display x)
 
 -- there are two or more
 abbrev pub are_many : List (List ℕ) → Bool
@@ -255,14 +274,19 @@ are_many (v ∷ (w ∷ vs)) = true
 
 -- no memory for the list of two or more variants, once the region is known and before a variant is
 -- asked for
-pub record LacksMemory (answers : LocaleAnswers) (chain : LanguageChain)
-    (display : LanguageDisplay) (x : LanguageIdentifier)
-    (result : Result (List Piece) DataError) : Type 0 where
+pub record LacksMemory {A : Type 0} (answers : LocaleAnswers) (chain : LanguageChain)
+    (display : LanguageDisplay) (x : LanguageIdentifier) (result : Result A DataError) : Type 0 where
   pub known : IsOk (head_of answers chain display x)
   pub many : IsTrue (are_many (rising x.variants))
   pub refused : result ≡ Err (record { kind = Memory })
 
--- the name of an identifier is given, or refused as it must be; or memory was lacking
+-- the parts of the name of an identifier are given, or refused as they must be; or memory was lacking
+abbrev pub GivesParts : LocaleAnswers → LanguageChain → LanguageDisplay → LanguageIdentifier
+    → Result NameParts DataError → Type 0
+GivesParts answers chain display x result =
+    (result ≡ name_parts_of answers chain display x) ⊎ LacksMemory answers chain display x result
+
+-- the same of the name itself
 abbrev pub GivesName : LocaleAnswers → LanguageChain → LanguageDisplay → LanguageIdentifier
     → Result (List Piece) DataError → Type 0
 GivesName answers chain display x result =

@@ -4,4 +4,7 @@ pub mod LanguageNames
 pub mod LentNames
 pub mod Names
 pub mod Pieces
+pub mod Shown
+pub mod Walk
 pub mod inner
+pub mod laws

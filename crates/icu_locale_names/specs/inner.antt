@@ -1,5 +1,3 @@
 -- What only private functions cite.
 pub mod Appended
 pub mod LanguageParts
-pub mod Shown
-pub mod Walk

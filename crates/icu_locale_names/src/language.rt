@@ -1,50 +1,45 @@
 //! Names of identifiers: a language, and qualifiers behind it.
-ghost use Rattle.std.specs.Prelude.{◌≡◌, map};
+ghost use Rattle.std.specs.Prelude.{◌≡◌};
 ghost use Rattle.icu_locale_names.specs.LanguageChains.{chain_of};
-ghost use Rattle.icu_locale_names.specs.LanguageNames.{GivesName, in_locale, display_of, separator_text};
+ghost use Rattle.icu_locale_names.specs.LanguageNames.{GivesName, in_locale, display_of};
 ghost use Rattle.icu_locale_names.specs.LentNames.{pieces_of};
-ghost use Rattle.icu_provider.specs.Names.{part_of};
 
 mod appending;
 mod base;
 mod borrowed;
+mod name_parts;
 mod named;
 mod parts;
 mod variants;
 mod walk;
 mod writing;
 
-use crate::language::parts::{Parts, find_parts};
-use crate::language::variants::{VariantNames, variant_names};
-use crate::options::{LanguageIdentifierDisplayNameOptions, display_of};
+use crate::options::LanguageIdentifierDisplayNameOptions;
 use crate::{DisplayNamesPreferences, NameChain};
 pub use borrowed::LanguageIdentifierDisplayNameBorrowed;
 use icu_locale_core::LanguageIdentifier;
-use icu_provider::{DataError, DataProvider, PatternItem};
+use icu_provider::{DataError, DataProvider};
+pub use name_parts::LanguageNameParts;
 use std::alloc::Global;
 use std::marker::Model;
+pub use walk::{PieceWalk, Qualifiers};
 
 /// The name of an identifier, in the language of a locale (UTS #35 Part 2, "Locale Display Name Algorithm"). It holds
 /// what the provider lent and copies no text; a contract sees its pieces, each a text with a mark whether it is a raw
 /// subtag.
 #[derive(Debug, Drop)]
 pub struct LanguageIdentifierDisplayName<'d> {
-    parts: Parts<'d>,
-    variants: VariantNames<'d>,
-    pattern: &'d [PatternItem],
-    separator: &'d str,
+    parts: LanguageNameParts<'d>,
 }
 
 impl<'d> Model for LanguageIdentifierDisplayName<'d> {
     ghost use Rattle.std.specs.Prelude.{List};
+    ghost use Rattle.icu_locale_names.specs.LanguageNames.{pieces_by_parts};
     ghost use Rattle.icu_locale_names.specs.Pieces.{Piece};
 
     ghost Value = { List Piece };
 
-    ghost use Rattle.icu_locale_names.specs.inner.LanguageParts.{pieces_by, variant_list};
-
-    ghost view = { λ n. pieces_by n.parts (variant_list n.variants) n.pattern.now
-        n.separator.now };
+    ghost view = { λ n. pieces_by_parts n.parts };
 }
 
 impl<'d> LanguageIdentifierDisplayName<'d> {
@@ -68,28 +63,17 @@ impl<'d> LanguageIdentifierDisplayName<'d> {
             (P.essentials provider.now) preferences.locale)
             (chain_of chain) (display_of options) subject.now result }
     {
-        let chains = chain.chains();
-        let display = display_of(options);
-        let parts = match find_parts(provider, &chains, display, &preferences.locale, subject) {
-            Ok(parts) => parts,
-            Err(refusal) => return Err(refusal),
-        };
-        let variants = match variant_names(
+        match LanguageNameParts::try_new_unstable(
             alloc,
             provider,
-            &preferences.locale,
-            &subject.variants,
+            chain,
+            preferences,
+            subject,
+            options,
         ) {
-            Ok(variants) => variants,
-            Err(refusal) => return Err(refusal),
-        };
-        let patterns = provider.load_essentials(preferences.locale)?;
-        Ok(LanguageIdentifierDisplayName {
-            parts,
-            variants,
-            pattern: patterns.locale_pattern.items(),
-            separator: separator_text(patterns.locale_separator.items()),
-        })
+            Ok(parts) => Ok(LanguageIdentifierDisplayName { parts }),
+            Err(refusal) => Err(refusal),
+        }
     }
 
     /// The name of an identifier by the chain `tiny`. Memory and refusals are those of `try_new_unstable`.
@@ -338,23 +322,6 @@ impl<'d> LanguageIdentifierDisplayName<'d> {
     pub fn as_borrowed(&self) -> LanguageIdentifierDisplayNameBorrowed<'_>
         ensures { pieces_of result ≡ self.now }
     {
-        LanguageIdentifierDisplayNameBorrowed {
-            parts: &self.parts,
-            variants: self.variants.as_slice(),
-            pattern: self.pattern,
-            separator: self.separator,
-        }
+        self.parts.as_borrowed()
     }
-}
-
-// What stands between two qualifiers: the first text of a pattern, or `, `.
-fn separator_text(items: &[PatternItem]) -> &str
-    ensures { result.now ≡ separator_text (map part_of items.now) }
-{
-    for item in items {
-        if let PatternItem::Literal(text) = item {
-            return text.as_str();
-        }
-    }
-    ", "
 }

@@ -15,11 +15,15 @@ mod subtag_name;
 mod variant;
 
 pub use errors::{LanguageIdentifierNameFallbackError, NameWriteError};
-pub use language::{LanguageIdentifierDisplayName, LanguageIdentifierDisplayNameBorrowed};
+pub use language::{
+    LanguageIdentifierDisplayName, LanguageIdentifierDisplayNameBorrowed, LanguageNameParts,
+    PieceWalk, Qualifiers,
+};
 pub use name_chain::NameChain;
 pub use options::{DisplayNamesPreferences, LanguageDisplay, LanguageIdentifierDisplayNameOptions};
 pub use region::{RegionDisplayName, RegionDisplayNameBorrowed};
 pub use script::{ScriptDisplayName, ScriptDisplayNameBorrowed};
+pub use shown::LentPiece;
 pub use sink::write_whole;
 pub use subtag_name::{SubtagName, SubtagNameBorrowed};
 pub use variant::{VariantDisplayName, VariantDisplayNameBorrowed};

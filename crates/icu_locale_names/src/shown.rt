@@ -1,7 +1,7 @@
 //! What a name shows, and the pieces of a text.
 ghost use Rattle.std.specs.Prelude.{◌≡◌, ℕ, List};
 ghost use Rattle.icu_locale_names.specs.Pieces.{plain, raw_subtag};
-ghost use Rattle.icu_locale_names.specs.inner.Shown.{shown_text, piece_by, pieces_if_any, text_pieces, lent_piece, lent_pieces};
+ghost use Rattle.icu_locale_names.specs.Shown.{shown_text, piece_by, pieces_if_any, text_pieces, lent_piece, lent_pieces};
 
 use icu_locale_core::{Language, Region, Script, Variant};
 
@@ -79,14 +79,17 @@ impl<'d, S: Subtag> Shown<'d, S> {
     }
 }
 
-// A text that is lent, and whether it is a raw subtag.
+/// A text that is lent, and whether it is a raw subtag.
 #[derive(Clone, Copy, Debug)]
 pub struct LentPiece<'a> {
+    /// The text.
     pub text: &'a str,
+    /// Whether it is a raw subtag.
     pub is_raw: bool,
 }
 
 impl<'a> LentPiece<'a> {
+    /// A text that is no raw subtag.
     #[inline]
     pub fn plain(text: &'a str) -> Self
         ensures { lent_piece result ≡ plain text.now }
@@ -97,8 +100,9 @@ impl<'a> LentPiece<'a> {
         }
     }
 
+    /// A text that is a raw subtag.
     #[inline]
-    fn raw_subtag(text: &'a str) -> Self
+    pub fn raw_subtag(text: &'a str) -> Self
         ensures { lent_piece result ≡ raw_subtag text.now }
     {
         LentPiece { text, is_raw: true }

@@ -51,7 +51,7 @@ pub struct SubtagName<'d, S: Named> {
 
 impl<'d, S: Named> Model for SubtagName<'d, S> {
     ghost use Rattle.std.specs.Prelude.{List, ℕ};
-    ghost use Rattle.icu_locale_names.specs.inner.Shown.{shown_text};
+    ghost use Rattle.icu_locale_names.specs.Shown.{shown_text};
 
     ghost Value = { List ℕ };
 

@@ -5,9 +5,9 @@ use Rattle.icu_locale_names.specs.LanguageNames.{filled, joined}
 use Rattle.icu_locale_names.specs.Pieces.{Piece, text_of, has_raw}
 use Rattle.icu_locale_names.specs.declared.language.appending.Joined.{Joined}
 use Rattle.icu_locale_names.specs.declared.language.borrowed.LanguageIdentifierDisplayNameBorrowed.{LanguageIdentifierDisplayNameBorrowed}
-use Rattle.icu_locale_names.specs.inner.LanguageParts.{shown_head}
-use Rattle.icu_locale_names.specs.inner.Shown.{piece_of}
-use Rattle.icu_locale_names.specs.inner.Walk.{behind_separator}
+use Rattle.icu_locale_names.specs.LentNames.{shown_head}
+use Rattle.icu_locale_names.specs.Shown.{piece_of}
+use Rattle.icu_locale_names.specs.Walk.{behind_separator}
 
 -- the text of pieces stands behind a text, and it is told whether one of them is a raw subtag
 pub record AddsPieces (pieces : List Piece) (old new : List ℕ) (is_raw : Bool) : Type 0 where

@@ -11,7 +11,7 @@ use Rattle.icu_provider.specs.declared.names.NameKey.TheVariants.{Language}
 use Rattle.icu_provider.specs.declared.names.NameMarker.{NameMarker}
 use Rattle.icu_locale_names.specs.Chains.{or_next, first_hit, made_of, if_missing}
 use Rattle.icu_locale_names.specs.LanguageChains.{LanguageChain}
-use Rattle.icu_locale_names.specs.LanguageNames.{Base, Head, KeyParts, glued, menu_base, text_base, raw_base, are_many}
+use Rattle.icu_locale_names.specs.LanguageNames.{NameParts, Base, Head, KeyParts, glued, menu_base, text_base, raw_base, are_many}
 use Rattle.icu_locale_names.specs.Names.{Answers, MenuAnswers, name_by, menu_by}
 use Rattle.icu_locale_names.specs.Pieces.{Piece, plain, raw_subtag}
 use Rattle.icu_locale_names.specs.declared.language.base.Base as code
@@ -20,7 +20,7 @@ use Rattle.icu_locale_names.specs.declared.language.parts.Parts.{Parts}
 use Rattle.icu_locale_names.specs.declared.language.variants.VariantNames.{VariantNames}
 use Rattle.icu_locale_names.specs.declared.language.variants.VariantNames.TheVariants as variants
 use Rattle.icu_locale_names.specs.declared.shown.Shown.{Shown}
-use Rattle.icu_locale_names.specs.inner.Shown.{piece_of, shown_pieces, text_pieces}
+use Rattle.icu_locale_names.specs.Shown.{piece_of, shown_pieces, text_pieces}
 
 -- the chains that a constant lends
 abbrev pub chains_of : Chains → LanguageChain
@@ -76,13 +76,6 @@ abbrev pub base_asked : Answers → MenuAnswers → DataLocale → LanguageChain
 base_asked name menu locale chain x keys =
     if_missing (raw_base x) (first_asked name menu locale chain x keys)
 
--- the parts but for variants and patterns, as they are shown
-abbrev pub shown_head : Parts → Head
-shown_head p = record {
-  base = piece_of p.base;
-  qualifiers = text_pieces p.extension ++ (shown_pieces p.script ++ shown_pieces p.region);
-}
-
 -- the names of variants
 abbrev pub variant_list : VariantNames → List (Shown (List ℕ))
 variant_list variants.None = []
@@ -101,9 +94,3 @@ IsMemory made = made ≡ Err (record { kind = Memory })
 abbrev pub IsThisOrMemory : {A : Type 0} → List (List ℕ) → Result A DataError
     → Result A DataError → Type 0
 IsThisOrMemory subtags this made = (made ≡ this) ⊎ (IsTrue (are_many subtags) × IsMemory made)
-
--- the pieces of a name that is made of these parts
-abbrev pub pieces_by : Parts → List (Shown (List ℕ)) → List PatternItem → List ℕ → List Piece
-pieces_by parts names pattern separator =
-    glued (piece_of parts.base) ((shown_head parts).qualifiers ++ map piece_of names)
-    (map part_of pattern) separator

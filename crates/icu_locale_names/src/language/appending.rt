@@ -5,7 +5,7 @@ ghost use Rattle.icu_provider.specs.Names.{part_of};
 ghost use Rattle.icu_locale_names.specs.LanguageNames.{joined};
 ghost use Rattle.icu_locale_names.specs.LentNames.{pieces_of};
 ghost use Rattle.icu_locale_names.specs.inner.Appended.{AddsPieces, IsGrown, Joins, filled_in, qualifiers_of};
-ghost use Rattle.icu_locale_names.specs.inner.Shown.{piece_of, lent_piece, lent_pieces};
+ghost use Rattle.icu_locale_names.specs.Shown.{piece_of, lent_piece, lent_pieces};
 
 use crate::language::LanguageIdentifierDisplayNameBorrowed;
 use crate::shown::{LentPiece, Shown, lend_if_any, plain_if_any};

@@ -3,7 +3,7 @@ ghost use Rattle.std.specs.Prelude.{◌≡◌, map, if◌then◌else◌, None};
 ghost use Rattle.icu_locale_names.specs.Chains.{made_of};
 ghost use Rattle.icu_locale_names.specs.LanguageNames.{in_locale, base_of, keys_of, asks_dialects, menu_base, raw_base, unless_empty};
 ghost use Rattle.icu_locale_names.specs.inner.LanguageParts.{chains_of, shown_base, key_with, key_asked, keys_asked, first_asked, base_asked};
-ghost use Rattle.icu_locale_names.specs.inner.Shown.{text_pieces};
+ghost use Rattle.icu_locale_names.specs.Shown.{text_pieces};
 
 use crate::LanguageDisplay;
 use crate::chain::{first_menu, first_name, is_missing};

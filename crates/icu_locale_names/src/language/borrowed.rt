@@ -1,16 +1,18 @@
 //! Names of identifiers that are lent, and how they are written.
-ghost use Rattle.std.specs.Prelude.{◌≡◌, ◌≢◌, ◌⊎◌, ◌↔◌, ◌^◌, ◌<◌, ◌≤◌, ◌++◌, length, false, Some, Err, OnOk, OnErr, IfOk, IfErr, IsErr, IsTrue};
+ghost use Rattle.std.specs.Prelude.{◌≡◌, ◌≢◌, ◌⊎◌, ◌↔◌, ◌^◌, ◌<◌, ◌≤◌, ◌++◌, length, false, Some, Err, map, OnOk, OnErr, IfOk, IfErr, IsErr, IsTrue};
 ghost use Rattle.std.specs.Io.KnownBytes.{Appends};
-ghost use Rattle.icu_locale_names.specs.LentNames.{pieces_of};
+ghost use Rattle.icu_locale_names.specs.LentNames.{pieces_of, parts_of};
 ghost use Rattle.icu_locale_names.specs.Pieces.{text_of, spans, has_raw, AppendsPart};
-ghost use Rattle.icu_locale_names.specs.inner.Walk.{pieces_left};
+ghost use Rattle.icu_locale_names.specs.Shown.{lent_piece};
+ghost use Rattle.icu_locale_names.specs.Walk.{pieces_left, qualifier_pieces};
+ghost use Rattle.icu_provider.specs.Names.{part_of};
 
 use crate::errors::{LanguageIdentifierNameFallbackError, NameWriteError};
 use crate::language::appending::append_name;
 use crate::language::parts::Parts;
-use crate::language::walk::PieceWalk;
+use crate::language::walk::{PieceWalk, Qualifiers};
 use crate::language::writing::{format_pieces, measured, spans_of, write_pieces};
-use crate::shown::Shown;
+use crate::shown::{LentPiece, Shown, lend_if_any, plain_if_any};
 use icu_locale_core::Variant;
 use icu_provider::PatternItem;
 use std::{fmt, io};
@@ -124,8 +126,42 @@ impl<'a> LanguageIdentifierDisplayNameBorrowed<'a> {
         }
     }
 
-    // The pieces in order.
-    pub(super) fn pieces(&self) -> PieceWalk<'a>
+    /// What the name is about.
+    pub fn base(&self) -> LentPiece<'_>
+        ensures { lent_piece result ≡ (parts_of self.now).base }
+    {
+        self.parts.base.lend()
+    }
+
+    /// The qualifiers in order.
+    pub fn qualifiers(&self) -> Qualifiers<'_>
+        ensures { qualifier_pieces result ≡ (parts_of self.now).qualifiers }
+    {
+        let parts = self.parts;
+        Qualifiers {
+            extension: plain_if_any(parts.extension),
+            script: lend_if_any(&parts.script),
+            region: lend_if_any(&parts.region),
+            variants: self.variants,
+        }
+    }
+
+    /// How the base and the qualifiers are put together.
+    pub fn pattern(&self) -> &[PatternItem]
+        ensures { map part_of result.now ≡ (parts_of self.now).pattern }
+    {
+        self.pattern
+    }
+
+    /// What stands between two qualifiers.
+    pub fn separator(&self) -> &str
+        ensures { result.now ≡ (parts_of self.now).separator }
+    {
+        self.separator
+    }
+
+    /// The pieces in order.
+    pub fn pieces(&self) -> PieceWalk<'a>
         ensures { pieces_left result ≡ pieces_of self.now }
     {
         PieceWalk::new(self.parts, self.variants, self.pattern, self.separator)

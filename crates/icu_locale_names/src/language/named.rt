@@ -3,7 +3,7 @@ ghost use Rattle.std.specs.Prelude.{◌≡◌};
 ghost use Rattle.std.specs.Option.{option_to_list};
 ghost use Rattle.icu_locale_names.specs.Chains.{made_of, answer_all};
 ghost use Rattle.icu_locale_names.specs.inner.LanguageParts.{name_asked};
-ghost use Rattle.icu_locale_names.specs.inner.Shown.{piece_by, pieces_if_any};
+ghost use Rattle.icu_locale_names.specs.Shown.{piece_by, pieces_if_any};
 
 use crate::chain::{first_name, is_missing};
 use crate::shown::Shown;

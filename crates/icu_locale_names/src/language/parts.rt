@@ -2,7 +2,8 @@
 ghost use Rattle.std.specs.Prelude.{◌≡◌};
 ghost use Rattle.icu_locale_names.specs.Chains.{made_of};
 ghost use Rattle.icu_locale_names.specs.LanguageNames.{in_locale, head_of};
-ghost use Rattle.icu_locale_names.specs.inner.LanguageParts.{chains_of, shown_head};
+ghost use Rattle.icu_locale_names.specs.LentNames.{shown_head};
+ghost use Rattle.icu_locale_names.specs.inner.LanguageParts.{chains_of};
 
 use crate::LanguageDisplay;
 use crate::language::base::find_base;

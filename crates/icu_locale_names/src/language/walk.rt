@@ -1,16 +1,17 @@
 //! A walk through the pieces of a name.
 ghost use Rattle.std.specs.Prelude.{◌≡◌, ◌∷◌, [], map, MatchOption};
 ghost use Rattle.std.specs.Iterator.{YieldsFirstBy, item_count};
-ghost use Rattle.icu_locale_names.specs.inner.LanguageParts.{pieces_by};
-ghost use Rattle.icu_locale_names.specs.inner.Shown.{piece_of, lent_piece, lent_pieces};
-ghost use Rattle.icu_locale_names.specs.inner.Walk.{qualifier_pieces, pieces_from_script, pieces_from_region, pieces_of_items, pieces_left, pieces_not_ready};
+ghost use Rattle.icu_locale_names.specs.LanguageNames.{pieces_by_parts};
+ghost use Rattle.icu_locale_names.specs.LentNames.{parts_by};
+ghost use Rattle.icu_locale_names.specs.Shown.{piece_of, lent_piece, lent_pieces};
+ghost use Rattle.icu_locale_names.specs.Walk.{qualifier_pieces, pieces_from_script, pieces_from_region, pieces_of_items, pieces_left, pieces_not_ready};
 
 use crate::language::parts::Parts;
 use crate::shown::{LentPiece, Shown, lend_if_any, plain_if_any};
 use icu_locale_core::Variant;
 use icu_provider::PatternItem;
 
-// Qualifiers in their order.
+/// The qualifiers of a name that are left, in their order. It takes no memory.
 #[derive(Clone, Copy, Debug)]
 pub struct Qualifiers<'a> {
     pub extension: Option<LentPiece<'a>>,
@@ -110,6 +111,20 @@ impl<'a> Qualifiers<'a> {
     }
 }
 
+impl<'a> Iterator for Qualifiers<'a> {
+    type Item = LentPiece<'a>;
+
+    ghost next_gives = { YieldsFirstBy lent_piece qualifier_pieces };
+
+    ghost remaining = { item_count qualifier_pieces };
+
+    fn next(&mut self) -> Option<LentPiece<'a>> {
+        let (piece, after) = self.split_first()?;
+        *self = after;
+        Some(piece)
+    }
+}
+
 // What the places of a pattern stand for: the base, and the first qualifier with the others behind it.
 #[derive(Clone, Copy, Debug)]
 pub struct Frame<'a> {
@@ -119,7 +134,8 @@ pub struct Frame<'a> {
     pub separator: &'a str,
 }
 
-// A walk through the pieces of a name. A piece that is ready comes first, then the qualifiers that are left of a place,
+/// A walk through the pieces of a name. It takes no memory.
+// A piece that is ready comes first, then the qualifiers that are left of a place,
 // each behind a separator, and then the items of the pattern.
 #[derive(Clone, Copy, Debug)]
 pub struct PieceWalk<'a> {
@@ -138,7 +154,7 @@ impl<'a> PieceWalk<'a> {
         separator: &'a str,
     ) -> Self
         ensures { pieces_left result
-            ≡ pieces_by parts.now variants.now pattern.now separator.now }
+            ≡ pieces_by_parts (parts_by parts.now variants.now pattern.now separator.now) }
     {
         let base = parts.base.lend();
         let qualifiers = Qualifiers {

@@ -2,7 +2,7 @@ use Rattle.std.proofs.Common.{◌≡◌, ◌+◌, ◌∙◌, ap, sym, subst, [],
 use Rattle.std.proofs.lemmas.List.{drop_more, drop_all}
 use Rattle.std.proofs.lemmas.Result.{err_from_is_err_and}
 use Rattle.icu_locale_names.specs.inner.Appended.{Joins}
-use Rattle.icu_locale_names.specs.inner.Shown.{piece_of}
+use Rattle.icu_locale_names.specs.Shown.{piece_of}
 use Rattle.icu_locale_names.proofs.Appending.{grown_more, grown_by_joins, joins_none, joins_more}
 use Rattle.icu_locale_names.proofs.language.appending.append_each.Goals as goal
 

@@ -1,7 +1,7 @@
 use Rattle.std.proofs.Common.{ℕ, List, map, drop}
 use Rattle.icu_locale_names.specs.declared.language.appending.Joined.{Joined}
 use Rattle.icu_locale_names.specs.inner.Appended.{IsGrown, Joins}
-use Rattle.icu_locale_names.specs.inner.Shown.{piece_of}
+use Rattle.icu_locale_names.specs.Shown.{piece_of}
 use Rattle.icu_locale_names.proofs.language.appending.append_each.Given as goal
 
 -- whoever joins the qualifiers that are left has joined all

@@ -3,7 +3,7 @@ use Rattle.std.proofs.lemmas.Result.{err_from_is_err_and}
 use Rattle.icu_locale_names.specs.LanguageNames.{joined}
 use Rattle.icu_locale_names.specs.declared.language.appending.Joined.{Joined}
 use Rattle.icu_locale_names.specs.inner.Appended.{AddsPieces, qualifiers_of}
-use Rattle.icu_locale_names.specs.inner.Shown.{piece_of, lent_pieces}
+use Rattle.icu_locale_names.specs.Shown.{piece_of, lent_pieces}
 use Rattle.icu_locale_names.proofs.Appending.{grown_more, grown_by_joins, joins_more, adds_joined}
 use Rattle.icu_locale_names.proofs.language.appending.append_qualifiers.Goals as goal
 

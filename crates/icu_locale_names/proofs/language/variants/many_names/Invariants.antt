@@ -3,7 +3,7 @@ use Rattle.icu_locale_core.specs.TextSet.{rising}
 use Rattle.icu_provider.specs.declared.names.NameKey.TheVariants.{Variant}
 use Rattle.icu_locale_names.specs.Chains.{variant_heavy, answers_behind}
 use Rattle.icu_locale_names.specs.LanguageNames.{qualifier}
-use Rattle.icu_locale_names.specs.inner.Shown.{piece_of}
+use Rattle.icu_locale_names.specs.Shown.{piece_of}
 use Rattle.icu_locale_names.proofs.language.variants.many_names.Given as goal
 
 -- the names so far, and the answers to the variants that are left behind them

@@ -2,7 +2,7 @@ use Rattle.std.proofs.Common.{◌≡◌, ◌∙◌, ◌++◌, ap, sym, append_as
 use Rattle.std.proofs.lemmas.Grind.{put_two}
 use Rattle.icu_locale_names.specs.Pieces.{text_of}
 use Rattle.icu_locale_names.specs.LentNames.{pieces_of}
-use Rattle.icu_locale_names.specs.inner.Walk.{pieces_left}
+use Rattle.icu_locale_names.specs.Walk.{pieces_left}
 use Rattle.icu_locale_names.proofs.language.writing.format_pieces.Goals as goal
 
 -- nothing is written yet

@@ -2,7 +2,7 @@ use Rattle.std.proofs.Common.{◌≡◌, ◌++◌, List, ℕ}
 use Rattle.std.specs.Fmt.{HasWritten, IsPlainFormatter}
 use Rattle.icu_locale_names.specs.LentNames.{pieces_of}
 use Rattle.icu_locale_names.specs.Pieces.{text_of}
-use Rattle.icu_locale_names.specs.inner.Walk.{pieces_left}
+use Rattle.icu_locale_names.specs.Walk.{pieces_left}
 use Rattle.icu_locale_names.proofs.language.writing.format_pieces.Given as goal
 
 -- a beginning of the text is written, and the pieces behind it are left

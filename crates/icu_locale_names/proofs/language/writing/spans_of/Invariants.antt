@@ -1,7 +1,7 @@
 use Rattle.std.proofs.Common.{◌≡◌, ◌+◌, ◌++◌}
 use Rattle.icu_locale_names.specs.LentNames.{pieces_of}
 use Rattle.icu_locale_names.specs.Pieces.{spans, spans_from}
-use Rattle.icu_locale_names.specs.inner.Walk.{pieces_left}
+use Rattle.icu_locale_names.specs.Walk.{pieces_left}
 use Rattle.icu_locale_names.proofs.PieceWrites.{byte_count}
 use Rattle.icu_locale_names.proofs.language.writing.spans_of.Given as goal
 

@@ -3,8 +3,8 @@ use Rattle.std.proofs.lemmas.Result.{err_from_is_err_and}
 use Rattle.icu_locale_names.specs.LentNames.{pieces_of}
 use Rattle.icu_locale_names.specs.Pieces.{text_of, AppendsPart}
 use Rattle.std.specs.Io.KnownBytes.{Appends}
-use Rattle.icu_locale_names.specs.inner.Shown.{lent_piece}
-use Rattle.icu_locale_names.specs.inner.Walk.{pieces_left}
+use Rattle.icu_locale_names.specs.Shown.{lent_piece}
+use Rattle.icu_locale_names.specs.Walk.{pieces_left}
 use Rattle.icu_locale_names.proofs.PieceWrites.{Written, Written-none, Written-more, Written-all, AppendsPart-behind}
 use Rattle.icu_locale_names.proofs.language.writing.write_pieces.Goals as goal
 

@@ -1,6 +1,6 @@
 use Rattle.icu_locale_names.specs.LentNames.{pieces_of}
 use Rattle.icu_locale_names.specs.Pieces.{text_of}
-use Rattle.icu_locale_names.specs.inner.Walk.{pieces_left}
+use Rattle.icu_locale_names.specs.Walk.{pieces_left}
 use Rattle.icu_locale_names.proofs.PieceWrites.{Written}
 use Rattle.icu_locale_names.proofs.language.writing.write_pieces.Given as goal
 

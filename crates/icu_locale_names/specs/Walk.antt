@@ -8,7 +8,7 @@ use Rattle.icu_locale_names.specs.Pieces.{Piece, plain}
 use Rattle.icu_locale_names.specs.declared.language.walk.Qualifiers.{Qualifiers}
 use Rattle.icu_locale_names.specs.declared.language.walk.Frame.{Frame}
 use Rattle.icu_locale_names.specs.declared.language.walk.PieceWalk.{PieceWalk}
-use Rattle.icu_locale_names.specs.inner.Shown.{piece_of, lent_piece, lent_pieces}
+use Rattle.icu_locale_names.specs.Shown.{piece_of, lent_piece, lent_pieces}
 
 -- qualifiers in their order
 abbrev pub qualifier_pieces : Qualifiers → List Piece

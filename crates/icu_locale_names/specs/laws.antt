@@ -1,0 +1,2 @@
+-- Facts for crates above.
+pub mod Pieces
