@@ -1,0 +1,6 @@
+mod Adding
+mod Bare
+mod Giving
+mod Joining
+mod Silence
+mod Spans

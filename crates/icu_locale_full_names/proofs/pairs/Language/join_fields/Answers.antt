@@ -1,0 +1,30 @@
+use Rattle.std.proofs.Common.{List, [], ◌∷◌, map, filter, not, subst, sym}
+use Rattle.icu_locale_full_names.specs.FullNames.{marks_hybrid}
+use Rattle.icu_locale_full_names.specs.Says.{row_says}
+use Rattle.icu_locale_full_names.specs.Says.{Row}
+use Rattle.icu_locale_full_names.specs.inner.Drafts.{Joins}
+use Rattle.icu_locale_full_names.proofs.Joining.{Text, joins_none, joins_left, kept_cons}
+use Rattle.icu_locale_full_names.proofs.pairs.Language.join_fields.Goals as goal
+
+pub loop-key-preserved : goal.loop-key-preserved
+loop-key-preserved c =
+    let sep = c.args.self.now.separator.now in
+    let says = row_says c.args.self.now.names.now in
+    let keep = (λ (row : Row). not (marks_hybrid row)) in
+    let first = c.loop-key.draft in
+    let so_far = c.loop-key.is_any in
+    let rest = c.next.new.self in
+    joins_left sep (map says (filter keep ((c.in-Some.key.now, c.in-Some.value.now) ∷ []))) (map says (filter keep rest)) (map says (filter keep c.args.fields.now)) c.args.draft.now c.args.before first so_far c.join_field.new.draft c.in_ok-is_any.is_any
+    (λ new after j. c.loop-key.invariant new after (subst (λ (xs : List Row). Joins sep (map says (filter keep xs)) first so_far new after) (sym c.in-Some.ensures.steps)
+    (subst (λ (ts : List Text). Joins sep ts first so_far new after) (sym (kept_cons says keep (c.in-Some.key.now, c.in-Some.value.now) rest)) j)))
+    c.in_ok-is_any.ensures
+
+-- none is left
+pub returns : goal.returns
+returns c =
+    let sep = c.args.self.now.separator.now in
+    let says = row_says c.args.self.now.names.now in
+    let keep = (λ (row : Row). not (marks_hybrid row)) in
+    let d = c.loop-key.draft in
+    let any = c.loop-key.is_any in
+    c.loop-key.invariant d any (subst (λ (xs : List Row). Joins sep (map says (filter keep xs)) d any d any) (sym c.in-None.ensures.steps.0) (joins_none sep d any))

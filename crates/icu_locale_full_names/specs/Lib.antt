@@ -1,0 +1,4 @@
+pub mod FullNames
+pub mod Says
+pub mod Squares
+pub mod inner

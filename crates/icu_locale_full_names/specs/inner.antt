@@ -1,0 +1,4 @@
+-- What only private functions cite.
+pub mod Drafts
+pub mod Has
+pub mod Lent

@@ -1,0 +1,83 @@
+//! A text that is being written, and where the raw parts of it stand.
+ghost use Rattle.std.specs.Prelude.{◌≡◌, ◌∷◌, [], ◌++◌, OnOk, length, string_bytes, true, false};
+ghost use Rattle.icu_locale_names.specs.LentNames.{lent_piece};
+ghost use Rattle.icu_locale_full_names.specs.Squares.{square, square_text, squared};
+ghost use Rattle.icu_locale_full_names.specs.inner.Drafts.{Adds};
+
+use icu_locale_names::LentPiece;
+use std::alloc::{AllocError, Global};
+
+// A text, and where the raw parts of it stand.
+#[derive(Debug, Drop)]
+pub struct Draft {
+    pub text: String,
+    pub raw_spans: Vec<(usize, usize)>,
+}
+
+impl Draft {
+    // Nothing yet.
+    pub fn new(alloc: Global) -> Self
+        ensures text { string_bytes result.text ≡ [] }
+        ensures marks { result.raw_spans.items ≡ [] }
+    {
+        Draft {
+            text: String::new(alloc),
+            raw_spans: Vec::new(alloc),
+        }
+    }
+
+    // A piece as it is.
+    pub fn add(&mut self, piece: LentPiece<'_>) -> Result<(), AllocError>
+        ensures { OnOk result (Adds (lent_piece piece.entry ∷ []) self.old self.new) }
+    {
+        let start = self.text.as_str().len();
+        self.text.push_str(piece.text)?;
+        self.mark(start, piece.is_raw)
+    }
+
+    // A piece with square brackets.
+    pub fn add_square(&mut self, piece: LentPiece<'_>) -> Result<(), AllocError>
+        ensures { OnOk result (Adds (squared (lent_piece piece.entry ∷ [])) self.old self.new) }
+    {
+        let start = self.text.as_str().len();
+        push_square(piece.text, &mut self.text)?;
+        self.mark(start, piece.is_raw)
+    }
+
+    // Notes that what stands from a place on is raw, where it is.
+    fn mark(&mut self, start: usize, is_raw: bool) -> Result<(), AllocError>
+        ensures text { string_bytes self.new.text ≡ string_bytes self.old.text }
+        ensures raw { is_raw ≡ true → OnOk result (self.new.raw_spans.items
+            ≡ self.old.raw_spans.items ++ (start, length (string_bytes self.old.text)) ∷ []) }
+        ensures plain { is_raw ≡ false → self.new.raw_spans.items ≡ self.old.raw_spans.items }
+    {
+        if is_raw {
+            self.raw_spans.push((start, self.text.as_str().len()))?;
+        }
+        Ok(())
+    }
+}
+
+// A text with square brackets behind a text.
+fn push_square(more: &str, text: &mut String) -> Result<(), AllocError>
+    ensures { OnOk result (string_bytes text.new
+        ≡ string_bytes text.old ++ square_text more.now) }
+{
+    for c in more.chars() {
+        text.push(square(c))?;
+    }
+    Ok(())
+}
+
+// A round bracket as a square one.
+fn square(c: char) -> char
+    ensures { result ≡ square c }
+{
+    match c {
+        '(' => '[',
+        ')' => ']',
+        '\u{FF08}' => '\u{FF3B}',
+        '\u{FF09}' => '\u{FF3D}',
+        _ => c,
+    }
+}
