@@ -1,7 +1,8 @@
 -- A line that holds identifiers alone is answered alike with a syntax and without.
-use Rattle.std.proofs.Common.{◌≡◌, ◌↔◌, ℕ, Bool, List, [], ◌∷◌, ◌++◌, None, Some, refl, ap, sym, subst, ◌∙◌, inl, inr, append-nil}
+use Rattle.std.proofs.Common.{◌≡◌, ◌↔◌, ℕ, Bool, List, [], ◌∷◌, ◌++◌, Option, None, Some, refl, ap, sym, subst, ◌∙◌, inl, inr, append-nil}
 use Rattle.std.specs.Prelude.{codes}
 use Rattle.std.specs.List.{join_by, position}
+use Rattle.std.specs.List.Sorted.{IsStrictlySortedBy}
 use Rattle.icu_locale_core.specs.Identifier.{IsIdentifier, Spells, subtags}
 use Rattle.icu_locale_core.specs.Identifier as core
 use Rattle.icu_locale_core.specs.TextSet.{rising}
@@ -14,17 +15,34 @@ use Rattle.icu_locale_extensions.specs.Reads.{bare}
 use Rattle.icu_locale_extensions.specs.Syntaxes.{SpellsBy, IsFaultBy}
 use Rattle.icu_locale_extensions.specs.declared.identifier.LocaleIdentifier.{LocaleIdentifier}
 use Rattle.icu_locale_extensions.specs.declared.syntax.Syntax.{Syntax}
-use Rattle.icu_locale.specs.Canonical.{IsCanonical, put_optional, rg, sd, without_extensions}
+use Rattle.icu_locale.specs.Canonical.{IsCanonical, answer_of, is_applied, put_optional, rg, sd, without_extensions}
+use Rattle.icu_locale.specs.Kinds.{next}
+use Rattle.icu_locale_runs.specs.Run.{EndsAt}
+use Rattle.icu_locale_values.specs.Refusals.{IsWholeRefusal}
+use Rattle.icu_locale_values.specs.Whole.{WholeRules, IsWhole, AreMaps}
+use Rattle.icu_locale_values.specs.declared.error.WholeError.{WholeError}
+use Rattle.icu_locale_values.specs.declared.error.WholeError.TheVariants.{Memory, NoFixedPoint, NoSubdivisionFixedPoint, NoValueFixedPoint, NoFieldFixedPoint}
+use Rattle.icu_locale_lines.specs.Wholes.{IsWholeCanonicalized, TellsWholeRefusal, rules_of}
 use Rattle.icu_locale.specs.LikelySubtags.{LikelySubtags}
 use Rattle.icu_locale.specs.LikelyTable.{likely}
-use Rattle.icu_locale.specs.Negotiation.{Negotiation}
 use Rattle.icu_locale.specs.declared.canonicalizer.rules.Rules.{Rules}
 use Rattle.icu_locale.specs.declared.expander.TransformResult.{TransformResult}
-use Rattle.icu_locale_lines.specs.Answers.{IsAnswerBy, IsIdentifierAnswer, IsLocaleAnswer, IsListAnswer, IsSpelledAnswer, IsCanonicalized}
-use Rattle.icu_locale_lines.specs.Answers.{IsWholeCanonicalized, IsDirected, IsNamed, IsTransformed, IsWholeTransformed, with_locale}
+use Rattle.icu_locale_lines.specs.Answers.{IsAnswerBy, IsIdentifierAnswer, IsLocaleAnswer, IsSpelledAnswer, IsCanonicalized}
+use Rattle.icu_locale_lines.specs.Answers.{IsDirected, IsNamed, IsWholeNamed, IsTransformed, IsWholeTransformed}
 use Rattle.icu_locale_lines.specs.Answers.{HoldsIdentifiers}
+use Rattle.icu_locale_lines.specs.Names.{answers_in, name_asked, name_asked_with, IsNamedLine}
+use Rattle.icu_locale_lines.specs.declared.work.name.Naming.{Naming}
+use Rattle.icu_locale_full_names.specs.FullNames.{full_name_of}
+use Rattle.icu_locale_names.specs.LanguageChains.{LanguageChain, chain_of}
+use Rattle.icu_locale_names.specs.LanguageNames.{LocaleAnswers, name_of}
+use Rattle.icu_locale_names.specs.declared.options.LanguageDisplay.{LanguageDisplay}
+use Rattle.icu_locale_names.specs.declared.options.LanguageDisplay.TheVariants.{Dialect}
+use Rattle.icu_provider.specs.declared.extension_names.ExtensionNames.{ExtensionNames}
+use Rattle.std.specs.Borrow.{Bor}
 use Rattle.icu_locale_lines.specs.Chains.{IsChained}
-use Rattle.icu_locale_lines.specs.Lists.{IsNegotiatedLine, SpellsAll, listed}
+use Rattle.icu_locale_lines.specs.Lists.{IsListedAnswer, IsNegotiatedLine, SpellsAll, listed}
+use Rattle.icu_locale_lines.specs.Serving.{IsNearestLine, IsDistanceLine}
+use Rattle.icu_locale_lines.specs.declared.command.Wishes.TheVariants.{Header, Requests}
 use Rattle.icu_locale_lines.specs.Locales.{is_tab, SpellsLocale}
 use Rattle.icu_locale_lines.specs.Texts.{canonical_line, transformed_line, whole_line, mark}
 use Rattle.icu_locale_lines.specs.declared.work.form.Transform.{Transform}
@@ -51,18 +69,58 @@ module _ (table : LikelySubtags) (rules : Rules) (x : LanguageIdentifier) (new :
       let lang : new.extensions.transform.lang ≡ None = canonical.transform in
       λ i. record { id = new.id; extensions = record { unicode = record { keywords = keywords i }; transform = record { lang = lang i } } }
 
-  canonical_alike : (m : TransformResult) → whole_line (with_locale (bare x) new) m ≡ canonical_line new m
-  canonical_alike m =
-      ap (λ l. whole_line (with_locale (bare x) l) m) no_extensions ∙ line_bare new.id m ∙ sym (ap (λ l. canonical_line l m) no_extensions)
+-- the bare locale identifier of the end of a run is the whole canonical form of a bare one
+module _ (by : WholeRules) (x z : LanguageIdentifier) (ends : EndsAt (next by.likely by.rules) x z) where
+  whole_bare : IsWhole by (bare x) (bare z)
+  whole_bare = record {
+    locale = record { id = ends; transform = refl; keywords = λ key. refl };
+    fields = λ key. refl;
+    attributes = refl;
+    others = refl;
+    private_use = refl;
+  }
 
-module _ (table : LikelySubtags) (rules : Rules) (x : LanguageIdentifier) (text : List ℕ) (a : Bool) where
-  to_canonical : IsWholeCanonicalized table rules (bare x) text a → IsCanonicalized table rules (without_extensions x) text a
-  to_canonical (inl h) = inl (h.0, h.1, h.2 ∙ canonical_alike table rules x h.0 h.1 _, h.3)
-  to_canonical (inr h) = inr h
+  canonical_bare : IsCanonical by.likely by.rules (without_extensions x) (without_extensions z)
+  canonical_bare = record {
+    id = ends;
+    transform = refl;
+    keywords = record { region_override = None; subdivision = None; region_override_end = refl; subdivision_end = refl; whole = refl };
+  }
 
-  from_canonical : IsCanonicalized table rules (without_extensions x) text a → IsWholeCanonicalized table rules (bare x) text a
-  from_canonical (inl h) = inl (h.0, h.1, h.2 ∙ sym (canonical_alike table rules x h.0 h.1 _), h.3)
-  from_canonical (inr h) = inr h
+bare_maps : (z : LanguageIdentifier) → AreMaps (bare z)
+unfolding IsStrictlySortedBy
+bare_maps z = record { keywords = tt; fields = tt }
+
+-- the forms of a locale identifier are one
+abbrev pub HasOneForm : Type 0
+HasOneForm = (by : WholeRules) (old new other : LocaleIdentifier) → AreMaps new → AreMaps other → IsWhole by old new → IsWhole by old other → new ≡ other
+
+module _ (one : HasOneForm) (by : WholeRules) (x : LanguageIdentifier) (text : List ℕ) (a : Bool) where
+  to_canonical : IsWholeCanonicalized by (bare x) text a → IsCanonicalized by.likely by.rules (without_extensions x) text a
+  to_canonical (inl h) =
+      let z = h.0.locale.id in
+      let ends = h.2.locale.id in
+      let same = one by (bare x) h.0 (bare z) h.1 (bare_maps z) h.2 (whole_bare by x z ends) in
+      let m = answer_of (is_applied by.likely by.rules (without_extensions x)) in
+      inl (without_extensions z, canonical_bare by x z ends, h.3 ∙ ap (λ w. whole_line w m) same ∙ line_bare z m, h.4)
+  to_canonical (inr h) = refused h.0 h.1 h.2
+    where
+      refused : (e : WholeError) → IsWholeRefusal by (bare x) e → TellsWholeRefusal e text a
+          → IsCanonicalized by.likely by.rules (without_extensions x) text a
+      refused Memory why tells = absurd tells
+      refused (NoFixedPoint z) why tells = inr (inl (z, why.1.1, tells.0, tells.1))
+      refused (NoSubdivisionFixedPoint v) why tells = inr (inr (v, why.1.1, tells.0, tells.1))
+      refused (NoValueFixedPoint key v) why tells = absurd why.1.repeats
+      refused (NoFieldFixedPoint key v) why tells = absurd why.repeats
+
+  from_canonical : IsCanonicalized by.likely by.rules (without_extensions x) text a → IsWholeCanonicalized by (bare x) text a
+  from_canonical (inl h) =
+      let z = h.0.id in
+      let m = answer_of (is_applied by.likely by.rules (without_extensions x)) in
+      let plain = ap (λ l. canonical_line l m) (no_extensions by.likely by.rules x h.0 h.1) in
+      inl (bare z, bare_maps z, whole_bare by x z h.1.id, h.2 ∙ plain ∙ sym (line_bare z m), h.3)
+  from_canonical (inr (inl h)) = inr (NoFixedPoint h.0, (λ key. tt, (λ key. tt, h.1)), (h.2, h.3))
+  from_canonical (inr (inr h)) = inr (NoSubdivisionFixedPoint h.0, (λ key. tt, (λ key. tt, h.1)), (h.2, h.3))
 
 -- ---- the answers
 
@@ -73,6 +131,9 @@ pub record SyntaxFacts : Type 0 where
   pub nothing : (s : Syntax) (t : List ℕ) (e : ParseError) (x : LocaleIdentifier) → IsFaultBy s t e → IsLocaleIdentifier x → ¬ (SpellsBy s t x)
   pub known : (x : LanguageIdentifier) → IsIdentifier x → IsLocaleIdentifier (bare x)
   pub alike : (s : Syntax) (t : List ℕ) (x : LanguageIdentifier) → IsIdentifier x → Spells t x → SpellsBy s t (bare x)
+  pub one : HasOneForm
+  pub kept : (answers : LocaleAnswers) (chain : LanguageChain) (display : LanguageDisplay) (names : ExtensionNames) (x : LanguageIdentifier)
+      → full_name_of answers chain display names (bare x) ≡ name_of answers chain display x
 
 module _ (facts : SyntaxFacts) (s : Syntax) (line text : List ℕ) (a : Bool) where
   module _ (x : LanguageIdentifier) (is : IsIdentifier x) (spells : Spells line x) where
@@ -108,28 +169,37 @@ module _ (facts : SyntaxFacts) (s : Syntax) (line text : List ℕ) (a : Bool) wh
       λ h. (h.0, h.1, h.2, h.3 ∙ sym (line_bare h.0 h.1), h.4),
     )
 
-    canonical_answers_alike : (table : LikelySubtags) (rules : Rules) → position is_tab line ≡ None
-        → IsSpelledAnswer s (IsWholeCanonicalized table rules) line text a ↔ IsLocaleAnswer table rules line text a
-    canonical_answers_alike table rules none = (forth, back)
+    asked_alike : (n : Naming) (extensions : Option (Bor ExtensionNames)) → name_asked_with n extensions (bare x) ≡ name_asked n x
+    asked_alike n None = refl
+    asked_alike n (Some names) = facts.kept (answers_in n.tables n.preferences.locale) (chain_of n.chain) Dialect names.now x
+
+    named_alike : (n : Naming) → IsWholeNamed n (bare x) text a ↔ IsNamed n x text a
+    named_alike n =
+        let same = asked_alike n n.extensions in
+        (subst (λ name. IsNamedLine name text a) same, subst (λ name. IsNamedLine name text a) (sym same))
+
+    canonical_answers_alike : (by : WholeRules) → position is_tab line ≡ None
+        → IsSpelledAnswer s (IsWholeCanonicalized by) line text a ↔ IsLocaleAnswer by.likely by.rules line text a
+    canonical_answers_alike by none = (forth, back)
       where
         here : SpellsLocale line (without_extensions x)
         here = spelled_alone line x none (is, spells)
 
-        forth : IsSpelledAnswer s (IsWholeCanonicalized table rules) line text a → IsLocaleAnswer table rules line text a
+        forth : IsSpelledAnswer s (IsWholeCanonicalized by) line text a → IsLocaleAnswer by.likely by.rules line text a
         forth (inl h) = inl (
           without_extensions x,
           here,
-          to_canonical table rules x text a
-              (subst (λ w. IsWholeCanonicalized table rules w text a) (the_bare h.0 h.1 h.2) h.3),
+          to_canonical facts.one by x text a
+              (subst (λ w. IsWholeCanonicalized by w text a) (the_bare h.0 h.1 h.2) h.3),
         )
         forth (inr h) = absurd (no_whole_fault h.0 h.1)
 
-        back : IsLocaleAnswer table rules line text a → IsSpelledAnswer s (IsWholeCanonicalized table rules) line text a
+        back : IsLocaleAnswer by.likely by.rules line text a → IsSpelledAnswer s (IsWholeCanonicalized by) line text a
         back (inl h) = inl (
           bare x,
           facts.known x is,
           facts.alike s line x is spells,
-          from_canonical table rules x text a (subst (λ l. IsCanonicalized table rules l text a)
+          from_canonical facts.one by x text a (subst (λ l. IsCanonicalized by.likely by.rules l text a)
               (locale_one facts.alone line h.0 (without_extensions x) h.1 here) h.2),
         )
         back (inr h) = absurd (no_locale_fault facts.alone line (without_extensions x) h.0 here h.1)
@@ -142,31 +212,27 @@ module _ (facts : SyntaxFacts) (s : Syntax) (line text : List ℕ) (a : Bool) wh
   in_syntax (t ∷ ts) (x ∷ xs) each =
       ((bare x, facts.known x each.0.0, facts.alike s t x each.0.0 each.0.1, refl), in_syntax ts xs each.1)
 
-  lists_alike : (n : Negotiation) (xs : List LanguageIdentifier) → SpellsAll None (listed line) xs → IsListAnswer (Some s) n line text a
-      ↔ IsListAnswer None n line text a
-  lists_alike n xs each = (forth, back)
+  lists_alike : (IsLine : List LanguageIdentifier → List ℕ → Bool → Type 0) (xs : List LanguageIdentifier) → SpellsAll None (listed line) xs
+      → IsListedAnswer (Some s) IsLine line text a ↔ IsListedAnswer None IsLine line text a
+  lists_alike IsLine xs each = (forth, back)
     where
       also : SpellsAll (Some s) (listed line) xs
       also = in_syntax (listed line) xs each
 
-      forth : IsListAnswer (Some s) n line text a → IsListAnswer None n line text a
+      forth : IsListedAnswer (Some s) IsLine line text a → IsListedAnswer None IsLine line text a
       forth (inl h) = inl (
         xs,
         each,
-        subst (λ ys. IsNegotiatedLine n ys text)
-            (all_one facts.alone facts.once facts.nothing (Some s) (listed line) h.0 xs h.1 also) h.2,
-        h.3,
+        subst (λ ys. IsLine ys text a) (all_one facts.alone facts.once facts.nothing (Some s) (listed line) h.0 xs h.1 also) h.2,
       )
       forth (inr h) = let f = h.1 in absurd (no_fault facts.alone facts.once facts.nothing (Some s) f.earlier f.text f.later h.0 xs
           (subst (λ ts. SpellsAll (Some s) ts xs) f.parted also) f.refused)
 
-      back : IsListAnswer None n line text a → IsListAnswer (Some s) n line text a
+      back : IsListedAnswer None IsLine line text a → IsListedAnswer (Some s) IsLine line text a
       back (inl h) = inl (
         xs,
         also,
-        subst (λ ys. IsNegotiatedLine n ys text)
-            (all_one facts.alone facts.once facts.nothing None (listed line) h.0 xs h.1 each) h.2,
-        h.3,
+        subst (λ ys. IsLine ys text a) (all_one facts.alone facts.once facts.nothing None (listed line) h.0 xs h.1 each) h.2,
       )
       back (inr h) = let f = h.1 in absurd (no_fault facts.alone facts.once facts.nothing None f.earlier f.text f.later h.0 xs
           (subst (λ ts. SpellsAll None ts xs) f.parted each) f.refused)
@@ -174,8 +240,11 @@ module _ (facts : SyntaxFacts) (s : Syntax) (line text : List ℕ) (a : Bool) wh
   pub answers_alike : (work : Tools) → HoldsIdentifiers work line → IsAnswerBy (Some s) work line text a ↔ IsAnswerBy None work line text a
   answers_alike (tools.Transform form e) (none, x, is, spells) =
       each_alike x is spells (IsWholeTransformed form (likely e)) (IsTransformed form (likely e)) (transformed_alike x is spells form (likely e))
-  answers_alike (tools.Canonicalize c) (none, x, is, spells) = canonical_answers_alike x is spells (likely c.expander) c.rules none
+  answers_alike (tools.Canonicalize c) (none, x, is, spells) = canonical_answers_alike x is spells (rules_of c) none
   answers_alike (tools.Direction d) (none, x, is, spells) = each_alike x is spells (λ w. IsDirected d w.locale.id) (IsDirected d) (λ h. h, λ h. h)
-  answers_alike (tools.Negotiate n) (xs, each) = lists_alike n xs each
-  answers_alike (tools.Name n) (none, x, is, spells) = each_alike x is spells (λ w. IsNamed n w.locale.id) (IsNamed n) (λ h. h, λ h. h)
+  answers_alike (tools.Negotiate n) (xs, each) = lists_alike (IsNegotiatedLine n) xs each
+  answers_alike (tools.Serve Header t) holds = (λ h. h, λ h. h)
+  answers_alike (tools.Serve Requests t) (xs, each) = lists_alike (IsNearestLine t) xs each
+  answers_alike (tools.Distance d) (xs, each) = lists_alike (IsDistanceLine d.matching.now (likely d.expander)) xs each
+  answers_alike (tools.Name n) (none, x, is, spells) = each_alike x is spells (IsWholeNamed n) (IsNamed n) (named_alike x is spells n)
   answers_alike (tools.Fallback f) (none, x, is, spells) = each_alike x is spells (λ w. IsChained f w.locale.id) (IsChained f) (λ h. h, λ h. h)

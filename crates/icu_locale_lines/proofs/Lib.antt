@@ -2,7 +2,9 @@ mod Alike
 mod Chains
 mod CommandWords
 mod FirstLines
+mod FullNames
 mod LineAnswers
+mod Listings
 mod LineCuts
 mod ListReading
 mod LocaleLines

@@ -1,8 +1,8 @@
 -- The answer to one line.
 use Rattle.std.proofs.Common.{◌≡◌, ◌≢◌, ◌⊎◌, Bool, true, false, Option, None, refl, sym, List, [], ◌∷◌, ◌++◌, Some, ℕ, zero, suc, get_or, Result, Ok}
-use Rattle.std.proofs.Common.{Err, IfOk, inl, inr, subst, ap, ◌∙◌}
+use Rattle.std.proofs.Common.{Err, IfOk, inl, inr, subst, ap, ◌∙◌, ◌<◌, length}
 use Rattle.std.specs.List.{slice_get, position}
-use Rattle.std.proofs.lemmas.Option.{same_Some, none-some}
+use Rattle.std.proofs.lemmas.Option.{same_Some, none-some, slice_get_read}
 use Rattle.icu_locale.specs.LikelyTable.{likely}
 use Rattle.icu_locale.specs.Negotiation.{Negotiation, IsNegotiated}
 use Rattle.icu_locale_lines.specs.Lists.{IsNegotiatedLine, SpellsIn, IsFaultIn}
@@ -25,6 +25,7 @@ use Rattle.icu_provider.specs.declared.error.DataErrorKind.TheVariants as kind
 use Rattle.icu_locale_lines.specs.declared.error.CliError.{CliError}
 use Rattle.icu_locale_lines.specs.Answers.{AddsLine, IsAnswerOf, IsCanonicalizedTo}
 use Rattle.icu_locale_lines.specs.Locales.{is_tab, is_readable, keywords_of, SpellsLocale}
+use Rattle.icu_locale_lines.specs.Serving.{TellsServed}
 use Rattle.icu_locale_lines.specs.Texts.{matched_line, refused_line}
 use Rattle.icu_locale_lines.specs.inner.Parts.{TellsRefusal}
 use Rattle.icu_locale_lines.proofs.LineCuts.{before_first-no_position}
@@ -108,8 +109,15 @@ get_or-slice_get (y ∷ ys) (suc j) x d at = get_or-slice_get ys j x d at
 -- the line of a match is that of what was negotiated
 pub negotiated_from_line : (n : Negotiation) (requests : List LanguageIdentifier) (i j : ℕ) (x : LanguageIdentifier)
     → IsNegotiated (likely n.expander) requests n.available (Some (i, j)) → x ≡ get_or n.available j x
-    → (t : List ℕ) (a : Bool) → (t ≡ matched_line i x) × (a ≡ true) → IsNegotiatedLine n requests t × (a ≡ true)
+    → (t : List ℕ) (a : Bool) → (t ≡ matched_line i x) × (a ≡ true) → IsNegotiatedLine n requests t a
 negotiated_from_line n requests i j x negotiated here t a h =
     let m = negotiated.matches in
     let same = here ∙ get_or-slice_get n.available j m.identifier x m.offered in
-    ((Some (i, j), negotiated, (m.identifier, m.offered, h.0 ∙ ap (matched_line i) same)), h.1)
+    (Some (i, j), negotiated, (m.identifier, m.offered, h.0 ∙ ap (matched_line i) same), h.1)
+
+-- the line of a place is that of what is served there
+pub told_from_line : (available : List LanguageIdentifier) (place : ℕ) (x : LanguageIdentifier) → place < length available
+    → x ≡ get_or available place x → (t : List ℕ) (a : Bool) → (t ≡ matched_line place x) × (a ≡ true)
+    → TellsServed available (Some place) t × (a ≡ true)
+told_from_line available place x within here t a h =
+    ((x, slice_get_read available (length available) place x refl within here, h.0), h.1)

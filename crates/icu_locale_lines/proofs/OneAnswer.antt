@@ -1,5 +1,5 @@
 -- A line has one answer at most.
-use Rattle.std.proofs.Common.{◌≡◌, ◌≢◌, ◌↔◌, ◌⊎◌, ℕ, ◌<◌, ◌≤◌, Bool, true, ◌&&◌, List, [], ◌∷◌, ◌++◌, map, Option, Some, None, Result, Ok, Err, refl}
+use Rattle.std.proofs.Common.{◌≡◌, ◌≢◌, ◌↔◌, ◌⊎◌, ℕ, ◌<◌, ◌≤◌, Bool, true, false, ◌&&◌, List, [], ◌∷◌, ◌++◌, map, Option, Some, None, Result, Ok, Err, refl}
 use Rattle.std.proofs.Common.{ap, sym, subst, ◌∙◌, inl, inr, arith}
 use Rattle.std.specs.Prelude.{slice_index_or, nat_le}
 use Rattle.std.specs.List.{list_all, slice_get}
@@ -7,7 +7,7 @@ use Rattle.std.specs.Char.{is_ascii_alphabetic, to_ascii_lowercase}
 use Rattle.std.proofs.lemmas.Bool.{false≢true}
 use Rattle.std.proofs.lemmas.Bool.Decides.{nat_tests}
 use Rattle.std.proofs.lemmas.List.{length-map}
-use Rattle.std.proofs.lemmas.Option.{same_Some}
+use Rattle.std.proofs.lemmas.Option.{same_Some, none-some}
 use Rattle.icu_locale_core.specs.Subtag.{has_length, is_language, lowercase}
 use Rattle.icu_locale_core.specs.Identifier.{IsIdentifier, Spells, pieces, subtags, starts_with_language, parse_error_name}
 use Rattle.icu_locale_core.specs.declared.langid.LanguageIdentifier.{LanguageIdentifier}
@@ -37,14 +37,26 @@ use Rattle.icu_locale_extensions.specs.Syntaxes.{SpellsBy, IsFaultBy}
 use Rattle.icu_locale_extensions.specs.declared.identifier.LocaleIdentifier.{LocaleIdentifier}
 use Rattle.icu_locale_extensions.specs.declared.syntax.Syntax.{Syntax}
 use Rattle.icu_locale_lines.specs.Locales.{SpellsLocale, SpellsSome, IsLocaleFault, IsValueFault, identifier_text, value_text}
-use Rattle.icu_locale_lines.specs.Lists.{IsNegotiatedLine, TellsMatch, listed, SpellsAll, SpellsIn, IsFault, IsFaultIn}
+use Rattle.icu_locale_matching.specs.Service.{Service, IsServed, IsNearestTo, place_of}
+use Rattle.icu_locale_matching.specs.declared.matcher.Match.{Match}
+use Rattle.icu_provider.specs.declared.matching.LanguageMatching.{LanguageMatching}
+use Rattle.icu_locale.specs.Canonical.{answer_of}
+use Rattle.icu_locale_values.specs.Refusals.{IsWholeRefusal, whole_error_name}
+use Rattle.icu_locale_values.specs.Refusals as values
+use Rattle.icu_locale_values.specs.Whole.{WholeRules, IsWhole, AreMaps, is_whole_applied}
+use Rattle.icu_locale_values.specs.declared.error.WholeError.{WholeError}
+use Rattle.icu_locale_values.specs.declared.error.WholeError.TheVariants as whole_error
+use Rattle.icu_locale_lines.specs.Wholes.{IsWholeCanonicalized, TellsWholeRefusal, rules_of}
+use Rattle.icu_locale_lines.specs.Serving.{TellsServed, IsNearestLine, IsDistanceLine, IsWishAnswer}
+use Rattle.icu_locale_lines.specs.declared.command.Wishes.{Wishes}
+use Rattle.icu_locale_lines.specs.declared.command.Wishes.TheVariants.{Header, Requests}
+use Rattle.icu_locale_lines.specs.Lists.{IsListedAnswer, IsNegotiatedLine, TellsMatch, listed, SpellsAll, SpellsIn, IsFault, IsFaultIn}
 use Rattle.icu_locale_lines.specs.declared.work.form.Transform.{Transform}
 use Rattle.icu_locale_lines.specs.declared.work.form.Transform.TheVariants.{Maximize, Minimize, MinimizeScript}
-use Rattle.icu_locale_lines.specs.Answers.{IsAnswer, IsAnswerBy, IsForm, IsTransformed, IsDirected, IsNamed, IsCanonicalizedTo, IsIdentifierAnswer}
-use Rattle.icu_locale_lines.specs.Answers.{IsLocaleAnswer, IsListAnswer, IsSpelledAnswer, IsWholeTransformed, IsWholeCanonicalized, with_id}
-use Rattle.icu_locale_lines.specs.Answers.{with_locale}
+use Rattle.icu_locale_lines.specs.Answers.{IsAnswer, IsAnswerBy, IsForm, IsTransformed, IsDirected, IsNamed, IsWholeNamed, IsCanonicalizedTo, IsIdentifierAnswer}
+use Rattle.icu_locale_lines.specs.Answers.{IsLocaleAnswer, IsSpelledAnswer, IsWholeTransformed, with_id}
 use Rattle.icu_locale_lines.specs.Chains.{IsChained}
-use Rattle.icu_locale_lines.specs.Names.{IsNamedLine, name_asked}
+use Rattle.icu_locale_lines.specs.Names.{IsNamedLine, name_asked, whole_name_asked}
 use Rattle.icu_locale_lines.specs.Texts.{transformed_line, canonical_line, whole_line, refused_line, matched_line}
 use Rattle.icu_locale_fallback.specs.declared.fallbacker.LocaleFallbackerWithConfig.{LocaleFallbackerWithConfig}
 use Rattle.icu_locale_lines.proofs.Chains.{chained_one}
@@ -160,6 +172,40 @@ pub record CanonicalFacts (likely : LikelySubtags) (rules : Rules) : Type 0 wher
   pub refused : (old new : Locale) (e : CanonicalizeError) → IsCanonical likely rules old new → IsRefusal likely rules old e → IsMemory e
   pub apart : (old : Locale) (z : LanguageIdentifier) (v : List (List ℕ)) → ComesAgainFirst likely rules old z → ValueComesAgainFirst likely rules old v → ⊥
 
+-- the facts of whole canonical forms that are cited
+pub record WholeFacts : Type 0 where
+  pub one : (by : WholeRules) (old new other : LocaleIdentifier) → AreMaps new → AreMaps other → IsWhole by old new → IsWhole by old other → new ≡ other
+  pub none : (by : WholeRules) (old new : LocaleIdentifier) (e : WholeError) → IsWhole by old new → IsWholeRefusal by old e → values.IsMemory e
+  pub once : (by : WholeRules) (old : LocaleIdentifier) (e f : WholeError) → IsWholeRefusal by old e → IsWholeRefusal by old f
+      → ¬ (values.IsMemory e) → ¬ (values.IsMemory f) → e ≡ f
+
+module _ (facts : WholeFacts) (by : WholeRules) (x : LocaleIdentifier) (one two : List ℕ) (a b : Bool) where
+  no_line : (e : WholeError) (text : List ℕ) (accepted : Bool) → TellsWholeRefusal e text accepted → values.IsMemory e → ⊥
+  no_line whole_error.Memory text accepted tells memory = tells
+  no_line (whole_error.NoFixedPoint z) text accepted tells memory = memory
+  no_line (whole_error.NoSubdivisionFixedPoint v) text accepted tells memory = memory
+  no_line (whole_error.NoValueFixedPoint key v) text accepted tells memory = memory
+  no_line (whole_error.NoFieldFixedPoint key v) text accepted tells memory = memory
+
+  told : (e : WholeError) (text : List ℕ) (accepted : Bool) → TellsWholeRefusal e text accepted
+      → (text ≡ refused_line (whole_error_name e)) × (accepted ≡ false)
+  told whole_error.Memory text accepted tells = absurd tells
+  told (whole_error.NoFixedPoint z) text accepted tells = tells
+  told (whole_error.NoSubdivisionFixedPoint v) text accepted tells = tells
+  told (whole_error.NoValueFixedPoint key v) text accepted tells = tells
+  told (whole_error.NoFieldFixedPoint key v) text accepted tells = tells
+
+  whole_canonicalized_one : IsWholeCanonicalized by x one a → IsWholeCanonicalized by x two b → SameAnswer one two a b
+  whole_canonicalized_one (inl h) (inl k) =
+      same h.3 k.3 (ap (λ w. whole_line w (answer_of (is_whole_applied by x))) (facts.one by x h.0 k.0 h.1 k.1 h.2 k.2)) h.4 k.4
+  whole_canonicalized_one (inl h) (inr k) = absurd (no_line k.0 two b k.2 (facts.none by x h.0 k.0 h.2 k.1))
+  whole_canonicalized_one (inr h) (inl k) = absurd (no_line h.0 one a h.2 (facts.none by x k.0 h.0 k.2 h.1))
+  whole_canonicalized_one (inr h) (inr k) =
+      let e = facts.once by x h.0 k.0 h.1 k.1 (no_line h.0 one a h.2) (no_line k.0 two b k.2) in
+      let first = told h.0 one a h.2 in
+      let second = told k.0 two b k.2 in
+      same first.0 second.0 (ap (λ e. refused_line (whole_error_name e)) e) first.1 second.1
+
 module _ (line_of : Locale → TransformResult → List ℕ) (likely : LikelySubtags) (rules : Rules) (facts : CanonicalFacts likely rules) (old : Locale) where
   canonical_line_one : (m : TransformResult) (new other : Locale) → IsCanonical likely rules old new → IsCanonical likely rules old other
       → line_of new m ≡ line_of other m
@@ -182,6 +228,17 @@ first_one i j k l (inl p) (inl q) = (omega (arith, p, q), omega (arith, p, q))
 first_one i j k l (inl p) (inr q) = (omega (arith, p, q.0), omega (arith, p, q.0))
 first_one i j k l (inr p) (inl q) = (omega (arith, p.0, q), omega (arith, p.0, q))
 first_one i j k l (inr p) (inr q) = (p.0, omega (arith, p.1, q.1))
+
+-- what is served is one
+module _ (available : List LanguageIdentifier) (one two : List ℕ) where
+  told_one : (found other : Option ℕ) → found ≡ other → TellsServed available found one → TellsServed available other two → one ≡ two
+  told_one None None same h k = h ∙ sym k
+  told_one None (Some j) same h k = absurd (none-some j same)
+  told_one (Some i) None same h k = absurd (none-some i (sym same))
+  told_one (Some i) (Some j) same h k =
+      let place = same_Some i j same in
+      let e = same_Some h.0 k.0 (sym h.1 ∙ ap (slice_get available) place ∙ k.1) in
+      h.2 ∙ (λ n. matched_line (place n) (e n)) ∙ sym k.2
 
 -- what is negotiated is one
 module _ (table : LikelySubtags) (requests available : List LanguageIdentifier) (one two : List ℕ) where
@@ -305,19 +362,20 @@ module _ (spelled_once : (t : List ℕ) (x y : LanguageIdentifier) → IsIdentif
     fault_one s (g ∷ ps) t bs (c ∷ cs) u ds e f (x ∷ xs) [] is p q r k = absurd q
     fault_one s (g ∷ ps) t bs (c ∷ cs) u ds e f (x ∷ xs) (y ∷ ys) is p q r k = fault_one s ps t bs cs u ds e f xs ys (ap others_of is) p.1 q.1 r k
 
-    list_answer_one : (s : Option Syntax) (one two : List ℕ) (a b : Bool) (n : Negotiation) (line : List ℕ) → IsListAnswer s n line one a
-        → IsListAnswer s n line two b → SameAnswer one two a b
-    list_answer_one s one two a b n line (inl h) (inl k) =
-        let requests = all_one s (listed line) h.0 k.0 h.1 k.1 in
-        let line : IsNegotiatedLine n k.0 one = subst (λ xs. IsNegotiatedLine n xs one) requests h.2 in
-        record { text = negotiated_one (likely n.expander) k.0 n.available one two line.0 k.2.0 line.1 k.2.1 line.2 k.2.2; accepted = h.3 ∙ sym k.3 }
-    list_answer_one s one two a b n line (inl h) (inr k) =
+    -- the line of a list is one, where that of identifiers is
+    list_answer_one : (s : Option Syntax) (one two : List ℕ) (a b : Bool) (IsLine : List LanguageIdentifier → List ℕ → Bool → Type 0)
+        → ((xs : List LanguageIdentifier) → IsLine xs one a → IsLine xs two b → SameAnswer one two a b)
+        → (line : List ℕ) → IsListedAnswer s IsLine line one a → IsListedAnswer s IsLine line two b → SameAnswer one two a b
+    list_answer_one s one two a b IsLine line_one line (inl h) (inl k) =
+        let xs = all_one s (listed line) h.0 k.0 h.1 k.1 in
+        line_one k.0 (subst (λ xs. IsLine xs one a) xs h.2) k.2
+    list_answer_one s one two a b IsLine line_one line (inl h) (inr k) =
         let f = k.1 in
         absurd (no_fault s f.earlier f.text f.later k.0 h.0 (subst (λ ts. SpellsAll s ts h.0) f.parted h.1) f.refused)
-    list_answer_one s one two a b n line (inr h) (inl k) =
+    list_answer_one s one two a b IsLine line_one line (inr h) (inl k) =
         let f = h.1 in
         absurd (no_fault s f.earlier f.text f.later h.0 k.0 (subst (λ ts. SpellsAll s ts k.0) f.parted k.1) f.refused)
-    list_answer_one s one two a b n line (inr h) (inr k) =
+    list_answer_one s one two a b IsLine line_one line (inr h) (inr k) =
         let f = h.1 in
         let g = k.1 in
         let e = fault_one s f.earlier f.text f.later g.earlier g.text g.later h.0 k.0 f.identifiers g.identifiers
@@ -325,17 +383,45 @@ module _ (spelled_once : (t : List ℕ) (x y : LanguageIdentifier) → IsIdentif
         same h.2 k.2 (ap (λ e. refused_line (parse_error_name e)) e) h.3 k.3
 
     module _ (minimal_one : (favor : Favor) (table : LikelySubtags) (x y z : LanguageIdentifier) → IsMinimalForm favor table x y
-        → IsMinimalForm favor table x z → y ≡ z) (facts : (likely : LikelySubtags) (rules : Rules) → CanonicalFacts likely rules)
-        (line one two : List ℕ) (a b : Bool) where
+        → IsMinimalForm favor table x z → y ≡ z) (facts : (likely : LikelySubtags) (rules : Rules) → CanonicalFacts likely rules) (wholes : WholeFacts)
+        (served_once : (s : Service) (header : List ℕ) (a b : Option ℕ) → IsServed s header a → IsServed s header b → a ≡ b)
+        (nearest_once : (s : Service) (requests : List LanguageIdentifier) (a b : Option Match) → IsNearestTo s requests a
+        → IsNearestTo s requests b → a ≡ b) (line one two : List ℕ) (a b : Bool) where
       same_chain : (f : LocaleFallbackerWithConfig) (x : LanguageIdentifier) → IsChained f x one a → IsChained f x two b → SameAnswer one two a b
       same_chain f x p q = let e = chained_one f x one two a b p q in record { text = e.0; accepted = e.1 }
+
+      negotiated_line_one : (n : Negotiation) (xs : List LanguageIdentifier) → IsNegotiatedLine n xs one a → IsNegotiatedLine n xs two b
+          → SameAnswer one two a b
+      negotiated_line_one n xs h k =
+          record { text = negotiated_one (likely n.expander) xs n.available one two h.0 k.0 h.1 k.1 h.2 k.2; accepted = h.3 ∙ sym k.3 }
+
+      nearest_line_one : (s : Service) (xs : List LanguageIdentifier) → IsNearestLine s xs one a → IsNearestLine s xs two b → SameAnswer one two a b
+      nearest_line_one s xs h k =
+          let found = ap place_of (nearest_once s xs h.0 k.0 h.1 k.1) in
+          record { text = told_one s.available one two (place_of h.0) (place_of k.0) found h.2 k.2; accepted = h.3 ∙ sym k.3 }
+
+      distance_line_one : (t : LanguageMatching) (table : LikelySubtags) (xs : List LanguageIdentifier) → IsDistanceLine t table xs one a
+          → IsDistanceLine t table xs two b → SameAnswer one two a b
+      distance_line_one t table [] h k = same h.0 k.0 refl h.1 k.1
+      distance_line_one t table (d ∷ []) h k = same h.0 k.0 refl h.1 k.1
+      distance_line_one t table (d ∷ s ∷ []) h k = same h.0 k.0 refl h.1 k.1
+      distance_line_one t table (d ∷ s ∷ x ∷ xs) h k = same h.0 k.0 refl h.1 k.1
+
+      wish_one : (syntax : Option Syntax) (wishes : Wishes) (s : Service) → IsWishAnswer syntax wishes s line one a
+          → IsWishAnswer syntax wishes s line two b → SameAnswer one two a b
+      wish_one syntax Header s h k =
+          record { text = told_one s.available one two h.0 k.0 (served_once s line h.0 k.0 h.1 k.1) h.2 k.2; accepted = h.3 ∙ sym k.3 }
+      wish_one syntax Requests s h k = list_answer_one syntax one two a b (IsNearestLine s) (nearest_line_one s) line h k
 
       plain_one : (work : Tools) → IsAnswerBy None work line one a → IsAnswerBy None work line two b → SameAnswer one two a b
       plain_one (tools.Transform form e) h k = identifier_one one two a b spelled_once (IsTransformed form (likely e))
           (transformed_one one two a b minimal_one form (likely e)) line h k
-      plain_one (tools.Canonicalize c) h k = locale_answer_one one two a b (likely c.expander) c.rules (facts (likely c.expander) c.rules) line h k
+      plain_one (tools.Canonicalize c) h k = locale_answer_one one two a b (rules_of c).likely (rules_of c).rules
+          (facts (rules_of c).likely (rules_of c).rules) line h k
       plain_one (tools.Direction d) h k = identifier_one one two a b spelled_once (IsDirected d) (λ x p q. same p.0 q.0 refl p.1 q.1) line h k
-      plain_one (tools.Negotiate n) h k = list_answer_one None one two a b n line h k
+      plain_one (tools.Negotiate n) h k = list_answer_one None one two a b (IsNegotiatedLine n) (negotiated_line_one n) line h k
+      plain_one (tools.Serve wishes s) h k = wish_one None wishes s h k
+      plain_one (tools.Distance d) h k = list_answer_one None one two a b (IsDistanceLine d.matching.now (likely d.expander)) (distance_line_one d.matching.now (likely d.expander)) line h k
       plain_one (tools.Name n) h k = identifier_one one two a b spelled_once (IsNamed n) (λ x p q. named_one one two a b (name_asked n x) p q) line h k
       plain_one (tools.Fallback f) h k = identifier_one one two a b spelled_once (IsChained f) (λ x p q. same_chain f x p q) line h k
 
@@ -348,13 +434,13 @@ module _ (spelled_once : (t : List ℕ) (x y : LanguageIdentifier) → IsIdentif
       whole_one : (s : Syntax) (work : Tools) → IsAnswerBy (Some s) work line one a → IsAnswerBy (Some s) work line two b → SameAnswer one two a b
       whole_one s (tools.Transform form e) h k = spelled_one one two a b s (IsWholeTransformed form (likely e)) (whole_transformed_one form (likely e)) line h k
       whole_one s (tools.Canonicalize c) h k =
-          spelled_one one two a b s (IsWholeCanonicalized (likely c.expander) c.rules)
-          (λ x p q. canonicalized_one (λ new m. whole_line (with_locale x new) m) (likely c.expander) c.rules
-          (facts (likely c.expander) c.rules) x.locale one two a b p q) line h k
+          spelled_one one two a b s (IsWholeCanonicalized (rules_of c)) (λ x p q. whole_canonicalized_one wholes (rules_of c) x one two a b p q) line h k
       whole_one s (tools.Direction d) h k = spelled_one one two a b s (λ x. IsDirected d x.locale.id) (λ x p q. same p.0 q.0 refl p.1 q.1) line h k
-      whole_one s (tools.Negotiate n) h k = list_answer_one (Some s) one two a b n line h k
-      whole_one s (tools.Name n) h k = spelled_one one two a b s (λ x. IsNamed n x.locale.id)
-          (λ x p q. named_one one two a b (name_asked n x.locale.id) p q) line h k
+      whole_one s (tools.Negotiate n) h k = list_answer_one (Some s) one two a b (IsNegotiatedLine n) (negotiated_line_one n) line h k
+      whole_one s (tools.Serve wishes t) h k = wish_one (Some s) wishes t h k
+      whole_one s (tools.Distance d) h k = list_answer_one (Some s) one two a b (IsDistanceLine d.matching.now (likely d.expander)) (distance_line_one d.matching.now (likely d.expander)) line h k
+      whole_one s (tools.Name n) h k = spelled_one one two a b s (IsWholeNamed n)
+          (λ x p q. named_one one two a b (whole_name_asked n x) p q) line h k
       whole_one s (tools.Fallback f) h k = spelled_one one two a b s (λ x. IsChained f x.locale.id) (λ x p q. same_chain f x.locale.id p q) line h k
 
       pub answer_one : (work : Work) → IsAnswer work line one a → IsAnswer work line two b → SameAnswer one two a b

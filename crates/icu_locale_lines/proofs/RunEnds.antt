@@ -37,11 +37,11 @@ module _ (c : LineCommand) (t : Tables) (input : List ℕ) (wrote wrote' : Strea
 
   -- what stops once tables are loaded is no refusal for tables
   pub no_data : (e : DataError) → StopsLines c t input wrote wrote' (Data e) → ⊥
-  no_data e (inl h) = h.0.2
+  no_data e (inl h) = h.0.1
   no_data e (inr h) = h.left
 
   pub no_unsettled : StopsLines c t input wrote wrote' NotSettled → ⊥
-  no_unsettled (inl h) = h.0.2
+  no_unsettled (inl h) = h.0.1
   no_unsettled (inr h) = h.left
 
 -- the work of a command on an input, and the text whose lines it answers

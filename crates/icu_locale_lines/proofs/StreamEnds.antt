@@ -5,15 +5,11 @@ use Rattle.std.specs.List.{list_any}
 use Rattle.std.specs.Io.KnownBytes.{Consumes, IsAtEnd, prepend_known}
 use Rattle.std.proofs.KnownBytes.{Consumes-trans}
 use Rattle.std.proofs.lemmas.Result.{IfOk-weaker, IfErr-weaker}
-use Rattle.icu_locale.specs.LikelyTable.{likely}
-use Rattle.icu_locale.specs.Negotiation.{Negotiation}
-use Rattle.icu_locale.specs.LikelySubtags.{AreSettled}
 use Rattle.icu_tables.specs.Rows.{rows_of}
 use Rattle.icu_tables.specs.File.{rows_in}
 use Rattle.icu_tables.specs.declared.tables.Tables.{Tables}
 use Rattle.icu_locale_lines.specs.declared.command.Command.TheVariants as command
 use Rattle.icu_locale_lines.specs.declared.command.LineCommand.{LineCommand}
-use Rattle.icu_locale_lines.specs.declared.command.Task.TheVariants.{Negotiate}
 use Rattle.icu_locale_lines.specs.declared.error.CliError.{CliError}
 use Rattle.icu_locale_lines.specs.declared.error.CliError.TheVariants.{Data, NotSettled}
 use Rattle.icu_locale_lines.specs.declared.error.CliError.TheVariants as error
@@ -22,19 +18,17 @@ use Rattle.icu_provider.specs.declared.error.DataError.{DataError}
 use Rattle.icu_locale_lines.specs.declared.runs.Status.{Status}
 use Rattle.icu_locale_lines.specs.declared.runs.Status.TheVariants.{Accepted}
 use Rattle.icu_locale_lines.specs.declared.work.Work.{Work}
-use Rattle.icu_locale_lines.specs.declared.work.Tools.TheVariants as tools
-use Rattle.icu_locale_extensions.specs.declared.syntax.Syntax.{Syntax}
+use Rattle.icu_locale_lines.specs.declared.work.listing.Listing.{Listing}
 use Rattle.icu_locale_lines.specs.Lines.{is_line_feed, first_line, after_first_line, Stream}
-use Rattle.icu_locale_lines.specs.Lists.{listed, SpellsAll}
-use Rattle.icu_locale_lines.specs.Loads.{IsExpanderOf}
 use Rattle.icu_locale_lines.specs.Runs.{ReadsAll, WritesAll}
 use Rattle.icu_tables.specs.Supplement.{no_supplement}
 use Rattle.icu_locale_lines.specs.Streams.{ReadsBoth, IsSupplementStream, IsRefusedSupplementStream}
 use Rattle.icu_locale_lines.specs.Streams.{StopsStream, StopsAmong, StopsLoaded, IsRefusedStream, ReadsLine, ReadsTablesLine, LeavesBehind}
 use Rattle.icu_locale_lines.specs.Streams.{IsJsonStream, IsRefusedJsonStream}
 use Rattle.icu_locale_lines.specs.WholeRuns.{IsRunFrom, IsUnread}
-use Rattle.icu_locale_lines.specs.Commands.{IsWorkOf, text_answered}
+use Rattle.icu_locale_lines.specs.Commands.{IsListing, IsWorkOf, text_answered}
 use Rattle.icu_locale_lines.proofs.FirstLines.{place_of_end, alone}
+use Rattle.icu_locale_lines.proofs.Listings.{listing_left}
 use Rattle.icu_locale_lines.proofs.Streaming.{WritesAll-none}
 
 -- nothing before a reader
@@ -54,30 +48,22 @@ consumed_alone rest None start bs end all = all
 consumed_alone [] (Some xs) start bs end all = all
 consumed_alone (c ∷ rest) (Some xs) start bs end all = absurd (cc)
 
--- a negotiation in a syntax, and its work
-abbrev pub asked : Option Syntax → LineCommand
-asked syntax = record { syntax = syntax; task = Negotiate }
+-- a command that waits for a first line, and its work over that
+module _ (c : LineCommand) (t : Tables) (listing : Listing) (is : IsListing c t listing) (line : List ℕ) (none : list_any is_line_feed line ≡ false)
+    (w : Work) (work_of : (input : List ℕ) → first_line input ≡ line → IsWorkOf c t input w) where
+  pub answered_behind : (text : List ℕ) → text_answered c ((line ++ 10 ∷ []) ++ text) ≡ text
+  answered_behind text =
+      listing_left c t listing is ((line ++ 10 ∷ []) ++ text)
+      ∙ (ap after_first_line (append_assoc line (10 ∷ []) text) ∙ (place_of_end line text none).1)
 
-abbrev pub work_over : Option Syntax → Negotiation → Work
-work_over syntax n = record { syntax = syntax; tools = tools.Negotiate n }
-
--- the work of a negotiation whose first line lists what is available, and what it answers
-module _ (syntax : Option Syntax) (line : List ℕ) (none : list_any is_line_feed line ≡ false) where
-  pub answered_behind : (text : List ℕ) → text_answered (asked syntax) ((line ++ 10 ∷ []) ++ text) ≡ text
-  answered_behind text = ap after_first_line (append_assoc line (10 ∷ []) text) ∙ (place_of_end line text none).1
-
-  pub listed_behind : (t : Tables) (n : Negotiation) → IsExpanderOf t n.expander → AreSettled (likely n.expander)
-      → SpellsAll syntax (listed line) n.available → (text : List ℕ) → IsWorkOf (asked syntax) t ((line ++ 10 ∷ []) ++ text) (work_over syntax n)
-  listed_behind t n over settled spelled text =
-      let first = ap first_line (append_assoc line (10 ∷ []) text) ∙ (place_of_end line text none).0 in
-      record { syntax = refl; tools = (over, settled, subst (λ l. SpellsAll syntax (listed l) n.available) (sym first) spelled) }
+  pub work_behind : (text : List ℕ) → IsWorkOf c t ((line ++ 10 ∷ []) ++ text) w
+  work_behind text = work_of ((line ++ 10 ∷ []) ++ text) (ap first_line (append_assoc line (10 ∷ []) text) ∙ (place_of_end line text none).0)
 
   -- where the input ended with that line, nothing is answered
-  pub ended_run : (t : Tables) (n : Negotiation) → IsExpanderOf t n.expander → AreSettled (likely n.expander)
-      → SpellsAll syntax (listed line) n.available → (start read wrote : Stream) (rest : List ℕ) → IsAtEnd (prepend_known rest read)
+  pub ended_run : (start read wrote : Stream) (rest : List ℕ) → IsAtEnd (prepend_known rest read)
       → Consumes start (prepend_known rest read) (line ++ [])
-      → (left : Stream) → IsRunFrom (command.Lines (asked syntax)) t start left read wrote wrote Accepted
-  ended_run t n over settled spelled start read wrote rest end all left =
+      → (left : Stream) → IsRunFrom (command.Lines c) t start left read wrote wrote Accepted
+  ended_run start read wrote rest end all left =
       let whole = alone line none in (
         line,
         record {
@@ -85,9 +71,9 @@ module _ (syntax : Option Syntax) (line : List ℕ) (none : list_any is_line_fee
           ended = ended_alone rest read end;
         },
         record {
-          work = work_over syntax n;
-          work_of = record { syntax = refl; tools = (over, settled, subst (λ l. SpellsAll syntax (listed l) n.available) (sym whole.0) spelled) };
-          all_written = subst (λ x. WritesAll (work_over syntax n) x wrote wrote Accepted) (sym whole.1) (WritesAll-none (work_over syntax n) wrote);
+          work = w;
+          work_of = work_of line whole.0;
+          all_written = subst (λ x. WritesAll w x wrote wrote Accepted) (sym (listing_left c t listing is line ∙ whole.1)) (WritesAll-none w wrote);
         },
       )
 
@@ -114,13 +100,13 @@ module _ (c : LineCommand) (t : Tables) (start mid : Stream) (head : List ℕ) (
 module _ (t : Tables) (start left read' wrote wrote' : Stream) where
   -- what stops once tables are loaded is no refusal for tables
   pub no_data : (c : LineCommand) (e : DataError) → StopsLoaded (command.Lines c) t start left read' wrote wrote' (Data e) → ⊥
-  no_data c e (inl (inl h, same)) = h.2
-  no_data c e (inl (inr h, same)) = h.4.2
+  no_data c e (inl (inl h, same)) = h.1
+  no_data c e (inl (inr h, same)) = h.4.1
   no_data c e (inr h) = h.stops
 
   pub no_unsettled : (c : LineCommand) → StopsLoaded (command.Lines c) t start left read' wrote wrote' NotSettled → ⊥
-  no_unsettled c (inl (inl h, same)) = h.2
-  no_unsettled c (inl (inr h, same)) = h.4.2
+  no_unsettled c (inl (inl h, same)) = h.1
+  no_unsettled c (inl (inr h, same)) = h.4.1
   no_unsettled c (inr h) = h.stops
 
   pub refused_loaded : (c : Command) (r : Result Status CliError) → IfErr r (StopsLoaded c t start left read' wrote wrote')

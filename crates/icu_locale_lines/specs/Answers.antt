@@ -11,7 +11,6 @@ use Rattle.icu_locale.specs.declared.expander.Favor.TheVariants.{RegionFirst, Sc
 use Rattle.icu_locale.specs.LikelyTable.{likely}
 use Rattle.icu_locale.specs.Canonical.{IsCanonical, is_applied, answer_of}
 use Rattle.icu_locale.specs.Refusals.{ComesAgainFirst, ValueComesAgainFirst}
-use Rattle.icu_locale.specs.Negotiation.{Negotiation}
 use Rattle.icu_locale.specs.Direction.{direction_of}
 use Rattle.icu_locale.specs.declared.canonicalizer.rules.Rules.{Rules}
 use Rattle.icu_locale.specs.declared.expander.TransformResult.{TransformResult}
@@ -25,9 +24,13 @@ use Rattle.icu_locale_lines.specs.declared.work.Work.{Work}
 use Rattle.icu_locale_lines.specs.declared.work.Tools.{Tools}
 use Rattle.icu_locale_lines.specs.declared.work.Tools.TheVariants as tools
 use Rattle.icu_locale_lines.specs.Chains.{IsChained}
-use Rattle.icu_locale_lines.specs.Lists.{listed, SpellsAll, IsFault, IsFirstFault, IsNegotiatedLine}
+use Rattle.icu_locale_lines.specs.Lists.{listed, SpellsAll, IsFault, IsListedAnswer, IsNegotiatedLine}
+use Rattle.icu_locale_lines.specs.Serving.{IsWishAnswer, IsDistanceLine}
+use Rattle.icu_locale_lines.specs.Wholes.{IsWholeCanonicalized, rules_of}
+use Rattle.icu_locale_values.specs.Whole.{WholeRules}
+use Rattle.icu_locale_lines.specs.declared.command.Wishes.TheVariants.{Header, Requests}
 use Rattle.icu_locale_lines.specs.Locales.{is_tab, SpellsLocale, IsLocaleFault}
-use Rattle.icu_locale_lines.specs.Names.{name_asked, IsNamedLine}
+use Rattle.icu_locale_lines.specs.Names.{name_asked, whole_name_asked, IsNamedLine}
 use Rattle.icu_locale_lines.specs.Texts.{transformed_line, canonical_line, whole_line, refused_line, direction_line}
 use Rattle.icu_locale_extensions.specs.Locales.{IsLocaleIdentifier}
 use Rattle.icu_locale_extensions.specs.Syntaxes.{SpellsBy, IsFaultBy}
@@ -70,6 +73,10 @@ IsDirected d x text accepted = (text
 abbrev pub IsNamed : Naming → LanguageIdentifier → List ℕ → Bool → Type 0
 IsNamed n x text accepted = IsNamedLine (name_asked n x) text accepted
 
+-- the line of a locale identifier that is named
+abbrev pub IsWholeNamed : Naming → LocaleIdentifier → List ℕ → Bool → Type 0
+IsWholeNamed n x text accepted = IsNamedLine (whole_name_asked n x) text accepted
+
 -- the rules come to no end, and that is refused by name
 abbrev pub IsEndless : LikelySubtags → Rules → Locale → List ℕ → Bool → Type 0
 IsEndless likely rules old text accepted =
@@ -108,14 +115,6 @@ IsLocaleAnswer likely rules line text accepted =
     ⊎ ((e : ParseError) × IsLocaleFault line e × (text ≡ refused_line (parse_error_name e))
     × (accepted ≡ false))
 
--- a line that lists requests gives their line; every other gives the refusal of its first fault
-abbrev pub IsListAnswer : Option Syntax → Negotiation → List ℕ → List ℕ → Bool → Type 0
-IsListAnswer syntax negotiation line text accepted =
-    ((requests : List LanguageIdentifier) × SpellsAll syntax (listed line) requests
-    × IsNegotiatedLine negotiation requests text × (accepted ≡ true))
-    ⊎ ((e : ParseError) × IsFirstFault syntax (listed line) e
-    × (text ≡ refused_line (parse_error_name e)) × (accepted ≡ false))
-
 -- ---- locale identifiers
 
 -- a locale identifier with another locale, and with another identifier
@@ -137,12 +136,6 @@ abbrev pub IsWholeTransformed : Transform → LikelySubtags → LocaleIdentifier
 IsWholeTransformed form likely x text accepted = (y : LanguageIdentifier) × (m : TransformResult)
     × IsForm form likely x.locale.id y m × (text ≡ whole_line (with_id x y) m) × (accepted ≡ true)
 
--- the line of a locale identifier that becomes canonical, or whose rules come to no end
-abbrev pub IsWholeCanonicalized : LikelySubtags → Rules → LocaleIdentifier → List ℕ → Bool → Type 0
-IsWholeCanonicalized likely rules x text accepted =
-    IsCanonicalizedTo (λ new m. whole_line (with_locale x new) m) likely rules x.locale text
-    accepted
-
 -- a line that spells a locale identifier gives its line; every other gives the refusal's
 abbrev pub IsSpelledAnswer : Syntax → (LocaleIdentifier → List ℕ → Bool → Type 0) → List ℕ → List ℕ
     → Bool → Type 0
@@ -161,35 +154,45 @@ IsAnswerOf syntax IsLine IsWhole line text accepted =
 
 -- the answer to a line that is brought to its canonical form; without a syntax it may have a value
 -- behind its identifier
-abbrev pub IsCanonicalAnswer : Option Syntax → LikelySubtags → Rules → List ℕ → List ℕ → Bool
-    → Type 0
-IsCanonicalAnswer syntax likely rules line text accepted =
-    MatchOption syntax (IsLocaleAnswer likely rules line text accepted)
-    (λ s. IsSpelledAnswer s (IsWholeCanonicalized likely rules) line text accepted)
+abbrev pub IsCanonicalAnswer : Option Syntax → WholeRules → List ℕ → List ℕ → Bool → Type 0
+IsCanonicalAnswer syntax by line text accepted =
+    MatchOption syntax (IsLocaleAnswer by.likely by.rules line text accepted)
+    (λ s. IsSpelledAnswer s (IsWholeCanonicalized by) line text accepted)
 
 -- the answer to a line, or to a line that lists some: extensions are written as they are, and have
--- no part in a direction, a name or a negotiation
+-- no part in a direction, a negotiation, or a name where it is not known what they are called
 abbrev pub IsAnswerBy : Option Syntax → Tools → List ℕ → List ℕ → Bool → Type 0
 IsAnswerBy syntax (tools.Transform form e) line text accepted = IsAnswerOf syntax
     (IsTransformed form (likely e)) (IsWholeTransformed form (likely e)) line text accepted
-IsAnswerBy syntax (tools.Canonicalize c) line text accepted =
-    IsCanonicalAnswer syntax (likely c.expander) c.rules line text accepted
+IsAnswerBy syntax (tools.Canonicalize k) line text accepted =
+    IsCanonicalAnswer syntax (rules_of k) line text accepted
 IsAnswerBy syntax (tools.Direction d) line text accepted =
     IsAnswerOf syntax (IsDirected d) (λ x. IsDirected d x.locale.id) line text accepted
 IsAnswerBy syntax (tools.Negotiate negotiation) line text accepted =
-    IsListAnswer syntax negotiation line text accepted
+    IsListedAnswer syntax (IsNegotiatedLine negotiation) line text accepted
 IsAnswerBy syntax (tools.Name n) line text accepted =
-    IsAnswerOf syntax (IsNamed n) (λ x. IsNamed n x.locale.id) line text accepted
+    IsAnswerOf syntax (IsNamed n) (IsWholeNamed n) line text accepted
 IsAnswerBy syntax (tools.Fallback f) line text accepted =
     IsAnswerOf syntax (IsChained f) (λ x. IsChained f x.locale.id) line text accepted
+IsAnswerBy syntax (tools.Serve wishes s) line text accepted =
+    IsWishAnswer syntax wishes s line text accepted
+IsAnswerBy syntax (tools.Distance d) line text accepted =
+    IsListedAnswer syntax (IsDistanceLine d.matching.now (likely d.expander)) line text accepted
 
 -- the answer to a line
 abbrev pub IsAnswer : Work → List ℕ → List ℕ → Bool → Type 0
 IsAnswer work line text accepted = IsAnswerBy work.syntax work.tools line text accepted
 
--- a line holds identifiers alone, without a value: one, or for `negotiate` any number
+-- a line lists identifiers alone
+abbrev pub ListsIdentifiers : List ℕ → Type 0
+ListsIdentifiers line = (xs : List LanguageIdentifier) × SpellsAll None (listed line) xs
+
+-- a line holds identifiers alone, without a value: one, or any number where the task takes a list;
+-- a header is one in each syntax
 abbrev pub HoldsIdentifiers : Tools → List ℕ → Type 0
-HoldsIdentifiers (tools.Negotiate negotiation) line =
-    (xs : List LanguageIdentifier) × SpellsAll None (listed line) xs
+HoldsIdentifiers (tools.Negotiate negotiation) line = ListsIdentifiers line
+HoldsIdentifiers (tools.Serve Header s) line = Unit {0}
+HoldsIdentifiers (tools.Serve Requests s) line = ListsIdentifiers line
+HoldsIdentifiers (tools.Distance d) line = ListsIdentifiers line
 HoldsIdentifiers tools line = (position is_tab line ≡ None)
     × (x : LanguageIdentifier) × IsIdentifier x × Spells line x

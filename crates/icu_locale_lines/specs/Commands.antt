@@ -1,6 +1,9 @@
 -- The commands: by their words, by the tables that each needs, and by what each works with.
 use Rattle.std.specs.Prelude.{◌≡◌, ◌⊎◌, ℕ, Bool, true, false, List, [], ◌∷◌, ◌++◌, codes, ◌&&◌, Option, None, Some, is_some, IsSomeAnd}
+use Rattle.std.specs.Option.{option_copied}
 use Rattle.icu_locale_core.specs.Identifier.{IsIdentifier, Spells}
+use Rattle.icu_locale_core.specs.Maps.{value_at}
+use Rattle.icu_provider.specs.Requests.{locale_cmp}
 use Rattle.icu_locale_core.specs.TextSet.{empty}
 use Rattle.icu_locale_core.specs.declared.langid.LanguageIdentifier.{LanguageIdentifier}
 use Rattle.icu_locale_names.specs.declared.options.DisplayNamesPreferences.{DisplayNamesPreferences}
@@ -8,7 +11,9 @@ use Rattle.icu_locale_lines.specs.declared.command.Command.{Command}
 use Rattle.icu_locale_lines.specs.declared.command.Command.TheVariants.{Settled, Lines}
 use Rattle.icu_locale_lines.specs.declared.command.LineCommand.{LineCommand}
 use Rattle.icu_locale_lines.specs.declared.command.Task.{Task}
-use Rattle.icu_locale_lines.specs.declared.command.Task.TheVariants.{Transform, Canonicalize, Direction, Negotiate, Name, Fallback}
+use Rattle.icu_locale_lines.specs.declared.command.Task.TheVariants.{Transform, Canonicalize, Direction, Negotiate, Name, Fallback, Serve, Distance}
+use Rattle.icu_locale_lines.specs.declared.command.Wishes.{Wishes}
+use Rattle.icu_locale_lines.specs.declared.command.Wishes.TheVariants.{Header, Requests}
 use Rattle.icu_locale_extensions.specs.declared.syntax.Syntax.{Syntax}
 use Rattle.icu_locale_extensions.specs.declared.syntax.Syntax.TheVariants.{Unicode, Bcp47, Posix}
 use Rattle.icu_locale_lines.specs.declared.work.form.Transform.TheVariants.{Maximize, Minimize, MinimizeScript}
@@ -22,6 +27,10 @@ use Rattle.icu_tables.specs.declared.tables.Tables.{Tables}
 use Rattle.icu_locale_lines.specs.Lines.{first_line, after_first_line}
 use Rattle.icu_locale_lines.specs.Lists.{listed, SpellsAll}
 use Rattle.icu_locale_lines.specs.Loads.{IsExpanderOf, has_likely}
+use Rattle.icu_locale_matching.specs.Service.{Service}
+use Rattle.icu_locale_lines.specs.declared.work.listing.Listing.{Listing}
+use Rattle.icu_locale_lines.specs.declared.work.listing.ListOver.{ListOver}
+use Rattle.icu_locale_lines.specs.declared.work.listing.ListOver.TheVariants as over
 use Rattle.icu_locale_lines.specs.declared.work.load.Loaded.{Loaded}
 use Rattle.icu_locale_lines.specs.declared.work.Work.{Work}
 use Rattle.icu_locale_lines.specs.declared.work.load.Loaded.TheVariants as loaded
@@ -38,6 +47,9 @@ task_word Direction = codes "direction"
 task_word Negotiate = codes "negotiate"
 task_word (Name chain preferences) = codes "name"
 task_word Fallback = codes "fallback"
+task_word (Serve Header) = codes "serve"
+task_word (Serve Requests) = codes "nearest"
+task_word Distance = codes "distance"
 
 -- the word of each syntax
 abbrev pub syntax_word : Syntax → List ℕ
@@ -63,6 +75,8 @@ SpellsPreferences text preferences = (x : LanguageIdentifier) × IsIdentifier x 
 -- a task is for streams alone
 abbrev pub is_streamed_task : Task → Bool
 is_streamed_task Fallback = true
+is_streamed_task (Serve wishes) = true
+is_streamed_task Distance = true
 is_streamed_task task = false
 
 -- the words behind that of a task: for `name` a chain and preferences
@@ -109,11 +123,17 @@ pub record AreSyntaxWords (words : List (List ℕ)) (c : Command) (json : Bool) 
 abbrev pub AreStreamWords : List (List ℕ) → Command → Bool → Type 0
 AreStreamWords words c json = AreWords words c json ⊎ AreSyntaxWords words c json
 
+-- the match rules of a supplement are held
+abbrev pub has_matching : Tables → Bool
+has_matching t = is_some t.supplement.matching
+
 -- the tables that a task needs are held; `name` needs none
 abbrev pub holds_for : Task → Tables → Bool
 holds_for Canonicalize t = has_likely t && is_some t.aliases
 holds_for Direction t = has_likely t && is_some t.script_direction
 holds_for (Name chain preferences) t = true
+holds_for (Serve wishes) t = has_matching t && (has_likely t && is_some t.aliases)
+holds_for Distance t = has_matching t && has_likely t
 holds_for task t = has_likely t
 
 -- the tables that a command needs are held
@@ -141,13 +161,28 @@ pub record IsUnsettled (c : Command) (t : Tables) : Type 0 where
 abbrev pub HoldsSettled : Tables → Type 0
 HoldsSettled t = (e : LocaleExpander) × IsExpanderOf t e × AreSettled (likely e)
 
--- the tools of a task over tables; for `negotiate` these are settled, and the first line of the
--- input lists what is available, each text read as the lines are
+-- a task takes its first line for what is available, over tables that may be asked for it
+abbrev pub ListsOver : Task → Tables → Type 0
+ListsOver Negotiate t = HoldsSettled t
+ListsOver (Serve wishes) t = holds_for (Serve wishes) t ≡ true
+ListsOver task t = ⊥
+
+-- a server over tables: their likely tables, rules and match rules, within the limits of ICU
+pub record IsServerOf (t : Tables) (s : Service) : Type 0 where
+  pub expander : IsExpanderOf t s.expander
+  pub rules : IsSomeAnd t.aliases (λ table. AreRules table s.rules)
+  pub matching : t.supplement.matching ≡ Some s.matching
+  pub limits : s.limits ≡ record { threshold = 50; demotion = 5 }
+
+-- the tools of a task over tables; for `negotiate` these are settled. Of `negotiate`, `serve` and
+-- `nearest` the first line of the input lists what is available, each text read as the lines are
 abbrev pub AreToolsOf : Option Syntax → Task → Tables → List ℕ → Tools → Type 0
 AreToolsOf syntax (Transform form) t input (tools.Transform other e) =
     (other ≡ form) × IsExpanderOf t e
 AreToolsOf syntax Canonicalize t input (tools.Canonicalize k) =
-    IsExpanderOf t k.expander × IsSomeAnd t.aliases (λ table. AreRules table k.rules)
+    IsExpanderOf t k.canonicalizer.expander
+    × IsSomeAnd t.aliases (λ table. AreRules table k.canonicalizer.rules)
+    × (k.values.keywords.now ≡ t.supplement.keywords) × (k.values.fields.now ≡ t.supplement.fields)
 AreToolsOf syntax Direction t input (tools.Direction d) =
     IsExpanderOf t d.expander × (t.script_direction ≡ Some d.script_direction.now)
 AreToolsOf syntax Negotiate t input (tools.Negotiate n) = IsExpanderOf t n.expander
@@ -155,8 +190,13 @@ AreToolsOf syntax Negotiate t input (tools.Negotiate n) = IsExpanderOf t n.expan
 AreToolsOf syntax (Name chain preferences) t input (tools.Name n) =
     ((n.tables.tables.now ≡ t) × (n.tables.names ≡ t.names))
     × (n.chain ≡ chain) × (n.preferences ≡ preferences)
+    × (option_copied n.extensions ≡ value_at locale_cmp t.supplement.extension_names preferences.locale)
 AreToolsOf syntax Fallback t input (tools.Fallback f) = IsExpanderOf t f.fallbacker.expander
     × (f.fallbacker.parents.now ≡ t.supplement.parents) × (f.config.priority ≡ Language)
+AreToolsOf syntax (Serve wishes) t input (tools.Serve how s) =
+    (how ≡ wishes) × IsServerOf t s × SpellsAll syntax (listed (first_line input)) s.available
+AreToolsOf syntax Distance t input (tools.Distance d) =
+    IsExpanderOf t d.expander × (t.supplement.matching ≡ Some d.matching.now)
 AreToolsOf syntax task t input other = ⊥
 
 -- the work of a command over tables
@@ -164,17 +204,29 @@ pub record IsWorkOf (c : LineCommand) (t : Tables) (input : List ℕ) (work : Wo
   pub syntax : work.syntax ≡ c.syntax
   pub tools : AreToolsOf c.syntax c.task t input work.tools
 
--- the text whose lines a task answers: for `negotiate` without its first
+-- the text whose lines a task answers: without the first, where that lists what is available
 abbrev pub text_left : Task → List ℕ → List ℕ
 text_left Negotiate input = after_first_line input
+text_left (Serve wishes) input = after_first_line input
 text_left task input = input
 
 abbrev pub text_answered : LineCommand → List ℕ → List ℕ
 text_answered c input = text_left c.task input
 
--- the work of a command that answers every line of any input, or an expander over settled tables
+-- what a task lists its first line over: settled tables, or all that a server asks
+abbrev pub ListsBy : Task → Tables → ListOver → Type 0
+ListsBy Negotiate t (over.Negotiate e) = IsExpanderOf t e × AreSettled (likely e)
+ListsBy (Serve wishes) t (over.Serve how k m) = (how ≡ wishes) × IsExpanderOf t k.expander
+    × IsSomeAnd t.aliases (λ table. AreRules table k.rules) × (t.supplement.matching ≡ Some m.now)
+ListsBy task t other = ⊥
+
+-- what waits for the first line of a command
+pub record IsListing (c : LineCommand) (t : Tables) (listing : Listing) : Type 0 where
+  pub syntax : listing.syntax ≡ c.syntax
+  pub over : ListsBy c.task t listing.over
+
+-- the work of a command that answers every line of any input, or what waits for its first line
 abbrev pub IsLoaded : LineCommand → Tables → Loaded → Type 0
 IsLoaded c t (loaded.Ready work) =
     (input : List ℕ) → IsWorkOf c t input work × (text_answered c input ≡ input)
-IsLoaded c t (loaded.Negotiate syntax e) = (c ≡ record { syntax = syntax; task = Negotiate })
-    × IsExpanderOf t e × AreSettled (likely e)
+IsLoaded c t (loaded.Listing listing) = IsListing c t listing

@@ -8,8 +8,10 @@ pub mod Locales
 pub mod Names
 pub mod Refusals
 pub mod Runs
+pub mod Serving
 pub mod Streams
 pub mod Texts
 pub mod WholeRuns
+pub mod Wholes
 pub mod inner
 pub mod laws

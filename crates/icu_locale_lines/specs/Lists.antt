@@ -1,7 +1,7 @@
 -- Lines that list identifiers, and what is written for a line of requests.
-use Rattle.std.specs.Prelude.{◌≡◌, ℕ, Bool, ◌==◌, true, false, List, [], ◌∷◌, ◌++◌, codes, Option, Some, None}
+use Rattle.std.specs.Prelude.{◌≡◌, ℕ, Bool, ◌⊎◌, ◌==◌, true, false, List, [], ◌∷◌, ◌++◌, codes, Option, Some, None}
 use Rattle.std.specs.List.{AllZip, slice_split, slice_get}
-use Rattle.icu_locale_core.specs.Identifier.{IsIdentifier, Spells, starts_with_language}
+use Rattle.icu_locale_core.specs.Identifier.{IsIdentifier, Spells, starts_with_language, parse_error_name}
 use Rattle.icu_locale_core.specs.declared.langid.LanguageIdentifier.{LanguageIdentifier}
 use Rattle.icu_locale_core.specs.declared.parse_error.ParseError.{ParseError}
 use Rattle.icu_locale_core.specs.declared.parse_error.ParseError.TheVariants.{InvalidLanguage, InvalidSubtag, Memory}
@@ -11,7 +11,7 @@ use Rattle.icu_locale_extensions.specs.Syntaxes.{SpellsBy, IsFaultBy}
 use Rattle.icu_locale_extensions.specs.declared.identifier.LocaleIdentifier.{LocaleIdentifier}
 use Rattle.icu_locale_extensions.specs.declared.syntax.Syntax.{Syntax}
 use Rattle.icu_locale.specs.Negotiation.{Negotiation, IsNegotiated}
-use Rattle.icu_locale_lines.specs.Texts.{matched_line}
+use Rattle.icu_locale_lines.specs.Texts.{matched_line, refused_line}
 
 -- a space
 abbrev pub is_space : ℕ → Bool
@@ -57,6 +57,14 @@ pub record IsFirstFault (syntax : Option Syntax) (texts : List (List ℕ)) (e : 
   pub spelled : SpellsAll syntax earlier identifiers
   pub refused : IsFaultIn syntax text e
 
+-- a line that lists identifiers gives their line; every other gives the refusal of its first fault
+abbrev pub IsListedAnswer : Option Syntax → (List LanguageIdentifier → List ℕ → Bool → Type 0)
+    → List ℕ → List ℕ → Bool → Type 0
+IsListedAnswer syntax IsLine line text accepted =
+    ((xs : List LanguageIdentifier) × SpellsAll syntax (listed line) xs × IsLine xs text accepted)
+    ⊎ ((e : ParseError) × IsFirstFault syntax (listed line) e
+    × (text ≡ refused_line (parse_error_name e)) × (accepted ≡ false))
+
 -- the place of the request that is met, and the available identifier that meets it; or `none`
 abbrev pub TellsMatch : List LanguageIdentifier → Option (ℕ × ℕ) → List ℕ → Type 0
 TellsMatch available None text = text ≡ codes "none\n"
@@ -64,7 +72,7 @@ TellsMatch available (Some p) text =
     (x : LanguageIdentifier) × (slice_get available p.1 ≡ Some x) × (text ≡ matched_line p.0 x)
 
 -- the line of requests: what is negotiated
-abbrev pub IsNegotiatedLine : Negotiation → List LanguageIdentifier → List ℕ → Type 0
-IsNegotiatedLine n requests text = (found : Option (ℕ × ℕ))
+abbrev pub IsNegotiatedLine : Negotiation → List LanguageIdentifier → List ℕ → Bool → Type 0
+IsNegotiatedLine n requests text accepted = (found : Option (ℕ × ℕ))
     × IsNegotiated (likely n.expander) requests n.available found
-    × TellsMatch n.available found text
+    × TellsMatch n.available found text × (accepted ≡ true)

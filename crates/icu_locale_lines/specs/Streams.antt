@@ -11,7 +11,6 @@ use Rattle.icu_tables.specs.declared.tables.Tables.{Tables}
 use Rattle.icu_locale_lines.specs.declared.command.Command.{Command}
 use Rattle.icu_locale_lines.specs.declared.command.Command.TheVariants as command
 use Rattle.icu_locale_lines.specs.declared.command.LineCommand.{LineCommand}
-use Rattle.icu_locale_lines.specs.declared.command.Task.TheVariants.{Negotiate}
 use Rattle.icu_locale_lines.specs.declared.error.CliError.{CliError}
 use Rattle.icu_locale_lines.specs.declared.error.CliError.TheVariants as error
 use Rattle.icu_locale_lines.specs.declared.runs.Status.{Status}
@@ -20,7 +19,7 @@ use Rattle.icu_locale_lines.specs.Lines.{is_line_feed, Stream}
 use Rattle.icu_locale_lines.specs.Refusals.{IsRefusedReading, IsRefusedSupplement}
 use Rattle.icu_locale_lines.specs.Runs.{WritesAll, WritesWholeLines, WritesPart}
 use Rattle.icu_locale_lines.specs.WholeRuns.{IsUnloaded, IsUnread, IsUnlisted, StopsSettled, IsRunFrom}
-use Rattle.icu_locale_lines.specs.Commands.{IsWorkOf, HoldsSettled, text_answered}
+use Rattle.icu_locale_lines.specs.Commands.{IsWorkOf, ListsOver, text_answered}
 
 -- a text of whole lines: nothing, or all up to a line feed
 abbrev pub EndsLines : List ℕ → Type 0
@@ -108,10 +107,10 @@ pub record StopsAmong (c : LineCommand) (t : Tables) (read read' wrote wrote' : 
   pub answered : (text : List ℕ) → text_answered c (head ++ text) ≡ text
   pub stops : StopsStream work mid read' wrote wrote' e
 
--- the first line, which lists what is available over settled tables, did not end or lists nothing
+-- the first line, which lists what is available, did not end or lists nothing
 abbrev pub StopsListing : LineCommand → Tables → Stream → Stream → CliError → Type 0
 StopsListing c t read read' e =
-    ((c.task ≡ Negotiate) × HoldsSettled t × IsUnread (ReadsUnended read read') e)
+    (ListsOver c.task t × IsUnread (ReadsUnended read read') e)
     ⊎ ((line : List ℕ) × (has_ended : Bool) × (mid : Stream)
     × ReadsLine read mid line has_ended × IsUnlisted c t line e)
 

@@ -11,7 +11,6 @@ use Rattle.icu_tables.specs.declared.tables.Tables.{Tables}
 use Rattle.icu_locale_lines.specs.declared.command.Command.{Command}
 use Rattle.icu_locale_lines.specs.declared.command.Command.TheVariants as command
 use Rattle.icu_locale_lines.specs.declared.command.LineCommand.{LineCommand}
-use Rattle.icu_locale_lines.specs.declared.command.Task.TheVariants.{Negotiate}
 use Rattle.icu_locale_lines.specs.declared.error.CliError.{CliError}
 use Rattle.icu_locale_lines.specs.declared.error.CliError.TheVariants as error
 use Rattle.icu_locale_lines.specs.declared.runs.Status.{Status}
@@ -23,7 +22,7 @@ use Rattle.icu_locale_names.specs.Pieces.{AppendsPart}
 use Rattle.icu_locale_lines.specs.Runs.{ReadsAll, WritesAll, WritesWholeLines, WritesPart}
 use Rattle.icu_locale_lines.specs.Refusals.{IsFaultyList, IsRefusedReading}
 use Rattle.icu_locale_lines.specs.Texts.{settled_line}
-use Rattle.icu_locale_lines.specs.Commands.{AnswersLines, IsWorkOf, IsUnsettled, HoldsSettled, has_tables, text_answered}
+use Rattle.icu_locale_lines.specs.Commands.{AnswersLines, IsWorkOf, IsUnsettled, ListsOver, has_tables, text_answered}
 
 -- the work of the command was done on every line that it answers
 pub record WritesLines (c : LineCommand) (t : Tables) (input : List ℕ) (wrote wrote' : Stream)
@@ -67,9 +66,9 @@ IsUnread Left error.Read = Left
 IsUnread Left error.Memory = Unit {0}
 IsUnread Left e = ⊥
 
--- at the first line, which lists what is available over settled tables
+-- at the first line, which lists what is available
 abbrev pub IsUnlisted : LineCommand → Tables → List ℕ → CliError → Type 0
-IsUnlisted c t line e = (c.task ≡ Negotiate) × HoldsSettled t × IsFaultyList c.syntax line e
+IsUnlisted c t line e = ListsOver c.task t × IsFaultyList c.syntax line e
 
 -- among the answers to the lines of a text: where memory was refused whole lines alone are written,
 -- and a failed write leaves the earlier lines and a beginning of the one in hand

@@ -1,7 +1,7 @@
 //! What the program is asked to do.
 ghost use Rattle.std.specs.Prelude.{◌≡◌, ◌∷◌, [], Bool, None, Ok, Some, IfOk, IfErr, IfSome, map, codes};
 ghost use Rattle.std.specs.String.{string_bytes};
-ghost use Rattle.icu_locale_lines.specs.Commands.{AreArguments, AreCommandWords, AreRunWords, AreStreamWords, AreWords, is_streamed, plain, syntax_word, task_word};
+ghost use Rattle.icu_locale_lines.specs.Commands.{AreArguments, AreCommandWords, AreRunWords, AreStreamWords, AreWords, is_streamed, is_streamed_task, plain, syntax_word, task_word};
 ghost use Rattle.icu_locale_lines.specs.declared.command.Command.TheVariants.{Lines};
 ghost use Rattle.icu_locale_lines.specs.declared.command.Task.{Task};
 ghost use Rattle.icu_locale_extensions.specs.declared.syntax.Syntax.{Syntax};
@@ -47,6 +47,20 @@ pub enum Task {
     Name(NameChain, DisplayNamesPreferences),
     /// The chain behind each identifier, by its language. Streams alone have it.
     Fallback,
+    /// Which of the available identifiers, which the first line lists, is served for what a line wishes. Streams alone
+    /// have it.
+    Serve(Wishes),
+    /// How far the second identifier of a line is from the first. Streams alone have it.
+    Distance,
+}
+
+/// How a line says what it wishes.
+#[derive(Clone, Copy, Debug, PartialEq, Eq)]
+pub enum Wishes {
+    /// As the header Accept-Language (RFC 9110, section 12.5.4).
+    Header,
+    /// As a list of identifiers, the one that is wished most first.
+    Requests,
 }
 
 impl LineCommand {
@@ -184,8 +198,20 @@ fn is_streamed(command: &Command) -> bool
     ensures { result ≡ is_streamed command.now }
 {
     match command {
-        Command::Lines(lines) => lines.task == Task::Fallback,
+        Command::Lines(lines) => is_streamed_task(lines.task),
         Command::Settled => false,
+    }
+}
+
+// Whether a task is for streams alone.
+fn is_streamed_task(task: Task) -> bool
+    ensures { result ≡ is_streamed_task task }
+{
+    match task {
+        Task::Fallback => true,
+        Task::Serve(_) => true,
+        Task::Distance => true,
+        _ => false,
     }
 }
 
@@ -203,6 +229,9 @@ fn task_of(word: &str) -> Option<Task>
         "direction" => Some(Task::Direction),
         "negotiate" => Some(Task::Negotiate),
         "fallback" => Some(Task::Fallback),
+        "serve" => Some(Task::Serve(Wishes::Header)),
+        "nearest" => Some(Task::Serve(Wishes::Requests)),
+        "distance" => Some(Task::Distance),
         _ => None,
     }
 }

@@ -10,6 +10,9 @@ ghost use Rattle.icu_locale_lines.specs.Runs.{WritesAll};
 use icu_locale::laws::{canonical_form_is_one, minimal_form_is_one};
 use icu_locale_core::laws::spelled_once;
 use icu_locale_extensions::laws::{identifiers_read_alike, refusals_are_faults, spelled_once_by};
+use icu_locale_full_names::laws::identifiers_keep_their_names;
+use icu_locale_matching::laws::{the_nearest_to_requests_is_one, what_is_served_is_one};
+use icu_locale_values::laws::{a_refusal_is_one, whole_form_is_one, whole_where_runs_end};
 
 /// A line has one answer at most: what is written for it is told by the line and the work alone.
 pub fn a_line_has_one_answer()
@@ -21,6 +24,11 @@ pub fn a_line_has_one_answer()
     refusals_are_faults();
     minimal_form_is_one();
     canonical_form_is_one();
+    whole_form_is_one();
+    whole_where_runs_end();
+    a_refusal_is_one();
+    what_is_served_is_one();
+    the_nearest_to_requests_is_one();
 }
 
 /// A line that holds identifiers alone is answered alike in each syntax of locale identifiers and without one.
@@ -33,6 +41,8 @@ pub fn syntaxes_answer_alike()
     spelled_once_by();
     refusals_are_faults();
     identifiers_read_alike();
+    whole_form_is_one();
+    identifiers_keep_their_names();
 }
 
 /// Behind a line feed, which is 10, an input may be cut: what runs over its parts write, the one behind the other, is

@@ -10,7 +10,7 @@ mod runs;
 mod sample_tables;
 mod work;
 
-pub use command::{Command, LineCommand, Task, syntax_of};
+pub use command::{Command, LineCommand, Task, Wishes, syntax_of};
 pub use error::CliError;
 pub use program::{program_words, run_buffered, run_words, stream_words};
 pub use runs::Status;
@@ -19,10 +19,14 @@ pub use runs::stream::{
     stream, stream_json, stream_json_within, stream_supplement_within, stream_within,
 };
 pub use runs::whole::{run, run_json};
-pub use sample_tables::{SAMPLE, sample};
+pub use sample_tables::{SAMPLE, SAMPLE_SUPPLEMENT, sample, whole_sample};
+pub use work::canonicalizing::Canonicalizing;
 pub use work::form::Transform;
 pub use work::list::{answer_requests, read_list};
-pub use work::load::{Loaded, list_available, load_expander};
+pub use work::listing::{ListOver, Listing, list_available};
+pub use work::load::{Loaded, load_expander};
 pub use work::locale::answer_locale;
 pub use work::name::Naming;
+pub use work::serve::answer_wishes;
+pub use work::serving::{Distances, Serving};
 pub use work::{Tools, Work};

@@ -5,7 +5,7 @@ use crate::error::CliError;
 use crate::runs::Status;
 use crate::runs::stream::{stream_json_within, stream_supplement_within, stream_within};
 use crate::runs::whole::{run, run_json};
-use crate::sample_tables::sample;
+use crate::sample_tables::{sample, whole_sample};
 use std::alloc::Global;
 use std::io::{BufWriter, Read, Write};
 use std::{env, io};
@@ -59,9 +59,10 @@ fn run_over_sample<R: Read, W: Write>(
 }
 
 /// Asks the words, and then streams a command: over the tables of the first line where `json` stands behind it, with their
-/// supplement of the second where `json supplement` does, else over the sample. Before the command may stand the word of
-/// a syntax, and before that `longest` and a number, as `stream_within` has it. What a part of the input answers is kept
-/// until more is read, and then written out; so it is at the end, whatever that is. Tests show what it does.
+/// supplement of the second where `json supplement` does, else over the sample with its supplement. Before the command may
+/// stand the word of a syntax, and before that `longest` and a number, as `stream_within` has it. What a part of the input
+/// answers is kept until more is read, and then written out; so it is at the end, whatever that is. Tests show what it
+/// does.
 ///
 /// # Errors
 ///
@@ -98,7 +99,7 @@ fn stream_over_sample<R: Read, W: Write>(
     reader: &mut R,
     writer: &mut W,
 ) -> Result<Status, CliError> {
-    let tables = sample(alloc)?;
+    let tables = whole_sample(alloc)?;
     stream_within(alloc, command, &tables, longest, reader, writer)
 }
 

@@ -2,7 +2,7 @@
 ghost use Rattle.std.specs.Prelude.{◌≡◌, IfErr};
 
 use crate::error::CliError;
-use icu_tables::Tables;
+use icu_tables::{Supplement, Tables};
 use std::alloc::Global;
 
 /// The sample as a user writes it, on one line.
@@ -40,6 +40,46 @@ pub const SAMPLE: &str = "{\
     \"menus\":{\"language/menu/medium/light\":{\"en\":{\"ku\":[\"Kurdish\",\"Kurmanji\"]}}},\
     \"essentials\":{\"en\":{\"pattern\":[0,\" (\",1,\")\"],\"separator\":[0,\", \",1]}}}";
 
+/// The supplement of the sample, on one line.
+pub const SAMPLE_SUPPLEMENT: &str = "{\
+    \"parents\":{\"en-150\":\"en-001\",\"en-AU\":\"en-001\",\"en-GB\":\"en-001\",\"zh-Hant\":\"und\"},\
+    \"matching\":{\
+        \"others\":[80,50,4],\
+        \"macros\":{\"001\":[\"AU\",\"DE\",\"GB\",\"US\"],\"150\":[\"DE\",\"GB\"]},\
+        \"paradigms\":[\"en\",\"en-GB\",\"es\",\"es-419\",\"pt-BR\",\"pt-PT\"],\
+        \"rules\":{\
+            \"da\":{\"language\":[\
+                {\"language\":\"no\",\"distance\":8},{\"language\":\"nb\",\"distance\":8}]},\
+            \"en\":{\"region\":[\
+                {\"language\":\"en\",\"distance\":4,\
+                    \"desired\":{\"in\":[\"US\"]},\"supported\":{\"in\":[\"US\"]}},\
+                {\"language\":\"en\",\"distance\":3,\
+                    \"desired\":{\"not\":[\"US\"]},\"supported\":{\"in\":[\"GB\"]}},\
+                {\"language\":\"en\",\"distance\":4,\
+                    \"desired\":{\"not\":[\"US\"]},\"supported\":{\"not\":[\"US\"]}},\
+                {\"language\":\"en\",\"distance\":5}]},\
+            \"gsw\":{\"language\":[{\"language\":\"de\",\"distance\":4}]},\
+            \"lb\":{\"language\":[{\"language\":\"de\",\"distance\":4}]},\
+            \"nb\":{\"language\":[\
+                {\"language\":\"no\",\"distance\":1},{\"language\":\"da\",\"distance\":8}]},\
+            \"no\":{\"language\":[\
+                {\"language\":\"nb\",\"distance\":1},{\"language\":\"da\",\"distance\":8}]},\
+            \"sr\":{\"script\":[\
+                {\"language\":\"sr\",\"distance\":5,\
+                    \"desired\":{\"script\":\"Latn\"},\"supported\":{\"script\":\"Cyrl\"}}]},\
+            \"yue\":{\"language\":[{\"language\":\"zh\",\"distance\":10}]},\
+            \"zh\":{\"script\":[\
+                {\"language\":\"zh\",\"distance\":15,\
+                    \"desired\":{\"script\":\"Hans\"},\"supported\":{\"script\":\"Hant\"}},\
+                {\"language\":\"zh\",\"distance\":19,\
+                    \"desired\":{\"script\":\"Hant\"},\"supported\":{\"script\":\"Hans\"}}]}}},\
+    \"keywords\":{\
+        \"ca\":{\"ethiopic-amete-alem\":\"ethioaa\",\"islamicc\":\"islamic-civil\"},\
+        \"kb\":{\"yes\":\"true\"},\
+        \"ms\":{\"imperial\":\"uksystem\"},\
+        \"tz\":{\"cnckg\":\"cnsha\",\"eire\":\"iedub\"}},\
+    \"fields\":{\"d0\":{\"name\":\"charname\"},\"m0\":{\"names\":\"prprname\"}}}";
+
 /// The sample tables: common likely subtags, rules of canonicalization, directions, an exemplar set, and names with their
 /// patterns. The text gives tables, as its tests show, so a refusal is want of memory.
 ///
@@ -50,4 +90,22 @@ pub fn sample(alloc: Global) -> Result<Tables, CliError>
     ensures { IfErr result (λ e. e ≡ CliError.Memory) }
 {
     Tables::from_json(alloc, SAMPLE.as_bytes()).map_err(|_| CliError::Memory)
+}
+
+/// The sample tables with their supplement: some parents, rules of language matching and aliases of values. The texts
+/// give both, as their tests show, so a refusal is want of memory.
+///
+/// # Errors
+///
+/// `Memory` alone.
+pub fn whole_sample(alloc: Global) -> Result<Tables, CliError>
+    ensures { IfErr result (λ e. e ≡ CliError.Memory) }
+{
+    let supplement = match Supplement::from_json(alloc, SAMPLE_SUPPLEMENT.as_bytes()) {
+        Ok(supplement) => supplement,
+        Err(_) => return Err(CliError::Memory),
+    };
+    let mut tables = sample(alloc)?;
+    tables.set_supplement(supplement);
+    Ok(tables)
 }

@@ -2,22 +2,30 @@
 ghost use Rattle.std.specs.Prelude.{◌≡◌, IfOk, IfErr, OnErr};
 ghost use Rattle.icu_locale_lines.specs.Answers.{AddsLine, Keeps, IsAnswer};
 
+pub mod canonicalizing;
 pub mod direction;
 pub mod fallback;
 pub mod form;
 pub mod list;
+pub mod listing;
 pub mod load;
 pub mod locale;
 pub mod name;
+pub mod serve;
+pub mod serving;
 
+use crate::command::Wishes;
 use crate::error::CliError;
+use crate::work::canonicalizing::Canonicalizing;
 use crate::work::direction::add_direction;
 use crate::work::fallback::add_chain;
 use crate::work::form::{Transform, add_form};
 use crate::work::list::add_requests;
 use crate::work::locale::add_locale;
 use crate::work::name::{Naming, add_name};
-use icu_locale::{LocaleCanonicalizer, LocaleDirectionality, LocaleExpander, Negotiator};
+use crate::work::serve::{add_distance, add_served};
+use crate::work::serving::{Distances, Serving};
+use icu_locale::{LocaleDirectionality, LocaleExpander, Negotiator};
 use icu_locale_extensions::Syntax;
 use icu_locale_fallback::LocaleFallbackerWithConfig;
 
@@ -36,7 +44,7 @@ pub enum Tools<'d> {
     /// Each identifier is brought to a form.
     Transform(Transform, LocaleExpander<'d>),
     /// Each locale is brought to its canonical form.
-    Canonicalize(LocaleCanonicalizer<'d>),
+    Canonicalize(Canonicalizing<'d>),
     /// The direction of each identifier is told.
     Direction(LocaleDirectionality<'d>),
     /// Each line lists requests.
@@ -45,6 +53,10 @@ pub enum Tools<'d> {
     Name(Naming<'d>),
     /// The chain behind each identifier is written.
     Fallback(LocaleFallbackerWithConfig<'d>),
+    /// Each line says what is wished, and has what is served.
+    Serve(Wishes, Serving<'d>),
+    /// The distance of two identifiers is told.
+    Distance(Distances<'d>),
 }
 
 impl<'d> Work<'d> {
@@ -94,13 +106,17 @@ impl<'d> Work<'d> {
         let syntax = self.syntax;
         match &self.tools {
             Tools::Transform(form, expander) => add_form(text, *form, expander, syntax, line),
-            Tools::Canonicalize(canonicalizer) => {
-                add_locale(text, &canonicalizer.lend(), syntax, line)
+            Tools::Canonicalize(canonicalizing) => {
+                add_locale(text, &canonicalizing.lend(), syntax, line)
             }
             Tools::Direction(directionality) => add_direction(text, directionality, syntax, line),
             Tools::Negotiate(negotiator) => add_requests(text, &negotiator.lend(), syntax, line),
             Tools::Name(naming) => add_name(text, naming, syntax, line),
             Tools::Fallback(fallbacker) => add_chain(text, fallbacker, syntax, line),
+            Tools::Serve(wishes, serving) => {
+                add_served(text, &serving.lend(), *wishes, syntax, line)
+            }
+            Tools::Distance(distances) => add_distance(text, distances, syntax, line),
         }
     }
 }

@@ -1,17 +1,20 @@
 //! Locale identifiers as they come: each line of the input is answered before more is read.
 #![tactic(auto)]
 
-use icu_locale_lines::{CliError, Status, program_words, stream_words};
+use icu_locale_lines::{CliError, Command, Status, program_words, stream_words};
+use std::alloc::Global;
+use std::cell::Cell;
 use std::io;
+use std::io::{IsTerminal, Write};
 use std::process::ExitCode;
 
 // What `--help` writes.
 const HELP: &str = "\
 usage: icu_locale_stream [longest N] [locales | bcp47 | posix] COMMAND [json [supplement]]
-       icu_locale_stream --help | --version
+       icu_locale_stream -h | --help | --version
 
 Answers each line of standard input before it reads more. With json, the first line holds the tables, and with json
-supplement the second their supplement; without json they are a small sample.
+supplement the second their supplement; without json both are a small sample.
 
   locales                  lines hold locale identifiers with extensions, which are written with the answer
   bcp47                    the same, and tags as browsers send them: i-klingon, zh-cmn-Hans, x-private
@@ -26,23 +29,37 @@ supplement the second their supplement; without json they are a small sample.
   negotiate                what is served for each line of requests; the first line lists what is available
   name CHAIN PREFERENCES   what each identifier is called, as in: name light en
   fallback                 the chain of identifiers that are asked behind each one, up to und
+  serve                    what is served for each header Accept-Language; the first line lists what is available
+  nearest                  the nearest available identifier for each line of requests; the first line lists them
+  distance                 how far the second identifier of a line is from the first
   settled                  whether the tables are settled: yes or no
 
 CHAIN is tiny, light, short-light, long-light, menu-light, short-menu-light, heavy, short-heavy, long-heavy, menu-heavy
-or short-menu-heavy. The status is 0 where each line was accepted, 1 where one was refused, 2 where the run was.
+or short-menu-heavy. A line ends with a line feed alone: a carriage return or a byte order mark is a part of its line.
+The status is 0 where each line was accepted, 1 where one was refused, 2 where the run was, and 141 where its reader has
+gone.
 ";
 
 // What standard error says of words that are no command.
 const USAGE: &str =
     "usage: icu_locale_stream [longest N] [locales | bcp47 | posix] COMMAND [json [supplement]]";
 
+// What a terminal is told where the answers are those of the sample.
+const OVER_SAMPLE: &str =
+    "icu_locale_stream: answers come from a sample of a few rows; with json the first line holds the tables";
+
 // What `--version` writes.
 const VERSION: &str = "icu_locale_stream 0.4.0\n";
 
+// The status of a run whose reader has gone: what a shell says of a program that is ended for it.
+const NO_READER: u8 = 141;
+
 fn main(rt: HostRuntime) -> ExitCode {
-    match start(&rt) {
+    let is_closed = Cell::new(false);
+    match start(&rt, &is_closed) {
         Ok(Status::Accepted) => ExitCode::SUCCESS,
         Ok(Status::Refused) => ExitCode::from(1),
+        Err(CliError::Write) if is_closed.get() => ExitCode::from(NO_READER),
         Err(CliError::Usage) => {
             let _ = rt.eprintln(USAGE);
             ExitCode::from(2)
@@ -54,21 +71,65 @@ fn main(rt: HostRuntime) -> ExitCode {
     }
 }
 
-fn start(rt: &HostRuntime) -> Result<Status, CliError> {
+// A writer that notes whether its reader has gone.
+#[derive(Drop)]
+struct Noting<'a, W> {
+    writer: W,
+    is_closed: &'a Cell<bool>,
+}
+
+impl<W: Write> Write for Noting<'_, W> {
+    fn write(&mut self, bytes: &[u8]) -> io::Result<usize> {
+        let written = self.writer.write(bytes);
+        if let Err(refusal) = &written {
+            if refusal.kind() == io::ErrorKind::BrokenPipe {
+                self.is_closed.set(true);
+            }
+        }
+        written
+    }
+
+    fn flush(&mut self) -> io::Result<()> {
+        self.writer.flush()
+    }
+}
+
+fn start(rt: &HostRuntime, is_closed: &Cell<bool>) -> Result<Status, CliError> {
     let words = program_words(rt)?;
     match asked_text(&words) {
         Some(text) => match rt.print(text) {
             Ok(()) => Ok(Status::Accepted),
             Err(_) => Err(CliError::Write),
         },
-        None => stream_words(rt.alloc(), &words, &mut rt.reader(), io::writer(rt)),
+        None => {
+            if is_over_sample(rt.alloc(), &words) && rt.stderr().is_terminal() {
+                let _ = rt.eprintln(OVER_SAMPLE);
+            }
+            let writer = Noting {
+                writer: io::writer(rt),
+                is_closed,
+            };
+            stream_words(rt.alloc(), &words, &mut rt.reader(), writer)
+        }
+    }
+}
+
+// Whether the words are those of a command over the sample.
+fn is_over_sample(alloc: Global, words: &[String]) -> bool {
+    let asked = match words {
+        [word, _, rest @ ..] if word.as_str() == "longest" => rest,
+        _ => words,
+    };
+    match Command::from_stream_words(alloc, asked) {
+        Ok((_, json)) => !json,
+        Err(_) => false,
     }
 }
 
 // The text that the words ask for, if that is all they ask.
 fn asked_text(words: &[String]) -> Option<&'static str> {
     match words {
-        [word] if word.as_str() == "--help" => Some(HELP),
+        [word] if word.as_str() == "--help" || word.as_str() == "-h" => Some(HELP),
         [word] if word.as_str() == "--version" => Some(VERSION),
         _ => None,
     }

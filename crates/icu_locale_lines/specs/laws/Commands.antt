@@ -12,7 +12,8 @@ use Rattle.icu_locale_lines.specs.Commands.{task_word, syntax_word}
 use Rattle.icu_locale_lines.specs.declared.command.Command.{Command}
 use Rattle.icu_locale_lines.specs.declared.command.Command.TheVariants.{Settled, Lines}
 use Rattle.icu_locale_lines.specs.declared.command.Task.{Task}
-use Rattle.icu_locale_lines.specs.declared.command.Task.TheVariants.{Transform, Canonicalize, Direction, Negotiate, Name, Fallback}
+use Rattle.icu_locale_lines.specs.declared.command.Task.TheVariants.{Transform, Canonicalize, Direction, Negotiate, Name, Fallback, Serve, Distance}
+use Rattle.icu_locale_lines.specs.declared.command.Wishes.TheVariants.{Header, Requests}
 use Rattle.icu_locale_lines.specs.declared.work.form.Transform.TheVariants.{Maximize, Minimize, MinimizeScript}
 
 -- a task is `name`, and these are its arguments
@@ -32,6 +33,8 @@ alone_or_name Canonicalize arguments none = inl none
 alone_or_name Direction arguments none = inl none
 alone_or_name Negotiate arguments none = inl none
 alone_or_name Fallback arguments none = inl none
+alone_or_name (Serve wishes) arguments none = inl none
+alone_or_name Distance arguments none = inl none
 alone_or_name (Name kind preferences) arguments (text, words, spelled) = inr (record {
   kind = kind;
   preferences = preferences;
@@ -63,9 +66,10 @@ abbrev letter : List ℕ → ℕ
 letter [] = 0
 letter (c ∷ cs) = c
 
--- `m`, `c`, `d`, `n` or `f`
+-- `m`, `c`, `d`, `n`, `f` or `s`
 abbrev begins_task : ℕ → Bool
-begins_task c = (((c == 109) || (c == 99)) || ((c == 100) || (c == 110))) || (c == 102)
+begins_task c =
+    (((c == 109) || (c == 99)) || ((c == 100) || (c == 110))) || ((c == 102) || (c == 115))
 
 task_begins : (task : Task) → begins_task (letter (task_word task)) ≡ true
 task_begins (Transform Maximize) = refl
@@ -75,6 +79,9 @@ task_begins Canonicalize = refl
 task_begins Direction = refl
 task_begins Negotiate = refl
 task_begins Fallback = refl
+task_begins (Serve Header) = refl
+task_begins (Serve Requests) = refl
+task_begins Distance = refl
 task_begins (Name kind preferences) = refl
 
 syntax_begins : (s : Syntax) → begins_task (letter (syntax_word s)) ≡ false

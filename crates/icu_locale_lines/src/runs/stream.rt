@@ -3,15 +3,13 @@ ghost use Rattle.icu_tables.specs.Supplement.{rows_in, rows_of};
 ghost use Rattle.icu_locale_lines.specs.Refusals.{IsRefusedSupplement};
 ghost use Rattle.std.specs.Prelude.{◌≡◌, ◌↔◌, Ok, Err, IfOk, IfErr, false, ◌⊎◌, ◌++◌, List, ℕ};
 ghost use Rattle.std.specs.Io.KnownBytes.{prepend_known};
-ghost use Rattle.icu_locale.specs.LikelyTable.{likely};
-ghost use Rattle.icu_locale.specs.LikelySubtags.{AreSettled};
 ghost use Rattle.icu_tables.specs.declared.tables.Tables.{Tables};
-ghost use Rattle.icu_locale_lines.specs.Loads.{IsExpanderOf, not_found};
+ghost use Rattle.icu_locale_lines.specs.Loads.{not_found};
 ghost use Rattle.icu_locale_lines.specs.Streams.{IsSupplementStream, IsRefusedSupplementStream, StopsLoaded, IsRefusedStream, IsJsonStream, IsRefusedJsonStream, EndsLines, AnswersEnded, LeavesEnded, StopsStream};
 ghost use Rattle.icu_locale_lines.specs.WholeRuns.{IsRun, IsRunFrom};
-ghost use Rattle.icu_locale_lines.specs.Commands.{IsUnsettled, has_tables};
+ghost use Rattle.icu_locale_lines.specs.Commands.{IsListing, IsUnsettled, has_tables};
 ghost use Rattle.icu_locale_lines.specs.declared.command.Command.TheVariants.{Lines};
-ghost use Rattle.icu_locale_lines.specs.declared.command.Task.TheVariants.{Negotiate};
+ghost use Rattle.icu_locale_lines.specs.declared.command.LineCommand.{LineCommand};
 ghost use Rattle.std.specs.List.{list_any};
 ghost use Rattle.icu_locale_lines.specs.Lines.{is_line_feed};
 ghost use Rattle.icu_locale_lines.specs.Runs.{ReadsAll, WritesAll, WritesWholeLines, WritesPart};
@@ -22,10 +20,9 @@ use crate::error::CliError;
 use crate::runs::Status;
 use crate::runs::input::{MOST_READS, PART, read_first_line};
 use crate::runs::whole::{read_tables, write_settled};
-use crate::work::load::{Loaded, list_available};
-use crate::work::{Tools, Work};
-use icu_locale::LocaleExpander;
-use icu_locale_extensions::Syntax;
+use crate::work::Work;
+use crate::work::listing::Listing;
+use crate::work::load::Loaded;
 use icu_tables::{Supplement, TableError, Tables};
 use std::alloc::Global;
 use std::io::{Read, Write};
@@ -217,37 +214,32 @@ fn stream_over<R: Read, W: Write>(
     };
     match Loaded::load(alloc, command, tables)? {
         Loaded::Ready(work) => stream_lines(alloc, &work, longest, before, reader, writer),
-        Loaded::Negotiate(syntax, expander) => {
-            stream_requests(alloc, syntax, expander, longest, before, reader, writer)
+        Loaded::Listing(listing) => {
+            stream_listed(alloc, listing, longest, before, reader, writer)
         }
     }
 }
 
-// The answers to lines of requests, behind a first line that lists what is available.
-fn stream_requests<R: Read, W: Write>(
+// The answers to lines behind a first line that lists what is available.
+fn stream_listed<R: Read, W: Write>(
     alloc: Global,
-    syntax: Option<Syntax>,
-    expander: LocaleExpander<'_>,
+    listing: Listing<'_>,
     longest: usize,
     before: &[u8],
     reader: &mut R,
     writer: &mut W,
 ) -> Result<Status, CliError>
-    ensures output { (t : Tables) → IsExpanderOf t expander.entry
-        → AreSettled (likely expander.entry) → IfOk result (IsRunFrom
-        (Lines (record { syntax = syntax; task = Negotiate })) t
+    ensures output { (c : LineCommand) (t : Tables) → IsListing c t listing.entry
+        → IfOk result (IsRunFrom (Lines c) t
         (prepend_known before.now (R.remaining reader.old)) (R.remaining reader.old)
         (R.remaining reader.new) (W.contents writer.old) (W.contents writer.new)) }
-    ensures refused { (t : Tables) → IsExpanderOf t expander.entry
-        → AreSettled (likely expander.entry) → IfErr result (StopsLoaded
-        (Lines (record { syntax = syntax; task = Negotiate })) t
+    ensures refused { (c : LineCommand) (t : Tables) → IsListing c t listing.entry
+        → IfErr result (StopsLoaded (Lines c) t
         (prepend_known before.now (R.remaining reader.old)) (R.remaining reader.old)
         (R.remaining reader.new) (W.contents writer.old) (W.contents writer.new)) }
 {
     let first = read_first_line(alloc, before, reader)?;
-    let negotiator = list_available(alloc, expander, syntax, &first.line)?;
-    let tools = Tools::Negotiate(negotiator);
-    let work = Work { syntax, tools };
+    let work = listing.over(alloc, &first.line)?;
     if first.has_ended {
         return Ok(Status::Accepted);
     }

@@ -1,7 +1,7 @@
 //! Lines that list identifiers, cut at each space, and lines of requests.
 ghost use Rattle.std.specs.Prelude.{◌≡◌, ◌⊎◌, IfOk, IfErr, OnErr, true};
-ghost use Rattle.icu_locale_lines.specs.Lists.{listed, SpellsAll, IsFirstFault, SpellsIn, IsFaultIn, IsNegotiatedLine};
-ghost use Rattle.icu_locale_lines.specs.Answers.{AddsLine, Keeps, IsListAnswer};
+ghost use Rattle.icu_locale_lines.specs.Lists.{listed, SpellsAll, IsFirstFault, SpellsIn, IsFaultIn, IsListedAnswer, IsNegotiatedLine};
+ghost use Rattle.icu_locale_lines.specs.Answers.{AddsLine, Keeps};
 ghost use Rattle.icu_locale_lines.specs.Texts.{matched_line};
 
 use crate::answer::{add_fault, add_known, add_number, add_text};
@@ -81,7 +81,8 @@ pub fn answer_requests(
     syntax: Option<Syntax>,
     line: &[u8],
 ) -> Result<bool, CliError>
-    ensures answer { IfOk result (IsListAnswer syntax negotiator.now line.now room.new.items) }
+    ensures answer { IfOk result (IsListedAnswer syntax (IsNegotiatedLine negotiator.now) line.now
+        room.new.items) }
     ensures refused { IfErr result (λ e. e ≡ CliError.Memory) }
 {
     room.clear();
@@ -95,7 +96,8 @@ pub fn add_requests(
     syntax: Option<Syntax>,
     line: &[u8],
 ) -> Result<bool, CliError>
-    ensures answer { IfOk result (AddsLine (IsListAnswer syntax negotiator.now line.now)
+    ensures answer { IfOk result (AddsLine
+        (IsListedAnswer syntax (IsNegotiatedLine negotiator.now) line.now)
         text.old.items text.new.items) }
     ensures refused { IfErr result (λ e. e ≡ CliError.Memory) }
     ensures kept { OnErr result (Keeps text.old.items text.new.items) }
@@ -112,8 +114,7 @@ fn add_negotiated(
     negotiator: &NegotiatorRef<'_>,
     requests: &[LanguageIdentifier],
 ) -> Result<bool, CliError>
-    ensures answer { IfOk result (AddsLine (λ t a. IsNegotiatedLine negotiator.now
-        requests.now t × (a ≡ true))
+    ensures answer { IfOk result (AddsLine (IsNegotiatedLine negotiator.now requests.now)
         text.old.items text.new.items) }
     ensures refused { IfErr result (λ e. e ≡ CliError.Memory) }
     ensures kept { OnErr result (Keeps text.old.items text.new.items) }
@@ -124,19 +125,19 @@ fn add_negotiated(
     }
 }
 
-// The line of a request's place and the available identifier that means it.
-fn add_match(
+// The line of a place and an available identifier.
+pub fn add_match(
     text: &mut Vec<u8>,
-    asked: usize,
+    place: usize,
     identifier: &LanguageIdentifier,
 ) -> Result<bool, CliError>
-    ensures answer { IfOk result (AddsLine (λ t a. (t ≡ matched_line asked identifier.now)
+    ensures answer { IfOk result (AddsLine (λ t a. (t ≡ matched_line place identifier.now)
         × (a ≡ true))
         text.old.items text.new.items) }
     ensures refused { IfErr result (λ e. e ≡ CliError.Memory) }
     ensures kept { OnErr result (Keeps text.old.items text.new.items) }
 {
-    add_number(text, asked)?;
+    add_number(text, place)?;
     add_text(text, "\t")?;
     add_identifier(text, identifier)?;
     add_text(text, "\n")?;

@@ -1,13 +1,11 @@
 //! The tables that a command needs, before the input is read.
 ghost use Rattle.std.specs.Prelude.{◌≡◌, ◌↔◌, ◌&&◌, Some, Err, IfOk, IfErr, IsSomeAnd, is_ok, is_some, false};
-ghost use Rattle.icu_locale.specs.LikelyTable.{likely};
 ghost use Rattle.icu_locale.specs.Rules.{AreRules};
-ghost use Rattle.icu_locale_lines.specs.Lists.{listed, SpellsAll};
 ghost use Rattle.icu_locale_lines.specs.Loads.{IsExpanderOf, has_likely, not_found};
 ghost use Rattle.icu_locale_lines.specs.WholeRuns.{WritesLines, StopsLines};
 ghost use Rattle.icu_locale_lines.specs.Lines.{Stream};
-ghost use Rattle.icu_locale_lines.specs.Commands.{IsUnsettled, IsLoaded, IsWorkOf, has_tables, text_answered};
-ghost use Rattle.icu_locale_lines.specs.Refusals.{IsRefusedLoad, IsRefusedTable, IsRefusedList};
+ghost use Rattle.icu_locale_lines.specs.Commands.{IsUnsettled, IsLoaded, IsWorkOf, has_matching, has_tables, text_answered};
+ghost use Rattle.icu_locale_lines.specs.Refusals.{IsRefusedLoad, IsRefusedTable};
 ghost use Rattle.icu_locale_lines.specs.declared.command.LineCommand.{LineCommand};
 ghost use Rattle.icu_tables.specs.declared.tables.Tables.{Tables};
 ghost use Rattle.icu_locale_fallback.specs.declared.fallbacker.LocaleFallbackPriority.TheVariants.{Language};
@@ -17,18 +15,17 @@ use crate::command::{Command, LineCommand, Task};
 use crate::error::CliError;
 use crate::runs::Status;
 use crate::runs::cut::cut;
-use crate::work::list::read_list;
+use crate::work::canonicalizing::Canonicalizing;
+use crate::work::listing::{ListOver, Listing};
 use crate::work::name::Naming;
+use crate::work::serving::Distances;
 use crate::work::{Tools, Work};
-use icu_locale::{
-    LocaleCanonicalizer, LocaleDirectionality, LocaleExpander, Negotiator, NegotiatorError,
-};
-use icu_locale_core::ParseError;
-use icu_locale_extensions::Syntax;
+use icu_locale::{LocaleCanonicalizer, LocaleDirectionality, LocaleExpander};
 use icu_locale_fallback::{
     LocaleFallbackConfig, LocaleFallbackPriority, LocaleFallbacker, LocaleFallbackerWithConfig,
 };
-use icu_provider::DataProvider;
+use icu_locale_values::ValueAliases;
+use icu_provider::{DataError, DataErrorKind, DataProvider, LanguageMatching};
 use icu_tables::{LocaleTables, Tables};
 use std::alloc::Global;
 use std::io::Write;
@@ -38,8 +35,8 @@ use std::io::Write;
 pub enum Loaded<'d> {
     /// What it works with.
     Ready(Work<'d>),
-    /// The syntax of the lines and an expander over settled tables, which wait for the identifiers that are available.
-    Negotiate(Option<Syntax>, LocaleExpander<'d>),
+    /// What waits for the identifiers that are available.
+    Listing(Listing<'d>),
 }
 
 impl<'d> Loaded<'d> {
@@ -49,7 +46,7 @@ impl<'d> Loaded<'d> {
     ///
     /// - `Data` exactly where a needed table is not held.
     /// - `NotSettled` exactly where `Negotiate` finds likely tables that are not settled.
-    /// - `Memory` where the rules of `Canonicalize` found no room.
+    /// - `Memory` where the rules of `Canonicalize` or `Serve` found no room.
     pub fn load(alloc: Global, command: &LineCommand, tables: &'d Tables) -> Result<Self, CliError>
         ensures loaded { IfOk result (IsLoaded command.now tables.now) }
         ensures data { (result ≡ Err (CliError.Data not_found))
@@ -65,7 +62,13 @@ impl<'d> Loaded<'d> {
                 Ok(Loaded::Ready(Work { syntax, tools }))
             }
             Task::Canonicalize => {
-                let tools = Tools::Canonicalize(load_canonicalizer(alloc, tables)?);
+                let tools = Tools::Canonicalize(Canonicalizing {
+                    canonicalizer: load_canonicalizer(alloc, tables)?,
+                    values: ValueAliases {
+                        keywords: &tables.supplement.keywords,
+                        fields: &tables.supplement.fields,
+                    },
+                });
                 Ok(Loaded::Ready(Work { syntax, tools }))
             }
             Task::Direction => {
@@ -77,18 +80,36 @@ impl<'d> Loaded<'d> {
                 if !expander.is_settled() {
                     return Err(CliError::NotSettled);
                 }
-                Ok(Loaded::Negotiate(syntax, expander))
+                Ok(Loaded::Listing(Listing {
+                    syntax,
+                    over: ListOver::Negotiate(expander),
+                }))
             }
             Task::Name(chain, preferences) => {
                 let tools = Tools::Name(Naming {
                     tables: LocaleTables::new(tables, preferences.locale),
                     chain,
                     preferences,
+                    extensions: tables.supplement.extension_names.get(&preferences.locale),
                 });
                 Ok(Loaded::Ready(Work { syntax, tools }))
             }
             Task::Fallback => {
                 let tools = Tools::Fallback(load_fallbacker(tables)?);
+                Ok(Loaded::Ready(Work { syntax, tools }))
+            }
+            Task::Serve(wishes) => {
+                let matching = load_matching(tables)?;
+                let canonicalizer = load_canonicalizer(alloc, tables)?;
+                Ok(Loaded::Listing(Listing {
+                    syntax,
+                    over: ListOver::Serve(wishes, canonicalizer, matching),
+                }))
+            }
+            Task::Distance => {
+                let matching = load_matching(tables)?;
+                let expander = load_expander(tables)?;
+                let tools = Tools::Distance(Distances { expander, matching });
                 Ok(Loaded::Ready(Work { syntax, tools }))
             }
         }
@@ -104,20 +125,19 @@ impl<'d> Loaded<'d> {
     {
         match self {
             Loaded::Ready(work) => Ok((work, input)),
-            Loaded::Negotiate(syntax, expander) => {
+            Loaded::Listing(listing) => {
                 let (first, rest) = cut(input);
-                let negotiator = list_available(alloc, expander, syntax, first)?;
-                let tools = Tools::Negotiate(negotiator);
-                Ok((Work { syntax, tools }, rest))
+                Ok((listing.over(alloc, first)?, rest))
             }
         }
     }
 
-    /// The answers to the lines of an input. `Negotiate` uses the first line for the identifiers that are available.
+    /// The answers to the lines of an input. `Negotiate` and `Serve` use the first line for the identifiers that are
+    /// available.
     ///
     /// # Errors
     ///
-    /// - `Available` where the first line of `Negotiate` has a fault: nothing was written.
+    /// - `Available` where that first line has a fault: nothing was written.
     /// - `Write` where a write failed or took no byte, and `Memory` where memory was refused, as `run` answers them.
     pub fn write<W: Write>(
         self,
@@ -184,6 +204,20 @@ fn load_directionality(tables: &Tables) -> Result<LocaleDirectionality<'_>, CliE
     Ok(LocaleDirectionality::try_new_with_expander_unstable(tables, expander)?)
 }
 
+// The match rules of the supplement.
+fn load_matching(tables: &Tables) -> Result<&LanguageMatching, CliError>
+    ensures held { IfOk result (λ m. tables.entry.now.supplement.matching ≡ Some m.now) }
+    ensures loaded { is_ok result ≡ has_matching tables.entry.now }
+    ensures refused { IfErr result (λ e. e ≡ CliError.Data not_found) }
+{
+    match &tables.supplement.matching {
+        Some(matching) => Ok(matching),
+        None => Err(CliError::Data(DataError {
+            kind: DataErrorKind::IdentifierNotFound,
+        })),
+    }
+}
+
 // What gives chains by language, over likely tables and the parents of the supplement.
 fn load_fallbacker(tables: &Tables) -> Result<LocaleFallbackerWithConfig<'_>, CliError>
     ensures expander { IfOk result (λ f. IsExpanderOf tables.entry.now f.fallbacker.expander) }
@@ -201,33 +235,4 @@ fn load_fallbacker(tables: &Tables) -> Result<LocaleFallbackerWithConfig<'_>, Cl
     Ok(fallbacker.for_config(LocaleFallbackConfig {
         priority: LocaleFallbackPriority::Language,
     }))
-}
-
-/// The negotiator over settled tables and the identifiers that a line lists.
-///
-/// # Errors
-///
-/// - `Available` where the line has a fault: the first one.
-/// - `NotSettled` where the likely tables are not settled. The line is read first.
-/// - `Memory` where memory was refused.
-pub fn list_available<'d>(
-    alloc: Global,
-    expander: LocaleExpander<'d>,
-    syntax: Option<Syntax>,
-    line: &[u8],
-) -> Result<Negotiator<'d>, CliError>
-    ensures expander { IfOk result (λ n. n.expander ≡ expander.entry) }
-    ensures available { IfOk result (λ n. SpellsAll syntax (listed line.now) n.available) }
-    ensures refused { IfErr result (IsRefusedList syntax (likely expander.entry) line.now) }
-{
-    let available = match read_list(alloc, syntax, line) {
-        Ok(list) => list,
-        Err(ParseError::Memory) => return Err(CliError::Memory),
-        Err(refusal) => return Err(CliError::Available(refusal)),
-    };
-    match Negotiator::try_new(alloc, expander, available) {
-        Ok(negotiator) => Ok(negotiator),
-        Err(NegotiatorError::Memory) => Err(CliError::Memory),
-        Err(NegotiatorError::NotSettled) => Err(CliError::NotSettled),
-    }
 }

@@ -10,7 +10,9 @@ ghost use Rattle.icu_locale_lines.specs.inner.Parts.{IsLocaleOf, IsRefusedValue,
 ghost use Rattle.icu_locale.specs.LikelyTable.{likely};
 ghost use Rattle.icu_locale.specs.RuleSet.{lent};
 ghost use Rattle.icu_locale_core.specs.Value.{written_value};
-ghost use Rattle.icu_locale_lines.specs.Answers.{IsCanonicalized, AddsLine, Keeps, IsSpelledAnswer, IsWholeCanonicalized, IsLocaleAnswer, IsCanonicalAnswer};
+ghost use Rattle.icu_locale_lines.specs.Answers.{IsCanonicalized, AddsLine, Keeps, IsSpelledAnswer, IsLocaleAnswer, IsCanonicalAnswer};
+ghost use Rattle.icu_locale_lines.specs.Wholes.{IsWholeCanonicalized, TellsWholeRefusal};
+ghost use Rattle.icu_locale_values.specs.Whole.{whole_rules};
 ghost use Rattle.icu_locale_lines.specs.Texts.{override_line, canonical_line};
 
 use crate::answer::{add_fault, add_known, add_text};
@@ -19,6 +21,7 @@ use crate::work::form::{add_changed, add_identifier, add_transformed, ending};
 use icu_locale::{CanonicalizeError, CanonicalizerRef, TransformResult};
 use icu_locale_core::{Key, LanguageIdentifier, Locale, ParseError, Subtag, Value};
 use icu_locale_extensions::{LocaleIdentifier, Syntax};
+use icu_locale_values::{WholeCanonicalizer, WholeError};
 use memchr::memchr;
 use std::alloc::Global;
 
@@ -30,12 +33,12 @@ use std::alloc::Global;
 /// `Memory` where memory was refused.
 pub fn answer_locale(
     room: &mut Vec<u8>,
-    canonicalizer: &CanonicalizerRef<'_>,
+    canonicalizer: &WholeCanonicalizer<'_>,
     syntax: Option<Syntax>,
     line: &[u8],
 ) -> Result<bool, CliError>
-    ensures answer { IfOk result (IsCanonicalAnswer syntax (likely canonicalizer.now.expander)
-        (lent canonicalizer.now.rules) line.now room.new.items) }
+    ensures answer { IfOk result (IsCanonicalAnswer syntax (whole_rules canonicalizer.now) line.now
+        room.new.items) }
     ensures refused { IfErr result (λ e. e ≡ CliError.Memory) }
 {
     room.clear();
@@ -46,18 +49,18 @@ pub fn answer_locale(
 #[inline(always)]
 pub fn add_locale(
     text: &mut Vec<u8>,
-    canonicalizer: &CanonicalizerRef<'_>,
+    canonicalizer: &WholeCanonicalizer<'_>,
     syntax: Option<Syntax>,
     line: &[u8],
 ) -> Result<bool, CliError>
     ensures answer { IfOk result (AddsLine (IsCanonicalAnswer syntax
-        (likely canonicalizer.now.expander) (lent canonicalizer.now.rules) line.now)
+        (whole_rules canonicalizer.now) line.now)
         text.old.items text.new.items) }
     ensures refused { IfErr result (λ e. e ≡ CliError.Memory) }
     ensures kept { OnErr result (Keeps text.old.items text.new.items) }
 {
     match syntax {
-        None => add_plain_locale(text, canonicalizer, line),
+        None => add_plain_locale(text, &canonicalizer.rules, line),
         Some(syntax) => add_whole_locale(text, canonicalizer, syntax, line),
     }
 }
@@ -122,13 +125,12 @@ fn add_identifier_and_value(
 // The same of a line that is a locale identifier in a syntax.
 fn add_whole_locale(
     text: &mut Vec<u8>,
-    canonicalizer: &CanonicalizerRef<'_>,
+    canonicalizer: &WholeCanonicalizer<'_>,
     syntax: Syntax,
     line: &[u8],
 ) -> Result<bool, CliError>
     ensures answer { IfOk result (AddsLine (IsSpelledAnswer syntax
-        (IsWholeCanonicalized (likely canonicalizer.now.expander) (lent canonicalizer.now.rules))
-        line.now)
+        (IsWholeCanonicalized (whole_rules canonicalizer.now)) line.now)
         text.old.items text.new.items) }
     ensures refused { IfErr result (λ e. e ≡ CliError.Memory) }
     ensures kept { OnErr result (Keeps text.old.items text.new.items) }
@@ -178,18 +180,40 @@ fn add_canonical(
 // The line of a locale identifier that is brought to its canonical form.
 fn add_canonical_whole(
     text: &mut Vec<u8>,
-    canonicalizer: &CanonicalizerRef<'_>,
+    canonicalizer: &WholeCanonicalizer<'_>,
     whole: &mut LocaleIdentifier,
 ) -> Result<bool, CliError>
     ensures answer { IfOk result (AddsLine
-        (IsWholeCanonicalized (likely canonicalizer.now.expander) (lent canonicalizer.now.rules)
-        whole.old) text.old.items text.new.items) }
+        (IsWholeCanonicalized (whole_rules canonicalizer.now) whole.old)
+        text.old.items text.new.items) }
     ensures refused { IfErr result (λ e. e ≡ CliError.Memory) }
     ensures kept { OnErr result (Keeps text.old.items text.new.items) }
 {
-    match canonicalizer.canonicalize(&mut whole.locale) {
+    let outcome = canonicalizer.canonicalize(whole);
+    // for the proof: both are maps
+    whole.locale.extensions.unicode.keywords.known();
+    whole.fields.known();
+    match outcome {
         Ok(changed) => add_changed(text, whole, changed),
-        Err(refusal) => add_refusal(text, refusal),
+        Err(refusal) => add_whole_refusal(text, refusal),
+    }
+}
+
+// The line of a refusal of a locale identifier. Want of memory has none.
+fn add_whole_refusal(text: &mut Vec<u8>, refusal: WholeError) -> Result<bool, CliError>
+    ensures answer { IfOk result (AddsLine (TellsWholeRefusal refusal)
+        text.old.items text.new.items) }
+    ensures refused { IfErr result (λ e. e ≡ CliError.Memory) }
+    ensures kept { OnErr result (Keeps text.old.items text.new.items) }
+{
+    match refusal {
+        WholeError::Memory => Err(CliError::Memory),
+        WholeError::NoFixedPoint(_) => add_known(text, "?\tNoFixedPoint\n", false),
+        WholeError::NoSubdivisionFixedPoint(_) => {
+            add_known(text, "?\tNoSubdivisionFixedPoint\n", false)
+        }
+        WholeError::NoValueFixedPoint(_, _) => add_known(text, "?\tNoValueFixedPoint\n", false),
+        WholeError::NoFieldFixedPoint(_, _) => add_known(text, "?\tNoFieldFixedPoint\n", false),
     }
 }
 

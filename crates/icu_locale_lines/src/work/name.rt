@@ -1,25 +1,28 @@
-//! Names of identifiers, by a chain and in the language of preferences, and their lines.
-ghost use Rattle.std.specs.Prelude.{◌≡◌, ◌≢◌, Ok, IfOk, IfErr, OnErr, true, false};
+//! Names of identifiers and of locale identifiers, by a chain and in the language of preferences, and their lines.
+ghost use Rattle.std.specs.Prelude.{◌≡◌, ◌≢◌, ◌++◌, Ok, IfOk, IfErr, OnOk, OnErr, true, false, codes, List};
 ghost use Rattle.icu_provider.specs.Provider.{kind_name};
 ghost use Rattle.icu_locale_names.specs.LanguageChains.{chain_of};
 ghost use Rattle.icu_locale_names.specs.LanguageNames.{GivesName};
 ghost use Rattle.icu_locale_names.specs.declared.options.LanguageDisplay.TheVariants.{Dialect};
 ghost use Rattle.icu_locale_names.specs.declared.options.DisplayNamesPreferences.{DisplayNamesPreferences};
-ghost use Rattle.icu_locale_lines.specs.Answers.{AddsLine, Keeps, IsAnswerOf, IsNamed};
+ghost use Rattle.icu_locale_names.specs.Pieces.{Piece};
+ghost use Rattle.icu_locale_full_names.specs.FullNames.{GivesFullName, written};
+ghost use Rattle.icu_locale_lines.specs.Answers.{AddsLine, Keeps, IsAnswerOf, IsIdentifierAnswer, IsSpelledAnswer, IsNamed, IsWholeNamed};
 ghost use Rattle.icu_locale_lines.specs.Commands.{SpellsPreferences};
-ghost use Rattle.icu_locale_lines.specs.Names.{answers_in, name_asked, IsNamedLine};
-ghost use Rattle.icu_locale_lines.specs.Texts.{named_line, refused_line};
+ghost use Rattle.icu_locale_lines.specs.Names.{answers_in, name_asked, full_name_asked, IsNamedLine};
+ghost use Rattle.icu_locale_lines.specs.Texts.{named_line, raw_mark, refused_line};
 
 use crate::answer::{add_fault, add_known, add_text};
 use crate::error::CliError;
-use crate::work::list::read_identifier;
 use icu_locale_core::{LanguageIdentifier, laws};
-use icu_locale_extensions::Syntax;
+use icu_locale_extensions::{LocaleIdentifier, Syntax};
+use icu_locale_full_names::laws::{given_names_are_written, raw_parts_have_spans};
+use icu_locale_full_names::{LocaleDisplayName, says_more};
 use icu_locale_names::{
     DisplayNamesPreferences, LanguageIdentifierDisplayName, LanguageIdentifierDisplayNameOptions,
     NameChain,
 };
-use icu_provider::{DataError, DataErrorKind};
+use icu_provider::{DataError, DataErrorKind, ExtensionNames};
 use icu_tables::LocaleTables;
 use std::alloc::Global;
 
@@ -48,6 +51,8 @@ pub struct Naming<'d> {
     pub chain: NameChain,
     /// The preferences.
     pub preferences: DisplayNamesPreferences,
+    /// What parts of extensions are called in the language of the preferences, if the tables say so.
+    pub extensions: Option<&'d ExtensionNames>,
 }
 
 impl<'d> Naming<'d> {
@@ -82,9 +87,50 @@ impl<'d> Naming<'d> {
             LanguageIdentifierDisplayNameOptions::default(),
         )
     }
+
+    // The answer to a locale identifier, with what its extensions say.
+    fn add_whole(
+        &self,
+        text: &mut Vec<u8>,
+        names: &ExtensionNames,
+        whole: &LocaleIdentifier,
+    ) -> Result<bool, CliError>
+        ensures answer { IfOk result (AddsLine
+            (IsNamedLine (full_name_asked self.now names.now whole.now))
+            text.old.items text.new.items) }
+        ensures refused { IfErr result (λ e. e ≡ CliError.Memory) }
+        ensures kept { OnErr result (Keeps text.old.items text.new.items) }
+    {
+        given_names_are_written();
+        match self.whole_name(*text.allocator(), names, whole) {
+            Ok(name) => add_full_name(text, &name),
+            Err(refusal) => add_nameless(text, refusal.kind),
+        }
+    }
+
+    // The name of a locale identifier, where names of dialects are asked for.
+    fn whole_name(
+        &self,
+        alloc: Global,
+        names: &ExtensionNames,
+        whole: &LocaleIdentifier,
+    ) -> Result<LocaleDisplayName, DataError>
+        ensures { GivesFullName (answers_in self.now.tables self.now.preferences.locale)
+            (chain_of self.now.chain) Dialect names.now whole.now result }
+    {
+        LocaleDisplayName::try_new_unstable(
+            alloc,
+            &self.tables,
+            names,
+            self.chain,
+            self.preferences,
+            whole,
+            LanguageIdentifierDisplayNameOptions::default(),
+        )
+    }
 }
 
-// The answer to a line whose identifier is named.
+// The answer to a line that is named: its identifier, or all of it where the tables say what extensions are called.
 pub fn add_name(
     text: &mut Vec<u8>,
     naming: &Naming<'_>,
@@ -92,14 +138,72 @@ pub fn add_name(
     line: &[u8],
 ) -> Result<bool, CliError>
     ensures answer { IfOk result (AddsLine (IsAnswerOf syntax (IsNamed naming.now)
-        (λ x. IsNamed naming.now x.locale.id) line.now)
+        (IsWholeNamed naming.now) line.now)
         text.old.items text.new.items) }
     ensures refused { IfErr result (λ e. e ≡ CliError.Memory) }
     ensures kept { OnErr result (Keeps text.old.items text.new.items) }
 {
-    match read_identifier(*text.allocator(), syntax, line) {
+    match syntax {
+        None => add_identifier_name(text, naming, line),
+        Some(syntax) => add_spelled_name(text, naming, syntax, line),
+    }
+}
+
+// The answer to a line that is a locale identifier in a syntax.
+fn add_spelled_name(
+    text: &mut Vec<u8>,
+    naming: &Naming<'_>,
+    syntax: Syntax,
+    line: &[u8],
+) -> Result<bool, CliError>
+    ensures answer { IfOk result (AddsLine
+        (IsSpelledAnswer syntax (IsWholeNamed naming.now) line.now)
+        text.old.items text.new.items) }
+    ensures refused { IfErr result (λ e. e ≡ CliError.Memory) }
+    ensures kept { OnErr result (Keeps text.old.items text.new.items) }
+{
+    match LocaleIdentifier::read(*text.allocator(), syntax, line) {
+        Ok(whole) => add_whole_name(text, naming, &whole),
+        Err(refusal) => add_fault(text, refusal),
+    }
+}
+
+// The answer to a line that is an identifier.
+fn add_identifier_name(
+    text: &mut Vec<u8>,
+    naming: &Naming<'_>,
+    line: &[u8],
+) -> Result<bool, CliError>
+    ensures answer { IfOk result (AddsLine (IsIdentifierAnswer (IsNamed naming.now) line.now)
+        text.old.items text.new.items) }
+    ensures refused { IfErr result (λ e. e ≡ CliError.Memory) }
+    ensures kept { OnErr result (Keeps text.old.items text.new.items) }
+{
+    match LanguageIdentifier::try_from_utf8(*text.allocator(), line) {
         Ok(identifier) => naming.add(text, &identifier),
         Err(refusal) => add_fault(text, refusal),
+    }
+}
+
+// The answer to a locale identifier.
+fn add_whole_name(
+    text: &mut Vec<u8>,
+    naming: &Naming<'_>,
+    whole: &LocaleIdentifier,
+) -> Result<bool, CliError>
+    ensures answer { IfOk result (AddsLine (IsWholeNamed naming.now whole.now)
+        text.old.items text.new.items) }
+    ensures refused { IfErr result (λ e. e ≡ CliError.Memory) }
+    ensures kept { OnErr result (Keeps text.old.items text.new.items) }
+{
+    match naming.extensions {
+        Some(names) => {
+            if says_more(whole) {
+                return naming.add_whole(text, names, whole);
+            }
+            naming.add(text, &whole.locale.id)
+        }
+        None => naming.add(text, &whole.locale.id),
     }
 }
 
@@ -114,9 +218,35 @@ fn add_named(text: &mut Vec<u8>, name: &LanguageIdentifierDisplayName<'_>) -> Re
         Ok(is_raw) => is_raw,
         Err(_) => return Err(CliError::Memory),
     };
-    let mark = if is_raw { "\tR\n" } else { "\tN\n" };
-    add_text(text, mark)?;
+    add_mark(text, is_raw)?;
     Ok(true)
+}
+
+// The line of the name of a locale identifier.
+fn add_full_name(text: &mut Vec<u8>, name: &LocaleDisplayName) -> Result<bool, CliError>
+    ensures answer { (pieces : List Piece) → name.now ≡ written pieces
+        → IfOk result (AddsLine (λ t a. (t ≡ named_line pieces) × (a ≡ true))
+        text.old.items text.new.items) }
+    ensures refused { IfErr result (λ e. e ≡ CliError.Memory) }
+    ensures kept { OnErr result (Keeps text.old.items text.new.items) }
+{
+    raw_parts_have_spans();
+    let is_raw = match name.append_to(text) {
+        Ok(is_raw) => is_raw,
+        Err(_) => return Err(CliError::Memory),
+    };
+    add_mark(text, is_raw)?;
+    Ok(true)
+}
+
+// Whether a raw subtag was written, and the end of the line.
+fn add_mark(text: &mut Vec<u8>, is_raw: bool) -> Result<(), CliError>
+    ensures added { OnOk result (text.new.items
+        ≡ text.old.items ++ (codes "\t" ++ (raw_mark is_raw ++ codes "\n"))) }
+    ensures refused { IfErr result (λ e. e ≡ CliError.Memory) }
+    ensures unchanged { OnErr result (text.new.items ≡ text.old.items) }
+{
+    add_text(text, if is_raw { "\tR\n" } else { "\tN\n" })
 }
 
 // The line of a refused name. Want of memory has none.

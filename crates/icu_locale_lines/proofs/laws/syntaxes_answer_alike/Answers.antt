@@ -9,5 +9,7 @@ returns c = λ work s line text a holds.
       nothing = c.refusals_are_faults.ensures.nothing;
       known = c.identifiers_read_alike.ensures.known;
       alike = c.identifiers_read_alike.ensures.alike;
+      one = c.whole_form_is_one.ensures.one;
+      kept = c.identifiers_keep_their_names.ensures;
     } in
     answers_alike facts s line text a work holds

@@ -3,10 +3,9 @@ use Rattle.std.specs.Io.KnownBytes.{prepend_known}
 use Rattle.std.proofs.KnownBytes.{Consumes-nil}
 use Rattle.std.proofs.lemmas.Result.{IfErr-at_err}
 use Rattle.icu_locale_lines.specs.declared.command.Command.TheVariants.{Lines}
-use Rattle.icu_locale_lines.specs.Streams.{StopsLoaded}
 use Rattle.icu_locale_lines.specs.Loads.{not_found}
 use Rattle.icu_locale_lines.specs.Commands.{IsLoaded, IsUnsettled, has_tables}
-use Rattle.icu_locale_lines.proofs.StreamEnds.{asked, run_behind, stopped_behind, refused_loaded, no_data, no_unsettled}
+use Rattle.icu_locale_lines.proofs.StreamEnds.{run_behind, stopped_behind, refused_loaded, no_data, no_unsettled}
 use Rattle.icu_locale_lines.proofs.runs.stream.stream_over.Goals as goal
 
 -- nothing stands before the lines
@@ -35,39 +34,44 @@ returns-in-Ready-clause-refused g c =
     (wrote c.stream_lines.new.writer) c.stream_lines.result c.stream_lines.ensures.refused))
 
 -- all was loaded, so nothing is refused for a table
-pub returns-in-Negotiate-clause-data : goal.returns-in-Negotiate-clause-data
-returns-in-Negotiate-clause-data g c =
+pub returns-in-Listing-clause-data : goal.returns-in-Listing-clause-data
+returns-in-Listing-clause-data g c =
     let read = g.R.Read.remaining in
     let wrote = g.W.Write.contents in
     let start = prepend_known c.args.before.now (read c.args.reader.now) in
-    let loaded = subst (IsLoaded c.in-Lines.command c.args.tables.now) c.in-Negotiate.is c.in_ok-work.ensures.loaded in (
-      λ e. absurd (no_data c.args.tables.now start (read c.args.reader.now) (read c.stream_requests.new.reader) (wrote c.args.writer.now)
-          (wrote c.stream_requests.new.writer) (asked c.in-Negotiate.syntax) not_found
-          (IfErr-at_err _ e (c.stream_requests.ensures.refused c.args.tables.now loaded.1 loaded.2))),
+    let k = c.in-Lines.command in
+    let loaded = subst (IsLoaded k c.args.tables.now) c.in-Listing.is c.in_ok-work.ensures.loaded in (
+      λ e. absurd (no_data c.args.tables.now start (read c.args.reader.now) (read c.stream_listed.new.reader) (wrote c.args.writer.now)
+          (wrote c.stream_listed.new.writer) k not_found (IfErr-at_err _ e (c.stream_listed.ensures.refused k c.args.tables.now loaded))),
       λ h. let refused = c.load.ensures.data.1 (subst (λ k. has_tables k c.args.tables.now ≡ false) c.in-Lines.is h) in search rules,
     )
 
-pub returns-in-Negotiate-clause-unsettled : goal.returns-in-Negotiate-clause-unsettled
-returns-in-Negotiate-clause-unsettled g c =
+pub returns-in-Listing-clause-unsettled : goal.returns-in-Listing-clause-unsettled
+returns-in-Listing-clause-unsettled g c =
     let read = g.R.Read.remaining in
     let wrote = g.W.Write.contents in
     let start = prepend_known c.args.before.now (read c.args.reader.now) in
-    let loaded = subst (IsLoaded c.in-Lines.command c.args.tables.now) c.in-Negotiate.is c.in_ok-work.ensures.loaded in (
-      λ e. absurd (no_unsettled c.args.tables.now start (read c.args.reader.now) (read c.stream_requests.new.reader)
-          (wrote c.args.writer.now) (wrote c.stream_requests.new.writer) (asked c.in-Negotiate.syntax)
-          (IfErr-at_err _ e (c.stream_requests.ensures.refused c.args.tables.now loaded.1 loaded.2))),
+    let k = c.in-Lines.command in
+    let loaded = subst (IsLoaded k c.args.tables.now) c.in-Listing.is c.in_ok-work.ensures.loaded in (
+      λ e. absurd (no_unsettled c.args.tables.now start (read c.args.reader.now) (read c.stream_listed.new.reader)
+          (wrote c.args.writer.now) (wrote c.stream_listed.new.writer) k
+          (IfErr-at_err _ e (c.stream_listed.ensures.refused k c.args.tables.now loaded))),
       λ h. let refused = c.load.ensures.unsettled.1 (subst (λ k. IsUnsettled k c.args.tables.now) c.in-Lines.is h) in search rules,
     )
 
-pub returns-in-Negotiate-clause-refused : goal.returns-in-Negotiate-clause-refused
-returns-in-Negotiate-clause-refused g c =
+pub returns-in-Listing-clause-output : goal.returns-in-Listing-clause-output
+returns-in-Listing-clause-output g c =
+    let k = c.in-Lines.command in
+    let loaded = subst (IsLoaded k c.args.tables.now) c.in-Listing.is c.in_ok-work.ensures.loaded in
+    rw c.in-Lines.is (c.stream_listed.ensures.output k c.args.tables.now loaded)
+
+pub returns-in-Listing-clause-refused : goal.returns-in-Listing-clause-refused
+returns-in-Listing-clause-refused g c =
     let read = g.R.Read.remaining in
     let wrote = g.W.Write.contents in
     let start = prepend_known c.args.before.now (read c.args.reader.now) in
     let t = c.args.tables.now in
-    let loaded = subst (IsLoaded c.in-Lines.command t) c.in-Negotiate.is c.in_ok-work.ensures.loaded in
-    rw c.in-Lines.is (refused_loaded t start (read c.args.reader.now) (read c.stream_requests.new.reader) (wrote c.args.writer.now)
-    (wrote c.stream_requests.new.writer) (Lines c.in-Lines.command) c.stream_requests.result
-    (subst (λ k. IfErr c.stream_requests.result (StopsLoaded (Lines k) t start (read c.args.reader.now) (read c.stream_requests.new.reader)
-    (wrote c.args.writer.now) (wrote c.stream_requests.new.writer))) (sym loaded.0)
-    (c.stream_requests.ensures.refused t loaded.1 loaded.2)))
+    let k = c.in-Lines.command in
+    let loaded = subst (IsLoaded k t) c.in-Listing.is c.in_ok-work.ensures.loaded in
+    rw c.in-Lines.is (refused_loaded t start (read c.args.reader.now) (read c.stream_listed.new.reader) (wrote c.args.writer.now)
+    (wrote c.stream_listed.new.writer) (Lines k) c.stream_listed.result (c.stream_listed.ensures.refused k t loaded))

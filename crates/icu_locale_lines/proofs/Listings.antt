@@ -1,0 +1,127 @@
+-- What waits for the first line: over which tables, and what is answered behind that line.
+use Rattle.std.proofs.Common.{◌≡◌, ◌&&◌, true, ℕ, List, Option, Some, None, IsSomeAnd, is_some, refl, ap, sym, subst, ◌∙◌}
+use Rattle.icu_locale.specs.LikelyTable.{likely}
+use Rattle.icu_locale.specs.LikelySubtags.{LikelySubtags, AreSettled}
+use Rattle.icu_locale.specs.Negotiation.{Negotiation}
+use Rattle.icu_locale.specs.Rules.{AreRules}
+use Rattle.icu_locale_extensions.specs.declared.syntax.Syntax.{Syntax}
+use Rattle.icu_locale_matching.specs.Service.{Service}
+use Rattle.icu_tables.specs.declared.tables.Tables.{Tables}
+use Rattle.icu_locale_lines.specs.Commands.{IsListing, ListsBy, ListsOver, IsServerOf, AreToolsOf, text_left, text_answered}
+use Rattle.icu_locale_lines.specs.Lines.{first_line, after_first_line}
+use Rattle.icu_locale_lines.specs.Lists.{listed, SpellsAll}
+use Rattle.icu_locale_lines.specs.Loads.{IsExpanderOf, has_likely}
+use Rattle.icu_locale_lines.specs.Refusals.{IsRefusedList, IsFaultyList}
+use Rattle.icu_locale_lines.specs.declared.command.LineCommand.{LineCommand}
+use Rattle.icu_locale_lines.specs.declared.command.Task.{Task}
+use Rattle.icu_locale_lines.specs.declared.command.Task.TheVariants.{Transform, Canonicalize, Direction, Negotiate, Name, Fallback, Serve, Distance}
+use Rattle.icu_locale_lines.specs.declared.error.CliError.{CliError}
+use Rattle.icu_locale_lines.specs.declared.error.CliError.TheVariants as error
+use Rattle.icu_locale_lines.specs.declared.work.listing.Listing.{Listing}
+use Rattle.icu_locale_lines.specs.declared.work.listing.ListOver.{ListOver}
+use Rattle.icu_locale_lines.specs.declared.work.listing.ListOver.TheVariants as over
+use Rattle.icu_locale_lines.specs.declared.work.Tools.TheVariants as tools
+
+-- a command that waits for its first line answers what is behind it
+left_behind : (task : Task) (t : Tables) (o : ListOver) → ListsBy task t o → (input : List ℕ) → text_left task input ≡ after_first_line input
+left_behind (Transform form) t o h input = absurd h
+left_behind Canonicalize t o h input = absurd h
+left_behind Direction t o h input = absurd h
+left_behind Negotiate t o h input = refl
+left_behind (Name chain preferences) t o h input = absurd h
+left_behind Fallback t o h input = absurd h
+left_behind (Serve wishes) t o h input = refl
+left_behind Distance t o h input = absurd h
+
+pub listing_left : (c : LineCommand) (t : Tables) (listing : Listing) → IsListing c t listing → (input : List ℕ)
+    → text_answered c input ≡ after_first_line input
+listing_left c t listing is input = left_behind c.task t listing.over is.over input
+
+-- ---- over tables that may be asked
+
+some_there : {X : Type 0} (P : X → Type 0) (o : Option X) → IsSomeAnd o P → is_some o ≡ true
+some_there P None h = absurd h
+some_there P (Some x) h = refl
+
+lists_by : (task : Task) (t : Tables) (o : ListOver) → ListsBy task t o → ListsOver task t
+lists_by (Transform form) t o h = absurd h
+lists_by Canonicalize t o h = absurd h
+lists_by Direction t o h = absurd h
+lists_by Negotiate t (over.Negotiate e) h = (e, h.0, h.1)
+lists_by Negotiate t (over.Serve how k m) h = absurd h
+lists_by (Name chain preferences) t o h = absurd h
+lists_by Fallback t o h = absurd h
+lists_by (Serve wishes) t (over.Negotiate e) h = absurd h
+lists_by (Serve wishes) t (over.Serve how k m) h =
+    let language = ap is_some h.1.language in
+    let script_region = ap is_some h.1.script_region in
+    let aliases = some_there _ t.aliases h.2 in
+    let matching = ap is_some h.3 in
+    λ i. matching i && ((language i && script_region i) && aliases i)
+lists_by Distance t o h = absurd h
+
+pub lists_over : (c : LineCommand) (t : Tables) (listing : Listing) → IsListing c t listing → ListsOver c.task t
+lists_over c t listing is = lists_by c.task t listing.over is.over
+
+-- ---- the tools over what a line lists
+
+module _ (syntax : Option Syntax) (t : Tables) (input : List ℕ) where
+  pub negotiate_tools : (task : Task) (e : _) (n : Negotiation) → ListsBy task t (over.Negotiate e) → n.expander ≡ e
+      → SpellsAll syntax (listed (first_line input)) n.available → AreToolsOf syntax task t input (tools.Negotiate n)
+  negotiate_tools (Transform form) e n h same spelled = absurd h
+  negotiate_tools Canonicalize e n h same spelled = absurd h
+  negotiate_tools Direction e n h same spelled = absurd h
+  negotiate_tools Negotiate e n h same spelled =
+      (subst (IsExpanderOf t) (sym same) h.0, subst (λ f. AreSettled (likely f)) (sym same) h.1, spelled)
+  negotiate_tools (Name chain preferences) e n h same spelled = absurd h
+  negotiate_tools Fallback e n h same spelled = absurd h
+  negotiate_tools (Serve wishes) e n h same spelled = absurd h
+  negotiate_tools Distance e n h same spelled = absurd h
+
+  pub serve_tools : (task : Task) (how : _) (k : _) (m : _) (s : Service) → ListsBy task t (over.Serve how k m) → s.expander ≡ k.expander
+      → s.rules ≡ k.rules → s.matching ≡ m.now → s.limits ≡ record { threshold = 50; demotion = 5 }
+      → SpellsAll syntax (listed (first_line input)) s.available → AreToolsOf syntax task t input (tools.Serve how s)
+  serve_tools (Transform form) how k m s h expander rules matching limits spelled = absurd h
+  serve_tools Canonicalize how k m s h expander rules matching limits spelled = absurd h
+  serve_tools Direction how k m s h expander rules matching limits spelled = absurd h
+  serve_tools Negotiate how k m s h expander rules matching limits spelled = absurd h
+  serve_tools (Name chain preferences) how k m s h expander rules matching limits spelled = absurd h
+  serve_tools Fallback how k m s h expander rules matching limits spelled = absurd h
+  serve_tools (Serve wishes) how k m s h expander rules matching limits spelled = (
+    h.0,
+    record {
+      expander = subst (IsExpanderOf t) (sym expander) h.1;
+      rules = subst (λ r. IsSomeAnd t.aliases (λ table. AreRules table r)) (sym rules) h.2;
+      matching = h.3 ∙ ap (λ x. Some x) (sym matching);
+      limits = limits;
+    },
+    spelled,
+  )
+  serve_tools Distance how k m s h expander rules matching limits spelled = absurd h
+
+-- a list is refused over settled tables for a fault or for memory
+settled_by : (task : Task) (t : Tables) (e : _) → ListsBy task t (over.Negotiate e) → AreSettled (likely e)
+settled_by (Transform form) t e h = absurd h
+settled_by Canonicalize t e h = absurd h
+settled_by Direction t e h = absurd h
+settled_by Negotiate t e h = h.1
+settled_by (Name chain preferences) t e h = absurd h
+settled_by Fallback t e h = absurd h
+settled_by (Serve wishes) t e h = absurd h
+settled_by Distance t e h = absurd h
+
+faulty : (syntax : Option Syntax) (table : LikelySubtags) (line : List ℕ) (e : CliError) → AreSettled table
+    → IsRefusedList syntax table line e → IsFaultyList syntax line e
+faulty syntax table line error.Usage settled why = absurd why
+faulty syntax table line (error.Tables e) settled why = absurd why
+faulty syntax table line (error.Supplement e) settled why = absurd why
+faulty syntax table line (error.Data e) settled why = absurd why
+faulty syntax table line error.Read settled why = absurd why
+faulty syntax table line error.Write settled why = absurd why
+faulty syntax table line error.Memory settled why = tt
+faulty syntax table line (error.Available e) settled why = why
+faulty syntax table line error.NotSettled settled why = absurd (why.0 settled)
+
+pub faulty_list : (syntax : Option Syntax) (task : Task) (t : Tables) (o : _) (line : List ℕ) (e : CliError)
+    → ListsBy task t (over.Negotiate o) → IsRefusedList syntax (likely o) line e → IsFaultyList syntax line e
+faulty_list syntax task t o line e by why = faulty syntax (likely o) line e (settled_by task t o by) why

@@ -1,0 +1,179 @@
+//! Lines of what is served, and of how far identifiers are from each other.
+ghost use Rattle.std.specs.Prelude.{◌≡◌, ◌<◌, length, IfOk, IfErr, IfSome, OnErr, true};
+ghost use Rattle.icu_locale.specs.LikelyTable.{likely};
+ghost use Rattle.icu_locale_matching.specs.Service.{place_of};
+ghost use Rattle.icu_locale_lines.specs.Answers.{AddsLine, Keeps};
+ghost use Rattle.icu_locale_lines.specs.Lists.{IsListedAnswer};
+ghost use Rattle.icu_locale_lines.specs.Serving.{IsWishAnswer, IsServedLine, IsNearestLine, IsDistanceLine, TellsServed};
+
+use crate::answer::{add_fault, add_known, add_number, add_text};
+use crate::command::Wishes;
+use crate::error::CliError;
+use crate::work::list::{add_match, read_list};
+use crate::work::serving::Distances;
+use icu_locale_core::{LanguageIdentifier, ParseError};
+use icu_locale_extensions::Syntax;
+use icu_locale_matching::laws::what_is_served_is_available;
+use icu_locale_matching::{LocaleServer, Match, distance_of};
+
+/// The answer to a line of wishes, in the room of an earlier one, and whether the line was accepted.
+///
+/// # Errors
+///
+/// `Memory` where memory was refused.
+pub fn answer_wishes(
+    room: &mut Vec<u8>,
+    server: &LocaleServer<'_>,
+    wishes: Wishes,
+    syntax: Option<Syntax>,
+    line: &[u8],
+) -> Result<bool, CliError>
+    ensures answer { IfOk result (IsWishAnswer syntax wishes server.now line.now room.new.items) }
+    ensures refused { IfErr result (λ e. e ≡ CliError.Memory) }
+{
+    room.clear();
+    add_served(room, server, wishes, syntax, line)
+}
+
+// The answer to a line of wishes.
+pub fn add_served(
+    text: &mut Vec<u8>,
+    server: &LocaleServer<'_>,
+    wishes: Wishes,
+    syntax: Option<Syntax>,
+    line: &[u8],
+) -> Result<bool, CliError>
+    ensures answer { IfOk result (AddsLine (IsWishAnswer syntax wishes server.now line.now)
+        text.old.items text.new.items) }
+    ensures refused { IfErr result (λ e. e ≡ CliError.Memory) }
+    ensures kept { OnErr result (Keeps text.old.items text.new.items) }
+{
+    match wishes {
+        Wishes::Header => add_served_for(text, server, line),
+        Wishes::Requests => add_nearest(text, server, syntax, line),
+    }
+}
+
+// The line of what is served for a header.
+fn add_served_for(
+    text: &mut Vec<u8>,
+    server: &LocaleServer<'_>,
+    header: &[u8],
+) -> Result<bool, CliError>
+    ensures answer { IfOk result (AddsLine (IsServedLine server.now header.now)
+        text.old.items text.new.items) }
+    ensures refused { IfErr result (λ e. e ≡ CliError.Memory) }
+    ensures kept { OnErr result (Keeps text.old.items text.new.items) }
+{
+    what_is_served_is_available();
+    match server.serve(*text.allocator(), header) {
+        Ok(place) => add_place(text, server.available(), place),
+        Err(_) => Err(CliError::Memory),
+    }
+}
+
+// The line of the nearest for what a line requests.
+fn add_nearest(
+    text: &mut Vec<u8>,
+    server: &LocaleServer<'_>,
+    syntax: Option<Syntax>,
+    line: &[u8],
+) -> Result<bool, CliError>
+    ensures answer { IfOk result (AddsLine
+        (IsListedAnswer syntax (IsNearestLine server.now) line.now)
+        text.old.items text.new.items) }
+    ensures refused { IfErr result (λ e. e ≡ CliError.Memory) }
+    ensures kept { OnErr result (Keeps text.old.items text.new.items) }
+{
+    match read_list(*text.allocator(), syntax, line) {
+        Ok(requests) => add_nearest_to(text, server, &requests),
+        Err(refusal) => add_fault(text, refusal),
+    }
+}
+
+// The line of the nearest for requests.
+fn add_nearest_to(
+    text: &mut Vec<u8>,
+    server: &LocaleServer<'_>,
+    requests: &[LanguageIdentifier],
+) -> Result<bool, CliError>
+    ensures answer { IfOk result (AddsLine (IsNearestLine server.now requests.now)
+        text.old.items text.new.items) }
+    ensures refused { IfErr result (λ e. e ≡ CliError.Memory) }
+    ensures kept { OnErr result (Keeps text.old.items text.new.items) }
+{
+    what_is_served_is_available();
+    match server.nearest(*text.allocator(), requests) {
+        Ok(found) => add_place(text, server.available(), place_of(found)),
+        Err(_) => Err(CliError::Memory),
+    }
+}
+
+fn place_of(found: Option<Match>) -> Option<usize>
+    ensures { result ≡ place_of found }
+{
+    match found {
+        Some(found) => Some(found.available),
+        None => None,
+    }
+}
+
+// The line of a place, if there is one.
+fn add_place(
+    text: &mut Vec<u8>,
+    available: &[LanguageIdentifier],
+    place: Option<usize>,
+) -> Result<bool, CliError>
+    requires { IfSome place (λ p. p < length available.now) }
+    ensures answer { IfOk result (AddsLine
+        (λ t a. TellsServed available.now place t × (a ≡ true))
+        text.old.items text.new.items) }
+    ensures refused { IfErr result (λ e. e ≡ CliError.Memory) }
+    ensures kept { OnErr result (Keeps text.old.items text.new.items) }
+{
+    match place {
+        Some(place) => add_match(text, place, &available[place]),
+        None => add_known(text, "none\n", true),
+    }
+}
+
+// The answer to a line of two identifiers.
+pub fn add_distance(
+    text: &mut Vec<u8>,
+    distances: &Distances<'_>,
+    syntax: Option<Syntax>,
+    line: &[u8],
+) -> Result<bool, CliError>
+    ensures answer { IfOk result (AddsLine (IsListedAnswer syntax
+        (IsDistanceLine distances.now.matching.now (likely distances.now.expander)) line.now)
+        text.old.items text.new.items) }
+    ensures refused { IfErr result (λ e. e ≡ CliError.Memory) }
+    ensures kept { OnErr result (Keeps text.old.items text.new.items) }
+{
+    match read_list(*text.allocator(), syntax, line) {
+        Ok(identifiers) => add_distance_of(text, distances, &identifiers),
+        Err(refusal) => add_fault(text, refusal),
+    }
+}
+
+// The line of the distance of two identifiers.
+fn add_distance_of(
+    text: &mut Vec<u8>,
+    distances: &Distances<'_>,
+    identifiers: &[LanguageIdentifier],
+) -> Result<bool, CliError>
+    ensures answer { IfOk result (AddsLine (IsDistanceLine distances.now.matching.now
+        (likely distances.now.expander) identifiers.now) text.old.items text.new.items) }
+    ensures refused { IfErr result (λ e. e ≡ CliError.Memory) }
+    ensures kept { OnErr result (Keeps text.old.items text.new.items) }
+{
+    match identifiers {
+        [desired, supported] => {
+            let far = distance_of(&distances.expander, distances.matching, desired, supported);
+            add_number(text, far as usize)?;
+            add_text(text, "\n")?;
+            Ok(true)
+        }
+        _ => add_fault(text, ParseError::InvalidSubtag),
+    }
+}
