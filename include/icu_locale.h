@@ -56,7 +56,7 @@ enum {
 
     /* icu_locale_answer: the line is refused, and `out` begins with the program's answer to that: `?`, a tab and the name
        of the refusal, as `InvalidLanguage`, `InvalidSubtag`, `NoFixedPoint`, `NoSubdivisionFixedPoint`,
-       `Circle` or `IdentifierNotFound`. */
+       `NoValueFixedPoint`, `NoFieldFixedPoint`, `Circle` or `IdentifierNotFound`. */
     ICU_LOCALE_REFUSED = 1,
 
     /* icu_locale_is_settled. */
@@ -90,7 +90,8 @@ enum {
     /* icu_locale_answer, icu_locale_is_settled and icu_locale_available: the tables leave out one that is needed. */
     ICU_LOCALE_TABLE = 8,
 
-    /* icu_locale_negotiate, and icu_locale_answer at `negotiate`: the handle holds no list of what is available. */
+    /* icu_locale_negotiate, and icu_locale_answer at `negotiate`, `serve` and `nearest`: the handle holds no list of what is
+       available. This is told before a table that is left out. */
     ICU_LOCALE_NEGOTIATE = 9,
 
     /* icu_locale_available and icu_locale_negotiate: the text lists something that is no identifier. */
@@ -113,8 +114,9 @@ int32_t icu_locale_open(const uint8_t *json, size_t json_length, struct icu_loca
 
 /*
  * Reads the supplement of the handle's tables of a JSON text, in place of the one that they have: the parents of locales,
- * which `fallback` asks, and rules of language matching. It comes before the first icu_locale_share and
- * icu_locale_available on the handle. Nothing of the text is kept. docs/supplement.schema.json says what it looks like.
+ * which `fallback` asks, rules of language matching, which `serve`, `nearest` and `distance` ask, and aliases of values,
+ * which `canonicalize` in a syntax asks. It comes before the first icu_locale_share and icu_locale_available on the handle.
+ * Nothing of the text is kept. docs/supplement.schema.json says what it looks like.
  *
  * ICU_LOCALE_DONE: the tables have this supplement. What the handle holds besides is as it was.
  * ICU_LOCALE_CLOSED, ICU_LOCALE_JSON, ICU_LOCALE_SHAPE, ICU_LOCALE_SHARED, ICU_LOCALE_MEMORY: all is as it was.
@@ -132,9 +134,11 @@ int32_t icu_locale_share(struct icu_locale *from, struct icu_locale *to);
 
 /*
  * Answers one line. `command` is the program's words, one space between two: `maximize`, `minimize`, `minimize-script`,
- * `canonicalize`, `direction`, `fallback`, `name CHAIN PREFERENCES` as in `name light en`, or `negotiate` where the handle
- * holds a list of what is available. `line` is one line of the program's input without its line feed: an identifier, or at
- * `canonicalize` an identifier, or an identifier, a tab and a value, or at `negotiate` the requests of one reader.
+ * `canonicalize`, `direction`, `fallback`, `distance`, `name CHAIN PREFERENCES` as in `name light en`, or `negotiate`,
+ * `serve` or `nearest` where the handle holds a list of what is available. `line` is one line of the program's input
+ * without its line feed: an identifier, or at `canonicalize` an identifier, or an identifier, a tab and a value; at
+ * `distance` two identifiers, at `negotiate` and `nearest` the requests of one reader, and at `serve` a header
+ * Accept-Language. `serve`, `nearest` and `distance` ask the rules of language matching of the tables' supplement.
  *
  * Before these words may stand `locales`, `bcp47` or `posix`, as in `locales maximize`: the line holds locale identifiers
  * with extensions, or such tags of RFC 5646, or such names of POSIX locales, and the answer has their extensions.
@@ -149,8 +153,8 @@ int32_t icu_locale_share(struct icu_locale *from, struct icu_locale *to);
  * The tables stay. The answer is made in a list that the handle keeps, and then copied to `out`: the first calls take
  * memory for it, and later ones where they want a longer one, or come behind a call that found no memory. What is taken
  * besides is what the program takes: memory for an identifier's variants, for a value and for a list of requests. The
- * first `canonicalize` on a handle also reads the rules, which takes about as long as some hundred calls and is kept
- * until the handle is closed.
+ * first `canonicalize`, `serve` or `nearest` on a handle also reads the rules, which takes about as long as some hundred
+ * calls, and the first `serve` or `nearest` prepares the list; both are kept until the handle is closed.
  */
 int32_t icu_locale_answer(struct icu_locale *handle, const uint8_t *command, size_t command_length, const uint8_t *line,
                           size_t line_length, uint8_t *out, size_t room, size_t *written);

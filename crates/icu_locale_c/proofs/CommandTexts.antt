@@ -13,7 +13,8 @@ use Rattle.icu_locale_lines.specs.laws.Commands.{counted, behind_syntax, without
 use Rattle.icu_locale_lines.specs.declared.command.Command.TheVariants.{Lines}
 use Rattle.icu_locale_lines.specs.declared.command.LineCommand.{LineCommand}
 use Rattle.icu_locale_lines.specs.declared.command.Task.{Task}
-use Rattle.icu_locale_lines.specs.declared.command.Task.TheVariants.{Transform, Canonicalize, Direction, Negotiate, Name, Fallback}
+use Rattle.icu_locale_lines.specs.declared.command.Task.TheVariants.{Transform, Canonicalize, Direction, Negotiate, Name, Fallback, Serve, Distance}
+use Rattle.icu_locale_lines.specs.declared.command.Wishes.TheVariants.{Header, Requests}
 use Rattle.icu_locale_lines.specs.declared.work.form.Transform.TheVariants.{Maximize, Minimize, MinimizeScript}
 use Rattle.icu_locale_extensions.specs.declared.syntax.Syntax.{Syntax}
 use Rattle.icu_locale_c.specs.Calls.{AreNoCommand, Names, NamesNone}
@@ -145,6 +146,9 @@ word_alone Canonicalize = refl
 word_alone Direction = refl
 word_alone Negotiate = refl
 word_alone Fallback = refl
+word_alone (Serve Header) = refl
+word_alone (Serve Requests) = refl
+word_alone Distance = refl
 word_alone (Name chain preferences) = refl
 
 -- a text that is the word of a task is one word

@@ -4,7 +4,8 @@ use Rattle.icu_locale_lines.specs.Answers.{IsAnswer}
 use Rattle.icu_locale_lines.specs.Commands.{has_tables}
 use Rattle.icu_locale_lines.specs.declared.command.Command.TheVariants.{Lines}
 use Rattle.icu_locale_lines.specs.declared.command.LineCommand.{LineCommand}
-use Rattle.icu_locale_lines.specs.declared.command.Task.TheVariants.{Negotiate}
+use Rattle.icu_locale_lines.specs.declared.command.Task.{Task}
+use Rattle.icu_locale_lines.specs.declared.command.Task.TheVariants.{Negotiate, Serve}
 use Rattle.icu_locale_lines.specs.declared.work.Work.{Work}
 use Rattle.icu_locale_c.specs.Held.{Held, IsWorkOver}
 use Rattle.icu_locale_c.specs.declared.refusal.Refusal.{Refusal}
@@ -17,9 +18,15 @@ pub record IsLineOf (h : Held) (asked : LineCommand) (line whole : List ℕ) (ac
   pub work_of : IsWorkOver asked h work
   pub answer : IsAnswer work line whole accepted
 
+-- a task asks for a list of what is available
+abbrev pub asks_list : Task → Bool
+asks_list Negotiate = true
+asks_list (Serve wishes) = true
+asks_list task = false
+
 -- why there is none
 abbrev pub IsRefusedLine : Held → LineCommand → Refusal → Type 0
 IsRefusedLine h asked refusal.Memory = has_tables (Lines asked) h.tables ≡ true
 IsRefusedLine h asked refusal.Table = has_tables (Lines asked) h.tables ≡ false
-IsRefusedLine h asked refusal.Negotiate = (asked.task ≡ Negotiate) × (h.available ≡ None)
+IsRefusedLine h asked refusal.Negotiate = (asks_list asked.task ≡ true) × (h.available ≡ None)
 IsRefusedLine h asked e = ⊥

@@ -15,8 +15,8 @@ use Rattle.icu_locale_lines.specs.Lists.{is_space}
 use Rattle.icu_locale_lines.specs.WholeRuns.{TellsSettled}
 use Rattle.icu_locale_lines.specs.declared.command.Command.TheVariants.{Settled, Lines}
 use Rattle.icu_locale_lines.specs.declared.command.LineCommand.{LineCommand}
-use Rattle.icu_locale_lines.specs.declared.command.Task.TheVariants.{Negotiate}
 use Rattle.icu_locale_lines.specs.declared.work.Work.{Work}
+use Rattle.icu_locale_c.specs.Asked.{asks_list}
 use Rattle.icu_locale_c.specs.Held.{Held, IsWorkOver, without_list}
 use Rattle.icu_locale_c.specs.declared.refusal.Refusal.{Refusal}
 use Rattle.icu_locale_c.specs.declared.refusal.Refusal.TheVariants as refusal
@@ -61,9 +61,9 @@ pub record NeedsTables (t : Tables) (command : List ℕ) (held : Bool) : Type 0 
   pub named : Names command asked
   pub are_held : has_tables (Lines asked) t ≡ held
 
--- the text names a negotiation, in a syntax or none
-abbrev pub NamesNegotiate : List ℕ → Type 0
-NamesNegotiate command = (c : LineCommand) × Names command c × (c.task ≡ Negotiate)
+-- the text names a task that asks for a list, in a syntax or none
+abbrev pub NamesListed : List ℕ → Type 0
+NamesListed command = (c : LineCommand) × Names command c × (asks_list c.task ≡ true)
 
 -- why there is no answer, whatever the room
 abbrev pub HasNoAnswer : Option Held → List ℕ → Refusal → Type 0
@@ -72,7 +72,7 @@ HasNoAnswer held command refusal.Memory = IsSomeAnd held (λ h. NeedsTables h.ta
 HasNoAnswer held command refusal.Command = IsSomeAnd held (λ h. NamesNone command)
 HasNoAnswer held command refusal.Table = IsSomeAnd held (λ h. NeedsTables h.tables command false)
 HasNoAnswer held command refusal.Negotiate =
-    IsSomeAnd held (λ h. NamesNegotiate command × (h.available ≡ None))
+    IsSomeAnd held (λ h. NamesListed command × (h.available ≡ None))
 HasNoAnswer held command e = ⊥
 
 -- why nothing is answered: too little room tells how much is wanted, and all else tells no length

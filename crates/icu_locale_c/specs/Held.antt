@@ -1,5 +1,5 @@
 -- What a handle holds: tables, and a list of what is available where one was given.
-use Rattle.std.specs.Prelude.{◌≡◌, List, [], Option, Some, None, IsSomeAnd, option_map}
+use Rattle.std.specs.Prelude.{◌≡◌, List, [], Option, Some, None, IfSome, IsSomeAnd, option_map}
 use Rattle.std.specs.Coded.{Coded, code_by, coded×, coded_list, coded_option}
 use Rattle.icu_locale_core.specs.contracts.langid.LanguageIdentifier.{the_row as identifier_row}
 use Rattle.icu_locale_core.specs.declared.langid.LanguageIdentifier.{LanguageIdentifier}
@@ -11,14 +11,20 @@ use Rattle.icu_locale.specs.LikelyTable.{likely}
 use Rattle.icu_locale.specs.LikelySubtags.{AreSettled}
 use Rattle.icu_locale.specs.declared.expander.LocaleExpander.{LocaleExpander}
 use Rattle.icu_locale.specs.declared.negotiator.available.Available.{Available}
+use Rattle.icu_locale_matching.specs.Service.{Service, IsPreparedOver}
+use Rattle.icu_locale_matching.specs.Service as served
+use Rattle.icu_locale_matching.specs.declared.server.ServedLocales.{ServedLocales}
+use Rattle.icu_provider.specs.declared.aliases.Aliases.{Aliases}
+use Rattle.icu_provider.specs.declared.matching.LanguageMatching.{LanguageMatching}
 use Rattle.icu_tables.specs.contracts.tables.Tables.{the_row as tables_row}
 use Rattle.icu_tables.specs.declared.tables.Tables.{Tables}
 use Rattle.icu_locale_lines.specs.Loads.{IsExpanderOf}
-use Rattle.icu_locale_lines.specs.Commands.{AreToolsOf}
+use Rattle.icu_locale_lines.specs.Commands.{AreToolsOf, IsServerOf}
 use Rattle.icu_locale_lines.specs.declared.command.LineCommand.{LineCommand}
+use Rattle.icu_locale_c.specs.declared.kept.Kept.{Kept}
 use Rattle.icu_locale_extensions.specs.declared.syntax.Syntax.{Syntax}
 use Rattle.icu_locale_lines.specs.declared.command.Task.{Task}
-use Rattle.icu_locale_lines.specs.declared.command.Task.TheVariants.{Negotiate}
+use Rattle.icu_locale_lines.specs.declared.command.Task.TheVariants.{Negotiate, Serve}
 use Rattle.icu_locale_lines.specs.declared.work.Work.{Work}
 use Rattle.icu_locale_lines.specs.declared.work.Tools.{Tools}
 use Rattle.icu_locale_lines.specs.declared.work.Tools.TheVariants as tools
@@ -56,15 +62,36 @@ pub record IsListOver (t : Tables) (list : Available) : Type 0 where
   pub over : IsExpanderOf t expander
   pub made : (e : LocaleExpander) → IsExpanderOf t e → IsMadeOver (likely e) list
 
+-- what is served was prepared of a list, over the tables and the rules that were read of them
+pub record IsServedOver (t : Tables) (read : ReadRules) (list : Available) (s : ServedLocales)
+    : Type 0 where
+  pub available : served.identifiers_of s ≡ identifiers_of list
+  pub over : (e : LocaleExpander) (table : Aliases) (m : LanguageMatching) → IsExpanderOf t e
+      → t.aliases ≡ Some table → t.supplement.matching ≡ Some m
+      → IsPreparedOver (likely e) (rules_over read table) m s
+
+-- what is kept was made over the tables and the list
+pub record AreKept (t : Tables) (list : Option Available) (kept : Kept) : Type 0 where
+  pub rules : IfSome kept.rules (AreRulesOf t)
+  pub served : IfSome kept.served (λ s. IsSomeAnd kept.rules
+      (λ read. IsSomeAnd list (λ a. IsServedOver t read a s)))
+
 -- a negotiation over what is held: the likely tables are settled, and the list is the one that is held
 pub record IsNegotiationOf (h : Held) (n : Negotiation) : Type 0 where
   pub expander : IsExpanderOf h.tables n.expander
   pub settled : AreSettled (likely n.expander)
   pub available : h.available ≡ Some n.available
 
--- the tools of a task over what is held; those of `negotiate` are over the list
+-- a server over what is held: over its tables, and its list
+pub record IsServerOver (h : Held) (s : Service) : Type 0 where
+  pub tables : IsServerOf h.tables s
+  pub available : h.available ≡ Some s.available
+
+-- the tools of a task over what is held; those of `negotiate`, `serve` and `nearest` are over the
+-- list
 abbrev pub AreToolsOver : Option Syntax → Task → Held → Tools → Type 0
 AreToolsOver syntax Negotiate h (tools.Negotiate n) = IsNegotiationOf h n
+AreToolsOver syntax (Serve wishes) h (tools.Serve how s) = (how ≡ wishes) × IsServerOver h s
 AreToolsOver syntax task h w = AreToolsOf syntax task h.tables [] w
 
 -- the work of a command over what is held

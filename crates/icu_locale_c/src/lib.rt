@@ -7,6 +7,7 @@ ghost use Rattle.icu_locale_c.specs.Negotiations.{IsAvailableCall, IsNegotiatedC
 ghost use Rattle.icu_locale_c.specs.declared.refusal.Refusal.{Refusal};
 
 mod handle;
+mod kept;
 mod lines;
 mod loose;
 mod negotiations;

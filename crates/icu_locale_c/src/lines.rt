@@ -1,37 +1,39 @@
 //! The program's line for a line, over what a handle keeps.
-ghost use Rattle.std.specs.Prelude.{◌≡◌, ◌<◌, ◌-◌, take, length, IfOk, IfErr, IfSome};
+ghost use Rattle.std.specs.Prelude.{◌≡◌, ◌<◌, ◌-◌, take, length, Option, IfOk, IfErr, IfSome};
 ghost use Rattle.icu_locale.specs.LikelyTable.{likely};
-ghost use Rattle.icu_locale.specs.RuleSet.{rules_over};
+ghost use Rattle.icu_locale.specs.RuleSet.{lent};
+ghost use Rattle.icu_locale.specs.declared.negotiator.available.Available.{Available};
 ghost use Rattle.icu_locale_lines.specs.Answers.{IsCanonicalAnswer};
 ghost use Rattle.icu_locale_c.specs.Asked.{IsLineOf, IsRefusedLine};
 ghost use Rattle.icu_locale_c.specs.Calls.{Writes, unended};
-ghost use Rattle.icu_locale_c.specs.Held.{AreRulesOf, IsListOver, held, without_list};
+ghost use Rattle.icu_locale_c.specs.Held.{AreKept, AreRulesOf, IsListOver, held, without_list};
 
+use crate::kept::{Kept, read_rules, wishes_line};
 use crate::negotiations::requests_line;
 use crate::refusal::Refusal;
-use icu_locale::{Available, CanonicalizerRef, LocaleExpander, ReadRules};
+use icu_locale::{Available, CanonicalizerRef};
 use icu_locale_extensions::Syntax;
 use icu_locale_lines::{
     CliError, LineCommand, Loaded, Task, Tools, Transform, Work, answer_locale, load_expander,
 };
-use icu_provider::Aliases;
-use icu_tables::Tables;
+use icu_locale_values::{ValueAliases, WholeCanonicalizer};
+use icu_tables::{Supplement, Tables};
 use std::alloc::Global;
 
-// The line of a command, in the room of an earlier one, and whether the line that was read is accepted. Rules are read
-// where they are asked for and none are kept, and are kept then.
+// The line of a command, in the room of an earlier one, and whether the line that was read is accepted. What is asked for
+// beside the tables is made where it is not kept, and is kept then.
 pub fn line_of(
     alloc: Global,
     tables: &Tables,
-    rules: &mut Option<ReadRules>,
+    kept: &mut Kept,
     list: &Option<Available>,
     asked: &LineCommand,
     room: &mut Vec<u8>,
     line: &[u8],
 ) -> Result<bool, Refusal>
-    requires rules { IfSome rules.old (AreRulesOf tables.now) }
+    requires kept { AreKept tables.now list.now kept.old }
     requires list { IfSome list.now (IsListOver tables.now) }
-    ensures rules { IfSome rules.new (AreRulesOf tables.now) }
+    ensures kept { AreKept tables.now list.now kept.new }
     ensures answered { IfOk result (IsLineOf (held tables.now list.now) asked.now line.now
         room.new.items) }
     ensures refused { IfErr result (IsRefusedLine (held tables.now list.now) asked.now) }
@@ -41,7 +43,11 @@ pub fn line_of(
             Some(list) => requests_line(tables, list, asked, room, line),
             None => Err(Refusal::Negotiate),
         },
-        Task::Canonicalize => locale_line(alloc, tables, rules, asked, room, line),
+        Task::Serve(wishes) => match list {
+            Some(list) => wishes_line(alloc, tables, list, kept, wishes, asked, room, line),
+            None => Err(Refusal::Negotiate),
+        },
+        Task::Canonicalize => locale_line(alloc, tables, kept, asked, room, line),
         Task::Transform(form) => form_line(tables, form, asked, room, line),
         _ => plain_line(alloc, tables, asked, room, line),
     }
@@ -90,7 +96,7 @@ fn plain_line(
             Ok(accepted) => Ok(accepted),
             Err(_) => Err(Refusal::Memory),
         },
-        Ok(Loaded::Negotiate(_, _)) => Err(Refusal::Negotiate),
+        Ok(Loaded::Listing(_)) => Err(Refusal::Negotiate),
         Err(CliError::Data(_)) => Err(Refusal::Table),
         Err(CliError::NotSettled) => Err(Refusal::Negotiate),
         Err(_) => Err(Refusal::Memory),
@@ -101,14 +107,15 @@ fn plain_line(
 fn locale_line(
     alloc: Global,
     tables: &Tables,
-    rules: &mut Option<ReadRules>,
+    kept: &mut Kept,
     asked: &LineCommand,
     room: &mut Vec<u8>,
     line: &[u8],
 ) -> Result<bool, Refusal>
-    requires rules { IfSome rules.old (AreRulesOf tables.now) }
+    requires rules { IfSome kept.old.rules (AreRulesOf tables.now) }
     requires task { asked.now.task ≡ Task.Canonicalize }
-    ensures rules { IfSome rules.new (AreRulesOf tables.now) }
+    ensures kept { (list : Option Available) → AreKept tables.now list kept.old
+        → AreKept tables.now list kept.new }
     ensures answered { IfOk result (IsLineOf (without_list tables.now) asked.now line.now
         room.new.items) }
     ensures refused { IfErr result (IsRefusedLine (without_list tables.now) asked.now) }
@@ -119,31 +126,37 @@ fn locale_line(
     let Some(aliases) = &tables.aliases else {
         return Err(Refusal::Table);
     };
-    if let Some(read) = &*rules {
-        return line_by(read, aliases, expander, asked.syntax, room, line);
+    read_rules(alloc, tables, aliases, kept)?;
+    match &kept.rules {
+        Some(read) => {
+            let rules = CanonicalizerRef::over(read, aliases, expander);
+            line_by(rules, &tables.supplement, asked.syntax, room, line)
+        }
+        None => Err(Refusal::Memory),
     }
-    let Ok(read) = ReadRules::read(alloc, aliases) else {
-        return Err(Refusal::Memory);
-    };
-    let outcome = line_by(&read, aliases, expander, asked.syntax, room, line);
-    *rules = Some(read);
-    outcome
 }
 
-// The same by rules that were read.
+// The same by rules, and the aliases of values of a supplement.
 fn line_by(
-    read: &ReadRules,
-    aliases: &Aliases,
-    expander: LocaleExpander<'_>,
+    rules: CanonicalizerRef<'_>,
+    supplement: &Supplement,
     syntax: Option<Syntax>,
     room: &mut Vec<u8>,
     line: &[u8],
 ) -> Result<bool, Refusal>
-    ensures answered { IfOk result (IsCanonicalAnswer syntax (likely expander.entry)
-        (rules_over read.now aliases.now) line.now room.new.items) }
+    ensures answered { IfOk result (IsCanonicalAnswer syntax (record {
+      likely = likely rules.entry.expander;
+      rules = lent rules.entry.rules;
+      keywords = supplement.now.keywords;
+      fields = supplement.now.fields;
+    }) line.now room.new.items) }
     ensures refused { IfErr result (λ e. e ≡ Refusal.Memory) }
 {
-    let canonicalizer = CanonicalizerRef::over(read, aliases, expander);
+    let values = ValueAliases {
+        keywords: &supplement.keywords,
+        fields: &supplement.fields,
+    };
+    let canonicalizer = WholeCanonicalizer { rules, values };
     match answer_locale(room, &canonicalizer, syntax, line) {
         Ok(accepted) => Ok(accepted),
         Err(_) => Err(Refusal::Memory),

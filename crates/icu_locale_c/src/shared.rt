@@ -1,26 +1,27 @@
 //! Tables that several handles have, and what one of them keeps beside them.
 ghost use Rattle.std.specs.Prelude.{◌≡◌, Some, IfOk, IfErr, IfSome};
 ghost use Rattle.icu_locale_c.specs.Calls.{IsCall, IsSettledCall, IsSupplemented};
-ghost use Rattle.icu_locale_c.specs.Held.{Held, AreRulesOf, IsListOver, held, held_code, without_list};
+ghost use Rattle.icu_locale_c.specs.Held.{Held, AreKept, IsListOver, held, held_code, without_list};
 ghost use Rattle.icu_locale_c.specs.Negotiations.{IsListed, IsMet, IsRefusedListing, IsRefusedNegotiation};
 
+use crate::kept::Kept;
 use crate::lines::{line_of, put_line};
 use crate::negotiations::{negotiate, read_available};
 use crate::refusal::Refusal;
 use crate::words::read_command;
-use icu_locale::{Available, ReadRules};
+use icu_locale::Available;
 use icu_locale_lines::load_expander;
 use icu_tables::{Supplement, TableError, Tables};
 use std::alloc::Global;
 use std::marker::Model;
 use std::sync::Arc;
 
-// Tables, the rules that were read of them and the list of what is available, where there are any, and the room of the
-// last answer.
+// Tables, the list of what is available, where there is one, what was made of both when it was asked for, and the room
+// of the last answer.
 pub struct Shared {
     tables: Arc<Tables>,
-    rules: Option<ReadRules>,
     available: Option<Available>,
+    kept: Kept,
     room: Vec<u8>,
 }
 
@@ -31,7 +32,7 @@ impl Model for Shared {
 
     ghost view = { λ s. held s.tables.value s.available };
 
-    ghost invariant = { λ s. IfSome s.rules (AreRulesOf s.tables.value)
+    ghost invariant = { λ s. AreKept s.tables.value s.available s.kept
         × IfSome s.available (IsListOver s.tables.value) };
 }
 
@@ -39,8 +40,8 @@ impl Drop for Shared {
     fn drop(self) {
         let Shared {
             tables: _,
-            rules: _,
             available: _,
+            kept: _,
             room: _,
         } = self;
     }
@@ -70,6 +71,7 @@ impl Shared {
         match Arc::get_mut(&mut self.tables) {
             Some(tables) => {
                 tables.set_supplement(supplement);
+                self.kept.served = None;
                 Ok(())
             }
             None => Err(Refusal::Shared),
@@ -140,7 +142,7 @@ impl Shared {
         let accepted = match line_of(
             alloc,
             &self.tables,
-            &mut self.rules,
+            &mut self.kept,
             &self.available,
             &asked,
             &mut self.room,
@@ -167,8 +169,11 @@ fn boxed(
 {
     let shared = Shared {
         tables,
-        rules: None,
         available,
+        kept: Kept {
+            rules: None,
+            served: None,
+        },
         room: Vec::new(alloc),
     };
     match Box::new(alloc, shared) {
