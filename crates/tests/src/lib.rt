@@ -12,6 +12,8 @@ mod constructors;
 #[cfg(test)]
 mod faults;
 #[cfg(test)]
+mod full_names;
+#[cfg(test)]
 mod known;
 #[cfg(test)]
 mod languages;
@@ -28,6 +30,8 @@ mod providers;
 #[cfg(test)]
 mod refusing;
 #[cfg(test)]
+mod served_streams;
+#[cfg(test)]
 mod serving;
 #[cfg(test)]
 mod shown;
@@ -41,5 +45,7 @@ mod supplements;
 mod tables;
 #[cfg(test)]
 mod texts;
+#[cfg(test)]
+mod values;
 #[cfg(test)]
 mod walks;

@@ -5,8 +5,11 @@
 pub mod budget;
 pub mod canonicalizers;
 mod chains;
+mod full_names;
 mod identifiers;
 mod locales;
 mod names;
 mod runs;
+mod serving;
 mod tables;
+mod values;

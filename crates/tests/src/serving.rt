@@ -11,7 +11,7 @@ use icu_tables::Tables;
 use std::alloc::Global;
 use std::process::Abort;
 
-fn identifiers(rt: &impl Abort, alloc: Global, texts: &[&str]) -> Vec<LanguageIdentifier> {
+pub fn identifiers(rt: &impl Abort, alloc: Global, texts: &[&str]) -> Vec<LanguageIdentifier> {
     let mut list = Vec::new(alloc);
     for text in texts {
         let pushed = list.push(identifier(rt, alloc, text));

@@ -235,6 +235,7 @@ fn naming(rt: &impl Abort, alloc: Global, tables: &Tables) {
         tables: lent,
         chain: NameChain::Light,
         preferences,
+        extensions: None,
     };
     shows(rt, alloc, &naming, "Kurmanji");
 }

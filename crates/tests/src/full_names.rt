@@ -1,0 +1,156 @@
+//! Names of locale identifiers, with what their extensions say.
+use crate::known::{english, sample};
+use crate::values::whole_identifier;
+use icu_locale_extensions::LocaleIdentifier;
+use icu_locale_full_names::LocaleDisplayName;
+use icu_locale_names::{LanguageIdentifierDisplayNameOptions, NameChain};
+use icu_provider::{DataError, ExtensionNames};
+use icu_tables::{Supplement, Tables};
+use std::alloc::Global;
+use std::process::Abort;
+
+// Names of CLDR in English, as a supplement has them.
+const CALLED: &str = "{\"extension_names\":{\"en\":{\
+    \"pattern\":[0,\": \",1],\
+    \"types\":{\
+        \"ca\":{\"buddhist\":\"Buddhist Calendar\",\
+            \"islamic-civil\":\"Islamic Calendar (tabular, civil epoch)\"},\
+        \"h0\":{\"hybrid\":\"Hybrid\"},\
+        \"kn\":{\"\":\"Sort Digits Numerically\"},\
+        \"nu\":{\"thai\":\"Thai Digits\"}},\
+    \"keys\":{\"cu\":\"Currency\",\"kr\":\"Script/Block Reordering\",\"t\":\"Transform\"},\
+    \"values\":{\
+        \"cu\":{\"eur\":\"€\"},\
+        \"kr\":{\"digit\":\"Digits\",\"latn\":\"Latin\"}}}}}";
+
+// Texts, what each is called, and where raw parts stand in that. The first are of CLDR's own suite.
+static NAMES: [(&str, &str, &[(usize, usize)]); 15] = [
+    (
+        "en-u-nu-thai-ca-islamic-civil",
+        "English (Islamic Calendar [tabular, civil epoch], Thai Digits)",
+        &[],
+    ),
+    ("en-u-cu-eur", "English (Currency: €)", &[]),
+    ("en", "English", &[]),
+    ("it-Latn", "Italian (Latin)", &[]),
+    ("it-t-en", "Italian (Transform: English)", &[]),
+    ("it-t-en-h0-hybrid", "Italian (Hybrid: English)", &[]),
+    ("it-t-h0-hybrid", "Italian", &[]),
+    ("it-t-en-latn", "Italian (Transform: English [Latin])", &[]),
+    (
+        "it-t-en-u-ca-buddhist",
+        "Italian (Transform: English, Buddhist Calendar)",
+        &[],
+    ),
+    ("it-u-kn", "Italian (Sort Digits Numerically)", &[]),
+    (
+        "it-u-kr-latn-digit-zzz",
+        "Italian (Script/Block Reordering: Latin, Digits, zzz)",
+        &[(49, 52)],
+    ),
+    (
+        "it-u-abc-ca-coptic-chinese",
+        "Italian (abc, ca: coptic-chinese)",
+        &[(9, 12), (14, 16), (18, 32)],
+    ),
+    (
+        "it-a-bcd-z-yyy-x-mine",
+        "Italian (a: bcd, x: mine, z: yyy)",
+        &[(9, 10), (12, 15), (17, 18), (20, 24), (26, 27), (29, 32)],
+    ),
+    ("qaa-u-ca-buddhist", "qaa (Buddhist Calendar)", &[(0, 3)]),
+    (
+        "it-Latn-u-ca-buddhist",
+        "Italian (Latin, Buddhist Calendar)",
+        &[],
+    ),
+];
+
+// What extensions are called in English.
+pub fn called(rt: &impl Abort, alloc: Global) -> Supplement {
+    Supplement::from_json(alloc, CALLED.as_bytes()).expect(rt, "a supplement")
+}
+
+pub fn name_of(
+    rt: &impl Abort,
+    alloc: Global,
+    tables: &Tables,
+    names: &ExtensionNames,
+    subject: &LocaleIdentifier,
+) -> Result<LocaleDisplayName, DataError> {
+    LocaleDisplayName::try_new_unstable(
+        alloc,
+        tables,
+        names,
+        NameChain::Light,
+        english(rt),
+        subject,
+        LanguageIdentifierDisplayNameOptions::default(),
+    )
+}
+
+fn is_called(
+    rt: &impl Abort,
+    alloc: Global,
+    tables: &Tables,
+    names: &ExtensionNames,
+    row: (&str, &str, &[(usize, usize)]),
+) {
+    let (text, wanted, spans) = row;
+    let subject = whole_identifier(rt, alloc, text);
+    let name = name_of(rt, alloc, tables, names, &subject).expect(rt, text);
+    assert!(rt; name.as_str() == wanted);
+    assert!(rt; name.raw_spans() == spans);
+    let shown = format!(in alloc; "{name}").expect(rt, "memory");
+    assert!(rt; shown.as_str() == wanted);
+    let mut written: Vec<u8> = Vec::new(alloc);
+    let mut parts = Vec::new(alloc);
+    let report = name
+        .try_write_to_parts(&mut written, &mut parts)
+        .expect(rt, "memory");
+    assert!(rt; report.is_err() == !spans.is_empty());
+    assert!(rt; parts.as_slice() == spans);
+    let is_raw = name.append_to(&mut written).expect(rt, "memory");
+    assert!(rt; is_raw == !spans.is_empty());
+    let (front, back) = written.as_slice().split_at(written.len() / 2);
+    assert!(rt; front == wanted.as_bytes());
+    assert!(rt; back == wanted.as_bytes());
+}
+
+#[test]
+fn extensions_are_named(rt: HostRuntime) {
+    let alloc = rt.alloc();
+    let tables = sample(&rt, alloc);
+    let supplement = called(&rt, alloc);
+    let names = supplement
+        .extension_names
+        .get(&english(&rt).locale)
+        .expect(&rt, "English");
+    for row in &NAMES {
+        is_called(&rt, alloc, &tables, names, *row);
+    }
+}
+
+// A name of many keywords is as long as they say.
+#[test]
+fn many_extensions_are_named(rt: HostRuntime) {
+    let alloc = rt.alloc();
+    let tables = sample(&rt, alloc);
+    let supplement = called(&rt, alloc);
+    let names = supplement
+        .extension_names
+        .get(&english(&rt).locale)
+        .expect(&rt, "English");
+    let mut text = String::from_str(alloc, "it-u").expect(&rt, "memory");
+    for first in 'a'..='z' {
+        for second in 'a'..='z' {
+            text.push_str("-").expect(&rt, "memory");
+            text.push(first).expect(&rt, "memory");
+            text.push(second).expect(&rt, "memory");
+            text.push_str("-value").expect(&rt, "memory");
+        }
+    }
+    let subject = whole_identifier(&rt, alloc, text.as_str());
+    let name = name_of(&rt, alloc, &tables, names, &subject).expect(&rt, "a name");
+    assert!(&rt; name.raw_spans().len() > 1_300);
+}
