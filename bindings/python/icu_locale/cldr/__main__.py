@@ -4,4 +4,12 @@ import sys
 
 from .command import main
 
-sys.exit(main(argparse.ArgumentParser, "python3 -m icu_locale.cldr", sys.argv[1:]))
+
+class Words(argparse.ArgumentParser):
+    """The words of the command: a wrong one is told in one line, with status 2."""
+
+    def error(self, message):
+        self.exit(2, f"{self.prog}: {message}; --help says which words there are\n")
+
+
+sys.exit(main(Words, "python3 -m icu_locale.cldr", sys.argv[1:]))

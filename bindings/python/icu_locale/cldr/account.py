@@ -14,3 +14,9 @@ class Account:
     def lines(self):
         """A line for each reason: how many there are, and their names."""
         return [f"{reason} ({len(names)}): {', '.join(names)}" for reason, names in self.names_by_reason.items()]
+
+    def summary(self, name):
+        """One line, which the tool of a name says in place of those; none where nothing is left out."""
+        if self.names_by_reason:
+            count = sum(map(len, self.names_by_reason.values()))
+            yield f"{name}: {count} things of CLDR are left out or held otherwise; --account names them"

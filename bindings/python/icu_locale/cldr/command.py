@@ -5,12 +5,13 @@ import sys
 from os import PathLike
 from typing import Iterable, Optional, Union
 
+from .._refusals import cut
 from .account import Account
 from .aliases import read_aliases
 from .completion import complete
 from .directions import directions
 from .exemplars import add_exemplars, exemplar_rows
-from .further import further_forms
+from .extension_names import LARGE
 from .inheritance import Inheritance
 from .likely import read_likely
 from .names import Names, name_rows, note_others
@@ -21,20 +22,19 @@ from .supplement import supplement
 
 DESCRIPTION = """\
 Writes the JSON tables of one run of icu_locale_cli, on one line: likely subtags, aliases and directions, and for each
-LOCALE its names, its names in menus, the patterns that put them together, and its exemplar sets. On standard error it
-says what is left out and why: a reason, how many there are, and their names.
+LOCALE its names, its names in menus, the patterns that put them together, and its exemplar sets. What is left out, or
+held otherwise than CLDR has it, is counted in one line on standard error. With --account each reason has a line there:
+why, how many there are, and their names.
 
 The program looks up what it is asked and falls back from no locale to another. So what a locale inherits in CLDR,
 from its parents up to `root`, is written as its own.
 
-With --further it writes no tables, but the further forms by which a request may be served: as JSON on one line, an
-object with a list for each request that has some. The packages for Python and Node.js take it where they serve readers.
-
-With --supplement it writes the supplement of the tables, as JSON on one line: the parents of locales, and the rules by
-which the nearest locale is found."""
+With --supplement it writes the supplement of the tables, as JSON on one line: the parents of locales, the rules by which
+a reader is served the nearest locale, the aliases of values at the keys of `u` and of `t`, and for each LOCALE what parts
+of extensions are called, so that a name has what they say."""
 EPILOG = """\
 status: 0, or 2 where the words are wrong, or where the folder or a locale is not there
-example: ({name} /usr/share/unicode/cldr/common en; echo zh-TW) | ./icu_locale_cli name light en json"""
+example: ({name} /usr/share/unicode/cldr/common en; echo zh-TW) | icu_locale_cli name light en json"""
 
 
 def arguments(parser_type, name, words):
@@ -43,18 +43,20 @@ def arguments(parser_type, name, words):
                          formatter_class=argparse.RawDescriptionHelpFormatter)
     parser.add_argument("--settled", action="store_true",
                         help="leave out the likely subtags that keep the table from being settled")
-    parser.add_argument("--further", action="store_true",
-                        help="write the further forms of requests instead of tables; there is no LOCALE then")
     parser.add_argument("--supplement", action="store_true",
-                        help="write the supplement of the tables instead of tables; there is no LOCALE then")
+                        help="write the supplement of the tables instead of tables")
+    parser.add_argument("--without", action="append", default=[], choices=sorted(LARGE),
+                        help="leave out the names of subdivisions or of time zones, which are most of what is written")
+    parser.add_argument("--account", action="store_true",
+                        help="say on standard error what is left out, and why")
     parser.add_argument("common", metavar="COMMON",
                         help="CLDR's folder `common`, such as /usr/share/unicode/cldr/common of unicode-cldr-core")
-    parser.add_argument("locales", metavar="LOCALE", nargs="*", help="a locale of CLDR, such as en or zh-Hant-HK")
+    parser.add_argument("locales", metavar="LOCALE", nargs="*", default=[], help="a locale of CLDR, such as en or zh-Hant-HK")
     chosen = parser.parse_args(words)
-    if chosen.further and (chosen.locales or chosen.settled or chosen.supplement):
-        parser.error("--further goes with no LOCALE and not with --settled or --supplement")
-    if chosen.supplement and (chosen.locales or chosen.settled):
-        parser.error("--supplement goes with no LOCALE and not with --settled")
+    if chosen.supplement and chosen.settled:
+        parser.error("--supplement does not go with --settled")
+    if chosen.without and not chosen.supplement:
+        parser.error("--without goes with --supplement alone")
     return chosen
 
 
@@ -85,7 +87,7 @@ def tables_of_locales(common, locales, account):
 
 
 def on_one_line(tables):
-    """The JSON text of tables or of further forms, as bytes."""
+    """The JSON text of tables or of a supplement, as bytes."""
     return json.dumps(tables, ensure_ascii=False, separators=(",", ":")).encode()
 
 
@@ -94,7 +96,7 @@ def read_locales(words):
     for word in words:
         locale = read_locale(word)
         if locale is None:
-            raise NoCldr(f"{word} is no locale that a table could name: a language, a script if any, a region if any")
+            raise NoCldr(f"{cut(word)} is no locale that a table could name: a language, a script if any, a region if any")
         yield locale
 
 
@@ -104,25 +106,25 @@ def json_of(folder: Union[str, "PathLike[str]"], locales: Iterable[str], is_sett
     return on_one_line(tables_of(Common(folder), list(read_locales(locales)), is_settled, account or Account()))
 
 
-def supplement_of(folder: Union[str, "PathLike[str]"], account: Optional[Account] = None) -> bytes:
-    """The JSON text of the supplement of a CLDR folder, on one line. The account takes what is left out."""
-    return on_one_line(supplement(Common(folder), account or Account()))
+def supplement_of(folder: Union[str, "PathLike[str]"], account: Optional[Account] = None,
+                  locales: Iterable[str] = (), without: Iterable[str] = ()) -> bytes:
+    """The JSON text of the supplement of a CLDR folder, on one line, with what parts of extensions are called in the
+    languages of some locales. The account takes what is left out."""
+    return on_one_line(supplement(Common(folder), account or Account(), list(read_locales(locales)), tuple(without)))
 
 
 def main(parser_type, name, words):
     """Runs the command, and answers its status."""
     chosen, account = arguments(parser_type, name, words), Account()
     try:
-        if chosen.further:
-            text = on_one_line(further_forms(Common(chosen.common), account))
-        elif chosen.supplement:
-            text = supplement_of(chosen.common, account)
+        if chosen.supplement:
+            text = supplement_of(chosen.common, account, chosen.locales, chosen.without)
         else:
             text = json_of(chosen.common, chosen.locales, chosen.settled, account)
     except NoCldr as fault:
-        print(f"cldr-tables: {fault}", file=sys.stderr)
+        print(f"{name}: {fault}", file=sys.stderr)
         return 2
     sys.stdout.buffer.write(text + b"\n")
-    for line in account.lines():
+    for line in account.lines() if chosen.account else account.summary(name):
         print(line, file=sys.stderr)
     return 0

@@ -57,8 +57,19 @@ class Inheritance:
 
         `rows_of` gives the rows of one file: a key and its element each.
         """
+        return self.resolved_of(self.chain(locale), locale, rows_of, account)
+
+    def resolved_in(self, folder, locale, rows_of, account):
+        """The same of the files of another folder, which need not be there."""
+        files = [f"{folder}/{name}.xml" for name in reversed(self.names(str(locale).replace("-", "_")))]
+        documents = [self.common.document(name) for name in files if self.common.has(name)]
+        return self.resolved_of(documents, locale, rows_of, account)
+
+    @staticmethod
+    def resolved_of(documents, locale, rows_of, account):
+        """The texts of documents by key, each in the place of an earlier one."""
         found = {}
-        for document in self.chain(locale):
+        for document in documents:
             for key, element in rows_of(document):
                 text = element.text or ""
                 if element.get("draft") not in FIT_DRAFTS:

@@ -36,6 +36,10 @@ class Common:
     def has(self, name):
         return (self.folder / name).is_file()
 
+    def names(self, folder):
+        """The names of the XML files of a folder in it, in order; none where there is no such folder."""
+        return sorted(path.name for path in (self.folder / folder).glob("*.xml"))
+
     def has_locale(self, name):
         return self.has(f"main/{name}.xml")
 

@@ -1,5 +1,6 @@
-"""The supplement of the tables: the parents of locales (UTS #35 Part 1, section 4.2, Parent Locales), and the rules by which
-a reader is served the nearest locale (section 4.4, Language Matching).
+"""The supplement of the tables: the parents of locales (UTS #35 Part 1, section 4.2, Parent Locales), the rules by which
+a reader is served the nearest locale (section 4.4, Language Matching), the aliases of values, which `values.py` reads, and
+what parts of extensions are called, which `extension_names.py` reads.
 
 A parent is written under the key by which chains come to it: without a script that the language and the region imply, but
 with the script where it depends on the region, as `zh-Hant-HK`.
@@ -10,12 +11,13 @@ kind that the rules tell apart, since a distance from a group is the greatest to
 """
 import re
 
-from .further import groups_of, rows_of, within
+from .extension_names import ExtensionNames
 from .inheritance import ROOT, Inheritance
 from .likely import read_likely
 from .account import Account
 from .source import NoCldr
 from .subtags import UNKNOWN_LANGUAGE, UNKNOWN_REGION, UNKNOWN_SCRIPT, Identifier, read_locale, read_subtag
+from .values import value_aliases
 
 TO_ROOT = "parents: those that are the root, to which a chain comes anyhow"
 NO_LOCALE = "parents: locales or parents of another form than a language, a script if any and a region if any"
@@ -25,9 +27,17 @@ LEVELS = ("language", "script", "region")
 ANY = "*"
 
 
-def supplement(common, account):
-    """The supplement of a CLDR folder."""
-    return {"parents": parents(common, account), "matching": matching(common, account)}
+def supplement(common, account, locales=(), without=()):
+    """The supplement of a CLDR folder, with what parts of extensions are called in the languages of some locales."""
+    found = {"parents": parents(common, account), "matching": matching(common, account)} | value_aliases(common, account)
+    return found | names_of_extensions(common, locales, account, without) if locales else found
+
+
+def names_of_extensions(common, locales, account, without=()):
+    """The member of what parts of extensions are called, by locale."""
+    names = ExtensionNames(common, Inheritance(common), account, without)
+    tables = {str(locale): names.of(locale) for locale in locales}
+    return {"extension_names": {locale: table for locale, table in tables.items() if table}}
 
 
 # ---- parents
@@ -111,6 +121,24 @@ def matching(common, account):
     }
 
 
+def groups_of(common):
+    """Which regions each group of regions contains."""
+    found = {}
+    for containment in common.document("supplemental/supplementalData.xml").iter("territoryContainment"):
+        for row in containment.iter("group"):
+            found.setdefault(row.get("type"), []).extend(row.get("contains").split())
+    return found
+
+
+def rows_of(matches, count):
+    """The rows of so many subtags: what is desired and what is there, how far they are apart, and whether it holds one
+    way alone."""
+    for row in matches.iter("languageMatch"):
+        pair = [row.get(name).split("_") for name in ("desired", "supported")]
+        if all(len(subtags) == count for subtags in pair):
+            yield pair, int(row.get("distance")), row.get("oneway") == "true"
+
+
 def note_uneven(matches, account):
     """Says which rules have two forms of unlike levels, which no level of the tables holds."""
     for row in matches.iter("languageMatch"):
@@ -148,7 +176,14 @@ def members(groups, value):
 
 def leaves(groups, regions):
     """Some regions, and what the groups among them contain, without the groups."""
-    return {region for region in within(groups, regions) if region not in groups}
+    found = set()
+    waiting = list(regions)
+    while waiting:
+        region = waiting.pop()
+        if region not in found:
+            found.add(region)
+            waiting += groups.get(region, ())
+    return found - set(groups)
 
 
 def read_form(form, sets):
