@@ -1,6 +1,7 @@
 # `make` proves the two programs and what they stand on, and leaves them here; `make c` proves the calls for C, and
-# leaves their libraries in out/c; `make test` checks every crate; `make install` copies the programs and their manual
-# pages, and what `make c` has left; `make wheel`, `make npm`, `make crate` and `make deb` leave packages in out/packages;
+# leaves their libraries in out/c; `make wasm` leaves the same calls as a module for WebAssembly in out/wasm;
+# `make test` checks every crate; `make install` copies the programs and their manual pages, and what `make c` has left;
+# `make wheel`, `make npm`, `make crate` and `make deb` leave packages in out/packages;
 # `make compare` measures icu_locale_cli beside others, once it is built; `make clean` takes away what was built, and the
 # next `make` then proves all from nothing.
 PROGRAMS = icu_locale_cli icu_locale_stream
@@ -8,7 +9,7 @@ PREFIX = /usr/local
 LIBDIR = $(PREFIX)/lib
 C_FILES = libicu_locale.a libicu_locale.so libicu_locale.so.0 pkgconfig/icu_locale.pc
 
-.PHONY: all c wheel npm crate deb test compare install uninstall clean
+.PHONY: all c wasm wheel npm crate deb test compare install uninstall clean
 .SILENT: test
 
 all:
@@ -17,7 +18,13 @@ all:
 c: $(PROGRAMS)
 	tools/build-c
 
-wheel npm crate: out/c/libicu_locale.a
+wasm:
+	tools/build-wasm
+
+wheel crate: out/c/libicu_locale.a
+	tools/package $@
+
+npm: out/c/libicu_locale.a out/wasm/icu_locale.wasm
 	tools/package $@
 
 deb: $(PROGRAMS) out/c/libicu_locale.a
@@ -44,6 +51,9 @@ $(PROGRAMS):
 out/c/libicu_locale.a: | $(PROGRAMS)
 	tools/build-c
 
+out/wasm/icu_locale.wasm: | $(PROGRAMS)
+	tools/build-wasm
+
 install: $(PROGRAMS)
 	install -d "$(DESTDIR)$(PREFIX)/bin" "$(DESTDIR)$(PREFIX)/share/man/man1"
 	install -m 755 $(PROGRAMS) "$(DESTDIR)$(PREFIX)/bin"
@@ -63,6 +73,7 @@ uninstall:
 
 clean:
 	rm -rf out crates/*/out $(PROGRAMS)
-	rm -rf bindings/python/build bindings/python/*.egg-info bindings/rust/target bindings/node/icu_locale.node \
-	    bindings/node/example.json
+	rm -rf bindings/python/build bindings/python/*.egg-info bindings/rust/target bindings/node/addon \
+	    bindings/node/icu_locale.wasm bindings/node/browser.mjs bindings/node/example.json \
+	    bindings/node/example-supplement.json bindings/node/data examples/page/node_modules
 	find tools bench .ci bindings -name __pycache__ -prune -exec rm -rf {} +
