@@ -1,7 +1,8 @@
-"""Puts the version and the library into the package; pyproject.toml says the rest.
+"""Puts the version, the library and CLDR's data into the package; pyproject.toml says the rest.
 
 The library is the one that `make c` leaves in out/c, or that the variable ICU_LOCALE_LIBRARY names. Where that is empty,
-none is put in, and the package takes the one of the system.
+none is put in, and the package takes the one of the system. The variable ICU_LOCALE_SYSTEM names the system of a library
+that is for another one, as linux_aarch64. The data is what tools/package-data has left in out/data.
 """
 import os
 from pathlib import Path
@@ -18,10 +19,11 @@ except ImportError:  # before setuptools 70.1
 TOP = Path(__file__).resolve().parents[2]
 VERSION = TOP / "VERSION"
 LIBRARY = os.environ.get("ICU_LOCALE_LIBRARY", str(TOP / "out" / "c" / "libicu_locale.so.0"))
+DATA = TOP / "out" / "data"
 
 
 class Files(build_py):
-    """The files of the package, with two of the repository."""
+    """The files of the package, with those of the repository."""
 
     def run(self):
         super().run()
@@ -31,13 +33,15 @@ class Files(build_py):
             if not Path(LIBRARY).exists():
                 raise SystemExit(f"there is no {LIBRARY}; make c at the top of the repository makes it")
             self.copy_file(LIBRARY, str(package / "libicu_locale.so.0"), preserve_mode=False)
+        if DATA.exists():
+            self.copy_tree(str(DATA), str(package / "data"), preserve_mode=False)
 
 
 class Wheel(bdist_wheel):
     """A wheel for any Python of one system, since the library is no module of Python."""
 
     def get_tag(self):
-        return ("py3", "none", super().get_tag()[2])  # what is last names the system
+        return ("py3", "none", os.environ.get("ICU_LOCALE_SYSTEM") or super().get_tag()[2])  # what is last names the system
 
 
 class WithLibrary(Distribution):

@@ -6,30 +6,34 @@
 ...     tables.maximize("zh-TW"), tables.direction("ar"), tables.name("it-US", "en")
 ('zh-Hant-TW', 'rtl', 'Italian (United States)')
 
-What is served to a reader whose browser sends the header Accept-Language:
+What is served to a reader whose browser sends the header Accept-Language, by the match rules of a supplement:
 
->>> with Tables.from_json(TABLES) as tables:
+>>> from icu_locale.example import SUPPLEMENT
+>>> with Tables.from_json(TABLES, SUPPLEMENT) as tables:
 ...     tables.serve("fr, zh-TW;q=0.5", ["en", "zh-Hant"])
 'zh-Hant'
 
-`from_cldr` makes tables of CLDR's data, and `from_json` reads them from a text. The library libicu_locale.so.0 is looked
-for where the variable ICU_LOCALE_LIBRARY says, then in this package, then in out/c of its repository, where `make c`
-leaves it, and then where the system looks for libraries. It is loaded where it is first wanted.
+`Tables.cldr(["en", "de"])` opens CLDR's data, which this package has inside, with the names of those locales.
+`from_cldr` makes tables of a folder of CLDR, and `from_json` reads them from a text.
+
+The library libicu_locale.so.0 is looked for where the variable ICU_LOCALE_LIBRARY says, then in this package, then in
+out/c of its repository, where `make c` leaves it, and then where the system looks for libraries. It is loaded where it is
+first wanted.
 """
-from ._accept import Headers
+from ._answers import Canonical, Direction, Syntax
 from ._calls import version
-from ._forms import Further
+from ._menu import MenuRow
 from ._negotiator import Match, Negotiator
 from ._refusals import (Circle, Closed, InvalidLanguage, InvalidList, InvalidSubtag, LineRefused, MemoryRefused, NameMissing,
-                        NoCldr, NoCommand, NoFixedPoint, NoJson, NoList, NoSubdivisionFixedPoint, NoTables, NotSettled,
-                        Refused, TableMissing, TablesShared, Text)
-from ._switcher import Switcher
-from ._tables import Canonical, Direction, Syntax, Tables
+                        NoCldr, NoCommand, NoFieldFixedPoint, NoFixedPoint, NoJson, NoList, NoSubdivisionFixedPoint,
+                        NoTables, NotSettled, NoValueFixedPoint, Refused, TableMissing, TablesShared, Text)
+from ._switcher import Headers, Switcher
+from ._tables import Tables
 
-__all__ = ["Tables", "Negotiator", "Switcher", "Match", "Canonical", "Direction", "Syntax", "Headers", "Further", "Text",
-           "Refused", "Closed", "MemoryRefused", "NoJson", "NoTables", "NoCommand", "TableMissing", "NoList", "InvalidList",
+__all__ = ["Tables", "Negotiator", "Switcher", "Match", "MenuRow", "Canonical", "Direction", "Syntax", "Headers", "Text", "Refused",
+           "Closed", "MemoryRefused", "NoJson", "NoTables", "NoCommand", "TableMissing", "NoList", "InvalidList",
            "NotSettled", "TablesShared", "NoCldr", "LineRefused", "InvalidLanguage", "InvalidSubtag", "NoFixedPoint",
-           "NoSubdivisionFixedPoint", "Circle", "NameMissing"]
+           "NoSubdivisionFixedPoint", "NoValueFixedPoint", "NoFieldFixedPoint", "Circle", "NameMissing"]
 
 __version__ = version()
 

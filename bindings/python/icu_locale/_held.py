@@ -12,10 +12,18 @@ from types import TracebackType
 from typing import Any, List, NoReturn, Optional, SupportsIndex, Tuple, Type, TypeVar
 
 from ._calls import SIZE, Handle, calls
-from ._refusals import Closed, InvalidList, LineRefused, Text, as_bytes, line_refusal, list_refusal, refuse
+from ._refusals import (Closed, InvalidList, LineRefused, TableMissing, Text, as_bytes, line_refusal, list_refusal,
+                        refuse)
 
 ACCEPTED = 0
 ROOM = 3
+# What else a command needs of the tables comes first: another command that needs the rest, and then what it needs itself.
+NEEDS_FIRST = {b"canonicalize": b"maximize", b"direction": b"maximize", b"distance": b"maximize", b"serve": b"canonicalize",
+               b"nearest": b"canonicalize"}
+NEEDS = {b"canonicalize": "The tables leave out `aliases`, which are needed.",
+         b"direction": "The tables leave out `direction`, which is needed."}
+NO_LIKELY = "The tables leave out `likely_language` or `likely_script_region`, which are needed."
+NO_MATCH_RULES = "The tables have no match rules: the supplement that has them is missing."
 
 
 class Slot:
@@ -54,7 +62,20 @@ class Held(NoCopies):
     _rooted = threading.RLock()
 
     def __init__(self) -> None:
-        """It is closed."""
+        """Refuses a call of the class, which would have no tables."""
+        raise TypeError(f"{type(self).__name__}() is no call: {self._MADE_BY}")
+
+    # How an object of the class is made.
+    _MADE_BY = "it is made of tables"
+
+    @classmethod
+    def _closed(cls: Type[_Self]) -> _Self:
+        """One that is closed."""
+        made = cls.__new__(cls)
+        made._begin()
+        return made
+
+    def _begin(self) -> None:
         self._calls = calls()
         self._root = Slot()
         self._free: List[Slot] = []
@@ -138,13 +159,25 @@ class Held(NoCopies):
             return told.decode()
         if number == LineRefused.number:
             raise line_refusal(told.decode().split("\t")[1], line)
+        if number == TableMissing.number:
+            raise self._table_missing(words.split(b" ")[-1])
         refuse(number)
 
-    def _list_refusal(self, listed: Tuple[Text, ...]) -> InvalidList:
+    def _table_missing(self, task: bytes) -> TableMissing:
+        """What the tables leave out that a task needs, as the answer of another task tells."""
+        if task in NEEDS_FIRST:
+            try:
+                self.answer(NEEDS_FIRST[task], b"und")
+            except TableMissing as fault:
+                return TableMissing(str(fault))
+            return TableMissing(NEEDS.get(task, NO_MATCH_RULES))
+        return TableMissing(NO_LIKELY)
+
+    def _list_refusal(self, listed: Tuple[Text, ...], command: bytes = b"maximize") -> InvalidList:
         """Why a list is refused: the first that is refused as a line."""
         for place, identifier in enumerate(listed):
             try:
-                self.answer(b"maximize", identifier)
+                self.answer(command, identifier)
             except LineRefused:
                 return list_refusal(place, identifier)
         raise AssertionError(listed)

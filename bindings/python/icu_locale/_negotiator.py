@@ -1,9 +1,11 @@
 """What is available, and which request of a reader it meets."""
-from typing import Iterable, NamedTuple, Optional, Tuple
+from typing import Iterable, NamedTuple, Optional, Tuple, TypeVar
 
 from ._calls import SIZE
-from ._held import Held, Slot
-from ._refusals import InvalidList, Text, as_bytes, list_refusal, refuse
+from ._held import NO_LIKELY, Held, Slot
+from ._refusals import TEXTS, InvalidList, TableMissing, Text, as_bytes, list_refusal, refuse
+
+Tag = TypeVar("Tag", bound=Text)
 
 MET = 0
 NOT_MET = 1
@@ -16,11 +18,16 @@ class Match(NamedTuple):
     available: int
 
 
-def listed(identifiers: Iterable[Text]) -> Tuple[Text, ...]:
-    """The identifiers of a list. In a line, one that is empty or holds a space would be none, or two."""
-    if isinstance(identifiers, (str, bytes, bytearray, memoryview)):
+def gathered(identifiers: Iterable[Tag]) -> Tuple[Tag, ...]:
+    """The identifiers of a list, which is no one text."""
+    if isinstance(identifiers, TEXTS):
         raise TypeError("one text is no list of identifiers")
-    found = tuple(identifiers)
+    return tuple(identifiers)
+
+
+def listed(identifiers: Iterable[Tag]) -> Tuple[Tag, ...]:
+    """The same, each looked at. In a line, one that is empty or holds a space would be none, or two."""
+    found = gathered(identifiers)
     for place, identifier in enumerate(found):
         text = as_bytes(identifier)
         if not text or b" " in text:
@@ -43,9 +50,10 @@ class Negotiator(Held):
     ('1\\tzh-Hant', 'zh-Hant-TW\\tM')
     """
 
-    def __init__(self) -> None:
-        """A negotiator that is closed; `Tables.negotiator` opens one."""
-        super().__init__()
+    _MADE_BY = "`negotiator` of tables gives one"
+
+    def _begin(self) -> None:
+        super()._begin()
         self._available: Tuple[Text, ...] = ()
         self._line = b""
 
@@ -55,6 +63,8 @@ class Negotiator(Held):
             number = self._calls.available(tables.handle, self._line, len(self._line), slot.handle)
         finally:
             self._calls.close(tables.handle)
+        if number == TableMissing.number:
+            raise TableMissing(NO_LIKELY)
         if number:
             refuse(number)
         return slot

@@ -2,6 +2,10 @@
 from typing import Dict, NoReturn, Type, Union
 
 Text = Union[str, bytes]
+# What is taken for a text.
+TEXTS = (str, bytes, bytearray, memoryview)
+# How much of a text a message shows.
+SHOWN = 60
 
 
 class Refused(Exception):
@@ -47,7 +51,8 @@ class TableMissing(Refused, LookupError):
 
 
 class NoList(Refused, ValueError):
-    """The command is `negotiate`, and there is no list of what is available: `Tables.negotiator` is given one."""
+    """The command is `negotiate`, `serve` or `nearest`, and there is no list of what is available: `Tables.negotiator` is
+    given one."""
 
     number = 9
 
@@ -73,7 +78,8 @@ class TablesShared(Refused, ValueError):
 
 
 class NoCldr(Refused, LookupError):
-    """A file of CLDR or a locale is not there, or does not hold what its place promises."""
+    """A file of CLDR or a locale is not there, or does not hold what its place promises; or the package has no data
+    inside."""
 
 
 class LineRefused(Refused, ValueError):
@@ -107,6 +113,18 @@ class NoSubdivisionFixedPoint(LineRefused):
     name = "NoSubdivisionFixedPoint"
 
 
+class NoValueFixedPoint(LineRefused):
+    """The aliases of the values at a key of the extension `u` come to no end."""
+
+    name = "NoValueFixedPoint"
+
+
+class NoFieldFixedPoint(LineRefused):
+    """The aliases of the values at a key of the extension `t` come to no end."""
+
+    name = "NoFieldFixedPoint"
+
+
 class Circle(LineRefused):
     """The explicit parents behind a locale lead round in a circle."""
 
@@ -125,7 +143,8 @@ class NameMissing(LineRefused, LookupError):
 _BY_NUMBER: Dict[int, Type[Refused]] = {each.number: each for each in (
     Closed, MemoryRefused, NoJson, NoTables, NoCommand, TableMissing, NoList, InvalidList, NotSettled, TablesShared)}
 _BY_NAME: Dict[str, Type[LineRefused]] = {each.name: each for each in (
-    InvalidLanguage, InvalidSubtag, NoFixedPoint, NoSubdivisionFixedPoint, Circle, NameMissing)}
+    InvalidLanguage, InvalidSubtag, NoFixedPoint, NoSubdivisionFixedPoint, NoValueFixedPoint, NoFieldFixedPoint, Circle,
+    NameMissing)}
 
 
 def refuse(number: int) -> NoReturn:
@@ -136,12 +155,12 @@ def refuse(number: int) -> NoReturn:
 
 def line_refusal(name: str, line: Text) -> LineRefused:
     """What is raised for a line that is refused."""
-    return _BY_NAME.get(name, LineRefused)(f"{name}: {line!r}")
+    return _BY_NAME.get(name, LineRefused)(f"{name}: {shown(line)}")
 
 
 def list_refusal(place: int, identifier: Text) -> InvalidList:
     """What is raised for something in a list that is no identifier."""
-    refusal = InvalidList(f"what stands at place {place} is no identifier: {identifier!r}")
+    refusal = InvalidList(f"what stands at place {place} is no identifier: {shown(identifier)}")
     refusal.place, refusal.identifier = place, identifier
     return refusal
 
@@ -150,6 +169,18 @@ def as_bytes(text: Text) -> bytes:
     """The bytes of a text; half of a surrogate pair becomes what no call accepts."""
     if isinstance(text, str):
         return text.encode("utf-8", "surrogatepass")
-    if isinstance(text, (bytes, bytearray, memoryview)):
+    if isinstance(text, TEXTS):
         return bytes(text)
     raise TypeError(f"a text is a str or bytes, and no {type(text).__name__}")
+
+
+def cut(text: str) -> str:
+    """A text in a message: of a long one the beginning, and its length."""
+    return text if len(text) <= SHOWN else f"{text[:SHOWN]}.. of {len(text)} characters"
+
+
+def shown(text: Text) -> str:
+    """The same with the quotation marks of Python."""
+    kept = text if isinstance(text, (str, bytes)) else as_bytes(text)
+    what = "characters" if isinstance(kept, str) else "bytes"
+    return repr(kept) if len(kept) <= SHOWN else f"{kept[:SHOWN]!r}.. of {len(kept)} {what}"

@@ -1,86 +1,65 @@
-"""What is served to a reader, by the headers of a request."""
-import re
-from typing import List, Optional, Tuple
+"""What is available, and which of it is served to a reader."""
+from typing import Generic, Iterable, Tuple, TypeVar, Union
 
-from ._accept import Headers, read_headers
-from ._forms import Forms, Further
 from ._held import NoCopies
-from ._negotiator import Negotiator
-from ._refusals import LineRefused, Text
+from ._negotiator import Negotiator, Tag, line_of, listed
+from ._refusals import TEXTS, LineRefused, Text, as_bytes
 
-EXTENSIONS = re.compile(r"[-_][A-Za-z0-9][-_].*", re.DOTALL)
-
-
-def without_extensions(form: str) -> Optional[str]:
-    """A canonical form up to its first extension, or to what is for private use; None where no language is named before."""
-    bare = EXTENSIONS.sub("", form)
-    return None if bare == "und" != form else bare
+# The header Accept-Language of a request, the lines of several, or None where there is none.
+Headers = Union[None, Text, Iterable[Text]]
+Default = TypeVar("Default")
 
 
-class Switcher(NoCopies):
+def header_of(headers: Headers) -> bytes:
+    """The bytes of one header: several are one, and none is empty."""
+    each: Iterable[Text] = () if headers is None else (headers,) if isinstance(headers, TEXTS) else headers
+    return b", ".join(map(as_bytes, each))
+
+
+class Switcher(NoCopies, Generic[Tag, Default]):
     """What is available, by `Tables.switcher`, and which of it is served. Any number of threads may use it at once.
 
-    It never serves another script than a tag asks for, but for `*`, and another language only where `further` says so.
-
-    >>> from icu_locale.example import TABLES
-    >>> switcher = Tables.from_json(TABLES).switcher(["en", "zh-Hant", "sr_latn"])
-    >>> switcher.serve("sh;q=0.8, fr"), switcher.serve("zh-TW-u-co-stroke"), switcher.serve("zh-CN")
-    ('sr_latn', 'zh-Hant', None)
+    >>> from icu_locale.example import SUPPLEMENT, TABLES
+    >>> switcher = Tables.from_json(TABLES, SUPPLEMENT).switcher(["en", "zh_hant", "sr_latn"], default="en")
+    >>> switcher.serve("sh;q=0.8, fr"), switcher.serve("zh-TW-u-co-stroke"), switcher.serve("fr")
+    ('sr_latn', 'zh_hant', 'en')
     """
 
-    def __init__(self, negotiator: Negotiator, available: Tuple[Text, ...], further: Optional[Further] = None) -> None:
-        """`negotiator` holds the canonical forms of what is available; `Tables.switcher` makes both."""
-        self._negotiator, self._available, self._further = negotiator, available, further
-        self._forms = Forms(self._told, negotiator.available, further)
+    def __init__(self, negotiator: Negotiator, available: Tuple[Tag, ...], default: Default) -> None:
+        """`negotiator` holds what is available; `Tables.switcher` makes both."""
+        self._negotiator, self._available, self._default = negotiator, available, default
 
     @property
-    def available(self) -> Tuple[Text, ...]:
+    def available(self) -> Tuple[Tag, ...]:
         """The identifiers that are available, as they were handed in."""
         return self._available
 
-    def serve(self, headers: Headers) -> Optional[Text]:
-        """What is served for one header Accept-Language, or for several; None where nothing is met.
+    def serve(self, headers: Headers) -> Union[Tag, Default]:
+        """What is served for one header Accept-Language, or for several; the default where nothing is near enough."""
+        return self._told(b"serve", header_of(headers))
 
-        The tags are those of RFC 5646, asked by their `q`, the greatest first. `*` is met by the first of what is available, but for what
-        begins with a tag of `q=0`. What is no tag is passed over, and so is what stands behind the hundredth tag.
+    def nearest(self, requests: Iterable[Text]) -> Union[Tag, Default]:
+        """What is nearest to requests, the most wanted first; the default where nothing is near enough.
+
+        >>> from icu_locale.example import SUPPLEMENT, TABLES
+        >>> switcher = Tables.from_json(TABLES, SUPPLEMENT).switcher(["en", "en-GB", "zh_hant"])
+        >>> switcher.nearest(["fr", "en-AU"]), switcher.nearest(["yue-u-co-stroke"]), switcher.nearest(["fr"])
+        ('en-GB', 'zh_hant', None)
+        >>> switcher.nearest(["fr", "en-"])
+        Traceback (most recent call last):
+            ...
+        icu_locale.InvalidList: what stands at place 1 is no identifier: 'en-'
         """
-        wishes = read_headers(headers)
-        unwanted = [tag for tag in map(self._canonical, wishes.refused) if tag]
-        for tag in wishes.wanted:
-            place = self._first_but(unwanted) if tag == "*" else self._met(tag, unwanted)
-            if place is not None:
-                return self._available[place]
-        return None
+        asked = listed(requests)
+        try:
+            return self._told(b"locales nearest", line_of(asked))
+        except LineRefused:
+            raise self._negotiator._list_refusal(asked, b"locales maximize") from None
 
-    def is_over(self, available: Tuple[Text, ...], further: Optional[Further]) -> bool:
-        """Whether it was made with these identifiers, and with this very object of further forms."""
-        return self._available == available and self._further is further
+    def _told(self, command: bytes, line: bytes) -> Union[Tag, Default]:
+        told = self._negotiator.answer(command, line)
+        return self._default if told == "none" else self._available[int(told.partition("\t")[0])]
 
     def close(self) -> None:
         """Lets the list and the tables go. A second call does nothing."""
         self._negotiator.close()
-
-    def _met(self, tag: str, unwanted: List[str]) -> Optional[int]:
-        canonical = self._canonical(tag)
-        match = self._negotiator.negotiate(self._forms.of(canonical, unwanted)) if canonical else None
-        return match.available if match else None
-
-    def _canonical(self, tag: str) -> Optional[str]:
-        """The canonical form without extensions; None where the tag is none, names no language, or the rules come to no
-        end."""
-        if "\t" in tag:
-            return None
-        try:
-            return without_extensions(self._told("bcp47 canonicalize", tag))
-        except LineRefused:
-            return None
-
-    def _told(self, command: str, identifier: Text) -> str:
-        return self._negotiator.answer(command, identifier).partition("\t")[0]
-
-    def _first_but(self, unwanted: List[str]) -> Optional[int]:
-        """The first of what is available that no unwanted tag is the beginning of."""
-        for place, tag in enumerate(self._negotiator.available):
-            if not any(f"{tag!s}-".startswith(f"{each}-") for each in unwanted):
-                return place
-        return None

@@ -1,5 +1,6 @@
 """The examples of the package's texts, wrong uses, and lists."""
 import doctest
+import json
 import os
 import re
 import subprocess
@@ -10,7 +11,7 @@ from pathlib import Path
 import icu_locale
 from icu_locale import (Circle, Closed, InvalidLanguage, InvalidList, InvalidSubtag, LineRefused, Match, NameMissing,
                         Negotiator, NoCommand, NoJson, NoList, NoTables, NotSettled, Refused, TableMissing, Tables)
-from icu_locale.example import TABLES
+from icu_locale.example import SUPPLEMENT, TABLES
 
 UNSETTLED = """{"likely_language": {"und": ["en", "Latn", "US"], "language": {"xx": ["Zzzz", "DE"]}},
  "likely_script_region": {}}"""
@@ -23,7 +24,8 @@ TOP = Path(__file__).resolve().parents[3]
 class Examples(unittest.TestCase):
     def test_examples(self):
         runner, names = doctest.DocTestRunner(), {name: getattr(icu_locale, name) for name in icu_locale.__all__}
-        for name, shown in [("icu_locale", icu_locale), *names.items()]:
+        inherited = [("Tables", each) for each in Tables.__mro__[1:-1]]
+        for name, shown in [("icu_locale", icu_locale), *names.items(), *inherited]:
             for example in doctest.DocTestFinder().find(shown, name, module=False, globs=dict(names)):
                 runner.run(example)
         self.assertEqual(runner.failures, 0)
@@ -33,7 +35,7 @@ class Examples(unittest.TestCase):
         self.assertEqual(icu_locale.__version__, (TOP / "VERSION").read_text().strip())
 
     def test_missing_library(self):
-        words = [sys.executable, "-c", "import icu_locale\ntry: icu_locale.Tables()\nexcept OSError as fault: print(fault)"]
+        words = [sys.executable, "-c", "import icu_locale\ntry: icu_locale.Tables.from_json('{}')\nexcept OSError as fault: print(fault)"]
         path = os.pathsep.join(each for each in sys.path if each)
         for missing in ("/missing.so", "libm.so.6"):
             told = subprocess.run(words, env={**os.environ, "PYTHONPATH": path, "ICU_LOCALE_LIBRARY": missing},
@@ -43,7 +45,7 @@ class Examples(unittest.TestCase):
 
     def test_names(self):
         types = [each for name in icu_locale.__all__ if isinstance(each := getattr(icu_locale, name), type)]
-        self.assertEqual(len(types), len(icu_locale.__all__) - 5)
+        self.assertEqual(len(types), len(icu_locale.__all__) - 4)
         for each in types:
             self.assertTrue(each.__doc__)
             self.assertEqual(each.__module__, "icu_locale")
@@ -110,20 +112,62 @@ class WrongUses(unittest.TestCase):
         tables = Tables.from_json(TABLES)
         tables.close()
         tables.close()
-        for call in (tables.share, lambda: tables.is_settled, lambda: tables.direction("en"), Tables().share):
+        for call in (tables.share, lambda: tables.is_settled, lambda: tables.direction("en")):
             self.assertRaises(Closed, call)
+
+    def test_classes(self):
+        for each, constructor in ((Tables, "Tables.from_json"), (Negotiator, "`negotiator`")):
+            with self.assertRaisesRegex(TypeError, constructor):
+                each()
+        with Tables.from_json(TABLES) as tables:
+            self.assertRaises(TypeError, tables.maximize, "de", "posix")
 
     def test_numbers(self):
         with Tables.from_json("{}") as tables:
             self.assertRaises(TableMissing, tables.maximize, "en")
             self.assertRaises(TableMissing, lambda: tables.is_settled)
             self.assertRaises(TableMissing, tables.negotiator, ["en-"])
-            self.assertRaises(NoList, tables.answer, "negotiate", "en")
+            for command in ("negotiate", "serve", "nearest", "locales nearest"):
+                self.assertRaises(NoList, tables.answer, command, "en")
             self.assertRaises(NoCommand, tables.name, "en", "en", "no chain")
             self.assertRaises(Refused, tables.answer, b"\xff", b"\xff")
 
+    def test_missing_members(self):
+        likely = json.dumps({name: json.loads(TABLES)[name] for name in ("likely_language", "likely_script_region")})
+        wanted = {"{}": dict.fromkeys(("maximize", "canonicalize", "direction", "fallback"), "likely_script_region"),
+                  likely: {"canonicalize": "`aliases`", "direction": "`direction`"}}
+        for text, members in wanted.items():
+            with Tables.from_json(text, SUPPLEMENT) as tables:
+                for call, member in members.items():
+                    for command in (call, f"locales {call}"):
+                        with self.assertRaisesRegex(TableMissing, member):
+                            tables.answer(command, "en")
+        with Tables.from_json("{}") as tables:
+            for call in (lambda: tables.is_settled, lambda: tables.negotiator(["en"])):
+                with self.assertRaisesRegex(TableMissing, "likely_script_region"):
+                    call()
+        with Tables.from_json(likely) as tables:
+            with self.assertRaisesRegex(TableMissing, "match rules"):
+                tables.distance("en", "de")
+            with self.assertRaisesRegex(TableMissing, "`aliases`"):
+                tables.serve("en", ["en"])
+
+    def test_long_texts(self):
+        with Tables.from_json(TABLES) as tables:
+            for text in ("e" * 1_000_000, b"e" * 1_000_000):
+                for call in (tables.maximize, lambda it: tables.name(it, "en"), lambda it: tables.negotiator(["en", it]),
+                             lambda it: tables.name("it", it), lambda it: tables.negotiator(["en"]).negotiate([it])):
+                    with self.assertRaises(Refused) as refused:
+                        call(text)
+                    self.assertLess(len(str(refused.exception)), 300)
+                with self.assertRaises(ValueError) as wrong:
+                    tables.maximize("en", syntax=text)
+                self.assertLess(len(str(wrong.exception)), 300)
+            with self.assertRaisesRegex(InvalidLanguage, r"^InvalidLanguage: 'e{60}'\.\. of 61 characters$"):
+                tables.maximize("e" * 61)
+
     def test_no_texts(self):
-        tables = Tables.from_json(TABLES)
+        tables = Tables.from_json(TABLES, SUPPLEMENT)
         negotiator = tables.negotiator(["en"])
         for wrong in NO_TEXTS:
             for call in (Tables.from_json, tables.maximize, tables.minimize, tables.canonicalize, tables.direction,
@@ -131,7 +175,9 @@ class WrongUses(unittest.TestCase):
                          lambda text: tables.name(text, "en"), lambda text: tables.name("en", text),
                          lambda text: tables.name("en", "en", text), lambda text: tables.answer(text, "en"),
                          lambda text: tables.negotiator([text]), lambda text: negotiator.negotiate(["en", text]),
-                         lambda text: tables.serve("en", [text]), lambda text: tables.serve([text], ["en"])):
+                         lambda text: tables.serve("en", [text]), lambda text: tables.serve([text], ["en"]),
+                         lambda text: tables.nearest([text], ["en"]), lambda text: tables.distance("en", text),
+                         lambda text: tables.are_same("en", text)):
                 self.assertRaises(TypeError, call, wrong)
         self.assertEqual(tables.maximize(bytearray(b"zh")), tables.maximize(memoryview(b"zh")))
 
@@ -193,8 +239,7 @@ class Negotiators(unittest.TestCase):
         self.assertEqual(negotiator.negotiate(["en-US"]), Match(0, 0))
         negotiator.close()
         negotiator.close()
-        for closed in (negotiator, Negotiator()):
-            self.assertRaises(Closed, closed.negotiate, ["en"])
+        self.assertRaises(Closed, negotiator.negotiate, ["en"])
         self.assertEqual(negotiator.available, ("en",))
 
     def test_tables(self):

@@ -10,7 +10,7 @@ import unittest
 import warnings
 
 from icu_locale import Closed, Match, Tables
-from icu_locale.example import TABLES
+from icu_locale.example import SUPPLEMENT, TABLES
 
 LISTED = ["en", "de", "zh-Hant"]
 SECONDS = 60
@@ -69,7 +69,7 @@ class Between:
 
 class Threads(unittest.TestCase):
     def setUp(self):
-        self.tables = Tables.from_json(TABLES)
+        self.tables = Tables.from_json(TABLES, SUPPLEMENT)
         self.negotiator = self.tables.negotiator(LISTED)
 
     def test_one_object_in_sixteen_threads(self):
@@ -140,7 +140,7 @@ class Threads(unittest.TestCase):
 
 class Signals(unittest.TestCase):
     def setUp(self):
-        self.tables = Tables.from_json(TABLES)
+        self.tables = Tables.from_json(TABLES, SUPPLEMENT)
         self.negotiator = self.tables.negotiator(LISTED)
         self.wrong, self.counted = [], 0
         self.before = signal.signal(signal.SIGALRM, self.handle)
@@ -179,14 +179,14 @@ class Signals(unittest.TestCase):
 @unittest.skipUnless(hasattr(os, "fork"), "the system has no fork")
 class Forks(unittest.TestCase):
     def setUp(self):
-        self.tables = Tables.from_json(TABLES)
+        self.tables = Tables.from_json(TABLES, SUPPLEMENT)
         self.negotiator = self.tables.negotiator(LISTED)
 
     def work(self):
         """What threads of the parent do meanwhile, with handles that are new too."""
         self.assertEqual(faults(self.tables, self.negotiator), [])
         self.assertEqual(faults(self.tables.share(), self.tables.negotiator(LISTED)), [])
-        Tables.from_json(TABLES).close()
+        Tables.from_json(TABLES, SUPPLEMENT).close()
 
     def child(self):
         """What a child does: it asks by itself and by threads, lets all go, and reads tables anew."""
@@ -194,7 +194,7 @@ class Forks(unittest.TestCase):
         run_all(lambda _: wrong.extend(faults(self.tables, self.negotiator)), range(4))
         self.tables.close()
         self.negotiator.close()
-        again = Tables.from_json(TABLES)
+        again = Tables.from_json(TABLES, SUPPLEMENT)
         wrong += faults(again, again.negotiator(LISTED))
         return 1 if wrong else 0
 
@@ -242,7 +242,7 @@ class Forks(unittest.TestCase):
 
 class Copies(unittest.TestCase):
     def test_no_copies(self):
-        tables = Tables.from_json(TABLES)
+        tables = Tables.from_json(TABLES, SUPPLEMENT)
         for held in (tables, tables.negotiator(LISTED), tables.switcher(LISTED)):
             for call in (copy.copy, copy.deepcopy, pickle.dumps, lambda it: pickle.dumps(it, 0)):
                 with self.assertRaisesRegex(TypeError, f"{type(held).__name__} is neither copied nor pickled"):
@@ -250,8 +250,10 @@ class Copies(unittest.TestCase):
         self.assertEqual(tables.maximize("zh"), "zh-Hans-CN")
 
     def test_refusals_are_pickled(self):
+        tables = Tables.from_json(TABLES)
+        tables.close()
         with self.assertRaises(Closed) as told:
-            Tables().share()
+            tables.share()
         again = pickle.loads(pickle.dumps(told.exception))
         self.assertEqual((type(again), str(again)), (Closed, str(told.exception)))
 

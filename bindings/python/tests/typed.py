@@ -1,8 +1,8 @@
 """Each call with the types that it takes and gives: mypy --strict reads it, and a run of it tries it."""
-from typing import List, Optional
+from typing import List, Optional, Union
 
-from icu_locale import Canonical, Direction, Further, Match, Negotiator, Refused, Switcher, Tables, Text, __version__
-from icu_locale.example import TABLES
+from icu_locale import Canonical, Direction, Match, MenuRow, Negotiator, Refused, Switcher, Tables, Text, __version__
+from icu_locale.example import SUPPLEMENT, TABLES
 
 
 def shown(tables: Tables) -> List[str]:
@@ -11,7 +11,8 @@ def shown(tables: Tables) -> List[str]:
     canonical: Canonical = tables.canonicalize_with("sh", "abcdefg")
     direction: Optional[Direction] = tables.direction("ar")
     chain: List[str] = tables.fallback("en-AU")
-    forms += [tables.name("it-US", chain[0], fallback=True), *chain]
+    rows: List[MenuRow] = tables.menu(["en"], "en", key=len)
+    forms += [tables.name("it-US", chain[0], fallback=True), *chain, *(row.own for row in rows)]
     return [*forms, canonical.identifier, canonical.value, direction or "none", tables.name("it-US", "en")]
 
 
@@ -19,15 +20,37 @@ def served(tables: Tables, header: str) -> List[str]:
     """What a reader is served, by a negotiator, by a switcher and at once."""
     negotiator: Negotiator = tables.negotiator(["en", "zh-Hant"])
     match: Optional[Match] = negotiator.negotiate(["fr", "zh-TW"])
-    switcher: Switcher = tables.switcher(negotiator.available)
+    switcher: Switcher[Text, None] = tables.switcher(negotiator.available)
     found: Optional[Text] = switcher.serve([header])
-    further: Further = {"yue": ["zh"]}
-    wide: Optional[Text] = tables.switcher(["zh-Hant"], further=further).serve("yue")
-    return [str(match and match.available), str(found), str(tables.serve(header, ["en", "zh-Hant"], further=further)), str(wide)]
+    spelled: Switcher[bytes, None] = tables.switcher([b"en", b"zh-Hant"])
+    octets: Optional[bytes] = spelled.serve(header)
+    sure: Switcher[str, str] = tables.switcher(["en", "zh-Hant"], default="en")
+    always: str = sure.serve(None) + sure.nearest(["fr"])
+    at_once: Optional[str] = tables.serve(header, ["en", "zh-Hant"])
+    by_default: str = tables.serve(header.encode(), ["en", "zh-Hant"], default="en").lower()
+    other: Union[bytes, int] = tables.nearest([header[:5]], [b"zh-Hant"], default=5)
+    distance: int = tables.distance("en-AU", b"en-GB", syntax="bcp47")
+    same: bool = tables.are_same("sh", "sr-Latn")
+    return [str(match and match.available), str(found), str(octets), always, str(at_once), by_default, str(other),
+            str(distance), str(same)]
+
+
+def opened(locales: List[str]) -> List[Tables]:
+    """Tables of CLDR's data inside; a package may have none."""
+    return [Tables.cldr(), Tables.cldr(locales), Tables.cldr(iter(locales)), Tables.cldr("all")]
+
+
+def wrong(tables: Tables) -> None:
+    """What is no call: each line has a fault, or mypy warns of what it passes over."""
+    tables.serve(5, ["en"])  # type: ignore[call-overload]
+    tables.nearest(["en"], [5])  # type: ignore[type-var]
+    Tables.cldr(5)  # type: ignore[arg-type]
+    tables.serve("en", ["en"]).lower()  # type: ignore[union-attr]
+    tables.switcher([b"en"], default=b"en").serve("en").isidentifier()  # type: ignore[attr-defined]
 
 
 def main() -> None:
-    with Tables.from_json(TABLES) as tables:
+    with Tables.from_json(TABLES, SUPPLEMENT) as tables:
         settled: bool = tables.is_settled
         lines = [*shown(tables), *served(tables, "zh-TW, en;q=0.5"), str(settled)]
     try:

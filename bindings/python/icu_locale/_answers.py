@@ -1,0 +1,208 @@
+"""What tables are asked about one identifier, and the menu of several."""
+from typing import Iterable, List, Literal, NamedTuple, Optional
+
+from ._held import NO_LIKELY, Held
+from ._menu import Key, MenuRow, by_platform, in_order
+from ._negotiator import gathered, line_of
+from ._refusals import InvalidSubtag, NameMissing, TableMissing, Text, as_bytes, line_refusal, refuse, shown
+
+Direction = Literal["ltr", "rtl"]
+# How a text is read: a locale identifier of UTS #35, besides a tag of RFC 5646, or besides a name of a POSIX locale.
+Syntax = Literal["locales", "bcp47", "posix"]
+SYNTAXES = {each: each.encode() + b" " for each in ("locales", "bcp47", "posix")}
+
+
+class Canonical(NamedTuple):
+    """A canonical form: the identifier, and the value that was handed in with it."""
+
+    identifier: str
+    value: str
+
+
+class Answers(Held):
+    """The calls of `Tables` that answer an identifier."""
+
+    def _words(self, command: bytes, syntax: Syntax) -> bytes:
+        """The words of a command in a syntax."""
+        if syntax not in SYNTAXES:
+            raise ValueError(f"the syntaxes are locales, bcp47 and posix, and {shown(str(syntax))} is none")
+        return SYNTAXES[syntax] + command
+
+    def _told(self, command: bytes, identifier: Text, syntax: Syntax) -> str:
+        return self.answer(self._words(command, syntax), identifier)
+
+    def maximize(self, identifier: Text, *, syntax: Syntax = "locales") -> str:
+        """The maximal form: with the likely script and region. `syntax` says how the identifier is read; its extensions
+        stay.
+
+        >>> from icu_locale.example import TABLES
+        >>> tables = Tables.from_json(TABLES)
+        >>> tables.maximize("zh_tw"), tables.maximize("zh-u-nu-hanidec-ca-chinese")
+        ('zh-Hant-TW', 'zh-Hans-CN-u-ca-chinese-nu-hanidec')
+        >>> tables.maximize("zh_TW.UTF-8", syntax="posix")
+        'zh-Hant-TW'
+        >>> tables.maximize("en-")
+        Traceback (most recent call last):
+            ...
+        icu_locale.InvalidSubtag: InvalidSubtag: 'en-'
+        """
+        return self._told(b"maximize", identifier, syntax).partition("\t")[0]
+
+    def minimize(self, identifier: Text, *, favor_script: bool = False, syntax: Syntax = "locales") -> str:
+        """The minimal form: the shortest with the same maximal form.
+
+        >>> from icu_locale.example import TABLES
+        >>> tables = Tables.from_json(TABLES)
+        >>> tables.minimize("zh-Hant-TW"), tables.minimize("zh-Hant-TW", favor_script=True)
+        ('zh-TW', 'zh-Hant')
+        """
+        command = b"minimize-script" if favor_script else b"minimize"
+        return self._told(command, identifier, syntax).partition("\t")[0]
+
+    def canonicalize(self, identifier: Text, *, syntax: Syntax = "locales") -> str:
+        """The canonical form, that of the language after `t` and of the values at `rg` and `sd` too, and by the aliases of
+        values in a supplement those at the keys of `u` and `t`.
+
+        >>> from icu_locale.example import SUPPLEMENT, TABLES
+        >>> tables = Tables.from_json(TABLES, SUPPLEMENT)
+        >>> tables.canonicalize("sh"), tables.canonicalize("sh-u-rg-abcdefg")
+        ('sr-Latn', 'sr-Latn-u-rg-xyz')
+        >>> tables.canonicalize("en-u-ca-islamicc"), tables.canonicalize("en-t-m0-names")
+        ('en-u-ca-islamic-civil', 'en-t-m0-prprname')
+        >>> tables.canonicalize("i-klingon", syntax="bcp47"), tables.canonicalize("zh-cmn-Hans", syntax="bcp47")
+        ('tlh', 'cmn-Hans')
+        >>> tables.canonicalize("sh\\tabcdefg")
+        Traceback (most recent call last):
+            ...
+        icu_locale.InvalidSubtag: InvalidSubtag: 'sh\\tabcdefg'
+        """
+        return self._told(b"canonicalize", without_tab(identifier), syntax).partition("\t")[0]
+
+    def canonicalize_with(self, identifier: Text, value: Text) -> Canonical:
+        """The canonical form of an identifier alone, and that of a value at the key `rg`.
+
+        >>> from icu_locale.example import TABLES
+        >>> tables = Tables.from_json(TABLES)
+        >>> tables.canonicalize_with("sh", "abcdefg")
+        Canonical(identifier='sr-Latn', value='xyz')
+        """
+        line = as_bytes(without_tab(identifier)) + b"\t" + as_bytes(value)
+        parts = self.answer(b"canonicalize", line).split("\t")
+        return Canonical(parts[0], parts[1])
+
+    def direction(self, identifier: Text, *, syntax: Syntax = "locales") -> Optional[Direction]:
+        """Which way the likely script runs, where that is known.
+
+        >>> from icu_locale.example import TABLES
+        >>> tables = Tables.from_json(TABLES)
+        >>> tables.direction("ar"), tables.direction("de"), tables.direction("und")
+        ('rtl', 'ltr', None)
+        """
+        told = self._told(b"direction", identifier, syntax)
+        return "ltr" if told == "ltr" else "rtl" if told == "rtl" else None
+
+    def distance(self, desired: Text, supported: Text, *, syntax: Syntax = "locales") -> int:
+        """How far an identifier that may be served is from one that is desired, by the match rules. Their maximal forms are
+        compared, and no alias is looked up.
+
+        >>> from icu_locale.example import SUPPLEMENT, TABLES
+        >>> tables = Tables.from_json(TABLES, SUPPLEMENT)
+        >>> tables.distance("en-AU", "en-GB"), tables.distance("en", "en-GB"), tables.distance("en", "de")
+        (3, 5, 84)
+        """
+        line = line_of((desired, supported))
+        return int(self.answer(self._words(b"distance", syntax), line))
+
+    def are_same(self, first: Text, second: Text, *, syntax: Syntax = "locales") -> bool:
+        """Whether two texts have one canonical form.
+
+        >>> from icu_locale.example import TABLES
+        >>> tables = Tables.from_json(TABLES)
+        >>> tables.are_same("sh", "SR_latn"), tables.are_same("sr", "sr-Latn")
+        (True, False)
+        """
+        return self.canonicalize(first, syntax=syntax) == self.canonicalize(second, syntax=syntax)
+
+    def fallback(self, identifier: Text, *, syntax: Syntax = "locales") -> List[str]:
+        """The identifiers that a loader asks after one another, from this one, without its extensions, to `und`. The
+        explicit parents of locales are those of the supplement.
+
+        >>> from icu_locale.example import TABLES
+        >>> tables = Tables.from_json(TABLES, '{"parents": {"en-AU": "en-001", "aa": "bb", "bb": "aa"}}')
+        >>> tables.fallback("en-AU"), tables.fallback("zh-TW-u-ca-chinese")
+        (['en-AU', 'en-001', 'en', 'und'], ['zh-TW', 'zh-Hant-TW', 'zh-Hant', 'und'])
+        >>> tables.fallback("aa-DJ")
+        Traceback (most recent call last):
+            ...
+        icu_locale.Circle: Circle: 'aa-DJ'
+        """
+        return self._told(b"fallback", identifier, syntax).split(" ")
+
+    def name(self, identifier: Text, preferences: Text, chain: Text = "light", *, syntax: Syntax = "locales",
+             fallback: bool = False) -> str:
+        """The name of the identifier in the language of the preferences, with what its extensions say where the supplement
+        has names of extensions in that language, and without them else. What the tables have no name for stands as a subtag. With `fallback` the name is in the first locale behind the preferences that the tables
+        have.
+
+        >>> from icu_locale.example import TABLES
+        >>> tables = Tables.from_json(TABLES)
+        >>> tables.name("it-Qabc-150", "en"), tables.name("ku-Latn", "en", "menu-light")
+        ('Italian (Qabc, Europe)', 'Kurdish (Kurmanji, Latin)')
+        >>> tables.name("it", "de")
+        Traceback (most recent call last):
+            ...
+        icu_locale.NameMissing: IdentifierNotFound: the tables were made without the locale 'de', to name 'it' in
+        >>> tables.name("it", "en-AU", fallback=True)
+        'Italian'
+        """
+        for locale in self.fallback(preferences) if fallback else ():
+            try:
+                return self.name(identifier, locale, chain, syntax=syntax)
+            except NameMissing:
+                pass
+        command = b" ".join((b"name", as_bytes(chain), as_bytes(preferences)))
+        try:
+            return self._told(command, identifier, syntax).rpartition("\t")[0]
+        except NameMissing as fault:
+            raise NameMissing(f"{fault.name}: the tables were made without the locale {shown(preferences)}, to name "
+                              f"{shown(identifier)} in") from None
+
+    def menu(self, locales: Iterable[str], language: Text, chain: Text = "light", *, fallback: bool = False,
+             key: Key = by_platform) -> List[MenuRow]:
+        """The languages of a list for a menu: each with its name in one language and its own name, in the order of the
+        first. That is the order of `locale.strxfrm`, by the locale that the program has set for LC_COLLATE: by code point
+        where it has set none. `key` is another one, of a name. `chain` and `fallback` are those of `name`.
+
+        >>> from icu_locale.example import TABLES
+        >>> Tables.from_json(TABLES).menu(["en"], "en")
+        [MenuRow(locale='en', name='English', own='English')]
+        """
+        rows = [MenuRow(each, self.name(each, language, chain, fallback=fallback),
+                        self.name(each, each, chain, fallback=fallback)) for each in gathered(locales)]
+        return in_order(rows, key)
+
+    @property
+    def is_settled(self) -> bool:
+        """Whether the likely tables are settled. It looks at each row.
+
+        >>> from icu_locale.example import TABLES
+        >>> Tables.from_json(TABLES).is_settled
+        True
+        """
+        slot = self._take()
+        try:
+            number = self._calls.is_settled(slot.handle)
+        finally:
+            self._give_back(slot)
+        if number == TableMissing.number:
+            raise TableMissing(NO_LIKELY)
+        if number > 1:
+            refuse(number)
+        return bool(number == 1)
+
+
+def without_tab(identifier: Text) -> Text:
+    """An identifier. In a line of `canonicalize`, a value would stand behind a tab."""
+    if b"\t" in as_bytes(identifier):
+        raise line_refusal(InvalidSubtag.name, identifier)
+    return identifier

@@ -1,0 +1,142 @@
+"""CLDR's data inside the package: its answers are those of CLDR's folder. In a clone `tools/package-data out/data` makes
+it."""
+import os
+import tempfile
+import unittest
+from pathlib import Path
+from unittest import mock
+
+from icu_locale import NameMissing, NoCldr, Refused, Tables, _data
+from icu_locale._tables import DEBIAN_CLDR
+
+LANGUAGES = ("und", "en", "de", "sr", "zh", "ar", "iw", "hy", "sgn", "mo", "tlh", "yue")
+HAS_DATA = any((folder / "base-and-supplement.gz").is_file() for folder in _data.FOLDERS)
+# What the data is compared with, which has to be what it was made of.
+IS_DEBIAN = os.path.isdir(DEBIAN_CLDR)
+
+
+def identifiers():
+    """Some hundred identifiers, and some texts that are none."""
+    for language in LANGUAGES:
+        for script in ("", "-Latn", "-Arab", "-Hant", "-Qaai"):
+            for region in ("", "-DE", "-TW", "-SU", "-419", "-IR"):
+                yield language + script + region
+        for rest in ("-1996", "-heploc-hepburn", "-u-ca-islamicc-rg-usca", "-"):
+            yield language + rest
+    yield ""
+
+
+def told(call, *words, **named):
+    """What a call gives, or how it refuses."""
+    try:
+        return call(*words, **named)
+    except Refused as refusal:
+        return type(refusal), str(refusal)
+
+
+def answers(tables):
+    """The answers to the identifiers by each call."""
+    calls = [tables.maximize, tables.minimize, tables.canonicalize, tables.direction, tables.fallback,
+             lambda it: tables.minimize(it, favor_script=True), lambda it: tables.canonicalize_with(it, "usca"),
+             lambda it: tables.name(it, "en"), lambda it: tables.name(it, "en", "menu-light"),
+             lambda it: tables.name(it, "en-AU", fallback=True), lambda it: tables.name(it, "de"),
+             lambda it: tables.serve(it, ["en", "de", "zh_Hant"]), lambda it: tables.distance(it, "en-GB"),
+             lambda it: tables.negotiator(["en", "zh-Hant", "sr-Latn"]).negotiate([it]),
+             lambda it: tables.nearest([it], ["en", "ar"]), lambda it: tables.are_same(it, "he")]
+    return {(place, it): told(call, it) for place, call in enumerate(calls) for it in identifiers()}
+
+
+@unittest.skipUnless(HAS_DATA, "the package has no data of CLDR inside")
+class Data(unittest.TestCase):
+    @unittest.skipUnless(IS_DEBIAN, "there is no Debian package unicode-cldr-core")
+    def test_answers(self):
+        with Tables.cldr(["en"]) as inside, Tables.from_cldr(locales=["en"]) as outside:
+            found, wanted = answers(inside), answers(outside)
+        self.assertGreater(len(set(identifiers())), 400)
+        self.assertEqual({key: it for key, it in found.items() if wanted[key] != it}, {})
+
+    @unittest.skipUnless(IS_DEBIAN, "there is no Debian package unicode-cldr-core")
+    def test_names(self):
+        locales = ["de", "zh-Hant-HK", "en-GB", "sr-Latn", "hi"]
+        with Tables.cldr(locales) as inside, Tables.from_cldr(locales=locales) as outside, Tables.cldr("all") as every:
+            for locale in locales:
+                for it in identifiers():
+                    wanted = told(outside.name, it, locale)
+                    self.assertEqual(told(inside.name, it, locale), wanted)
+                    self.assertEqual(told(every.name, it, locale), wanted)
+
+    def test_extensions(self):
+        named = {("en-u-ca-buddhist", "en"): "English (Buddhist Calendar)", ("en-u-cu-eur", "en"): "English (Currency: €)",
+                 ("ja-t-en-u-hc-h12", "de"): "Japanisch (t: Englisch, 12-Stunden-Format [1-12])"}
+        raw = {("de-u-rg-ustx", "en"): "German (Region For Supplemental Data: ustx)",
+               ("de-u-tz-uslax", "en"): "German (Time Zone: uslax)"}
+        with Tables.cldr(["en", "de"]) as tables, Tables.cldr("all") as every:
+            for (it, locale), name in (named | raw).items():
+                self.assertEqual((tables.name(it, locale), every.name(it, locale)), (name, name))
+            self.assertEqual(tables.name("en-u-ca-buddhist", "en-AU", fallback=True), "English (Buddhist Calendar)")
+
+    @unittest.skipUnless(IS_DEBIAN, "there is no Debian package unicode-cldr-core")
+    def test_large_names(self):
+        with Tables.from_cldr(locales=iter(["en"]), subdivisions=True, zones=True) as tables:
+            self.assertEqual(tables.name("de-u-rg-ustx", "en"), "German (Region For Supplemental Data: Texas)")
+            self.assertEqual(tables.name("de-u-tz-uslax", "en"), "German (Time Zone: Los Angeles Time)")
+        with Tables.from_cldr(locales=["en"], zones=True) as tables:
+            self.assertEqual(tables.name("de-u-rg-ustx-tz-uslax", "en"),
+                             "German (Region For Supplemental Data: ustx, Time Zone: Los Angeles Time)")
+
+    def test_locales(self):
+        with Tables.cldr() as tables:
+            self.assertEqual(tables.maximize("zh-TW"), "zh-Hant-TW")
+            self.assertTrue(tables.is_settled)
+            self.assertRaises(NameMissing, tables.name, "it", "en")
+        with Tables.cldr(iter(["EN_gb", "en-GB", "zh_hant"])) as tables:
+            self.assertEqual(tables.name("it", "en-GB"), "Italian")
+            self.assertEqual(tables.name("it", "zh-Hant"), "義大利文")
+            self.assertRaises(NameMissing, tables.name, "it", "en")
+
+    def test_unknown_locales(self):
+        for locale in ("xx", "en-XX", "all", "", "no locale", "base-and-supplement", "copyright", "../data/en", "en\0",
+                       "\u212al"):
+            with self.assertRaises(NoCldr) as refused:
+                Tables.cldr(["en", locale])
+            self.assertEqual(str(refused.exception), f"CLDR has no locale {locale}")
+        with self.assertRaises(NoCldr) as refused:
+            Tables.cldr(["e" * 1_000_000])
+        self.assertLess(len(str(refused.exception)), 300)
+        for wrong in ("en", b"en", 5, [5], [b"en"], [None]):
+            self.assertRaises(TypeError, Tables.cldr, wrong)
+
+    def test_menu(self):
+        locales = ["ja", "fr", "en", "zh-Hant"]
+        with Tables.cldr(locales) as tables:
+            rows = tables.menu(iter(locales), "en")
+            self.assertEqual([tuple(row) for row in rows], [
+                ("en", "English", "English"), ("fr", "French", "français"), ("ja", "Japanese", "日本語"),
+                ("zh-Hant", "Traditional Chinese", "繁體中文")])
+            self.assertEqual([row.locale for row in tables.menu(locales, "fr", key=lambda name: -len(name))],
+                             ["zh-Hant", "fr", "ja", "en"])
+            self.assertEqual([row.name for row in tables.menu(locales, "en", "menu-light")][0], "Chinese, Mandarin (Traditional)")
+            self.assertEqual([row.own for row in tables.menu(["fr-CA"], "en-AU", fallback=True)], ["français canadien"])
+            self.assertEqual(tables.menu([], "en"), [])
+            self.assertRaises(NameMissing, tables.menu, ["de"], "en")
+            self.assertRaises(NameMissing, tables.menu, ["en"], "de")
+            self.assertRaises(TypeError, tables.menu, "en", "en")
+            self.assertRaises(Refused, tables.menu, ["e"], "en")
+            with mock.patch("locale.strxfrm", side_effect=OSError):
+                self.assertEqual(tables.menu(locales, "en"), rows)
+
+    def test_notice(self):
+        folder = next(folder for folder in _data.FOLDERS if folder.is_dir())
+        self.assertIn("Unicode, Inc.", (folder / "copyright").read_text(encoding="utf-8"))
+
+
+class WithoutData(unittest.TestCase):
+    def test_refusal(self):
+        with tempfile.TemporaryDirectory() as folder, mock.patch.object(_data, "FOLDERS", (Path(folder),)):
+            for locales in ((), ["en"], "all"):
+                with self.assertRaisesRegex(NoCldr, "Tables.from_cldr takes a folder"):
+                    Tables.cldr(locales)
+
+
+if __name__ == "__main__":
+    unittest.main()
