@@ -4,7 +4,8 @@ const fs = require('fs');
 const path = require('path');
 const { Tables } = require('./index.js');
 
-const tables = Tables.fromJson(fs.readFileSync(path.join(__dirname, 'example.json')));
+const [json, supplement] = ['example.json', 'example-supplement.json'].map((it) => fs.readFileSync(path.join(__dirname, it)));
+const tables = Tables.fromJson(json, { supplement });
 console.log(tables.maximize('zh-TW'));
 console.log(tables.name('it-US', 'en'));
 console.log(tables.serve('fr, zh-TW;q=0.5', ['en', 'zh-Hant']));

@@ -1,5 +1,11 @@
 /** Likely subtags, canonical forms, directions, names and negotiation of locale identifiers, by the proved library. */
 
+/** What answers: the module for WebAssembly, or the addon where this Node.js has no memory of 64 bits. */
+export const implementation: 'module' | 'addon';
+
+/** The package, which is loaded already. In a browser the same call loads it. */
+export function load(): Promise<typeof import('./index.js')>;
+
 /** A text: a string, or its bytes. */
 export type Text = string | Uint8Array;
 
@@ -14,10 +20,11 @@ export interface Reading {
 /** Why a call gives no answer. */
 export type Code =
   | 'Closed' | 'Memory' | 'Json' | 'Shape' | 'Command' | 'Table' | 'Negotiate' | 'List' | 'Unsettled' | 'Shared'
-  | 'InvalidLanguage' | 'InvalidSubtag' | 'NoFixedPoint' | 'NoSubdivisionFixedPoint' | 'Circle' | 'IdentifierNotFound';
+  | 'InvalidLanguage' | 'InvalidSubtag' | 'NoFixedPoint' | 'NoSubdivisionFixedPoint' | 'NoValueFixedPoint'
+  | 'NoFieldFixedPoint' | 'Circle' | 'IdentifierNotFound' | 'NoCldr' | 'NoLoan' | 'NotLoaded';
 
-/** Further forms of requests, as `cldr-tables --further` writes them: the best first, of each that has some. */
-export type Further = Readonly<Record<string, readonly string[]>>;
+/** The header Accept-Language of a request, the lines of several, or none. */
+export type Headers = Text | readonly Text[] | null | undefined;
 
 /** A call that gives no answer. */
 export class Refused extends Error {
@@ -28,21 +35,39 @@ export class Refused extends Error {
   readonly place?: number;
 }
 
+/** A language of a menu: its locale as it was handed in, its name in the language of the menu, and its own name. */
+export interface MenuRow {
+  locale: string;
+  name: string;
+  own: string;
+}
+
 /** A request that is met: its place, and that of the available identifier. Both are counted from 0. */
 export interface Match {
   request: number;
   available: number;
 }
 
-/** Tables, by `Tables.fromJson`. A worker has its own, or borrows what another one lends. */
+/** Tables, by `Tables.cldr` or `Tables.fromJson`. A worker has its own, or borrows what another one lends. */
 export class Tables {
-  /** The tables of a JSON text, and their supplement of another one: the parents of locales, for `fallback`. */
+  private constructor();
+  /**
+   * The tables of CLDR's data that this package has inside, with the names of some locales, as `['en', 'zh-Hant']`, and
+   * their supplement, by which `serve` and `fallback` go, and which has what parts of extensions are called in these locales,
+   * but for subdivisions and time zones. The likely tables are settled. `all` is every locale. One that CLDR has no names for
+   * is refused as `NoCldr`, and so is a package that was made without data.
+   */
+  static cldr(locales?: readonly string[] | 'all'): Tables;
+  /**
+   * The tables of a JSON text, and their supplement of another one: the parents of locales, the match rules by which a reader
+   * is served, and aliases of values.
+   */
   static fromJson(json: Text, options?: { supplement?: Text }): Tables;
   /** The same tables once more. They are in memory once. */
   share(): Tables;
   /**
    * Lends the tables to other workers of this process: a number that may be posted to them, for `borrow`. The loan ends
-   * where these tables are closed or collected; what was borrowed stays.
+   * where these tables are closed or collected; what was borrowed stays. The module refuses both as `NoLoan`.
    */
   lend(): bigint;
   /** The tables that another worker has lent. They are in memory once. */
@@ -50,25 +75,39 @@ export class Tables {
   /** What serves a reader one of the identifiers that are available. It holds these tables too. */
   negotiator(available: readonly string[]): Negotiator;
   /**
-   * What serves a reader by the headers Accept-Language of a request. It holds these tables too. `further` has further forms
-   * of requests: an array of locales of the same language for a locale, and of other languages for a language.
+   * What serves a reader by the headers Accept-Language of a request. It holds these tables too. What it serves is one of
+   * the available identifiers as it was handed in, or the default where none is near enough: null if none is named.
    */
-  switcher(available: readonly string[], options?: { further?: Further }): Switcher;
+  switcher<Default = null>(available: readonly string[], options?: { default?: Default }): Switcher<Default>;
   /**
    * What is served of the available identifiers, in their own spelling, for the headers Accept-Language of a request: one,
-   * or several. Null where nothing is met. `further` is as `switcher` has it. What was last available is kept with the
-   * object of further forms, so that both are read once.
+   * several or none. The default where none is near enough. The tables need match rules, which a supplement has. What was
+   * last available is kept, so that it is read once.
    */
-  serve(
-    headers: string | readonly string[] | undefined, available: readonly string[], options?: { further?: Further },
-  ): string | null;
+  serve<Default = null>(
+    headers: Headers, available: readonly string[], options?: { default?: Default },
+  ): string | Default;
+  /**
+   * What is nearest to requests, the most wanted first, of the available identifiers, in their own spelling. The default
+   * where none is near enough. What was last available is kept, as `serve` does.
+   */
+  nearest<Default = null>(
+    requests: readonly string[], available: readonly string[], options?: { default?: Default },
+  ): string | Default;
+  /** How far an identifier that may be served is from one that is desired, by the match rules. */
+  distance(desired: Text, supported: Text, options?: Reading): number;
+  /** Whether two texts have one canonical form. */
+  areSame(first: Text, second: Text, options?: Reading): boolean;
   /** What the program icu_locale_cli answers to a line, by the words of a command. */
   answer(command: Text, line: Text): string;
   /** The maximal form: with the likely script and region. Extensions stay. */
   maximize(identifier: Text, options?: Reading): string;
   /** The minimal form: the shortest with the same maximal form. */
   minimize(identifier: Text, options?: Reading & { favorScript?: boolean }): string;
-  /** The canonical form, that of the language after `t` and of the values at `rg` and `sd` too. */
+  /**
+   * The canonical form, that of the language after `t` and of the values at `rg` and `sd` too, and by the aliases of values in
+   * a supplement those at the keys of `u` and `t`.
+   */
   canonicalize(identifier: Text, options?: Reading): string;
   /** The canonical form of an identifier alone, and that of a value at the key `rg`. */
   canonicalize(identifier: Text, value: Text): [string, string];
@@ -77,10 +116,17 @@ export class Tables {
   /** The identifiers that a loader asks after one another, from this one, without its extensions, to `und`. */
   fallback(identifier: Text, options?: Reading): string[];
   /**
-   * The name without extensions, in the language of the preferences. The chain is `light` where none is named. With
-   * `fallback` the name is in the first locale behind the preferences that the tables have.
+   * The name in the language of the preferences, with what its extensions say where the supplement has names of extensions
+   * in that language, and without them else. The chain is `light` where none is named. With `fallback` the name is in the first
+   * locale behind the preferences that the tables have.
    */
   name(identifier: Text, preferences: string, chain?: string, options?: Reading & { fallback?: boolean }): string;
+  /**
+   * The languages of a list for a menu: each with its name in one language and its own name, in the order of the first. That
+   * is the order of `Intl.Collator` where it knows the language, and else that by code point. The chain and `fallback` are
+   * those of `name`.
+   */
+  menu(locales: readonly string[], language: string, chain?: string, options?: { fallback?: boolean }): MenuRow[];
   /** Whether the likely tables are settled. It looks at each row. */
   isSettled(): boolean;
   /** Lets the tables go. A second call does nothing. */
@@ -101,12 +147,14 @@ export class Negotiator {
 }
 
 /** What is available, by `tables.switcher`, and which of it is served. */
-export class Switcher {
+export class Switcher<Default = null> {
   private constructor();
   /** The identifiers that are available, as they were handed in. */
   readonly available: readonly string[];
-  /** What is served for one header Accept-Language, or for several; null where nothing is met. */
-  serve(headers: string | readonly string[] | undefined): string | null;
+  /** What is served for one header Accept-Language, for several or for none; the default where nothing is near enough. */
+  serve(headers: Headers): string | Default;
+  /** What is nearest to requests, the most wanted first; the default where nothing is near enough. */
+  nearest(requests: readonly string[]): string | Default;
   /** Lets the list and the tables go. A second call does nothing. */
   close(): void;
 }

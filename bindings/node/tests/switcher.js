@@ -1,48 +1,99 @@
 'use strict';
-// What is served by headers.
+// What is served, which the library decides: that all is handed over, and what comes back.
 const assert = require('assert');
 const fs = require('fs');
 const { Tables, Refused } = require('icu_locale');
 
-const tables = Tables.fromJson(fs.readFileSync(require.resolve('icu_locale/example.json')));
-const AVAILABLE = ['en', 'de', 'AR_eg', 'zh_hant', 'sr-Latn-u-ka-shifted'];
+const [example, supplement] = ['example', 'example-supplement'].map((it) => fs.readFileSync(require.resolve(`icu_locale/${it}.json`)));
+const tables = Tables.fromJson(example, { supplement });
+const AVAILABLE = ['en', 'de', 'AR_eg', 'zh_hant', 'sr-Latn'];
 // A header or several, and what is served.
 const SERVED = [
   ['en-GB', 'en'], ['de-AT;q=0.5, en;q=0.4', 'de'], ['ar', 'AR_eg'], ['zh-TW', 'zh_hant'], ['zh-CN, de;q=0.1', 'de'],
-  ['sh', AVAILABLE[4]], ['sr-Latn-x-a', AVAILABLE[4]], ['sr-Cyrl', null], ['zh-CN', null], ['', null], [[], null],
+  ['sh', AVAILABLE[4]], ['sr-Latn-x-a', AVAILABLE[4]], ['sr-Cyrl', null], ['zh-CN', null], ['gsw', 'de'],
+  ['yue', 'zh_hant'], ['yue-Hans', null], ['fr, gsw, en;q=0.5', 'en'], ['', null], [[], null], [[''], null],
   ['de-1996', 'de'], ['de-u-co-phonebk, en', 'de'], ['de-x-mine', 'de'], ['x-mine, i-klingon, de', 'de'],
   ['i-enochian, und-x-a, de', 'de'], ['i-default', 'en'], ['EN-gb-OED', 'en'], ['zh-cmn-TW, de', 'de'],
   ['zz-zz-zz, *', 'en'], ['*', 'en'], ['*;q=0', null], ['en;q=0, *;q=0.1', 'de'], ['EN;q=0, de;q=0, *', 'AR_eg'],
   ['de;q=0, ja;q=0.2', null], ['de;q=x, en', 'en'], ['de;q=1.001, en;q=0.1', 'en'], ['de;q=nan, en', 'en'],
   ['de; q = 0.1, en ; Q=0.2', 'en'], ['de;level=1;q=0.1, en;q=0.2', 'en'], ['de;q=0.1,,en', 'en'], [';q=1, de', 'de'],
-  ['fr,\r\n de;q=0.5', 'de'], ['fr,\n\tde', 'de'], ['fr\r\nde', null], ['sh\tabcdefg', null], ['de\0, en', 'en'],
+  ['fr\r\nde', null], ['sh\tabcdefg', null], ['de\0, en', 'en'],
   [['fr, en;q=0.1', 'de;q=0.2'], 'de'], [['fr', 'de'], 'de'], ['\u00ff, de', 'de'], ['\ud800, de', 'de'],
-  [undefined, null],
+  [Buffer.from('de'), 'de'], [['fr', new Uint8Array([100, 101])], 'de'], [Buffer.from([255, 44, 100, 101]), 'de'],
+  [undefined, null], [null, null], ['f'.repeat(100000) + ',de', 'de'], ['x,'.repeat(100000) + 'de', null],
 ];
 
 const switcher = tables.switcher(AVAILABLE);
 for (const [headers, wanted] of SERVED) {
-  assert.strictEqual(switcher.serve(headers), wanted, String(headers));
-  assert.strictEqual(tables.serve(headers, AVAILABLE), wanted, String(headers));
+  assert.strictEqual(switcher.serve(headers), wanted, String(headers).slice(0, 50));
+  assert.strictEqual(tables.serve(headers, AVAILABLE), wanted, String(headers).slice(0, 50));
 }
 assert.strictEqual(tables.serve('de', ['en', 'DE']), 'DE');
 assert.strictEqual(tables.serve('en', []), null);
 assert.deepStrictEqual(switcher.available, AVAILABLE);
 
-// a hundred tags are read
-assert.strictEqual(switcher.serve(`${'fr,'.repeat(99)}de`), 'de');
-assert.strictEqual(switcher.serve(`${'fr,'.repeat(100)}de`), null);
-assert.strictEqual(switcher.serve(`${'f'.repeat(100000)},de`), 'de');
-assert.strictEqual(switcher.serve(`${'fr,'.repeat(100000)}de`), null);
+// a default
+const none = {};
+const sure = tables.switcher(AVAILABLE, { default: none });
+for (const headers of [null, undefined, '', [], 'fr', '*;q=0']) {
+  assert.strictEqual(sure.serve(headers), none);
+  assert.strictEqual(tables.serve(headers, AVAILABLE, { default: none }), none);
+  assert.strictEqual(tables.serve(headers, AVAILABLE, { default: undefined }), null);
+}
+assert.strictEqual(sure.serve('de'), 'de');
+assert.strictEqual(sure.nearest(['fr']), none);
+assert.strictEqual(tables.nearest([], AVAILABLE, { default: none }), none);
 
-for (const [place, available] of [['e'], ['en', 'x-mine'], ['en', 'de', 'en-']].entries()) {
-  assert.throws(() => tables.switcher(available), { code: 'List', place });
+// requests
+for (const [requests, wanted] of [[['en-GB'], 'en'], [['fr', 'de-AT'], 'de'], [['ZH_tw'], 'zh_hant'], [['sh'], 'sr-Latn'],
+  [['fr', 'gsw-u-co-phonebk-x-a'], 'de'], [['fr'], null], [[], null]]) {
+  assert.strictEqual(switcher.nearest(requests), wanted);
+  assert.strictEqual(tables.nearest(requests, AVAILABLE), wanted);
+}
+for (const faulty of ['', ' ', 'en ', 'e', 'en-', 'en\n', 'en\0', '\u00e9n', 'i-klingon', 'zh-cmn', 'en-u', 'x-a', 'sh\tabcdefg']) {
+  for (const requests of [[faulty], ['en', faulty], [faulty, 'en']]) {
+    for (const call of [() => switcher.nearest(requests), () => tables.nearest(requests, AVAILABLE)]) {
+      assert.throws(call, { code: 'List', place: requests.indexOf(faulty) });
+    }
+  }
+}
+for (const wrong of ['en', 5, null, undefined, [5]]) assert.throws(() => switcher.nearest(wrong), TypeError);
+
+// distances, and whether two are the same
+for (const [desired, supported, wanted] of [['en-AU', 'en-GB', 3], ['en', Buffer.from('EN_gb'), 5], ['zh', 'zh-TW', 54],
+  ['en', 'de', 84], ['de-u-co-phonebk', 'de-x-a', 0], ['gsw', 'de', 8]]) {
+  assert.strictEqual(tables.distance(desired, supported), wanted);
+}
+assert.strictEqual(tables.distance('i-klingon', 'tlh', { syntax: 'bcp47' }), 0);
+assert.throws(() => tables.distance('en', 'de', { syntax: 'utf8' }), RangeError);
+assert.throws(() => tables.distance('en', 5), TypeError);
+for (const pair of [['', ''], ['e', 'de'], ['en', ''], ['en de', ''], ['', 'en de'], ['i-klingon', 'en'], ['en', 'de fr']]) {
+  assert.throws(() => tables.distance(...pair), { code: /^Invalid/ });
+}
+assert.strictEqual(tables.areSame('sh', 'sr_latn'), true);
+assert.strictEqual(tables.areSame(Buffer.from('sh-u-rg-abcdefg'), 'sr-Latn-u-rg-xyz'), true);
+assert.strictEqual(tables.areSame('en', 'en-Latn'), false);
+assert.strictEqual(tables.areSame('i-klingon', 'tlh', { syntax: 'bcp47' }), true);
+for (const pair of [['e', 'en'], ['en', 'e'], ['i-klingon', 'en']]) {
+  assert.throws(() => tables.areSame(...pair), { code: 'InvalidLanguage' });
+}
+
+// what is refused
+for (const [place, available] of [['e'], ['en', 'x-mine'], ['en', 'de', 'en-'], ['en', 'de', 'ar', 'sr-u-ka-noignore']].entries()) {
+  for (const call of [() => tables.switcher(available), () => tables.serve('en', available), () => tables.nearest([], available)]) {
+    assert.throws(call, { code: 'List', place });
+  }
 }
 for (const wrong of ['en', 5, null, [5]]) assert.throws(() => tables.serve('en', wrong), TypeError);
-for (const wrong of [5, null, [5]]) assert.throws(() => tables.serve(wrong, ['en']), TypeError);
+for (const wrong of [5, [5], [null], {}]) assert.throws(() => tables.serve(wrong, ['en']), TypeError);
+const { aliases, ...others } = JSON.parse(example);
+assert.strictEqual(Tables.fromJson(JSON.stringify(others), { supplement }).distance('en', 'en-GB'), 5);
+
 tables.close();
 assert.throws(() => tables.serve('de', ['de']), Refused);
 assert.strictEqual(switcher.serve('de'), 'de');
 switcher.close();
+switcher.close();
 assert.throws(() => switcher.serve('de'), { code: 'Closed' });
+assert.throws(() => switcher.nearest(['de']), { code: 'Closed' });
 console.log('switcher: as it should be');

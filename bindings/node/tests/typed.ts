@@ -1,7 +1,8 @@
 // Each call with the types that it takes and gives, for tsc --strict.
-import { Further, Match, Negotiator, Refused, Switcher, Tables } from 'icu_locale';
+import { Headers, Match, MenuRow, Negotiator, Refused, Switcher, Tables, implementation, load } from 'icu_locale';
 
 const tables: Tables = Tables.fromJson('{}');
+const opened: Tables[] = [Tables.cldr(), Tables.cldr(['en', 'de']), Tables.cldr('all')];
 const forms: string[] = [tables.maximize('zh'), tables.minimize(new Uint8Array(2), { favorScript: true })];
 const canonical: string = tables.canonicalize('sh');
 const both: [string, string] = tables.canonicalize('sh', 'abcdefg');
@@ -11,8 +12,15 @@ const negotiator: Negotiator = tables.negotiator(['en']);
 const match: Match | null = negotiator.negotiate(['fr', 'en']);
 const switcher: Switcher = Tables.borrow(tables.share().lend()).switcher(negotiator.available);
 const served: (string | null)[] = [switcher.serve(['fr', 'en']), tables.serve(undefined, ['en']), tables.serve('en', ['en'])];
-const further: Further = { yue: ['zh'] };
-served.push(tables.switcher(['zh'], { further }).serve('yue'), tables.serve('yue', ['zh'], { further }));
+const headers: Headers[] = [null, undefined, 'fr', new Uint8Array(2), ['fr', new Uint8Array(2)]];
+const sure: Switcher<string> = tables.switcher(['en'], { default: 'en' });
+const always: string[] = [...headers.map((it) => sure.serve(it)), sure.nearest(['fr']), tables.serve(null, ['en'], { default: 'en' })];
+const other: string | number = tables.nearest(['fr'], ['en'], { default: 5 });
+const distance: number = tables.distance('en-AU', new Uint8Array(2), { syntax: 'bcp47' });
+const same: boolean = tables.areSame('sh', 'sr-Latn');
+const menu: MenuRow[] = tables.menu(['en', 'de'], 'en', 'light', { fallback: true });
+const by: 'module' | 'addon' = implementation;
+load().then((it) => it.Tables.cldr(['en']));
 try {
   tables.name('it', 'en', 'menu-light');
 } catch (fault) {
@@ -22,8 +30,16 @@ try {
 tables.maximize(5);
 // @ts-expect-error: one text is no list
 tables.negotiator('en');
-// @ts-expect-error: one text is no list of forms
-tables.serve('yue', ['zh'], { further: { yue: 'zh' } });
+// @ts-expect-error: one text is no list, but for `all`
+Tables.cldr('en');
+// @ts-expect-error: a number is no header
+tables.serve(5, ['zh']);
+// @ts-expect-error: without a default there may be none
+tables.serve('yue', ['zh']).length;
+// @ts-expect-error: a syntax is an option
+tables.maximize('de', 'posix');
+// @ts-expect-error: tables are made by calls of their own
+new Tables();
 // @ts-expect-error: no refusal is called so
 new Refused('Nothing');
-export { forms, canonical, both, direction, settled, match, served };
+export { opened, forms, canonical, both, direction, settled, match, served, always, other, distance, same, menu, by };

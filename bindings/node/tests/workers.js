@@ -1,10 +1,10 @@
 'use strict';
-// Sixteen worker threads over the same tables, which are in memory once, and some with tables of their own. Some are ended
-// in the middle of their work.
+// Sixteen worker threads over the same tables, which are in memory once, and some with tables of their own: all of them over
+// the module, which lends nothing. Some are ended in the middle of their work.
 const assert = require('assert');
 const fs = require('fs');
 const threads = require('worker_threads');
-const { Tables } = require('icu_locale');
+const { Tables, implementation } = require('icu_locale');
 
 const TIMES = 1000;
 const example = fs.readFileSync(require.resolve('icu_locale/example.json'));
@@ -45,17 +45,24 @@ function loans() {
   for (const ended of [loan, 0n, 2n ** 64n]) assert.throws(() => Tables.borrow(ended), { code: 'Closed' });
   for (const wrong of [1, '1', undefined]) assert.throws(() => Tables.borrow(wrong), TypeError);
   assert.throws(() => first.lend(), { code: 'Closed' });
-  assert.throws(() => new Tables().lend(), { code: 'Closed' });
+}
+
+function noLoans() {
+  const tables = Tables.fromJson(example);
+  for (const call of [() => tables.lend(), () => Tables.borrow(1n)]) assert.throws(call, { code: 'NoLoan', message: /[a-z]+ [a-z]+/ });
+  assert.throws(() => Tables.borrow(1), TypeError);
 }
 
 async function main() {
-  loans();
+  const lends = implementation === 'addon';
+  if (lends) loans();
+  else noLoans();
   const tables = Tables.fromJson(example);
-  const loan = tables.lend();
+  const loan = lends ? tables.lend() : undefined;
   const all = Array.from({ length: 16 }, (_, number) => worker(number % 8 ? loan : undefined, number % 4 === 3));
   const statuses = await Promise.all(all);
   assert.deepStrictEqual(statuses, statuses.map((_, number) => (number % 4 === 3 ? 1 : 0)));
-  assert.strictEqual(Tables.borrow(loan).maximize('zh'), 'zh-Hans-CN');
+  assert.strictEqual((lends ? Tables.borrow(loan) : tables).maximize('zh'), 'zh-Hans-CN');
   if (threads.markAsUncloneable) {
     assert.throws(() => new threads.MessageChannel().port1.postMessage(tables), { name: 'DataCloneError' });
   }

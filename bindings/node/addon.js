@@ -1,0 +1,33 @@
+'use strict';
+// The calls of icu_locale.h by the addon, over texts. It is a package of its own, or where bindings/node/build has left it.
+const fs = require('fs');
+const path = require('path');
+
+const HERE = path.join(__dirname, 'addon', 'icu_locale.node');
+const calls = require(fs.existsSync(HERE) ? HERE : 'icu_locale_addon');
+
+const COMMANDS = 100; // so many are kept
+const kept = new Map();
+
+function bytes(text) {
+  return typeof text === 'string' ? Buffer.from(text) : text;
+}
+
+// The words of a command are made into bytes once.
+function wordsOf(command) {
+  let words = kept.get(command);
+  if (!words) {
+    words = bytes(command);
+    if (typeof command === 'string' && kept.size < COMMANDS) kept.set(command, words);
+  }
+  return words;
+}
+
+module.exports = {
+  ...calls,
+  open: (json) => calls.open(bytes(json)),
+  supplement: (held, json) => calls.supplement(held, bytes(json)),
+  available: (held, list) => calls.available(held, bytes(list)),
+  negotiate: (held, requests) => calls.negotiate(held, bytes(requests)),
+  answer: (held, command, line) => calls.answer(held, wordsOf(command), bytes(line)),
+};

@@ -1,0 +1,127 @@
+'use strict';
+// What the calls of the package hand over: texts, lists, headers and options. Nothing is read of them but what they are.
+const { numbered, ofLine, noIdentifier, leftOut } = require('./refused.js');
+
+const DONE = 0;
+const LINE_REFUSED = 1;
+const TABLE = 8;
+const LIST = 10;
+const SYNTAXES = ['locales', 'bcp47', 'posix'];
+
+// What stands behind the package: the calls of icu_locale.h, and what a platform does in its own way.
+const behind = { calls: null, textsOfCldr: null, mark: () => {} };
+
+/** Puts calls and ways of a platform behind the package. */
+function stand(ways) {
+  Object.assign(behind, ways);
+}
+
+function text(it) {
+  if (typeof it === 'string' || it instanceof Uint8Array) return it;
+  throw new TypeError('a text is a string or a Uint8Array, as a Buffer is');
+}
+
+function string(it) {
+  if (typeof it !== 'string') throw new TypeError('an identifier is a string');
+  return it;
+}
+
+/** The options of a call: an object that has no other names. */
+function optionsOf(options, ...names) {
+  if (options === undefined) return {};
+  if (options === null || typeof options !== 'object' || Array.isArray(options) || options instanceof Uint8Array) {
+    throw new TypeError(`options are an object, which may have ${names.join(' and ')}`);
+  }
+  const other = Object.keys(options).find((it) => !names.includes(it));
+  if (other !== undefined) throw new TypeError(`there is no option ${other} here; there is ${names.join(' and ')}`);
+  return options;
+}
+
+/** The words of a command in a syntax. */
+function wordsIn(command, options) {
+  const { syntax = 'locales' } = optionsOf(options, 'syntax');
+  if (!SYNTAXES.includes(syntax)) throw new RangeError('the syntaxes are locales, bcp47 and posix');
+  return `${syntax} ${command}`;
+}
+
+function made(told) {
+  if (typeof told === 'number') throw numbered(told);
+  return told;
+}
+
+/** The identifiers of a list. In a line, one that is empty or holds a space would be none, or two. */
+function listed(identifiers) {
+  if (!Array.isArray(identifiers)) throw new TypeError('identifiers are handed in as an array');
+  const list = Array.from(identifiers, string);
+  const place = list.findIndex((it) => it === '' || it.includes(' '));
+  if (place >= 0) throw noIdentifier(place, list[place]);
+  return list;
+}
+
+/** Texts as one, with others between them. */
+function joined(texts, between) {
+  if (texts.map(text).every((it) => typeof it === 'string')) return texts.join(between);
+  const coder = new TextEncoder();
+  const parts = texts.map((it) => (typeof it === 'string' ? coder.encode(it) : it));
+  const gap = coder.encode(between);
+  const whole = new Uint8Array(parts.reduce((sum, it) => sum + it.length + gap.length, -gap.length));
+  let end = 0;
+  parts.forEach((it, place) => {
+    if (place) whole.set(gap, end - gap.length);
+    whole.set(it, end);
+    end += it.length + gap.length;
+  });
+  return whole;
+}
+
+/** The text of one header: several are one, and none is empty. */
+function headerOf(headers) {
+  if (headers === undefined || headers === null) return '';
+  return Array.isArray(headers) ? joined(headers, ', ') : text(headers);
+}
+
+/** Why a list is refused: the first that is refused as a line. */
+function listRefusal(tables, list, command = 'maximize') {
+  const isRefused = (it) => {
+    try {
+      tables.answer(command, it);
+      return false;
+    } catch (refused) {
+      return true;
+    }
+  };
+  const place = list.findIndex(isRefused);
+  return noIdentifier(place, list[place]);
+}
+
+// Whether a handle's tables leave out what a command wants.
+function leavesOut(held) {
+  return (command) => {
+    const told = behind.calls.answer(held, command, 'und');
+    return typeof told !== 'string' && told[0] === TABLE;
+  };
+}
+
+/** What a call tells that is handed a list. */
+function overList(tables, held, list, call) {
+  const told = call(list.join(' '));
+  if (told === LIST) throw listRefusal(tables, list);
+  if (told === TABLE) throw leftOut('maximize', leavesOut(held));
+  return told;
+}
+
+/** What a handle answers to a line, by the words of a command. */
+function answered(held, command, line) {
+  const told = behind.calls.answer(held, text(command), text(line));
+  if (typeof told === 'string') return told;
+  const [number, answer] = told;
+  if (number === LINE_REFUSED) throw ofLine(answer.split('\t')[1], line);
+  const words = typeof command === 'string' ? command : new TextDecoder().decode(command);
+  if (number === TABLE) throw leftOut(words, leavesOut(held));
+  throw numbered(number);
+}
+
+module.exports = {
+  DONE, TABLE, behind, stand, text, string, optionsOf, wordsIn, made, listed, joined, headerOf, listRefusal, leavesOut,
+  overList, answered,
+};

@@ -1,0 +1,31 @@
+/** The package in a browser, and where else it is fetched. index.d.ts says what each call takes. */
+import { Tables as TablesHere, Text } from './index.js';
+
+export * from './index.js';
+export const implementation: 'module';
+
+/** Where the module and CLDR's data are. An address is read as `fetch` reads it. */
+export interface Places {
+  /** The address of icu_locale.wasm, a response of it, its bytes, or what is compiled of it. */
+  module?: string | URL | Response | Promise<Response> | BufferSource | WebAssembly.Module;
+  /** The address of the folder `data`, which ends with a slash. */
+  data?: string | URL;
+}
+
+/**
+ * Loads the module, once, and says where CLDR's data is fetched. Where no place is named, both are beside browser.mjs.
+ * What can not be loaded is refused as `NotLoaded`.
+ */
+export function load(places?: Places): Promise<typeof import('./browser.mjs')>;
+
+/** Tables, by `Tables.cldr` or, once `load` has ended, `Tables.fromJson`. */
+export type Tables = TablesHere;
+export const Tables: {
+  readonly prototype: TablesHere;
+  /**
+   * The tables of CLDR's data, fetched from its folder, with the names of some locales, and their supplement. The module is
+   * loaded first. One that CLDR has no names for is refused as `NoCldr`.
+   */
+  cldr(locales?: readonly string[] | 'all'): Promise<TablesHere>;
+  fromJson(json: Text, options?: { supplement?: Text }): TablesHere;
+};

@@ -1,0 +1,193 @@
+'use strict';
+// The calls of icu_locale.h by the module for WebAssembly, as the addon has them: over the memory of one instance. A handle
+// is a block of that memory, which an object stands for.
+
+const [ROOM, MEMORY, NO_LOAN] = [3, 4, -1];
+const HANDLE = 8n;
+const SHORT = 48; // what is so short is written and read byte by byte
+const COMMANDS = 100; // so many are kept
+const PROBE = Uint8Array.of(0, 97, 115, 109, 1, 0, 0, 0, 5, 3, 1, 4, 1); // a module that has a memory of 64 bits
+
+/** Whether this engine has memories of 64 bits. */
+function hasWideMemory() {
+  return typeof WebAssembly === 'object' && WebAssembly.validate(PROBE);
+}
+
+// A handle. Its block is given back when it is collected.
+class Held {
+  constructor(place) {
+    this.place = place;
+  }
+}
+
+class Module {
+  #its;
+  #bytes;
+  #coder = new TextEncoder();
+  #decoder = new TextDecoder('utf-8', { ignoreBOM: true });
+  #commands = new Map();
+  #command = { place: 0n, room: 0 };
+  #line = { place: 0n, room: 0 };
+  #out = { place: 0n, room: 0 };
+  #numbers;
+  #collected = new FinalizationRegistry((place) => this.#letGo(place));
+
+  constructor(instance) {
+    this.#its = instance.exports;
+    this.#bytes = new Uint8Array(this.#its.memory.buffer);
+    this.#numbers = this.#its.icu_locale_take(16n);
+    const isRoom = this.#numbers && this.#widen(this.#line, 256) && this.#widen(this.#out, 256);
+    if (!isRoom) throw new RangeError('there is no memory');
+  }
+
+  // The memory's bytes. A memory that has grown has another buffer.
+  #all() {
+    if (this.#bytes.length === 0) this.#bytes = new Uint8Array(this.#its.memory.buffer);
+    return this.#bytes;
+  }
+
+  #number(place) {
+    return Number(new DataView(this.#its.memory.buffer).getBigUint64(Number(place), true));
+  }
+
+  // Makes a block as long as that, and forgets what it holds.
+  #widen(block, room) {
+    const place = this.#its.icu_locale_take(BigInt(room));
+    if (!place) return false;
+    if (block.place) this.#its.icu_locale_give(block.place);
+    Object.assign(block, { place, room });
+    return true;
+  }
+
+  // Puts a text at a place that has room for it, and gives its length.
+  #put(text, place) {
+    const bytes = this.#all();
+    const start = Number(place);
+    if (typeof text !== 'string') {
+      bytes.set(text, start);
+      return text.length;
+    }
+    for (let at = 0; at < text.length && text.length <= SHORT; at += 1) {
+      const unit = text.charCodeAt(at);
+      if (unit > 127) break;
+      bytes[start + at] = unit;
+      if (at === text.length - 1) return text.length;
+    }
+    return this.#coder.encodeInto(text, bytes.subarray(start, start + 3 * text.length)).written;
+  }
+
+  #text(place, length) {
+    const bytes = this.#all();
+    const start = Number(place);
+    let text = '';
+    for (let at = start; at < start + length && length <= SHORT; at += 1) {
+      if (bytes[at] > 127) break;
+      text += String.fromCharCode(bytes[at]);
+    }
+    return text.length === length ? text : this.#decoder.decode(bytes.subarray(start, start + length));
+  }
+
+  // A call over a text that is put into a block of its own.
+  #over(text, call) {
+    const it = typeof text === 'string' ? this.#coder.encode(text) : text;
+    const block = this.#its.icu_locale_take(BigInt(it.length));
+    if (!block) return MEMORY;
+    this.#all().set(it, Number(block));
+    const number = call(block, BigInt(it.length));
+    this.#its.icu_locale_give(block);
+    return number;
+  }
+
+  // A handle by a call that opens one, or the number of a refusal.
+  #made(call) {
+    const place = this.#its.icu_locale_take(HANDLE);
+    if (!place) return MEMORY;
+    this.#all().fill(0, Number(place), Number(place + HANDLE));
+    const number = call(place);
+    if (number) {
+      this.#letGo(place);
+      return number;
+    }
+    const held = new Held(place);
+    this.#collected.register(held, place);
+    return held;
+  }
+
+  #letGo(place) {
+    this.#its.icu_locale_close(place);
+    this.#its.icu_locale_give(place);
+  }
+
+  // The place and the length of a command's words; null where memory is refused. The first and short ones are kept.
+  #words(command) {
+    const kept = this.#commands.get(command);
+    if (kept) return kept;
+    const isKept = typeof command === 'string' && command.length <= SHORT && this.#commands.size < COMMANDS;
+    const block = isKept ? { place: 0n, room: 0 } : this.#command;
+    const most = 3 * command.length;
+    if (most >= block.room && !this.#widen(block, most)) return null;
+    const words = [block.place, BigInt(this.#put(command, block.place))];
+    if (isKept) this.#commands.set(command, words);
+    return words;
+  }
+
+  open(json) {
+    return this.#made((to) => this.#over(json, (place, length) => this.#its.icu_locale_open(place, length, to)));
+  }
+
+  supplement(held, json) {
+    return this.#over(json, (place, length) => this.#its.icu_locale_supplement(held.place, place, length));
+  }
+
+  share(held) {
+    return this.#made((to) => this.#its.icu_locale_share(held.place, to));
+  }
+
+  available(held, list) {
+    return this.#made((to) => this.#over(list, (place, length) => (
+      this.#its.icu_locale_available(held.place, place, length, to))));
+  }
+
+  /** The places of what is met, or the number where nothing is and of a refusal. */
+  negotiate(held, requests) {
+    const other = this.#numbers + 8n;
+    const number = this.#over(requests, (place, length) => (
+      this.#its.icu_locale_negotiate(held.place, place, length, this.#numbers, other)));
+    return number ? number : [this.#number(this.#numbers), this.#number(other)];
+  }
+
+  /** The text of an accepted line, and else a number and a text. */
+  answer(held, command, line) {
+    const most = typeof line === 'string' ? 3 * line.length : line.length;
+    const words = this.#words(command);
+    if (!words || (most > this.#line.room && !this.#widen(this.#line, most))) return [MEMORY, ''];
+    const length = BigInt(this.#put(line, this.#line.place));
+    const ask = () => this.#its.icu_locale_answer(
+      held.place, words[0], words[1], this.#line.place, length, this.#out.place, BigInt(this.#out.room), this.#numbers);
+    let number = ask();
+    if (number === ROOM) {
+      if (!this.#widen(this.#out, this.#number(this.#numbers))) return [MEMORY, ''];
+      number = ask();
+    }
+    const answer = this.#text(this.#out.place, this.#number(this.#numbers));
+    return number ? [number, answer] : answer;
+  }
+
+  isSettled(held) {
+    return this.#its.icu_locale_is_settled(held.place);
+  }
+
+  close(held) {
+    this.#its.icu_locale_close(held.place);
+  }
+
+  lend() {
+    return NO_LOAN;
+  }
+
+  borrow() {
+    return NO_LOAN;
+  }
+}
+
+module.exports = { Module, hasWideMemory };

@@ -1,0 +1,89 @@
+'use strict';
+// What serves a reader one of the identifiers that are available.
+const { behind, listed, made, headerOf, listRefusal, overList, answered } = require('./asking.js');
+
+const NOT_MET = 1;
+const OWN = Symbol('made by the package');
+
+/** What is available, by `tables.negotiator`. */
+class Negotiator {
+  #at;
+  #available;
+
+  constructor(own, at, available) {
+    if (own !== OWN) throw new TypeError('a negotiator is made by tables.negotiator');
+    behind.mark(this);
+    this.#at = at;
+    this.#available = Object.freeze(available);
+  }
+
+  /** The identifiers that are available, as they were handed in. */
+  get available() {
+    return this.#available;
+  }
+
+  /**
+   * The places of the first request that an available identifier means, and of the first such identifier, as
+   * `{ request, available }`; null where no request is met.
+   */
+  negotiate(requests) {
+    const told = overList(this, this.#at, listed(requests), (line) => behind.calls.negotiate(this.#at, line));
+    if (told === NOT_MET) return null;
+    const [request, available] = made(told);
+    return { request, available };
+  }
+
+  /** What the program icu_locale_cli answers to a line, by the words of a command. */
+  answer(command, line) {
+    return answered(this.#at, command, line);
+  }
+
+  /** Lets the list and the tables go. A second call does nothing. */
+  close() {
+    behind.calls.close(this.#at);
+  }
+}
+
+/** What is available, by `tables.switcher`, and which of it is served. */
+class Switcher {
+  #negotiator;
+  #otherwise;
+
+  constructor(own, negotiator, otherwise) {
+    if (own !== OWN) throw new TypeError('a switcher is made by tables.switcher');
+    this.#negotiator = negotiator;
+    this.#otherwise = otherwise;
+  }
+
+  /** The identifiers that are available, as they were handed in. */
+  get available() {
+    return this.#negotiator.available;
+  }
+
+  /** What is served for one header Accept-Language, for several or for none; the default where nothing is near enough. */
+  serve(headers) {
+    return this.#told('serve', headerOf(headers));
+  }
+
+  /** What is nearest to requests, the most wanted first; the default where nothing is near enough. */
+  nearest(requests) {
+    const list = listed(requests);
+    try {
+      return this.#told('locales nearest', list.join(' '));
+    } catch (refused) {
+      throw /^Invalid/.test(refused.code) ? listRefusal(this.#negotiator, list, 'locales maximize') : refused;
+    }
+  }
+
+  #told(command, line) {
+    const told = this.#negotiator.answer(command, line);
+    return told === 'none' ? this.#otherwise : this.available[Number(told.split('\t')[0])];
+  }
+
+  /** Lets the list and the tables go. A second call does nothing. */
+  close() {
+    this.#negotiator.close();
+  }
+}
+
+module.exports = { OWN, Negotiator, Switcher };

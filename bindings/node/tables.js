@@ -1,0 +1,218 @@
+'use strict';
+// Tables of locale identifiers, over what stands behind the package. index.d.ts says what each call takes.
+const { refusal, numbered, ofLine, shown, leftOut } = require('./refused.js');
+const {
+  DONE, TABLE, behind, text, string, optionsOf, wordsIn, made, listed, joined, leavesOut, overList, answered,
+} = require('./asking.js');
+const { OWN, Negotiator, Switcher } = require('./served.js');
+const { inOrder } = require('./menu.js');
+
+// What stands before the mark of an answer.
+function beforeMark(answer) {
+  return answer.slice(0, answer.lastIndexOf('\t'));
+}
+
+// The default of what serves a reader.
+function defaultOf(options) {
+  const { default: otherwise = null } = optionsOf(options, 'default');
+  return otherwise;
+}
+
+// The tables of two texts, or of two that are yet to come.
+function opened(texts) {
+  if (texts instanceof Promise) return texts.then(opened);
+  return Tables.fromJson(texts.tables, { supplement: texts.supplement });
+}
+
+/** Tables, by `Tables.cldr` or `Tables.fromJson`. */
+class Tables {
+  #at;
+  #negotiator;
+
+  constructor(own, at) {
+    if (own !== OWN) throw new TypeError('tables are made by Tables.cldr, Tables.fromJson and Tables.borrow');
+    behind.mark(this);
+    this.#at = at;
+  }
+
+  /** The tables of CLDR's data inside, with the names of some locales, or of `all`, and their supplement. */
+  static cldr(locales = []) {
+    return opened(behind.textsOfCldr(locales));
+  }
+
+  /** The tables of a JSON text, a string or its bytes, and their supplement of another one. */
+  static fromJson(json, options) {
+    const { supplement } = optionsOf(options, 'supplement');
+    const texts = [json, ...(supplement === undefined ? [] : [supplement])].map(text);
+    const at = made(behind.calls.open(texts[0]));
+    const number = texts.length > 1 ? behind.calls.supplement(at, texts[1]) : DONE;
+    if (number === DONE) return new Tables(OWN, at);
+    behind.calls.close(at);
+    throw numbered(number);
+  }
+
+  /** The same tables once more. They are in memory once. */
+  share() {
+    return new Tables(OWN, made(behind.calls.share(this.#at)));
+  }
+
+  /**
+   * Lends the tables to other workers of this process: a number that may be posted to them, for `borrow`. The loan ends
+   * where these tables are closed or collected; what was borrowed stays. The addon alone lends.
+   */
+  lend() {
+    return made(behind.calls.lend(this.#at));
+  }
+
+  /** The tables that another worker has lent. They are in memory once. */
+  static borrow(number) {
+    if (typeof number !== 'bigint') throw new TypeError('a loan is a number of the type bigint, by tables.lend');
+    return new Tables(OWN, made(behind.calls.borrow(number)));
+  }
+
+  /** What serves a reader one of the identifiers that are available, an array of strings. It holds these tables too. */
+  negotiator(available) {
+    const list = listed(available);
+    const held = this.#at;
+    const at = made(overList(this, held, list, (line) => behind.calls.available(held, line)));
+    return new Negotiator(OWN, at, list);
+  }
+
+  // What was last available is kept, so that it is read once.
+  #over(available) {
+    const list = listed(available);
+    const kept = this.#negotiator;
+    if (!kept || kept.available.length !== list.length || !list.every((it, place) => it === kept.available[place])) {
+      this.#negotiator = this.negotiator(list);
+    }
+    return this.#negotiator;
+  }
+
+  /**
+   * What serves a reader by the headers Accept-Language of a request. It holds these tables too. What it serves is one of
+   * the available identifiers as it was handed in, or the default where none is near enough.
+   */
+  switcher(available, options) {
+    return new Switcher(OWN, this.negotiator(available), defaultOf(options));
+  }
+
+  /**
+   * What is served of the available identifiers, in their own spelling, for the headers Accept-Language of a request: one,
+   * several or none. The default where none is near enough. The tables need match rules, which a supplement has. What was
+   * last available is kept, so that it is read once.
+   */
+  serve(headers, available, options) {
+    return new Switcher(OWN, this.#over(available), defaultOf(options)).serve(headers);
+  }
+
+  /**
+   * What is nearest to requests, the most wanted first, of the available identifiers, in their own spelling. The default
+   * where none is near enough. What was last available is kept, as `serve` does.
+   */
+  nearest(requests, available, options) {
+    return new Switcher(OWN, this.#over(available), defaultOf(options)).nearest(requests);
+  }
+
+  /** How far an identifier that may be served is from one that is desired, by the match rules. */
+  distance(desired, supported, options) {
+    return Number(this.#told('distance', joined([desired, supported], ' '), options));
+  }
+
+  /** Whether two texts have one canonical form. */
+  areSame(first, second, options) {
+    const [one, other] = [first, second].map((it) => this.#form('canonicalize', it, options));
+    return one === other;
+  }
+
+  /** Lets the tables go. A second call does nothing. */
+  close() {
+    this.#negotiator = undefined;
+    behind.calls.close(this.#at);
+  }
+
+  /** What the program icu_locale_cli answers to a line, by the words of a command. */
+  answer(command, line) {
+    return answered(this.#at, command, line);
+  }
+
+  // The answer to a locale identifier in a syntax.
+  #told(command, identifier, options) {
+    return answered(this.#at, wordsIn(command, options), identifier);
+  }
+
+  #form(command, identifier, options) {
+    return beforeMark(this.#told(command, identifier, options));
+  }
+
+  /** The maximal form: with the likely script and region. */
+  maximize(identifier, options) {
+    return this.#form('maximize', identifier, options);
+  }
+
+  /** The minimal form: the shortest with the same maximal form. */
+  minimize(identifier, options) {
+    const { favorScript = false, syntax } = optionsOf(options, 'favorScript', 'syntax');
+    return this.#form(favorScript ? 'minimize-script' : 'minimize', identifier, { syntax });
+  }
+
+  /** The canonical form, or of an identifier alone and a value at `rg`, the two. */
+  canonicalize(identifier, value) {
+    if (text(identifier).includes(typeof identifier === 'string' ? '\t' : 9)) throw ofLine('InvalidSubtag', identifier);
+    const isText = typeof value === 'string' || value instanceof Uint8Array;
+    if (!isText) return this.#form('canonicalize', identifier, value);
+    return beforeMark(this.answer('canonicalize', joined([identifier, value], '\t'))).split('\t');
+  }
+
+  /** `ltr`, `rtl` or null. */
+  direction(identifier, options) {
+    const told = this.#told('direction', identifier, options);
+    return told === 'none' ? null : told;
+  }
+
+  /** The identifiers that a loader asks after one another, from this one to `und`. */
+  fallback(identifier, options) {
+    return this.#told('fallback', identifier, options).split(' ');
+  }
+
+  /**
+   * The name, in the language of the preferences. What the tables have no name for stands as a subtag. With `fallback` it is
+   * in the first locale behind the preferences that the tables have.
+   */
+  name(identifier, preferences, chain = 'light', options = undefined) {
+    const { fallback = false, syntax } = optionsOf(options, 'fallback', 'syntax');
+    for (const locale of fallback ? this.fallback(string(preferences)) : []) {
+      try {
+        return this.name(identifier, locale, chain, { syntax });
+      } catch (refused) {
+        if (refused.code !== 'IdentifierNotFound') throw refused;
+      }
+    }
+    try {
+      return this.#form(`name ${string(chain)} ${string(preferences)}`, identifier, { syntax });
+    } catch (refused) {
+      if (refused.code !== 'IdentifierNotFound') throw refused;
+      throw refusal(refused.code, `the tables were made without the locale ${shown(preferences)}`);
+    }
+  }
+
+  /**
+   * The languages of a list for a menu, as `{ locale, name, own }`: the locale as it was handed in, its name in one
+   * language, and in itself. They are in the order of their names by Intl.Collator, or else by code point.
+   */
+  menu(locales, language, chain = 'light', options = undefined) {
+    const { fallback } = optionsOf(options, 'fallback');
+    const nameIn = (it, preferences) => this.name(it, preferences, chain, { fallback });
+    const rows = listed(locales).map((locale) => ({ locale, name: nameIn(locale, language), own: nameIn(locale, locale) }));
+    return inOrder(rows, this.canonicalize(language));
+  }
+
+  /** Whether the likely tables are settled. It looks at each row. */
+  isSettled() {
+    const number = behind.calls.isSettled(this.#at);
+    if (number === TABLE) throw leftOut('maximize', leavesOut(this.#at));
+    if (number > 1) throw numbered(number);
+    return number === 1;
+  }
+}
+
+module.exports = { Tables };

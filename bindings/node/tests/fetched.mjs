@@ -1,0 +1,103 @@
+// The package as a browser has it, over a server of files: `fetched.mjs`. What it answers is what the package for Node.js
+// answers, and what is missing there is told.
+import assert from 'assert';
+import fs from 'fs';
+import http from 'http';
+import path from 'path';
+import { createRequire } from 'module';
+import { Tables as Here } from 'icu_locale';
+
+const require = createRequire(import.meta.url);
+const folder = path.dirname(require.resolve('icu_locale'));
+const data = [path.join(folder, 'data'), path.join(folder, '..', '..', 'out', 'data')].find((it) => fs.existsSync(it));
+const entry = require.resolve('icu_locale/browser');
+const example = fs.readFileSync(require.resolve('icu_locale/example.json'), 'utf8');
+
+// A file of the package, or of its data. `/unpacked` is a server that unpacks what it sends, `/other` one of other types.
+function file(address) {
+  const name = path.basename(address);
+  if (!address.includes('/data/')) return path.join(folder, name);
+  if (name !== 'languages') return path.join(data, name);
+  return Buffer.from(fs.readdirSync(data).filter((it) => /^[a-z]+\.gz$/.test(it)).map((it) => path.basename(it, '.gz')).join('\n'));
+}
+
+const server = http.createServer((request, response) => {
+  try {
+    const found = file(request.url);
+    const bytes = typeof found === 'string' ? fs.readFileSync(found) : found;
+    const headers = {};
+    if (request.url.endsWith('.wasm') && !request.url.startsWith('/other')) headers['content-type'] = 'application/wasm';
+    if (request.url.startsWith('/unpacked') && request.url.endsWith('.gz')) headers['content-encoding'] = 'gzip';
+    response.writeHead(200, headers).end(bytes);
+  } catch (missing) {
+    response.writeHead(404).end('<!doctype html>');
+  }
+});
+
+// The package once more, as another page would load it.
+let count = 0;
+const fresh = async () => {
+  count += 1;
+  return import(`${entry}?${count}`);
+};
+
+async function loads(address) {
+  const { Tables, Refused, load, implementation } = await fresh();
+  assert.strictEqual(implementation, 'module');
+  assert.throws(() => Tables.fromJson(example), { name: 'Refused', code: 'NotLoaded', message: /await load\(\)/ });
+  await assert.rejects(load({ module: `${address}/missing.wasm` }), { code: 'NotLoaded', message: /404/ });
+  await assert.rejects(load({ modul: 1 }), TypeError);
+  const [first, second] = await Promise.all([load({ module: `${address}/icu_locale.wasm` }), load()]);
+  assert.strictEqual(first.Tables, second.Tables);
+  assert.strictEqual(Tables.fromJson(example).maximize('zh-TW'), 'zh-Hant-TW');
+  assert.throws(() => Tables.fromJson('{'), Refused);
+}
+
+async function loadsOtherwise(address) {
+  const bytes = fs.readFileSync(path.join(folder, 'icu_locale.wasm'));
+  const kinds = [bytes, bytes.buffer.slice(bytes.byteOffset, bytes.byteOffset + bytes.length), new WebAssembly.Module(bytes),
+    fetch(`${address}/icu_locale.wasm`), new URL(`${address.replace(/\/$/, '')}/other/icu_locale.wasm`)];
+  for (const module of kinds) {
+    const { Tables } = await (await fresh()).load({ module });
+    assert.strictEqual(Tables.fromJson(example).canonicalize('sh'), 'sr-Latn');
+  }
+}
+
+async function fetches(address) {
+  const module = `${address}/icu_locale.wasm`;
+  for (const place of [`${address}/data/`, `${address}/unpacked/data/`]) {
+    const { Tables } = await (await fresh()).load({ module, data: place });
+    const [inside, outside] = [Here.cldr(['en', 'zh_hant']), await Tables.cldr(['en', 'zh_hant'])];
+    assert.strictEqual(outside.name('en-u-ca-buddhist', 'en'), 'English (Buddhist Calendar)');
+    for (const it of ['de-AT', 'yue', 'sr-Latn', 'mo', 'ar-EG', 'de-u-co-phonebk']) {
+      for (const call of ['maximize', 'minimize', 'canonicalize', 'direction', 'fallback']) {
+        assert.deepStrictEqual(outside[call](it), inside[call](it), `${call} of ${it}`);
+      }
+      assert.strictEqual(outside.name(it, 'zh-Hant'), inside.name(it, 'zh-Hant'));
+    }
+    assert.strictEqual(outside.serve('gsw', ['en', 'de']), 'de');
+    for (const word of ['xx', 'en-XX', '../data/en', 'base-and-supplement', '']) {
+      await assert.rejects(Tables.cldr([word]), { code: 'NoCldr', message: `NoCldr: CLDR has no locale ${JSON.stringify(word)}` });
+    }
+    await assert.rejects(Tables.cldr('en'), TypeError);
+  }
+  const { Tables } = await (await fresh()).load({ module, data: `${address}/data/` });
+  assert.strictEqual((await Tables.cldr('all')).name('it', 'hi'), Here.cldr(['hi']).name('it', 'hi'));
+}
+
+async function withoutData(address) {
+  const { Tables } = await (await fresh()).load({ module: `${address}/icu_locale.wasm`, data: `${address}/nothing/` });
+  for (const locales of [[], ['en'], 'all']) {
+    await assert.rejects(Tables.cldr(locales), { code: 'NoCldr', message: /^NoCldr: this package has none of CLDR's data inside/ });
+  }
+}
+
+assert.ok(!/^\s*import |\brequire\(|\bprocess\.|\bBuffer\.|node:/m.test(fs.readFileSync(entry, 'utf8')), 'it imports something');
+await new Promise((resolve) => { server.listen(0, '127.0.0.1', resolve); });
+const address = `http://127.0.0.1:${server.address().port}`;
+await loads(address);
+await loadsOtherwise(address);
+if (data) await fetches(address);
+await withoutData(address);
+server.close();
+console.log(`fetched: as it should be${data ? '' : ', without data'}`);

@@ -1,0 +1,99 @@
+'use strict';
+// Each refusal in words, long texts in messages, and what no call takes.
+const assert = require('assert');
+const fs = require('fs');
+const { Tables, Negotiator, Switcher, Refused } = require('icu_locale');
+
+const [example, supplement] = ['example', 'example-supplement'].map((it) => fs.readFileSync(require.resolve(`icu_locale/${it}.json`)));
+const tables = Tables.fromJson(example, { supplement });
+const circle = { aaa: 'bbb', bbb: 'aaa' };
+const without = (...members) => {
+  const kept = Object.entries(JSON.parse(example)).filter(([member]) => !members.includes(member));
+  return Tables.fromJson(JSON.stringify(Object.fromEntries(kept)), { supplement });
+};
+const round = (members) => Tables.fromJson(example, { supplement: JSON.stringify(members) });
+const aliases = { language_len2: { aa: 'bb', bb: 'aa' }, subdivision: { abcdefg: 'bcdefgh', bcdefgh: 'abcdefg' } };
+const turning = Tables.fromJson(JSON.stringify({ ...JSON.parse(example), aliases }));
+const closed = Tables.fromJson(example);
+closed.close();
+const likely = 'Table: the tables leave out the member `likely_language` or `likely_script_region`';
+const rules = 'Table: the tables leave out the match rules of a supplement';
+const unsettled = '{"likely_language":{"und":["en","Latn","US"],"language":{"xx":["Zzzz","DE"]}},"likely_script_region":{}}';
+
+// A call, and the message of its refusal.
+const REFUSED = [
+  [() => closed.maximize('en'), 'Closed: the tables are closed'],
+  [() => closed.isSettled(), 'Closed: the tables are closed'],
+  [() => Tables.fromJson('{'), 'Json: the text is no JSON'],
+  [() => Tables.fromJson('{"colour":1}'), 'Shape: the JSON has not the shape of tables, or of a supplement'],
+  [() => tables.answer('maximise', 'en'), 'Command: the words are those of no command that answers lines'],
+  [() => tables.answer('serve', 'en'), 'Negotiate: there is no list of what is available; tables.negotiator takes one'],
+  [() => tables.negotiator(['en', 'e-']), 'List: what stands at place 1 is no identifier: "e-"'],
+  [() => Tables.fromJson(unsettled).negotiator([]),
+    'Unsettled: the likely tables are not settled; those of tools/cldr-tables --settled are'],
+  [() => tables.maximize('e'), 'InvalidLanguage: the text does not begin with a language: "e"'],
+  [() => tables.maximize(Buffer.from('en-')), 'InvalidSubtag: a subtag is none, or stands where it may not: "en-"'],
+  [() => turning.canonicalize('aa'), 'NoFixedPoint: the aliases lead round in a circle: "aa"'],
+  [() => turning.canonicalize('en', 'abcdefg'),
+    'NoSubdivisionFixedPoint: the aliases of subdivisions lead round in a circle: "en\\tabcdefg"'],
+  [() => round({ keywords: { ca: circle } }).canonicalize('en-u-ca-aaa'),
+    'NoValueFixedPoint: the aliases of values at a key of the extension `u` lead round in a circle: "en-u-ca-aaa"'],
+  [() => round({ fields: { m0: circle } }).canonicalize('en-t-m0-aaa'),
+    'NoFieldFixedPoint: the aliases of values at a key of the extension `t` lead round in a circle: "en-t-m0-aaa"'],
+  [() => round({ parents: { aa: 'qbb', qbb: 'aa' } }).fallback('aa'),
+    'Circle: the parents behind the locale lead round in a circle: "aa"'],
+  [() => tables.name('it', 'de'), 'IdentifierNotFound: the tables were made without the locale "de"'],
+  [() => tables.answer('name light de', 'it'),
+    'IdentifierNotFound: the tables were made without the locale of the preferences: "it"'],
+  [() => Tables.cldr(['no locale']), /^NoCldr: (CLDR has no locale "no locale"|this package has none of CLDR's data inside; .*)$/],
+];
+for (const [call, message] of REFUSED) {
+  const [code] = message.source ? ['NoCldr'] : message.split(':');
+  assert.throws(call, { name: 'Refused', code, message });
+}
+
+// what is left out
+for (const [members, call, message] of [
+  [['likely_language'], (it) => it.maximize('en'), likely], [['likely_script_region'], (it) => it.isSettled(), likely],
+  [['likely_language', 'aliases'], (it) => it.canonicalize('en'), likely], [['likely_language'], (it) => it.negotiator([]), likely],
+  [['likely_language'], (it) => it.distance('en', 'de'), likely], [['likely_script_region'], (it) => it.fallback('en'), likely],
+  [['aliases'], (it) => it.canonicalize('en'), 'Table: the tables leave out the member `aliases`'],
+  [['aliases'], (it) => it.serve('en', []), 'Table: the tables leave out the member `aliases`'],
+  [['direction'], (it) => it.direction('en'), 'Table: the tables leave out the member `direction`'],
+]) assert.throws(() => call(without(...members)), { name: 'Refused', code: 'Table', message });
+for (const options of [undefined, { supplement: '{"parents":{}}' }]) {
+  const bare = Tables.fromJson(example, options);
+  for (const call of [() => bare.serve(null, []), () => bare.nearest([], []), () => bare.distance('en', 'de')]) {
+    assert.throws(call, { name: 'Refused', code: 'Table', message: rules });
+  }
+}
+
+// a long text is cut
+const long = 'é'.repeat(1 << 20);
+for (const call of [
+  () => tables.maximize(long), () => tables.maximize(Buffer.from(long)), () => tables.negotiator([long]),
+  () => tables.name('it', `en-${long}`), () => tables.nearest([long], ['en']), () => tables.areSame('en', long), () => tables.answer(long, 'en'), () => Tables.cldr([long]),
+  () => tables.canonicalize(`${long}\t`),
+]) assert.throws(call, (fault) => fault instanceof Refused && fault.message.length < 200);
+
+// what no call takes
+const { implementation, load } = require('icu_locale');
+for (const made of [Tables, Negotiator, Switcher]) {
+  assert.throws(() => new made(), { name: 'TypeError', message: /(are|is) made by/ });
+  assert.throws(() => made(), TypeError);
+}
+for (const wrong of ['posix', null, 5, ['posix'], Buffer.from('posix'), { sintax: 'posix' }, { syntax: 'posix', more: 1 }]) {
+  for (const call of [
+    () => tables.maximize('de', wrong), () => tables.minimize('de', wrong), () => tables.direction('de', wrong),
+    () => tables.fallback('de', wrong), () => tables.name('de', 'en', 'light', wrong), () => tables.distance('de', 'en', wrong),
+    () => tables.areSame('de', 'en', wrong), () => Tables.fromJson(example, wrong), () => tables.serve('de', ['de'], wrong),
+    () => tables.nearest(['de'], ['de'], wrong), () => tables.switcher(['de'], wrong), () => tables.menu(['en'], 'en', 'light', wrong),
+  ]) assert.throws(call, { name: 'TypeError', message: /^(options are an object, which|there is no option) .+/ });
+}
+for (const wrong of [null, 5, ['usca'], { sintax: 'posix' }]) assert.throws(() => tables.canonicalize('de', wrong), TypeError);
+for (const headers of [null, undefined, '', []]) assert.strictEqual(tables.serve(headers, ['en'], { default: 'en' }), 'en');
+
+load().then((it) => {
+  assert.strictEqual(it, require('icu_locale'));
+  console.log(`refusals: as they should be, over the ${implementation}`);
+});
