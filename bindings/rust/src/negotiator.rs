@@ -1,6 +1,6 @@
 //! What is available, and what is served of it.
 use crate::calls::{self, Handle};
-use crate::pool::Pool;
+use crate::pool::{line, Pool};
 use crate::Refusal;
 
 const MET: i32 = 0;
@@ -24,9 +24,7 @@ pub struct Negotiator {
 
 impl Negotiator {
     pub(crate) fn over(tables: Handle, available: Vec<String>) -> Result<Self, Refusal> {
-        let pool = Pool::over(tables, Some(line(&available)?));
-        pool.with(|_| ())?;
-        Ok(Negotiator { pool, available })
+        Ok(Negotiator { pool: Pool::listing(tables, &available)?, available })
     }
 
     /// The identifiers that are available, as they were handed in.
@@ -67,24 +65,4 @@ impl Negotiator {
             number => Err(Refusal::of_number(number)),
         }
     }
-}
-
-// A list as one line. There, an identifier that is empty or holds a space would be none, or two.
-fn line<I>(identifiers: I) -> Result<String, Refusal>
-where
-    I: IntoIterator,
-    I::Item: AsRef<str>,
-{
-    let mut line = String::new();
-    for identifier in identifiers {
-        let identifier = identifier.as_ref();
-        if identifier.is_empty() || identifier.contains(' ') {
-            return Err(Refusal::List);
-        }
-        if !line.is_empty() {
-            line.push(' ');
-        }
-        line.push_str(identifier);
-    }
-    Ok(line)
 }

@@ -7,6 +7,9 @@ use std::sync::atomic::{AtomicPtr, AtomicUsize, Ordering};
 use std::sync::{Mutex, PoisonError};
 
 const DONE: i32 = 0;
+const ACCEPTED: i32 = 0;
+const LINE_REFUSED: i32 = 1;
+const ROOM: i32 = 3;
 const PLACES: usize = 32;
 
 /// A place for a handle that is free, in a line of memory of its own, so that threads do not wait for each other's.
@@ -38,6 +41,33 @@ impl Pool {
     /// A pool over tables, and over the line of a list where there is one.
     pub fn over(root: Handle, list: Option<String>) -> Self {
         Pool { root: Mutex::new(root), list, free: std::array::from_fn(|_| Place(AtomicPtr::new(null_mut()))) }
+    }
+
+    /// A pool over tables and a list, which is read.
+    pub fn listing<T: AsRef<str>>(root: Handle, available: &[T]) -> Result<Self, Refusal> {
+        let pool = Pool::over(root, Some(line(available)?));
+        pool.with(|_| ())?;
+        Ok(pool)
+    }
+
+    /// What the program answers to a line, without its line feed.
+    pub fn answer(&self, command: &str, line: &[u8]) -> Result<String, Refusal> {
+        let mut out = vec![0; 64];
+        let mut written = 0;
+        let number = self.with(|handle| {
+            let mut number = call(handle, command, line, &mut out, &mut written);
+            if number == ROOM {
+                out.resize(written, 0);
+                number = call(handle, command, line, &mut out, &mut written);
+            }
+            number
+        })?;
+        out.truncate(written);
+        match number {
+            ACCEPTED => Ok(String::from_utf8(out).expect("an answer is a text")),
+            LINE_REFUSED => Err(Refusal::of_name(String::from_utf8_lossy(&out).trim_start_matches("?\t"))),
+            number => Err(Refusal::of_number(number)),
+        }
     }
 
     /// A call on a handle that no other call has.
@@ -106,4 +136,40 @@ impl std::fmt::Debug for Pool {
     fn fmt(&self, f: &mut std::fmt::Formatter<'_>) -> std::fmt::Result {
         f.write_str("..")
     }
+}
+
+fn call(handle: &mut Handle, command: &str, line: &[u8], out: &mut [u8], written: &mut usize) -> i32 {
+    // SAFETY: the slices are Rust's, `out` and `written` overlap nothing by `&mut`, and so the handle is this call's.
+    unsafe {
+        calls::icu_locale_answer(
+            handle,
+            command.as_ptr(),
+            command.len(),
+            line.as_ptr(),
+            line.len(),
+            out.as_mut_ptr(),
+            out.len(),
+            written,
+        )
+    }
+}
+
+/// A list as one line. There, an identifier that is empty or holds a space would be none, or two.
+pub fn line<I>(identifiers: I) -> Result<String, Refusal>
+where
+    I: IntoIterator,
+    I::Item: AsRef<str>,
+{
+    let mut line = String::new();
+    for identifier in identifiers {
+        let identifier = identifier.as_ref();
+        if identifier.is_empty() || identifier.contains(' ') {
+            return Err(Refusal::List);
+        }
+        if !line.is_empty() {
+            line.push(' ');
+        }
+        line.push_str(identifier);
+    }
+    Ok(line)
 }

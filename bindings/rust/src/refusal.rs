@@ -13,9 +13,10 @@ pub enum Refusal {
     Shape,
     /// The words are those of no command that answers lines.
     Command,
-    /// The tables leave out one that is needed.
+    /// The tables leave out one that is needed. Match rules are in their supplement.
     Table,
-    /// The command is `negotiate`, and there is no list of what is available: a `Negotiator` has one.
+    /// The command is `negotiate`, `serve` or `nearest`, and there is no list of what is available: a `Negotiator` and a
+    /// `Switcher` have one.
     Negotiate,
     /// The list has something that is no identifier.
     List,
@@ -31,10 +32,21 @@ pub enum Refusal {
     NoFixedPoint,
     /// The rows of subdivisions come to no end.
     NoSubdivisionFixedPoint,
+    /// The aliases of the values at a key of the extension `u` come to no end.
+    NoValueFixedPoint,
+    /// The aliases of the values at a key of the extension `t` come to no end.
+    NoFieldFixedPoint,
     /// The explicit parents behind a locale lead round in a circle.
     Circle,
     /// The tables hold no pattern of names in the language of the preferences.
     NameMissing,
+    /// CLDR has no names for a locale of a list.
+    NoLocale {
+        /// Where it stands, counted from 0.
+        place: usize,
+    },
+    /// The crate was made without CLDR's data.
+    NoData,
 }
 
 impl Refusal {
@@ -59,6 +71,8 @@ impl Refusal {
             "InvalidSubtag" => Refusal::InvalidSubtag,
             "NoFixedPoint" => Refusal::NoFixedPoint,
             "NoSubdivisionFixedPoint" => Refusal::NoSubdivisionFixedPoint,
+            "NoValueFixedPoint" => Refusal::NoValueFixedPoint,
+            "NoFieldFixedPoint" => Refusal::NoFieldFixedPoint,
             "Circle" => Refusal::Circle,
             _ => Refusal::NameMissing,
         }
@@ -68,11 +82,16 @@ impl Refusal {
 impl fmt::Display for Refusal {
     fn fmt(&self, f: &mut fmt::Formatter<'_>) -> fmt::Result {
         f.write_str(match self {
+            Refusal::NoLocale { place } => return write!(f, "CLDR has no names for the locale at place {place} of the list"),
+            Refusal::NoData => "this crate was made without CLDR's data; `from_json` takes tables of it",
             Refusal::Memory => "no memory",
             Refusal::Json => "the text is no JSON",
             Refusal::Shape => "the JSON has not the shape of tables",
             Refusal::Command => "the words are those of no command that answers lines",
-            Refusal::Table => "the tables leave out one that is needed",
+            Refusal::Table => {
+                "the tables leave out a member that is needed: `likely_language`, `likely_script_region`, at `canonicalize` and \
+                 `serve` also `aliases`, at `direction` also `direction`, or at `serve` the match rules of their supplement"
+            }
             Refusal::Negotiate => "there is no list of what is available",
             Refusal::List => "the list has something that is no identifier",
             Refusal::Unsettled => "the likely tables are not settled",
@@ -81,6 +100,8 @@ impl fmt::Display for Refusal {
             Refusal::InvalidSubtag => "a subtag is none, or stands where it may not",
             Refusal::NoFixedPoint => "the rules come to no end",
             Refusal::NoSubdivisionFixedPoint => "the rows of subdivisions come to no end",
+            Refusal::NoValueFixedPoint => "the aliases of values at a key of `u` come to no end",
+            Refusal::NoFieldFixedPoint => "the aliases of values at a key of `t` come to no end",
             Refusal::Circle => "the parents lead round in a circle",
             Refusal::NameMissing => "there is no pattern of names in that language",
         })

@@ -1,5 +1,5 @@
 //! Wrong uses, long answers, and threads, each with its own and all with one.
-use icu_locale_calls::{Direction, Match, Negotiator, Refusal, Syntax, Tables, EXAMPLE};
+use icu_locale_calls::{Direction, Match, Negotiator, Refusal, Switcher, Syntax, Tables, EXAMPLE, EXAMPLE_SUPPLEMENT};
 
 const UNSETTLED: &str = r#"{"likely_language":{"und":["en","Latn","US"],"language":{"xx":["Zzzz","DE"]}},
  "likely_script_region":{}}"#;
@@ -13,7 +13,9 @@ fn refusals() {
     assert_eq!(tables.is_settled(), Err(Refusal::Table));
     assert_eq!(tables.name("en", "en"), Err(Refusal::NameMissing));
     assert_eq!(tables.name("en", "en-fonipa"), Err(Refusal::Command));
-    assert_eq!(tables.answer("negotiate", b"en"), Err(Refusal::Negotiate));
+    for command in ["negotiate", "serve", "nearest", "locales nearest"] {
+        assert_eq!(tables.answer(command, b"en"), Err(Refusal::Negotiate));
+    }
     assert_eq!(tables.answer("", b"\xff"), Err(Refusal::Command));
 }
 
@@ -72,6 +74,124 @@ fn lists() {
     drop(tables);
     let met = negotiator.negotiate(vec!["fr".to_owned(), "yue-Hans".to_owned()]);
     assert_eq!(met, Ok(Some(Match { request: 1, available: 2 })));
+}
+
+fn supplemented() -> Tables {
+    Tables::from_json_with(EXAMPLE.as_bytes(), EXAMPLE_SUPPLEMENT.as_bytes()).unwrap()
+}
+
+const AVAILABLE: [&str; 5] = ["en", "de", "AR_eg", "zh_hant", "sr-Latn"];
+// A header, and what is served.
+const SERVED: [(&str, Option<&str>); 24] = [
+    ("en-GB", Some("en")),
+    ("de-AT;q=0.5, en;q=0.4", Some("de")),
+    ("ar", Some("AR_eg")),
+    ("zh-CN", None),
+    ("zh-CN, de;q=0.1", Some("de")),
+    ("sh", Some("sr-Latn")),
+    ("sr-Cyrl", None),
+    ("gsw", Some("de")),
+    ("yue", Some("zh_hant")),
+    ("yue-Hans", None),
+    ("", None),
+    ("de-u-co-phonebk, en", Some("de")),
+    ("x-mine, i-klingon, de", Some("de")),
+    ("zz-zz-zz, *", Some("en")),
+    ("*;q=0", None),
+    ("EN;q=0, de;q=0, *", Some("AR_eg")),
+    ("de;q=0, ja;q=0.2", None),
+    ("de;q=x, en", Some("en")),
+    ("de;level=1;q=0.1, en;q=0.2", Some("en")),
+    (";q=1, de", Some("de")),
+    ("sh\tabcdefg", None),
+    ("de\0, en", Some("en")),
+    ("\u{ff}, de", Some("de")),
+    ("fr\r\nde", None),
+];
+
+#[test]
+fn served() {
+    let tables = supplemented();
+    let switcher: Switcher = tables.switcher(AVAILABLE).unwrap();
+    for (header, wanted) in SERVED {
+        assert_eq!(switcher.serve([header]), Ok(wanted), "{header}");
+        assert_eq!(tables.serve([header], AVAILABLE), Ok(wanted), "{header}");
+    }
+    assert_eq!(switcher.serve(["fr, en;q=0.1", "de;q=0.2"]), Ok(Some("de")));
+    assert_eq!(switcher.serve([b"\xff".as_slice(), b"de"]), Ok(Some("de")));
+    assert_eq!(switcher.serve(None::<&str>), Ok(None));
+    let none: [&str; 0] = [];
+    assert_eq!(tables.serve(["en"], none), Ok(None));
+    assert_eq!(tables.serve(["de"], vec!["en".to_owned(), "DE".to_owned()]), Ok(Some("DE".to_owned())));
+    assert_eq!(switcher.available(), AVAILABLE);
+    drop(tables);
+    assert_eq!(switcher.serve(["de"]), Ok(Some("de")));
+}
+
+#[test]
+fn nearest() {
+    let tables = supplemented();
+    let switcher = tables.switcher(AVAILABLE).unwrap();
+    assert_eq!(switcher.nearest(["fr", "gsw-u-co-phonebk-x-a"]), Ok(Some("de")));
+    assert_eq!(tables.nearest(["sh".to_owned()], AVAILABLE), Ok(Some("sr-Latn")));
+    let none: [&str; 0] = [];
+    assert_eq!(switcher.nearest(none), Ok(None));
+    for faulty in FAULTY.into_iter().chain(["i-klingon", "en-u", "x-a", "sh\tabcdefg"]) {
+        for requests in [vec![faulty], vec!["en", faulty], vec![faulty, "en"]] {
+            assert_eq!(switcher.nearest(requests.clone()), Err(Refusal::List), "{faulty}");
+            assert_eq!(tables.nearest(requests, AVAILABLE), Err(Refusal::List), "{faulty}");
+        }
+    }
+    for faulty in FAULTY.into_iter().chain(["x-mine", "sr-u-ka-noignore"]) {
+        assert_eq!(tables.switcher(["en", faulty]).err(), Some(Refusal::List));
+        assert_eq!(tables.serve(["en"], ["en", faulty]), Err(Refusal::List));
+    }
+}
+
+#[test]
+fn distances_and_what_is_the_same() {
+    let tables = supplemented();
+    for (desired, supported, wanted) in [("en-AU", "en-GB", 3), ("en", "EN_gb", 5), ("en", "de", 84), ("gsw", "de", 8)] {
+        assert_eq!(tables.distance(desired, supported), Ok(wanted));
+    }
+    for (desired, supported) in [("", ""), ("e", "de"), ("en", ""), ("en de", ""), ("i-klingon", "en")] {
+        assert_eq!(tables.distance(desired, supported), Err(Refusal::InvalidLanguage));
+    }
+    assert_eq!(tables.distance("en", "de fr"), Err(Refusal::InvalidSubtag));
+    assert_eq!(tables.are_same("sh-u-rg-abcdefg", "sr-Latn-u-rg-xyz"), Ok(true));
+    assert_eq!(tables.are_same("en", "en-Latn"), Ok(false));
+    assert_eq!(tables.are_same("en", "e"), Err(Refusal::InvalidLanguage));
+    let tables = tables.with_syntax(Syntax::Bcp47);
+    assert_eq!(tables.distance("i-klingon", "tlh"), Ok(0));
+    assert_eq!(tables.are_same("i-klingon", "tlh"), Ok(true));
+}
+
+#[test]
+fn missing_match_rules() {
+    let tables = Tables::from_json(EXAMPLE.as_bytes()).unwrap();
+    let none: [&str; 0] = [];
+    assert_eq!(tables.serve(none, none), Err(Refusal::Table));
+    assert_eq!(tables.switcher(["en"]).unwrap().nearest(["en"]), Err(Refusal::Table));
+    assert_eq!(tables.distance("en", "de"), Err(Refusal::Table));
+    assert!(Refusal::Table.to_string().contains("match rules"));
+}
+
+#[test]
+fn aliases_of_values() {
+    let tables = supplemented();
+    for (identifier, wanted) in [
+        ("en-u-ca-islamicc", "en-u-ca-islamic-civil"),
+        ("en-u-kb-yes", "en-u-kb"),
+        ("en-t-m0-names", "en-t-m0-prprname"),
+    ] {
+        assert_eq!(tables.canonicalize(identifier).as_deref(), Ok(wanted));
+        assert_eq!(tables.are_same(identifier, wanted), Ok(true));
+    }
+    let circle = r#"{"aaa":"bbb","bbb":"aaa"}"#;
+    let circles = format!(r#"{{"keywords":{{"ca":{circle}}},"fields":{{"m0":{circle}}}}}"#);
+    let tables = Tables::from_json_with(EXAMPLE.as_bytes(), circles.as_bytes()).unwrap();
+    assert_eq!(tables.canonicalize("en-u-ca-aaa"), Err(Refusal::NoValueFixedPoint));
+    assert_eq!(tables.canonicalize("en-t-m0-aaa"), Err(Refusal::NoFieldFixedPoint));
 }
 
 #[test]
@@ -136,10 +256,12 @@ fn is_one_thread_or_many<T: Send + Sync>(_: &T) {}
 
 #[test]
 fn one_object_in_sixteen_threads() {
-    let tables = Tables::from_json(EXAMPLE.as_bytes()).unwrap();
+    let tables = supplemented();
     let negotiator = tables.negotiator(["en", "de", "zh-Hant"]).unwrap();
+    let switcher = tables.switcher(["en", "de", "zh-Hant"]).unwrap();
     is_one_thread_or_many(&tables);
     is_one_thread_or_many(&negotiator);
+    is_one_thread_or_many(&switcher);
     std::thread::scope(|scope| {
         for _ in 0..16 {
             scope.spawn(|| {
@@ -147,6 +269,7 @@ fn one_object_in_sixteen_threads() {
                     assert_eq!(tables.maximize("zh").as_deref(), Ok("zh-Hans-CN"));
                     assert_eq!(tables.canonicalize("sh").as_deref(), Ok("sr-Latn"));
                     assert_eq!(negotiator.negotiate(["fr", "zh-TW"]), Ok(Some(Match { request: 1, available: 2 })));
+                    assert_eq!(switcher.serve(["fr, yue;q=0.1"]), Ok(Some("zh-Hant")));
                 }
                 assert_eq!(tables.is_settled(), Ok(true));
             });
