@@ -12,7 +12,7 @@ from pathlib import Path
 
 sys.path.insert(0, str(Path(__file__).resolve().parents[2] / "bindings" / "python"))
 
-from icu_locale import Further, Tables  # noqa: E402
+from icu_locale import Tables  # noqa: E402
 
 # How long a process may take to read its tables, or to answer a question.
 SECONDS = 5.0
@@ -51,9 +51,11 @@ class Stream:
         return answer.removesuffix("\n").split("\t")
 
     def started(self) -> subprocess.Popen[str]:
-        """A new process that is handed its tables, which are more than it can be written before it reads."""
+        """A new process that is handed its tables, which are more than it can be written before it reads. It has a session
+        of its own, so that what interrupts the service from a terminal does not end it."""
         pipe = subprocess.PIPE
-        self.process = subprocess.Popen(self.words, stdin=pipe, stdout=pipe, text=True, encoding="utf-8")
+        self.process = subprocess.Popen(self.words, stdin=pipe, stdout=pipe, text=True, encoding="utf-8",
+                                        start_new_session=True)
         limit = threading.Timer(SECONDS, self.process.kill)
         limit.start()
         try:
@@ -72,20 +74,17 @@ class Stream:
 
 
 class Switcher:
-    """Serves one of some locales. `settled` and `names` are JSON tables on one line each; `further` are further forms by
-    which a reader may be served."""
+    """Serves one of some locales, the first where nothing is near enough. `settled` and `names` are JSON tables on one line
+    each, and `supplement` is that of the first, with match rules."""
 
-    def __init__(self, program: str, settled: str, names: str, available: list[str], further: Further | None = None) -> None:
+    def __init__(self, program: str, settled: str, supplement: str, names: str, available: list[str]) -> None:
         names = names.strip() + "\n"
-        with Tables.from_json(settled) as tables:
+        with Tables.from_json(settled, supplement) as tables:
             self.available = [tables.canonicalize(tag) for tag in available]
-            self.switcher = tables.switcher(self.available, further=further)
+            self.switcher = tables.switcher(self.available, default=self.available[0])
+            self.switcher.serve(None)  # refuses a supplement without match rules before anyone asks
         self.direction = Stream([program, "direction", "json"], names)
         self.named = {tag: Stream([program, "name", "light", tag, "json"], names) for tag in self.available}
-
-    def serve(self, headers: Iterable[str]) -> str:
-        """The available locale for headers Accept-Language: the first of the available ones where nothing else is."""
-        return self.switcher.serve(headers) or self.available[0]
 
     def menu(self, locale: str) -> list[dict[str, object]]:
         """What each available locale is called in the language of one, and whether a part of it has no name there."""
@@ -97,7 +96,7 @@ class Switcher:
 
     def answer(self, headers: Iterable[str]) -> dict[str, object]:
         """All that a page wants for a reader."""
-        locale = self.serve(headers)
+        locale = self.switcher.serve(headers)
         direction = self.direction.ask(locale)[0]
         return {"locale": locale, "direction": "ltr" if direction == "none" else direction, "menu": self.menu(locale)}
 

@@ -1,14 +1,14 @@
 #!/usr/bin/env python3
 """Tests the switcher and the service over tables of CLDR.
 
-    examples/service/tests.py STREAM PROGRAM SETTLED NAMES FURTHER [PICTURE]
+    examples/service/tests.py STREAM PROGRAM SETTLED SUPPLEMENT NAMES [PICTURE]
 
-STREAM is icu_locale_stream and PROGRAM icu_locale_cli; SETTLED and NAMES are files of tables as the service reads them,
-the second with the locales of LOCALES, and FURTHER has further forms. Each answer of a process that is kept is compared
-with that of one run of PROGRAM: one question after another, from eight threads, and while the process is killed again and
-again. Then the service is asked by HTTP, without further forms and with them, and by headless Chromium where there is one,
-which leaves PICTURE where it is named. The last line says how long a question takes beside one that starts a process. The
-status is 1 where something is wrong.
+STREAM is icu_locale_stream and PROGRAM icu_locale_cli; SETTLED, SUPPLEMENT and NAMES are files as the service reads them,
+the last with the locales of LOCALES. Each answer of a process that is kept is compared with that of one run of PROGRAM:
+one question after another, from eight threads, and while the process is killed again and again. Then the service is asked
+by HTTP, and what it serves is what `serve` of STREAM answers; it is ended while it answers, and cuts none. Headless Chromium looks at its page where there is one, and
+leaves PICTURE where it is named. The last line says how long a question takes beside one that starts a process. The status
+is 1 where something is wrong.
 """
 from __future__ import annotations
 
@@ -20,6 +20,7 @@ import subprocess
 import sys
 import threading
 import time
+import urllib.error
 import urllib.request
 from concurrent.futures import ThreadPoolExecutor
 from pathlib import Path
@@ -37,13 +38,12 @@ LOCALES = ["en", "de", "ar", "ja", "zh-Hant", "sr-Latn"]
 # A header, what is served for it, and which way that runs.
 SERVED = [
     ("en-GB", "en", "ltr"), ("de-AT;q=0.5, en;q=0.4", "de", "ltr"), ("ar-EG", "ar", "rtl"), ("ja-JP", "ja", "ltr"),
-    ("zh-HK", "zh-Hant", "ltr"), ("zh-CN, de;q=0.1", "de", "ltr"), ("sr-ME", "sr-Latn", "ltr"), ("sr", "en", "ltr"),
+    ("zh-HK", "zh-Hant", "ltr"), ("zh-CN, de;q=0.1", "de", "ltr"), ("sr-ME", "sr-Latn", "ltr"), ("sr", "sr-Latn", "ltr"),
     ("sh", "sr-Latn", "ltr"), ("de-1996", "de", "ltr"), ("zz-zz-zz, *", "en", "ltr"), ("", "en", "ltr"),
     ("de;q=0, ja;q=0.2", "ja", "ltr"), ("de;q=x, ja", "ja", "ltr"), ("fr-u-ca-buddhist, ar-u-nu-latn", "ar", "rtl"),
+    ("gsw", "de", "ltr"), ("lb", "de", "ltr"), ("yue-HK", "zh-Hant", "ltr"), ("arz", "ar", "rtl"),
+    ("yue-Hans, ja;q=0.1", "ja", "ltr"), ("zh-CN", "en", "ltr"), ("fr", "en", "ltr"), ("*;q=0", "en", "ltr"),
 ]
-# A header, what is served by further forms, and without them.
-FURTHER = [("gsw, en;q=0.5", "de", "en"), ("lb", "de", "en"), ("yue-HK", "zh-Hant", "en"), ("arz", "ar", "en"),
-           ("yue-Hans, ja;q=0.1", "ja", "ja"), ("sr-Cyrl, ja;q=0.1", "ja", "ja"), ("zh-CN, ja;q=0.1", "ja", "ja")]
 # Header lines as they come, and what is served.
 LINES = [
     ("Accept-Language: fr,\r\n ja", "ja"), ("Accept-Language: fr\r\nHost: x\r\naccept-language: ja", "ja"),
@@ -105,12 +105,84 @@ def fetched(address: str, header: str) -> dict:
         return json.load(answer)
 
 
+def connected(address: str) -> socket.socket:
+    host, port = address.removeprefix("http://").strip("/").split(":")
+    return socket.create_connection((host, int(port)), timeout=60)
+
+
 def by_lines(address: str, lines: str) -> str:
     """What is served for header lines as they are."""
-    host, port = address.removeprefix("http://").strip("/").split(":")
-    with socket.create_connection((host, int(port)), timeout=60) as reader:
+    with connected(address) as reader:
         reader.sendall(f"GET /menu HTTP/1.0\r\n{lines}\r\n\r\n".encode())
         return json.loads(reader.makefile("rb").read().split(b"\r\n\r\n", 1)[1])["locale"]
+
+
+def check_http(address: str) -> list[str]:
+    """What is wrong with HEAD, with a query, and with the header that tells the language."""
+    faults = []
+    for path, status, locale in [("", 200, "ar"), ("menu", 200, "ar"), ("menu?other=1", 200, "ar"), ("?locale=ja", 200, "ja"),
+                                 ("menu?locale=zh-TW", 200, "zh-Hant"), ("menu?locale=fr", 200, "ar"),
+                                 ("menu?locale=%0d%0a&locale=ja", 200, "ar"), ("missing?locale=ja", 404, None)]:
+        told = {method: asked(address + path, method) for method in ("GET", "HEAD")}
+        if any((it[0], it[1]) != (status, locale) for it in told.values()):
+            faults.append(f"/{path}: {told}")
+        if told["HEAD"][3] or not told["GET"][3] or (status == 200 and told["GET"][2] != told["HEAD"][2]):
+            faults.append(f"/{path}: HEAD is not GET without its body")
+    return faults
+
+
+def asked(address: str, method: str) -> tuple[int, str | None, str | None, bytes]:
+    """The status, the language, the length and the body of an answer to a reader of Arabic."""
+    request = urllib.request.Request(address, headers={"Accept-Language": "ar"}, method=method)
+    try:
+        with urllib.request.urlopen(request) as answer:
+            headers = answer.headers
+            return answer.status, headers["Content-Language"], headers["Content-Length"], answer.read()
+    except urllib.error.HTTPError as fault:
+        with fault:
+            return fault.code, fault.headers["Content-Language"], None, fault.read()
+
+
+def ends_whole(reader: socket.socket) -> bool:
+    """Whether a question that was begun is answered to its end."""
+    reader.settimeout(10)
+    try:
+        reader.sendall(b"\r\n")
+        return reader.makefile("rb").read().endswith(b"]}")
+    except OSError:
+        return False
+
+
+def check_end(service: subprocess.Popen[str], address: str, number: int) -> list[str]:
+    """What is wrong with how the service ends: eight readers ask until it is gone, and one has asked half a question."""
+    counts = {"whole": 0, "cut": 0}
+
+    def ask_on() -> None:
+        until = time.monotonic() + 30
+        while time.monotonic() < until:
+            try:
+                with connected(address) as reader:
+                    reader.sendall(b"GET /menu HTTP/1.0\r\nAccept-Language: ja\r\n\r\n")
+                    text = reader.makefile("rb").read()
+            except OSError:  # it takes no reader any more
+                return
+            counts["whole" if text.endswith(b"]}") else "cut"] += 1
+
+    with ThreadPoolExecutor(8) as pool, connected(address) as slow:
+        slow.sendall(b"GET /menu HTTP/1.0\r\n")
+        readers = [pool.submit(ask_on) for _ in range(8)]
+        time.sleep(0.5)
+        service.send_signal(number)
+        for reader in readers:
+            reader.result()
+        half = ends_whole(slow)
+    try:
+        status = service.wait(20)
+    except subprocess.TimeoutExpired:
+        service.kill()
+        return [f"signal {number}: it does not end"]
+    is_so = half and status == 0 and counts["whole"] > 8 and not counts["cut"]
+    return [] if is_so else [f"signal {number}: {counts}, half a question answered: {half}, status {status}"]
 
 
 def check_service(address: str) -> list[str]:
@@ -125,10 +197,13 @@ def check_service(address: str) -> list[str]:
     return faults + [f"{header!r}: another answer, by threads" for header, it in zip(headers, answers) if it != first[header]]
 
 
-def check_further(address: str, column: int) -> list[str]:
-    """What is wrong with what is served by further forms, or without them: a column of FURTHER."""
-    served = {row[0]: fetched(address, row[0])["locale"] for row in FURTHER}
-    return [f"{row[0]!r}: {served[row[0]]} is served" for row in FURTHER if served[row[0]] != row[column]]
+def check_served(stream: str, tables: str, supplement: str) -> list[str]:
+    """Where SERVED is not what one run of the stream answers, the first locale where that is none."""
+    text = "\n".join([tables.strip(), supplement.strip(), " ".join(LOCALES), *(row[0] for row in SERVED)]) + "\n"
+    run = subprocess.run([stream, "serve", "json", "supplement"], input=text, capture_output=True, text=True, encoding="utf-8")
+    answers = [line.rpartition("\t")[2] for line in run.stdout.splitlines()]
+    return [f"{row[0]!r}: {answer} by the stream" for row, answer in zip(SERVED, answers, strict=True)
+            if row[1] != (LOCALES[0] if answer == "none" else answer)]
 
 
 def check_page(address: str, picture: str | None) -> list[str]:
@@ -167,20 +242,21 @@ def times(stream: str, program: str, tables: str) -> str:
 
 def main() -> int:
     parser = Words("examples/service/tests.py", __doc__)
-    for word in ("stream", "program", "settled", "names", "further"):
+    for word in ("stream", "program", "settled", "supplement", "names"):
         parser.add_argument(word, metavar=word.upper())
     parser.add_argument("picture", metavar="PICTURE", nargs="?")
     words = parser.parse_args()
     stream, program = words.stream, words.program
     tables = Path(words.settled).read_text(encoding="utf-8").strip() + "\n"
     faults = check_stream(stream, program, tables)
-    for chosen, column in (([], 2), (["--further", words.further], 1)):
-        command = [sys.executable, HERE / "service", *chosen, stream, words.settled, words.names, "0", *LOCALES]
+    faults += check_served(stream, tables, Path(words.supplement).read_text(encoding="utf-8"))
+    command = [sys.executable, HERE / "service", stream, words.settled, words.supplement, words.names, "0", *LOCALES]
+    for number in (signal.SIGTERM, signal.SIGINT):
         with subprocess.Popen(command, stdout=subprocess.PIPE, text=True) as service:
             address = service.stdout.readline().strip()
-            faults += check_service(address) + check_further(address, column)
-            faults += check_page(address, words.picture) if chosen else []
-            service.terminate()
+            if number == signal.SIGTERM:
+                faults += check_service(address) + check_http(address) + check_page(address, words.picture)
+            faults += check_end(service, address, number)
     for fault in faults[:20]:
         print(fault)
     print(times(stream, program, tables))
