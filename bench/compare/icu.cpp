@@ -7,8 +7,14 @@
 // a line that is none. With `own` they take each line for an identifier of ICU's own form, refuse nothing, and make
 // no tag of the result: the shortest way through ICU. `likely` and `names LOCALE` write rows of ICU's own data, and
 // `versions` says which that is.
+//
+// Of icu_locale_stream there are nearest, serve (the first line lists what is available) and distance, over tags alone.
+// A distance that is not below LocaleMatcher's threshold is written as `far`.
+#include <algorithm>
+#include <cmath>
 #include <cstdio>
 #include <iostream>
+#include <iterator>
 #include <sstream>
 #include <string>
 #include <vector>
@@ -132,6 +138,85 @@ void append_negotiated(std::string &output, const std::string &line, Form form, 
     }
     output += std::to_string(result.getDesiredIndex()) + "\t";
     append_locale(output, *result.getSupportedLocale(), form);
+}
+
+// The words of a line.
+std::vector<std::string> words_of(const std::string &line) {
+    std::istringstream words(line);
+    return {std::istream_iterator<std::string>(words), {}};
+}
+
+// What is available: as it was given, and the name that ICU has for it.
+struct Available {
+    std::vector<std::string> given;
+    std::vector<std::string> names;
+};
+
+Available read_available() {
+    Available available;
+    std::string first;
+    std::getline(std::cin, first);
+    available.given = words_of(first);
+    for (const Locale &locale : read_list(first, Form::Tag)) {
+        available.names.emplace_back(locale.getName());
+    }
+    return available;
+}
+
+void append_place(std::string &output, const Available &available, size_t place) {
+    if (place < available.given.size()) {
+        output += std::to_string(place) + "\t" + available.given[place];
+    } else {
+        output += "none";
+    }
+}
+
+void append_nearest(std::string &output, const std::string &line, const Available &available,
+                    const LocaleMatcher &matcher) {
+    std::vector<Locale> requests = read_list(line, Form::Tag);
+    Locale::RangeIterator<std::vector<Locale>::iterator> range(requests.begin(), requests.end());
+    UErrorCode status = U_ZERO_ERROR;
+    LocaleMatcher::Result result = matcher.getBestMatchResult(range, status);
+    bool is_found = U_SUCCESS(status) && result.getDesiredIndex() >= 0;
+    append_place(output, available, is_found ? result.getSupportedIndex() : available.given.size());
+}
+
+// ICU reads the header, and refuses some.
+void append_served(std::string &output, const std::string &line, const Available &available,
+                   const LocaleMatcher &matcher) {
+    UErrorCode status = U_ZERO_ERROR;
+    const Locale *best = matcher.getBestMatchForListString(line, status);
+    if (U_FAILURE(status)) {
+        output += REFUSED;
+        return;
+    }
+    const std::vector<std::string> &names = available.names;
+    auto found = best == nullptr ? names.end() : std::find(names.begin(), names.end(), best->getName());
+    append_place(output, available, found - names.begin());
+}
+
+void append_distance(std::string &output, const std::string &line, const LocaleMatcher &matcher) {
+    std::vector<Locale> pair = read_list(line, Form::Tag);
+    UErrorCode status = U_ZERO_ERROR;
+    double match = pair.size() == 2 ? matcher.internalMatch(pair[0], pair[1], status) : 0;
+    // a part of one is that the two are spelled otherwise
+    output += match > 0 && U_SUCCESS(status) ? std::to_string(int(std::floor(100 - 100 * match + 1e-6))) : "far";
+}
+
+// With ICU's own threshold and demotion; none is chosen where none is near.
+LocaleMatcher matcher_of(const std::string &available, UErrorCode &status) {
+    LocaleMatcher::Builder builder;
+    builder.setSupportedLocalesFromListString(available);
+    builder.setNoDefaultLocale();
+    return builder.build(status);
+}
+
+LocaleMatcher matcher_of(const Available &available, UErrorCode &status) {
+    std::string list;
+    for (const std::string &given : available.given) {
+        list += (list.empty() ? "" : ",") + given;
+    }
+    return matcher_of(list, status);
 }
 
 LocaleMatcher make_matcher(Form form, UErrorCode &status) {
@@ -268,6 +353,14 @@ int answer(const std::string &command, const char *locale, Form form) {
         answer_lines([&matcher, form](std::string &output, const std::string &line) {
             append_negotiated(output, line, form, matcher);
         });
+    } else if (command == "nearest" || command == "serve") {
+        Available available = read_available();
+        LocaleMatcher matcher = matcher_of(available, status);
+        auto append = command == "serve" ? append_served : append_nearest;
+        answer_lines([&](std::string &output, const std::string &line) { append(output, line, available, matcher); });
+    } else if (command == "distance") {
+        LocaleMatcher matcher = matcher_of("en", status);
+        answer_lines([&](std::string &output, const std::string &line) { append_distance(output, line, matcher); });
     } else if (command == "name") {
         LocaleDisplayNames *names = LocaleDisplayNames::createInstance(Locale(locale), ULDN_DIALECT_NAMES);
         answer_lines([names, form](std::string &output, const std::string &line) {
