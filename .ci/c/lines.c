@@ -1,7 +1,7 @@
-// The program over C's calls: `lines TABLES COMMAND` answers each line of its input, and ends with the status of the
-// program: 0, 1 where a line is refused, and 2 with a number on standard error where there is no answer. At `negotiate`
-// the first line is the list, and the places of each negotiation have to tell what the line of its answer tells: where
-// they do not, the status is 3.
+// The program over C's calls: `lines TABLES COMMAND [SUPPLEMENT]` answers each line of its input, and ends with the status
+// of the program: 0, 1 where a line is refused, and 2 with a number on standard error where there is no answer. At
+// `negotiate`, `serve` and `nearest` the first line is the list, and the places of each negotiation have to tell what the
+// line of its answer tells: where they do not, the status is 3.
 #include "shared.h"
 #include <ctype.h>
 
@@ -74,29 +74,41 @@ static int answers(struct icu_locale *handle, const char *command, const char *l
     return status;
 }
 
-static int negotiations(void) {
+static int over_list(const char *command) {
     next_line();
     char *list = strdup(line);
     int32_t number = icu_locale_available(&tables, (const uint8_t *)line, length, &negotiator);
     icu_locale_close(&tables);
-    int status = number == ICU_LOCALE_DONE ? answers(&negotiator, "negotiate", list) : refuse(number);
+    int is_places = !strcmp(command, "negotiate");
+    int status = number == ICU_LOCALE_DONE ? answers(&negotiator, command, is_places ? list : NULL) : refuse(number);
     free(list);
     return status;
 }
 
-int main(int count, char **names) {
-    if (count != 3) return 3;
-    uint8_t *json = bytes_of(names[1], &size);
+// Reads the tables, and their supplement where a file of it is named.
+static int32_t opened(const char *path, const char *supplement) {
+    uint8_t *json = bytes_of(path, &size);
     int32_t number = icu_locale_open(json, size, &tables);
     free(json);
-    int status;
+    if (supplement && number == ICU_LOCALE_DONE) {
+        json = bytes_of(supplement, &size);
+        number = icu_locale_supplement(&tables, json, size);
+        free(json);
+    }
     size = 0;
+    return number;
+}
+
+int main(int count, char **names) {
+    if (count != 3 && count != 4) return 3;
+    int32_t number = opened(names[1], count == 4 ? names[3] : NULL);
+    int status;
     if (number != ICU_LOCALE_DONE)
         status = refuse(number);
     else if (!strcmp(names[2], "settled"))
         status = settled();
-    else if (!strcmp(names[2], "negotiate"))
-        status = negotiations();
+    else if (!strcmp(names[2], "negotiate") || !strcmp(names[2], "serve") || !strcmp(names[2], "nearest"))
+        status = over_list(names[2]);
     else
         status = answers(&tables, names[2], NULL);
     free(line);
