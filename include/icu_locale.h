@@ -20,7 +20,7 @@
  *   A second handle to the same tables comes from icu_locale_share, or with a list from icu_locale_available.
  * - One call at a time is made on a handle. Other threads may use other handles at the same time, also those to the
  *   same tables. A handle may go to another thread, by what orders the two: a thread's start or join, or a lock.
- * - A pointer and the length behind it are a slice: as many bytes can be read there, at `out` as many can be written.
+ * - A pointer and the length after it are a slice: as many bytes can be read there, at `out` as many can be written.
  *   No pointer is null, not even where the length is 0. Lengths are at most PTRDIFF_MAX.
  * - `out`, `written`, `request`, `available`, a handle and the slices that are read share no byte with each other. The
  *   two handles of icu_locale_share are two, and so are those of icu_locale_available.
@@ -140,7 +140,7 @@ int32_t icu_locale_share(struct icu_locale *from, struct icu_locale *to);
  * `distance` two identifiers, at `negotiate` and `nearest` the requests of one reader, and at `serve` a header
  * Accept-Language. `serve`, `nearest` and `distance` ask the rules of language matching of the tables' supplement.
  *
- * Before these words may stand `locales`, `bcp47` or `posix`, as in `locales maximize`: the line holds locale identifiers
+ * Before these words may come `locales`, `bcp47` or `posix`, as in `locales maximize`: the line holds locale identifiers
  * with extensions, or such tags of RFC 5646, or such names of POSIX locales, and the answer has their extensions.
  *
  * The answer is the program's line without its line feed, with the marks that it has: `zh-Hant-TW`, a tab and `M`.
@@ -151,7 +151,7 @@ int32_t icu_locale_share(struct icu_locale *from, struct icu_locale *to);
  * and `written` is 0.
  *
  * The tables stay. The answer is made in a list that the handle keeps, and then copied to `out`: the first calls take
- * memory for it, and later ones where they want a longer one, or come behind a call that found no memory. What is taken
+ * memory for it, and later ones where they want a longer one, or come after a call that found no memory. What is taken
  * besides is what the program takes: memory for an identifier's variants, for a value and for a list of requests. The
  * first `canonicalize`, `serve` or `nearest` on a handle also reads the rules, which takes about as long as some hundred
  * calls, and the first `serve` or `nearest` prepares the list; both are kept until the handle is closed.
@@ -168,7 +168,7 @@ int32_t icu_locale_is_settled(struct icu_locale *handle);
 
 /*
  * Makes `negotiator` a handle to the tables of `from`, with a list of the identifiers that are available. `list` is the
- * program's first line at `negotiate`, without its line feed: one space stands between two identifiers, and an empty text
+ * program's first line at `negotiate`, without its line feed: one space is between two identifiers, and an empty text
  * lists none. Their minimal forms are made here once, and kept.
  *
  * `negotiator` answers every other call too. Each handle that negotiates is given its list by a call of its own.
@@ -185,7 +185,7 @@ int32_t icu_locale_available(struct icu_locale *from, const uint8_t *list, size_
 /*
  * Tells the first request that an available identifier means, and the first identifier that means it: `request` and
  * `available` are their places in the two lists, counted from 0. Two identifiers mean the same where they have one
- * maximal form. `requests` is one line of the program's input at `negotiate`, without its line feed: one space stands
+ * maximal form. `requests` is one line of the program's input at `negotiate`, without its line feed: one space is
  * between two identifiers, the most wanted first, and an empty text lists none.
  *
  * ICU_LOCALE_MET: `request` and `available` are the places.

@@ -53,7 +53,7 @@ pub enum Call {
     Menu,
     /// Shows the patterns of a locale.
     Essentials,
-    /// Writes the chain behind an identifier.
+    /// Writes the chain of an identifier.
     Chain,
     /// Reads a supplement, and counts what it holds.
     Supplement,

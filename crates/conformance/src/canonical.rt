@@ -7,7 +7,7 @@ use icu_locale::{CanonicalizeError, LocaleCanonicalizer, TransformResult, Turns,
 use icu_locale_core::{Key, LanguageIdentifier, Locale, Value};
 use std::alloc::{AllocError, Global};
 
-// The locale of an identifier, and of what stands behind it: `t=` a transform language, `rg=` and `sd=` values.
+// The locale of an identifier, and of what follows it: `t=` a transform language, `rg=` and `sd=` values.
 fn locale(alloc: Global, text: &str) -> Result<Locale, Fault> {
     let mut words = text.split_whitespace();
     let id = LanguageIdentifier::try_from_str(alloc, words.next().unwrap_or(""))?;

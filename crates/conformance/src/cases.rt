@@ -90,7 +90,7 @@ fn run_line(
     Ok(())
 }
 
-// Whether a row gives what is wanted of it. What differs is put behind the text.
+// Whether a row gives what is wanted of it. What differs is appended to the text.
 fn is_right(alloc: Global, world: &World, line: &str, text: &mut String) -> Result<bool, Fault> {
     let Some((row, wanted)) = line.split_once(" -> ") else {
         write!(text, "no row: {line}\n")?;
@@ -132,7 +132,7 @@ fn unescaped(alloc: Global, input: &str) -> Result<Vec<u8>, Fault> {
     Ok(bytes)
 }
 
-// What stands behind a backslash.
+// What follows a backslash.
 fn unescape(bytes: &mut Vec<u8>, part: &str) -> Result<(), Fault> {
     let Some((byte, rest)) = part.split_at_checked(3) else {
         return Err(Fault::Row);

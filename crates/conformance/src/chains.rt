@@ -1,4 +1,4 @@
-//! Chains behind identifiers, and supplements.
+//! Chains of identifiers, and supplements.
 use crate::fault::Fault;
 use crate::texts::written;
 use crate::world::World;
@@ -10,7 +10,7 @@ use icu_provider::DataLocale;
 use icu_tables::Supplement;
 use std::alloc::{AllocError, Global};
 
-/// The chain behind an identifier, by what the first word says that it keeps; or why there is none.
+/// The chain of an identifier, by what the first word says that it keeps; or why there is none.
 pub fn chain(alloc: Global, world: &World, text: &str) -> Result<String, Fault> {
     let (word, id) = text.split_once(' ').ok_or(Fault::Row)?;
     let priority = match word {

@@ -19,7 +19,7 @@ fn listed(alloc: Global, text: &str) -> Result<Vec<LanguageIdentifier>, ParseErr
     Ok(list)
 }
 
-/// What is found among the identifiers before the bar for the requests behind it: the place of a request, and the
+/// What is found among the identifiers before the bar for the requests after it: the place of a request, and the
 /// available identifier; else `none`, or the name of what refuses the texts or the tables.
 pub fn negotiate(alloc: Global, world: &World, text: &str) -> Result<String, Fault> {
     let (available, requests) = text.split_once('|').ok_or(Fault::Row)?;
@@ -112,7 +112,7 @@ fn maximal_forms(
     Ok(forms)
 }
 
-/// Whether each request, all combined from the parts behind the slash, is answered as a plain search over the maximal
+/// Whether each request, all combined from the parts after the slash, is answered as a plain search over the maximal
 /// forms answers it, among identifiers combined from the parts before it.
 pub fn negotiate_each(alloc: Global, world: &World, text: &str) -> Result<String, Fault> {
     let (available, requests) = text.split_once(" / ").ok_or(Fault::Row)?;

@@ -145,7 +145,7 @@ fn counted(alloc: Global, set: &Variants) -> Result<String, Fault> {
     Ok(answer)
 }
 
-/// How the first identifier stands to the second.
+/// How the first identifier relates to the second.
 pub fn order(alloc: Global, first: &str, second: &str) -> Result<String, Fault> {
     let first = LanguageIdentifier::try_from_str(alloc, first)?;
     let second = LanguageIdentifier::try_from_str(alloc, second)?;

@@ -100,7 +100,7 @@ module _ (likely : LikelySubtags) (available : List LanguageIdentifier) where
 
 -- ---- the walk over a part
 
--- what was read at the place of a row stands there
+-- what was read at the place of a row is there
 pub read_at_place : (available : List LanguageIdentifier) (rows : List Row) (k : ℕ) (r : Row) (y : LanguageIdentifier)
     → All (λ s. s.place < length available) rows → k < length rows → r ≡ get_or rows k r → y ≡ get_or available r.place y → slice_get available r.place ≡ Some y
 read_at_place available rows k r y in_range lt is here =

@@ -1,4 +1,4 @@
--- The rows of a negotiator: those with a minimal form stand side by side, by rising places.
+-- The rows of a negotiator: those with a minimal form are side by side, by rising places.
 use Rattle.std.proofs.Common.{◌≡◌, ℕ, ◌+◌, ◌-◌, ◌<◌, ◌≤◌, true, false, List, length, take, drop, get_or, Option, Some, None, refl, ap, sym, ◌∙◌}
 use Rattle.std.proofs.Common.{subst, ⊎_elim, arith, length-drop}
 use Rattle.std.specs.declared.cmp.Ordering.{Ordering}
@@ -123,7 +123,7 @@ rest_rises rows rest d below sorted back =
     subst (IsNonDecreasingBy (λ r. ordering_index (subtags_cmp r.minimal d))) (sym back)
     (IsNonDecreasingBy-drop (λ (r : Row). ordering_index (subtags_cmp r.minimal d)) below rows (rows_rise rows sorted d))
 
--- the rows behind those below a minimal form, up to those above it, are the ones with that form
+-- the rows after those below a minimal form, up to those above it, are the ones with that form
 module _ (rows : List Row) (sorted : IsSorted row_cmp rows) (d : DataLocale) (below count : ℕ) (within : below ≤ length rows)
     (long : count ≤ length (drop below rows))
     (before : AllWithin (λ r. is_lt (subtags_cmp r.minimal d) ≡ true) rows 0 below)

@@ -54,7 +54,7 @@ settled_at : {K V : Type 0} (table : LikelySubtags) (key : K → LikelyKey) (row
 settled_at table key rows q all (row, among, is) = subst (λ w. settles table (key w) ≡ true) is
     (subst (λ w. settles table (key w.0) ≡ true) among.2 (all among.0 row among.1))
 
--- and stands among the keys
+-- and is among the keys
 pub key_among : {K V : Type 0} (key : K → LikelyKey) (rows : List (K × V)) (q : K) → (row : K × V) × Contains rows row × (row.0 ≡ q)
     → Contains (keys_by key rows) (key q)
 key_among key rows q (row, among, is) = subst (λ w. Contains (keys_by key rows) (key w)) is (Contains-map (λ r. key r.0) rows row among)

@@ -26,14 +26,14 @@ use Rattle.icu_locale_runs.specs.laws.Lists.{Contains-here, Contains-there, Cont
 use Rattle.icu_locale_runs.specs.laws.Runs.{EndsOrRepeats-universe}
 use Rattle.icu_locale.proofs.Universes.{has_row}
 
--- what is put at a key stands there
+-- what is put at a key is there
 pub put_optional-own : (keywords : KeywordRows) (key : List ℕ) (value : Option (List (List ℕ)))
     → value_at text_cmp (put_optional keywords key value) key ≡ option_or value (value_at text_cmp keywords key)
 put_optional-own keywords key None = refl
 put_optional-own keywords key (Some v) =
     SetsOnly-insert_entry text_total keywords key v key ∙ ap (λ b. if b then Some v else value_at text_cmp keywords key) (ap is_eq (tied_itself text_total key))
 
--- and leaves what stands at another
+-- and leaves what is at another
 pub put_optional-other : (keywords : KeywordRows) (key other : List ℕ) (value : Option (List (List ℕ))) → is_at (text_cmp key) other ≡ false
     → value_at text_cmp (put_optional keywords key value) other ≡ value_at text_cmp keywords other
 put_optional-other keywords key other None apart = refl

@@ -39,12 +39,12 @@ abbrev pub CountsRuns : {T : Type 0} → LikelySubtags → Rules → Locale
 CountsRuns likely rules old result before after =
     (n : ℕ) × HasIdentifiers likely rules old n × CountsSearches result before after n
 
--- no identifier of the run behind its start has variants
+-- no identifier of the run after its start has variants
 abbrev pub AddsNoVariants : (LanguageIdentifier → Option LanguageIdentifier)
     → LanguageIdentifier → Type 0
 AddsNoVariants next start = AllBehind (λ z. z.variants ≡ empty) next start
 
--- no value of the run behind its start has pieces
+-- no value of the run after its start has pieces
 abbrev pub AddsNoPieces : Rules → List (List ℕ) → Type 0
 AddsNoPieces rules start = AllBehind (λ w. w ≡ []) (next_value rules) start
 

@@ -103,8 +103,8 @@ impl<'d, E: AsExpander<'d>> LocaleCanonicalizer<'d, E> {
     ///   the identifier, or, where that ends, in the run of the transform language.
     /// - `NoSubdivisionFixedPoint` exactly where these runs end, and that of the value at `rg` or at `sd` has no end: it
     ///   names the first value that comes again in the run at `rg`, or, where that ends, in the run at `sd`.
-    /// - `Memory` where memory was asked for and refused: never where no identifier behind the start of its run has
-    ///   variants and no value behind the start of its run has pieces. So never where nothing matches, nor where neither
+    /// - `Memory` where memory was asked for and refused: never where no identifier after the start of its run has
+    ///   variants and no value after the start of its run has pieces. So never where nothing matches, nor where neither
     ///   the identifier, the transform language nor a replacement has variants, and no row replaces a value at `rg` or
     ///   `sd` (`laws::nothing_to_copy`).
     ///

@@ -169,7 +169,7 @@ impl<'d, E: AsExpander<'d>> LocaleDirectionality<'d, E> {
         }
     }
 
-    /// Whether no script stands in both lists, so that `is_right_to_left` tells what `get` answers
+    /// Whether no script is in both lists, so that `is_right_to_left` tells what `get` answers
     /// (`laws::right_to_left_is_a_direction`).
     pub fn is_disjoint(&self) -> bool
         ensures { IsTrue result ↔ AreDisjoint self.now.script_direction.now }

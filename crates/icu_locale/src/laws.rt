@@ -1,5 +1,5 @@
 //! Laws of likely subtags, canonicalization and direction: what follows from the definitions alone, over every table.
-//! Their functions do nothing. The steps of canonicalization that laws speak of stand here too: `rule_matches`,
+//! Their functions do nothing. The steps of canonicalization that laws speak of are here too: `rule_matches`,
 //! `replacement` and `search`.
 ghost use Rattle.std.specs.Prelude.{◌≡◌, ◌≢◌, ◌↔◌, ℕ, List, Option, Some, None, true};
 ghost use Rattle.std.specs.List.{Contains};

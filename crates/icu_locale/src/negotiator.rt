@@ -60,7 +60,7 @@ impl From<AllocError> for NegotiatorError {
 /// Finds, over a settled likely table, the identifier among those available that means what a request means: identifiers
 /// mean the same where their maximal forms are equal (UTS #35, section 4.3).
 ///
-/// Contracts see the expander and the available identifiers. Beside these stands a list of the minimal forms, sorted, so
+/// Contracts see the expander and the available identifiers. Beside these is a list of the minimal forms, sorted, so
 /// that a look-up is a binary search.
 #[derive(Debug)]
 pub struct Negotiator<'d> {
@@ -224,7 +224,7 @@ fn plain_form(expander: &LocaleExpander<'_>, id: &LanguageIdentifier) -> DataLoc
     expander.minimal_locale(Favor::RegionFirst, locale_of(id))
 }
 
-// The rows with a minimal form, which stand side by side.
+// The rows with a minimal form, which are side by side.
 fn rows_with<'r>(rows: &'r [Row], minimal: &DataLocale) -> &'r [Row]
     requires { IsSorted row_cmp rows.now }
     ensures { IsPartOf rows.now minimal.now result.now }

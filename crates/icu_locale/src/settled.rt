@@ -32,7 +32,7 @@ use crate::expander::looks::{LikelyKey, LikelyMaps, bare_locale, extended_maps};
 use icu_locale_core::{Language, Region, Script};
 use icu_provider::{DataLocale, SortedMap};
 
-// The key of a row: what stands in it of an identifier.
+// The key of a row: what is in it of an identifier.
 trait RowKey: Ord {
     ghost key: { Self → LikelyKey };
 

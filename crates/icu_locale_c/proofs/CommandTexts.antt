@@ -105,7 +105,7 @@ module _ {A : Type 0} (text : List ℕ) (r : Result A Refusal) where
       with_none (λ none c are. none c (subst (λ ws. AreCommandWords ws (Lines c)) (sym cut)
       (without_syntax word rest other (Lines c) false (subst (λ ws. AreStreamWords ws (Lines c) false) cut are)))) h
 
--- words behind that of a syntax
+-- words after that of a syntax
 module _ (text rest word : List ℕ) (s : Syntax) (cut : slice_split is_space text ≡ word ∷ slice_split is_space rest) (is : word ≡ syntax_word s) where
   whole : slice_split is_space text ≡ syntax_word s ∷ slice_split is_space rest
   whole = cut ∙ ap (λ w. w ∷ slice_split is_space rest) is

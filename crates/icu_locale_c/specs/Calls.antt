@@ -21,7 +21,7 @@ use Rattle.icu_locale_c.specs.Held.{Held, IsWorkOver, without_list}
 use Rattle.icu_locale_c.specs.declared.refusal.Refusal.{Refusal}
 use Rattle.icu_locale_c.specs.declared.refusal.Refusal.TheVariants as refusal
 
--- a text names a command of a stream: its words stand between single spaces
+-- a text names a command of a stream: its words are between single spaces
 abbrev pub Names : List ℕ → LineCommand → Type 0
 Names command c = AreStreamWords (slice_split is_space command) (Lines c) false
 

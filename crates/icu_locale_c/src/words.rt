@@ -42,7 +42,7 @@ fn command_in(alloc: Global, text: &str) -> Result<LineCommand, Refusal>
     }
 }
 
-// The command of the words behind that of a syntax.
+// The command of the words after that of a syntax.
 fn with_syntax(alloc: Global, syntax: Syntax, rest: &str) -> Result<LineCommand, Refusal>
     ensures named { IfOk result (λ c. (c.syntax ≡ Some syntax)
         × AreTaskWords (slice_split is_space rest.now) c.task) }
@@ -90,7 +90,7 @@ fn one_word(word: &str) -> Result<LineCommand, Refusal>
     }
 }
 
-// The command `name` of what stands behind its word.
+// The command `name` of what follows its word.
 fn named_in(alloc: Global, rest: &str) -> Result<LineCommand, Refusal>
     ensures named { IfOk result (λ c. AreCommandWords
         (codes "name" ∷ slice_split is_space rest.now) (Lines c)) }
@@ -103,7 +103,7 @@ fn named_in(alloc: Global, rest: &str) -> Result<LineCommand, Refusal>
     }
 }
 
-// The command `name` of a chain and of preferences, in which no space may stand.
+// The command `name` of a chain and of preferences, in which no space may be.
 fn named_by(alloc: Global, chain: &str, text: &str) -> Result<LineCommand, Refusal>
     ensures named { IfOk result (λ c. AreCommandWords
         (codes "name" ∷ chain.now ∷ slice_split is_space text.now) (Lines c)) }
@@ -128,7 +128,7 @@ fn named(alloc: Global, chain: &str, text: &str) -> Result<LineCommand, Refusal>
     }
 }
 
-// A text up to its first space, and what stands behind that, if there is one.
+// A text up to its first space, and what follows that, if there is one.
 fn cut(text: &str) -> Option<(&str, &str)>
     ensures { MatchOption result (slice_split is_space text.now ≡ text.now ∷ [])
         (λ x. slice_split is_space text.now ≡ x.0.now ∷ slice_split is_space x.1.now) }

@@ -158,7 +158,7 @@ least-is t (a ∷ later) (b ∷ bs) e = by (is_lt (text_cmp b a)) refl e
           one_of = or_left _ _ (among_first a later);
         })
 
--- behind t a rising list keeps what is above t
+-- after t a rising list keeps what is above t
 record Follows (t : List ℕ) (us : List (List ℕ)) : Type 0 where
   rises : IsStrictlySortedBy text_cmp (behind t us)
   above : (q : List ℕ) → is_among q (behind t us) ≡ true → text_cmp t q ≡ Less

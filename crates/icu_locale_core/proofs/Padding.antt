@@ -1,4 +1,4 @@
--- What an array of a text and zeros behind it holds, its equality and its number.
+-- What an array of a text and zeros after it holds, its equality and its number.
 use Rattle.std.proofs.Common.{◌≡◌, ℕ, ◌<◌, ◌≤◌, ◌+◌, ◌-◌, ◌*◌, ◌^◌, true, false, ◌&&◌, List, [], ◌∷◌, ◌++◌, length, take, set, replicate, get_or, suc}
 use Rattle.std.proofs.Common.{zero, nat_lt, if◌then◌else◌, refl, ap, sym, subst, ◌∙◌, arith, nat_eq}
 use Rattle.std.specs.Cmp.Lexicographic.{pointwise}
@@ -14,7 +14,7 @@ use Rattle.icu_locale_core.specs.Subtag.{is_alphanumeric}
 use Rattle.icu_locale_core.specs.laws.Numbers.{all_below}
 use Rattle.icu_locale_core.specs.inner.Padded.{unpadded, padded, IsPadded}
 
--- behind a text of letters and digits the zeros are not seen
+-- after a text of letters and digits the zeros are not seen
 pub unpadded-zeros : (t : List ℕ) (n : ℕ) → is_alphanumeric t ≡ true → unpadded (t ++ replicate n 0) ≡ t
 unpadded-zeros [] zero h = refl
 unpadded-zeros [] (suc n) h = refl
@@ -23,7 +23,7 @@ unpadded-zeros (c ∷ t) n h =
     let rest : is_alphanumeric t ≡ true = grind (arith, nat_tests) in
     rw positive (ap (λ r. c ∷ r) (unpadded-zeros t n rest))
 
--- so a text with zeros behind it is as the invariant asks
+-- so a text with zeros after it is as the invariant asks
 pub IsPadded-padded : (n : ℕ) (t : List ℕ) → n ≤ 8 → is_alphanumeric t ≡ true → length t ≤ n → IsPadded n (padded n t)
 IsPadded-padded n t small plain short =
     let seen = unpadded-zeros t (n - length t) plain in

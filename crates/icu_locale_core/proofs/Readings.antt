@@ -80,7 +80,7 @@ module _ (class : Class) where
         | false ↦ refl
       ]
 
-  -- what is taken belongs to the class and stands in its written case
+  -- what is taken belongs to the class and is in its written case
   optional-written : (ps : List (List ℕ)) → IfSome (optional_subtag (is_member class) (written_case class) ps)
       (IsWritten (is_member class) (written_case class))
   optional-written [] = tt
@@ -157,7 +157,7 @@ module _ (x : LanguageIdentifier) (is : IsIdentifier x) (order : List (List ℕ)
       by (v ∷ vs) all e = variant_no_region p (is_member-same Variant p v (sym
           (head_same (lowercase v) (lowercase p) (map lowercase vs) (map lowercase rest) e)) ∙ (All-head IsVariant v vs all).member)
 
-  -- what stands behind the script
+  -- what follows the script
   record AfterScript (ps : List (List ℕ)) (r : Option (List ℕ)) : Type 0 where
     region : optional_subtag is_region uppercase ps ≡ r
     variants : read_variants (after_optional_subtag is_region ps) ≡ Ok x.variants
@@ -179,7 +179,7 @@ module _ (x : LanguageIdentifier) (is : IsIdentifier x) (order : List (List ℕ)
         variants = ap read_variants (after_optional-some Region p r ps here known) ∙ read_variants-lists ps order x.variants lists each behind;
       }
 
-  -- what stands behind the language
+  -- what follows the language
   record AfterLanguage (ps : List (List ℕ)) (s r : Option (List ℕ)) : Type 0 where
     script : optional_subtag is_script titlecase ps ≡ s
     rest : AfterScript (after_optional_subtag is_script ps) r
@@ -307,7 +307,7 @@ read_pieces-sound (p ∷ ps) =
 
 -- ---- the refusals
 
--- a variant behind an optional_subtag piece is a variant of all pieces
+-- a variant after an optional_subtag piece is a variant of all pieces
 pub some_variant-after : (is_member : List ℕ → Bool) (ps : List (List ℕ)) → list_any is_variant (after_optional_subtag is_member ps) ≡ true
     → list_any is_variant ps ≡ true
 some_variant-after is_member [] h = h
@@ -315,7 +315,7 @@ some_variant-after is_member (p ∷ ps) h =
     elim (is_member p) as (λ b. list_any is_variant (if b then ps else p ∷ ps) ≡ true → (is_variant p || list_any is_variant ps) ≡ true)
     [ true ↦ or_right (is_variant p) (list_any is_variant ps) | false ↦ λ g. g ] h
 
--- and so is one behind the first piece
+-- and so is one after the first piece
 pub some_variant-next : (r : Option (Bor (List ℕ))) (ps rest : List (List ℕ))
     → MatchOption r ((ps ≡ []) × (rest ≡ [])) (λ p. ps ≡ p.now ∷ rest) → list_any is_variant rest ≡ true → list_any is_variant ps ≡ true
 some_variant-next None ps rest gave h = absurd (false≢true (ap (list_any is_variant) (sym gave.1) ∙ h))

@@ -17,7 +17,7 @@ is_separator c = (c == 45) || (c == 95)
 abbrev pub pieces : List ℕ → List (List ℕ)
 pieces t = slice_split is_separator t
 
--- each subtag belongs to its class and stands in its written case
+-- each subtag belongs to its class and is in its written case
 pub record IsIdentifier (x : LanguageIdentifier) : Type 0 where
   pub language : IsLanguage x.language
   pub script : IfSome x.script IsScript

@@ -3,11 +3,11 @@ use Rattle.std.specs.Prelude.{◌≡◌, ℕ, ◌≤◌, ◌-◌, ◌+◌, ◌*�
 use Rattle.std.specs.Int.Digits.{number_from_digits}
 use Rattle.icu_locale_core.specs.Subtag.{is_alphanumeric}
 
--- a text with zeros behind it, up to n bytes
+-- a text with zeros after it, up to n bytes
 abbrev pub padded : ℕ → List ℕ → List ℕ
 padded n t = t ++ replicate (n - length t) 0
 
--- m is the number that a text of at most n letters and digits writes in base 256, with zeros behind it
+-- m is the number that a text of at most n letters and digits writes in base 256, with zeros after it
 pub record IsNumberOf (n : ℕ) (t : List ℕ) (m : ℕ) : Type 0 where
   pub short : length t ≤ n
   pub plain : IsTrue (is_alphanumeric t)

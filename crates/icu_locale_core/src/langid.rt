@@ -54,7 +54,7 @@ impl LanguageIdentifier {
         read_identifier(alloc, Pieces::new(text))
     }
 
-    /// Nothing, but that each subtag belongs to its class and stands in its written case.
+    /// Nothing, but that each subtag belongs to its class and is in its written case.
     pub fn known(&self)
         ensures { IsIdentifier self.now }
     {
@@ -68,7 +68,7 @@ impl LanguageIdentifier {
         self.variants.known();
     }
 
-    /// Puts the written form behind a text: what Display writes. It takes memory where the text has no room for it.
+    /// Appends the written form to a text: what Display writes. It takes memory where the text has no room for it.
     ///
     /// # Errors
     ///
@@ -117,7 +117,7 @@ impl fmt::Display for LanguageIdentifier {
     }
 }
 
-// The written form, put behind a text.
+// The written form, appended to a text.
 #[inline]
 fn append_parts(x: &LanguageIdentifier, text: &mut Vec<u8>) -> Result<(), AllocError>
     ensures appended { OnOk result (text.new.items ≡ text.old.items ++ written x.now) }
@@ -129,8 +129,8 @@ fn append_parts(x: &LanguageIdentifier, text: &mut Vec<u8>) -> Result<(), AllocE
     append_variants(&x.variants, text)
 }
 
-// Puts the front of a buffer behind a text. Where there is room for all of the buffer, it goes in one move of a fixed
-// size, and what stands behind the front is cut off again.
+// Appends the front of a buffer to a text. Where there is room for all of the buffer, it goes in one move of a fixed
+// size, and what follows the front is cut off again.
 #[inline(always)]
 fn append_front(text: &mut Vec<u8>, buffer: &[u8; 14], end: usize) -> Result<(), AllocError>
     requires { end ≤ 14 }
@@ -146,7 +146,7 @@ fn append_front(text: &mut Vec<u8>, buffer: &[u8; 14], end: usize) -> Result<(),
     Ok(())
 }
 
-// Each variant in rising order, with `-` before it, put behind a text.
+// Each variant in rising order, with `-` before it, appended to a text.
 fn append_variants(variants: &Variants, text: &mut Vec<u8>) -> Result<(), AllocError>
     ensures appended { OnOk result (text.new.items
         ≡ text.old.items ++ flat_map (λ v. codes "-" ++ v) (rising variants.now)) }

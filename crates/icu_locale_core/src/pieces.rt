@@ -83,7 +83,7 @@ fn cut(text: &[u8]) -> (&[u8], Option<&[u8]>)
     }
 }
 
-// Where the first separator stands. Most pieces are short, and each place of these is looked at without a loop.
+// Where the first separator is. Most pieces are short, and each place of these is looked at without a loop.
 #[inline(always)]
 fn separator(text: &[u8]) -> Option<usize>
     ensures { result ≡ position is_separator text.now }

@@ -85,7 +85,7 @@ impl Language {
         self.0.as_str()
     }
 
-    // Puts it into a buffer at a place, and tells where it ends there. What stands behind that is lost.
+    // Puts it into a buffer at a place, and tells where it ends there. What follows that is lost.
     #[inline(always)]
     pub(crate) fn put(&self, buffer: &mut [u8], at: usize) -> usize
         requires { at + 4 ≤ length buffer.old }
@@ -171,7 +171,7 @@ impl Script {
         self.0.as_str()
     }
 
-    // Puts `-` and the text into a buffer at a place, and tells where they end there. What stands behind that is lost.
+    // Puts `-` and the text into a buffer at a place, and tells where they end there. What follows that is lost.
     #[inline(always)]
     pub(crate) fn put_after_dash(&self, buffer: &mut [u8], at: usize) -> usize
         requires { at + 5 ≤ length buffer.old }
@@ -258,7 +258,7 @@ impl Region {
         self.0.as_str()
     }
 
-    // Puts `-` and the text into a buffer at a place, and tells where they end there. What stands behind that is lost.
+    // Puts `-` and the text into a buffer at a place, and tells where they end there. What follows that is lost.
     #[inline(always)]
     pub(crate) fn put_after_dash(&self, buffer: &mut [u8], at: usize) -> usize
         requires { at + 5 ≤ length buffer.old }
@@ -398,10 +398,10 @@ impl Key {
         self.0.as_str()
     }
 
-    /// The key `rg`, at which a region override stands.
+    /// The key `rg`, which holds a region override.
     pub const REGION_OVERRIDE: Key = Key(TinyText { bytes: *b"rg" });
 
-    /// The key `sd`, at which a subdivision stands.
+    /// The key `sd`, which holds a subdivision.
     pub const SUBDIVISION: Key = Key(TinyText { bytes: *b"sd" });
 }
 

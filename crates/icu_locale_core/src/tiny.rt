@@ -20,7 +20,7 @@ use std::marker::Model;
 /// A text of at most `N` letters and digits.
 #[derive(Clone, Copy)]
 pub struct TinyText<const N: usize> {
-    // The text, and zeros behind it.
+    // The text, and zeros after it.
     pub(crate) bytes: [u8; N],
 }
 
@@ -79,7 +79,7 @@ impl<const N: usize> TinyText<N> {
         unsafe { str::from_utf8_unchecked(text) }
     }
 
-    // Puts the text into a buffer at a place. What stands behind it there is lost.
+    // Puts the text into a buffer at a place. What follows it there is lost.
     #[inline(always)]
     pub fn put(&self, buffer: &mut [u8], at: usize)
         requires { at + N ≤ length buffer.old }
@@ -91,7 +91,7 @@ impl<const N: usize> TinyText<N> {
         buffer[at..at + N].copy_from_slice(&self.bytes);
     }
 
-    // Puts `-` and the text into a buffer at a place. What stands behind it there is lost.
+    // Puts `-` and the text into a buffer at a place. What follows it there is lost.
     #[inline(always)]
     pub fn put_after_dash(&self, buffer: &mut [u8], at: usize)
         requires { at + (1 + N) ≤ length buffer.old }
@@ -105,7 +105,7 @@ impl<const N: usize> TinyText<N> {
         self.put(buffer, at + 1);
     }
 
-    // The text with the zeros behind it as one number. Numbers are in the order of the texts.
+    // The text with the zeros after it as one number. Numbers are in the order of the texts.
     #[inline(always)]
     pub fn number(&self) -> u64
         ensures { IsNumberOf N self.now result }
@@ -117,7 +117,7 @@ impl<const N: usize> TinyText<N> {
         number
     }
 
-    // The text with the zeros behind it.
+    // The text with the zeros after it.
     fn padded(&self) -> &str
         ensures value { result.now ≡ padded N self.now }
         ensures short { length self.now ≤ N }

@@ -220,7 +220,7 @@ pub(crate) fn write_pieces<W: fmt::Write>(
     Ok(())
 }
 
-// Whether each piece may stand in a value.
+// Whether each piece may be in a value.
 fn are_subtags(pieces: Pieces<'_>) -> bool
     ensures { result ≡ list_all is_subtag pieces.entry }
 {

@@ -24,7 +24,7 @@ use std::marker::Model;
 
 /// The variants of an identifier, each once and in no order (unicode_variant_subtag of UTS #35, section 3.1).
 ///
-/// They stand in a sorted list, so that a look-up is a binary search. Only `try_replaced` and `try_clone` take memory.
+/// They are in a sorted list, so that a look-up is a binary search. Only `try_replaced` and `try_clone` take memory.
 #[derive(Drop)]
 pub struct Variants {
     items: Vec<Variant>,

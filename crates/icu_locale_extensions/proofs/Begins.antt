@@ -33,7 +33,7 @@ abbrev pub no_region : List (List ℕ) → Bool
 no_region [] = true
 no_region (r ∷ rs) = not (length r == 2) && not (length r == 3)
 
--- a language, and no extended one; behind a region of two letters comes none
+-- a language, and no extended one; after a region of two letters comes none
 abbrev pub may_begin : List (List ℕ) → Bool
 may_begin [] = false
 may_begin (p ∷ []) = is_language p

@@ -1,4 +1,4 @@
--- Extensions that may stand, and a locale identifier that is read part by part.
+-- Extensions that are allowed, and a locale identifier that is read part by part.
 use Rattle.std.specs.Prelude.{◌≡◌, ℕ, Bool, true, false, not, ◌||◌, ◌&&◌, List, [], ◌∷◌, map, filter, Option, Result, Ok, Err, IfSome, if◌then◌else◌}
 use Rattle.std.proofs.Common.{refl, ap, sym, ◌∙◌, inl, inr, arith}
 use Rattle.std.specs.List.{list_all, list_any}
@@ -38,7 +38,7 @@ transform_of e is t =
 pub unicode_of : (e : Block) → is_extension e ≡ true → is_u e.0 ≡ true → is_unicode e.1 ≡ true
 unicode_of e is u = sym (ap (λ h. if h then is_unicode e.1 else (if is_t e.0 then is_transform e.1 else is_other e)) u) ∙ is
 
--- fields may stand
+-- fields are allowed
 pub fields-body : (es : List Block) → list_all is_extension es ≡ true → list_all is_tfield (blocks is_tkey (body is_t es)) ≡ true
 fields-body [] all = refl
 fields-body (e ∷ es) all =
@@ -48,7 +48,7 @@ fields-body (e ∷ es) all =
       | false ↦ λ t. fields-body es both.1
     ] refl
 
--- attributes and keywords may stand
+-- attributes and keywords are allowed
 pub keywords-body : (es : List Block) → list_all is_extension es ≡ true → list_all (λ p. is_key p || is_subtag p) (body is_u es) ≡ true
 keywords-body [] all = refl
 keywords-body (e ∷ es) all =
@@ -67,7 +67,7 @@ other_of false false true true unicode transform other is = refl
 other_of false false false true unicode transform other is = is
 other_of u t x false unicode transform other is = refl
 
--- other extensions may stand
+-- other extensions are allowed
 pub others-all : (es : List Block) → list_all is_extension es ≡ true → list_all {X = Block} (λ b. not (is_other_singleton b.0) || is_other b) es ≡ true
 others-all [] all = refl
 others-all (e ∷ es) all =

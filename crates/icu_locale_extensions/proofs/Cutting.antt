@@ -112,7 +112,7 @@ IsBeforeMark-next m t start first sep rest next b is cut one both unmarked e =
           ∙ ap (λ s. from m (pieces s)) (sym (drop_next t start first sep rest b.within is));
     })
 
--- at a mark, what stands before it is the front
+-- at a mark, what is before it is the front
 pub front-at_mark : (m : List ℕ → Bool) (t : List ℕ) (start : ℕ) (first : List ℕ) (qs : List (List ℕ)) → IsBeforeMark m t start
     → pieces (drop start t) ≡ first ∷ qs → m first ≡ true → pieces_before t start ≡ front m (pieces t)
 front-at_mark m t start first qs b both marked =

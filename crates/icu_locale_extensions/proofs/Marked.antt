@@ -1,4 +1,4 @@
--- Extensions written behind their marks, and the whole of an identifier.
+-- Extensions written after their marks, and the whole of an identifier.
 use Rattle.std.proofs.Common.{◌≡◌, ℕ, true, false, List, [], ◌∷◌, ◌++◌, codes, refl, ap, sym, ◌∙◌, append_assoc}
 use Rattle.std.proofs.lemmas.Bool.{false≢true}
 use Rattle.icu_locale_core.specs.Identifier.{subtags}

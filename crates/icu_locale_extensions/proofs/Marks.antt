@@ -37,7 +37,7 @@ IsUtf8-other t is =
 
 -- ---- the first row with a mark
 
--- what is found in two lists, one behind the other
+-- what is found in two lists, one after the other
 pub value_at-append : (rows more : List Block) (q : List ℕ)
     → value_at text_cmp (rows ++ more) q ≡ option_or (value_at text_cmp rows q) (value_at text_cmp more q)
 value_at-append [] more q = refl
@@ -49,7 +49,7 @@ value_at-append (row ∷ rows) more q = by (is_at (text_cmp q) row.0) (value_at-
     by false rest = rest
 
 module _ (rows : List Block) (mark : List ℕ) (pieces : List (List ℕ)) where
-  -- a row behind others counts only where they have none with its mark
+  -- a row after others counts only where they have none with its mark
   behind : (q : List ℕ) (b : Bool) → eq_by_cmp text_cmp q mark ≡ b
       → value_at text_cmp (rows ++ (mark, pieces) ∷ []) q ≡ option_or (value_at text_cmp rows q) (cond b (Some pieces) None)
   behind q b e = value_at-append rows ((mark, pieces) ∷ []) q ∙ ap (λ c. option_or (value_at text_cmp rows q) (cond c (Some pieces) None)) e

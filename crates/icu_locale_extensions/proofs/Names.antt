@@ -14,7 +14,7 @@ module _ (p : ℕ → Bool) (t : List ℕ) where
       by true within is = absurd (none-some _ (sym is))
       by false past is = ltb-false (position_or_len p t) (length t) past
 
-  -- without a mark all stands before it, and nothing behind
+  -- without a mark all is before it, and nothing after
   pub before_none : position p t ≡ None → t ≡ before_first p t
   before_none none = sym (take_all (position_or_len p t) t (past_end none))
 

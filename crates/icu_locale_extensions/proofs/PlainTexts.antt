@@ -215,7 +215,7 @@ extension_plain e is language = by (is_u e.0) (is_t e.0) refl refl is
         let both = and_parts (is_alphanumeric e.0) (any_piece e.1 && are_pieces 2 e.1) stands in
         λ i. both.0 i && pieces_plain 2 e.1 (and_parts (any_piece e.1) (are_pieces 2 e.1) both.1).1 i
 
--- behind one transform extension comes no other
+-- after one transform extension comes no other
 no_other_t : (e : Block) (es : List Block) → is_t e.0 ≡ true → list_any {X = Block}
     (λ other. same_text (lowercase e.0) (lowercase other.0)) es ≡ false → body is_t es ≡ []
 no_other_t e [] is none = refl

@@ -1,4 +1,4 @@
--- Private use alone, behind `und`.
+-- Private use alone, after `und`.
 use Rattle.std.specs.Prelude.{◌≡◌, ℕ, true, ◌||◌, ◌&&◌, List, [], ◌∷◌, ◌++◌, codes, Option, IfSome, Result, Ok, Err, if◌then◌else◌}
 use Rattle.std.proofs.Common.{refl, ap, sym, ◌∙◌, subst}
 use Rattle.std.specs.List.{list_all, list_any}

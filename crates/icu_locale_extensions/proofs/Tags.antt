@@ -71,7 +71,7 @@ pub lowered : (rows : List (List ℕ × List ℕ)) (ps : List (List ℕ)) → va
 lowered [] ps = refl
 lowered (row ∷ rows) ps = ap (λ v. if same_pieces ps (pieces row.0) then Some row.1 else v) (lowered rows ps)
 
--- the value behind a first piece in lower case
+-- the value after a first piece in lower case
 abbrev pub value_behind : List ℕ → List (List ℕ) → Option (List ℕ)
 value_behind l ps = value_lower legacy (l ∷ map lowercase ps)
 

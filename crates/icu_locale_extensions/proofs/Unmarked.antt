@@ -35,7 +35,7 @@ module _ (m : List ℕ → Bool) where
       ap (λ b. cond b ((p, front m (ps ++ qs)) ∷ blocks m (ps ++ qs)) (blocks m (ps ++ qs))) (All-head (λ q. m q ≡ false) p ps none)
       ∙ blocks-unmarked ps qs (All-tail (λ q. m q ≡ false) p ps none)
 
-  -- at a mark nothing stands before it
+  -- at a mark nothing is before it
   pub front-marked : (mark : List ℕ) (ps : List (List ℕ)) → m mark ≡ true → front m (mark ∷ ps) ≡ []
   front-marked mark ps is = ap (λ b. cond b [] (mark ∷ front m ps)) is
 
@@ -67,7 +67,7 @@ module _ (m : List ℕ → Bool) where
   pub blocks-pieces_rows : (ps : List (List ℕ)) (rows : List Block) → Unmarked ps → All IsCutRow rows → blocks m (ps ++ flat rows) ≡ rows
   blocks-pieces_rows ps rows none each = blocks-unmarked ps (flat rows) none ∙ blocks-flat rows each
 
--- ---- rows one behind another
+-- ---- rows one after another
 
 pub flat-append : (rows more : List Block) → flat (rows ++ more) ≡ flat rows ++ flat more
 flat-append rows more = flat_map-append (λ (row : Block). row.0 ∷ row.1) rows more

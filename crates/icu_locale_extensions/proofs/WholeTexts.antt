@@ -1,4 +1,4 @@
--- A text and its parts: what stands before the first singleton, extensions and private use.
+-- A text and its parts: what is before the first singleton, extensions and private use.
 use Rattle.std.specs.Prelude.{◌≡◌, ◌⊎◌, ℕ, Bool, true, false, not, ◌||◌, ◌&&◌, List, [], ◌∷◌, slice_index_or, Option, Some, None, Result, Ok, Err}
 use Rattle.std.specs.Prelude.{IfOk, IfSome, if◌then◌else◌}
 use Rattle.std.proofs.Common.{refl, ap, sym, ◌∙◌, subst, inl, inr, arith}
@@ -40,7 +40,7 @@ singleton_no_language [] is = absurd (false≢true is)
 singleton_no_language (c ∷ []) is = refl
 singleton_no_language (c ∷ d ∷ p) is = grind (arith, nat_tests)
 
--- what stands before the first singleton is the same with and without private use
+-- what is before the first singleton is the same with and without private use
 pub front-front : (ps : List (List ℕ)) → front is_singleton (front is_x ps) ≡ front is_singleton ps
 front-front [] = refl
 front-front (p ∷ ps) =
@@ -90,7 +90,7 @@ module _ (t : List ℕ) (r : Result LanguageIdentifier ParseError) (reads : Read
     starts : starts_with_language t ≡ false → ⊥
     starts g = cc (sym ok ∙ reads.language.1 (language-front (pieces t) ∙ g))
 
-    -- extensions that may not stand
+    -- extensions that are not allowed
     pub extensions_refused : (list_all is_extension (extensions t) && are_once (extensions t)) ≡ false → ReadsLocale t (Err InvalidSubtag)
     extensions_refused none = record {
       found = tt;
@@ -103,7 +103,7 @@ module _ (t : List ℕ) (r : Result LanguageIdentifier ParseError) (reads : Read
         no : (x : LocaleIdentifier) → Spells t x → ⊥
         no x s = false≢true (sym none ∙ (λ i. s.each i && s.once i))
 
-    -- extensions that may stand
+    -- extensions that are allowed
     pub extensions_read : (result : Result LocaleIdentifier ParseError) → (list_all is_extension (extensions t) && are_once (extensions t)) ≡ true
         → ReadsPart (λ x. IsLocaleIdentifier x × (x.locale.id ≡ id)) (SpellParts (extensions t) (private_pieces t)) result
         → (result ≡ Err Memory → (list_any is_kept (extensions t) || any_piece (private_pieces t)) ≡ true) → ReadsLocale t result

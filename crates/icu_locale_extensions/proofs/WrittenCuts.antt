@@ -153,7 +153,7 @@ other_parts row is =
     let one = other_singleton row.0 is.singleton.member in
     record { mark = one_part row.0 one.0 one.1.0; pieces = shorter_parts row.1 (pieces_parts row.1 is.pieces.each) }
 
--- ---- rows before t, and those behind
+-- ---- rows before t, and those after
 
 below_all_kept : (bound : List ℕ) (k : List ℕ) (rows : List Block) → AllByRecursion (λ other. text_cmp k other ≡ Less) (keys_of rows)
     → is_lt (text_cmp k bound) ≡ false
@@ -283,7 +283,7 @@ module _ (x : LocaleIdentifier) (is : IsLocaleIdentifier x) where
   from_of_private None = refl
   from_of_private (Some ps) = refl
 
-  -- what stands before x
+  -- what is before x
   pub front-x : front is_x (written_pieces x) ≡ id_pieces x ++ flat (extension_rows x)
   front-x =
       ap (front is_x) (sym in_two) ∙ front-unmarked is_x (id_pieces x ++ flat (extension_rows x)) (private_pieces x) before_x
@@ -293,7 +293,7 @@ module _ (x : LocaleIdentifier) (is : IsLocaleIdentifier x) where
   pub from-x : from is_x (written_pieces x) ≡ private_pieces x
   from-x = ap (from is_x) (sym in_two) ∙ from-unmarked is_x (id_pieces x ++ flat (extension_rows x)) (private_pieces x) before_x ∙ from_of_private x.private_use
 
-  -- what stands before the first extension
+  -- what is before the first extension
   pub front-extensions : front is_singleton (id_pieces x ++ flat (extension_rows x)) ≡ id_pieces x
   front-extensions = front-pieces_rows is_singleton (id_pieces x) (extension_rows x)
       (no_singletons (id_pieces x) (subtag_parts x.locale.id is.id)) extension_cuts

@@ -80,7 +80,7 @@ other_stays row is = λ i. (is.singleton.written i, pieces_stay 2 row.1 is.piece
 first_of_itself : (f : Block → Block) (rows all : List Block) → All (λ row. f row ≡ row) rows → all ≡ rows → HaveFirstOf rows (map f all)
 first_of_itself f rows all each same = subst (HaveFirstOf rows) (sym (ap (map f) same ∙ rows_stay f rows each)) (λ mark. refl)
 
--- ---- each extension may stand so
+-- ---- each extension is allowed so
 
 list_all-from : {X : Type 0} (p : X → Bool) (xs : List X) → All (λ x. p x ≡ true) xs → list_all p xs ≡ true
 list_all-from p [] each = refl
@@ -154,7 +154,7 @@ module _ (x : LocaleIdentifier) (is : IsLocaleIdentifier x) where
       ∙ and_from _ _ (if_any_told (codes "u") (unicode_pieces x) unicode_told)
       (list_all-from is_extension a (above_each x is (λ row. is_extension row ≡ true) other_told))))
 
--- ---- each extension stands once
+-- ---- each extension comes once
 
 -- a row with the mark of another
 abbrev same_mark : Block → Block → Bool
@@ -196,7 +196,7 @@ apart_from s t other = false_from_ne_true (same_text s t) (λ e. other ((bytes_e
 same_false : (s t : List ℕ) → same_text s t ≡ false → ¬ (s ≡ t)
 same_false s t other e = false≢true (sym other ∙ (bytes_eq-Decides s t).1 e)
 
--- rows in lower case that rise stand once
+-- rows in lower case that rise come once
 once_rising : (rows : List Block) → All IsOther rows → IsSortedMap text_cmp rows → are_once rows ≡ true
 once_rising [] each rises = refl
 once_rising (row ∷ rows) each rises =
@@ -272,7 +272,7 @@ module _ (x : LocaleIdentifier) (is : IsLocaleIdentifier x) where
   others_once : are_once x.others ≡ true
   others_once = once_rising x.others is.each_other is.others
 
-  -- one before t has not the mark of one behind it
+  -- one before t has not the mark of one after it
   below_not_above : (e f : Block) → IsOther e → before_t e ≡ true → IsOther f → not (before_t f) ≡ true → ¬ (lowercase e.0 ≡ lowercase f.0)
   below_not_above e f is_e below is_f above same =
       let marks : e.0 ≡ f.0 = sym is_e.singleton.written ∙ same ∙ is_f.singleton.written in

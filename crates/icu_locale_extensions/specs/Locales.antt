@@ -12,7 +12,7 @@ use Rattle.icu_locale_extensions.specs.Extensions.{ArePieces, IsField, IsOther}
 use Rattle.icu_locale_extensions.specs.Rows.{flat, below_t, above_t}
 use Rattle.icu_locale_extensions.specs.declared.identifier.LocaleIdentifier.{LocaleIdentifier}
 
--- ---- each part belongs to its class and stands in its written case
+-- ---- each part belongs to its class and is in its written case
 
 pub record IsLocaleIdentifier (x : LocaleIdentifier) : Type 0 where
   pub id : IsIdentifier x.locale.id
@@ -62,7 +62,7 @@ transform_pieces x = lower_subtags x.locale.extensions.transform.lang ++ flat x.
 abbrev pub unicode_pieces : LocaleIdentifier → List (List ℕ)
 unicode_pieces x = x.attributes ++ flat x.locale.extensions.unicode.keywords
 
--- the pieces behind the identifier: the extensions, rising by singleton, and private use last
+-- the pieces after the identifier: the extensions, rising by singleton, and private use last
 abbrev pub extension_pieces : LocaleIdentifier → List (List ℕ)
 extension_pieces x =
     flat (below_t x.others)

@@ -22,6 +22,6 @@ dashed ps = flat_map (λ p. codes "-" ++ p) ps
 abbrev pub below_t : List Block → List Block
 below_t others = filter (λ e. is_lt (text_cmp e.0 (codes "t"))) others
 
--- the extensions behind t, and so behind u
+-- the extensions after t, and so after u
 abbrev pub above_t : List Block → List Block
 above_t others = filter (λ e. not (is_lt (text_cmp e.0 (codes "t")))) others

@@ -71,7 +71,7 @@ abbrev pub is_extended : List (List ℕ) → Bool
 is_extended (p ∷ q ∷ ps) = is_language p && (has_length 3 3 q && is_alphabetic q)
 is_extended ps = false
 
--- what a tag stands for: the value preferred to it; private use alone behind `und`; an extended
+-- what a tag stands for: the value preferred to it; private use alone after `und`; an extended
 -- language in the place of its prefix, and of these one (section 2.2.2); else the tag itself
 abbrev pub tag_text : List ℕ → List ℕ
 tag_text t =
@@ -93,13 +93,13 @@ ends_base c = (c == 46) || marks_modifier c
 abbrev pub is_standard : List ℕ → Bool
 is_standard name = same_text name (codes "C") || same_text name (codes "POSIX")
 
--- what stands before the codeset and the modifier (section 8.2)
+-- what is before the codeset and the modifier (section 8.2)
 abbrev pub base_text : List ℕ → List ℕ
 base_text t =
     let name = before_first ends_base t in
     if is_standard name then codes "en-US-u-va-posix" else name
 
--- what stands behind the first `@`, or nothing
+-- what follows the first `@`, or nothing
 abbrev pub modifier_text : List ℕ → List ℕ
 modifier_text t = after_first marks_modifier t
 

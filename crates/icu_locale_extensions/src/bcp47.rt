@@ -17,7 +17,7 @@ use std::alloc::Global;
 impl LocaleIdentifier {
     /// Reads a tag of BCP 47 (RFC 5646) in any case, its pieces apart by `-` or `_`, as the strict grammar reads what
     /// the tag stands for: of a legacy tag, as `i-klingon`, the value that is preferred to it; of private use alone, as
-    /// `x-whatever`, that behind `und`; of an extended language, as `zh-yue`, that without its prefix, which is
+    /// `x-whatever`, that after `und`; of an extended language, as `zh-yue`, that without its prefix, which is
     /// dropped; else the tag itself. It takes memory for variants, private use and extensions alone.
     ///
     /// # Errors
@@ -48,7 +48,7 @@ fn read_tag(alloc: Global, text: &[u8]) -> Result<LocaleIdentifier, ParseError>
     }
 }
 
-// Private use alone, behind `und`.
+// Private use alone, after `und`.
 fn read_private(alloc: Global, text: &[u8]) -> Result<LocaleIdentifier, ParseError>
     requires { is_private (pieces text.now) ≡ true }
     ensures { ReadsLocale (codes "und-" ++ text.now) result }

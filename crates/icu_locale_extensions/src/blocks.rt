@@ -51,7 +51,7 @@ pub fn is_named(piece: &[u8], name: u8) -> bool
     }
 }
 
-// A mark, and the text behind it up to the next, if there is any.
+// A mark, and the text after it up to the next, if there is any.
 #[derive(Clone, Copy)]
 pub struct Block<'a> {
     pub mark: &'a [u8],
@@ -176,7 +176,7 @@ pub fn cut(text: &[u8]) -> (&[u8], Option<&[u8]>)
     }
 }
 
-// Where the first separator stands.
+// Where the first separator is.
 fn separator(text: &[u8]) -> Option<usize>
     ensures { result ≡ position is_separator text.now }
 {

@@ -61,7 +61,7 @@ impl LocaleIdentifier {
         }
     }
 
-    /// Nothing, but that each part belongs to its class and stands in its written case.
+    /// Nothing, but that each part belongs to its class and is in its written case.
     pub fn known(&self)
         ensures { IsLocaleIdentifier self.now }
     {
@@ -77,7 +77,7 @@ impl LocaleIdentifier {
         know_pieces(&self.private_use);
     }
 
-    /// Puts the written form behind a text: what Display writes. It takes memory where the text has no room for it, and
+    /// Appends the written form to a text: what Display writes. It takes memory where the text has no room for it, and
     /// for a form with extensions or private use, which is made apart first.
     ///
     /// # Errors
@@ -121,7 +121,7 @@ impl LocaleIdentifier {
     }
 }
 
-// Whether nothing stands behind the identifier.
+// Whether nothing follows the identifier.
 fn is_bare(x: &LocaleIdentifier) -> bool
     ensures { result ≡ true → extension_pieces x.now ≡ [] }
 {

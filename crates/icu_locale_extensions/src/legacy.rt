@@ -11,7 +11,7 @@ ghost use Rattle.icu_locale_extensions.specs.inner.Tables.{rows_of};
 use crate::blocks::is_named;
 use crate::texts::spelled;
 
-// What stands behind the first piece of each legacy tag, and the value preferred to the tag.
+// What follows the first piece of each legacy tag, and the value preferred to the tag.
 static BEHIND_I: [(&str, &str); 13] = [
     ("ami", "ami"),
     ("bnn", "bnn"),

@@ -241,7 +241,7 @@ pub(crate) fn write_below_t<W: fmt::Write>(
     Ok(())
 }
 
-// Those that are written behind `t` and `u`, each after `-`.
+// Those that are written after `t` and `u`, each after `-`.
 pub(crate) fn write_above_t<W: fmt::Write>(
     others: &Others,
     f: &mut fmt::Formatter<W>,

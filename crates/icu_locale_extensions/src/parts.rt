@@ -125,7 +125,7 @@ pub fn read_others(alloc: Global, blocks: Blocks<'_>) -> Result<Others, ParseErr
     Ok(others)
 }
 
-// Pieces that may stand there.
+// Pieces that are allowed there.
 fn read_pieces<const LOW: usize>(alloc: Global, text: &[u8]) -> Result<Subtags<LOW>, ParseError>
     requires { are_pieces LOW (pieces text.now) ≡ true }
     ensures read { IfOk result (λ ps. ps ≡ map lowercase (pieces text.now)) }

@@ -13,12 +13,12 @@ use icu_locale_core::{LanguageIdentifier, ParseError, Script, Variant, Variants}
 use std::alloc::Global;
 
 impl LocaleIdentifier {
-    /// Reads a name of a POSIX locale (POSIX.1 Base Definitions, section 8.2), as `sr_RS.UTF-8@latin`: its base, which
-    /// stands before the first `.` or `@`, as the strict grammar reads it, with what its modifier names, which stands
-    /// behind the first `@`. The names `C` and `POSIX` stand for `en-US-u-va-posix`. Of modifiers `latin`, `iqtelif`,
+    /// Reads a name of a POSIX locale (POSIX.1 Base Definitions, section 8.2), as `sr_RS.UTF-8@latin`: its base, up to
+    /// the first `.` or `@`, as the strict grammar reads it, with what its modifier names, which follows the first `@`.
+    /// The names `C` and `POSIX` stand for `en-US-u-va-posix`. Of modifiers `latin`, `iqtelif`,
     /// `cyrillic` and `devanagari` set the script, in place of one that the base has, and `valencia` adds that variant;
-    /// each other, as `euro`, is dropped, and so is the codeset. Names and modifiers are read in the case that stands
-    /// here, a base in any. It takes memory for variants, private use and extensions alone.
+    /// each other, as `euro`, is dropped, and so is the codeset. Names and modifiers are read in the case that is
+    /// written here, a base in any. It takes memory for variants, private use and extensions alone.
     ///
     /// # Errors
     ///
@@ -36,7 +36,7 @@ impl LocaleIdentifier {
     }
 }
 
-// What stands before the codeset and the modifier, and for the locale of the standard its text.
+// What is before the codeset and the modifier, and for the locale of the standard its text.
 fn base(text: &[u8]) -> &[u8]
     ensures { result.now ≡ base_text text.now }
 {
@@ -68,7 +68,7 @@ fn ends_base(byte: &u8) -> bool
     *byte == b'.' || *byte == b'@'
 }
 
-// What stands behind the first `@`, or nothing.
+// What follows the first `@`, or nothing.
 fn modifier(text: &[u8]) -> &[u8]
     ensures { result.now ≡ modifier_text text.now }
 {

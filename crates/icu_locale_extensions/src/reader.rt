@@ -91,7 +91,7 @@ pub fn read_front(alloc: Global, text: Option<&[u8]>) -> Result<LanguageIdentifi
     }
 }
 
-// What stands behind the identifier.
+// What follows the identifier.
 fn read_behind(
     alloc: Global,
     id: LanguageIdentifier,

@@ -1,4 +1,4 @@
--- A table's key for a locale stands in its chain.
+-- A table's key for a locale is in its chain.
 use Rattle.std.proofs.Common.{◌≡◌, ◌≢◌, ℕ, List, Bool, true, false, not, ◌&&◌, Option, Some, None, refl, ap, sym, ◌∙◌, inl, inr, if◌then◌else◌}
 use Rattle.std.specs.Option.{option_eq}
 use Rattle.std.specs.Str.{bytes_eq}

@@ -80,7 +80,7 @@ room p likely rows x y z w list ends h follows =
     let inside = within_universe p likely rows x w z ends (suc h.place) there in
     omega (arith, inside, h.size)
 
--- ---- the text of what stands behind the first
+-- ---- the text of what follows the first
 
 module _ (by : Inheritance) (x : DataLocale) (old : List ℕ) where
   pub HasRest-start : HasRest by x old old 0 x
@@ -101,7 +101,7 @@ module _ (by : Inheritance) (x : DataLocale) (old : List ℕ) where
   pub IsRestWritten-end : (text : List ℕ) (passed : ℕ) (y : DataLocale) → HasRest by x old text passed y → next by y ≡ None → IsRestWritten by x old text
   IsRestWritten-end text passed y h last = (h.rest, IsChain-listed by x (x ∷ h.rest) y h.listed last, h.written)
 
-  -- what was there still stands in front
+  -- what was there is still in front
   pub HasRest-front : (text : List ℕ) (passed : ℕ) (y : DataLocale) → HasRest by x old text passed y → (more : List ℕ) × (text ≡ old ++ more)
   HasRest-front text passed y h = (flat_map behind_space h.rest, h.written)
 

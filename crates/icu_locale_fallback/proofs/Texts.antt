@@ -39,7 +39,7 @@ flat_map-plain : (ys : List DataLocale) → flat_map (λ y. codes " " ++ written
 flat_map-plain [] = refl
 flat_map-plain (y ∷ ys) = ap (λ t. behind_space y ++ t) (flat_map-plain ys)
 
--- the text of an identifier and of locales behind it
+-- the text of an identifier and of locales after it
 text_of : (x : LanguageIdentifier) (ys : List DataLocale) → chain_text (x ∷ map plain ys) ≡ written x ++ flat_map behind_space ys
 text_of x ys = ap (λ t. written x ++ t) (flat_map-plain ys)
 

@@ -53,7 +53,7 @@ module _ (by : Inheritance) where
         chosen_some (len x.variants) (option_map plain (next by (subtags_of x))) (Some (plain (subtags_of x))) some in
         front (next_identifier by) x (plain (subtags_of x)) first i ∙ plain_chain (subtags_of x) i
 
-    -- what stands in the chain, from some place on, is what stands in that of the subtags
+    -- what is in the chain, from some place on, is what is in that of the subtags
     found : (f : ℕ → ℕ) (chain : (i : ℕ) → at (next_identifier by) x (f i) ≡ option_map plain (at (next by) (subtags_of x) i)) → (i : ℕ) (y : LanguageIdentifier) → at (next_identifier by) x (f i) ≡ Some y
         → (z : DataLocale) × (at (next by) (subtags_of x) i ≡ Some z) × (plain z ≡ y)
     found f chain i y here = some_map plain (at (next by) (subtags_of x) i) y (sym (chain i) ∙ here)

@@ -42,7 +42,7 @@ most_truncations Language = 3
 most_truncations Script = 4
 most_truncations Region = 2
 
--- y stands in the chain of x, and no locale before it has an explicit parent that counts
+-- y is in the chain of x, and no locale before it has an explicit parent that counts
 pub record IsTruncation (by : Inheritance) (x y : DataLocale) : Type 0 where
   pub place : ℕ
   pub here : at (next by) x place ≡ Some y

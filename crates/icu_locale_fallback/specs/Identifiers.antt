@@ -35,7 +35,7 @@ abbrev pub IsChainOfSubtags : Inheritance → LanguageIdentifier → Type 0
 IsChainOfSubtags by x = (i : ℕ) → at (next_identifier by) x i
     ≡ option_map plain (at (next by) (subtags_of x) i)
 
--- behind the identifier itself the chain is that of its language, script and region
+-- after the identifier itself the chain is that of its language, script and region
 abbrev pub IsChainBehind : Inheritance → LanguageIdentifier → Type 0
 IsChainBehind by x = (i : ℕ) → at (next_identifier by) x (suc i)
     ≡ option_map plain (at (next by) (subtags_of x) i)
@@ -58,7 +58,7 @@ IsIdentifierChain by x list = (i : ℕ) → slice_get list i ≡ at (next_identi
 abbrev pub chain_text : List LanguageIdentifier → List ℕ
 chain_text list = join_by written (codes " ") list
 
--- the text of the chain was put behind another
+-- the text of the chain was appended to another
 abbrev pub IsWritten : Inheritance → LanguageIdentifier → List ℕ → List ℕ → Type 0
 IsWritten by x old new =
     (list : List LanguageIdentifier) × IsIdentifierChain by x list × (new ≡ old ++ chain_text list)

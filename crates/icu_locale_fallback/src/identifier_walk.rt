@@ -85,7 +85,7 @@ impl<'d> IdentifierFallbackIterator<'d> {
         Ok(list)
     }
 
-    /// Puts the chain from here behind a text, up to the root: each identifier in its written form, with one space between
+    /// Appends the chain from here to a text, up to the root: each identifier in its written form, with one space between
     /// two. It takes memory only where the text has no room.
     ///
     /// # Errors
@@ -135,7 +135,7 @@ impl<'d> IdentifierFallbackIterator<'d> {
         self.append_rest(start, text)
     }
 
-    // The locales behind the first of a chain that ends, each with a space before it.
+    // The locales after the first of a chain that ends, each with a space before it.
     fn append_rest(&self, start: &DataLocale, text: &mut Vec<u8>) -> Result<(), FallbackError>
         requires { EndsAt (next (inheritance self.now.fallbacker self.now.config.priority))
             start.now root }
@@ -157,7 +157,7 @@ impl<'d> IdentifierFallbackIterator<'d> {
     }
 }
 
-// Locales as identifiers, put behind a list.
+// Locales as identifiers, appended to a list.
 fn add_plain(
     alloc: Global,
     list: &mut Vec<LanguageIdentifier>,

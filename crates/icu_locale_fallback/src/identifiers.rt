@@ -23,7 +23,7 @@ pub struct IdentifierFallbackIterator<'d> {
 }
 
 impl<'d> LocaleFallbackerWithConfig<'d> {
-    /// The chain behind an identifier, at its first identifier: the normal form of its language, script and region, with
+    /// The chain of an identifier, at its first identifier: the normal form of its language, script and region, with
     /// its variants. It takes no memory.
     pub fn fallback_for_identifier(
         &self,
@@ -47,7 +47,7 @@ impl<'d> LocaleFallbackerWithConfig<'d> {
         }
     }
 
-    /// Puts the chain of an identifier behind a text, from its normal form to the root: each identifier in its written
+    /// Appends the chain of an identifier to a text, from its normal form to the root: each identifier in its written
     /// form, with one space between two. It takes memory only where the text has no room.
     ///
     /// # Errors

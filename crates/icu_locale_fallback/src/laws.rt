@@ -99,7 +99,7 @@ pub fn lists_have_each_once()
         → HasEachOnce (next_identifier by) x list }
 {}
 
-/// By language and by script, the key of a locale stands in its chain, unless its normal form has an explicit parent.
+/// By language and by script, the key of a locale is in its chain, unless its normal form has an explicit parent.
 #[tactic(auto, using(crate::proofs::Keys::key_stands))]
 pub fn keys_are_come_to()
     ensures { (by : Inheritance) (x : DataLocale)

@@ -1,4 +1,4 @@
-//! Locale fallback: the chain of locales behind one, over tables that a caller hands in.
+//! Locale fallback: the chain of a locale, over tables that a caller hands in.
 #![tactic(auto)]
 
 mod errors;

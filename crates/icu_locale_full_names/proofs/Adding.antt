@@ -1,4 +1,4 @@
--- Pieces behind a text that is being written.
+-- Pieces after a text that is being written.
 use Rattle.std.proofs.Common.{◌≡◌, ◌∙◌, refl, ap, sym, subst, ℕ, ◌+◌, Bool, true, false, List, [], ◌∷◌, ◌++◌, length, length-append, append_assoc, append-nil, string_bytes}
 use Rattle.icu_locale_names.specs.LanguageNames.{joined}
 use Rattle.icu_locale_names.specs.Pieces.{Piece, plain, text_of, spans_from}
@@ -46,7 +46,7 @@ joined_cons : (sep : List ℕ) (p : Piece) (ps : List Piece) → joined sep (p �
 joined_cons sep p [] = refl
 joined_cons sep p (q ∷ ps) = ap (λ t. p ∷ plain sep ∷ t) (joined_cons sep q ps)
 
--- the first of what is left, and the others behind it
+-- the first of what is left, and the others after it
 pub behind_cons : (is_any : Bool) (sep : List ℕ) (p : Piece) (ps : List Piece) → pieces_behind is_any sep (p ∷ ps)
     ≡ pieces_behind is_any sep (p ∷ []) ++ pieces_behind true sep ps
 behind_cons true sep p ps = refl

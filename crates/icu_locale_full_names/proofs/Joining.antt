@@ -1,4 +1,4 @@
--- Texts behind texts.
+-- Texts after texts.
 use Rattle.std.proofs.Common.{◌≡◌, ◌∙◌, refl, ap, sym, subst, ℕ, Bool, true, false, ◌||◌, List, [], ◌∷◌, ◌++◌, append_assoc, append-nil, map, filter, not, if◌then◌else◌, Result, Ok, Err, IfOk, Option, Some, None, is_some}
 use Rattle.std.proofs.lemmas.Bool.{false≢true}
 use Rattle.std.specs.List.{flat_map, list_any}
@@ -96,7 +96,7 @@ kept_cons {A} f keep x xs = (elim (keep x) as (λ b. map f (if b then x ∷ filt
       | false ↦ refl
     ])
 
--- one text behind others: the separator, unless it is the first, and the text
+-- one text after others: the separator, unless it is the first, and the text
 pub joins_one : (sep : List ℕ) (text : Text) (is_any : Bool) (old middle new : Draft)
     → Adds (if is_any then plain sep ∷ [] else []) old middle → Adds text middle new → Joins sep (text ∷ []) old is_any new true
 joins_one sep text true old middle new a b = record {

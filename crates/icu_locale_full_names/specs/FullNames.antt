@@ -112,7 +112,7 @@ full_pieces base language names x =
 
 -- ---- making a name
 
--- a text, and where the raw parts of it stand: where each begins and ends, in bytes
+-- a text, and where the raw parts of it are: where each begins and ends, in bytes
 pub record NameText : Type 0 where
   pub text : List ℕ
   pub raw_spans : List (ℕ × ℕ)

@@ -1,4 +1,4 @@
-//! A text that is being written, and where the raw parts of it stand.
+//! A text that is being written, and where the raw parts of it are.
 ghost use Rattle.std.specs.Prelude.{◌≡◌, ◌∷◌, [], ◌++◌, OnOk, length, string_bytes, true, false};
 ghost use Rattle.icu_locale_names.specs.LentNames.{lent_piece};
 ghost use Rattle.icu_locale_full_names.specs.Squares.{square, square_text, squared};
@@ -7,7 +7,7 @@ ghost use Rattle.icu_locale_full_names.specs.inner.Drafts.{Adds};
 use icu_locale_names::LentPiece;
 use std::alloc::{AllocError, Global};
 
-// A text, and where the raw parts of it stand.
+// A text, and where the raw parts of it are.
 #[derive(Debug, Drop)]
 pub struct Draft {
     pub text: String,
@@ -44,7 +44,7 @@ impl Draft {
         self.mark(start, piece.is_raw)
     }
 
-    // Notes that what stands from a place on is raw, where it is.
+    // Notes that the text from a place on is raw, where it is.
     fn mark(&mut self, start: usize, is_raw: bool) -> Result<(), AllocError>
         ensures text { string_bytes self.new.text ≡ string_bytes self.old.text }
         ensures raw { is_raw ≡ true → OnOk result (self.new.raw_spans.items
@@ -58,7 +58,7 @@ impl Draft {
     }
 }
 
-// A text with square brackets behind a text.
+// A text with square brackets, appended to a text.
 fn push_square(more: &str, text: &mut String) -> Result<(), AllocError>
     ensures { OnOk result (string_bytes text.new
         ≡ string_bytes text.old ++ square_text more.now) }

@@ -24,7 +24,7 @@ use std::marker::Model;
 use std::{fmt, io};
 
 /// The name of a whole locale identifier (UTS #35 Part 2, "Locale Display Name Algorithm"): that of its identifier, with
-/// what its extensions say as further qualifiers. It holds its text; a contract sees that, and where raw parts stand in it.
+/// what its extensions say as further qualifiers. It holds its text; a contract sees that, and where raw parts are in it.
 #[derive(Debug, Drop)]
 pub struct LocaleDisplayName {
     draft: Draft,
@@ -83,14 +83,14 @@ impl LocaleDisplayName {
         self.draft.text.as_str()
     }
 
-    /// Where the raw parts of the text stand, in order: where each begins and ends, in bytes. It takes no memory.
+    /// Where the raw parts of the text are, in order: where each begins and ends, in bytes. It takes no memory.
     pub fn raw_spans(&self) -> &[(usize, usize)]
         ensures { result.now ≡ self.now.raw_spans }
     {
         self.draft.raw_spans.as_slice()
     }
 
-    /// Puts the text behind `text`, and tells whether a raw part stands in it. It takes memory where `text` has no room.
+    /// Appends the text to `text`, and tells whether a raw part is in it. It takes memory where `text` has no room.
     ///
     /// # Errors
     ///
@@ -105,7 +105,7 @@ impl LocaleDisplayName {
         Ok(!self.raw_spans().is_empty())
     }
 
-    /// Writes the text, and puts the span of each raw part behind `parts`, as
+    /// Writes the text, and appends the span of each raw part to `parts`, as
     /// `LanguageIdentifierDisplayNameBorrowed::try_write_to_parts` does. The report inside is `Err` exactly where there is
     /// a raw part. It takes memory for the spans alone.
     ///
@@ -113,7 +113,7 @@ impl LocaleDisplayName {
     ///
     /// `parts` is unchanged after each.
     ///
-    /// - `Memory` where the spans found no room, never where no raw part stands in the text. Nothing was written.
+    /// - `Memory` where the spans found no room, never where no raw part is in the text. Nothing was written.
     /// - `Sink` where a write failed or took no byte. A beginning of the text was written, and not the whole.
     pub fn try_write_to_parts<W: io::Write>(
         &self,

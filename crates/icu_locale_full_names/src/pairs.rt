@@ -23,7 +23,7 @@ pub enum Has<'a> {
     Codes(&'a str, &'a [Subtag]),
 }
 
-// Names of what extensions say, and what stands between two qualifiers.
+// Names of what extensions say, and what is between two qualifiers.
 #[derive(Clone, Copy, Debug)]
 pub struct Language<'a> {
     pub names: &'a ExtensionNames,

@@ -1,4 +1,4 @@
-//! The qualifiers of a locale identifier, one behind another.
+//! The qualifiers of a locale identifier, one after another.
 ghost use Rattle.std.specs.Prelude.{◌≡◌, ◌∷◌, [], ◌++◌, IfOk, map, filter, not, true, false};
 ghost use Rattle.icu_locale_names.specs.LentNames.{parts_of};
 ghost use Rattle.icu_locale_full_names.specs.FullNames.{one_piece, marks_hybrid, is_hybrid, language_texts, attribute_says, is_beside_x, private_rows, transform_texts, unicode_texts, other_texts, further_texts};

@@ -1,4 +1,4 @@
-//! What a key with a value says, and texts behind others.
+//! What a key with a value says, and texts after others.
 ghost use Rattle.std.specs.Prelude.{◌≡◌, ◌∷◌, [], IfOk, OnOk, if◌then◌else◌, codes};
 ghost use Rattle.icu_locale_core.specs.Value.{written_value};
 ghost use Rattle.icu_locale_names.specs.LentNames.{lent_piece, parts_of};
@@ -16,7 +16,7 @@ use icu_locale_names::{LanguageIdentifierDisplayNameBorrowed, LentPiece};
 use std::alloc::AllocError;
 
 impl<'a> Language<'a> {
-    // What stands between texts, unless the next is the first.
+    // What is between texts, unless the next is the first.
     fn add_separator(&self, is_any: bool, draft: &mut Draft) -> Result<(), AllocError>
         ensures { OnOk result (Adds
             (if is_any then plain self.now.separator.now ∷ [] else [])
@@ -62,7 +62,7 @@ impl<'a> Language<'a> {
         }
     }
 
-    // The same behind other texts.
+    // The same after other texts.
     fn join_says(
         &self,
         key: &str,

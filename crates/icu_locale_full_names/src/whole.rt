@@ -19,7 +19,7 @@ use icu_locale_names::{LanguageIdentifierDisplayNameBorrowed, LentPiece};
 use icu_provider::{ExtensionNames, PatternItem};
 use std::alloc::AllocError;
 
-// The whole name behind a text.
+// The whole name, appended to a text.
 pub fn add_whole(
     name: &LanguageIdentifierDisplayNameBorrowed<'_>,
     language: Option<&LanguageIdentifierDisplayNameBorrowed<'_>>,

@@ -126,7 +126,7 @@ never_json (w ∷ []) Settled are = absurd (cc)
 never_json (w ∷ v ∷ vs) Settled are = absurd (cc)
 never_json front (Lines c) are = never_task front c.task are.1
 
--- words with `json` behind them are those of a command with tables as JSON
+-- words with `json` after them are those of a command with tables as JSON
 pub with_json : (front : List (List ℕ)) (c : Command × Bool) → AreWords (front ++ codes "json" ∷ []) c.0 c.1 → AreCommandWords front c.0 × (c.1 ≡ true)
 with_json front (c, false) are = absurd (never_json front c are)
 with_json front (c, true) (before, are, is) = (
@@ -135,7 +135,7 @@ with_json front (c, true) (before, are, is) = (
   refl,
 )
 
--- words without `json` behind them are those of a command over the sample
+-- words without `json` after them are those of a command over the sample
 pub without_json : (words : List (List ℕ)) → ((front : List (List ℕ)) → words ≡ front ++ codes "json" ∷ [] → ⊥) → (c : Command × Bool)
     → AreWords words c.0 c.1 → AreCommandWords words c.0 × (c.1 ≡ false)
 without_json words none (c, false) are = (are, refl)

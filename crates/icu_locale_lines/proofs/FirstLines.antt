@@ -92,7 +92,7 @@ place_of_end (c ∷ line) t none =
     or_parts true b e = absurd (false≢true (sym e))
     or_parts false b e = (refl, e)
 
--- without one all is the first line, and nothing is behind it
+-- without one all is the first line, and nothing follows it
 pub alone : (t : List ℕ) → list_any is_line_feed t ≡ false → first_line t ≡ t × after_first_line t ≡ []
 alone [] none = (refl, refl)
 alone (c ∷ t) none =

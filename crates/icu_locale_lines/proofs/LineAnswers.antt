@@ -31,13 +31,13 @@ use Rattle.icu_locale_lines.specs.inner.Parts.{TellsRefusal}
 use Rattle.icu_locale_lines.proofs.LineCuts.{before_first-no_position}
 use Rattle.icu_locale_lines.proofs.LocaleLines.{value_text-no_position}
 
--- what is put behind the others is a line of another kind too
+-- what is appended to the others is a line of another kind too
 pub if_adds : (P Q : List ℕ → Bool → Type 0) → ((t : List ℕ) (a : Bool) → P t a → Q t a) → (old new : List ℕ) (r : Result Bool CliError)
     → IfOk r (AddsLine P old new) → IfOk r (AddsLine Q old new)
 if_adds P Q more old new (Ok a) h = record { line = h.line; added = h.added; is = more h.line a h.is }
 if_adds P Q more old new (Err e) h = tt
 
--- a line that is put behind none stands alone
+-- a line that is put after none is alone
 pub if_alone : (P : List ℕ → Bool → Type 0) (old new : List ℕ) → old ≡ [] → (r : Result Bool CliError) → IfOk r (AddsLine P old new) → IfOk r (P new)
 if_alone P old new none (Ok a) h = subst (λ t. P t a) (sym (h.added ∙ ap (λ t. t ++ h.line) none)) h.is
 if_alone P old new none (Err e) h = tt

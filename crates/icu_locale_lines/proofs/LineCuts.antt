@@ -37,9 +37,9 @@ pub lines-no_position : (t : List ℕ) → t ≢ [] → position is_line_feed t 
 lines-no_position [] some none = absurd (some refl)
 lines-no_position (c ∷ t) some none = ap without_empty_last (slice_split-no_position is_line_feed (c ∷ t) none)
 
--- what stands before and behind the first separator of a text
+-- what is before and after the first separator of a text
 module _ (p : ℕ → Bool) (t : List ℕ) where
-  -- where it stands
+  -- where it is
   place : (n : ℕ) → position p t ≡ Some n → position_or_len p t ≡ n
   place n at = (cond_some (nat_lt (position_or_len p t) (length t)) (position_or_len p t) n at).1
 
@@ -49,7 +49,7 @@ module _ (p : ℕ → Bool) (t : List ℕ) where
   pub after_first-position : (n : ℕ) → position p t ≡ Some n → after_first p t ≡ drop (n + 1) t
   after_first-position n at = ap (λ k. drop (k + 1) t) (place n at)
 
-  -- without one all stands before it
+  -- without one all is before it
   past_end : position p t ≡ None → length t ≤ position_or_len p t
   past_end none = elim (nat_lt (position_or_len p t) (length t)) as (λ b. nat_lt (position_or_len p t) (length t) ≡ b
       → cond b (Some (position_or_len p t)) None ≡ None → length t ≤ position_or_len p t) [

@@ -1,4 +1,4 @@
--- What waits for the first line: over which tables, and what is answered behind that line.
+-- What waits for the first line: over which tables, and what is answered after that line.
 use Rattle.std.proofs.Common.{◌≡◌, ◌&&◌, true, ℕ, List, Option, Some, None, IsSomeAnd, is_some, refl, ap, sym, subst, ◌∙◌}
 use Rattle.icu_locale.specs.LikelyTable.{likely}
 use Rattle.icu_locale.specs.LikelySubtags.{LikelySubtags, AreSettled}
@@ -22,7 +22,7 @@ use Rattle.icu_locale_lines.specs.declared.work.listing.ListOver.{ListOver}
 use Rattle.icu_locale_lines.specs.declared.work.listing.ListOver.TheVariants as over
 use Rattle.icu_locale_lines.specs.declared.work.Tools.TheVariants as tools
 
--- a command that waits for its first line answers what is behind it
+-- a command that waits for its first line answers what follows it
 left_behind : (task : Task) (t : Tables) (o : ListOver) → ListsBy task t o → (input : List ℕ) → text_left task input ≡ after_first_line input
 left_behind (Transform form) t o h input = absurd h
 left_behind Canonicalize t o h input = absurd h

@@ -17,7 +17,7 @@ use Rattle.icu_locale_lines.specs.Locales.{is_tab, identifier_text, value_text, 
 use Rattle.icu_locale_lines.specs.inner.Parts.{IsLocaleOf, IsRefusedValue}
 use Rattle.icu_locale_lines.proofs.ListReading.{refusal_from_reading}
 
--- what stands behind a tab that is found, and without one nothing does
+-- what follows a tab that is found, and without one nothing does
 pub value_text-position : (line : List ℕ) (n : ℕ) → position is_tab line ≡ Some n → value_text line ≡ Some (drop (n + 1) line)
 value_text-position line n at = ap (option_map (λ place. drop (place + 1) line)) at
 

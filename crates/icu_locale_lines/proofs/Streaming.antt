@@ -131,7 +131,7 @@ some_ends : (a b : List ℕ) → false ≡ (length b == 0) → EndsLines b → E
 some_ends a b some (inl none) = absurd (false≢true (some ∙ ap (λ x. length x == 0) none))
 some_ends a b some (inr (front, is)) = inr (a ++ front, ap (λ x. a ++ x) is ∙ sym (append_assoc a front (10 ∷ [])))
 
--- a part that was cut behind its last line feed, whose front was put behind what was carried
+-- a part that was cut after its last line feed, whose front was appended to what was carried
 module _ (carry part front rest held : List ℕ) (parted : part ≡ front ++ rest) (front_ends : EndsLines front)
     (some : false ≡ (length front == 0)) (held_is : held ≡ carry ++ front) where
   whole_text : carry ++ part ≡ held ++ rest
@@ -190,7 +190,7 @@ module _ (work : Work) (read mid wrote between : Stream) (status : Status) (carr
     unended = none;
   }
 
-  -- what a refused part leaves, behind the lines before
+  -- what a refused part leaves, after the lines before
   lines_behind : (Leaves : Work → List ℕ → Stream → Stream → Type 0) (wrote' : Stream)
       → ((t : List ℕ) → Leaves work t between wrote' → Leaves work (before.done ++ t) wrote wrote') → (new : Stream) (part : List ℕ)
       → LeavesLines Leaves work new (carry ++ part) between wrote' → LeavesLines Leaves work new (before.done ++ (carry ++ part)) wrote wrote'

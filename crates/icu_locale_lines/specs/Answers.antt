@@ -37,14 +37,14 @@ use Rattle.icu_locale_extensions.specs.Syntaxes.{SpellsBy, IsFaultBy}
 use Rattle.icu_locale_extensions.specs.declared.identifier.LocaleIdentifier.{LocaleIdentifier}
 use Rattle.icu_locale_extensions.specs.declared.syntax.Syntax.{Syntax}
 
--- a line is put behind what stood before, and it is such a line
+-- a line is appended to what stood before, and it is such a line
 pub record AddsLine (IsLine : List ℕ → Bool → Type 0) (old new : List ℕ) (accepted : Bool)
     : Type 0 where
   pub line : List ℕ
   pub added : new ≡ old ++ line
   pub is : IsLine line accepted
 
--- what stood before still stands in front
+-- what stood before is still in front
 abbrev pub Keeps : (old new : List ℕ) → Type 0
 Keeps old new = take (length old) new ≡ old
 
@@ -153,7 +153,7 @@ IsAnswerOf syntax IsLine IsWhole line text accepted =
     (λ s. IsSpelledAnswer s IsWhole line text accepted)
 
 -- the answer to a line that is brought to its canonical form; without a syntax it may have a value
--- behind its identifier
+-- after its identifier
 abbrev pub IsCanonicalAnswer : Option Syntax → WholeRules → List ℕ → List ℕ → Bool → Type 0
 IsCanonicalAnswer syntax by line text accepted =
     MatchOption syntax (IsLocaleAnswer by.likely by.rules line text accepted)

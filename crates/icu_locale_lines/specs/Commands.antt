@@ -79,7 +79,7 @@ is_streamed_task (Serve wishes) = true
 is_streamed_task Distance = true
 is_streamed_task task = false
 
--- the words behind that of a task: for `name` a chain and preferences
+-- the words after that of a task: for `name` a chain and preferences
 abbrev pub AreArguments : Task → List (List ℕ) → Type 0
 AreArguments (Name chain preferences) words = (text : List ℕ)
     × (words ≡ chain_word chain ∷ text ∷ []) × SpellsPreferences text preferences
@@ -95,7 +95,7 @@ abbrev pub AreCommandWords : List (List ℕ) → Command → Type 0
 AreCommandWords words Settled = words ≡ codes "settled" ∷ []
 AreCommandWords words (Lines c) = (c.syntax ≡ None) × AreTaskWords words c.task
 
--- the words of a command, with `json` behind them for tables as JSON
+-- the words of a command, with `json` after them for tables as JSON
 abbrev pub AreWords : List (List ℕ) → Command → Bool → Type 0
 AreWords words c false = AreCommandWords words c
 AreWords words c true = (front : List (List ℕ)) × AreCommandWords front c
@@ -106,7 +106,7 @@ abbrev pub is_streamed : Command → Bool
 is_streamed (Lines c) = is_streamed_task c.task
 is_streamed Settled = false
 
--- the words of a command of a run, with `json` behind them for tables as JSON
+-- the words of a command of a run, with `json` after them for tables as JSON
 abbrev pub AreRunWords : List (List ℕ) → Command → Bool → Type 0
 AreRunWords words c json = AreWords words c json × (is_streamed c ≡ false)
 

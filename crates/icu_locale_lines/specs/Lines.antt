@@ -20,10 +20,10 @@ without_empty_last (x ∷ xs) = x ∷ without_empty_last xs
 abbrev pub lines : List ℕ → List (List ℕ)
 lines t = without_empty_last (slice_split is_line_feed t)
 
--- what stands before the first line feed, or all of it
+-- what is before the first line feed, or all of it
 abbrev pub first_line : List ℕ → List ℕ
 first_line t = before_first is_line_feed t
 
--- what stands behind the first line feed, if there is one
+-- what follows the first line feed, if there is one
 abbrev pub after_first_line : List ℕ → List ℕ
 after_first_line t = after_first is_line_feed t

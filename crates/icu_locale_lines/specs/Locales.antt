@@ -16,11 +16,11 @@ use Rattle.icu_locale_lines.specs.Lists.{IsFault}
 abbrev pub is_tab : ℕ → Bool
 is_tab c = c == 9
 
--- what stands before the first tab of a line, or all of it
+-- what is before the first tab of a line, or all of it
 abbrev pub identifier_text : List ℕ → List ℕ
 identifier_text line = before_first is_tab line
 
--- what stands behind the first tab of a line, if there is one
+-- what follows the first tab of a line, if there is one
 abbrev pub value_text : List ℕ → Option (List ℕ)
 value_text line = option_map (λ place. drop (place + 1) line) (position is_tab line)
 
@@ -29,7 +29,7 @@ abbrev pub is_readable : Option (List ℕ) → Bool
 is_readable None = true
 is_readable (Some text) = is_value text
 
--- where there is a text, its value stands at `rg`; else there are no keywords
+-- where there is a text, its value is at `rg`; else there are no keywords
 abbrev pub keywords_of : Option (List ℕ) → KeywordRows
 keywords_of None = []
 keywords_of (Some text) = (rg, read_value text) ∷ []

@@ -25,7 +25,7 @@ use Rattle.icu_locale_lines.specs.Commands.{IsWorkOf, ListsOver, text_answered}
 abbrev pub EndsLines : List ℕ → Type 0
 EndsLines t = (t ≡ []) ⊎ ((front : List ℕ) × (t ≡ front ++ 10 ∷ []))
 
--- the lines that a text ends are answered, and what is behind the last is left
+-- the lines that a text ends are answered, and what follows the last is left
 pub record AnswersEnded (work : Work) (text left : List ℕ) (old new : Stream)
     (status : Status) : Type 0 where
   pub ended : List ℕ
@@ -82,7 +82,7 @@ abbrev pub line_end : Bool → List ℕ
 line_end true = []
 line_end false = 10 ∷ []
 
--- a line was read to its line feed, or to the end of the input, and mid is what is left behind it
+-- a line was read to its line feed, or to the end of the input, and mid is what is left after it
 pub record ReadsLine (read mid : Stream) (line : List ℕ) (has_ended : Bool) : Type 0 where
   pub consumed : Consumes read mid (line ++ line_end has_ended)
   pub alone : list_any is_line_feed line ≡ false
@@ -151,7 +151,7 @@ pub record ReadsTablesLine (read mid : Stream) (t : Tables) : Type 0 where
   pub rows : rows_in line ≡ Ok (rows_of t)
   pub alone : t.supplement ≡ no_supplement
 
--- a stream over the tables of the first line; left is what the reader still held behind them
+-- a stream over the tables of the first line; left is what the reader still held after them
 abbrev pub IsJsonStream : Command → Stream → Stream → Stream → Stream → Status → Type 0
 IsJsonStream c read read' wrote wrote' status = (t : Tables) × (mid : Stream) × (left : Stream)
     × ReadsTablesLine read mid t × LeavesBehind mid left
@@ -190,7 +190,7 @@ pub record ReadsBoth (read mid : Stream) (t : Tables) : Type 0 where
   pub second : ReadsSupplement between mid tables t
 
 -- a stream over the tables of the first line and their supplement; left is what the reader still
--- held behind them
+-- held after them
 abbrev pub IsSupplementStream : Command → Stream → Stream → Stream → Stream → Status → Type 0
 IsSupplementStream c read read' wrote wrote' status = (t : Tables) × (mid : Stream)
     × (left : Stream) × ReadsBoth read mid t × LeavesBehind mid left

@@ -25,7 +25,7 @@ mark Unmodified = codes "U"
 abbrev pub transformed_line : LanguageIdentifier → TransformResult → List ℕ
 transformed_line x m = written x ++ (codes "\t" ++ (mark m ++ codes "\n"))
 
--- the identifier in written case, a tab, the value if there is one, a tab behind it, and whether
+-- the identifier in written case, a tab, the value if there is one, a tab after it, and whether
 -- anything was changed
 abbrev pub override_line : LanguageIdentifier → Option (List (List ℕ)) → TransformResult → List ℕ
 override_line x None m = transformed_line x m

@@ -19,7 +19,7 @@ use std::io::Write;
 // How many bytes of answers are written at once: with one line more they mostly fit into 64 KiB.
 const FULL: usize = 60 * 1024;
 
-// A text is put behind another.
+// A text is appended to another.
 #[inline(always)]
 pub fn add_text(text: &mut Vec<u8>, more: &str) -> Result<(), CliError>
     ensures added { OnOk result (text.new.items ≡ text.old.items ++ more.now) }
@@ -29,7 +29,7 @@ pub fn add_text(text: &mut Vec<u8>, more: &str) -> Result<(), CliError>
     Ok(text.extend_from_slice(more.as_bytes())?)
 }
 
-// A number is put behind a text, in decimal digits.
+// A number is appended to a text, in decimal digits.
 pub fn add_number(text: &mut Vec<u8>, number: usize) -> Result<(), CliError>
     ensures added { OnOk result (text.new.items ≡ text.old.items ++ decimal number) }
     ensures refused { IfErr result (λ e. e ≡ CliError.Memory) }
@@ -39,7 +39,7 @@ pub fn add_number(text: &mut Vec<u8>, number: usize) -> Result<(), CliError>
     add_text(text, digits.format(number))
 }
 
-// A known line is put behind the others.
+// A known line is appended to the others.
 #[inline(always)]
 pub fn add_known(text: &mut Vec<u8>, line: &str, accepted: bool) -> Result<bool, CliError>
     ensures answer { IfOk result (AddsLine (λ t a. (t ≡ line.now) × (a ≡ accepted))
@@ -51,7 +51,7 @@ pub fn add_known(text: &mut Vec<u8>, line: &str, accepted: bool) -> Result<bool,
     Ok(accepted)
 }
 
-// The line of a refused text is put behind the others. Want of memory has no line.
+// The line of a refused text is appended to the others. Want of memory has no line.
 pub fn add_fault(text: &mut Vec<u8>, refusal: ParseError) -> Result<bool, CliError>
     ensures answer { IfOk result (AddsLine
         (λ t a. (t ≡ refused_line (parse_error_name refusal)) × (a ≡ false))
@@ -67,7 +67,7 @@ pub fn add_fault(text: &mut Vec<u8>, refusal: ParseError) -> Result<bool, CliErr
     }
 }
 
-// The answers to all lines, put behind one another in a list that is written when it is full, and at the end. Where
+// The answers to all lines, joined in a list that is written when it is full, and at the end. Where
 // memory is refused, the lines that are whole are written all the same. What the list held before is lost.
 pub fn write_answers<W: Write>(
     work: &Work<'_>,

@@ -45,7 +45,7 @@ pub enum Task {
     Negotiate,
     /// The name of each identifier, by a chain and in the language of preferences.
     Name(NameChain, DisplayNamesPreferences),
-    /// The chain behind each identifier, by its language. Streams alone have it.
+    /// The chain of each identifier, by its language. Streams alone have it.
     Fallback,
     /// Which of the available identifiers, which the first line lists, is served for what a line wishes. Streams alone
     /// have it.
@@ -138,7 +138,7 @@ impl Command {
         }
     }
 
-    // The command that the words name, without what may stand behind them.
+    // The command that the words name, without what may follow them.
     fn from_front(alloc: Global, words: &[String]) -> Result<Command, CliError>
         ensures named { IfOk result (AreCommandWords (map string_bytes words.now)) }
         ensures only { (c : Command) → AreCommandWords (map string_bytes words.now) c

@@ -45,7 +45,7 @@ pub fn syntaxes_answer_alike()
     identifiers_keep_their_names();
 }
 
-/// Behind a line feed, which is 10, an input may be cut: what runs over its parts write, the one behind the other, is
+/// After a line feed, which is 10, an input may be cut: what runs over its parts write, one after the other, is
 /// what a run over the whole writes.
 pub fn parts_make_the_whole()
     ensures { (work : Work) (front rest one two all : List ℕ) (of_one of_two of_all : Status)

@@ -1,4 +1,4 @@
-//! Runs and streams by the words of a command, over a sink that a buffer stands before.
+//! Runs and streams by the words of a command, over a sink with a buffer.
 
 use crate::command::Command;
 use crate::error::CliError;
@@ -26,7 +26,7 @@ pub fn run_words<R: Read, W: Write + Drop>(
 }
 
 /// Runs a command: over the tables of the first line where `json` is true, else over the sample. The output is kept until
-/// much of it stands, and is written out at the end, whatever that is.
+/// there is much of it, and is written out at the end, whatever that is.
 ///
 /// # Errors
 ///
@@ -58,9 +58,9 @@ fn run_over_sample<R: Read, W: Write>(
     run(alloc, command, &tables, reader, writer)
 }
 
-/// Asks the words, and then streams a command: over the tables of the first line where `json` stands behind it, with their
+/// Asks the words, and then streams a command: over the tables of the first line where `json` follows it, with their
 /// supplement of the second where `json supplement` does, else over the sample with its supplement. Before the command may
-/// stand the word of a syntax, and before that `longest` and a number, as `stream_within` has it. What a part of the input
+/// come the word of a syntax, and before that `longest` and a number, as `stream_within` has it. What a part of the input
 /// answers is kept until more is read, and then written out; so it is at the end, whatever that is. Tests show what it
 /// does.
 ///
@@ -111,7 +111,7 @@ fn supplement_of(words: &[String]) -> (bool, &[String]) {
     }
 }
 
-// How many bytes of a line are kept at most, and the words behind those that say so.
+// How many bytes of a line are kept at most, and the words after those that say so.
 fn longest_of(words: &[String]) -> Result<(usize, &[String]), CliError> {
     match words.split_first() {
         Some((word, rest)) if word.as_str() == "longest" => match rest.split_first() {
@@ -125,7 +125,7 @@ fn longest_of(words: &[String]) -> Result<(usize, &[String]), CliError> {
     }
 }
 
-/// The words behind a program's name. It takes memory for them.
+/// The words after a program's name. It takes memory for them.
 ///
 /// # Errors
 ///

@@ -24,7 +24,7 @@ impl Status {
         if accepted { self } else { Status::Refused }
     }
 
-    // The status of two runs, the one behind the other.
+    // The status of two runs, one after the other.
     pub(crate) fn and(self, later: Status) -> Status
         ensures { (result ≡ Status.Accepted)
             ↔ ((self ≡ Status.Accepted) × (later ≡ Status.Accepted)) }

@@ -51,7 +51,7 @@ pub enum Tools<'d> {
     Negotiate(Negotiator<'d>),
     /// Each identifier is named.
     Name(Naming<'d>),
-    /// The chain behind each identifier is written.
+    /// The chain of each identifier is written.
     Fallback(LocaleFallbackerWithConfig<'d>),
     /// Each line says what is wished, and has what is served.
     Serve(Wishes, Serving<'d>),
@@ -60,7 +60,7 @@ pub enum Tools<'d> {
 }
 
 impl<'d> Work<'d> {
-    /// Puts the answer to one line behind the others.
+    /// Appends the answer to one line to the others.
     ///
     /// # Errors
     ///
@@ -95,7 +95,7 @@ impl<'d> Work<'d> {
         self.add(room, line)
     }
 
-    // Puts the answer behind the others, or a part of it where memory is refused.
+    // Appends the answer to the others, or a part of it where memory is refused.
     #[inline(always)]
     fn add(&self, text: &mut Vec<u8>, line: &[u8]) -> Result<bool, CliError>
         ensures answer { IfOk result (AddsLine (IsAnswer self.now line.now)

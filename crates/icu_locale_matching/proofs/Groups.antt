@@ -113,7 +113,7 @@ kept_later : (b : Bool) (x c : Candidate) (rest : List Candidate) (k : ℕ) → 
 kept_later true x c rest k is = (suc k, is)
 kept_later false x c rest k is = (k, is)
 
--- what passes stands among what passes
+-- what passes is among what passes
 pub filter_has : (p : Candidate → Bool) (xs : List Candidate) (k : ℕ) (c : Candidate) → slice_get xs k ≡ Some c → p c ≡ true
     → (l : ℕ) × (slice_get (filter p xs) l ≡ Some c)
 filter_has p [] k c is passes = absurd (none-some c is)

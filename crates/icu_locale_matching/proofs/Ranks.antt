@@ -210,7 +210,7 @@ pub least_within : (q : Question) (i : ℕ) (best : Option Rank) → IsLeastOf (
 least_within q i None least = tt
 least_within q i (Some r) least = least.0.offer.below
 
--- behind the last request that is all
+-- after the last request that is all
 pub IsLeastOf-all : (q : Question) (i : ℕ) (best : Option Rank) → length q.requests ≤ i → IsLeastOf (IsOfferBefore q i) best → IsLeastOf (IsOffer q) best
 IsLeastOf-all q i best all least = IsLeastOf-same best (λ s h. h.offer)
     (λ s o. record { offer = o; before = omega (arith, slice_get_within q.requests s.request o.request o.requested) }) least

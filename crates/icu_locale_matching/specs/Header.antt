@@ -28,7 +28,7 @@ trim_start (c ∷ cs) = if is_space c then trim_start cs else c ∷ cs
 abbrev pub before_trimmed : ℕ → List ℕ → List ℕ
 before_trimmed c cs = if is_space c && (length cs == 0) then [] else c ∷ cs
 
--- a text without the white space behind it
+-- a text without the white space after it
 abbrev pub trim_end : List ℕ → List ℕ
 trim_end [] = []
 trim_end (c ∷ cs) = before_trimmed c (trim_end cs)

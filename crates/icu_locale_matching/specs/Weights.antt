@@ -16,11 +16,11 @@ are_digits ds = nat_le (length ds) 3 && list_all is_ascii_digit ds
 abbrev pub digit : List ℕ → ℕ → ℕ
 digit ds i = slice_index ds i - 48
 
--- the digits behind a point, in thousandths
+-- the digits after a point, in thousandths
 abbrev pub thousandths : List ℕ → ℕ
 thousandths ds = 100 * digit ds 0 + 10 * digit ds 1 + digit ds 2
 
--- what stands before a point, and the digits behind it: 0 to 1; nothing before the point is 0
+-- what is before a point, and the digits after it: 0 to 1; nothing before the point is 0
 abbrev pub weight_of : (whole digits : List ℕ) → Option ℕ
 weight_of whole digits =
     if are_digits digits then

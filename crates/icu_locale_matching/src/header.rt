@@ -134,7 +134,7 @@ fn add_element<'h>(list: &mut Vec<LentWish<'h>>, text: &'h [u8]) -> Result<(), A
     }
 }
 
-// Puts a wish behind those that have no less weight.
+// Puts a wish after those that have no less weight.
 fn add_wish<'h>(list: &mut Vec<LentWish<'h>>, wish: LentWish<'h>) -> Result<(), AllocError>
     ensures { OnOk result ((wishes : List Wish) → AreByWeight wishes (map shown list.old.items)
         → AreByWeight (wishes ++ shown wish.entry ∷ []) (map shown list.new.items)) }
@@ -144,7 +144,7 @@ fn add_wish<'h>(list: &mut Vec<LentWish<'h>>, wish: LentWish<'h>) -> Result<(), 
     Ok(())
 }
 
-// Where the first wish with less weight stands, or the end.
+// Where the first wish with less weight is, or the end.
 fn place_for(list: &[LentWish<'_>], weight: u16) -> usize
     ensures place { result ≡ position_or_len (λ w. nat_lt w.weight weight) list.now }
     ensures within { result ≤ length list.now }

@@ -4,14 +4,14 @@ ghost use Rattle.std.specs.List.{slice_split, before_first, after_first, positio
 ghost use Rattle.icu_locale_matching.specs.Header.{is_space, trim, trim_start, trim_end};
 ghost use Rattle.icu_locale_matching.specs.inner.Parts.{parts_if_any};
 
-// Where a byte stands first.
+// Where a byte comes first.
 fn place_of(text: &[u8], byte: u8) -> Option<usize>
     ensures { result ≡ position (λ b. b == byte) text.now }
 {
     text.iter().position(|b| *b == byte)
 }
 
-// What stands before the first such byte, and what behind it.
+// What is before the first such byte, and what after it.
 pub(crate) fn halves(text: &[u8], byte: u8) -> (&[u8], &[u8])
     ensures before { result.0.now ≡ before_first (λ b. b == byte) text.now }
     ensures behind { result.1.now ≡ after_first (λ b. b == byte) text.now }

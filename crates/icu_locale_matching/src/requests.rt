@@ -30,7 +30,7 @@ pub(crate) fn requests_of(
     Ok(list)
 }
 
-// Puts what a wish asks for, if anything, behind a list.
+// Appends what a wish asks for, if anything, to a list.
 fn add_request(
     alloc: Global,
     rules: &CanonicalizerRef<'_>,

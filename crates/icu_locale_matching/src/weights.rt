@@ -14,7 +14,7 @@ pub(crate) fn qvalue(text: &[u8]) -> Option<u16>
     weight_of(whole, digits)
 }
 
-// The weight of what stands before a point and behind it.
+// The weight of what is before a point and after it.
 fn weight_of(whole: &[u8], digits: &[u8]) -> Option<u16>
     ensures { result ≡ weight_of whole.now digits.now }
 {
@@ -45,7 +45,7 @@ fn all_digits(text: &[u8]) -> bool
     text.iter().all(|b| b.is_ascii_digit())
 }
 
-// The digits behind a point, in thousandths.
+// The digits after a point, in thousandths.
 fn thousandths(digits: &[u8]) -> u16
     requires { are_digits digits.now ≡ true }
     ensures { result ≡ thousandths digits.now }

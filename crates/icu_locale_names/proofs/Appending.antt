@@ -1,4 +1,4 @@
--- Text behind text: pieces, and what grows.
+-- Text after text: pieces, and what grows.
 use Rattle.std.proofs.Common.{◌≡◌, ◌∙◌, refl, ap, sym, ℕ, Bool, true, false, ◌||◌, List, [], ◌∷◌, ◌++◌, length, take, append_assoc, append-nil}
 use Rattle.std.proofs.lemmas.List.{take_at}
 use Rattle.icu_locale_names.specs.LanguageNames.{joined}
@@ -38,7 +38,7 @@ grown_by old more new is = record { more = more; is = is }
 pub take_grown : (old new : List ℕ) → IsGrown old new → take (length old) new ≡ old
 take_grown old new g = ap (take (length old)) g.is ∙ take_at old g.more (length old) refl
 
--- ---- qualifiers behind qualifiers
+-- ---- qualifiers after qualifiers
 
 behind_separator-append : (sep : List ℕ) (ps qs : List Piece) → behind_separator sep (ps ++ qs) ≡ behind_separator sep ps ++ behind_separator sep qs
 behind_separator-append sep [] qs = refl
@@ -87,7 +87,7 @@ joins_more sep ps qs old i middle j new k a b =
 pub grown_by_joins : (sep : List ℕ) (qs : List Piece) (old : List ℕ) (i : Joined) (new : List ℕ) (j : Joined) → Joins sep qs old i new j → IsGrown old new
 grown_by_joins sep qs old i new j a = record { more = text_of (behind i.is_any sep qs); is = a.text }
 
--- qualifiers behind a text that has none are joined
+-- qualifiers after a text that has none are joined
 pub adds_joined : (sep : List ℕ) (qs : List Piece) (old new : List ℕ) (j : Joined)
     → Joins sep qs old (record { is_any = false; is_raw = false }) new j → AddsPieces (joined sep qs) old new j.is_raw
 adds_joined sep qs old new j a = record { text = a.text; raw = a.raw }

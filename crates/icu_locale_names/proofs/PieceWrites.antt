@@ -88,7 +88,7 @@ span_has_raw start (p ∷ pieces) some =
 pub spans_where_raw : (pieces : List Piece) → (has_raw pieces ≡ true) ↔ (spans pieces ≢ [])
 spans_where_raw pieces = (raw_has_span 0 pieces, span_has_raw 0 pieces)
 
--- where no piece is raw there is no span, and a list with the spans behind it is that list
+-- where no piece is raw there is no span, and a list with the spans after it is that list
 no_spans : (start : ℕ) (pieces : List Piece) → has_raw pieces ≡ false → spans_from start pieces ≡ []
 no_spans start [] plain = refl
 no_spans start (p ∷ pieces) plain =

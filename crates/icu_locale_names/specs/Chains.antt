@@ -30,7 +30,7 @@ abbrev pub made_of : {A B : Type 0} → (A → B) → Result A DataError → Res
 made_of make (Ok found) = Ok (make found)
 made_of make (Err refusal) = Err refusal
 
--- an answer, and what stands in its place where it is IdentifierNotFound
+-- an answer, and what is in its place where it is IdentifierNotFound
 abbrev pub if_missing : {A : Type 0} → A → Result A DataError → Result A DataError
 if_missing raw (Ok found) = Ok found
 if_missing raw (Err refusal) = if is_missing refusal.kind then Ok raw else Err refusal
@@ -41,7 +41,7 @@ abbrev pub and_then : {A B : Type 0} → Result A DataError → (A → Result B 
 and_then (Ok found) next = next found
 and_then (Err refusal) next = Err refusal
 
--- the answers to a list of requests in order, behind earlier ones; the first refusal
+-- the answers to a list of requests in order, after earlier ones; the first refusal
 abbrev pub answers_behind : {Q A : Type 0} → (Q → Result A DataError) → List A → List Q
     → Result (List A) DataError
 answers_behind ask earlier [] = Ok earlier

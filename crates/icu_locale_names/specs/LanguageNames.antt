@@ -1,4 +1,4 @@
--- The name of an identifier: a base, and qualifiers behind it (UTS #35 Part 2, "Locale Display Name
+-- The name of an identifier: a base, and qualifiers after it (UTS #35 Part 2, "Locale Display Name
 -- Algorithm"). It is a function of what the provider answers.
 use Rattle.std.specs.Prelude.{
   ◌≡◌,
@@ -184,7 +184,7 @@ pub record Head : Type 0 where
   pub base : Piece
   pub qualifiers : List Piece
 
--- a base with the names of its script and of its region behind its extension
+-- a base with the names of its script and of its region after its extension
 abbrev pub head_with : Base → List Piece → List Piece → Head
 head_with base script region = record {
   base = base.piece;
@@ -209,7 +209,7 @@ variants_of name variants = answer_all (qualifier name variant_heavy (λ v. Vari
 
 -- ---- the whole
 
--- what stands between two qualifiers: the first text of the separator, or `, `
+-- what is between two qualifiers: the first text of the separator, or `, `
 abbrev pub separator_text : List PatternPart → List ℕ
 separator_text [] = codes ", "
 separator_text (fixed_text text ∷ parts) = text
@@ -243,7 +243,7 @@ pub record NameParts : Type 0 where
 abbrev pub pieces_by_parts : NameParts → List Piece
 pieces_by_parts n = glued n.base n.qualifiers n.pattern n.separator
 
--- a head with the names of variants behind its qualifiers, and the patterns
+-- a head with the names of variants after its qualifiers, and the patterns
 abbrev pub parts_with : Head → List Piece → LocaleNamesEssentials → NameParts
 parts_with head variants patterns = record {
   base = head.base;

@@ -5,7 +5,7 @@ use std::alloc::{AllocError, AllocFailed};
 use std::fmt;
 use thiserror::Error;
 
-/// A raw subtag stands in the text of a name, since the provider has no name for it: `Display` writes the type's name.
+/// A raw subtag is in the text of a name, since the provider has no name for it: `Display` writes the type's name.
 #[derive(Clone, Copy, Debug, PartialEq, Eq, Default)]
 pub struct LanguageIdentifierNameFallbackError;
 

@@ -1,4 +1,4 @@
-//! Names of identifiers: a language, and qualifiers behind it.
+//! Names of identifiers: a language, and qualifiers after it.
 ghost use Rattle.std.specs.Prelude.{◌≡◌};
 ghost use Rattle.icu_locale_names.specs.LanguageChains.{chain_of};
 ghost use Rattle.icu_locale_names.specs.LanguageNames.{GivesName, in_locale, display_of};
@@ -50,7 +50,7 @@ impl<'d> LanguageIdentifierDisplayName<'d> {
     ///
     /// The first refusal of the provider other than `IdentifierNotFound`, unchanged, in the order language, script,
     /// region, variants, patterns; for the patterns `IdentifierNotFound` too, also where none is used. `Memory` where
-    /// the list of variants could not be made: behind a refusal of the region, and before one of a variant.
+    /// the list of variants could not be made: after a refusal of the region, and before one of a variant.
     pub fn try_new_unstable<P: DataProvider>(
         alloc: Global,
         provider: &'d P,

@@ -47,11 +47,11 @@ pub same_from_test : {X : Type 0} (eq : X → X → Bool) → ((y z : X) → eq 
 same_from_test eq exact y z t is test = exact y z (not-false (eq y z) (sym is ∙ test))
 
 module _ {X : Type 0} (next : X → Option X) (start : X) where
-  -- what follows the state at a place stands at the next place
+  -- what follows the state at a place is at the next place
   pub follows_at : (place : ℕ) (y : X) (o : Option X) → at next start place ≡ Some y → next y ≡ o → at next start (suc place) ≡ o
   follows_at place y o here follows = ap (option_and_then next) here ∙ follows
 
-  -- nothing stands at a place only from the count on
+  -- a place is empty only from the count on
   pub count_by_end : (n p : ℕ) → IsFullFront next start n → at next start p ≡ None → n ≤ p
   count_by_end n p is ended =
       elim (cases_lt p n) [ inl below ↦ absurd (is.front.goes p below ended) | inr above ↦ above ]
@@ -72,7 +72,7 @@ module _ {X : Type 0} (next : X → Option X) (start : X) where
             elim (cases_lt k m) [ inl early ↦ absurd (unmet k started early met) | inr late ↦ omega arith ]
       ]
 
-  -- where something stands, the count is not yet come if the run ends there
+  -- where something is, the count is not yet come if the run ends there
   goes_within : (n p : ℕ) (y : X) → at next start p ≡ Some y → at next start n ≡ None → p < n
   goes_within n p y here ended =
       elim (cases_lt p n) [

@@ -47,7 +47,7 @@ BecomesEnd next (Some start) new = IsSomeAnd new (EndsAt next start)
 abbrev pub AllBehind : {X : Type 0} → (X → Type 0) → (X → Option X) → X → Type 0
 AllBehind {X} P next start = (y : X) → StandsIn next start y → IfSome (next y) P
 
--- y stands at two places of the run
+-- y is at two places of the run
 abbrev pub ComesAgain : {X : Type 0} → (X → Option X) → X → X → Type 0
 ComesAgain next start y =
     (i j : ℕ) × (i < j) × (at next start i ≡ Some y) × (at next start j ≡ Some y)

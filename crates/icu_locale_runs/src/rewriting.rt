@@ -1,5 +1,5 @@
 //! The walk along a run: two walkers go, one twice as fast as the other, so no list of states is kept. A count of
-//! searches, which only contracts see, stands here too.
+//! searches, which only contracts see, is here too.
 ghost use Rattle.std.specs.Prelude.{◌≡◌, ◌+◌, ℕ, ◌<◌, ◌≤◌, ◌*◌, List, Option, Some, true, IfOk, IfErr, IsOk, OnOk, IsSome};
 ghost use Rattle.icu_locale_runs.specs.inner.Walk.{strokes, IsFullFront, IsMeeting, IsWalk};
 ghost use Rattle.icu_locale_runs.specs.Run.{StandsIn, HasDistinct, IsRepeat, IsOutcome, IsUniverse};

@@ -1,4 +1,4 @@
--- What is found at a key: among rows, among those behind the first, and among rows with one more.
+-- What is found at a key: among rows, among those after the first, and among rows with one more.
 use Rattle.std.proofs.Common.{◌≡◌, ◌≢◌, ◌++◌, ◌⊎◌, inl, inr, Bool, true, false, List, [], ◌∷◌, Option, Some, None, cond, refl, sym, ap, ◌∙◌, if◌then◌else◌}
 use Rattle.std.specs.BTreeMap.{is_at}
 use Rattle.std.specs.Cmp.{IsTotalOrder, Equal-is}
@@ -34,7 +34,7 @@ module _ {K : Type 0} (order : K → K → Ordering) (total : IsTotalOrder order
       ]
 
   module _ {V : Type 0} where
-    -- ---- the first row, and those behind it
+    -- ---- the first row, and those after it
 
     module _ (row : K × V) (rows : List (K × V)) where
       pub found_first : value_at order (row ∷ rows) row.0 ≡ Some row.1
@@ -53,7 +53,7 @@ module _ {K : Type 0} (order : K → K → Ordering) (total : IsTotalOrder order
           none_pass [] each = tt
           none_pass (e ∷ es) each = (ap is_eq each.0, none_pass es each.1)
 
-    -- ---- one row more behind all
+    -- ---- one row more after all
 
     found_or : (b : Bool) (v : V) (o p : Option V) → cond b (Some v) (option_or o p) ≡ option_or (cond b (Some v) o) p
     found_or true v o p = refl

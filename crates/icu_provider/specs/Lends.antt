@@ -19,7 +19,7 @@ map_row K V g =
     the_row K V (record { cmp = g.cmp }) (record { eq = g.eq })
     (record { partial_cmp = g.partial_cmp })
 
--- the map ends with the last value behind the result at the key, or as it was if there is none
+-- the map ends with the last value after the result at the key, or as it was if there is none
 abbrev pub LendsValue : (K V : RattleType) (g : OrdMembers K.Denot)
     → MutBor (List (K.Denot × V.Denot)) → K.Denot → Option (MutBor V.Denot) → Fml
 LendsValue K V g map key result =

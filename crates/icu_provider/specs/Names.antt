@@ -8,7 +8,7 @@ pub record MenuName : Type 0 where
   pub core : List ℕ
   pub extension : List ℕ
 
--- a text as it stands, or the place of the first or of the second argument
+-- a fixed text, or the place of the first or of the second argument
 pub data PatternPart : Type 0 where
   fixed_text : List ℕ → PatternPart
   first_place : PatternPart

@@ -1,4 +1,4 @@
--- Where a key stands among rows whose keys rise, or would go.
+-- Where a key is among rows whose keys rise, or would go.
 use Rattle.std.specs.Prelude.{ℕ, ◌≤◌, ◌<◌, ◌+◌, List, length, ◌≡◌}
 use Rattle.std.specs.List.{AllWithin, HoldsAt}
 use Rattle.std.specs.declared.cmp.Ordering.{Ordering}
@@ -17,7 +17,7 @@ pub record IsGapFor {K V : Type 0} (compare : K → K → Ordering) (rows : List
   pub above_before : AllWithin (λ row. compare key row.0 ≡ Greater) rows 0 at
   pub below_after : AllWithin (λ row. compare key row.0 ≡ Less) rows at (length rows)
 
--- the keys before this place are below, and those behind it are above
+-- the keys before this place are below, and those after it are above
 pub record IsNearest {K V : Type 0} (compare : K → K → Ordering) (rows : List (K × V)) (key : K)
     (at : ℕ) : Type 0 where
   pub above_before : AllWithin (λ row. compare key row.0 ≡ Greater) rows 0 at

@@ -44,7 +44,7 @@ pub record RefusesMemory {Rows : Type 0} (old new : Rows) (result : Result (Unit
   pub memory : IfErr result (λ e. e.kind ≡ Memory)
   pub unchanged : OnErr result (new ≡ old)
 
--- new has the value at the key and at each other key what old has, and the row stands among its rows
+-- new has the value at the key and at each other key what old has, and the row is among its rows
 pub record Holds {K V : Type 0} (compare : K → K → Ordering) (old new : List (K × V)) (key : K)
     (value : V) : Type 0 where
   pub rows : new ≡ insert_entry compare old key value
@@ -62,7 +62,7 @@ pub record Inserts {K V : Type 0} (compare : K → K → Ordering) (old new : Li
   pub refuses : RefusesMemory old new result
   pub present : IsSome (value_at compare old key) → IsOk result
 
--- the row is put behind the others
+-- the row is appended to the others
 pub record Pushes {T : Type 0} (old new : List T) (row : T) (result : Result (Unit {0}) DataError)
     : Type 0 where
   pub rows : OnOk result (new ≡ old ++ row ∷ [])

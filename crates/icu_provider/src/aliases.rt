@@ -95,7 +95,7 @@ impl Aliases {
         }
     }
 
-    /// Puts a rule behind the others: a language, a text of variants and a replacement text.
+    /// Appends a rule to the others: a language, a text of variants and a replacement text.
     ///
     /// # Errors
     ///
@@ -116,7 +116,7 @@ impl Aliases {
         self.language_variants.as_slice()
     }
 
-    /// Puts a rule behind the others: a rule text and a replacement text.
+    /// Appends a rule to the others: a rule text and a replacement text.
     ///
     /// # Errors
     ///

@@ -7,7 +7,7 @@ use std::marker::Model;
 /// An item of a pattern.
 #[derive(Debug, Drop)]
 pub enum PatternItem {
-    /// A text that stands as it is.
+    /// A fixed text.
     Literal(String),
     /// The place of the first argument.
     First,
@@ -38,7 +38,7 @@ impl Model for DoublePlaceholderPattern {
 }
 
 impl DoublePlaceholderPattern {
-    /// The pattern of a list of items: any list, where each placeholder may stand any number of times. It takes no
+    /// The pattern of a list of items: any list, where each placeholder may come any number of times. It takes no
     /// memory.
     pub fn try_from_items(items: Vec<PatternItem>) -> Self
         ensures { result ≡ map part_of items.items }
@@ -57,9 +57,9 @@ impl DoublePlaceholderPattern {
 /// How the parts of a locale's name are put together (UTS #35 Part 2, "Locale Display Name Algorithm").
 #[derive(Debug)]
 pub struct LocaleNamesEssentials {
-    /// A name and what stands behind it: the first argument is the name, and the second the qualifiers.
+    /// A name and what follows it: the first argument is the name, and the second the qualifiers.
     pub locale_pattern: DoublePlaceholderPattern,
-    /// What stands between two qualifiers.
+    /// What is between two qualifiers.
     pub locale_separator: DoublePlaceholderPattern,
 }
 

@@ -16,7 +16,7 @@ pub struct ExtensionNames {
     pub keys: TextNames,
     /// The names of values by key, for keys whose types have none: currencies, subdivisions, time zones, codes.
     pub values: SortedMap<TableText, TextNames>,
-    /// How a key and its value stand together: the first argument is the key, the second the value.
+    /// How a key and its value are joined: the first argument is the key, the second the value.
     pub pattern: DoublePlaceholderPattern,
 }
 

@@ -35,7 +35,7 @@ impl<T> RowList<T> {
         RowList { rows }
     }
 
-    /// Puts a row behind the others.
+    /// Appends a row to the others.
     ///
     /// # Errors
     ///

@@ -13,7 +13,7 @@ use std::alloc::{AllocError, Global};
 use std::cmp::{Ord, Ordering};
 use std::marker::Model;
 
-/// A map whose rows stand in one list, in the order of their keys. Only `insert` takes memory.
+/// A map whose rows are in one list, in the order of their keys. Only `insert` takes memory.
 #[derive(Debug, Drop)]
 pub struct SortedMap<K: Ord, V> {
     entries: Vec<(K, V)>,
@@ -131,7 +131,7 @@ impl<K: Ord, V> SortedMap<K, V> {
         }
     }
 
-    // Where the key stands, or where it would go.
+    // Where the key is, or where it would go.
     fn search(&self, key: &K) -> Result<usize, usize>
         ensures { MatchResult result
             (IsAt K.cmp self.now key.now) (IsGapFor K.cmp self.now key.now) }

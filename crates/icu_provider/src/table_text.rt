@@ -95,7 +95,7 @@ impl<V> SortedMap<TableText, V> {
     }
 }
 
-// Where a text stands among rows, or where it would go.
+// Where a text is among rows, or where it would go.
 fn search<V>(rows: &[(TableText, V)], text: &str) -> Result<usize, usize>
     requires { IsSortedMap text_cmp rows.now }
     ensures { MatchResult result (IsAt text_cmp rows.now text.now)

@@ -272,7 +272,7 @@ pub finds_in_table : {K V : Type 0} (compare : K → K → Ordering) → TiesEqu
 finds_in_table compare ties key one shape table name value inner rows held is mine k named =
     found_in_table compare ties key one shape mine k named table name value inner rows held is
 
--- a table that a file holds stands in it
+-- a table that a file holds is in it
 held_table : {T : Type 0} (shape : Shape T) (found : Option Data) (table : T) (said : Option T)
     → said_or (Some None) (present shape) found ≡ Some said → said ≡ Some table → (inner : Data) × (found ≡ Some inner) × (shape inner ≡ Some table)
 held_table shape None table said is there = absurd (none-some table (same_Some None said is ∙ there))

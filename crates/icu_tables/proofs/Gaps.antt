@@ -1,4 +1,4 @@
--- A row that comes behind the others is inserted behind them.
+-- A row that comes after the others is inserted after them.
 use Rattle.std.proofs.Common.{◌≡◌, List, [], ◌∷◌, ◌++◌, refl, ap, ◌∙◌}
 use Rattle.std.specs.declared.cmp.Ordering.{Ordering}
 use Rattle.std.specs.declared.cmp.Ordering.TheVariants.{Less, Greater}
@@ -12,13 +12,13 @@ use Rattle.icu_locale_core.specs.Maps.{IsSortedMap}
 use Rattle.icu_provider.specs.laws.SortedMaps.{insert_entry-step}
 
 module _ {K V : Type 0} {compare : K → K → Ordering} (total : IsTotalOrder compare) where
-  -- a key behind rising rows is above the first
+  -- a key after rising rows is above the first
   above_behind : (key : K) (rows rest : List (K × V)) (last : K × V) → AllByRecursion (λ later. compare key later ≡ Less)
       (keys_of (rows ++ last ∷ rest)) → compare last.0 key ≡ Greater
   above_behind key [] rest last below = total.antisymm last.0 key ∙ ap ordering_reverse below.0
   above_behind key (row ∷ rows) rest last below = above_behind key rows rest last below.1
 
-  -- a row that comes behind the others is inserted behind them
+  -- a row that comes after the others is inserted after them
   pub insert_entry-behind : (rows rest : List (K × V)) (last : K × V) → IsSortedMap compare (rows ++ last ∷ rest)
       → insert_entry compare rows last.0 last.1 ≡ rows ++ last ∷ []
   unfolding IsStrictlySortedBy

@@ -170,7 +170,7 @@ module _ {R : Type 0} (P : R → Type 0) (says : List ℕ → Shape (List R)) (e
   each_of_value (array items) rows is = absurd (none-some rows is)
   each_of_value (object ms) rows is = each_of ms rows is
 
--- the names rise in what stands behind a name
+-- the names rise in what is under a name
 rise_member : (name : List ℕ) (ms : Members) → MembersRise ms → IfSome (get_member name ms) NamesRise
 rise_member name no_members rise = tt
 rise_member name (member other value ms) rise = by (text_cmp name other) (rise_member name ms rise.2)

@@ -18,7 +18,7 @@ use Rattle.icu_provider.specs.declared.names.NameMarker.{NameMarker}
 abbrev pub group_rows : {G K R V : Type 0} → (G → K → R) → G → List (K × V) → List (R × V)
 group_rows whole group rows = map (λ row. (whole group row.0, row.1)) rows
 
--- the rows of groups in one list, one group behind another
+-- the rows of groups in one list, one group after another
 abbrev pub flat : {G K R V : Type 0} → (G → K → R) → List (G × List (K × V)) → List (R × V)
 flat whole [] = []
 flat whole (group ∷ groups) = group_rows whole group.0 group.1 ++ flat whole groups

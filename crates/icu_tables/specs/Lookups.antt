@@ -1,4 +1,4 @@
--- What stands in a file behind names, one in another, and what a look-up in its rows answers.
+-- What a file has under names, one in another, and what a look-up in its rows answers.
 use Rattle.std.specs.Prelude.{◌≡◌, ℕ, List, [], ◌∷◌, ◌++◌, codes, Option, Some, Ok, option_and_then}
 use Rattle.std.specs.declared.cmp.Ordering.{Ordering}
 use Rattle.serde_json.specs.Data.{Data}
@@ -17,12 +17,12 @@ use Rattle.icu_tables.specs.Subtags.{language_key, script_key, region_key, key_p
 use Rattle.icu_tables.specs.Subtags as subtags
 use Rattle.icu_tables.specs.File.{json_of, rows_in}
 
--- the value behind some names, the first of them the outermost
+-- the value under some names, the first of them the outermost
 abbrev pub at_path : List (List ℕ) → Data → Option Data
 at_path [] value = Some value
 at_path (name ∷ names) value = option_and_then (at_path names) (get name value)
 
--- what the value behind some names says, if it is there
+-- what the value under some names says, if it is there
 abbrev pub said_at : {A : Type 0} → Shape A → List (List ℕ) → Data → Option A
 said_at shape path value = option_and_then shape (at_path path value)
 

@@ -23,7 +23,7 @@ use Rattle.icu_provider.specs.Names.{PatternPart, fixed_text, first_place, secon
 abbrev pub place : ℕ → Option PatternPart
 place n = if n == 0 then Some first_place else if n == 1 then Some second_place else None
 
--- a text as it stands, or the number of a place
+-- a fixed text, or the number of a place
 abbrev pub pattern_item : Shape PatternPart
 pattern_item value =
     option_or (option_map (λ t. fixed_text t) (as_str value))

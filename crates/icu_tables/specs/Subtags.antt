@@ -49,7 +49,7 @@ variant = text_as read_variant
 abbrev pub if_written : {A : Type 0} → (A → List ℕ) → List ℕ → A → Option A
 if_written written t x = if pointwise nat_eq (written x) t then Some x else None
 
--- what a text is read as, where it stands in written form
+-- what a text is read as, where it is in written form
 abbrev pub key_of : {A : Type 0} → (A → List ℕ) → (List ℕ → Option A) → List ℕ → Option A
 key_of written reads t = option_and_then (if_written written t) (reads t)
 
@@ -81,7 +81,7 @@ is_dash c = c == 45
 abbrev pub has_dash : List ℕ → Bool
 has_dash t = nat_lt (position_or_len is_dash t) (length t)
 
--- what stands before the first `-` of a text, and what stands after it
+-- what is before the first `-` of a text, and what is after it
 abbrev pub cut_at_dash : List ℕ → Option (List ℕ × List ℕ)
 cut_at_dash t =
     if has_dash t then Some (before_first is_dash t, after_first is_dash t) else None

@@ -39,7 +39,7 @@ impl Tables {
     /// The tables of a JSON text: an object with the members `likely_language`,
     /// `likely_script_region`, `likely_extended`, `aliases`, `direction`, `exemplars`, `names`,
     /// `menus` and `essentials`, any of which may be left out. A table that is left out is not held,
-    /// and a map that is left out has no rows. `specs/File.antt` says what stands in each.
+    /// and a map that is left out has no rows. `specs/File.antt` says what is in each.
     ///
     /// Values are read in any case. A key is one subtag in its written form, or two with one `-`
     /// between them, or a locale: a language, with a script if any and a region if any. A row whose
@@ -48,7 +48,7 @@ impl Tables {
     /// # Errors
     ///
     /// `Json` where the text is no JSON value, and `Shape` where the value has not the shape of a
-    /// file of tables: any other member is `Shape` too. `Memory` may stand in the place of any
+    /// file of tables: any other member is `Shape` too. `Memory` may come in the place of any
     /// answer.
     pub fn from_json(alloc: Global, text: &[u8]) -> Result<Tables, TableError>
         ensures rows { IfOk result (λ tables. rows_in text.now ≡ Ok (rows_of tables)) }

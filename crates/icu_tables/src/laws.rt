@@ -26,7 +26,7 @@ use icu_provider::laws::keys_are_told_apart;
 use icu_provider::{DataLocale, ExemplarMarker, MenuMarker, NameKey, NameMarker};
 use std::cmp::Ord;
 
-/// In the rows of a file a request is answered by what stands in the file behind the names of its parts, and by nothing
+/// In the rows of a file a request is answered by what the file has under the names of its parts, and by nothing
 /// else: exemplar sets by marker and locale, names and names in menus by marker, locale and key, patterns by locale.
 pub fn requests_find_their_members()
     ensures exemplars { (text : List ℕ) (value : Data) (rows : FileRows)
@@ -49,7 +49,7 @@ pub fn requests_find_their_members()
     is_in_order::<DataLocale>();
 }
 
-/// In the maps of likely subtags of a file a key is answered by what stands in the file behind its name, and by nothing
+/// In the maps of likely subtags of a file a key is answered by what the file has under its name, and by nothing
 /// else.
 pub fn likely_keys_find_their_members()
     ensures language { (text : List ℕ) (value : Data) (rows : FileRows)

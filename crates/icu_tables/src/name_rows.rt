@@ -129,7 +129,7 @@ impl NameRows {
     }
 }
 
-// How many names stand in groups.
+// How many names are in groups.
 fn count_of(groups: &[((NameMarker, DataLocale), Names)]) -> usize
     ensures { result ≡ min (length (flat_names groups.now)) (2 ^ 64 - 1) }
 {

@@ -10,7 +10,7 @@ use icu_locale_extensions::{FieldKey, Subtags};
 use icu_provider::{DataLocale, ExtensionNames, LanguageMatching, SortedMap};
 use std::alloc::Global;
 
-/// What may stand beside tables: the explicit parents of locales, rules of language matching, aliases of values, and what
+/// What may be beside tables: the explicit parents of locales, rules of language matching, aliases of values, and what
 /// parts of extensions are called. It borrows nothing.
 #[derive(Debug)]
 pub struct Supplement {
@@ -54,13 +54,14 @@ impl Supplement {
     }
 
     /// The supplement of a JSON text: an object with the members `parents`, `matching`, `keywords`, `fields` and
-    /// `extension_names`, any of which may be left out. `specs/Supplement.antt` says what stands in each. A row whose key is not in written form
-    /// is skipped, and so is an alias of what is no value. It takes memory for the JSON value and for the tables.
+    /// `extension_names`, any of which may be left out. `specs/Supplement.antt` says what is in each. A row whose key is
+    /// not in written form is skipped, and so is an alias of what is no value. It takes memory for the JSON value and for
+    /// the tables.
     ///
     /// # Errors
     ///
     /// `Json` where the text is no JSON value, and `Shape` where the value has not the shape of a supplement: any other
-    /// member is `Shape` too. `Memory` may stand in the place of any answer.
+    /// member is `Shape` too. `Memory` may come in the place of any answer.
     pub fn from_json(alloc: Global, text: &[u8]) -> Result<Supplement, TableError>
         ensures rows { IfOk result (λ supplement. rows_in text.now ≡ Ok (rows_of supplement)) }
         ensures refused { IfErr result (λ e. e ≢ TableError.Memory

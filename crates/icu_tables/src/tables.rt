@@ -39,7 +39,7 @@ pub struct Tables {
     pub menus: SortedMap<(MenuMarker, DataLocale, Language), MenuNameParts>,
     /// How the parts of names are put together, by locale.
     pub essentials: SortedMap<DataLocale, LocaleNamesEssentials>,
-    /// What stands beside the tables: parents, and rules of language matching. A JSON text of tables has none of it.
+    /// What is beside the tables: parents, and rules of language matching. A JSON text of tables has none of it.
     pub supplement: Supplement,
 }
 

@@ -109,7 +109,7 @@ impl Exemplars {
     }
 }
 
-// The locale that the sets stand at.
+// The locale of the sets.
 fn root(subtags: &Subtags) -> DataLocale {
     DataLocale {
         language: subtags.languages[0],

@@ -5,7 +5,7 @@ use crate::plain::{MARKS, Plain};
 use crate::subtags::Subtags;
 use icu_locale_core::{Language, Region, Script};
 
-/// What a rule matches, and what stands in its place.
+/// What a rule matches, and what replaces it.
 #[derive(Clone, Copy)]
 pub struct Rule {
     pub source: Plain,

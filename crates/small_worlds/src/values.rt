@@ -51,7 +51,7 @@ pub enum RowText {
 }
 
 impl RowText {
-    /// As it stands in the table.
+    /// As it is in the table.
     pub fn text(self) -> &'static str {
         match self {
             RowText::Second => "bbb",

@@ -23,7 +23,7 @@ const CALLED: &str = "{\"extension_names\":{\"en\":{\
         \"cu\":{\"eur\":\"€\"},\
         \"kr\":{\"digit\":\"Digits\",\"latn\":\"Latin\"}}}}}";
 
-// Texts, what each is called, and where raw parts stand in that. The first are of CLDR's own suite.
+// Texts, what each is called, and where raw parts are in that. The first are of CLDR's own suite.
 static NAMES: [(&str, &str, &[(usize, usize)]); 15] = [
     (
         "en-u-nu-thai-ca-islamic-civil",

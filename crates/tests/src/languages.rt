@@ -57,7 +57,7 @@ pub fn named<'t, P: DataProvider>(
     LanguageIdentifierDisplayName::try_new_unstable(alloc, provider, chain, of, subject, options)
 }
 
-// Markers that stand in the chains, one for each part of a name.
+// Markers that are in the chains, one for each part of a name.
 const MARKERS: [NameMarker; 4] = [
     NameMarker::LanguageMediumTiny,
     NameMarker::ScriptMediumTiny,

@@ -1,5 +1,5 @@
 //! What rows of calls and answers cannot say: refused memory, readers and writers that fail, providers that refuse,
-//! borrowed walks, long texts and whole runs, of all crates. A crate that has tests is proved twice, so that they stand
+//! borrowed walks, long texts and whole runs, of all crates. A crate that has tests is proved twice, so that they are
 //! here and in no other.
 //!
 //! They are run by `rt test`, or by the gate; those in `memory` fail under `rt try --test`.

@@ -10,7 +10,7 @@ use std::io;
 use std::io::{Read, Write};
 use std::process::Abort;
 
-/// A reader that gives so many bytes at a time, or at 0 each time what is left of a line, and then fails or ends. Behind
+/// A reader that gives so many bytes at a time, or at 0 each time what is left of a line, and then fails or ends. After
 /// its end it fails. It counts how often it is read.
 #[derive(Drop)]
 pub struct PartReader<'a> {
@@ -125,7 +125,7 @@ const MAXIMIZE: Command = Command::Lines(LineCommand {
     task: Task::Transform(Transform::Maximize),
 });
 
-// An input, what a failed read behind it leaves, and what its end leaves.
+// An input, what a failed read after it leaves, and what its end leaves.
 const ENDS: [(&str, &str, &str); 5] = [
     ("", "", ""),
     ("en", "", "en-Latn-US\tM\n"),
@@ -238,7 +238,7 @@ fn words_of_a_stream(rt: HostRuntime) {
     assert!(rt; ended == Err(CliError::Usage));
 }
 
-// Words, a whole first line behind which every read fails, what is written, and how it ends.
+// Words, a whole first line after which every read fails, what is written, and how it ends.
 const FIRST_LINES: [(&str, &str, &str, &str); 5] = [
     ("maximize json", "{}\n", "", "data: IdentifierNotFound"),
     ("negotiate json", "{}\n", "", "data: IdentifierNotFound"),

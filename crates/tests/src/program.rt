@@ -128,7 +128,7 @@ fn field(rt: &impl Abort, alloc: Global, text: Option<&str>) -> String {
     field
 }
 
-// What stands behind a backslash.
+// What follows a backslash.
 fn unescape(rt: &impl Abort, field: &mut String, part: &str) {
     let (name, rest) = part
         .split_at_checked(1)

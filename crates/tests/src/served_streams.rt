@@ -59,7 +59,7 @@ const OVER_THE_SAMPLE: [(&str, &str, &str, &str); 14] = [
     ("serve en", "", "", "usage: icu_locale_cli COMMAND [json]"),
 ];
 
-// The same over tables that are handed in: what stands behind them.
+// The same over tables that are handed in: what follows them.
 const OVER_TABLES: [(&str, &str, &str, &str); 4] = [
     ("serve json", "en\nen\n", "", "data: IdentifierNotFound"),
     ("distance json", "en en\n", "", "data: IdentifierNotFound"),

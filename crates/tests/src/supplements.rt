@@ -16,7 +16,7 @@ use std::process::Abort;
 const AUSTRALIA: &str =
     "{\"parents\":{\"en-AU\":\"en-001\",\"en-001\":\"en\",\"aa\":\"ab\",\"ab\":\"aa\"}}\n";
 
-// Words, what stands behind the tables of the sample, what is written, and how it ends.
+// Words, what follows the tables of the sample, what is written, and how it ends.
 const STREAMS: [(&str, &str, &str, &str); 8] = [
     ("fallback json supplement", "", "", "supplement: Json"),
     ("fallback json supplement", "{\n", "", "supplement: Json"),

@@ -5,7 +5,7 @@ use icu_locale_extensions::LocaleIdentifier;
 use std::alloc::Global;
 use std::process::Abort;
 
-// A text with the subtags from 0000 up, or from 9999 down, behind its front.
+// A text with the subtags from 0000 up, or from 9999 down, after its front.
 fn with_numbers(rt: &impl Abort, alloc: Global, front: &str, falls: bool) -> String {
     let mut text = text(rt, alloc, &front);
     for number in 0u16..10_000 {

@@ -1,4 +1,4 @@
--- The form that an identifier falls back to stands in a list.
+-- The form that an identifier falls back to is in a list.
 use Rattle.std.proofs.Common.{◌≡◌, ◌↔◌, ℕ, ◌<◌, Bool, true, false, List, length, get_or, Option, Some, None, MatchOption, nat_lt, cond, position}
 use Rattle.std.proofs.Common.{refl, sym, ◌∙◌, arith}
 use Rattle.std.specs.List.{All, slice_get, position_or_len}

@@ -1,4 +1,4 @@
--- Keys of a store, and two calls one behind the other.
+-- Keys of a store, and two calls one after the other.
 use Rattle.std.specs.Prelude.{◌⊎◌, Result, Ok, Err}
 use Rattle.icu_locale_core.specs.declared.locale.Locale.{Locale}
 use Rattle.icu_locale.specs.Canonical.{IsCanonical}

@@ -13,7 +13,7 @@ use icu_locale_fallback::{
 use icu_provider::DataLocale;
 use std::alloc::Global;
 
-/// Whether a locale inherits from another by language: whether the other stands in the chain behind it.
+/// Whether a locale inherits from another by language: whether the other is in its chain.
 ///
 /// # Errors
 ///

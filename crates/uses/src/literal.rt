@@ -1,4 +1,4 @@
-//! Tables of a JSON text that stands in the source.
+//! Tables of a JSON text that is in the source.
 ghost use Rattle.std.specs.Prelude.{◌≡◌, ◌∷◌, [], codes, Some, IfOk, IfErr};
 
 use icu_tables::{TableError, Tables};
@@ -11,7 +11,7 @@ const GERMAN: &[u8] = br#"{
   }
 }"#;
 
-/// Tables with one likely row: that of a text that stands in the source. The check reads the text too.
+/// Tables with one likely row: that of a text that is in the source. The check reads the text too.
 ///
 /// # Errors
 ///

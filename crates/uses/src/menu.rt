@@ -57,7 +57,7 @@ pub fn menu_lines<P: DataProvider>(
     Ok(lines)
 }
 
-/// The line of an identifier: its name in the language of the preferences, and where raw subtags stand in it.
+/// The line of an identifier: its name in the language of the preferences, and where raw subtags are in it.
 ///
 /// # Errors
 ///

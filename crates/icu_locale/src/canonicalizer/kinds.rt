@@ -36,7 +36,7 @@ use icu_provider::DataLocale;
 pub enum Rewrite<'r> {
     // The rule is applied.
     Rule(&'r Rule),
-    // These stand in the place of the subtags but the variants.
+    // These replace the subtags but the variants.
     Subtags(Language, Option<Script>, Option<Region>),
     // The variants that have an alias are replaced.
     Variants,

@@ -56,7 +56,7 @@ pub fn read_all<R: Readable>(alloc: Global, rows: &[R]) -> Result<Vec<R::Kept>, 
     Ok(list)
 }
 
-// Puts what was read behind the list.
+// Appends what was read to the list.
 fn keep<K: Drop>(list: &mut Vec<K>, read: Option<K>) -> Result<(), DataError>
     ensures kept { OnOk result (list.new.items ≡ list.old.items ++ option_to_list read) }
     ensures refused { IfErr result (λ e. e.kind ≡ DataErrorKind.Memory) }

@@ -12,7 +12,7 @@ use std::marker::Model;
 pub struct Rule {
     /// What the rule matches.
     pub source: LanguageIdentifier,
-    /// What stands in its place.
+    /// What replaces it.
     pub replacement: LanguageIdentifier,
 }
 

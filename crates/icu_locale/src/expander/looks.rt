@@ -214,7 +214,7 @@ impl<'d> LocaleExpander<'d> {
             return Some(row);
         }
         if let Some(extended) = self.extended {
-            // a copy, so that the key stands in memory only where there is such a table
+            // a copy, so that the key is in memory only where there is such a table
             let key = *key;
             let found = extended_row(extended, &key);
             if found.is_some() {

@@ -1,4 +1,4 @@
--- A short text in an array: its bytes, and zeros behind them.
+-- A short text in an array: its bytes, and zeros after them.
 use Rattle.std.specs.Prelude.{◌≡◌, ℕ, ◌≤◌, List, [], ◌∷◌, length, IsTrue, nat_lt, if◌then◌else◌}
 use Rattle.icu_locale_core.specs.Subtag.{is_alphanumeric}
 pub use Rattle.icu_locale_core.specs.Numbers.{padded}

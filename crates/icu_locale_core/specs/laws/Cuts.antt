@@ -1,4 +1,4 @@
--- A list is cut where its first separator stands.
+-- A list is cut where its first separator is.
 use Rattle.std.specs.Prelude.{◌≡◌, ℕ, ◌+◌, Bool, true, false, cond, nat_lt, List, [], ◌∷◌, length, take, drop, Some, None}
 use Rattle.std.proofs.Common.{refl, sym, ◌∙◌}
 use Rattle.std.specs.List.{slice_split, position, position_or_len}

@@ -92,7 +92,7 @@ module _ {K V : Type 0} {compare : K → K → Ordering} (total : IsTotalOrder c
   -- ---- keys that tie are equal
 
   module _ (same : (x y : K) → compare x y ≡ Equal → x ≡ y) where
-    -- what is found at a key stands among the rows
+    -- what is found at a key is among the rows
     pub stands_where_found : (rows : List (K × V)) (key : K) (value : V)
         → value_at compare rows key ≡ Some value → Contains rows (key, value)
     stands_where_found rows key value =

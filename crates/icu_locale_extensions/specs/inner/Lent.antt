@@ -10,6 +10,6 @@ abbrev pub pieces_of : Option (Bor (List ℕ)) → List (List ℕ)
 pieces_of None = []
 pieces_of (Some t) = pieces t.now
 
--- a mark, and the pieces of the text behind it
+-- a mark, and the pieces of the text after it
 abbrev pub block_of : Lent → Block
 block_of b = (b.mark.now, pieces_of b.body)

@@ -9,7 +9,7 @@ abbrev pub IsCut : List ℕ → List ℕ → Option (Bor (List ℕ)) → Type 0
 IsCut t first None = first ≡ t
 IsCut t first (Some rest) = (sep : ℕ) × (is_separator sep ≡ true) × (t ≡ first ++ sep ∷ rest.now)
 
--- a piece begins at a place: it is the first, or a separator stands before it
+-- a piece begins at a place: it is the first, or a separator is before it
 abbrev pub is_start : List ℕ → ℕ → Bool
 is_start t zero = true
 is_start t (suc n) = is_separator (get_or t n 0)

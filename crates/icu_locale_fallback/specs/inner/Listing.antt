@@ -26,7 +26,7 @@ listed x locales = (if len x.variants == 0 then [] else x ∷ []) ++ map plain l
 abbrev pub behind_space : DataLocale → List ℕ
 behind_space y = codes " " ++ written (plain y)
 
--- the texts of the locales behind the first were put behind another text, each with a space before it
+-- the texts of the locales after the first were appended to another text, each with a space before it
 abbrev pub IsRestWritten : Inheritance → DataLocale → List ℕ → List ℕ → Type 0
 IsRestWritten by x old new = (rest : List DataLocale) × IsChain by x (x ∷ rest)
     × (new ≡ old ++ flat_map behind_space rest)

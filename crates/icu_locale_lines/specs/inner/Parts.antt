@@ -12,7 +12,7 @@ use Rattle.icu_locale.specs.declared.canonicalizer.CanonicalizeError.{Canonicali
 use Rattle.icu_locale.specs.declared.canonicalizer.CanonicalizeError.TheVariants as refusal
 use Rattle.icu_locale_lines.specs.Texts.{refused_line}
 
--- a part is put behind the beginning of a line, up to its first line feed; rest is what is behind that
+-- a part is appended to the beginning of a line, up to its first line feed; rest is what follows that
 abbrev pub TakesLine : List ℕ → List ℕ → List ℕ → Option (List ℕ) → Type 0
 TakesLine old part new None = (new ≡ old ++ part) × (list_any is_line_feed part ≡ false)
 TakesLine old part new (Some rest) = (front : List ℕ) × (part ≡ front ++ 10 ∷ rest)

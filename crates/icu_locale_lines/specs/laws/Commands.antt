@@ -153,7 +153,7 @@ never_words front s c true ([], are, whole) = no_words c are
 never_words front s c true (w ∷ before, are, whole) =
     never_syntax before s c (subst (λ v. AreCommandWords (v ∷ before) c) (sym (ap first_of whole)) are)
 
--- words behind that of a syntax are those of a task
+-- words after that of a syntax are those of a task
 pub behind_syntax : (rest : List (List ℕ)) (s : Syntax) (c : Command) (json : Bool)
     → AreStreamWords (syntax_word s ∷ rest) c json
     → (task : Task) × (c ≡ Lines (record { syntax = Some s; task = task }))

@@ -1,4 +1,4 @@
--- A text that is cut behind a line feed, its parts answered apart: what they give, joined in order,
+-- A text that is cut after a line feed, its parts answered apart: what they give, joined in order,
 -- is an output of the whole. So runs over parts may go side by side.
 use Rattle.std.specs.Prelude.{◌≡◌, ◌↔◌, ℕ, Bool, true, false, ◌&&◌, cond, List, [], ◌∷◌, ◌++◌, Some}
 use Rattle.std.specs.List.{AllZip, slice_split, onto_first}
@@ -71,7 +71,7 @@ has_lines (c ∷ a) = let more = has_lines a in elim (is_line_feed c)
       }
     ]
 
--- the lines of a text that is cut behind a line feed are those of its parts
+-- the lines of a text that is cut after a line feed are those of its parts
 pub lines_of_parts : (a b : List ℕ) → lines (a ++ 10 ∷ b) ≡ lines (a ++ 10 ∷ []) ++ lines b
 lines_of_parts a b =
     let of_a = has_lines a in

@@ -60,7 +60,7 @@ pub fn cut(text: &[u8]) -> (&[u8], &[u8])
     }
 }
 
-// Where the first line feed stands.
+// Where the first line feed is.
 #[tactic(auto, using(crate::proofs::LineCuts::position_from_first))]
 fn line_feed(text: &[u8]) -> Option<usize>
     ensures { result ≡ position is_line_feed text.now }

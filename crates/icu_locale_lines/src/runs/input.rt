@@ -43,18 +43,18 @@ pub fn read_all<R: Read>(
     Err(CliError::Read)
 }
 
-// A first line, and what was read behind it.
+// A first line, and what was read after it.
 #[derive(Drop)]
 pub struct FirstLine {
     // Without its line feed.
     pub line: Vec<u8>,
-    // What was read behind the line feed.
+    // What was read after the line feed.
     pub rest: Vec<u8>,
-    // The input ended, and no line feed stands behind the line.
+    // The input ended, and no line feed follows the line.
     pub has_ended: bool,
 }
 
-// Reads the first line behind what was read before. An input in which it has not ended after the last read that it may
+// Reads the first line after what was read before. An input in which it has not ended after the last read that it may
 // take counts as a failed read.
 pub fn read_first_line<R: Read>(
     alloc: Global,
@@ -104,7 +104,7 @@ pub fn read_first_line<R: Read>(
     Err(CliError::Read)
 }
 
-// Puts a part behind the beginning of a line, up to a line feed, and gives what is behind that, if there is one.
+// Puts a part after the beginning of a line, up to a line feed, and gives what follows that, if there is one.
 pub fn take_line(
     alloc: Global,
     line: &mut Vec<u8>,

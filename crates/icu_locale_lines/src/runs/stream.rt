@@ -188,7 +188,7 @@ fn read_supplement(alloc: Global, json: &[u8]) -> Result<Supplement, CliError>
     }
 }
 
-// What a command answers to what is left of a reader, behind what was read of it before. `Settled` reads no more.
+// What a command answers to what is left of a reader, after what was read of it before. `Settled` reads no more.
 fn stream_over<R: Read, W: Write>(
     alloc: Global,
     command: &Command,
@@ -220,7 +220,7 @@ fn stream_over<R: Read, W: Write>(
     }
 }
 
-// The answers to lines behind a first line that lists what is available.
+// The answers to lines after a first line that lists what is available.
 fn stream_listed<R: Read, W: Write>(
     alloc: Global,
     listing: Listing<'_>,
@@ -246,8 +246,8 @@ fn stream_listed<R: Read, W: Write>(
     stream_lines(alloc, &work, longest, &first.rest, reader, writer)
 }
 
-// Answers what is left of a reader, behind what was read of it before. After each part it answers the lines that this
-// part ends, and keeps what is behind the last line feed; at the end it answers what is left. An input that has not ended
+// Answers what is left of a reader, after what was read of it before. After each part it answers the lines that this
+// part ends, and keeps what follows the last line feed; at the end it answers what is left. An input that has not ended
 // after the last read that it may take counts as a failed read, and so does a line that has not ended and has more bytes
 // than are kept.
 fn stream_lines<R: Read, W: Write>(
@@ -293,7 +293,7 @@ fn stream_lines<R: Read, W: Write>(
     Err(CliError::Read)
 }
 
-// Answers the lines that a part ends, of which what was carried begins the first, and carries what is behind the last.
+// Answers the lines that a part ends, of which what was carried begins the first, and carries what follows the last.
 fn answer_part<W: Write>(
     work: &Work<'_>,
     text: &mut Vec<u8>,
@@ -323,7 +323,7 @@ fn answer_part<W: Write>(
     Ok(status)
 }
 
-// A text up to its last line feed, and what is behind that.
+// A text up to its last line feed, and what follows that.
 fn cut_behind_lines(text: &[u8]) -> (&[u8], &[u8])
     ensures parted { text.now ≡ result.0.now ++ result.1.now }
     ensures front { EndsLines result.0.now }

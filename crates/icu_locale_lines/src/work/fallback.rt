@@ -1,4 +1,4 @@
-//! The chains behind identifiers, and their lines.
+//! The chains of identifiers, and their lines.
 ghost use Rattle.std.specs.Prelude.{◌≡◌, IfOk, IfErr, OnErr};
 ghost use Rattle.icu_locale_lines.specs.Answers.{AddsLine, Keeps, IsAnswerOf};
 ghost use Rattle.icu_locale_lines.specs.Chains.{IsChained};
@@ -29,7 +29,7 @@ pub fn add_chain(
     }
 }
 
-// The line of the chain behind an identifier. Want of memory has none.
+// The line of the chain of an identifier. Want of memory has none.
 fn add_chain_of(
     text: &mut Vec<u8>,
     fallbacker: &LocaleFallbackerWithConfig<'_>,

@@ -106,7 +106,7 @@ fn add_whole_form(
     }
 }
 
-// The line of an identifier and whether it was changed is put behind the others.
+// The line of an identifier and whether it was changed is appended to the others.
 #[inline(always)]
 pub fn add_transformed(
     text: &mut Vec<u8>,
@@ -143,7 +143,7 @@ pub fn add_changed(
     Ok(true)
 }
 
-// An identifier in written case is put behind a text.
+// An identifier in written case is appended to a text.
 #[inline(always)]
 pub fn add_identifier(text: &mut Vec<u8>, identifier: &LanguageIdentifier) -> Result<(), CliError>
     ensures added { OnOk result (text.new.items ≡ text.old.items ++ written identifier.now) }

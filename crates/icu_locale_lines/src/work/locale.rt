@@ -255,7 +255,7 @@ fn add_override_line(
     Ok(true)
 }
 
-// The pieces of a value are put behind a text, with `-` between them.
+// The pieces of a value are appended to a text, with `-` between them.
 fn add_value(text: &mut Vec<u8>, value: &Value) -> Result<(), CliError>
     ensures added { OnOk result (text.new.items ≡ text.old.items ++ written_value value.now) }
     ensures refused { IfErr result (λ e. e ≡ CliError.Memory) }
@@ -268,7 +268,7 @@ fn add_value(text: &mut Vec<u8>, value: &Value) -> Result<(), CliError>
     add_pieces(text, rest)
 }
 
-// Pieces are put behind a text, with `-` before each.
+// Pieces are appended to a text, with `-` before each.
 fn add_pieces(text: &mut Vec<u8>, pieces: &[Subtag]) -> Result<(), CliError>
     ensures added { OnOk result (text.new.items
         ≡ text.old.items ++ flat_map (λ p. codes "-" ++ p) pieces.now) }
@@ -359,7 +359,7 @@ fn put_override(mut locale: Locale, value: Value) -> Result<Locale, ParseError>
     Ok(locale)
 }
 
-// A line up to its first tab, and what stands behind that, if there is one.
+// A line up to its first tab, and what follows that, if there is one.
 #[inline(always)]
 fn cut_at_tab(line: &[u8]) -> (&[u8], Option<&[u8]>)
     ensures identifier { result.0.now ≡ identifier_text line.now }
@@ -375,7 +375,7 @@ fn cut_at_tab(line: &[u8]) -> (&[u8], Option<&[u8]>)
     }
 }
 
-// Where the first tab stands.
+// Where the first tab is.
 #[tactic(auto, using(crate::proofs::LineCuts::position_from_first))]
 fn first_tab(line: &[u8]) -> Option<usize>
     ensures { result ≡ position is_tab line.now }

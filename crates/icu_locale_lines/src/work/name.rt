@@ -56,7 +56,7 @@ pub struct Naming<'d> {
 }
 
 impl<'d> Naming<'d> {
-    // The answer to an identifier is put behind the others.
+    // The answer to an identifier is appended to the others.
     fn add(&self, text: &mut Vec<u8>, identifier: &LanguageIdentifier) -> Result<bool, CliError>
         ensures answer { IfOk result (AddsLine (IsNamedLine (name_asked self.now identifier.now))
             text.old.items text.new.items) }

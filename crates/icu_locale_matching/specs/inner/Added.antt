@@ -6,7 +6,7 @@ use Rattle.icu_locale.specs.LikelySubtags.{LikelySubtags}
 use Rattle.icu_locale.specs.declared.canonicalizer.rules.Rules.{Rules}
 use Rattle.icu_locale_matching.specs.Requests.{IsOnly, IsRequest}
 
--- what a range asks for, if anything, is put behind a list
+-- what a range asks for, if anything, is appended to a list
 pub record IsAdded (likely : LikelySubtags) (rules : Rules) (range : List ℕ)
     (old new : List LanguageIdentifier) : Type 0 where
   pub asked : Option LanguageIdentifier

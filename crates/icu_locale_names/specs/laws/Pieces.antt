@@ -1,4 +1,4 @@
--- The text of pieces with others behind them, and where the raw ones stand.
+-- The text of pieces with others after them, and where the raw ones are.
 use Rattle.std.proofs.Common.{◌≡◌, ◌∙◌, refl, ap, sym, ℕ, ◌+◌, Bool, true, false, List, [], ◌∷◌, ◌++◌, length, length-append, append_assoc, arith, if◌then◌else◌}
 use Rattle.icu_locale_names.specs.Pieces.{Piece, text_of, spans_from}
 

@@ -1,4 +1,4 @@
-//! The text of a name, put behind a text in one walk.
+//! The text of a name, appended to a text in one walk.
 ghost use Rattle.std.specs.Prelude.{◌≡◌, ◌≢◌, ◌∷◌, [], map, true, false, OnErr, IfOk};
 ghost use Rattle.std.specs.List.{flat_map};
 ghost use Rattle.icu_provider.specs.Names.{part_of};
@@ -13,14 +13,14 @@ use icu_locale_core::Variant;
 use icu_provider::PatternItem;
 use std::alloc::AllocError;
 
-// Of qualifiers that stand behind a text: whether there is one, and whether one is a raw subtag.
+// Of qualifiers that follow a text: whether there is one, and whether one is a raw subtag.
 #[derive(Clone, Copy, Debug)]
 pub struct Joined {
     pub is_any: bool,
     pub is_raw: bool,
 }
 
-// The text of a name behind a text, and whether a raw subtag stands in it.
+// The text of a name, appended to a text, and whether a raw subtag is in it.
 pub fn append_name(
     name: &LanguageIdentifierDisplayNameBorrowed<'_>,
     text: &mut Vec<u8>,
@@ -36,7 +36,7 @@ pub fn append_name(
     }
 }
 
-// Whether something stands behind the base.
+// Whether something follows the base.
 fn has_qualifier(name: &LanguageIdentifierDisplayNameBorrowed<'_>) -> bool
     ensures none { result ≡ false → qualifiers_of name.now ≡ [] }
     ensures some { result ≡ true → qualifiers_of name.now ≢ [] }
@@ -107,7 +107,7 @@ fn append_qualifiers(
     Ok(all.is_raw)
 }
 
-// Qualifiers, each behind those before it.
+// Qualifiers, each after those before it.
 fn append_each(
     text: &mut Vec<u8>,
     separator: &str,

@@ -28,7 +28,7 @@ pub struct LanguageIdentifierDisplayNameBorrowed<'a> {
 }
 
 impl<'a> LanguageIdentifierDisplayNameBorrowed<'a> {
-    /// Writes the text, and puts the span of each raw subtag behind `parts`: where it begins and ends, in bytes from
+    /// Writes the text, and appends the span of each raw subtag to `parts`: where it begins and ends, in bytes from
     /// the start of the text, in order. The report inside is `Err` exactly where there is a raw subtag. It takes memory
     /// for the spans alone.
     ///
@@ -37,7 +37,7 @@ impl<'a> LanguageIdentifierDisplayNameBorrowed<'a> {
     /// `parts` is unchanged after each.
     ///
     /// - `TooLong` exactly where the text is longer than `usize::MAX` bytes. Nothing was written.
-    /// - `Memory` where the spans found no room, never where no raw subtag stands in the text. Nothing was written.
+    /// - `Memory` where the spans found no room, never where no raw subtag is in the text. Nothing was written.
     /// - `Sink` where a write failed or took no byte. A beginning of the text was written, and not the whole.
     pub fn try_write_to_parts<W: io::Write>(
         &self,
@@ -71,7 +71,7 @@ impl<'a> LanguageIdentifierDisplayNameBorrowed<'a> {
         Ok(Ok(()))
     }
 
-    /// Puts the text behind `text`, and tells whether a raw subtag stands in it. It takes memory where `text` has no
+    /// Appends the text to `text`, and tells whether a raw subtag is in it. It takes memory where `text` has no
     /// room.
     ///
     /// # Errors
@@ -95,7 +95,7 @@ impl<'a> LanguageIdentifierDisplayNameBorrowed<'a> {
         }
     }
 
-    // Writes the text, and puts the span of each raw subtag behind `parts`, which is unchanged after a refusal.
+    // Writes the text, and appends the span of each raw subtag to `parts`, which is unchanged after a refusal.
     #[tactic(auto, using(crate::proofs::PieceWrites::take_front))]
     fn write_marked<W: io::Write>(
         &self,
@@ -153,7 +153,7 @@ impl<'a> LanguageIdentifierDisplayNameBorrowed<'a> {
         self.pattern
     }
 
-    /// What stands between two qualifiers.
+    /// What is between two qualifiers.
     pub fn separator(&self) -> &str
         ensures { result.now ≡ (parts_of self.now).separator }
     {

@@ -15,7 +15,7 @@ use icu_provider::{DataError, DataProvider, PatternItem};
 use std::alloc::Global;
 use std::marker::Model;
 
-/// The name of an identifier before its parts are put together: what more is said of a locale goes behind its qualifiers.
+/// The name of an identifier before its parts are put together: what more is said of a locale goes after its qualifiers.
 /// It holds what the provider lent and copies no text.
 #[derive(Debug, Drop)]
 pub struct LanguageNameParts<'d> {
@@ -91,7 +91,7 @@ impl<'d> LanguageNameParts<'d> {
     }
 }
 
-// What stands between two qualifiers: the first text of a pattern, or `, `.
+// What is between two qualifiers: the first text of a pattern, or `, `.
 fn separator_text(items: &[PatternItem]) -> &str
     ensures { result.now ≡ separator_text (map part_of items.now) }
 {

@@ -34,7 +34,7 @@ impl<'a> Qualifiers<'a> {
         }
     }
 
-    // The first of them, and those behind it.
+    // The first of them, and those after it.
     #[inline(always)]
     fn split_first(&self) -> Option<(LentPiece<'a>, Qualifiers<'a>)>
         ensures { MatchOption result (qualifier_pieces self.now ≡ [])
@@ -54,7 +54,7 @@ impl<'a> Qualifiers<'a> {
         }
     }
 
-    // The same of the script and what is behind it.
+    // The same of the script and what follows it.
     #[inline(always)]
     fn split_from_script(&self) -> Option<(LentPiece<'a>, Qualifiers<'a>)>
         ensures { MatchOption result (pieces_from_script self.now ≡ [])
@@ -74,7 +74,7 @@ impl<'a> Qualifiers<'a> {
         }
     }
 
-    // The same of the region and what is behind it.
+    // The same of the region and what follows it.
     #[inline(always)]
     fn split_from_region(&self) -> Option<(LentPiece<'a>, Qualifiers<'a>)>
         ensures { MatchOption result (pieces_from_region self.now ≡ [])
@@ -125,7 +125,7 @@ impl<'a> Iterator for Qualifiers<'a> {
     }
 }
 
-// What the places of a pattern stand for: the base, and the first qualifier with the others behind it.
+// What the places of a pattern stand for: the base, and the first qualifier with the others after it.
 #[derive(Clone, Copy, Debug)]
 pub struct Frame<'a> {
     pub base: LentPiece<'a>,
@@ -136,7 +136,7 @@ pub struct Frame<'a> {
 
 /// A walk through the pieces of a name. It takes no memory.
 // A piece that is ready comes first, then the qualifiers that are left of a place,
-// each behind a separator, and then the items of the pattern.
+// each after a separator, and then the items of the pattern.
 #[derive(Clone, Copy, Debug)]
 pub struct PieceWalk<'a> {
     pub frame: Frame<'a>,
@@ -189,7 +189,7 @@ impl<'a> PieceWalk<'a> {
         }
     }
 
-    // The first piece, and the walk behind it.
+    // The first piece, and the walk after it.
     #[inline(always)]
     fn step(&self) -> Option<(LentPiece<'a>, PieceWalk<'a>)>
         ensures { MatchOption result (pieces_left self.now ≡ [])
@@ -229,7 +229,7 @@ impl<'a> PieceWalk<'a> {
         }
     }
 
-    // The first piece of what the items stand for, and the walk behind it.
+    // The first piece of what the items stand for, and the walk after it.
     #[inline(always)]
     fn step_through_items(&self) -> Option<(LentPiece<'a>, PieceWalk<'a>)>
         ensures { MatchOption result (pieces_of_items self.now.frame self.now.items.now ≡ [])

@@ -11,7 +11,7 @@ use crate::sink::write_whole;
 use std::alloc::Global;
 use std::{fmt, io};
 
-// Whether a raw subtag stands in the text; nothing where it has more bytes than can be counted. One walk tells both.
+// Whether a raw subtag is in the text; nothing where it has more bytes than can be counted. One walk tells both.
 #[tactic(auto, using(crate::proofs::PieceWrites::text_length))]
 pub fn measured(name: &LanguageIdentifierDisplayNameBorrowed<'_>) -> Option<bool>
     ensures counted { MatchOption result (2 ^ 64 ≤ length (text_of (pieces_of name.now)))

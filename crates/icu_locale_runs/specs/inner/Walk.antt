@@ -21,7 +21,7 @@ pub record IsFullFront {X : Type 0} (next : X → Option X) (start : X) (n : ℕ
   pub front : IsFront next start n
   pub closes : (at next start n ≡ None) ⊎ ((i : ℕ) × (i < n) × (at next start i ≡ at next start n))
 
--- z stands at some place, and again twice as far from the start
+-- z is at some place, and again twice as far from the start
 pub record IsMeeting {X : Type 0} (next : X → Option X) (start z : X) : Type 0 where
   pub place : ℕ
   pub started : 0 < place

@@ -11,7 +11,7 @@ use Rattle.std.proofs.lemmas.Option.{none-some, same_Some, option_and_then_some}
 use Rattle.icu_locale_runs.specs.Run.{at, HasDistinct, IsUniverse}
 use Rattle.icu_locale_runs.specs.inner.Walk.{IsFront, IsFullFront}
 
--- a state that stands in a list at one place, and differs from what stands at another, is there without that other
+-- a state that is in a list at one place, and differs from what is at another, is there without that other
 Contains-remove : {X : Type 0} (xs : List X) (k : ℕ) (x y : X) → k < length xs → get_or xs k x ≡ x → Contains xs y → y ≢ x → Contains (remove xs k) y
 Contains-remove xs k x y inside here (j, within, there) differ =
     elim (cases_order j k) [
@@ -23,7 +23,7 @@ Contains-remove xs k x y inside here (j, within, there) differ =
           (j - 1, omega (arith, length-remove xs k inside), get_or-remove_above xs k y (j - 1) (omega arith) inside ∙ (ap (λ i. get_or xs i y) e ∙ there))
     ]
 
--- n different states stand only in a list of at least n
+-- n different states are only in a list of at least n
 pigeonhole : {X : Type 0} (n : ℕ) (xs : List X) (f : ℕ → X) → ((i j : ℕ) → i < j → j < n → f i ≢ f j) → ((i : ℕ) → i < n → Contains xs (f i)) → n ≤ length xs
 pigeonhole zero xs f apart within = omega arith
 pigeonhole (suc n) xs f apart within =
@@ -54,7 +54,7 @@ decided eq laws exact y z =
     ]
 
 module _ {X : Type 0} (next : X → Option X) (start : X) where
-  -- each state of the run stands in its universe
+  -- each state of the run is in its universe
   pub stays_within : (states : List X) → IsUniverse next start states → (i : ℕ) (y : X) → at next start i ≡ Some y → Contains states y
   stays_within states universe zero y here = subst (Contains states) (same_Some start y here) universe.has_start
   stays_within states universe (suc i) y here =

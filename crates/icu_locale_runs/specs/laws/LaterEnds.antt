@@ -13,7 +13,7 @@ module _ {X : Type 0} (next : X → Option X) where
   none_later x none zero = none
   none_later x none (suc place) = ap (option_and_then next) (none_later x none place)
 
-  -- the start stands alone
+  -- the start is alone
   pub stands_alone : (x y : X) → next x ≡ None → StandsIn next x y → y ≡ x
   stands_alone x y none (zero, here) = sym (same_Some x y here)
   stands_alone x y none (suc place, here) = absurd (none-some y (sym (none_later x none place) ∙ here))
@@ -22,7 +22,7 @@ module _ {X : Type 0} (next : X → Option X) where
   pub alone : (x : X) → next x ≡ None → EndsAt next x x
   alone x none = record { stands = (0, refl); last = none }
 
-  -- so nothing stands behind it
+  -- so nothing follows it
   pub none_stands_behind : (P : X → Type 0) (x : X) → next x ≡ None → AllBehind P next x
   none_stands_behind P x none y stands = subst (λ w. IfSome (next w) P) (sym (stands_alone x y none stands)) (subst (λ o. IfSome o P) (sym none) tt)
 

@@ -8,7 +8,7 @@ pub at_same_number : {X : Type 0} (next : X → Option X) (start : X) (i j : ℕ
 at_same_number next start i j same = ap (at next start) same
 
 module _ {X : Type 0} (next : X → Option X) (start : X) where
-  -- what stands at two places is followed by the same
+  -- what is at two places is followed by the same
   pub onward : (i j d : ℕ) → at next start i ≡ at next start j → at next start (i + d) ≡ at next start (j + d)
   onward i j zero same = rw (add-zero i, add-zero j) same
   onward i j (suc d) same = rw (add-suc i d, add-suc j d) (ap (option_and_then next) (onward i j d same))

@@ -10,7 +10,7 @@ use Rattle.icu_locale_runs.specs.laws.Places.{none_after, around_from, in_cycle}
 use Rattle.icu_locale_runs.specs.laws.Counts.{some_value, count_positive, has_count}
 
 module _ {X : Type 0} (next : X → Option X) (start : X) where
-  -- past the place of an end nothing stands
+  -- past the place of an end there is nothing
   none_past_end : (y : X) (ends : EndsAt next start y) (i : ℕ) → ends.stands.0 < i → at next start i ≡ None
   none_past_end y ends i past =
       none_after next start (suc ends.stands.0) i (omega arith) (ap (option_and_then next) ends.stands.1 ∙ ends.last)

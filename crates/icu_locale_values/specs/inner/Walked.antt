@@ -37,7 +37,7 @@ abbrev pub has_row : {X : Type 0} → List X → Bool
 has_row [] = false
 has_row (row ∷ rows) = true
 
--- a value put behind the rows, if there is one
+-- a value appended to the rows, if there is one
 abbrev pub with_end : {K V : Type 0} → List (K × V) → K → Option V → List (K × V)
 with_end ends key None = ends
 with_end ends key (Some v) = ends ++ (key, v) ∷ []
@@ -68,7 +68,7 @@ abbrev pub AreThere : {K V : Type 0} → (K → K → Ordering) → (ends rows :
 AreThere {K} order ends rows =
     (key : K) → IsSome (value_at order ends key) → IsSome (value_at order rows key)
 
--- the ends stand at their keys, and all else is as it was
+-- the ends are at their keys, and all else is as it was
 abbrev pub ArePut : {K V : Type 0} → (K → K → Ordering) → (ends old new : List (K × V)) → Type 0
 ArePut {K} order ends old new =
     (key : K) → value_at order new key ≡ option_or (value_at order ends key) (value_at order old key)

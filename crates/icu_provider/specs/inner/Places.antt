@@ -1,4 +1,4 @@
--- Where a character stands among bounds, and a key among rows.
+-- Where a character is among bounds, and a key among rows.
 use Rattle.std.specs.Prelude.{◌≡◌, ℕ, ◌+◌, ◌≤◌, ◌<◌, List, length}
 use Rattle.std.specs.List.{AllWithin}
 use Rattle.std.specs.declared.cmp.Ordering.{Ordering}
@@ -10,7 +10,7 @@ pub record IsPlace (character : ℕ) (bounds : List ℕ) (place : ℕ) : Type 0 
   pub passed : AllWithin (λ bound. bound ≤ character) bounds 0 place
   pub ahead : AllWithin (λ bound. character < bound) bounds place (length bounds)
 
--- the keys before these rows are below, and those behind them are above
+-- the keys before these rows are below, and those after them are above
 pub record IsSpan {K V : Type 0} (compare : K → K → Ordering) (rows : List (K × V)) (key : K)
     (place size : ℕ) : Type 0 where
   pub within : place + size ≤ length rows

@@ -223,7 +223,7 @@ module _ {K V : Type 0} {compare : K → K → Ordering} (total : IsTotalOrder c
       (λ equal. alike_right total key (get_or rows at d).0 (get_or rows k d).0 equal ∙ rise)
       (λ greater. total.trans (get_or rows k d).0 (get_or rows at d).0 key rise (total.antisymm (get_or rows at d).0 key ∙ ap ordering_reverse greater)))
 
-  -- where a row is above the key, those behind it are too
+  -- where a row is above the key, those after it are too
   pub above_behind : (rows : List (K × V)) (key : K) (at : ℕ) → IsSortedMap compare rows → HoldsAt (λ row. compare key row.0 ≡ Less) rows at
       → AllWithin (λ row. compare key row.0 ≡ Less) rows at (length rows)
   above_behind rows key at sorted above k d low high = ⊎_elim
@@ -231,7 +231,7 @@ module _ {K V : Type 0} {compare : K → K → Ordering} (total : IsTotalOrder c
       (λ (later : at < k). total.trans key (get_or rows at d).0 (get_or rows k d).0 (above d) (keys_rise total rows at k d sorted later high))
       (eq-or-lt_of_le low)
 
-  -- a row that was read is the one at its place, whatever stands past the end
+  -- a row that was read is the one at its place, whatever is past the end
   pub at_row : (P : K → Type 0) (rows : List (K × V)) (at : ℕ) (row : K × V) → at < length rows → row ≡ get_or rows at row → P row.0
       → HoldsAt (λ row. P row.0) rows at
   at_row P rows at row in_range here holds d = subst (λ (r : K × V). P r.0) (here ∙ get_or_default rows at row d in_range) holds

@@ -49,7 +49,7 @@ fn fill_names(alloc: Global, object: &Value, names: &mut NameRows) -> Result<(),
     Ok(())
 }
 
-// The names of a map, each behind the others. Rows come in order, so that none has to make room.
+// The names of a map, each after the others. Rows come in order, so that none has to make room.
 fn in_groups(
     alloc: Global,
     map: BTreeMap<(NameMarker, DataLocale, NameKey), String>,

@@ -91,7 +91,7 @@ impl Write for HeldWriter {
     }
 }
 
-/// What a call answered: as it should with memory, as it should without, so behind a part of its output, or otherwise.
+/// What a call answered: as it should with memory, as it should without, so after a part of its output, or otherwise.
 #[derive(Clone, Copy, PartialEq, Eq)]
 pub enum Answered {
     Whole,

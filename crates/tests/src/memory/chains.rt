@@ -44,7 +44,7 @@ impl Call for ListChain<'_> {
     }
 }
 
-// Writing the chain of an identifier behind a text, which stays as it was where memory was refused.
+// Writing the chain of an identifier after a text, which stays as it was where memory was refused.
 #[derive(Drop)]
 struct AppendChain<'d>(LocaleFallbackerWithConfig<'d>, &'d LanguageIdentifier);
 

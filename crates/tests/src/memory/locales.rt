@@ -65,7 +65,7 @@ fn locale_identifiers(rt: HostRuntime) {
     }
 }
 
-// Writing a locale identifier behind a text, which stays as it was where memory was refused.
+// Writing a locale identifier after a text, which stays as it was where memory was refused.
 #[derive(Drop)]
 struct Append(LocaleIdentifier);
 

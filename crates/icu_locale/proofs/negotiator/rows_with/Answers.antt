@@ -5,7 +5,7 @@ use Rattle.icu_locale.specs.Index.{subtags_cmp}
 use Rattle.icu_locale.proofs.SortedRows.{rows_rise, rest_rises, parted_below, parted_above, IsPartOf-cut}
 use Rattle.icu_locale.proofs.negotiator.rows_with.Goals as goal
 
--- behind the rows below the form, up to those above it
+-- after the rows below the form, up to those above it
 pub returns : goal.returns
 returns c =
     let rows = c.args.rows.now in

@@ -7,7 +7,7 @@ use Rattle.icu_locale_core.proofs.Padding.{IsUtf8-plain}
 use Rattle.icu_locale_core.proofs.langid.put_head.Goals as goal
 use Rattle.icu_locale_core.proofs.langid.put_head.Goals.{in-Some, in_default}
 
--- a dash and a subtag behind a text
+-- a dash and a subtag after a text
 after : (front subtag : List ℕ) → IsUtf8 front → IsTrue (is_alphanumeric subtag) → IsUtf8 (front ++ (codes "-" ++ subtag))
 after front subtag text plain =
     let dash : IsUtf8 (codes "-") = IsUtf8-from_ascii (codes "-") (IsAscii-cons 45 [] (omega arith) IsAscii-nil) in

@@ -11,7 +11,7 @@ returns-then-is_none-clause-front c =
     front-at_last m c.args.text.now c.pieces.start c.cut.result.0.now c.cut.result.1 c.pieces.invariant
     (ap pieces (sym rest) ∙ c.cut.ensures.pieces) (sym c.is_at.ensures ∙ c.if-is_at.false) (ap not (c.is_none.ensures ∙ ap not c.if-is_none.true))
 
--- the place behind the separator
+-- the place after the separator
 pub pieces-preserved : goal.pieces-preserved
 pieces-preserved c =
     let m = is_mark c.args.mark in

@@ -7,7 +7,7 @@ use Rattle.icu_locale.proofs.canonicalizer.values.later_value.Goals as goal
 pub end_of_run-requires : goal.end_of_run-requires
 end_of_run-requires c = IsUniverse-values (lent c.args.rules.now) c.in-Some.value.now
 
--- where no value behind the start has pieces, each is copied without memory
+-- where no value after the start has pieces, each is copied without memory
 pub returns-in-Err-clause-free : goal.returns-in-Err-clause-free
 returns-in-Err-clause-free c = λ adds out.
     let behind : AddsNoPieces (lent c.args.rules.now) c.in-Some.value.now = subst

@@ -23,7 +23,7 @@ returns-in_err-append_locale-clause-part c =
     front_of_front c.args.text.now.items (written c.args.self.now.current) c.append_to.new.text.items c.append_locale.new.text.items
     c.in_ok-append_to.ensures.appended _ (on_err _ c.in_err-append_locale.ensures.part)
 
--- with variants the chain goes on behind it
+-- with variants the chain goes on after it
 pub returns-clause-appended : goal.returns-clause-appended
 returns-clause-appended c =
     let by = inheritance c.args.self.now.fallbacker c.args.self.now.config.priority in

@@ -6,7 +6,7 @@ use Rattle.icu_locale_lines.proofs.CommandWords.{with_json, without_json, ends_o
 use Rattle.icu_locale_lines.proofs.command.Command.from_plain_words.Goals as goal
 use Rattle.icu_locale_lines.proofs.command.Command.from_plain_words.Goals.{in_default-via-in-Some+else-eq, in_default-via-in_default}
 
--- the texts of words with one behind them
+-- the texts of words with one after them
 texts : {X : Type 0} (f : X → List ℕ) (words front : List X) (last : X) (text : List ℕ) → words ≡ front ++ last ∷ [] → f last ≡ text
     → map f words ≡ map f front ++ text ∷ []
 texts f words front last text is same = ap (map f) is ∙ map-append f front (last ∷ []) ∙ ap (λ t. map f front ++ t ∷ []) same

@@ -14,7 +14,7 @@ returns-in_default-syntax_of-clause-only c = λ other are.
     (λ s is. let found = c.syntax_of.ensures.only s (c.as_str.ensures.value ∙ is) in search rules) other.0 other.1 these in
     c.from_plain_words.ensures.only other (subst (λ ws. AreWords ws other.0 other.1) (sym whole) plainly)
 
--- the words behind it are those of no task
+-- the words after it are those of no task
 pub returns-in_err-command-clause-only : goal.returns-in_err-command-clause-only
 returns-in_err-command-clause-only c = λ other are.
     let word = sym c.as_str.ensures.value ∙ c.in-Some-syntax_of.ensures.named in

@@ -8,7 +8,7 @@ use Rattle.icu_locale_lines.specs.Commands.{IsLoaded, IsUnsettled, has_tables}
 use Rattle.icu_locale_lines.proofs.StreamEnds.{run_behind, stopped_behind, refused_loaded, no_data, no_unsettled}
 use Rattle.icu_locale_lines.proofs.runs.stream.stream_over.Goals as goal
 
--- nothing stands before the lines
+-- nothing is before the lines
 pub returns-in-Ready-clause-output : goal.returns-in-Ready-clause-output
 returns-in-Ready-clause-output g c =
     let read = g.R.Read.remaining in

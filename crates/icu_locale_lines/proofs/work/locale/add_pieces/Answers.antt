@@ -25,7 +25,7 @@ loop-piece-preserved c = record {
       (c.in_ok-add_text-2.ensures.added ∙ ap (λ p. c.add_text.new.text.items ++ p) c.as_str.ensures.text);
 }
 
--- what stood before still stands in front of what was added
+-- what stood before is still in front of what was added
 kept : (old more new : List ℕ) → new ≡ old ++ more → Keeps old new
 kept old more new is = subst (Keeps old) (sym is) (take-append-le (length old) old more (omega arith) ∙ take_all (length old) old (omega arith))
 

@@ -3,7 +3,7 @@ use Rattle.icu_locale_lines.specs.Serving.{TellsServed}
 use Rattle.icu_locale_lines.proofs.LineAnswers.{if_adds, told_from_line}
 use Rattle.icu_locale_lines.proofs.work.serve.add_place.Goals as goal
 
--- the line of what stands at the place
+-- the line of what is at the place
 pub returns-in-Some-clause-answer : goal.returns-in-Some-clause-answer
 returns-in-Some-clause-answer c =
     let available = c.args.available.now in

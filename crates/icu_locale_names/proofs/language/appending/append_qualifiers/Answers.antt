@@ -7,7 +7,7 @@ use Rattle.icu_locale_names.specs.Shown.{piece_of, lent_pieces}
 use Rattle.icu_locale_names.proofs.Appending.{grown_more, grown_by_joins, joins_more, adds_joined}
 use Rattle.icu_locale_names.proofs.language.appending.append_qualifiers.Goals as goal
 
--- what stands behind the text is what the calls before put there, and what the one that is refused did
+-- what follows the text is what the calls before put there, and what the one that is refused did
 pub returns-in_err-script-clause-part : goal.returns-in_err-script-clause-part
 returns-in_err-script-clause-part c =
     let refused = err_from_is_err_and c.from_residual-in_err-script.result c.from_residual-in_err-script.ensures.1 in

@@ -5,7 +5,7 @@ use Rattle.icu_locale_names.specs.Pieces.{text_of}
 use Rattle.icu_locale_names.specs.Walk.{pieces_left}
 use Rattle.icu_locale_names.proofs.language.writing.format_pieces.Given as goal
 
--- a beginning of the text is written, and the pieces behind it are left
+-- a beginning of the text is written, and the pieces after it are left
 abbrev pub invariant-loop-piece : goal.invariant-loop-piece
 invariant-loop-piece g l = record {
   written : List ℕ;

@@ -10,7 +10,7 @@ use Rattle.icu_tables.proofs.Gaps.{insert_entry-behind}
 use Rattle.icu_tables.proofs.NameGroups.{name_total}
 use Rattle.icu_tables.proofs.file.names.in_groups.Goals as goal
 
--- the keys of a map rise, so the row comes behind those that are there
+-- the keys of a map rise, so the row comes after those that are there
 pub loop-marker-preserved : goal.loop-marker-preserved
 loop-marker-preserved c =
     let rows = c.loop-marker.rows in

@@ -4,7 +4,7 @@ use Rattle.icu_locale.specs.LikelyTable.{row_at}
 use Rattle.icu_locale.specs.inner.SettledRows.{map_rows}
 use Rattle.icu_locale.proofs.expander.looks.LikelyMaps.row_at.Goals as goal
 
--- the value that was found stands between the key's own subtags
+-- the value that was found is between the key's own subtags
 pub returns-in_ok-script-in-LanguageRegion : goal.returns-in_ok-script-in-LanguageRegion
 returns-in_ok-script-in-LanguageRegion c = ap (option_map (λ s. (c.in-LanguageRegion.language, s, c.in-LanguageRegion.region)))
     (sym c.in_ok-script-in-LanguageRegion.was ∙ c.value_at.ensures) ∙ ap (row_at (map_rows c.args.self.now)) (sym c.in-LanguageRegion.is)
