@@ -2,7 +2,7 @@
  * Locale identifiers for programs in C: likely subtags, canonical forms, directions, names and negotiation, over tables
  * of your own.
  *
- * Each call answers what the program icu_locale_cli writes for one line. docs/PROGRAM.md says what its commands answer,
+ * icu_locale_answer gives what the programs write for one line. docs/PROGRAM.md says what their commands answer,
  * docs/tables.schema.json what tables look like, and docs/PROVED.md what is proved of these calls and what is not.
  *
  *     struct icu_locale tables = {0};

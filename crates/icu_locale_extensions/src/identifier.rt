@@ -61,7 +61,8 @@ impl LocaleIdentifier {
         }
     }
 
-    /// Nothing, but that each part belongs to its class and is in its written case.
+    /// Tells only that each part belongs to its class and is in its written case. It walks over the parts, and takes no
+    /// memory.
     pub fn known(&self)
         ensures { IsLocaleIdentifier self.now }
     {

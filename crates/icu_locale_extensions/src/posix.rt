@@ -23,9 +23,9 @@ impl LocaleIdentifier {
     /// # Errors
     ///
     /// - `InvalidLanguage` exactly where the first piece of the base is no language.
-    /// - `InvalidSubtag` where a later piece of it is none of a locale identifier, or a variant or an extension comes
-    ///   twice.
-    /// - `Memory` only where one of these is to be kept, and never in place of `InvalidLanguage`.
+    /// - `InvalidSubtag` where the rest of it is none of a locale identifier, as of `en-u`, or has a variant or an
+    ///   extension twice.
+    /// - `Memory` only where variants, extensions or private use are kept, and never in place of `InvalidLanguage`.
     pub fn try_from_posix(alloc: Global, text: &[u8]) -> Result<Self, ParseError>
         ensures { ReadsBy Syntax.Posix text.now result }
     {

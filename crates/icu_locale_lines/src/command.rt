@@ -73,8 +73,8 @@ impl LineCommand {
 }
 
 impl Command {
-    /// The command that the words name, and whether the tables come as JSON. Its lines hold identifiers alone. Its answer
-    /// does not depend on memory: reading takes some for variants alone, and preferences have none.
+    /// The command that the words name, and whether the tables come as JSON. Its lines hold identifiers alone. What is
+    /// answered does not depend on memory: only preferences with variants take some, and these are refused either way.
     ///
     /// # Errors
     ///

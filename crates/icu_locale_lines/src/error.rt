@@ -10,7 +10,7 @@ use std::alloc::AllocError;
 use std::error::Error;
 use std::fmt;
 
-/// Why a run ends early. Its words go to standard error, and the status is then 2.
+/// Why a run ends early. The program writes it on standard error and ends with the status 2.
 #[derive(Clone, Copy, Debug, PartialEq, Eq)]
 pub enum CliError {
     /// The words are no command.
@@ -21,7 +21,8 @@ pub enum CliError {
     Supplement(TableError),
     /// A table that the command needs cannot be loaded. Nothing was written.
     Data(DataError),
-    /// A read failed, or the input did not end. A run has written nothing, and a stream the lines that had come whole.
+    /// A read failed, or the input did not end. A run has written nothing; a stream has answered each line that had come
+    /// whole.
     Read,
     /// A write failed, or took no byte. The earlier lines were written, and a beginning of the one in hand.
     Write,
