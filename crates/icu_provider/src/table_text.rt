@@ -104,6 +104,17 @@ fn search<V>(rows: &[(TableText, V)], text: &str) -> Result<usize, usize>
     rows.binary_search_by(
         |row: &(TableText, V)| -> Ordering
             ensures { result ≡ text_cmp row.now.0 text.entry.now }
-        { row.0.as_str().cmp(text) },
+        { compared(row.0.as_str(), text) },
     )
+}
+
+// The order of two texts. Most of them differ in their first byte, which needs no call.
+#[inline(always)]
+fn compared(left: &str, right: &str) -> Ordering
+    ensures { result ≡ text_cmp left.now right.now }
+{
+    match (left.as_bytes().first(), right.as_bytes().first()) {
+        (Some(first), Some(other)) if first != other => first.cmp(other),
+        _ => left.cmp(right),
+    }
 }
