@@ -166,7 +166,10 @@ impl<'d> LocaleExpander<'d> {
     pub fn get_likely_script(&self, id: &LanguageIdentifier) -> Option<Script>
         ensures { result ≡ likely_script (likely self.now) id.now }
     {
-        self.maximal_locale(locale_of(id)).script
+        match id.script {
+            Some(script) if !script.is_unknown() => Some(script),
+            _ => self.maximal_locale(locale_of(id)).script,
+        }
     }
 
     #[inline(always)]

@@ -69,6 +69,9 @@ pub fn find_rewrite<'r>(
     if let Some(rewrite) = by_complex_region(rules, expander, x) {
         return Some(rewrite);
     }
+    if x.variants.len() == 0 {
+        return None;
+    }
     by_variant(rules, x)
 }
 
@@ -127,6 +130,7 @@ pub fn by_language_alias<'r>(rules: &RulesRef<'r>, x: &LanguageIdentifier) -> Op
     ))
 }
 
+#[inline(always)]
 fn language_alias<'r>(rules: &RulesRef<'r>, language: &Language) -> Option<&'r LanguageIdentifier>
     ensures { option_copied result ≡ language_alias (lent rules.now) language.now }
 {
