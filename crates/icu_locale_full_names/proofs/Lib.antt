@@ -4,3 +4,4 @@ mod Giving
 mod Joining
 mod Silence
 mod Spans
+mod Unbracketed

@@ -1,6 +1,5 @@
 -- Whether a piece is raw, by the places of the raw ones.
-use Rattle.std.proofs.Common.{◌≡◌, ◌≢◌, ◌↔◌, ◌∙◌, refl, ap, sym, ℕ, Bool, true, false, not, List, [], ◌∷◌, length, ◌==◌, arith}
-use Rattle.std.proofs.lemmas.Bool.{false≢true}
+use Rattle.std.proofs.Common.{◌≡◌, ◌≢◌, ◌↔◌, refl, ℕ, Bool, true, false, not, List, [], ◌∷◌, length, ◌==◌, arith}
 use Rattle.std.proofs.lemmas.Bool.Decides.{nat_tests}
 use Rattle.icu_locale_names.specs.Pieces.{Piece, spans, has_raw}
 

@@ -1,11 +1,16 @@
 //! A text that is being written, and where the raw parts of it are.
-ghost use Rattle.std.specs.Prelude.{◌≡◌, ◌∷◌, [], ◌++◌, OnOk, length, string_bytes, true, false};
+ghost use Rattle.std.specs.Prelude.{◌≡◌, ◌∷◌, [], ◌++◌, IfOk, OnOk, length, string_bytes, true, false};
+ghost use Rattle.std.specs.List.{list_any};
 ghost use Rattle.icu_locale_names.specs.LentNames.{lent_piece};
 ghost use Rattle.icu_locale_full_names.specs.Squares.{square, square_text, squared};
 ghost use Rattle.icu_locale_full_names.specs.inner.Drafts.{Adds};
+ghost use Rattle.icu_locale_full_names.specs.inner.Brackets.{may_begin_bracket};
 
 use icu_locale_names::LentPiece;
 use std::alloc::{AllocError, Global};
+
+// For how many bytes there is room at first: most names are shorter.
+const ROOM: usize = 64;
 
 // A text, and where the raw parts of it are.
 #[derive(Debug, Drop)]
@@ -16,14 +21,14 @@ pub struct Draft {
 
 impl Draft {
     // Nothing yet.
-    pub fn new(alloc: Global) -> Self
-        ensures text { string_bytes result.text ≡ [] }
-        ensures marks { result.raw_spans.items ≡ [] }
+    pub fn new(alloc: Global) -> Result<Self, AllocError>
+        ensures text { IfOk result (λ draft. string_bytes draft.text ≡ []) }
+        ensures marks { IfOk result (λ draft. draft.raw_spans.items ≡ []) }
     {
-        Draft {
-            text: String::new(alloc),
+        Ok(Draft {
+            text: String::with_capacity(alloc, ROOM)?,
             raw_spans: Vec::new(alloc),
-        }
+        })
     }
 
     // A piece as it is.
@@ -58,15 +63,27 @@ impl Draft {
     }
 }
 
-// A text with square brackets, appended to a text.
+// A text with square brackets, appended to a text. Most texts have no bracket, and are appended as they are.
 fn push_square(more: &str, text: &mut String) -> Result<(), AllocError>
     ensures { OnOk result (string_bytes text.new
         ≡ string_bytes text.old ++ square_text more.now) }
 {
+    if !may_have_bracket(more) {
+        return text.push_str(more);
+    }
     for c in more.chars() {
         text.push(square(c))?;
     }
     Ok(())
+}
+
+// Whether a byte of a text may begin a round bracket.
+fn may_have_bracket(text: &str) -> bool
+    ensures { result ≡ list_any may_begin_bracket text.now }
+{
+    text.as_bytes()
+        .iter()
+        .any(|byte| matches!(byte, b'(' | b')' | 0xEF))
 }
 
 // A round bracket as a square one.

@@ -228,7 +228,7 @@ fn written_name(
         (full_pieces (parts_of name.now) (lent_language language.entry) names.now subject.now)) }
     ensures refused { IfErr result (λ e. e.kind ≡ DataErrorKind.Memory) }
 {
-    let mut draft = Draft::new(alloc);
+    let mut draft = Draft::new(alloc)?;
     add_whole(name, language, names, subject, &mut draft)?;
     Ok(LocaleDisplayName { draft })
 }
