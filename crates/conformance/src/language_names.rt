@@ -5,9 +5,10 @@ use crate::texts::{four_words, written};
 use crate::world::World;
 use icu_locale_core::LanguageIdentifier;
 use icu_locale_names::{
-    LanguageDisplay, LanguageIdentifierDisplayName, LanguageIdentifierDisplayNameBorrowed,
-    LanguageIdentifierDisplayNameOptions, NameChain,
+    DisplayNamesPreferences, LanguageDisplay, LanguageIdentifierDisplayName as Name,
+    LanguageIdentifierDisplayNameBorrowed, LanguageIdentifierDisplayNameOptions, NameChain,
 };
+use icu_provider::{DataError, DataProvider};
 use std::alloc::{AllocError, Global};
 
 /// The name that a chain gives for preferences, an identifier and, if there is one, a display. The answer is the
@@ -18,16 +19,49 @@ pub fn language_name(alloc: Global, world: &World, words: &str) -> Result<String
     let preferences = preferences(alloc, locale)?;
     let options = options(display)?;
     let subject = LanguageIdentifier::try_from_str(alloc, subject)?;
-    match LanguageIdentifierDisplayName::try_new_unstable(
-        alloc,
-        world.names(),
-        chain,
-        preferences,
-        &subject,
-        options,
-    ) {
+    match named(alloc, world.names(), chain, preferences, &subject, options) {
         Ok(name) => name_and_spans(alloc, &name),
         Err(refusal) => written(alloc, &refusal),
+    }
+}
+
+// The name by the constructor of a chain.
+fn named<'t, P: DataProvider>(
+    alloc: Global,
+    provider: &'t P,
+    chain: NameChain,
+    of: DisplayNamesPreferences,
+    subject: &LanguageIdentifier,
+    options: LanguageIdentifierDisplayNameOptions,
+) -> Result<Name<'t>, DataError> {
+    match chain {
+        NameChain::Tiny => Name::try_new_tiny_unstable(alloc, provider, of, subject, options),
+        NameChain::Light => Name::try_new_light_unstable(alloc, provider, of, subject, options),
+        NameChain::ShortLight => {
+            Name::try_new_short_light_unstable(alloc, provider, of, subject, options)
+        }
+        NameChain::LongLight => {
+            Name::try_new_long_light_unstable(alloc, provider, of, subject, options)
+        }
+        NameChain::MenuLight => {
+            Name::try_new_menu_light_unstable(alloc, provider, of, subject, options)
+        }
+        NameChain::ShortMenuLight => {
+            Name::try_new_short_menu_light_unstable(alloc, provider, of, subject, options)
+        }
+        NameChain::Heavy => Name::try_new_heavy_unstable(alloc, provider, of, subject, options),
+        NameChain::ShortHeavy => {
+            Name::try_new_short_heavy_unstable(alloc, provider, of, subject, options)
+        }
+        NameChain::LongHeavy => {
+            Name::try_new_long_heavy_unstable(alloc, provider, of, subject, options)
+        }
+        NameChain::MenuHeavy => {
+            Name::try_new_menu_heavy_unstable(alloc, provider, of, subject, options)
+        }
+        NameChain::ShortMenuHeavy => {
+            Name::try_new_short_menu_heavy_unstable(alloc, provider, of, subject, options)
+        }
     }
 }
 
@@ -43,10 +77,7 @@ fn options(word: &str) -> Result<LanguageIdentifierDisplayNameOptions, Fault> {
 }
 
 // The text, the report and the spans of a name. What Display writes must be the text.
-fn name_and_spans(
-    alloc: Global,
-    name: &LanguageIdentifierDisplayName<'_>,
-) -> Result<String, Fault> {
+fn name_and_spans(alloc: Global, name: &Name<'_>) -> Result<String, Fault> {
     let lent = name.as_borrowed();
     let mut bytes: Vec<u8> = Vec::new(alloc);
     let mut spans = Vec::new(alloc);

@@ -59,16 +59,27 @@ fn shown<T: fmt::Display + Drop>(
     }
 }
 
-/// What a text is read as, and written.
+/// What a text is read as, and written. Where it may be read as bytes too, both have one answer.
 pub fn read(alloc: Global, kind: Kind, text: &[u8]) -> Result<String, Fault> {
+    let Ok(word) = str::from_utf8(text) else {
+        return read_bytes(alloc, kind, text);
+    };
+    let answer = read_str(alloc, kind, word)?;
+    match kind {
+        Kind::Identifier | Kind::Value | Kind::Locale(Syntax::Unicode) => {
+            compare(&answer, read_bytes(alloc, kind, text)?)?;
+        }
+        _ => {}
+    }
+    Ok(answer)
+}
+
+fn read_bytes(alloc: Global, kind: Kind, text: &[u8]) -> Result<String, Fault> {
     match kind {
         Kind::Identifier => identifier(alloc, LanguageIdentifier::try_from_utf8(alloc, text)),
         Kind::Value => value(alloc, Value::try_from_utf8(alloc, text)),
         Kind::Locale(syntax) => locale(alloc, LocaleIdentifier::read(alloc, syntax, text)),
-        _ => match str::from_utf8(text) {
-            Ok(text) => read_str(alloc, kind, text),
-            Err(_) => Err(Fault::Row),
-        },
+        _ => Err(Fault::Row),
     }
 }
 
@@ -82,7 +93,8 @@ fn read_str(alloc: Global, kind: Kind, text: &str) -> Result<String, Fault> {
         Kind::Key => shown(alloc, Key::try_from_str(text)),
         Kind::Subtag => shown(alloc, Subtag::try_from_str(text)),
         Kind::Value => value(alloc, Value::try_from_str(alloc, text)),
-        Kind::Locale(_) => locale(alloc, LocaleIdentifier::try_from_str(alloc, text)),
+        Kind::Locale(Syntax::Unicode) => locale(alloc, LocaleIdentifier::try_from_str(alloc, text)),
+        Kind::Locale(_) => read_bytes(alloc, kind, text.as_bytes()),
     }
 }
 

@@ -184,50 +184,60 @@ fn kind(answer: &Answer) -> Result<Kind, Fault> {
     }
 }
 
-// `canonicalize`, or the call that counts.
-fn call(canonicalizer: &LocaleCanonicalizer<'_>, locale: &mut Locale, is_counted: bool) -> Answer {
-    if is_counted {
-        canonicalizer.canonicalize_counted(locale, &mut Turns::new())
-    } else {
-        canonicalizer.canonicalize(locale)
+// Which call is asked: that of the canonicalizer or of what it lends, and the one that counts or the other.
+#[derive(Clone, Copy)]
+struct Asked {
+    is_lent: bool,
+    is_counted: bool,
+}
+
+fn ask(canonicalizer: &LocaleCanonicalizer<'_>, locale: &mut Locale, asked: Asked) -> Answer {
+    let turns = &mut Turns::new();
+    match (asked.is_lent, asked.is_counted) {
+        (false, false) => canonicalizer.canonicalize(locale),
+        (false, true) => canonicalizer.canonicalize_counted(locale, turns),
+        (true, false) => canonicalizer.lend().canonicalize(locale),
+        (true, true) => canonicalizer.lend().canonicalize_counted(locale, turns),
     }
 }
 
-// Which kind of answer one of the two calls gave, and whether it agrees.
+// Whether one of the calls agrees. The kind of its answer is met.
 fn compare_call(
     alloc: Global,
+    report: &mut Report,
     canonicalizer: &LocaleCanonicalizer<'_>,
     world: World<'_>,
-    old: &PlainLocale,
-    is_counted: bool,
-) -> Result<(Kind, bool), Fault> {
+    (old, asked): (&PlainLocale, Asked),
+) -> Result<bool, Fault> {
     let mut left = old.held(alloc, world.subtags)?;
-    let answer = call(canonicalizer, &mut left, is_counted);
-    judged(alloc, world, old, (&answer, &left))
+    let answer = ask(canonicalizer, &mut left, asked);
+    report.meet(kind(&answer)?);
+    agrees(alloc, world, old, (&answer, &left))
 }
 
-fn judged(
-    alloc: Global,
-    world: World<'_>,
-    old: &PlainLocale,
-    (answer, left): (&Answer, &Locale),
-) -> Result<(Kind, bool), Fault> {
-    let agrees = agrees(alloc, world, old, (answer, left))?;
-    Ok((kind(answer)?, agrees))
-}
-
-// Which kind of answer the calls gave, and whether both agree.
-fn compare_calls(
+// Whether the call for an identifier alone agrees, by the canonicalizer or by what it lends.
+fn compare_identifier(
     alloc: Global,
     canonicalizer: &LocaleCanonicalizer<'_>,
     world: World<'_>,
-    old: &PlainLocale,
-) -> Result<(Kind, bool), Fault> {
-    let (kind, agrees) = compare_call(alloc, canonicalizer, world, old, false)?;
-    let (_, also) = compare_call(alloc, canonicalizer, world, old, true)?;
-    Ok((kind, agrees && also))
+    (id, is_lent): (Plain, bool),
+) -> Result<bool, Fault> {
+    let mut left = id.held(alloc, world.subtags)?;
+    let answer = if is_lent {
+        canonicalizer.lend().canonicalize_identifier(&mut left)
+    } else {
+        canonicalizer.canonicalize_identifier(&mut left)
+    };
+    let old = PlainLocale {
+        id,
+        lang: None,
+        rg: None,
+        sd: None,
+    };
+    agrees(alloc, world, &old, (&answer, &Locale::new(alloc, left)))
 }
 
+// The worlds take turns at the calls of the canonicalizer and of what it lends.
 fn compare_everyone(
     alloc: Global,
     report: &mut Report,
@@ -235,6 +245,7 @@ fn compare_everyone(
     world: World<'_>,
     (numbers, variants): (&mut Numbers, u8),
 ) -> Result<(), Fault> {
+    let is_lent = report.world % 2 == 1;
     for id in everyone(world.subtags, variants) {
         let old = PlainLocale {
             id,
@@ -242,9 +253,16 @@ fn compare_everyone(
             rg: Drawn::draw(numbers, world.subtags),
             sd: Drawn::draw(numbers, world.subtags),
         };
-        let (kind, agrees) = compare_calls(alloc, canonicalizer, world, &old)?;
-        report.meet(kind);
-        report.see(agrees, "canonicalize", &old.id);
+        for is_counted in [false, true] {
+            let asked = Asked {
+                is_lent,
+                is_counted,
+            };
+            let is_so = compare_call(alloc, report, canonicalizer, world, (&old, asked))?;
+            report.see(is_so, "canonicalize", &id);
+        }
+        let is_so = compare_identifier(alloc, canonicalizer, world, (id, is_lent))?;
+        report.see(is_so, "canonicalize_identifier", &id);
         compare_steps(alloc, report, canonicalizer, world, &id)?;
     }
     Ok(())

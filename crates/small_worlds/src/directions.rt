@@ -42,6 +42,16 @@ impl Ways {
         Ok(held)
     }
 
+    // Whether no script runs both ways.
+    fn are_disjoint(self) -> bool {
+        for place in 0..3 {
+            if self.left_to_right[place] && self.right_to_left[place] {
+                return false;
+            }
+        }
+        true
+    }
+
     // Whether a script that is there runs left to right, and whether it runs right to left.
     fn of(self, subtags: &Subtags, script: Option<Script>) -> (bool, bool) {
         for place in 0..3 {
@@ -106,6 +116,12 @@ pub fn compare_directions(
     subtags: &Subtags,
     ways: Ways,
 ) -> Result<(), Fault> {
+    let is_so = directionality.is_disjoint() == ways.are_disjoint();
+    report.see(
+        is_so,
+        "is_disjoint",
+        &Plain::of_language(subtags.languages[0]),
+    );
     for variants in 0..8 {
         compare_everyone(
             alloc,

@@ -1,5 +1,5 @@
 //! How what is compared is made: the worlds take turns at the constructors.
-use icu_locale::{LocaleCanonicalizer, LocaleDirectionality, LocaleExpander};
+use icu_locale::{LocaleCanonicalizer, LocaleDirectionality, LocaleExpander, ReadRules};
 use icu_provider::{DataError, DataProvider};
 use icu_tables::Tables;
 use std::alloc::Global;
@@ -15,16 +15,19 @@ pub enum Making {
     Expander,
     /// A provider and an expander.
     ProviderAndExpander,
+    /// What was read of a table, the table and an expander.
+    Read,
 }
 
 impl Making {
     /// That of a world.
     pub fn of_world(world: usize) -> Making {
-        match world % 4 {
+        match world % 5 {
             0 => Making::Tables,
             1 => Making::Provider,
             2 => Making::Expander,
-            _ => Making::ProviderAndExpander,
+            3 => Making::ProviderAndExpander,
+            _ => Making::Read,
         }
     }
 }
@@ -72,7 +75,7 @@ impl<'w> Maker<'w> {
             (Making::Provider, true) => {
                 LocaleDirectionality::try_new_extended_unstable(self.tables)
             }
-            (Making::Expander, _) => {
+            (Making::Expander | Making::Read, _) => {
                 let directions = self.tables.load_script_direction()?;
                 Ok(LocaleDirectionality::new_with_expander(directions, expander))
             }
@@ -116,6 +119,11 @@ impl<'w> Maker<'w> {
             }
             (Making::ProviderAndExpander, _) => {
                 LocaleCanonicalizer::try_new_with_expander_unstable(alloc, self.tables, expander)
+            }
+            (Making::Read, _) => {
+                let aliases = self.tables.load_aliases()?;
+                let read = ReadRules::read(alloc, aliases)?;
+                Ok(LocaleCanonicalizer::over(read, aliases, expander))
             }
         }
     }

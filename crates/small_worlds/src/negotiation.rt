@@ -5,7 +5,7 @@ use crate::numbers::{Drawn, Numbers};
 use crate::plain::Plain;
 use crate::report::Report;
 use crate::subtags::Subtags;
-use icu_locale::{LocaleExpander, Negotiator, NegotiatorError};
+use icu_locale::{LocaleExpander, Negotiator, NegotiatorError, NegotiatorRef};
 use icu_locale_core::LanguageIdentifier;
 use std::alloc::Global;
 
@@ -21,9 +21,8 @@ fn held(
     Ok(all)
 }
 
-// Whether a negotiator shows the list that was handed in.
-fn shows(negotiator: &Negotiator<'_>, available: &[Plain], subtags: &Subtags) -> bool {
-    let shown = negotiator.available();
+// Whether what a negotiator shows is the list that was handed in.
+fn shows(shown: &[LanguageIdentifier], available: &[Plain], subtags: &Subtags) -> bool {
     for (id, x) in shown.iter().zip(available) {
         if !x.is_held_as(id, subtags) {
             return false;
@@ -53,14 +52,20 @@ fn wanted(
 fn compare_requests(
     alloc: Global,
     report: &mut Report,
-    negotiator: &Negotiator<'_>,
+    (negotiator, lent): (&Negotiator<'_>, &NegotiatorRef<'_>),
     (rows, subtags): (&[Row], &Subtags),
     numbers: &mut Numbers,
     available: &[Plain],
 ) -> Result<(), Fault> {
     for _ in 0..16 {
         let requests: [Plain; 3] = Drawn::draw(numbers, subtags);
-        let found = negotiator.negotiate(&held(alloc, &requests, subtags)?);
+        let asked = held(alloc, &requests, subtags)?;
+        let found = negotiator.negotiate(&asked);
+        report.see(
+            lent.negotiate(&asked) == found,
+            "NegotiatorRef",
+            &requests[0],
+        );
         let wanted = wanted(rows, subtags, available, &requests);
         report.met.negotiated |= wanted.is_some();
         for request in &requests {
@@ -85,10 +90,15 @@ pub fn compare_negotiations(
     match Negotiator::try_new(alloc, *expander, held(alloc, &available, subtags)?) {
         Ok(negotiator) => {
             report.see(settled, "Negotiator::try_new", &und);
-            let is_shown = shows(&negotiator, &available, subtags);
+            let is_shown = shows(negotiator.available(), &available, subtags);
             report.see(is_shown, "available", &und);
-            let table = (rows, subtags);
-            compare_requests(alloc, report, &negotiator, table, numbers, &available)
+            let (table, both) = ((rows, subtags), (&negotiator, &negotiator.lend()));
+            compare_requests(alloc, report, both, table, numbers, &available)?;
+            let kept = negotiator.into_available();
+            let lent = NegotiatorRef::over(*expander, &kept);
+            let is_shown = shows(lent.available(), &available, subtags);
+            report.see(is_shown, "into_available", &und);
+            Ok(())
         }
         Err(NegotiatorError::NotSettled) => {
             report.see(!settled, "Negotiator::try_new", &und);

@@ -6,7 +6,7 @@ use crate::report::Report;
 use crate::rules::{Rule, by_language_alias, matches, next, replaced};
 use crate::subtags::Subtags;
 use icu_locale::{LocaleCanonicalizer, Turns, laws};
-use icu_locale_core::LanguageIdentifier;
+use icu_locale_core::{Language, LanguageIdentifier};
 use std::alloc::Global;
 
 // Whether the crates hold what follows an identifier, or nothing where nothing follows.
@@ -58,8 +58,7 @@ fn compare_rule(
     }
 }
 
-/// The steps from an identifier, by all rules and by those of a transform language, and the rules without variants by
-/// themselves.
+/// The steps from an identifier, by all rules and by those of a transform language, and some rules by themselves.
 pub fn compare_steps(
     alloc: Global,
     report: &mut Report,
@@ -71,9 +70,61 @@ pub fn compare_steps(
     for transform in [false, true] {
         compare_search(report, canonicalizer, world, (x, &id), transform)?;
     }
-    for row in &world.rules.language {
-        if let Some(rule) = row {
-            compare_rule(alloc, report, world.subtags, rule, (x, &id))?;
+    compare_own_rules(alloc, report, world, (x, &id))
+}
+
+// The worlds take turns at the three lists of rules: those without variants, those with some, and aliases of languages.
+fn compare_own_rules(
+    alloc: Global,
+    report: &mut Report,
+    world: World<'_>,
+    x: (&Plain, &LanguageIdentifier),
+) -> Result<(), Fault> {
+    match report.world % 3 {
+        0 => compare_rules(alloc, report, world.subtags, &world.rules.language, x),
+        1 => compare_rules(
+            alloc,
+            report,
+            world.subtags,
+            &world.rules.language_variants,
+            x,
+        ),
+        _ => {
+            compare_aliases(alloc, report, world.subtags, &world.rules.language_len2, x)?;
+            compare_aliases(alloc, report, world.subtags, &world.rules.language_len3, x)
+        }
+    }
+}
+
+fn compare_rules(
+    alloc: Global,
+    report: &mut Report,
+    subtags: &Subtags,
+    rules: &[Option<Rule>; 2],
+    x: (&Plain, &LanguageIdentifier),
+) -> Result<(), Fault> {
+    for rule in rules {
+        if let Some(rule) = rule {
+            compare_rule(alloc, report, subtags, rule, x)?;
+        }
+    }
+    Ok(())
+}
+
+fn compare_aliases(
+    alloc: Global,
+    report: &mut Report,
+    subtags: &Subtags,
+    rows: &[Option<(Language, Plain)>; 2],
+    x: (&Plain, &LanguageIdentifier),
+) -> Result<(), Fault> {
+    for row in rows {
+        if let Some(row) = row {
+            let rule = Rule {
+                source: Plain::of_language(row.0),
+                replacement: row.1,
+            };
+            compare_rule(alloc, report, subtags, &rule, x)?;
         }
     }
     Ok(())

@@ -20,17 +20,19 @@ const CALLED: &str = "{\"extension_names\":{\"en\":{\
         \"nu\":{\"thai\":\"Thai Digits\"}},\
     \"keys\":{\"cu\":\"Currency\",\"kr\":\"Script/Block Reordering\",\"t\":\"Transform\"},\
     \"values\":{\
-        \"cu\":{\"eur\":\"€\"},\
+        \"cu\":{\"eur\":\"€\",\"twd\":\"新台币（圆）\",\"xxa\":\"ＡＢ\"},\
         \"kr\":{\"digit\":\"Digits\",\"latn\":\"Latin\"}}}}}";
 
 // Texts, what each is called, and where raw parts are in that. The first are of CLDR's own suite.
-static NAMES: [(&str, &str, &[(usize, usize)]); 15] = [
+static NAMES: [(&str, &str, &[(usize, usize)]); 17] = [
     (
         "en-u-nu-thai-ca-islamic-civil",
         "English (Islamic Calendar [tabular, civil epoch], Thai Digits)",
         &[],
     ),
     ("en-u-cu-eur", "English (Currency: €)", &[]),
+    ("en-u-cu-twd", "English (Currency: 新台币［圆］)", &[]),
+    ("en-u-cu-xxa", "English (Currency: ＡＢ)", &[]),
     ("en", "English", &[]),
     ("it-Latn", "Italian (Latin)", &[]),
     ("it-t-en", "Italian (Transform: English)", &[]),

@@ -10,8 +10,9 @@ use crate::memory::budget::HeldWriter;
 use crate::refusing::{KINDS, refusal, willing};
 use icu_locale_core::{Language, LanguageIdentifier};
 use icu_locale_names::{
-    DisplayNamesPreferences, LanguageIdentifierDisplayName, LanguageIdentifierDisplayNameBorrowed,
-    LanguageIdentifierDisplayNameOptions, NameChain, NameWriteError,
+    DisplayNamesPreferences, LanguageIdentifierDisplayName as Name,
+    LanguageIdentifierDisplayNameBorrowed, LanguageIdentifierDisplayNameOptions, NameChain,
+    NameWriteError,
 };
 use icu_provider::{
     Aliases, DataError, DataErrorKind, DataLocale, DataProvider, ExemplarCharactersData,
@@ -45,16 +46,44 @@ pub const CHAINS: [NameChain; 11] = [
     NameChain::ShortMenuHeavy,
 ];
 
-/// The name by a chain, where names of dialects are asked for.
+/// The name by the constructor of a chain, where names of dialects are asked for.
 pub fn named<'t, P: DataProvider>(
     alloc: Global,
     provider: &'t P,
     of: DisplayNamesPreferences,
     subject: &LanguageIdentifier,
     chain: NameChain,
-) -> Result<LanguageIdentifierDisplayName<'t>, DataError> {
+) -> Result<Name<'t>, DataError> {
     let options = LanguageIdentifierDisplayNameOptions::default();
-    LanguageIdentifierDisplayName::try_new_unstable(alloc, provider, chain, of, subject, options)
+    match chain {
+        NameChain::Tiny => Name::try_new_tiny_unstable(alloc, provider, of, subject, options),
+        NameChain::Light => Name::try_new_light_unstable(alloc, provider, of, subject, options),
+        NameChain::ShortLight => {
+            Name::try_new_short_light_unstable(alloc, provider, of, subject, options)
+        }
+        NameChain::LongLight => {
+            Name::try_new_long_light_unstable(alloc, provider, of, subject, options)
+        }
+        NameChain::MenuLight => {
+            Name::try_new_menu_light_unstable(alloc, provider, of, subject, options)
+        }
+        NameChain::ShortMenuLight => {
+            Name::try_new_short_menu_light_unstable(alloc, provider, of, subject, options)
+        }
+        NameChain::Heavy => Name::try_new_heavy_unstable(alloc, provider, of, subject, options),
+        NameChain::ShortHeavy => {
+            Name::try_new_short_heavy_unstable(alloc, provider, of, subject, options)
+        }
+        NameChain::LongHeavy => {
+            Name::try_new_long_heavy_unstable(alloc, provider, of, subject, options)
+        }
+        NameChain::MenuHeavy => {
+            Name::try_new_menu_heavy_unstable(alloc, provider, of, subject, options)
+        }
+        NameChain::ShortMenuHeavy => {
+            Name::try_new_short_menu_heavy_unstable(alloc, provider, of, subject, options)
+        }
+    }
 }
 
 // Markers that are in the chains, one for each part of a name.
