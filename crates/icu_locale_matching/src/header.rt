@@ -94,7 +94,8 @@ fn any_of(wishes: &[LentWish<'_>]) -> bool
 
 // The wishes of the first hundred elements, by falling weight.
 fn read_wishes(alloc: Global, header: &[u8]) -> Result<Vec<LentWish<'_>>, AllocError>
-    ensures read { IfOk result (λ list. AreByWeight (wishes_of header.now) (map shown list.items)) }
+    ensures read { IfOk result
+        (λ list. AreByWeight (wishes_of header.now) (map shown list.items)) }
     ensures free { wishes_of header.now ≡ [] → IsOk result }
 {
     let mut list = Vec::new(alloc);

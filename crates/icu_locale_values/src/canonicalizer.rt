@@ -51,7 +51,8 @@ impl<'d> WholeCanonicalizer<'d> {
         ensures unchanged { OnErr result (locale.new ≡ locale.old) }
         ensures answer { IfOk result (λ a. a
             ≡ answer_of (is_whole_applied (whole_rules self.now) locale.old)) }
-        ensures free { NeedsNoMemory (whole_rules self.now) locale.old → ¬ (IsOutOfMemory result) }
+        ensures free { NeedsNoMemory (whole_rules self.now) locale.old
+            → ¬ (IsOutOfMemory result) }
         ensures ends { RunsEnd (whole_rules self.now) locale.old
             → IsOk result ⊎ IsOutOfMemory result }
     {
