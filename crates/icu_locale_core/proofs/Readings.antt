@@ -17,7 +17,8 @@ use Rattle.icu_locale_core.specs.declared.parse_error.ParseError.{ParseError}
 use Rattle.icu_locale_core.specs.declared.parse_error.ParseError.TheVariants.{InvalidLanguage, InvalidSubtag, Memory}
 use Rattle.icu_locale_core.specs.TextSet.{TextSet, from_list, contains, len, empty}
 use Rattle.icu_locale_core.specs.Identifier.{IsIdentifier, Lists, subtags, pieces, Spells, IsOkUnlessMemory}
-use Rattle.icu_locale_core.specs.inner.Identifiers.{optional_subtag, after_optional_subtag, are_variants, read_variants, with_variants, read_rest, read_pieces}
+use Rattle.icu_locale_core.specs.Cuts.{optional_subtag, after_optional_subtag}
+use Rattle.icu_locale_core.specs.Readings.{are_variants, read_variants, with_variants, read_rest, read_pieces}
 use Rattle.icu_locale_core.proofs.Cases.{is_member-lowercase, written_case-lowercase, lowercase-written_case, written_written, region_no_script}
 use Rattle.icu_locale_core.proofs.Cases.{variant_no_script, variant_no_region}
 use Rattle.icu_locale_core.specs.laws.TextSets.{contains-from_list, Contains-is_among, is_among-Contains, length-rising_empty}

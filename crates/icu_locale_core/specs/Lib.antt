@@ -1,8 +1,10 @@
 pub mod Agreement
+pub mod Cuts
 pub mod Identifier
 pub mod Keywords
 pub mod Maps
 pub mod Numbers
+pub mod Readings
 pub mod Subtag
 pub mod TextSet
 pub mod Value

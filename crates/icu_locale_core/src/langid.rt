@@ -1,14 +1,16 @@
 //! Identifiers: a language, a script, a region and variants.
-ghost use Rattle.std.specs.Prelude.{◌≡◌, ◌≤◌, ◌++◌, codes, take, length, Some, IsOk, IfOk, IfErr, OnOk, OnErr};
+ghost use Rattle.std.specs.Prelude.{◌≡◌, ◌⊎◌, ◌≤◌, ◌++◌, codes, take, length, true, Some, Err, IsOk, IfOk, IfErr, OnOk, OnErr};
 ghost use Rattle.std.specs.Fmt.{WritesOnOk};
-ghost use Rattle.std.specs.List.{flat_map};
+ghost use Rattle.std.specs.List.{flat_map, list_any};
 ghost use Rattle.std.specs.Str.{IsUtf8};
 ghost use Rattle.icu_locale_core.specs.Identifier.{IsIdentifier, ReadsIdentifier, written};
+ghost use Rattle.icu_locale_core.specs.Readings.{read_front, after_front, front_variants};
+ghost use Rattle.icu_locale_core.specs.Subtag.{is_variant};
 ghost use Rattle.icu_locale_core.specs.TextSet.{rising, empty};
 ghost use Rattle.icu_locale_core.specs.inner.Identifiers.{head};
 
 use crate::pieces::Pieces;
-use crate::reader::read_identifier;
+use crate::reader::{read_front, read_identifier};
 use crate::{Language, ParseError, Region, Script, Variants};
 use std::alloc::{AllocError, Global};
 use std::fmt;
@@ -52,6 +54,16 @@ impl LanguageIdentifier {
         ensures { ReadsIdentifier text.now result }
     {
         read_identifier(alloc, Pieces::new(text))
+    }
+
+    /// Reads the identifier at the front of pieces, and leaves the first that is none of it.
+    pub fn read_front(alloc: Global, pieces: &mut Pieces<'_>) -> Result<Self, ParseError>
+        ensures read { (result ≡ Err ParseError.Memory) ⊎ (result ≡ read_front pieces.old) }
+        ensures rest { OnOk result (pieces.new ≡ after_front pieces.old) }
+        ensures memory { result ≡ Err ParseError.Memory
+            → list_any is_variant (front_variants pieces.old) ≡ true }
+    {
+        read_front(alloc, pieces)
     }
 
     /// Nothing, but that each subtag belongs to its class and is in its written case.

@@ -1,12 +1,13 @@
 //! Laws of texts and identifiers. Each function here takes nothing, answers nothing and carries a proved fact.
-ghost use Rattle.std.specs.Prelude.{◌≡◌, ◌↔◌, ◌<◌, ◌&&◌, ◌||◌, not, List, ℕ, Some, true, false};
+ghost use Rattle.std.specs.Prelude.{Ok, ◌≡◌, ◌↔◌, ◌<◌, ◌&&◌, ◌||◌, not, List, ℕ, Some, true, false};
 ghost use Rattle.std.specs.List.{Contains};
 ghost use Rattle.std.specs.List.Sorted.{IsStrictlySortedBy};
 ghost use Rattle.icu_locale_core.specs.Agreement.{Agree, TellsEquality, fed_subtag, fed_variants, fed_identifier, identifier_cmp};
-ghost use Rattle.icu_locale_core.specs.Identifier.{IsIdentifier, Spells, has_variant, written};
+ghost use Rattle.icu_locale_core.specs.Identifier.{pieces, IsIdentifier, Spells, has_variant, written};
 ghost use Rattle.icu_locale_core.specs.Keywords.{KeywordRows, with_value, without_key};
 ghost use Rattle.icu_locale_core.specs.Maps.{IsSortedMap, value_at};
 ghost use Rattle.icu_locale_core.specs.TextSet.{TextSet, empty, contains, difference, from_list, is_subset, len, rising, text_cmp, union};
+ghost use Rattle.icu_locale_core.specs.Readings.{read_pieces};
 ghost use Rattle.icu_locale_core.specs.Value.{IsValue, is_value, read_value, written_value};
 
 use crate::{
@@ -143,4 +144,12 @@ pub fn keywords_are_a_map()
     ensures put_back { (k : KeywordRows) (key : List ℕ) (value : List (List ℕ))
         → IsSortedMap text_cmp k → value_at text_cmp k key ≡ Some value
         → with_value (without_key k key) key value ≡ k }
+{}
+
+/// What is read of pieces is spelled by a text of them, and nothing else is.
+pub fn pieces_are_read()
+    ensures sound { (ps : List (List ℕ)) (x : LanguageIdentifier) → read_pieces ps ≡ Ok x
+        → IsIdentifier x × ((t : List ℕ) × ((pieces t ≡ ps) × Spells t x)) }
+    ensures complete { (t : List ℕ) (x : LanguageIdentifier) → IsIdentifier x → Spells t x
+        → read_pieces (pieces t) ≡ Ok x }
 {}

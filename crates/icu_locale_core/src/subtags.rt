@@ -1,6 +1,7 @@
 //! Subtags: language, script, region and variant of an identifier, and key and piece of a keyword.
 ghost use Rattle.std.specs.Prelude.{◌≡◌, ◌↔◌, ◌≤◌, ◌+◌, ◌++◌, codes, take, IsTrue, IsOk, IfOk, IfErr, IfSome, is_some, Some, true, List, ℕ, length};
 ghost use Rattle.std.specs.Char.{is_ascii_alphabetic, is_ascii_digit, to_ascii_lowercase, to_ascii_uppercase};
+ghost use Rattle.icu_locale_core.specs.Cuts.{optional_subtag, after_optional_subtag};
 ghost use Rattle.icu_locale_core.specs.Subtag.{
   is_language,
   is_script,
@@ -26,6 +27,7 @@ ghost use Rattle.icu_locale_core.specs.Subtag.{
 
 use crate::ParseError;
 use crate::classes::Class;
+use crate::pieces::Pieces;
 use crate::tiny::TinyText;
 use std::fmt;
 use std::marker::Model;
@@ -390,6 +392,17 @@ impl Key {
         Some(Key(TinyText::read(Class::Key, text)?))
     }
 
+    /// Takes the first of pieces where it is one, in any case, and else nothing.
+    #[inline]
+    pub fn next_of(pieces: &mut Pieces<'_>) -> Option<Self>
+        ensures read { result ≡ optional_subtag is_key lowercase pieces.old }
+        ensures rest { pieces.new ≡ after_optional_subtag is_key pieces.old }
+    {
+        let piece = Key::try_from_bytes(pieces.peek()?)?;
+        let _ = pieces.next();
+        Some(piece)
+    }
+
     /// The text in its written case.
     pub fn as_str(&self) -> &str
         ensures text { result.now ≡ self.now }
@@ -449,6 +462,17 @@ impl Subtag {
         ensures accepted { is_some result ≡ is_subtag text.now }
     {
         Some(Subtag(TinyText::read(Class::Subtag, text)?))
+    }
+
+    /// Takes the first of pieces where it is one, in any case, and else nothing.
+    #[inline]
+    pub fn next_of(pieces: &mut Pieces<'_>) -> Option<Self>
+        ensures read { result ≡ optional_subtag is_subtag lowercase pieces.old }
+        ensures rest { pieces.new ≡ after_optional_subtag is_subtag pieces.old }
+    {
+        let piece = Subtag::try_from_bytes(pieces.peek()?)?;
+        let _ = pieces.next();
+        Some(piece)
     }
 
     /// The text in its written case.

@@ -1,5 +1,5 @@
 //! Values of keywords.
-ghost use Rattle.std.specs.Prelude.{◌≡◌, ◌≢◌, ◌++◌, ◌∷◌, [], false, filter, not, codes, ◌==◌, Some, Err, IsOk, IfOk, IfErr, nat_eq, List, ℕ};
+ghost use Rattle.std.specs.Prelude.{OnOk, ◌≡◌, ◌≢◌, ◌++◌, ◌∷◌, [], false, filter, not, codes, ◌==◌, Some, Err, IsOk, IfOk, IfErr, nat_eq, List, ℕ};
 ghost use Rattle.std.proofs.Common.{rules};
 ghost use Rattle.std.specs.Cmp.{partial_order_from_own_ties};
 ghost use Rattle.std.specs.Cmp.Lexicographic.{pointwise, slice_cmp};
@@ -10,6 +10,7 @@ ghost use Rattle.std.specs.Ordering.{as_partial_cmp};
 ghost use Rattle.icu_locale_core.specs.Subtag.{is_subtag};
 ghost use Rattle.icu_locale_core.specs.TextSet.{text_cmp};
 ghost use Rattle.icu_locale_core.specs.Value.{IsValue, ReadsValue, read_subtags, is_true, only_piece, written_value};
+ghost use Rattle.icu_locale_core.specs.Cuts.{front, from, other_than};
 ghost use Rattle.icu_locale_core.specs.inner.Values.{pieces_kept};
 ghost use Rattle.icu_locale_core.specs.laws.TextSets.{piece_lists_ties};
 
@@ -75,6 +76,29 @@ impl Value {
             return Err(ParseError::InvalidSubtag);
         }
         Ok(Value::of_list(read_subtags(alloc, Pieces::new(text))?))
+    }
+
+    /// Reads the value at the front of pieces, and leaves the first piece that is none of it.
+    ///
+    /// # Errors
+    ///
+    /// `Memory` where the list of pieces could not grow.
+    pub fn read_front(alloc: Global, pieces: &mut Pieces<'_>) -> Result<Self, ParseError>
+        ensures read { IfOk result (λ v. v ≡ read_subtags (front (other_than is_subtag) pieces.old)) }
+        ensures rest { OnOk result (pieces.new ≡ from (other_than is_subtag) pieces.old) }
+        ensures refused { IfErr result (λ e. e ≡ ParseError.Memory) }
+    {
+        let Some(first) = Subtag::next_of(pieces) else {
+            return Ok(Value::of_list(Vec::new(alloc)));
+        };
+        let Some(second) = Subtag::next_of(pieces) else {
+            return Ok(Value::of_piece(alloc, first));
+        };
+        let mut list = Vec::new(alloc);
+        push_kept(&mut list, first)?;
+        push_kept(&mut list, second)?;
+        push_front(&mut list, pieces)?;
+        Ok(Value::of_list(list))
     }
 
     // The value of one piece, which is dropped where it is `true`.
@@ -251,4 +275,31 @@ fn read_subtags(alloc: Global, pieces: Pieces<'_>) -> Result<Vec<Subtag>, ParseE
         }
     }
     Ok(list)
+}
+
+// Puts a piece behind a list, if it is not `true`.
+fn push_kept(list: &mut Vec<Subtag>, piece: Subtag) -> Result<(), ParseError>
+    ensures pushed { OnOk result (list.new.items
+        ≡ list.old.items ++ filter (λ p. not (is_true p)) (piece ∷ [])) }
+    ensures known { OnOk result (IsValue list.old.items → IsValue list.new.items) }
+    ensures refused { IfErr result (λ e. e ≡ ParseError.Memory) }
+{
+    if piece.as_str() != "true" {
+        list.push(piece)?;
+    }
+    Ok(())
+}
+
+// Puts the front of pieces that may stand in a value behind a list.
+fn push_front(list: &mut Vec<Subtag>, pieces: &mut Pieces<'_>) -> Result<(), ParseError>
+    ensures pushed { OnOk result (list.new.items
+        ≡ list.old.items ++ read_subtags (front (other_than is_subtag) pieces.old)) }
+    ensures known { OnOk result (IsValue list.old.items → IsValue list.new.items) }
+    ensures rest { OnOk result (pieces.new ≡ from (other_than is_subtag) pieces.old) }
+    ensures refused { IfErr result (λ e. e ≡ ParseError.Memory) }
+{
+    'pieces: while let Some(piece) = Subtag::next_of(pieces) {
+        push_kept(list, piece)?;
+    }
+    Ok(())
 }
