@@ -1,11 +1,11 @@
 //! Identifiers: a language, a script, a region and variants.
-ghost use Rattle.std.specs.Prelude.{◌≡◌, ◌⊎◌, ◌≤◌, ◌++◌, codes, take, length, true, Some, Err, IsOk, IfOk, IfErr, OnOk, OnErr};
+ghost use Rattle.std.specs.Prelude.{◌≡◌, ◌⊎◌, ◌≤◌, ◌++◌, codes, take, length, slice_index_or, [], true, Some, Err, IsOk, IfOk, IfErr, OnOk, OnErr};
 ghost use Rattle.std.specs.Fmt.{WritesOnOk};
 ghost use Rattle.std.specs.List.{flat_map, list_any};
 ghost use Rattle.std.specs.Str.{IsUtf8};
 ghost use Rattle.icu_locale_core.specs.Identifier.{IsIdentifier, ReadsIdentifier, written};
 ghost use Rattle.icu_locale_core.specs.Readings.{read_front, after_front, front_variants};
-ghost use Rattle.icu_locale_core.specs.Subtag.{is_variant};
+ghost use Rattle.icu_locale_core.specs.Subtag.{is_language, is_variant};
 ghost use Rattle.icu_locale_core.specs.TextSet.{rising, empty};
 ghost use Rattle.icu_locale_core.specs.inner.Identifiers.{head};
 
@@ -56,10 +56,19 @@ impl LanguageIdentifier {
         read_identifier(alloc, Pieces::new(text))
     }
 
-    /// Reads the identifier at the front of pieces, and leaves the first that is none of it.
+    /// Reads the identifier at the front of pieces, and leaves the first that is none of it. It takes memory
+    /// for variants alone.
+    ///
+    /// # Errors
+    ///
+    /// - `InvalidLanguage` exactly where the first piece is no language.
+    /// - `InvalidSubtag` where a variant comes twice.
+    /// - `Memory` only where there is a variant, and never in place of `InvalidLanguage`.
     pub fn read_front(alloc: Global, pieces: &mut Pieces<'_>) -> Result<Self, ParseError>
         ensures read { (result ≡ Err ParseError.Memory) ⊎ (result ≡ read_front pieces.old) }
         ensures rest { OnOk result (pieces.new ≡ after_front pieces.old) }
+        ensures language { result ≡ Err ParseError.Memory
+            → is_language (slice_index_or pieces.old 0 []) ≡ true }
         ensures memory { result ≡ Err ParseError.Memory
             → list_any is_variant (front_variants pieces.old) ≡ true }
     {

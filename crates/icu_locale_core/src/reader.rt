@@ -77,6 +77,8 @@ fn read_variants(alloc: Global, pieces: Pieces<'_>) -> Result<Variants, ParseErr
 pub fn read_front(alloc: Global, pieces: &mut Pieces<'_>) -> Result<LanguageIdentifier, ParseError>
     ensures read { (result ≡ Err ParseError.Memory) ⊎ (result ≡ read_front pieces.old) }
     ensures rest { OnOk result (pieces.new ≡ after_front pieces.old) }
+    ensures language { result ≡ Err ParseError.Memory
+        → is_language (slice_index_or pieces.old 0 []) ≡ true }
     ensures memory { result ≡ Err ParseError.Memory
         → list_any is_variant (front_variants pieces.old) ≡ true }
 {
@@ -98,6 +100,7 @@ pub fn read_front(alloc: Global, pieces: &mut Pieces<'_>) -> Result<LanguageIden
 fn next_language(pieces: &mut Pieces<'_>) -> Option<Language>
     ensures read { MatchOption result (read_front pieces.old ≡ Err ParseError.InvalidLanguage)
         (λ l. read_front pieces.old ≡ read_after l pieces.new) }
+    ensures language { IfSome result (λ l. is_language (slice_index_or pieces.old 0 []) ≡ true) }
     ensures rest { IfSome result (λ l. after_front pieces.old
         ≡ from (other_than is_variant) (after_head pieces.new)) }
     ensures variants { IfSome result (λ l. front_variants pieces.old

@@ -33,7 +33,7 @@ use Rattle.icu_locale_extensions.proofs.Unmarked.{blocks-pieces_rows, flat-appen
 abbrev Whole : List ℕ → Type 0
 Whole t = All (λ c. is_separator c ≡ false) t
 
-whole_plain : (t : List ℕ) → is_alphanumeric t ≡ true → Whole t
+pub whole_plain : (t : List ℕ) → is_alphanumeric t ≡ true → Whole t
 whole_plain [] h = All-nil (λ c. is_separator c ≡ false)
 whole_plain (c ∷ t) h =
     let here : is_separator c ≡ false = grind (arith, nat_tests) in

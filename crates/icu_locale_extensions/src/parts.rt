@@ -79,7 +79,7 @@ fn read_value(alloc: Global, text: Option<&[u8]>) -> Result<Value, ParseError>
 }
 
 // Puts a value at a key, where there is none yet.
-fn add_keyword(keywords: &mut Keywords, key: Key, value: Value) -> Result<(), ParseError>
+pub fn add_keyword(keywords: &mut Keywords, key: Key, value: Value) -> Result<(), ParseError>
     ensures added { OnOk result (HaveFirstOf keywords.new (keywords.old ++ (key, value) ∷ [])) }
     ensures refused { IfErr result (λ e. e ≡ ParseError.Memory) }
 {

@@ -1,5 +1,5 @@
 //! The pieces of a field, of another extension and of private use.
-ghost use Rattle.std.specs.Prelude.{◌≡◌, ◌++◌, codes, true, map, Some, IfOk, IfErr, IsOk, List, ℕ, nat_eq};
+ghost use Rattle.std.specs.Prelude.{◌≡◌, ◌++◌, codes, true, false, map, Err, OnOk, MatchOption, None, Some, IfOk, IfErr, IsOk, List, ℕ, nat_eq};
 ghost use Rattle.std.proofs.Common.{rules};
 ghost use Rattle.std.specs.Cmp.{partial_order_from_own_ties};
 ghost use Rattle.std.specs.Cmp.Lexicographic.{pointwise, slice_cmp};
@@ -8,11 +8,13 @@ ghost use Rattle.std.specs.Fmt.{WritesOnOk};
 ghost use Rattle.std.specs.List.{list_all};
 ghost use Rattle.std.specs.Ordering.{as_partial_cmp};
 ghost use Rattle.icu_locale_core.specs.Identifier.{pieces};
-ghost use Rattle.icu_locale_core.specs.Subtag.{is_alphanumeric};
+ghost use Rattle.icu_locale_core.specs.Cuts.{front, from, other_than, optional_subtag, after_optional_subtag};
+ghost use Rattle.icu_locale_core.specs.Subtag.{is_alphanumeric, lowercase};
 ghost use Rattle.icu_locale_core.specs.TextSet.{text_cmp};
 ghost use Rattle.icu_locale_core.specs.Value.{written_value};
 ghost use Rattle.icu_locale_core.specs.laws.TextSets.{piece_lists_ties};
-ghost use Rattle.icu_locale_extensions.specs.Extensions.{is_piece, are_pieces, ArePieces, ReadsPieces};
+ghost use Rattle.icu_locale_extensions.specs.Extensions.{any_piece, is_piece, are_pieces, ArePieces, ReadsPieces};
+ghost use Rattle.icu_locale_extensions.specs.Rows.{dashed};
 ghost use Rattle.icu_locale_extensions.specs.inner.Texts.{IsPiecesText, spelled};
 
 use icu_locale_core::{ParseError, Pieces};
@@ -64,6 +66,29 @@ impl<const LOW: usize> Subtags<LOW> {
         Ok(Subtags {
             text: lowered(alloc, text)?,
         })
+    }
+
+    /// Reads the front of pieces that may be there, at least one, and leaves the first that may not.
+    ///
+    /// # Errors
+    ///
+    /// - `InvalidSubtag` exactly where there is none.
+    /// - `Memory` where the text could not grow.
+    pub fn read_front(alloc: Global, pieces: &mut Pieces<'_>) -> Result<Self, ParseError>
+        ensures read { IfOk result (λ ps. ps ≡ map lowercase (front (other_than (is_piece LOW)) pieces.old)) }
+        ensures rest { OnOk result (pieces.new ≡ from (other_than (is_piece LOW)) pieces.old) }
+        ensures some { IsOk result → any_piece (front (other_than (is_piece LOW)) pieces.old) ≡ true }
+        ensures refused { result ≡ Err ParseError.InvalidSubtag
+            → any_piece (front (other_than (is_piece LOW)) pieces.old) ≡ false }
+        ensures language { ¬ (result ≡ Err ParseError.InvalidLanguage) }
+    {
+        let Some(first) = next_piece(pieces, LOW) else {
+            return Err(ParseError::InvalidSubtag);
+        };
+        let mut text = Vec::new(alloc);
+        push_lower(&mut text, first)?;
+        push_front(&mut text, pieces, LOW)?;
+        Ok(Subtags { text })
     }
 
     /// The pieces with `-` between them. It takes no memory.
@@ -212,6 +237,44 @@ pub(crate) fn is_alphanumeric(piece: &[u8]) -> bool
         }
     }
     true
+}
+
+// The next piece, if it may stand there.
+fn next_piece<'a>(pieces: &mut Pieces<'a>, low: usize) -> Option<&'a [u8]>
+    ensures read { MatchOption result (optional_subtag (is_piece low) lowercase pieces.old ≡ None)
+        (λ p. optional_subtag (is_piece low) lowercase pieces.old ≡ Some (lowercase p.now)) }
+    ensures rest { pieces.new ≡ after_optional_subtag (is_piece low) pieces.old }
+{
+    let piece = pieces.peek()?;
+    if !is_piece(piece, low) {
+        return None;
+    }
+    pieces.next()
+}
+
+// Puts a piece in lower case behind a text.
+fn push_lower(text: &mut Vec<u8>, piece: &[u8]) -> Result<(), ParseError>
+    ensures appended { OnOk result (text.new.items ≡ text.old.items ++ lowercase piece.now) }
+    ensures refused { IfErr result (λ e. e ≡ ParseError.Memory) }
+{
+    for byte in piece {
+        text.push(byte.to_ascii_lowercase())?;
+    }
+    Ok(())
+}
+
+// Puts each piece of the front in lower case behind a text, with `-` before it.
+fn push_front(text: &mut Vec<u8>, pieces: &mut Pieces<'_>, low: usize) -> Result<(), ParseError>
+    ensures appended { OnOk result (text.new.items ≡ text.old.items
+        ++ dashed (map lowercase (front (other_than (is_piece low)) pieces.old))) }
+    ensures rest { OnOk result (pieces.new ≡ from (other_than (is_piece low)) pieces.old) }
+    ensures refused { IfErr result (λ e. e ≡ ParseError.Memory) }
+{
+    'pieces: while let Some(piece) = next_piece(pieces, low) {
+        text.push(b'-')?;
+        push_lower(text, piece)?;
+    }
+    Ok(())
 }
 
 // A text in lower case, with `-` for each separator.
