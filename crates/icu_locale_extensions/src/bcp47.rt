@@ -6,12 +6,13 @@ ghost use Rattle.icu_locale_extensions.specs.Reads.{ReadsLocale};
 ghost use Rattle.icu_locale_extensions.specs.Syntaxes.{is_extended, is_private, tag_text, ReadsBy};
 ghost use Rattle.icu_locale_extensions.specs.inner.Lent.{pieces_of};
 
-use crate::blocks::{cut, is_named};
+use crate::cuts::{cut, is_named};
 use crate::identifier::LocaleIdentifier;
+use crate::laws;
 use crate::legacy::preferred;
-use crate::reader::{read_front, read_locale, read_private_use};
+use crate::reader::{read_behind, read_identifier, read_locale};
 use crate::syntax::Syntax;
-use icu_locale_core::ParseError;
+use icu_locale_core::{ParseError, Pieces};
 use std::alloc::Global;
 
 impl LocaleIdentifier {
@@ -54,12 +55,10 @@ fn read_private(alloc: Global, text: &[u8]) -> Result<LocaleIdentifier, ParseErr
     requires { is_private (pieces text.now) ≡ true }
     ensures { ReadsLocale (codes "und-" ++ text.now) result }
 {
-    let id = read_front(alloc, Some(b"und"))?;
-    let private_use = read_private_use(alloc, Some(text))?;
-    let mut whole = LocaleIdentifier::new(alloc, id);
-    whole.private_use = private_use;
-    whole.known();
-    Ok(whole)
+    icu_locale_core::laws::pieces_are_read();
+    laws::spelled_once();
+    let id = read_identifier(alloc, &mut Pieces::new(b"und"))?;
+    read_behind(alloc, id, Pieces::new(text))
 }
 
 // A tag of an extended language without its first piece.

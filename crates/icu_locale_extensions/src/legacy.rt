@@ -8,7 +8,7 @@ ghost use Rattle.icu_locale_extensions.specs.Syntaxes.{preferred, same_pieces, v
 ghost use Rattle.icu_locale_extensions.specs.inner.Lent.{pieces_of};
 ghost use Rattle.icu_locale_extensions.specs.inner.Tables.{rows_of};
 
-use crate::blocks::is_named;
+use crate::cuts::is_named;
 use crate::texts::spelled;
 
 // What follows the first piece of each legacy tag, and the value preferred to the tag.

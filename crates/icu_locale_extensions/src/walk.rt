@@ -1,5 +1,5 @@
 //! The extensions of an identifier, read from the left: each singleton with what is its own, up to `x` or the end.
-ghost use Rattle.std.specs.Prelude.{◌||◌, ◌≡◌, map, IsOk, IfSome, Option, ◌∷◌, [], true, false, IfOk, OnOk, Err, MatchOption, List, ℕ};
+ghost use Rattle.std.specs.Prelude.{◌||◌, ◌≡◌, map, IsOk, IfSome, Option, None, unwrap_or, ◌∷◌, [], true, false, IfOk, OnOk, Err, MatchOption, List, ℕ};
 ghost use Rattle.std.specs.List.{list_any, list_all};
 ghost use Rattle.icu_locale_extensions.specs.Cuts.{front, from, blocks, other_than, optional_subtag, after_optional_subtag};
 ghost use Rattle.icu_locale_extensions.specs.Extensions.{is_singleton, is_x, is_u, is_t, is_tkey, is_tfield, is_piece, any_piece};
@@ -17,12 +17,16 @@ ghost use Rattle.icu_locale_extensions.specs.inner.Walks.{SpellWalked, Adds, IsN
 ghost use Rattle.icu_locale_extensions.specs.declared.walk.Walked.{Walked};
 
 use crate::attributes::Attributes;
-use crate::blocks::is_named;
+use crate::cuts::is_named;
 use crate::fields::{FieldKey, Fields};
+use crate::identifier::LocaleIdentifier;
 use crate::others::{Others, Singleton};
 use crate::texts::Subtags;
 use crate::unicode::{at_singleton, take_unicode};
-use icu_locale_core::{Keywords, LanguageIdentifier, ParseError, Pieces, laws};
+use icu_locale_core::laws;
+use icu_locale_core::{
+    Extensions, Keywords, LanguageIdentifier, Locale, ParseError, Pieces, Transform, Unicode,
+};
 use std::alloc::Global;
 
 // What was read of extensions.
@@ -40,6 +44,67 @@ impl Drop for Walked {
             transform: _,
             others: _,
         } = self;
+    }
+}
+
+impl Walked {
+    // A locale identifier of these extensions, an identifier and private use.
+    pub fn joined(
+        self,
+        alloc: Global,
+        id: LanguageIdentifier,
+        private_use: Option<Subtags<1>>,
+    ) -> LocaleIdentifier
+        ensures id { result.locale.id ≡ id }
+        ensures unicode { (result.attributes, result.locale.extensions.unicode.keywords)
+            ≡ unwrap_or self.unicode ([], []) }
+        ensures transform { (result.locale.extensions.transform.lang, result.fields)
+            ≡ unwrap_or self.transform (None, []) }
+        ensures others { result.others ≡ self.others }
+        ensures private_use { result.private_use ≡ private_use }
+    {
+        let Walked {
+            unicode,
+            transform,
+            others,
+        } = self;
+        let (attributes, keywords) = unicode_or_none(alloc, unicode);
+        let (lang, fields) = transform_or_none(alloc, transform);
+        let extensions = Extensions {
+            unicode: Unicode { keywords },
+            transform: Transform { lang },
+        };
+        LocaleIdentifier {
+            locale: Locale { id, extensions },
+            attributes,
+            fields,
+            others,
+            private_use,
+        }
+    }
+}
+
+fn unicode_or_none(
+    alloc: Global,
+    parts: Option<(Attributes, Keywords)>,
+) -> (Attributes, Keywords)
+    ensures { result ≡ unwrap_or parts ([], []) }
+{
+    match parts {
+        Some(parts) => parts,
+        None => (Attributes::new(alloc), Keywords::new(alloc)),
+    }
+}
+
+fn transform_or_none(
+    alloc: Global,
+    parts: Option<(Option<LanguageIdentifier>, Fields)>,
+) -> (Option<LanguageIdentifier>, Fields)
+    ensures { result ≡ unwrap_or parts (None, []) }
+{
+    match parts {
+        Some(parts) => parts,
+        None => (None, Fields::new(alloc)),
     }
 }
 

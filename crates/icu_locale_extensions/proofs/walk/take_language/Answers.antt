@@ -5,7 +5,8 @@ use Rattle.icu_locale_core.specs.Readings.{read_pieces, read_front, after_front}
 use Rattle.icu_locale_extensions.specs.Cuts.{front}
 use Rattle.icu_locale_extensions.specs.inner.Marks.{begins_at_mark}
 use Rattle.icu_locale_extensions.specs.inner.Takes.{ends_language}
-use Rattle.icu_locale_extensions.proofs.LanguageTaken.{language_rest, language_read, language_fails, language_refused, language_found, language_variants}
+use Rattle.icu_locale_extensions.proofs.IdentifiersTaken.{front_rest, front_read, front_none}
+use Rattle.icu_locale_extensions.proofs.LanguageTaken.{ends_languages, language_refused, language_found, language_variants}
 use Rattle.icu_locale_extensions.proofs.ReadParts.{same_err}
 use Rattle.icu_locale_extensions.proofs.walk.take_language.Goals as goal
 
@@ -20,8 +21,8 @@ returns-in_err-lang-clause-refused c is =
   where
     by : (ps : List (List ℕ)) (x : LanguageIdentifier) → begins_at_mark ends_language ps ≡ false → (h : Bool) → begins_at_mark ends_language (after_front ps) ≡ h
         → (read_front ps ≡ Ok x → ⊥) → read_pieces (front ends_language ps) ≡ Ok x → ⊥
-    by ps x some true ends fails read = fails (sym (language_read ps some ends) ∙ read)
-    by ps x some false ends fails read = language_fails ps x some ends read
+    by ps x some true ends fails read = fails (sym (front_read ends_language ends_languages ps ends) ∙ read)
+    by ps x some false ends fails read = front_none ends_language ends_languages ps x ends read
 
 pub returns-in_err-lang-clause-memory : goal.returns-in_err-lang-clause-memory
 returns-in_err-lang-clause-memory c is =
@@ -34,17 +35,17 @@ pub returns-then-not-at_language_end-clause-refused : goal.returns-then-not-at_l
 returns-then-not-at_language_end-clause-refused c is =
     let some = sym c.at_language_end.ensures ∙ c.if-at_language_end.false in
     let ends = ap (begins_at_mark ends_language) (sym c.in_ok-lang.ensures.rest) ∙ sym c.at_language_end-2.ensures ∙ c.if-not-at_language_end.true in
-    language_refused c.pieces_are_read.ensures.complete c.args.pieces.now some (λ x read. language_fails c.args.pieces.now x some ends read)
+    language_refused c.pieces_are_read.ensures.complete c.args.pieces.now some (λ x read. front_none ends_language ends_languages c.args.pieces.now x ends read)
 
 pub returns-clause-found : goal.returns-clause-found
 returns-clause-found c =
     let some = sym c.at_language_end.ensures ∙ c.if-at_language_end.false in
     let ends = ap (begins_at_mark ends_language) (sym c.in_ok-lang.ensures.rest) ∙ sym c.at_language_end-2.ensures ∙ c.if-not-at_language_end.false in
     language_found c.pieces_are_read.ensures.sound c.args.pieces.now c.in_ok-lang.lang
-    (language_read c.args.pieces.now some ends ∙ c.in_ok-lang.ensures.read)
+    (front_read ends_language ends_languages c.args.pieces.now ends ∙ c.in_ok-lang.ensures.read)
 
 pub returns-clause-rest : goal.returns-clause-rest
 returns-clause-rest c =
     let some = sym c.at_language_end.ensures ∙ c.if-at_language_end.false in
     let ends = ap (begins_at_mark ends_language) (sym c.in_ok-lang.ensures.rest) ∙ sym c.at_language_end-2.ensures ∙ c.if-not-at_language_end.false in
-    c.in_ok-lang.ensures.rest ∙ language_rest c.args.pieces.now some ends
+    c.in_ok-lang.ensures.rest ∙ front_rest ends_language ends_languages c.args.pieces.now some ends

@@ -3,8 +3,7 @@ use Rattle.std.proofs.lemmas.List.{drop-drop}
 use Rattle.icu_locale_core.specs.Identifier.{is_separator, pieces}
 use Rattle.icu_locale_core.specs.laws.Cuts.{slice_split-position, slice_split-no_position}
 use Rattle.icu_locale_extensions.proofs.Names.{after_some}
-use Rattle.icu_locale_extensions.proofs.Separators.{one_before, parted_at}
-use Rattle.icu_locale_extensions.proofs.blocks.cut.Goals as goal
+use Rattle.icu_locale_extensions.proofs.cuts.cut.Goals as goal
 
 pub returns-in-Some : goal.returns-in-Some
 returns-in-Some c =
@@ -15,14 +14,8 @@ returns-in-Some c =
       pieces = slice_split-position is_separator text place at
           ∙ rw (c.split_at.ensures.front, c.split_at-in-Some.ensures.back, c.split_at.ensures.back)
           (ap (λ r. take place text ∷ pieces r) (sym (drop-drop 1 place text)));
-      one = rw c.split_at.ensures.front (one_before is_separator text place at);
-      place = rw (c.split_at.ensures.front, c.split_at-in-Some.ensures.back, c.split_at.ensures.back, drop-drop 1 place text)
-          (parted_at is_separator text place at);
       behind = rw (c.split_at-in-Some.ensures.back, c.split_at.ensures.back, drop-drop 1 place text) (after_some is_separator text place at);
     }
 
 pub returns-in-None-clause-pieces : goal.returns-in-None-clause-pieces
 returns-in-None-clause-pieces c = slice_split-no_position is_separator c.args.text.now (sym c.in-None.ensures)
-
-pub returns-in-None-clause-one : goal.returns-in-None-clause-one
-returns-in-None-clause-one c = slice_split-no_position is_separator c.args.text.now (sym c.in-None.ensures)

@@ -1,7 +1,7 @@
 use Rattle.std.proofs.Common.{not, ap, sym, subst, ◌∙◌, IsSome}
 use Rattle.icu_locale_extensions.proofs.Firsts.{absent, present}
 use Rattle.icu_locale_extensions.proofs.Marks.{first_is_new, first_is_there}
-use Rattle.icu_locale_extensions.proofs.parts.add_keyword.Goals as goal
+use Rattle.icu_locale_extensions.proofs.unicode.add_keyword.Goals as goal
 
 pub returns-in_ok-set-clause-added : goal.returns-in_ok-set-clause-added
 returns-in_ok-set-clause-added c =

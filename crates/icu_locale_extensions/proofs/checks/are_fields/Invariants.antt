@@ -1,7 +1,0 @@
-use Rattle.std.proofs.Common.{◌≡◌}
-use Rattle.std.specs.List.{list_all}
-use Rattle.icu_locale_extensions.specs.Extensions.{is_tfield}
-use Rattle.icu_locale_extensions.proofs.checks.are_fields.Given as goal
-
-abbrev pub invariant-loop-block : goal.invariant-loop-block
-invariant-loop-block l = list_all is_tfield l.fn.blocks ≡ list_all is_tfield l.block-iterator
