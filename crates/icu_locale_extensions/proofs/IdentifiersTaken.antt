@@ -1,18 +1,15 @@
 -- An identifier, taken from the left up to a piece that is none of it.
 use Rattle.std.specs.Prelude.{◌≡◌, ℕ, Bool, true, false, not, ◌||◌, ◌&&◌, ◌==◌, List, [], ◌∷◌, length, map, Option, Some, None, Result, Ok, Err, slice_index_or, if◌then◌else◌}
 use Rattle.std.proofs.Common.{refl, ap, sym, ◌∙◌}
-use Rattle.std.specs.List.{list_all, list_any}
+use Rattle.std.specs.List.{list_any}
 use Rattle.std.proofs.lemmas.Bool.{false≢true, or_right}
-use Rattle.icu_locale_core.specs.Identifier.{IsIdentifier, pieces}
-use Rattle.icu_locale_core.specs.Identifier as core
 use Rattle.icu_locale_core.specs.Readings.{are_variants, read_variants, with_variants, read_rest, read_pieces, read_after, read_front, after_head, after_front, front_variants}
 use Rattle.icu_locale_core.specs.Subtag.{is_language, is_script, is_region, is_variant, lowercase, titlecase, uppercase}
-use Rattle.icu_locale_core.specs.TextSet.{TextSet, from_list, len}
+use Rattle.icu_locale_core.specs.TextSet.{from_list, len}
 use Rattle.icu_locale_core.specs.declared.langid.LanguageIdentifier.{LanguageIdentifier}
 use Rattle.icu_locale_core.specs.declared.parse_error.ParseError.{ParseError}
 use Rattle.icu_locale_core.specs.declared.parse_error.ParseError.TheVariants.{InvalidLanguage, InvalidSubtag}
 use Rattle.icu_locale_extensions.specs.Cuts.{front, from, other_than, optional_subtag, after_optional_subtag}
-use Rattle.icu_locale_extensions.specs.Reads.{SpellIdentifier}
 use Rattle.icu_locale_extensions.specs.inner.Marks.{begins_at_mark}
 use Rattle.icu_locale_extensions.proofs.Taken.{each-cut, front-cut, from-cut}
 

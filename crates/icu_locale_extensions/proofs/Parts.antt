@@ -1,5 +1,5 @@
 -- The parts of a locale identifier, put together.
-use Rattle.std.specs.Prelude.{◌≡◌, ℕ, true, ◌||◌, List, [], Option, Some, None, IfSome, Ok, unwrap_or}
+use Rattle.std.specs.Prelude.{◌≡◌, ℕ, List, [], Option, Some, None, Ok, unwrap_or}
 use Rattle.std.proofs.Common.{refl, ap, sym, subst, ◌∙◌}
 use Rattle.icu_locale_core.specs.Identifier.{IsIdentifier}
 use Rattle.icu_locale_core.specs.Keywords.{KeywordRows}
@@ -71,16 +71,22 @@ walked_spelled ps x known s = record {
 
 bare_read : (id : LanguageIdentifier) → IsIdentifier id → ReadsBehind [] id (Ok (bare id))
 bare_read id known = record {
-  found = (bare_is id known, (refl, record {
-    each = refl;
-    once = refl;
-    parts = record {
-      unicode = record { set = sym rising_none; rows = λ q. refl };
-      transform = record { language = refl; rows = λ q. refl };
-      others = λ q. refl;
-      private_use = refl;
-    };
-  }));
+  found = (
+    bare_is id known,
+    (
+      refl,
+      record {
+        each = refl;
+        once = refl;
+        parts = record {
+          unicode = record { set = sym rising_none; rows = λ q. refl };
+          transform = record { language = refl; rows = λ q. refl };
+          others = λ q. refl;
+          private_use = refl;
+        };
+      },
+    ),
+  );
   refused = λ e. absurd (cc e);
   language = λ e. absurd (cc e);
   memory = λ e. absurd (cc e);

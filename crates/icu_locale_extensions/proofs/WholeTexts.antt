@@ -12,7 +12,7 @@ use Rattle.icu_locale_core.specs.declared.langid.LanguageIdentifier.{LanguageIde
 use Rattle.icu_locale_core.specs.declared.parse_error.ParseError.{ParseError}
 use Rattle.icu_locale_core.specs.declared.parse_error.ParseError.TheVariants.{InvalidLanguage, InvalidSubtag, Memory}
 use Rattle.icu_locale_extensions.specs.Blocks.{are_once}
-use Rattle.icu_locale_extensions.specs.Cuts.{Block, front, from, blocks}
+use Rattle.icu_locale_extensions.specs.Cuts.{front, from, blocks}
 use Rattle.icu_locale_extensions.specs.Extensions.{any_piece, is_singleton, is_x, is_extension}
 use Rattle.icu_locale_extensions.specs.Locales.{IsLocaleIdentifier}
 use Rattle.icu_locale_extensions.specs.Reads.{is_kept, identifier_pieces, extensions, private_pieces, ReadsLocale, SpellIdentifier, SpellParts, Spells}

@@ -23,9 +23,8 @@ use crate::identifier::LocaleIdentifier;
 use crate::others::{Others, Singleton};
 use crate::texts::Subtags;
 use crate::unicode::{at_singleton, take_unicode};
-use icu_locale_core::laws;
 use icu_locale_core::{
-    Extensions, Keywords, LanguageIdentifier, Locale, ParseError, Pieces, Transform, Unicode,
+    Extensions, Keywords, LanguageIdentifier, Locale, ParseError, Pieces, Transform, Unicode, laws,
 };
 use std::alloc::Global;
 
@@ -84,10 +83,7 @@ impl Walked {
     }
 }
 
-fn unicode_or_none(
-    alloc: Global,
-    parts: Option<(Attributes, Keywords)>,
-) -> (Attributes, Keywords)
+fn unicode_or_none(alloc: Global, parts: Option<(Attributes, Keywords)>) -> (Attributes, Keywords)
     ensures { result ≡ unwrap_or parts ([], []) }
 {
     match parts {

@@ -1,10 +1,6 @@
-use Rattle.std.proofs.Common.{subst, sym, ap, ◌∙◌}
-use Rattle.icu_locale_core.specs.Identifier.{pieces}
-use Rattle.icu_locale_extensions.specs.Extensions.{is_singleton}
+use Rattle.std.proofs.Common.{subst, sym, ◌∙◌}
 use Rattle.icu_locale_extensions.specs.Reads.{ReadsLocale}
-use Rattle.icu_locale_extensions.specs.inner.Marks.{begins_at_mark}
-use Rattle.icu_locale_extensions.specs.inner.Readings.{ReadsBehind}
-use Rattle.icu_locale_extensions.proofs.PrivateTags.{private_begins, private_left, und_read, whole}
+use Rattle.icu_locale_extensions.proofs.PrivateTags.{private_left, und_read, whole}
 use Rattle.icu_locale_extensions.proofs.ReadParts.{same_err}
 use Rattle.icu_locale_extensions.proofs.WholeTexts.{front_refused, whole_read}
 use Rattle.icu_locale_extensions.proofs.bcp47.read_private.Goals as goal

@@ -1,5 +1,4 @@
-use Rattle.std.proofs.Common.{Err, true, false, ap, sym, ◌∙◌, ◌≡◌}
-use Rattle.std.proofs.lemmas.Bool.{false≢true}
+use Rattle.std.proofs.Common.{Err, true, ap, sym, ◌∙◌, ◌≡◌}
 use Rattle.icu_locale_core.specs.declared.parse_error.ParseError.TheVariants.{InvalidSubtag}
 use Rattle.icu_locale_extensions.specs.Extensions.{any_piece, is_x}
 use Rattle.icu_locale_extensions.specs.inner.Marks.{begins_at_mark}
@@ -21,7 +20,9 @@ returns-then-is_some-clause-refused c is =
 
 pub returns-clause-found : goal.returns-clause-found
 returns-clause-found c =
-    let mark : is_x c.in-Some.field-0.now ≡ true = sym (ap (begins_at_mark is_x) c.in-Some.ensures.steps) ∙ c.requires in
-    (c.as_str.ensures.known, private_spelled c.args.pieces.now c.in-Some.field-0.now c.next.new.self c.in-Some.ensures.steps
-    c.in_ok-value.value mark c.in_ok-value.ensures.read
-    (sym c.in_ok-value.ensures.rest ∙ peeked_none c.peek.result c.read_front.new.pieces c.peek.ensures (sym c.is_some.ensures ∙ c.if-is_some.false)))
+    let mark : is_x c.in-Some.field-0.now ≡ true = sym (ap (begins_at_mark is_x) c.in-Some.ensures.steps) ∙ c.requires in (
+      c.as_str.ensures.known,
+      private_spelled c.args.pieces.now c.in-Some.field-0.now c.next.new.self c.in-Some.ensures.steps
+          c.in_ok-value.value mark c.in_ok-value.ensures.read
+          (sym c.in_ok-value.ensures.rest ∙ peeked_none c.peek.result c.read_front.new.pieces c.peek.ensures (sym c.is_some.ensures ∙ c.if-is_some.false)),
+    )

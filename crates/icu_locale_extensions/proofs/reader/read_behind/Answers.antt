@@ -1,4 +1,4 @@
-use Rattle.std.proofs.Common.{Err, refl, ap, sym, subst, ◌∙◌, ◌≡◌, ◌||◌, true}
+use Rattle.std.proofs.Common.{Err, ap, sym, subst, ◌∙◌, ◌≡◌, ◌||◌}
 use Rattle.std.specs.List.{list_any}
 use Rattle.std.proofs.lemmas.Bool.{or_right}
 use Rattle.icu_locale_core.specs.declared.parse_error.ParseError.TheVariants.{InvalidLanguage, InvalidSubtag, Memory}
@@ -54,8 +54,14 @@ returns c =
     let joined = c.joined-whole.ensures in
     let private_use = subst (λ qs. SpellPrivateUse qs c.in_ok-private_use.private_use) c.in_ok-walked.ensures.rest c.in_ok-private_use.ensures.found.1 in
     record {
-      found = (c.known.ensures, (joined.id, parts_spelled ps c.in_ok-walked.walked c.joined-whole.result c.in_ok-walked.ensures.found
-          joined.unicode joined.transform joined.others (subst (SpellPrivateUse (from is_x ps)) (sym joined.private_use) private_use)));
+      found = (
+        c.known.ensures,
+        (
+          joined.id,
+          parts_spelled ps c.in_ok-walked.walked c.joined-whole.result c.in_ok-walked.ensures.found
+              joined.unicode joined.transform joined.others (subst (SpellPrivateUse (from is_x ps)) (sym joined.private_use) private_use),
+        ),
+      );
       refused = λ e. absurd (cc e);
       language = λ e. absurd (cc e);
       memory = λ e. absurd (cc e);

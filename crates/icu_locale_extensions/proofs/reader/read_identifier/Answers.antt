@@ -1,9 +1,8 @@
-use Rattle.std.proofs.Common.{Err, Ok, Result, true, false, refl, ap, sym, ◌∙◌, ◌≡◌, ◌⊎◌, inl, inr}
-use Rattle.icu_locale_core.specs.Readings.{read_front, read_pieces}
+use Rattle.std.proofs.Common.{Err, Ok, Result, ap, sym, ◌∙◌, ◌≡◌, ◌⊎◌, inl, inr}
+use Rattle.icu_locale_core.specs.Readings.{read_front}
 use Rattle.icu_locale_core.specs.declared.langid.LanguageIdentifier.{LanguageIdentifier}
 use Rattle.icu_locale_core.specs.declared.parse_error.ParseError.{ParseError}
 use Rattle.icu_locale_core.specs.declared.parse_error.ParseError.TheVariants.{Memory}
-use Rattle.icu_locale_extensions.specs.Cuts.{front}
 use Rattle.icu_locale_extensions.specs.Extensions.{is_singleton}
 use Rattle.icu_locale_extensions.specs.inner.Marks.{begins_at_mark}
 use Rattle.icu_locale_extensions.proofs.IdentifiersTaken.{front_err, front_ok, front_read, front_rest, front_some, read_language, read_variants-front}

@@ -1,9 +1,5 @@
-use Rattle.std.proofs.Common.{Err, ap, sym, subst, ◌∙◌, ◌≡◌, ◌⊎◌, true, [], slice_index_or, not}
-use Rattle.std.specs.List.{list_any}
-use Rattle.icu_locale_core.specs.Readings.{read_pieces}
-use Rattle.icu_locale_core.specs.Subtag.{is_language, is_variant}
-use Rattle.icu_locale_core.specs.declared.parse_error.ParseError.TheVariants.{Memory}
-use Rattle.icu_locale_extensions.specs.Cuts.{front, from}
+use Rattle.std.proofs.Common.{ap, sym, subst, ◌∙◌, not}
+use Rattle.icu_locale_extensions.specs.Cuts.{from}
 use Rattle.icu_locale_extensions.specs.Extensions.{is_singleton}
 use Rattle.icu_locale_extensions.specs.Reads.{ReadsLocale}
 use Rattle.icu_locale_extensions.specs.inner.Marks.{begins_at_mark}
