@@ -120,7 +120,11 @@ fn read_front_variants(alloc: Global, pieces: &mut Pieces<'_>) -> Result<Variant
     ensures memory { result ≡ Err ParseError.Memory
         → list_any is_variant (front (other_than is_variant) pieces.old) ≡ true }
 {
+    let Some(first) = next_variant(pieces) else {
+        return Ok(Variants::new(alloc));
+    };
     let mut list = Vec::new(alloc);
+    list.push(first)?;
     'pieces: while let Some(variant) = next_variant(pieces) {
         list.push(variant)?;
     }
