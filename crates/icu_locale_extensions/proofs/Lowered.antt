@@ -20,10 +20,6 @@ small_at [] i is within = absurd (omega arith)
 small_at (c ∷ t) zero is within = grind (arith, nat_tests)
 small_at (c ∷ t) (suc i) is within = small_at t i (and_parts (is_ascii_alphanumeric c) (is_alphanumeric t) is).1 (omega arith)
 
--- one character is one byte
-pub encode-lower : (c : ℕ) → c < 128 → encode_utf8 (to_ascii_lowercase c) ≡ to_ascii_lowercase c ∷ []
-encode-lower c small = encode_ascii (to_ascii_lowercase c) (lowercase_ascii c small)
-
 pub plain_letters : (t : List ℕ) → is_alphabetic t ≡ true → is_alphanumeric t ≡ true
 plain_letters [] is = refl
 plain_letters (c ∷ t) is = grind (arith, nat_tests, plain_letters t)

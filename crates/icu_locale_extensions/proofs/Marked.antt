@@ -12,21 +12,10 @@ use Rattle.icu_locale_extensions.proofs.Dashes.{dashed-append, dashed-keywords}
 use Rattle.icu_locale_core.specs.Identifier as core
 use Rattle.icu_locale_core.specs.Keywords.{written_keywords}
 
--- nothing is written where there is no piece
-pub dashed_none : (mark : List ℕ) (ps : List (List ℕ)) → any_piece ps ≡ false → dashed (marked mark ps) ≡ []
-dashed_none mark [] none = refl
-dashed_none mark (p ∷ ps) none = absurd (false≢true (sym none))
-
 -- else the mark and the pieces
 pub dashed_marked : (mark : List ℕ) (ps : List (List ℕ)) → any_piece ps ≡ true → dashed (marked mark ps) ≡ (codes "-" ++ mark) ++ dashed ps
 dashed_marked mark [] some = absurd (false≢true some)
 dashed_marked mark (p ∷ ps) some = refl
-
-pub dashed_transform : (x : LocaleIdentifier) → any_piece (transform_pieces x) ≡ true
-    → codes "-t" ++ (dashed (lower_subtags x.locale.extensions.transform.lang) ++ dashed (flat x.fields)) ≡ dashed (marked (codes "t") (transform_pieces x))
-dashed_transform x some =
-    ap (λ t. codes "-t" ++ t) (sym (dashed-append (lower_subtags x.locale.extensions.transform.lang) (flat x.fields)))
-    ∙ sym (dashed_marked (codes "t") (transform_pieces x) some)
 
 pub dashed_unicode : (x : LocaleIdentifier) → any_piece (unicode_pieces x) ≡ true
     → codes "-u" ++ (dashed x.attributes ++ written_keywords x.locale.extensions.unicode.keywords) ≡ dashed (marked (codes "u") (unicode_pieces x))

@@ -32,10 +32,6 @@ from_list-step all old new left t before put = before ∙ same_set (from_list (o
         ∙ sym (is_among-append q new left)
         ∙ sym (contains-from_list (new ++ left) q)
 
--- none are left
-pub from_list-end : (all last : List (List ℕ)) → from_list all ≡ from_list (last ++ []) → rising (from_list last) ≡ last → last ≡ rising (from_list all)
-from_list-end all last before rises = sym rises ∙ ap rising (sym (before ∙ ap from_list (append-nil last)))
-
 pub rises-step : (old new : List (List ℕ)) (t : List ℕ) → new ≡ rising (from_list (t ∷ old)) → rising (from_list new) ≡ new
 rises-step old new t put = ap (λ ts. rising (from_list ts)) put ∙ ap rising (from_list-rising (from_list (t ∷ old))) ∙ sym put
 

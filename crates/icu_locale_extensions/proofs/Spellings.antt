@@ -164,9 +164,3 @@ texts_tell low t u of_t of_u =
     (λ e. (bytes_eq-Decides t u).1 (sym of_t.joined ∙ ap written_value ((values_decide (pieces t) (pieces u)).0 e) ∙ of_u.joined))
 
 -- ---- rows
-
--- a mark and the text of its pieces, with `-` before each
-pub dashed_text : (mark : List ℕ) (ps : List (List ℕ)) → any_piece ps ≡ true
-    → codes "-" ++ (mark ++ (codes "-" ++ written_value ps)) ≡ dashed (mark ∷ ps)
-dashed_text mark [] some = absurd (false≢true some)
-dashed_text mark (p ∷ ps) some = refl

@@ -39,9 +39,6 @@ module _ (m : List ℕ → Bool) where
   pub front-marked : (mark : List ℕ) (ps : List (List ℕ)) → m mark ≡ true → front m (mark ∷ ps) ≡ []
   front-marked mark ps is = ap (λ b. cond b [] (mark ∷ front m ps)) is
 
-  pub from-marked : (mark : List ℕ) (ps : List (List ℕ)) → m mark ≡ true → from m (mark ∷ ps) ≡ mark ∷ ps
-  from-marked mark ps is = ap (λ b. cond b (mark ∷ ps) (from m ps)) is
-
   blocks-marked : (mark : List ℕ) (ps : List (List ℕ)) → m mark ≡ true → blocks m (mark ∷ ps) ≡ (mark, front m ps) ∷ blocks m ps
   blocks-marked mark ps is = ap (λ b. cond b ((mark, front m ps) ∷ blocks m ps) (blocks m ps)) is
 

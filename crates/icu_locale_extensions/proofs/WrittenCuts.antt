@@ -293,11 +293,6 @@ module _ (x : LocaleIdentifier) (is : IsLocaleIdentifier x) where
   pub from-x : from is_x (written_pieces x) ≡ private_pieces x
   from-x = ap (from is_x) (sym in_two) ∙ from-unmarked is_x (id_pieces x ++ flat (extension_rows x)) (private_pieces x) before_x ∙ from_of_private x.private_use
 
-  -- what is before the first extension
-  pub front-extensions : front is_singleton (id_pieces x ++ flat (extension_rows x)) ≡ id_pieces x
-  front-extensions = front-pieces_rows is_singleton (id_pieces x) (extension_rows x)
-      (no_singletons (id_pieces x) (subtag_parts x.locale.id is.id)) extension_cuts
-
   pub blocks-extensions : blocks is_singleton (id_pieces x ++ flat (extension_rows x)) ≡ extension_rows x
   blocks-extensions = blocks-pieces_rows is_singleton (id_pieces x) (extension_rows x)
       (no_singletons (id_pieces x) (subtag_parts x.locale.id is.id)) extension_cuts

@@ -320,9 +320,6 @@ module _ (x : LocaleIdentifier) (is : IsLocaleIdentifier x) where
 
 -- ---- all parts
 
-subtags_rise : (ps : List (List ℕ)) → All IsSubtag ps → ps ≡ map lowercase ps
-subtags_rise ps each = sym (subtags_stay ps each)
-
 lower_private : (o : Option (List (List ℕ))) → IfSome o (ArePieces 1) → map lowercase (marked_if_any (codes "x") o) ≡ marked_if_any (codes "x") o
 lower_private None is = refl
 lower_private (Some ps) is = ap (λ r. codes "x" ∷ r) (pieces_stay 1 ps is.each)

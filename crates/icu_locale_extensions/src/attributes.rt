@@ -97,6 +97,9 @@ impl Attributes {
     fn know_each(&self)
         ensures { All IsSubtag self.now }
     {
+        if self.set.is_empty() {
+            return;
+        }
         for attribute in self.set.iter() {
             let _ = attribute.as_str();
         }

@@ -172,6 +172,9 @@ impl Fields {
     pub fn known_rows(&self)
         ensures { All IsField self.now }
     {
+        if self.map.is_empty() {
+            return;
+        }
         for (key, value) in self.map.iter() {
             know_field(key, value);
         }

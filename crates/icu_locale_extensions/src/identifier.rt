@@ -92,7 +92,8 @@ impl LocaleIdentifier {
         if is_bare(self) {
             return self.locale.id.append_to(text);
         }
-        let written = self.to_string(*text.allocator())?;
+        let mut written = String::with_capacity(*text.allocator(), 64)?;
+        written.write(self)?;
         text.extend_from_slice(written.as_bytes())?;
         Ok(())
     }

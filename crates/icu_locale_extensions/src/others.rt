@@ -172,6 +172,9 @@ impl Others {
     pub fn known_rows(&self)
         ensures { All IsOther self.now }
     {
+        if self.map.is_empty() {
+            return;
+        }
         for (singleton, value) in self.map.iter() {
             know_other(singleton, value);
         }
