@@ -30,7 +30,8 @@ with_variants l s r (Err e) = Err e
 abbrev pub read_rest : List ℕ → List (List ℕ) → Result LanguageIdentifier ParseError
 read_rest l ps =
     let after_script = after_optional_subtag is_script ps in
-    with_variants l (optional_subtag is_script titlecase ps) (optional_subtag is_region uppercase after_script)
+    with_variants l (optional_subtag is_script titlecase ps)
+    (optional_subtag is_region uppercase after_script)
     (read_variants (after_optional_subtag is_region after_script))
 
 -- an identifier from its pieces
@@ -45,7 +46,8 @@ after_head ps = after_optional_subtag is_region (after_optional_subtag is_script
 -- the identifier of a language and what follows it
 abbrev pub read_after : List ℕ → List (List ℕ) → Result LanguageIdentifier ParseError
 read_after l ps =
-    with_variants l (optional_subtag is_script titlecase ps) (optional_subtag is_region uppercase (after_optional_subtag is_script ps))
+    with_variants l (optional_subtag is_script titlecase ps)
+    (optional_subtag is_region uppercase (after_optional_subtag is_script ps))
     (read_variants (front (other_than is_variant) (after_head ps)))
 
 -- the identifier at the front of pieces
@@ -53,7 +55,7 @@ abbrev pub read_front : List (List ℕ) → Result LanguageIdentifier ParseError
 read_front [] = Err InvalidLanguage
 read_front (p ∷ ps) = if is_language p then read_after (lowercase p) ps else Err InvalidLanguage
 
--- the pieces behind it
+-- the pieces after it
 abbrev pub after_front : List (List ℕ) → List (List ℕ)
 after_front [] = []
 after_front (p ∷ ps) = from (other_than is_variant) (after_head ps)

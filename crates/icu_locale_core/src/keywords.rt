@@ -62,6 +62,9 @@ impl Keywords {
     pub fn known_rows(&self)
         ensures { All IsKeyword self.now }
     {
+        if self.map.is_empty() {
+            return;
+        }
         for (key, value) in self.map.iter() {
             know_keyword(key, value);
         }

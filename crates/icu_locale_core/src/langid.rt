@@ -64,6 +64,7 @@ impl LanguageIdentifier {
     /// - `InvalidLanguage` exactly where the first piece is no language.
     /// - `InvalidSubtag` where a variant comes twice.
     /// - `Memory` only where there is a variant, and never in place of `InvalidLanguage`.
+    #[inline(always)]
     pub fn read_front(alloc: Global, pieces: &mut Pieces<'_>) -> Result<Self, ParseError>
         ensures read { (result ≡ Err ParseError.Memory) ⊎ (result ≡ read_front pieces.old) }
         ensures rest { OnOk result (pieces.new ≡ after_front pieces.old) }

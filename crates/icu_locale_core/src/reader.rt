@@ -74,6 +74,7 @@ fn read_variants(alloc: Global, pieces: Pieces<'_>) -> Result<Variants, ParseErr
 }
 
 // Reads the identifier at the front of pieces, and leaves the first that is none of it.
+#[inline(always)]
 pub fn read_front(alloc: Global, pieces: &mut Pieces<'_>) -> Result<LanguageIdentifier, ParseError>
     ensures read { (result ≡ Err ParseError.Memory) ⊎ (result ≡ read_front pieces.old) }
     ensures rest { OnOk result (pieces.new ≡ after_front pieces.old) }
@@ -97,6 +98,7 @@ pub fn read_front(alloc: Global, pieces: &mut Pieces<'_>) -> Result<LanguageIden
 }
 
 // The language, which comes first.
+#[inline(always)]
 fn next_language(pieces: &mut Pieces<'_>) -> Option<Language>
     ensures read { MatchOption result (read_front pieces.old ≡ Err ParseError.InvalidLanguage)
         (λ l. read_front pieces.old ≡ read_after l pieces.new) }
@@ -112,6 +114,7 @@ fn next_language(pieces: &mut Pieces<'_>) -> Option<Language>
 }
 
 // The set of the variants at the front, where none comes twice.
+#[inline(always)]
 #[tactic(auto, using(crate::specs::laws::Fronts::taken_are))]
 fn read_front_variants(alloc: Global, pieces: &mut Pieces<'_>) -> Result<Variants, ParseError>
     ensures read { (result ≡ Err ParseError.Memory)
@@ -131,6 +134,7 @@ fn read_front_variants(alloc: Global, pieces: &mut Pieces<'_>) -> Result<Variant
     set_of_once(list)
 }
 
+#[inline(always)]
 fn next_variant(pieces: &mut Pieces<'_>) -> Option<Variant>
     ensures read { result ≡ optional_subtag is_variant lowercase pieces.old }
     ensures rest { pieces.new ≡ after_optional_subtag is_variant pieces.old }

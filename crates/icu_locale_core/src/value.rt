@@ -84,7 +84,8 @@ impl Value {
     ///
     /// `Memory` where the list of pieces could not grow.
     pub fn read_front(alloc: Global, pieces: &mut Pieces<'_>) -> Result<Self, ParseError>
-        ensures read { IfOk result (λ v. v ≡ read_subtags (front (other_than is_subtag) pieces.old)) }
+        ensures read { IfOk result
+            (λ v. v ≡ read_subtags (front (other_than is_subtag) pieces.old)) }
         ensures rest { OnOk result (pieces.new ≡ from (other_than is_subtag) pieces.old) }
         ensures refused { IfErr result (λ e. e ≡ ParseError.Memory) }
     {
@@ -277,7 +278,7 @@ fn read_subtags(alloc: Global, pieces: Pieces<'_>) -> Result<Vec<Subtag>, ParseE
     Ok(list)
 }
 
-// Puts a piece behind a list, if it is not `true`.
+// Appends a piece to a list, if it is not `true`.
 fn push_kept(list: &mut Vec<Subtag>, piece: Subtag) -> Result<(), ParseError>
     ensures pushed { OnOk result (list.new.items
         ≡ list.old.items ++ filter (λ p. not (is_true p)) (piece ∷ [])) }
@@ -290,7 +291,7 @@ fn push_kept(list: &mut Vec<Subtag>, piece: Subtag) -> Result<(), ParseError>
     Ok(())
 }
 
-// Puts the front of pieces that may stand in a value behind a list.
+// Appends the pieces at the front that may be in a value to a list.
 fn push_front(list: &mut Vec<Subtag>, pieces: &mut Pieces<'_>) -> Result<(), ParseError>
     ensures pushed { OnOk result (list.new.items
         ≡ list.old.items ++ read_subtags (front (other_than is_subtag) pieces.old)) }

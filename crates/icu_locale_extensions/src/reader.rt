@@ -61,6 +61,7 @@ pub fn read_locale(alloc: Global, text: &[u8]) -> Result<LocaleIdentifier, Parse
 }
 
 // The identifier, up to the first singleton.
+#[inline(always)]
 pub fn read_identifier(
     alloc: Global,
     pieces: &mut Pieces<'_>,

@@ -75,9 +75,11 @@ impl<const LOW: usize> Subtags<LOW> {
     /// - `InvalidSubtag` exactly where there is none.
     /// - `Memory` where the text could not grow.
     pub fn read_front(alloc: Global, pieces: &mut Pieces<'_>) -> Result<Self, ParseError>
-        ensures read { IfOk result (λ ps. ps ≡ map lowercase (front (other_than (is_piece LOW)) pieces.old)) }
+        ensures read { IfOk result
+            (λ ps. ps ≡ map lowercase (front (other_than (is_piece LOW)) pieces.old)) }
         ensures rest { OnOk result (pieces.new ≡ from (other_than (is_piece LOW)) pieces.old) }
-        ensures some { IsOk result → any_piece (front (other_than (is_piece LOW)) pieces.old) ≡ true }
+        ensures some { IsOk result
+            → any_piece (front (other_than (is_piece LOW)) pieces.old) ≡ true }
         ensures refused { result ≡ Err ParseError.InvalidSubtag
             → any_piece (front (other_than (is_piece LOW)) pieces.old) ≡ false }
         ensures language { ¬ (result ≡ Err ParseError.InvalidLanguage) }
@@ -239,7 +241,7 @@ pub(crate) fn is_alphanumeric(piece: &[u8]) -> bool
     true
 }
 
-// The next piece, if it may stand there.
+// The next piece, if it may be there.
 fn next_piece<'a>(pieces: &mut Pieces<'a>, low: usize) -> Option<&'a [u8]>
     ensures read { MatchOption result (optional_subtag (is_piece low) lowercase pieces.old ≡ None)
         (λ p. optional_subtag (is_piece low) lowercase pieces.old ≡ Some (lowercase p.now)) }
@@ -252,7 +254,7 @@ fn next_piece<'a>(pieces: &mut Pieces<'a>, low: usize) -> Option<&'a [u8]>
     pieces.next()
 }
 
-// Puts a piece in lower case behind a text.
+// Appends a piece in lower case to a text.
 fn push_lower(text: &mut Vec<u8>, piece: &[u8]) -> Result<(), ParseError>
     ensures appended { OnOk result (text.new.items ≡ text.old.items ++ lowercase piece.now) }
     ensures refused { IfErr result (λ e. e ≡ ParseError.Memory) }
@@ -263,7 +265,7 @@ fn push_lower(text: &mut Vec<u8>, piece: &[u8]) -> Result<(), ParseError>
     Ok(())
 }
 
-// Puts each piece of the front in lower case behind a text, with `-` before it.
+// Appends each piece of the front in lower case to a text, with `-` before it.
 fn push_front(text: &mut Vec<u8>, pieces: &mut Pieces<'_>, low: usize) -> Result<(), ParseError>
     ensures appended { OnOk result (text.new.items ≡ text.old.items
         ++ dashed (map lowercase (front (other_than (is_piece low)) pieces.old))) }

@@ -128,7 +128,8 @@ pub fn take_extensions(alloc: Global, pieces: &mut Pieces<'_>) -> Result<Walked,
 
 // The next piece, unless it is `x`.
 fn next_mark<'a>(pieces: &mut Pieces<'a>) -> Option<&'a [u8]>
-    ensures { MatchOption result ((begins_at_mark is_x pieces.old ≡ true) × (pieces.new ≡ pieces.old))
+    ensures { MatchOption result
+        ((begins_at_mark is_x pieces.old ≡ true) × (pieces.new ≡ pieces.old))
         (λ p. (pieces.old ≡ p.now ∷ pieces.new) × (is_x p.now ≡ false)) }
 {
     let mark = pieces.peek()?;
@@ -147,7 +148,8 @@ fn take_extension(
 ) -> Result<(), ParseError>
     requires mark { is_singleton mark.now ≡ true }
     requires apart { is_x mark.now ≡ false }
-    ensures added { OnOk result (Adds (mark.now, front is_singleton pieces.old) walked.old walked.new) }
+    ensures added { OnOk result
+        (Adds (mark.now, front is_singleton pieces.old) walked.old walked.new) }
     ensures rest { OnOk result (pieces.new ≡ from is_singleton pieces.old) }
     ensures refused { result ≡ Err ParseError.InvalidSubtag
         → ¬ (IsNext (mark.now, front is_singleton pieces.old) walked.old) }
@@ -164,7 +166,7 @@ fn take_extension(
     add_other(alloc, mark, pieces, walked)
 }
 
-// The Unicode extension behind `u`.
+// The Unicode extension, after `u`.
 fn add_unicode(
     alloc: Global,
     pieces: &mut Pieces<'_>,
@@ -184,7 +186,7 @@ fn add_unicode(
     Ok(())
 }
 
-// The transform extension behind `t`.
+// The transform extension, after `t`.
 fn add_transform(
     alloc: Global,
     pieces: &mut Pieces<'_>,
@@ -206,7 +208,7 @@ fn add_transform(
     Ok(())
 }
 
-// Another extension behind its singleton.
+// Another extension, after its singleton.
 fn add_other(
     alloc: Global,
     mark: &[u8],
@@ -217,7 +219,8 @@ fn add_other(
     requires unicode { is_u mark.now ≡ false }
     requires transform { is_t mark.now ≡ false }
     requires private_use { is_x mark.now ≡ false }
-    ensures added { OnOk result (Adds (mark.now, front is_singleton pieces.old) walked.old walked.new) }
+    ensures added { OnOk result
+        (Adds (mark.now, front is_singleton pieces.old) walked.old walked.new) }
     ensures rest { OnOk result (pieces.new ≡ from is_singleton pieces.old) }
     ensures refused { result ≡ Err ParseError.InvalidSubtag
         → ¬ (IsNext (mark.now, front is_singleton pieces.old) walked.old) }
@@ -250,7 +253,8 @@ fn take_transform(
     alloc: Global,
     pieces: &mut Pieces<'_>,
 ) -> Result<(Option<LanguageIdentifier>, Fields), ParseError>
-    ensures part { TakesPart (λ ps parts. IsTransform ps parts.0 parts.1) pieces.old pieces.new result }
+    ensures part { TakesPart (λ ps parts. IsTransform ps parts.0 parts.1)
+        pieces.old pieces.new result }
     ensures memory { result ≡ Err ParseError.Memory
         → list_any (λ p. is_variant p || is_tkey p) (front is_singleton pieces.old) ≡ true }
 {

@@ -28,7 +28,8 @@ pub record IsUnicode (ps attributes : List (List ℕ)) (keywords : KeywordRows) 
   pub spells : SpellUnicode ps attributes keywords
 
 -- pieces that may follow t, and spell its parts
-pub record IsTransform (ps : List (List ℕ)) (lang : Option LanguageIdentifier) (fields : List Block) : Type 0 where
+pub record IsTransform (ps : List (List ℕ)) (lang : Option LanguageIdentifier)
+    (fields : List Block) : Type 0 where
   pub fits : is_transform ps ≡ true
   pub known : IfSome lang IsIdentifier
   pub spells : SpellTransform ps lang fields
