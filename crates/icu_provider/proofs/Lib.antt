@@ -1,4 +1,5 @@
 mod Bounds
+mod Notes
 mod Requests
 mod Spans
 mod StringSets

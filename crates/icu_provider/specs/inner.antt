@@ -1,2 +1,3 @@
 -- What only private functions cite.
+pub mod Notes
 pub mod Places

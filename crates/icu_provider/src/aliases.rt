@@ -5,7 +5,7 @@ ghost use Rattle.icu_locale_core.specs.Maps.{value_at};
 ghost use Rattle.icu_locale_core.specs.TextSet.{text_cmp};
 ghost use Rattle.icu_provider.specs.SortedMaps.{text_at, regions_at, IsFoundEach, IsSortedMap, Inserts, Pushes};
 
-use crate::{DataError, RowList, Rows, SortedMap};
+use crate::{DataError, NumberedMap, RowList, Rows, SortedMap};
 use icu_locale_core::{Language, Region, Script, Subtag, Variant};
 use std::alloc::Global;
 
@@ -26,21 +26,21 @@ pub struct Aliases {
     /// Rules with no variants, asked in order: a rule text and a replacement text.
     pub language: RowList<StrStrPair>,
     /// The language of a sign language's region.
-    pub sgn_region: SortedMap<Region, Language>,
+    pub sgn_region: NumberedMap<Region, Language>,
     /// The replacement text of a language of two letters.
     pub language_len2: SortedMap<Language, String>,
     /// The replacement text of a language of three letters.
     pub language_len3: SortedMap<Language, String>,
     /// The script that replaces a script.
-    pub script: SortedMap<Script, Script>,
+    pub script: NumberedMap<Script, Script>,
     /// The region that replaces a region of letters.
-    pub region_alpha: SortedMap<Region, Region>,
+    pub region_alpha: NumberedMap<Region, Region>,
     /// The region that replaces a region of digits.
-    pub region_num: SortedMap<Region, Region>,
+    pub region_num: NumberedMap<Region, Region>,
     /// The regions of which one replaces a region.
-    pub complex_region: SortedMap<Region, Vec<Region>>,
+    pub complex_region: NumberedMap<Region, Vec<Region>>,
     /// The variant that replaces a variant.
-    pub variant: SortedMap<Variant, Variant>,
+    pub variant: NumberedMap<Variant, Variant>,
     /// The value text that replaces a subdivision.
     pub subdivision: SortedMap<Subtag, String>,
 }
@@ -83,14 +83,14 @@ impl Aliases {
         Aliases {
             language_variants: RowList::new(alloc),
             language: RowList::new(alloc),
-            sgn_region: SortedMap::new(alloc),
+            sgn_region: NumberedMap::new(alloc),
             language_len2: SortedMap::new(alloc),
             language_len3: SortedMap::new(alloc),
-            script: SortedMap::new(alloc),
-            region_alpha: SortedMap::new(alloc),
-            region_num: SortedMap::new(alloc),
-            complex_region: SortedMap::new(alloc),
-            variant: SortedMap::new(alloc),
+            script: NumberedMap::new(alloc),
+            region_alpha: NumberedMap::new(alloc),
+            region_num: NumberedMap::new(alloc),
+            complex_region: NumberedMap::new(alloc),
+            variant: NumberedMap::new(alloc),
             subdivision: SortedMap::new(alloc),
         }
     }
@@ -152,7 +152,7 @@ impl Aliases {
     pub fn get_sgn_region(&self, region: Region) -> Option<Language>
         ensures { result ≡ value_at text_cmp self.now.sgn_region region }
     {
-        self.sgn_region.get_numbered(&region).copied()
+        self.sgn_region.get(&region).copied()
     }
 
     /// A walk over the rows of `sgn_region`, rising by key.
@@ -246,7 +246,7 @@ impl Aliases {
     pub fn get_script(&self, script: Script) -> Option<Script>
         ensures { result ≡ value_at text_cmp self.now.script script }
     {
-        self.script.get_numbered(&script).copied()
+        self.script.get(&script).copied()
     }
 
     /// A walk over the rows of `script`, rising by key.
@@ -275,7 +275,7 @@ impl Aliases {
     pub fn get_region_alpha(&self, region: Region) -> Option<Region>
         ensures { result ≡ value_at text_cmp self.now.region_alpha region }
     {
-        self.region_alpha.get_numbered(&region).copied()
+        self.region_alpha.get(&region).copied()
     }
 
     /// A walk over the rows of `region_alpha`, rising by key.
@@ -304,7 +304,7 @@ impl Aliases {
     pub fn get_region_num(&self, region: Region) -> Option<Region>
         ensures { result ≡ value_at text_cmp self.now.region_num region }
     {
-        self.region_num.get_numbered(&region).copied()
+        self.region_num.get(&region).copied()
     }
 
     /// A walk over the rows of `region_num`, rising by key.
@@ -337,7 +337,7 @@ impl Aliases {
     pub fn get_complex_region(&self, region: Region) -> Option<&[Region]>
         ensures { option_copied result ≡ regions_at self.now.complex_region region }
     {
-        Some(self.complex_region.get_numbered(&region)?.as_slice())
+        Some(self.complex_region.get(&region)?.as_slice())
     }
 
     /// A walk over the rows of `complex_region`, rising by key.
@@ -365,7 +365,7 @@ impl Aliases {
     pub fn get_variant(&self, variant: Variant) -> Option<Variant>
         ensures { result ≡ value_at text_cmp self.now.variant variant }
     {
-        self.variant.get_numbered(&variant).copied()
+        self.variant.get(&variant).copied()
     }
 
     /// A walk over the rows of `variant`, rising by key.

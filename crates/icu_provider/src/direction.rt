@@ -3,7 +3,7 @@ ghost use Rattle.std.specs.Prelude.{◌≡◌, []};
 ghost use Rattle.icu_locale_core.specs.TextSet.{text_cmp};
 ghost use Rattle.icu_provider.specs.SortedMaps.{Inserts, is_listed};
 
-use crate::{DataError, SortedMap};
+use crate::{DataError, NumberedMap};
 use icu_locale_core::Script;
 use std::alloc::Global;
 
@@ -12,9 +12,9 @@ use std::alloc::Global;
 #[derive(Debug)]
 pub struct ScriptDirection {
     /// The scripts from right to left.
-    pub rtl: SortedMap<Script, ()>,
+    pub rtl: NumberedMap<Script, ()>,
     /// The scripts from left to right.
-    pub ltr: SortedMap<Script, ()>,
+    pub ltr: NumberedMap<Script, ()>,
 }
 
 impl Drop for ScriptDirection {
@@ -29,8 +29,8 @@ impl ScriptDirection {
         ensures { result ≡ record { rtl = []; ltr = [] } }
     {
         ScriptDirection {
-            rtl: SortedMap::new(alloc),
-            ltr: SortedMap::new(alloc),
+            rtl: NumberedMap::new(alloc),
+            ltr: NumberedMap::new(alloc),
         }
     }
 
@@ -62,13 +62,13 @@ impl ScriptDirection {
     pub fn is_rtl(&self, script: Script) -> bool
         ensures { result ≡ is_listed self.now.rtl script }
     {
-        self.rtl.get_numbered(&script).is_some()
+        self.rtl.get(&script).is_some()
     }
 
     /// Whether a script is one of those from left to right.
     pub fn is_ltr(&self, script: Script) -> bool
         ensures { result ≡ is_listed self.now.ltr script }
     {
-        self.ltr.get_numbered(&script).is_some()
+        self.ltr.get(&script).is_some()
     }
 }

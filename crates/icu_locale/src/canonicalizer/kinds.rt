@@ -137,9 +137,9 @@ fn language_alias<'r>(rules: &RulesRef<'r>, language: &Language) -> Option<&'r L
     if !is_known(language) {
         None
     } else if language.as_str().len() == 2 {
-        rules.read.language_len2.get_numbered(language)
+        rules.read.language_len2.get(language)
     } else {
-        rules.read.language_len3.get_numbered(language)
+        rules.read.language_len3.get(language)
     }
 }
 

@@ -53,7 +53,7 @@ fn next_value<'r>(rules: &RulesRef<'r>, value: &Value) -> Option<&'r Value>
     rules
         .read
         .subdivision
-        .get_numbered(&value.as_single_subtag()?)
+        .get(&value.as_single_subtag()?)
 }
 
 // Where the runs of the values at `rg` and then at `sd` end, each if that is at a later place than its start. Their steps

@@ -22,7 +22,7 @@ ghost use Rattle.icu_locale.specs.inner.SettledRows.{map_rows};
 
 use crate::expander::LocaleExpander;
 use icu_locale_core::{Language, Numbered, Region, Script};
-use icu_provider::{DataLocale, LikelySubtagsExtended, SortedMap};
+use icu_provider::{DataLocale, LikelySubtagsExtended, NumberedMap};
 
 // A language, a script and a region, as a row of the table gives them.
 pub(crate) type Triple = (Language, Script, Region);
@@ -41,12 +41,12 @@ pub enum LikelyKey {
 // The six maps of a likely table, by the subtags of their keys.
 #[derive(Clone, Copy)]
 pub(crate) struct LikelyMaps<'d> {
-    pub(crate) language: &'d SortedMap<Language, (Script, Region)>,
-    pub(crate) language_script: &'d SortedMap<(Language, Script), Region>,
-    pub(crate) language_region: &'d SortedMap<(Language, Region), Script>,
-    pub(crate) script_region: &'d SortedMap<(Script, Region), Language>,
-    pub(crate) script: &'d SortedMap<Script, (Language, Region)>,
-    pub(crate) region: &'d SortedMap<Region, (Language, Script)>,
+    pub(crate) language: &'d NumberedMap<Language, (Script, Region)>,
+    pub(crate) language_script: &'d NumberedMap<(Language, Script), Region>,
+    pub(crate) language_region: &'d NumberedMap<(Language, Region), Script>,
+    pub(crate) script_region: &'d NumberedMap<(Script, Region), Language>,
+    pub(crate) script: &'d NumberedMap<Script, (Language, Region)>,
+    pub(crate) region: &'d NumberedMap<Region, (Language, Script)>,
 }
 
 impl<'d> LikelyMaps<'d> {
@@ -86,10 +86,10 @@ impl<'d> LikelyMaps<'d> {
 
 // The value at a key of a map, if any.
 #[inline(always)]
-fn value_at<K: Numbered + Copy, V: Copy>(map: &SortedMap<K, V>, key: K) -> Option<V>
+fn value_at<K: Numbered + Copy, V: Copy>(map: &NumberedMap<K, V>, key: K) -> Option<V>
     ensures { result ≡ value_at K.cmp map.now key }
 {
-    map.get_numbered(&key).copied()
+    map.get(&key).copied()
 }
 
 // The maps of the extended table.

@@ -77,7 +77,7 @@ module _ {K V : Type 0} {compare : K → K → Ordering} (total : IsTotalOrder c
   pub All-lookup_own_key : (rows : List (K × V)) → IsSortedMap compare rows → All (λ row. lookup (is_at (compare row.0)) rows ≡ Some row.1) rows
   All-lookup_own_key rows sorted k default in_range = lookup_own_key rows _ sorted (Contains-get_or rows k default in_range)
 
-not_tied : (o : Ordering) → o ≢ Equal → is_eq o ≡ false
+pub not_tied : (o : Ordering) → o ≢ Equal → is_eq o ≡ false
 not_tied Less apart = refl
 not_tied Equal apart = absurd (apart refl)
 not_tied Greater apart = refl

@@ -4,7 +4,7 @@ ghost use Rattle.icu_locale_core.specs.Maps.{value_at};
 ghost use Rattle.icu_locale_core.specs.TextSet.{text_cmp};
 ghost use Rattle.icu_provider.specs.SortedMaps.{Inserts, IsFoundEach, IsSortedMap, pair_cmp};
 
-use crate::{DataError, Rows, SortedMap};
+use crate::{DataError, NumberedMap, Rows};
 use icu_locale_core::{Language, Region, Script};
 use std::alloc::Global;
 
@@ -13,17 +13,17 @@ use std::alloc::Global;
 #[derive(Debug)]
 pub struct LikelySubtagsExtended {
     /// The script and the region of a language.
-    pub language: SortedMap<Language, (Script, Region)>,
+    pub language: NumberedMap<Language, (Script, Region)>,
     /// The region of a language and a script.
-    pub language_script: SortedMap<(Language, Script), Region>,
+    pub language_script: NumberedMap<(Language, Script), Region>,
     /// The script of a language and a region.
-    pub language_region: SortedMap<(Language, Region), Script>,
+    pub language_region: NumberedMap<(Language, Region), Script>,
     /// The language of a script and a region.
-    pub script_region: SortedMap<(Script, Region), Language>,
+    pub script_region: NumberedMap<(Script, Region), Language>,
     /// The language and the region of a script.
-    pub script: SortedMap<Script, (Language, Region)>,
+    pub script: NumberedMap<Script, (Language, Region)>,
     /// The language and the script of a region.
-    pub region: SortedMap<Region, (Language, Script)>,
+    pub region: NumberedMap<Region, (Language, Script)>,
 }
 
 impl Drop for LikelySubtagsExtended {
@@ -52,12 +52,12 @@ impl LikelySubtagsExtended {
         } }
     {
         LikelySubtagsExtended {
-            language: SortedMap::new(alloc),
-            language_script: SortedMap::new(alloc),
-            language_region: SortedMap::new(alloc),
-            script_region: SortedMap::new(alloc),
-            script: SortedMap::new(alloc),
-            region: SortedMap::new(alloc),
+            language: NumberedMap::new(alloc),
+            language_script: NumberedMap::new(alloc),
+            language_region: NumberedMap::new(alloc),
+            script_region: NumberedMap::new(alloc),
+            script: NumberedMap::new(alloc),
+            region: NumberedMap::new(alloc),
         }
     }
 
@@ -83,7 +83,7 @@ impl LikelySubtagsExtended {
     pub fn get_language(&self, language: Language) -> Option<(Script, Region)>
         ensures { result ≡ value_at text_cmp self.now.language language }
     {
-        self.language.get_numbered(&language).copied()
+        self.language.get(&language).copied()
     }
 
     /// A walk over the rows of `language`, rising by key.
@@ -118,9 +118,7 @@ impl LikelySubtagsExtended {
     pub fn get_language_script(&self, language: Language, script: Script) -> Option<Region>
         ensures { result ≡ value_at pair_cmp self.now.language_script (language, script) }
     {
-        self.language_script
-            .get_numbered(&(language, script))
-            .copied()
+        self.language_script.get(&(language, script)).copied()
     }
 
     /// A walk over the rows of `language_script`, rising by key.
@@ -155,9 +153,7 @@ impl LikelySubtagsExtended {
     pub fn get_language_region(&self, language: Language, region: Region) -> Option<Script>
         ensures { result ≡ value_at pair_cmp self.now.language_region (language, region) }
     {
-        self.language_region
-            .get_numbered(&(language, region))
-            .copied()
+        self.language_region.get(&(language, region)).copied()
     }
 
     /// A walk over the rows of `language_region`, rising by key.
@@ -191,7 +187,7 @@ impl LikelySubtagsExtended {
     pub fn get_script_region(&self, script: Script, region: Region) -> Option<Language>
         ensures { result ≡ value_at pair_cmp self.now.script_region (script, region) }
     {
-        self.script_region.get_numbered(&(script, region)).copied()
+        self.script_region.get(&(script, region)).copied()
     }
 
     /// A walk over the rows of `script_region`, rising by key.
@@ -225,7 +221,7 @@ impl LikelySubtagsExtended {
     pub fn get_script(&self, script: Script) -> Option<(Language, Region)>
         ensures { result ≡ value_at text_cmp self.now.script script }
     {
-        self.script.get_numbered(&script).copied()
+        self.script.get(&script).copied()
     }
 
     /// A walk over the rows of `script`, rising by key.
@@ -259,7 +255,7 @@ impl LikelySubtagsExtended {
     pub fn get_region(&self, region: Region) -> Option<(Language, Script)>
         ensures { result ≡ value_at text_cmp self.now.region region }
     {
-        self.region.get_numbered(&region).copied()
+        self.region.get(&region).copied()
     }
 
     /// A walk over the rows of `region`, rising by key.

@@ -4,7 +4,7 @@ ghost use Rattle.icu_locale_core.specs.Maps.{value_at};
 ghost use Rattle.icu_locale_core.specs.TextSet.{text_cmp};
 ghost use Rattle.icu_provider.specs.SortedMaps.{Inserts, IsFoundEach, IsSortedMap, pair_cmp};
 
-use crate::{DataError, Rows, SortedMap};
+use crate::{DataError, NumberedMap, Rows};
 use icu_locale_core::{Language, Region, Script};
 use std::alloc::Global;
 
@@ -15,11 +15,11 @@ pub struct LikelySubtagsForLanguage {
     /// The language, script and region of `und`, which also serves as a row for its script and its region.
     pub und: (Language, Script, Region),
     /// The script and the region of a language.
-    pub language: SortedMap<Language, (Script, Region)>,
+    pub language: NumberedMap<Language, (Script, Region)>,
     /// The region of a language and a script.
-    pub language_script: SortedMap<(Language, Script), Region>,
+    pub language_script: NumberedMap<(Language, Script), Region>,
     /// The script of a language and a region.
-    pub language_region: SortedMap<(Language, Region), Script>,
+    pub language_region: NumberedMap<(Language, Region), Script>,
 }
 
 impl Drop for LikelySubtagsForLanguage {
@@ -45,9 +45,9 @@ impl LikelySubtagsForLanguage {
     {
         LikelySubtagsForLanguage {
             und,
-            language: SortedMap::new(alloc),
-            language_script: SortedMap::new(alloc),
-            language_region: SortedMap::new(alloc),
+            language: NumberedMap::new(alloc),
+            language_script: NumberedMap::new(alloc),
+            language_region: NumberedMap::new(alloc),
         }
     }
 
@@ -80,7 +80,7 @@ impl LikelySubtagsForLanguage {
     pub fn get_language(&self, language: Language) -> Option<(Script, Region)>
         ensures { result ≡ value_at text_cmp self.now.language language }
     {
-        self.language.get_numbered(&language).copied()
+        self.language.get(&language).copied()
     }
 
     /// A walk over the rows of `language`, rising by key.
@@ -115,9 +115,7 @@ impl LikelySubtagsForLanguage {
     pub fn get_language_script(&self, language: Language, script: Script) -> Option<Region>
         ensures { result ≡ value_at pair_cmp self.now.language_script (language, script) }
     {
-        self.language_script
-            .get_numbered(&(language, script))
-            .copied()
+        self.language_script.get(&(language, script)).copied()
     }
 
     /// A walk over the rows of `language_script`, rising by key.
@@ -152,9 +150,7 @@ impl LikelySubtagsForLanguage {
     pub fn get_language_region(&self, language: Language, region: Region) -> Option<Script>
         ensures { result ≡ value_at pair_cmp self.now.language_region (language, region) }
     {
-        self.language_region
-            .get_numbered(&(language, region))
-            .copied()
+        self.language_region.get(&(language, region)).copied()
     }
 
     /// A walk over the rows of `language_region`, rising by key.

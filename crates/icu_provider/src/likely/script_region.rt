@@ -4,7 +4,7 @@ ghost use Rattle.icu_locale_core.specs.Maps.{value_at};
 ghost use Rattle.icu_locale_core.specs.TextSet.{text_cmp};
 ghost use Rattle.icu_provider.specs.SortedMaps.{Inserts, IsFoundEach, IsSortedMap, pair_cmp};
 
-use crate::{DataError, Rows, SortedMap};
+use crate::{DataError, NumberedMap, Rows};
 use icu_locale_core::{Language, Region, Script};
 use std::alloc::Global;
 
@@ -13,11 +13,11 @@ use std::alloc::Global;
 #[derive(Debug)]
 pub struct LikelySubtagsForScriptRegion {
     /// The language of a script and a region.
-    pub script_region: SortedMap<(Script, Region), Language>,
+    pub script_region: NumberedMap<(Script, Region), Language>,
     /// The language and the region of a script.
-    pub script: SortedMap<Script, (Language, Region)>,
+    pub script: NumberedMap<Script, (Language, Region)>,
     /// The language and the script of a region.
-    pub region: SortedMap<Region, (Language, Script)>,
+    pub region: NumberedMap<Region, (Language, Script)>,
 }
 
 impl Drop for LikelySubtagsForScriptRegion {
@@ -36,9 +36,9 @@ impl LikelySubtagsForScriptRegion {
         ensures { result ≡ record { script_region = []; script = []; region = [] } }
     {
         LikelySubtagsForScriptRegion {
-            script_region: SortedMap::new(alloc),
-            script: SortedMap::new(alloc),
-            region: SortedMap::new(alloc),
+            script_region: NumberedMap::new(alloc),
+            script: NumberedMap::new(alloc),
+            region: NumberedMap::new(alloc),
         }
     }
 
@@ -64,7 +64,7 @@ impl LikelySubtagsForScriptRegion {
     pub fn get_script_region(&self, script: Script, region: Region) -> Option<Language>
         ensures { result ≡ value_at pair_cmp self.now.script_region (script, region) }
     {
-        self.script_region.get_numbered(&(script, region)).copied()
+        self.script_region.get(&(script, region)).copied()
     }
 
     /// A walk over the rows of `script_region`, rising by key.
@@ -98,7 +98,7 @@ impl LikelySubtagsForScriptRegion {
     pub fn get_script(&self, script: Script) -> Option<(Language, Region)>
         ensures { result ≡ value_at text_cmp self.now.script script }
     {
-        self.script.get_numbered(&script).copied()
+        self.script.get(&script).copied()
     }
 
     /// A walk over the rows of `script`, rising by key.
@@ -132,7 +132,7 @@ impl LikelySubtagsForScriptRegion {
     pub fn get_region(&self, region: Region) -> Option<(Language, Script)>
         ensures { result ≡ value_at text_cmp self.now.region region }
     {
-        self.region.get_numbered(&region).copied()
+        self.region.get(&region).copied()
     }
 
     /// A walk over the rows of `region`, rising by key.

@@ -1,9 +1,15 @@
 //! What a JSON value is read as: the trait, texts of any content, and maps, objects whose members are rows.
+ghost use Rattle.std.specs.Prelude.{IfOk};
+ghost use Rattle.serde_json.specs.View.{view};
+ghost use Rattle.icu_provider.specs.SortedMaps.{IsSortedMap};
+ghost use Rattle.icu_tables.specs.Rows.{seen_rows};
 ghost use Rattle.icu_tables.specs.Shape.{map_of, text};
+ghost use Rattle.icu_tables.specs.inner.Reads.{Reads};
 
 use crate::TableError;
 use crate::file::keys::RowKey;
-use icu_provider::SortedMap;
+use icu_locale_core::Numbered;
+use icu_provider::{NumberedMap, SortedMap};
 use serde_json::Value;
 use std::alloc::Global;
 
@@ -53,16 +59,46 @@ impl<K: RowKey, V: FromValue> FromValue for SortedMap<K, V> {
     ghost shape = { map_of K.key V.shape };
 
     fn from_value(alloc: Global, value: &Value) -> Result<Self, TableError> {
-        let Some(members) = value.as_object() else {
-            return Err(TableError::Shape);
-        };
-        let mut rows = Vec::new(alloc);
-        for (name, member) in members.iter() {
-            let value = V::from_value(alloc, member)?;
-            if let Some(key) = K::from_name(name.as_str()) {
-                rows.push((key, value))?;
-            }
-        }
-        Ok(SortedMap::from_sorted(rows))
+        Ok(SortedMap::from_sorted(rows_of(alloc, value)?))
     }
+}
+
+impl<K: RowKey + Numbered, V: FromValue> FromValue for NumberedMap<K, V> {
+    ghost use Rattle.std.specs.Prelude.{List};
+    ghost use Rattle.icu_tables.specs.Rows.{seen_rows};
+
+    ghost Seen = { List (K × V.Seen) };
+
+    ghost seen = { λ rows. seen_rows V.seen rows };
+
+    ghost shape = { map_of K.key V.shape };
+
+    fn from_value(alloc: Global, value: &Value) -> Result<Self, TableError> {
+        Ok(NumberedMap::try_from_sorted(
+            alloc,
+            rows_of(alloc, value)?,
+        )?)
+    }
+}
+
+// The rows of an object whose members are rows. The names of its members rise, and so do the keys.
+fn rows_of<K: RowKey, V: FromValue>(
+    alloc: Global,
+    value: &Value,
+) -> Result<Vec<(K, V)>, TableError>
+    ensures read { Reads (λ rows. seen_rows V.seen rows.items) result
+        (map_of K.key V.shape (view value.now)) }
+    ensures sorted { IfOk result (λ rows. IsSortedMap K.cmp rows.items) }
+{
+    let Some(members) = value.as_object() else {
+        return Err(TableError::Shape);
+    };
+    let mut rows = Vec::new(alloc);
+    for (name, member) in members.iter() {
+        let value = V::from_value(alloc, member)?;
+        if let Some(key) = K::from_name(name.as_str()) {
+            rows.push((key, value))?;
+        }
+    }
+    Ok(rows)
 }

@@ -1,5 +1,5 @@
 use Rattle.icu_tables.proofs.Members.{IsReadBefore}
-use Rattle.icu_tables.proofs.file.values.SortedMapFromValue.from_value.Given as goal
+use Rattle.icu_tables.proofs.file.values.rows_of.Given as goal
 
 -- what was read and what is left is the whole
 abbrev pub invariant-loop-name : goal.invariant-loop-name

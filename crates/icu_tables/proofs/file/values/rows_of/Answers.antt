@@ -5,7 +5,7 @@ use Rattle.std.specs.String.{string_cmp}
 use Rattle.std.proofs.lemmas.Map.Made.{keys_of-map_values}
 use Rattle.serde_json.proofs.Views.{Entry}
 use Rattle.icu_tables.proofs.Members.{IsReadBefore, row-more, rows-end, keys_rise}
-use Rattle.icu_tables.proofs.file.values.SortedMapFromValue.from_value.Goals as goal
+use Rattle.icu_tables.proofs.file.values.rows_of.Goals as goal
 
 -- a member whose name is a key is a row
 pub loop-name-preserved-in-Continue-branch-2 : goal.loop-name-preserved-in-Continue-branch-2
@@ -20,8 +20,8 @@ loop-name-preserved-in-Continue-branch-2 g c =
     c.in-Some-from_name.key c.in_ok-value.value c.in_ok-value.ensures named before)
 
 -- the names rise, so the keys do
-pub from_sorted-requires : goal.from_sorted-requires
-from_sorted-requires g c =
+pub returns-clause-sorted : goal.returns-clause-sorted
+returns-clause-sorted g c =
     let all = c.into_iter-name-iterator.result in
     let rows = c.loop-name.rows.items in
     let whole : all ≡ c.in-Some.members.now.entries = search rules in

@@ -1,0 +1,201 @@
+//! A sorted map whose keys have numbers, with notes by which most look-ups take one step.
+ghost use Rattle.std.specs.Prelude.{◌≡◌, ◌≢◌, ◌==◌, ◌<◌, [], ℕ, get_or, length, is_some, option_copied, List, IfOk, IsOk};
+ghost use Rattle.icu_locale_core.specs.Maps.{value_at};
+ghost use Rattle.icu_provider.specs.SortedMaps.{Inserts, IsFoundEach, IsSortedMap, RefusesMemory};
+ghost use Rattle.icu_provider.specs.inner.Notes.{bucket, IsNoted};
+
+use crate::{DataError, Rows, SortedMap};
+use icu_locale_core::Numbered;
+use std::alloc::{AllocError, Global};
+use std::marker::Model;
+
+/// A map whose rows are in one list, in the order of their keys, which have numbers. Beside the rows it may keep notes of
+/// where keys are: a look-up then takes one step for most keys, be they there or not. `insert` takes the notes away, and
+/// `note` makes them again.
+#[derive(Debug, Drop)]
+pub struct NumberedMap<K: Numbered, V> {
+    rows: SortedMap<K, V>,
+    // At the bucket of a key's number one more than the place of some row, and 0 where no key has that bucket. None where
+    // nothing is noted.
+    notes: Vec<u16>,
+}
+
+impl<K: Numbered, V> Model for NumberedMap<K, V> {
+    ghost Value = { List (K × V) };
+
+    ghost view = { λ m. m.rows };
+
+    ghost invariant = { λ m. IsNoted K.cmp K.IsNumber m.rows m.notes.items };
+}
+
+impl<K: Numbered, V> NumberedMap<K, V> {
+    /// A map with no rows.
+    pub fn new(alloc: Global) -> Self
+        ensures { result ≡ [] }
+    {
+        NumberedMap {
+            rows: SortedMap::new(alloc),
+            notes: Vec::new(alloc),
+        }
+    }
+
+    /// A map with the rows of a list whose keys rise, and with notes of them. It takes memory for the notes.
+    ///
+    /// # Errors
+    ///
+    /// The allocator's, where memory for the notes was refused: never for a list without rows.
+    pub fn try_from_sorted(alloc: Global, rows: Vec<(K, V)>) -> Result<Self, AllocError>
+    where
+        K: Drop,
+        V: Drop,
+        requires { IsSortedMap K.cmp rows.items }
+        ensures rows { IfOk result (λ map. map ≡ rows.items) }
+        ensures free { rows.items ≡ [] → IsOk result }
+    {
+        let notes = notes_of(alloc, &rows)?;
+        Ok(NumberedMap {
+            rows: SortedMap::from_sorted(rows),
+            notes,
+        })
+    }
+
+    /// How many rows there are.
+    pub fn len(&self) -> usize
+        ensures { result ≡ length self.now }
+    {
+        self.rows.len()
+    }
+
+    /// Whether there is no row.
+    pub fn is_empty(&self) -> bool
+        ensures { result ≡ (length self.now == 0) }
+    {
+        self.rows.is_empty()
+    }
+
+    /// The value at the key, by its note, or else by binary search.
+    #[inline(always)]
+    pub fn get(&self, key: &K) -> Option<&V>
+        ensures { option_copied result ≡ value_at K.cmp self.now key.now }
+    {
+        let number = key.number();
+        let notes = self.notes.as_slice();
+        let bucket = bucket(number, notes.len());
+        if bucket < notes.len() {
+            let note = notes[bucket] as usize;
+            if note == 0 {
+                return None;
+            }
+            if let Some(row) = self.rows.as_slice().get(note - 1)
+                && row.0.number() == number
+            {
+                return Some(&row.1);
+            }
+        }
+        self.rows.get_numbered(key)
+    }
+
+    /// Whether some row has the key.
+    #[inline(always)]
+    pub fn contains_key(&self, key: &K) -> bool
+        ensures { result ≡ is_some (value_at K.cmp self.now key.now) }
+    {
+        self.get(key).is_some()
+    }
+
+    /// Puts the value at the key, as `SortedMap::insert` does, and takes the notes away.
+    ///
+    /// # Errors
+    ///
+    /// `Memory`, only for a key that is not there yet, where memory for the row was refused: the rows stay as they were
+    /// then, and the row is dropped.
+    pub fn insert(&mut self, key: K, value: V) -> Result<(), DataError>
+    where
+        K: Drop,
+        V: Drop,
+        ensures { Inserts K.cmp self.old self.new key value result }
+    {
+        self.notes.clear();
+        self.rows.insert(key, value)
+    }
+
+    /// Makes notes of the rows, so that look-ups are fast. It takes memory for them, and the rows stay.
+    ///
+    /// # Errors
+    ///
+    /// `Memory`, only where memory for the notes was refused: never for a map without rows.
+    pub fn note(&mut self, alloc: Global) -> Result<(), DataError>
+        ensures refused { RefusesMemory self.old self.new result }
+        ensures rows { self.new ≡ self.old }
+        ensures free { self.old ≡ [] → IsOk result }
+    {
+        self.notes = notes_of(alloc, self.rows.as_slice())?;
+        Ok(())
+    }
+
+    /// The rows, in the keys' order.
+    pub fn as_slice(&self) -> &[(K, V)]
+        ensures rows { result.now ≡ self.now }
+        ensures sorted { IsSortedMap K.cmp self.now }
+    {
+        self.rows.as_slice()
+    }
+
+    /// A walk over the rows, in the keys' order.
+    pub fn iter(&self) -> Rows<'_, K, V>
+        ensures rows { result ≡ self.now }
+        ensures sorted { IsSortedMap K.cmp self.now }
+        ensures found { IsFoundEach K.cmp self.now }
+    {
+        self.rows.iter()
+    }
+}
+
+// How many buckets there are for each row, so that most keys have one of their own.
+const BUCKETS_A_ROW: usize = 4;
+
+// A note for each row's key.
+fn notes_of<K: Numbered, V>(alloc: Global, rows: &[(K, V)]) -> Result<Vec<u16>, AllocError>
+    ensures noted { IfOk result (λ notes. IsNoted K.cmp K.IsNumber rows.now notes.items) }
+    ensures free { rows.now ≡ [] → IsOk result }
+{
+    let mut notes = Vec::new(alloc);
+    if rows.is_empty() {
+        return Ok(notes);
+    }
+    notes.resize_with(rows.len().saturating_mul(BUCKETS_A_ROW), || 0)?;
+    for place in 0..rows.len() {
+        note(&mut notes, rows[place].0.number(), place);
+    }
+    Ok(notes)
+}
+
+// Notes the place of a number.
+fn note(notes: &mut Vec<u16>, number: u64, place: usize)
+    ensures length { length notes.new.items ≡ length notes.old.items }
+    ensures noted { let at = bucket number (length notes.old.items) in
+        at < length notes.old.items → get_or notes.new.items at 0 ≢ 0 }
+    ensures others { (at : ℕ) → get_or notes.old.items at 0 ≢ 0
+        → get_or notes.new.items at 0 ≢ 0 }
+{
+    let bucket = bucket(number, notes.len());
+    if bucket < notes.len() {
+        notes[bucket] = note_of(place);
+    }
+}
+
+// One more than a place, or the highest note where that is too high: a look-up then finds another row there.
+fn note_of(place: usize) -> u16
+    ensures { result ≢ 0 }
+{
+    u16::try_from(place.saturating_add(1)).unwrap_or(u16::MAX)
+}
+
+// Which of so many buckets a number falls into.
+#[inline(always)]
+fn bucket(number: u64, count: usize) -> usize
+    ensures { result ≡ bucket number count }
+{
+    let mixed = number.wrapping_mul(0x9E37_79B9_7F4A_7C15) >> 32;
+    (mixed.wrapping_mul(count as u64) >> 32) as usize
+}
