@@ -1,5 +1,5 @@
 -- What notes tell of a key.
-use Rattle.std.proofs.Common.{◌≡◌, ◌≢◌, ℕ, ◌<◌, ◌≤◌, ◌-◌, ◌+◌, List, length, get_or, None, Some, ap, sym, ◌∙◌, arith, ⊎_elim, subst}
+use Rattle.std.proofs.Common.{◌≡◌, ◌≢◌, ℕ, ◌<◌, ◌+◌, List, length, get_or, None, ap, sym, ◌∙◌, arith, ⊎_elim, subst}
 use Rattle.std.specs.Ordering.{nat_cmp}
 use Rattle.std.specs.List.{AllWithin}
 use Rattle.std.proofs.Math.Nat.{eq-or-lt_of_le}
