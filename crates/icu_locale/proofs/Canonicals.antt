@@ -14,7 +14,7 @@ use Rattle.icu_locale_runs.specs.Run.{EndsAt, IsLaterEnd, IsRepeat, HasDistinct,
 use Rattle.icu_locale.specs.inner.Universe.{universe}
 use Rattle.icu_locale.specs.Canonical.{rg, sd, next_value, IsCanonical}
 use Rattle.icu_locale.specs.Refusals.{IdentifiersEnd, RulesEnd, ComesAgainFirst, ValueComesAgainFirst, IsRefusal, IsMemory, IsOutOfMemory}
-use Rattle.icu_locale.specs.Cost.{HasIdentifiers, CountsSearches, AddsNoVariants, NeedsNoMemory, HasNothingToCopy}
+use Rattle.icu_locale.specs.Cost.{HasIdentifiers, CountsRun, CountsSearches, AddsNoVariants, NeedsNoMemory, HasNothingToCopy}
 use Rattle.icu_locale.specs.inner.CanonicalParts.{IsRunRefusal, IsRunRefusalOf, IsIdentifierRefusal, IsValuesRefusal, CountsSearchesOf, AreLaterEnds}
 use Rattle.icu_locale.specs.inner.CanonicalParts.{AreChanges, with_changes}
 use Rattle.icu_locale.specs.declared.canonicalizer.rules.Rules.{Rules}
@@ -38,6 +38,19 @@ count_of : (likely : LikelySubtags) (rules : Rules) (transform : Bool) (x : Lang
 count_of likely rules transform x =
     let counted = HasDistinct-universe (next_of likely rules transform) x same_identifier (universe rules x) (IsUniverse-universe likely rules transform x) in
     (counted.0, counted.2)
+
+-- the first search, and then those of the run, if it is run at all
+pub counted_run : (likely : LikelySubtags) (rules : Rules) (x : LanguageIdentifier) {T : Type 0} (result : Result T CanonicalizeError)
+    (before middle after : ℕ) → middle ≡ before + 1 → CountsSearchesOf (next likely rules) (Some x) result middle after
+    → CountsRun (next likely rules) x before after
+counted_run likely rules x result before middle after one counts =
+    (counts.0, counts.1, omega (arith, one, counts.2.forward), omega (arith, one, counts.2.most))
+
+pub counted_one : (likely : LikelySubtags) (rules : Rules) (x : LanguageIdentifier) (before after : ℕ) → after ≡ before + 1
+    → CountsRun (next likely rules) x before after
+counted_one likely rules x before after one =
+    let counted = count_of likely rules false x in
+    (counted.0, counted.1, omega (arith, one), omega (arith, one))
 
 -- so it ends or has a repeat
 pub end_or_repeat : (likely : LikelySubtags) (rules : Rules) (transform : Bool) (x : LanguageIdentifier) → EndsOrRepeats (next_of likely rules transform) x

@@ -39,6 +39,12 @@ abbrev pub CountsRuns : {T : Type 0} → LikelySubtags → Rules → Locale
 CountsRuns likely rules old result before after =
     (n : ℕ) × HasIdentifiers likely rules old n × CountsSearches result before after n
 
+-- the searches from before to after are at most six for each different identifier of a run, and one
+abbrev pub CountsRun : (LanguageIdentifier → Option LanguageIdentifier) → LanguageIdentifier → ℕ
+    → ℕ → Type 0
+CountsRun next start before after =
+    (n : ℕ) × HasDistinct next start n × (before ≤ after) × (after ≤ before + 6 * n + 1)
+
 -- no identifier of the run after its start has variants
 abbrev pub AddsNoVariants : (LanguageIdentifier → Option LanguageIdentifier)
     → LanguageIdentifier → Type 0

@@ -5,7 +5,8 @@ ghost use Rattle.icu_locale.specs.RuleSet.{lent, rules_over};
 ghost use Rattle.icu_locale.specs.Canonical.{without_extensions};
 ghost use Rattle.icu_locale.specs.Canonicalization.{Canonicalizes};
 ghost use Rattle.icu_locale.specs.Refusals.{canonicalize_error_name};
-ghost use Rattle.icu_locale.specs.Cost.{CountsRuns};
+ghost use Rattle.icu_locale.specs.Cost.{CountsRun, CountsRuns};
+ghost use Rattle.icu_locale.specs.Kinds.{next};
 
 use crate::{AsExpander, LocaleExpander, TransformResult, Turns};
 use icu_locale_core::{LanguageIdentifier, Locale, Value};
@@ -137,7 +138,8 @@ impl<'d, E: AsExpander<'d>> LocaleCanonicalizer<'d, E> {
     }
 
     /// Brings an identifier to its canonical form, as `canonicalize` does of the locale with that identifier and no
-    /// extensions. Where no rule matches, one search tells that, and nothing is built.
+    /// extensions. Where no rule matches, one search tells that, and nothing is built. Where one does, the search is made
+    /// again.
     ///
     /// # Errors
     ///
@@ -151,5 +153,25 @@ impl<'d, E: AsExpander<'d>> LocaleCanonicalizer<'d, E> {
             (without_extensions id.old) (without_extensions id.new) result }
     {
         self.lend().canonicalize_identifier(id)
+    }
+
+    /// The same as `canonicalize_identifier`, with a count of the searches for a rule that matches: at most six for each
+    /// different identifier of the run, and one.
+    ///
+    /// # Errors
+    ///
+    /// Those of `canonicalize_identifier`.
+    #[inline(always)]
+    pub fn canonicalize_identifier_counted(
+        &self,
+        id: &mut LanguageIdentifier,
+        turns: &mut Turns,
+    ) -> Result<TransformResult, CanonicalizeError>
+        ensures outcome { Canonicalizes (E.table self.now.expander) self.now.rules
+            (without_extensions id.old) (without_extensions id.new) result }
+        ensures count { CountsRun (next (E.table self.now.expander) self.now.rules) id.old
+            turns.old turns.new }
+    {
+        self.lend().canonicalize_identifier_counted(id, turns)
     }
 }

@@ -122,19 +122,6 @@ impl<'d> Negotiator<'d> {
         })
     }
 
-    /// Over an expander and a list that was made over the same likely table, as one of another expander over the same
-    /// tables. It takes no memory.
-    pub fn over(expander: LocaleExpander<'d>, list: Available) -> Self
-        requires { IsMadeOver (likely expander) list }
-        ensures expander { result.expander ≡ expander.entry }
-        ensures available { result.available ≡ identifiers_of list }
-    {
-        Negotiator {
-            expander,
-            available: list,
-        }
-    }
-
     /// The list that the negotiator owns, for a program that keeps it beside its tables. It takes no memory.
     pub fn into_available(self) -> Available
         ensures over { IsMadeOver (likely self.entry.expander) result }

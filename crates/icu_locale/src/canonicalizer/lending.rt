@@ -1,12 +1,12 @@
 //! Canonicalization by rules and an expander that are lent: all the work.
 ghost use Rattle.std.specs.Prelude.{◌≡◌, Some, IfOk, IfErr, IfSome};
-ghost use Rattle.icu_locale.specs.Kinds.{by_language_alias};
+ghost use Rattle.icu_locale.specs.Kinds.{by_language_alias, next};
 ghost use Rattle.icu_locale.specs.LikelyTable.{likely};
 ghost use Rattle.icu_locale.specs.RuleSet.{lent, rules_over};
 ghost use Rattle.icu_locale.specs.Canonical.{without_extensions};
 ghost use Rattle.icu_locale.specs.Canonicalization.{Canonicalizes};
 ghost use Rattle.icu_locale.specs.Refusals.{IsRefusal, IsOutOfMemory};
-ghost use Rattle.icu_locale.specs.Cost.{CountsRuns, NeedsNoMemory, AddsNoVariants};
+ghost use Rattle.icu_locale.specs.Cost.{CountsRun, CountsRuns, NeedsNoMemory, AddsNoVariants};
 ghost use Rattle.icu_locale_runs.specs.Run.{IsLaterEndOf};
 ghost use Rattle.icu_locale.specs.inner.CanonicalParts.{IsRunRefusalOf, IsIdentifierRefusal, CountsSearchesOf, AreLaterEnds, AreChanges};
 
@@ -90,11 +90,30 @@ impl<'r> CanonicalizerRef<'r> {
         ensures { Canonicalizes (likely self.now.expander) (lent self.now.rules)
             (without_extensions id.old) (without_extensions id.new) result }
     {
-        let mut turns = Turns::new();
-        if matching(self, id, false, &mut turns).is_none() {
+        self.canonicalize_identifier_counted(id, &mut Turns::new())
+    }
+
+    /// The same as `canonicalize_identifier`, with a count of the searches for a rule that matches, as
+    /// `LocaleCanonicalizer::canonicalize_identifier_counted` says.
+    ///
+    /// # Errors
+    ///
+    /// Those of `canonicalize_identifier`.
+    #[inline(always)]
+    pub fn canonicalize_identifier_counted(
+        &self,
+        id: &mut LanguageIdentifier,
+        turns: &mut Turns,
+    ) -> Result<TransformResult, CanonicalizeError>
+        ensures outcome { Canonicalizes (likely self.now.expander) (lent self.now.rules)
+            (without_extensions id.old) (without_extensions id.new) result }
+        ensures count { CountsRun (next (likely self.now.expander) (lent self.now.rules)) id.old
+            turns.old turns.new }
+    {
+        if matching(self, id, false, turns).is_none() {
             return Ok(TransformResult::Unmodified);
         }
-        match later_end(self, id, false, &mut turns)? {
+        match later_end(self, id, false, turns)? {
             Some(last) => {
                 *id = last;
                 Ok(TransformResult::Modified)

@@ -16,9 +16,8 @@ pub(super) struct Row {
 /// What a `Negotiator` owns: the available identifiers, and the sorted list of their minimal forms. It borrows no table.
 ///
 /// A program that owns its tables cannot keep a negotiator beside them, since a negotiator borrows them. It keeps this
-/// list, which `Negotiator::into_available` gives, and lends it with an expander at each call, by `NegotiatorRef::over`;
-/// `Negotiator::over` takes it back. None of these takes memory. In contracts `IsMadeOver` says over which likely table
-/// it was made.
+/// list, which `Negotiator::into_available` gives, and lends it with an expander at each call, by `NegotiatorRef::over`.
+/// Neither takes memory. In contracts `IsMadeOver` says over which likely table it was made.
 #[derive(Debug)]
 pub struct Available {
     pub(super) identifiers: Vec<LanguageIdentifier>,

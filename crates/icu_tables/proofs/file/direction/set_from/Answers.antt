@@ -9,8 +9,8 @@ use Rattle.icu_tables.proofs.Items.{unique_rises, unique_is_set}
 use Rattle.icu_tables.proofs.file.direction.set_from.Goals as goal
 
 -- the scripts are sorted, and each is there once
-pub from_sorted-requires : goal.from_sorted-requires
-from_sorted-requires c =
+pub try_from_sorted-requires : goal.try_from_sorted-requires
+try_from_sorted-requires c =
     let sorted = c.sort_unstable.new.self.items in
     let left = dedup_is (pointwise nat_eq) sorted c.dedup.new.self.items c.dedup.ensures.filtered in
     let past : length c.deref-script-items.result.now ≤ c.loop-script.script-index = omega arith in
@@ -24,5 +24,5 @@ returns-clause-members c =
     let left = dedup_is (pointwise nat_eq) sorted c.dedup.new.self.items c.dedup.ensures.filtered in
     let past : length c.deref-script-items.result.now ≤ c.loop-script.script-index = omega arith in
     let whole = c.loop-script.invariant ∙ take_all c.loop-script.script-index c.deref-script-items.result.now past ∙ c.deref-script-items.ensures.value in
-    ap keys_of c.from_sorted.ensures ∙ whole ∙ unique_is_set c.args.scripts.items sorted c.dedup.new.self.items left
+    ap keys_of c.in_ok-try_from_sorted.ensures.rows ∙ whole ∙ unique_is_set c.args.scripts.items sorted c.dedup.new.self.items left
     c.sort_unstable.ensures.permutation c.sort_unstable.ensures.sorted
