@@ -92,6 +92,14 @@ impl<K: Numbered, V> NumberedMap<K, V> {
                 return Some(&row.1);
             }
         }
+        self.searched(key)
+    }
+
+    // The value at the key, by binary search.
+    #[inline(never)]
+    fn searched(&self, key: &K) -> Option<&V>
+        ensures { option_copied result ≡ value_at K.cmp self.now key.now }
+    {
         self.rows.get_numbered(key)
     }
 
@@ -151,8 +159,11 @@ impl<K: Numbered, V> NumberedMap<K, V> {
     }
 }
 
-// How many buckets there are for each row, so that most keys have one of their own.
-const BUCKETS_A_ROW: usize = 4;
+// How many buckets there are for each row, and beside these, so that most keys have one of their own, and most other
+// keys one where nothing is noted.
+const BUCKETS_A_ROW: usize = 8;
+
+const MORE_BUCKETS: usize = 32;
 
 // A note for each row's key.
 fn notes_of<K: Numbered, V>(alloc: Global, rows: &[(K, V)]) -> Result<Vec<u16>, AllocError>
@@ -163,7 +174,11 @@ fn notes_of<K: Numbered, V>(alloc: Global, rows: &[(K, V)]) -> Result<Vec<u16>, 
     if rows.is_empty() {
         return Ok(notes);
     }
-    notes.resize_with(rows.len().saturating_mul(BUCKETS_A_ROW), || 0)?;
+    let buckets = rows
+        .len()
+        .saturating_mul(BUCKETS_A_ROW)
+        .saturating_add(MORE_BUCKETS);
+    notes.resize_with(buckets, || 0)?;
     for place in 0..rows.len() {
         note(&mut notes, rows[place].0.number(), place);
     }
