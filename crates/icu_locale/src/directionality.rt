@@ -10,7 +10,7 @@ use crate::{AsExpander, LocaleExpander};
 use icu_locale_core::{LanguageIdentifier, Script};
 use icu_provider::{
     DataError, DataProvider, LikelySubtagsExtended, LikelySubtagsForLanguage,
-    LikelySubtagsForScriptRegion, NumberedMap, Rows, ScriptDirection,
+    LikelySubtagsForScriptRegion, NotedMap, Rows, ScriptDirection,
 };
 
 /// Which way a script runs.
@@ -185,7 +185,7 @@ impl<'d, E: AsExpander<'d>> LocaleDirectionality<'d, E> {
 }
 
 // Whether none of the scripts is among the others.
-fn shares_none(scripts: Rows<'_, Script, ()>, others: &NumberedMap<Script, ()>) -> bool
+fn shares_none(scripts: Rows<'_, Script, ()>, others: &NotedMap<Script, ()>) -> bool
     ensures { result ≡ list_all (λ row. not (is_listed others.now row.0)) scripts.entry }
 {
     for (script, _) in scripts {

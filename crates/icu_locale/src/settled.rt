@@ -29,8 +29,8 @@ ghost use Rattle.icu_locale.specs.Locales.{same_locale};
 
 use crate::LocaleExpander;
 use crate::expander::looks::{LikelyKey, LikelyMaps, bare_locale, extended_maps};
-use icu_locale_core::{Language, Numbered, Region, Script};
-use icu_provider::{DataLocale, NumberedMap};
+use icu_locale_core::{Language, Region, Script};
+use icu_provider::{DataLocale, Marked, NotedMap};
 
 // The key of a row: what is in it of an identifier.
 trait RowKey: Ord {
@@ -144,7 +144,7 @@ impl<'d> LocaleExpander<'d> {
     }
 
     // Whether each row's key settles.
-    fn all_settle<K: RowKey + Numbered, V>(&self, rows: &NumberedMap<K, V>) -> bool
+    fn all_settle<K: RowKey + Marked, V>(&self, rows: &NotedMap<K, V>) -> bool
         ensures { MatchBool result (AllSettle (likely self.now) K.key rows.now)
             (HasUnsettled (likely self.now)) }
     {

@@ -1,5 +1,4 @@
 mod Bounds
 mod Notes
-mod Requests
 mod Spans
 mod StringSets

@@ -1,6 +1,7 @@
 pub mod Exemplars
 pub mod InversionList
 pub mod Lends
+pub mod Marks
 pub mod Names
 pub mod Places
 pub mod Provider

@@ -5,7 +5,7 @@ ghost use Rattle.icu_locale_core.specs.Maps.{value_at};
 ghost use Rattle.icu_locale_core.specs.TextSet.{text_cmp};
 ghost use Rattle.icu_provider.specs.SortedMaps.{text_at, regions_at, IsFoundEach, IsSortedMap, Inserts, Pushes};
 
-use crate::{DataError, NumberedMap, RowList, Rows, SortedMap};
+use crate::{DataError, NotedMap, RowList, Rows, SortedMap};
 use icu_locale_core::{Language, Region, Script, Subtag, Variant};
 use std::alloc::Global;
 
@@ -26,21 +26,21 @@ pub struct Aliases {
     /// Rules with no variants, asked in order: a rule text and a replacement text.
     pub language: RowList<StrStrPair>,
     /// The language of a sign language's region.
-    pub sgn_region: NumberedMap<Region, Language>,
+    pub sgn_region: NotedMap<Region, Language>,
     /// The replacement text of a language of two letters.
     pub language_len2: SortedMap<Language, String>,
     /// The replacement text of a language of three letters.
     pub language_len3: SortedMap<Language, String>,
     /// The script that replaces a script.
-    pub script: NumberedMap<Script, Script>,
+    pub script: NotedMap<Script, Script>,
     /// The region that replaces a region of letters.
-    pub region_alpha: NumberedMap<Region, Region>,
+    pub region_alpha: NotedMap<Region, Region>,
     /// The region that replaces a region of digits.
-    pub region_num: NumberedMap<Region, Region>,
+    pub region_num: NotedMap<Region, Region>,
     /// The regions of which one replaces a region.
-    pub complex_region: NumberedMap<Region, Vec<Region>>,
+    pub complex_region: NotedMap<Region, Vec<Region>>,
     /// The variant that replaces a variant.
-    pub variant: NumberedMap<Variant, Variant>,
+    pub variant: NotedMap<Variant, Variant>,
     /// The value text that replaces a subdivision.
     pub subdivision: SortedMap<Subtag, String>,
 }
@@ -83,14 +83,14 @@ impl Aliases {
         Aliases {
             language_variants: RowList::new(alloc),
             language: RowList::new(alloc),
-            sgn_region: NumberedMap::new(alloc),
+            sgn_region: NotedMap::new(alloc),
             language_len2: SortedMap::new(alloc),
             language_len3: SortedMap::new(alloc),
-            script: NumberedMap::new(alloc),
-            region_alpha: NumberedMap::new(alloc),
-            region_num: NumberedMap::new(alloc),
-            complex_region: NumberedMap::new(alloc),
-            variant: NumberedMap::new(alloc),
+            script: NotedMap::new(alloc),
+            region_alpha: NotedMap::new(alloc),
+            region_num: NotedMap::new(alloc),
+            complex_region: NotedMap::new(alloc),
+            variant: NotedMap::new(alloc),
             subdivision: SortedMap::new(alloc),
         }
     }

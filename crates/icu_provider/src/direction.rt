@@ -3,7 +3,7 @@ ghost use Rattle.std.specs.Prelude.{◌≡◌, []};
 ghost use Rattle.icu_locale_core.specs.TextSet.{text_cmp};
 ghost use Rattle.icu_provider.specs.SortedMaps.{Inserts, is_listed};
 
-use crate::{DataError, NumberedMap};
+use crate::{DataError, NotedMap};
 use icu_locale_core::Script;
 use std::alloc::Global;
 
@@ -12,9 +12,9 @@ use std::alloc::Global;
 #[derive(Debug)]
 pub struct ScriptDirection {
     /// The scripts from right to left.
-    pub rtl: NumberedMap<Script, ()>,
+    pub rtl: NotedMap<Script, ()>,
     /// The scripts from left to right.
-    pub ltr: NumberedMap<Script, ()>,
+    pub ltr: NotedMap<Script, ()>,
 }
 
 impl Drop for ScriptDirection {
@@ -29,8 +29,8 @@ impl ScriptDirection {
         ensures { result ≡ record { rtl = []; ltr = [] } }
     {
         ScriptDirection {
-            rtl: NumberedMap::new(alloc),
-            ltr: NumberedMap::new(alloc),
+            rtl: NotedMap::new(alloc),
+            ltr: NotedMap::new(alloc),
         }
     }
 

@@ -1,14 +1,16 @@
 -- Names in groups: what a look-up finds, and what a row that is put into its group does to the one list.
-use Rattle.std.proofs.Common.{◌≡◌, List, [], ◌∷◌, unwrap_or, String, Option, Some, None, option_and_then, Result, Ok, Err, IsSome, IfSome, refl, sym}
+use Rattle.std.proofs.Common.{◌≡◌, ◌≢◌, nat_eq, length, List, [], ◌∷◌, unwrap_or, String, Option, Some, None, option_and_then, Result, Ok, Err, IsSome, IfSome, refl, sym}
 use Rattle.std.proofs.Common.{ap, ◌∙◌, subst}
 use Rattle.std.specs.Global.{Global}
 use Rattle.std.specs.Cmp.{IsTotalOrder}
+use Rattle.std.specs.List.{AllByRecursion}
 use Rattle.std.specs.List.Sorted.{IsStrictlySortedBy}
 use Rattle.std.specs.BTreeMap.{insert_entry}
 use Rattle.std.specs.Ordering.{ordering_then}
 use Rattle.std.specs.declared.cmp.Ordering.TheVariants.{Equal}
 use Rattle.std.proofs.lemmas.Cmp.{on_total, then_total, tied_itself}
 use Rattle.std.proofs.lemmas.Bool.{false≢true}
+use Rattle.std.proofs.lemmas.Option.{none-some}
 use Rattle.std.proofs.lemmas.Map.Entries.{All-lookup}
 use Rattle.std.proofs.lemmas.List.Elements.{All-from_recursion}
 use Rattle.icu_locale_core.specs.Maps.{IsSortedMap, value_at}
@@ -51,10 +53,18 @@ same_group ties key g h tied =
 abbrev Rise : Groups → Type 0
 Rise groups = RiseInGroups group_cmp key_cmp groups
 
+-- the names of a group rise, and there is one
+abbrev IsGroup : Names → Type 0
+IsGroup names = IsSortedMap key_cmp names × (names ≢ [])
+
 -- no groups
 pub rise_where_none : (groups : Groups) → groups ≡ [] → Rise groups
 unfolding IsStrictlySortedBy
-rise_where_none groups is = subst Rise (sym is) (record { groups_rise = tt; keys_rise = tt })
+rise_where_none groups is = subst Rise (sym is) (record { groups_rise = tt; keys_rise = tt; none_empty = tt })
+
+-- where a name is found there is one
+some_found : (names : Names) (key : NameKey) (name : String Global) → value_at key_cmp names key ≡ Some name → names ≢ []
+some_found names key name found empty = absurd (none-some name (ap (λ rows. value_at key_cmp rows key) (sym empty) ∙ found))
 
 -- one name is in order
 pub one_rises : (key : NameKey) (name : String Global) → IsSortedMap key_cmp ((key, name) ∷ [])
@@ -66,13 +76,24 @@ pub names_rise : (groups : Groups) → Rise groups → IsSortedMap name_cmp (fla
 names_rise groups rise = flat_rises request_of key_cmp name_cmp group_total (λ g h k l. refl) groups rise.groups_rise rise.keys_rise
 
 -- groups with the names of one replaced still rise
-pub rise_after : (groups : Groups) (g : NameGroup) (names : Names) → Rise groups → IsSortedMap key_cmp names → Rise (insert_entry group_cmp groups g names)
-rise_after groups g names rise sorted = record {
+pub rise_after : (groups : Groups) (g : NameGroup) (names : Names) → Rise groups → IsGroup names → Rise (insert_entry group_cmp groups g names)
+rise_after groups g names rise is = record {
   groups_rise = IsSortedMap-insert_entry group_total groups g names rise.groups_rise;
-  keys_rise = each-insert_entry group_cmp (IsSortedMap key_cmp) groups g names rise.keys_rise sorted;
+  keys_rise = each-insert_entry group_cmp (IsSortedMap key_cmp) groups g names rise.keys_rise is.0;
+  none_empty = each-insert_entry group_cmp (λ rows. rows ≢ []) groups g names rise.none_empty is.1;
 }
 
+-- there is no name exactly where there is no group
+pub none_without_groups : (groups : Groups) → Rise groups → nat_eq (length groups) 0 ≡ nat_eq (length (flat_names groups)) 0
+none_without_groups [] rise = refl
+none_without_groups ((g, []) ∷ groups) rise = absurd (rise.none_empty.0 refl)
+none_without_groups ((g, name ∷ names) ∷ groups) rise = refl
+
 module _ (groups : Groups) (g : NameGroup) (key : NameKey) (rise : Rise groups) where
+  -- what each group has, one that is found has
+  of_group : (P : Names → Type 0) (names : Names) → AllByRecursion (λ group. P group.1) groups → value_at group_cmp groups g ≡ Some names → P names
+  of_group P names each there = subst (λ held. IfSome held P) there (All-lookup P _ groups (All-from_recursion _ _ each))
+
   -- a look-up in the one list is one among the groups, and then one among the names
   pub name_in_groups : value_at name_cmp (flat_names groups) (request_of g key) ≡ option_and_then (λ names. value_at key_cmp names key)
       (value_at group_cmp groups g)
@@ -85,16 +106,15 @@ module _ (groups : Groups) (g : NameGroup) (key : NameKey) (rise : Rise groups) 
   module _ (name : String Global) where
     -- after an insert into a group that is there, its names still rise
     pub names_after : (old names : Names) (result : Result (Unit {0}) DataError) → value_at group_cmp groups g ≡ Some old
-        → Inserts key_cmp old names key name result → IsSortedMap key_cmp names
-    names_after old names (Ok done) there inserts = inserts.holds.sorted
+        → Inserts key_cmp old names key name result → IsGroup names
+    names_after old names (Ok done) there inserts = (inserts.holds.sorted, some_found names key name inserts.holds.found)
     names_after old names (Err e) there inserts =
-        let found = All-lookup (IsSortedMap key_cmp) _ groups (All-from_recursion _ _ rise.keys_rise) in
-        let sorted = subst (λ held. IfSome held (IsSortedMap key_cmp)) there found in
-        subst (IsSortedMap key_cmp) (sym inserts.refuses.unchanged) sorted
+        subst IsGroup (sym inserts.refuses.unchanged)
+        (of_group (IsSortedMap key_cmp) old rise.keys_rise there, of_group (λ rows. rows ≢ []) old rise.none_empty there)
 
     -- a group of one name is put among groups that rise
     pub rise_new : (new : Groups) (result : Result (Unit {0}) DataError) → Inserts group_cmp groups new g ((key, name) ∷ []) result → Rise new
-    rise_new new (Ok done) inserts = subst Rise (sym inserts.holds.rows) (rise_after groups g _ rise (one_rises key name))
+    rise_new new (Ok done) inserts = subst Rise (sym inserts.holds.rows) (rise_after groups g _ rise (one_rises key name, cons-nil))
     rise_new new (Err e) inserts = subst Rise (sym inserts.refuses.unchanged) rise
 
     -- what an insert into the one list says

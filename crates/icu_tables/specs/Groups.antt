@@ -1,5 +1,5 @@
 -- Names in groups, one for each marker and locale, and the one list that a contract sees.
-use Rattle.std.specs.Prelude.{◌≡◌, List, [], ◌∷◌, ◌++◌, map, get_or, unwrap_or, Option, None, option_and_then, option_copied, String}
+use Rattle.std.specs.Prelude.{◌≡◌, ◌≢◌, List, [], ◌∷◌, ◌++◌, map, get_or, unwrap_or, Option, None, option_and_then, option_copied, String}
 use Rattle.std.specs.Borrow.{Bor}
 use Rattle.std.specs.Global.{Global}
 use Rattle.std.specs.List.{AllByRecursion}
@@ -27,11 +27,12 @@ flat whole (group ∷ groups) = group_rows whole group.0 group.1 ++ flat whole g
 abbrev pub rows_at : {G T : Type 0} → (G → G → Ordering) → List (G × List T) → G → List T
 rows_at by_group groups group = unwrap_or (value_at by_group groups group) []
 
--- the groups rise, and the keys in each rise
+-- the groups rise, the keys in each rise, and no group is empty
 pub record RiseInGroups {G K V : Type 0} (by_group : G → G → Ordering) (by_key : K → K → Ordering)
     (groups : List (G × List (K × V))) : Type 0 where
   pub groups_rise : IsSortedMap by_group groups
   pub keys_rise : AllByRecursion (λ group. IsSortedMap by_key group.1) groups
+  pub none_empty : AllByRecursion (λ group. group.1 ≢ []) groups
 
 -- a marker and a locale
 abbrev pub NameGroup : Type 0

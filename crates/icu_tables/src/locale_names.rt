@@ -6,11 +6,11 @@ ghost use Rattle.icu_tables.specs.Groups.{name_in_group};
 
 use crate::NameRows;
 use icu_provider::laws::equality_is_told;
-use icu_provider::{DataLocale, NameKey, NameMarker, SortedMap};
+use icu_provider::{DataLocale, NameKey, NameMarker, NotedMap};
 use std::marker::Model;
 
 // The names of a kind in a locale, if there are any.
-type Group<'d> = Option<&'d SortedMap<NameKey, String>>;
+type Group<'d> = Option<&'d NotedMap<NameKey, String>>;
 
 /// Names that are asked in one locale again and again: its names of each kind are found once. A contract sees the same
 /// rows as of the names themselves. No call takes memory.

@@ -1,5 +1,5 @@
 //! Names in two steps: first by marker and locale, and then by key.
-ghost use Rattle.std.specs.Prelude.{◌≡◌, ◌==◌, ◌-◌, ◌^◌, [], length, min, MatchResult, option_copied};
+ghost use Rattle.std.specs.Prelude.{◌≡◌, ◌==◌, ◌-◌, ◌^◌, [], length, min, MatchResult, IfErr, option_copied};
 ghost use Rattle.icu_locale_core.specs.Maps.{value_at};
 ghost use Rattle.icu_provider.specs.SortedMaps.{Inserts, IsSortedMap};
 ghost use Rattle.icu_provider.specs.Requests.{name_cmp};
@@ -7,12 +7,14 @@ ghost use Rattle.icu_tables.specs.Groups.{flat_names, group_cmp, name_in_group};
 
 use crate::LocaleNames;
 use icu_provider::laws::keys_are_told_apart;
-use icu_provider::{DataError, DataLocale, NameKey, NameMarker, SortedMap};
+use icu_provider::{
+    DataError, DataErrorKind, DataLocale, NameKey, NameMarker, NotedMap, SortedMap,
+};
 use std::alloc::Global;
 use std::marker::Model;
 
 // The names of a marker and a locale, by key.
-type Names = SortedMap<NameKey, String>;
+type Names = NotedMap<NameKey, String>;
 
 /// Names by marker, locale and key. A marker and a locale that have names are a group with a map of its own, so that a
 /// request whose marker and locale have none is answered by a look at the groups alone. A contract sees one list of
@@ -60,15 +62,15 @@ impl NameRows {
         count_of(self.groups.as_slice())
     }
 
-    /// Whether there is no name. It asks each group once.
+    /// Whether there is no name.
     pub fn is_empty(&self) -> bool
         ensures { result ≡ (length self.now == 0) }
     {
-        self.len() == 0
+        self.groups.is_empty()
     }
 
-    /// The name at a marker, a locale and a key, found by binary search: of the marker and the locale among the groups,
-    /// and then of the key among the names of that group alone.
+    /// The name at a marker, a locale and a key, found by binary search of the marker and the locale among the groups,
+    /// and then among the names of that group alone.
     #[inline]
     pub fn get(&self, marker: NameMarker, locale: DataLocale, key: &NameKey) -> Option<&String>
         ensures { option_copied result
@@ -115,9 +117,32 @@ impl NameRows {
         match self.groups.get_mut(&group) {
             Some(names) => names.insert(key, name),
             None => {
-                let names = vec![in *name.allocator(); (key, name)]?;
-                self.groups.insert(group, SortedMap::from_sorted(names))
+                let alloc = *name.allocator();
+                let names = vec![in alloc; (key, name)]?;
+                self.groups
+                    .insert(group, NotedMap::from_sorted(alloc, names))
             }
+        }
+    }
+
+    /// Notes where the names of a marker and a locale are, so that a look-up among them takes one step for most keys, until
+    /// a name is put in there. It takes memory for the notes.
+    ///
+    /// # Errors
+    ///
+    /// `Memory`, only where memory for the notes was refused.
+    pub fn note(
+        &mut self,
+        alloc: Global,
+        marker: NameMarker,
+        locale: DataLocale,
+    ) -> Result<(), DataError>
+        ensures names { self.new ≡ self.old }
+        ensures refused { IfErr result (λ e. e.kind ≡ DataErrorKind.Memory) }
+    {
+        match self.groups.get_mut(&(marker, locale)) {
+            Some(names) => names.note(alloc),
+            None => Ok(()),
         }
     }
 

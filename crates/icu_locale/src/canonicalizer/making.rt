@@ -10,7 +10,7 @@ use super::rules::{ReadRules, Rules};
 use crate::LocaleExpander;
 use icu_provider::{
     Aliases, DataError, DataErrorKind, DataProvider, LikelySubtagsExtended,
-    LikelySubtagsForLanguage, LikelySubtagsForScriptRegion, NumberedMap, RowList,
+    LikelySubtagsForLanguage, LikelySubtagsForScriptRegion, NotedMap, RowList,
 };
 use std::alloc::Global;
 
@@ -173,9 +173,9 @@ impl ReadRules {
         Ok(ReadRules {
             language: RowList::from_vec(language),
             language_variants: RowList::from_vec(language_variants),
-            language_len2: NumberedMap::try_from_sorted(alloc, language_len2)?,
-            language_len3: NumberedMap::try_from_sorted(alloc, language_len3)?,
-            subdivision: NumberedMap::try_from_sorted(alloc, subdivision)?,
+            language_len2: NotedMap::try_from_sorted(alloc, language_len2)?,
+            language_len3: NotedMap::try_from_sorted(alloc, language_len3)?,
+            subdivision: NotedMap::try_from_sorted(alloc, subdivision)?,
             alloc,
         })
     }

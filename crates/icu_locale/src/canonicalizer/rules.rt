@@ -3,7 +3,7 @@ ghost use Rattle.std.specs.Prelude.{◌≡◌};
 ghost use Rattle.icu_locale.specs.RuleSet.{lent, rules_over};
 
 use icu_locale_core::{Language, LanguageIdentifier, Subtag, Value};
-use icu_provider::{Aliases, NumberedMap, RowList};
+use icu_provider::{Aliases, NotedMap, RowList};
 use std::alloc::Global;
 use std::marker::Model;
 
@@ -29,11 +29,11 @@ pub struct ReadRules {
     /// The rules for identifiers with variants, in order.
     pub language_variants: RowList<Rule>,
     /// The replacements of languages of two letters.
-    pub language_len2: NumberedMap<Language, LanguageIdentifier>,
+    pub language_len2: NotedMap<Language, LanguageIdentifier>,
     /// The replacements of languages of three letters.
-    pub language_len3: NumberedMap<Language, LanguageIdentifier>,
+    pub language_len3: NotedMap<Language, LanguageIdentifier>,
     /// The values that replace subdivisions.
-    pub subdivision: NumberedMap<Subtag, Value>,
+    pub subdivision: NotedMap<Subtag, Value>,
     /// What makes empty sets.
     pub alloc: Global,
 }

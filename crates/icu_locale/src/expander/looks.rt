@@ -21,8 +21,8 @@ ghost use Rattle.icu_locale.specs.inner.Trials.{loses, gains};
 ghost use Rattle.icu_locale.specs.inner.SettledRows.{map_rows};
 
 use crate::expander::LocaleExpander;
-use icu_locale_core::{Language, Numbered, Region, Script};
-use icu_provider::{DataLocale, LikelySubtagsExtended, NumberedMap};
+use icu_locale_core::{Language, Region, Script};
+use icu_provider::{DataLocale, LikelySubtagsExtended, Marked, NotedMap};
 
 // A language, a script and a region, as a row of the table gives them.
 pub(crate) type Triple = (Language, Script, Region);
@@ -41,12 +41,12 @@ pub enum LikelyKey {
 // The six maps of a likely table, by the subtags of their keys.
 #[derive(Clone, Copy)]
 pub(crate) struct LikelyMaps<'d> {
-    pub(crate) language: &'d NumberedMap<Language, (Script, Region)>,
-    pub(crate) language_script: &'d NumberedMap<(Language, Script), Region>,
-    pub(crate) language_region: &'d NumberedMap<(Language, Region), Script>,
-    pub(crate) script_region: &'d NumberedMap<(Script, Region), Language>,
-    pub(crate) script: &'d NumberedMap<Script, (Language, Region)>,
-    pub(crate) region: &'d NumberedMap<Region, (Language, Script)>,
+    pub(crate) language: &'d NotedMap<Language, (Script, Region)>,
+    pub(crate) language_script: &'d NotedMap<(Language, Script), Region>,
+    pub(crate) language_region: &'d NotedMap<(Language, Region), Script>,
+    pub(crate) script_region: &'d NotedMap<(Script, Region), Language>,
+    pub(crate) script: &'d NotedMap<Script, (Language, Region)>,
+    pub(crate) region: &'d NotedMap<Region, (Language, Script)>,
 }
 
 impl<'d> LikelyMaps<'d> {
@@ -86,7 +86,7 @@ impl<'d> LikelyMaps<'d> {
 
 // The value at a key of a map, if any.
 #[inline(always)]
-fn value_at<K: Numbered + Copy, V: Copy>(map: &NumberedMap<K, V>, key: K) -> Option<V>
+fn value_at<K: Marked + Copy, V: Copy>(map: &NotedMap<K, V>, key: K) -> Option<V>
     ensures { result ≡ value_at K.cmp map.now key }
 {
     map.get(&key).copied()

@@ -4,7 +4,7 @@ ghost use Rattle.icu_locale_core.specs.Maps.{value_at};
 ghost use Rattle.icu_locale_core.specs.TextSet.{text_cmp};
 ghost use Rattle.icu_provider.specs.SortedMaps.{Inserts, IsFoundEach, IsSortedMap, pair_cmp};
 
-use crate::{DataError, NumberedMap, Rows};
+use crate::{DataError, NotedMap, Rows};
 use icu_locale_core::{Language, Region, Script};
 use std::alloc::Global;
 
@@ -13,17 +13,17 @@ use std::alloc::Global;
 #[derive(Debug)]
 pub struct LikelySubtagsExtended {
     /// The script and the region of a language.
-    pub language: NumberedMap<Language, (Script, Region)>,
+    pub language: NotedMap<Language, (Script, Region)>,
     /// The region of a language and a script.
-    pub language_script: NumberedMap<(Language, Script), Region>,
+    pub language_script: NotedMap<(Language, Script), Region>,
     /// The script of a language and a region.
-    pub language_region: NumberedMap<(Language, Region), Script>,
+    pub language_region: NotedMap<(Language, Region), Script>,
     /// The language of a script and a region.
-    pub script_region: NumberedMap<(Script, Region), Language>,
+    pub script_region: NotedMap<(Script, Region), Language>,
     /// The language and the region of a script.
-    pub script: NumberedMap<Script, (Language, Region)>,
+    pub script: NotedMap<Script, (Language, Region)>,
     /// The language and the script of a region.
-    pub region: NumberedMap<Region, (Language, Script)>,
+    pub region: NotedMap<Region, (Language, Script)>,
 }
 
 impl Drop for LikelySubtagsExtended {
@@ -52,12 +52,12 @@ impl LikelySubtagsExtended {
         } }
     {
         LikelySubtagsExtended {
-            language: NumberedMap::new(alloc),
-            language_script: NumberedMap::new(alloc),
-            language_region: NumberedMap::new(alloc),
-            script_region: NumberedMap::new(alloc),
-            script: NumberedMap::new(alloc),
-            region: NumberedMap::new(alloc),
+            language: NotedMap::new(alloc),
+            language_script: NotedMap::new(alloc),
+            language_region: NotedMap::new(alloc),
+            script_region: NotedMap::new(alloc),
+            script: NotedMap::new(alloc),
+            region: NotedMap::new(alloc),
         }
     }
 

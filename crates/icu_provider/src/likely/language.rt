@@ -4,7 +4,7 @@ ghost use Rattle.icu_locale_core.specs.Maps.{value_at};
 ghost use Rattle.icu_locale_core.specs.TextSet.{text_cmp};
 ghost use Rattle.icu_provider.specs.SortedMaps.{Inserts, IsFoundEach, IsSortedMap, pair_cmp};
 
-use crate::{DataError, NumberedMap, Rows};
+use crate::{DataError, NotedMap, Rows};
 use icu_locale_core::{Language, Region, Script};
 use std::alloc::Global;
 
@@ -15,11 +15,11 @@ pub struct LikelySubtagsForLanguage {
     /// The language, script and region of `und`, which also serves as a row for its script and its region.
     pub und: (Language, Script, Region),
     /// The script and the region of a language.
-    pub language: NumberedMap<Language, (Script, Region)>,
+    pub language: NotedMap<Language, (Script, Region)>,
     /// The region of a language and a script.
-    pub language_script: NumberedMap<(Language, Script), Region>,
+    pub language_script: NotedMap<(Language, Script), Region>,
     /// The script of a language and a region.
-    pub language_region: NumberedMap<(Language, Region), Script>,
+    pub language_region: NotedMap<(Language, Region), Script>,
 }
 
 impl Drop for LikelySubtagsForLanguage {
@@ -45,9 +45,9 @@ impl LikelySubtagsForLanguage {
     {
         LikelySubtagsForLanguage {
             und,
-            language: NumberedMap::new(alloc),
-            language_script: NumberedMap::new(alloc),
-            language_region: NumberedMap::new(alloc),
+            language: NotedMap::new(alloc),
+            language_script: NotedMap::new(alloc),
+            language_region: NotedMap::new(alloc),
         }
     }
 

@@ -4,7 +4,7 @@ ghost use Rattle.icu_locale_core.specs.Maps.{value_at};
 ghost use Rattle.icu_locale_core.specs.TextSet.{text_cmp};
 ghost use Rattle.icu_provider.specs.SortedMaps.{Inserts, IsFoundEach, IsSortedMap, pair_cmp};
 
-use crate::{DataError, NumberedMap, Rows};
+use crate::{DataError, NotedMap, Rows};
 use icu_locale_core::{Language, Region, Script};
 use std::alloc::Global;
 
@@ -13,11 +13,11 @@ use std::alloc::Global;
 #[derive(Debug)]
 pub struct LikelySubtagsForScriptRegion {
     /// The language of a script and a region.
-    pub script_region: NumberedMap<(Script, Region), Language>,
+    pub script_region: NotedMap<(Script, Region), Language>,
     /// The language and the region of a script.
-    pub script: NumberedMap<Script, (Language, Region)>,
+    pub script: NotedMap<Script, (Language, Region)>,
     /// The language and the script of a region.
-    pub region: NumberedMap<Region, (Language, Script)>,
+    pub region: NotedMap<Region, (Language, Script)>,
 }
 
 impl Drop for LikelySubtagsForScriptRegion {
@@ -36,9 +36,9 @@ impl LikelySubtagsForScriptRegion {
         ensures { result ≡ record { script_region = []; script = []; region = [] } }
     {
         LikelySubtagsForScriptRegion {
-            script_region: NumberedMap::new(alloc),
-            script: NumberedMap::new(alloc),
-            region: NumberedMap::new(alloc),
+            script_region: NotedMap::new(alloc),
+            script: NotedMap::new(alloc),
+            region: NotedMap::new(alloc),
         }
     }
 

@@ -8,12 +8,12 @@ use crate::TableError;
 use crate::file::objects::{MemberReader, only_members};
 use crate::file::values::FromValue;
 use icu_locale_core::Script;
-use icu_provider::{NumberedMap, ScriptDirection};
+use icu_provider::{NotedMap, ScriptDirection};
 use serde_json::Value;
 use std::alloc::Global;
 
 // A set of scripts.
-impl FromValue for NumberedMap<Script, ()> {
+impl FromValue for NotedMap<Script, ()> {
     ghost use Rattle.std.specs.Prelude.{List, ℕ};
     ghost use Rattle.icu_tables.specs.Shape.{set_of};
     ghost use Rattle.icu_tables.specs.Subtags.{script};
@@ -30,7 +30,7 @@ impl FromValue for NumberedMap<Script, ()> {
 }
 
 // The set of the scripts of a list, where repeats fall together.
-fn set_from(alloc: Global, mut scripts: Vec<Script>) -> Result<NumberedMap<Script, ()>, TableError>
+fn set_from(alloc: Global, mut scripts: Vec<Script>) -> Result<NotedMap<Script, ()>, TableError>
     ensures members { IfOk result (λ set. keys_of set ≡ rising (from_list scripts.items)) }
     ensures refused { IfErr result (λ e. e ≡ TableError.Memory) }
 {
@@ -40,7 +40,7 @@ fn set_from(alloc: Global, mut scripts: Vec<Script>) -> Result<NumberedMap<Scrip
     for script in &scripts {
         rows.push((*script, ()))?;
     }
-    Ok(NumberedMap::try_from_sorted(alloc, rows)?)
+    Ok(NotedMap::try_from_sorted(alloc, rows)?)
 }
 
 impl FromValue for ScriptDirection {

@@ -49,7 +49,8 @@ fn fill_names(alloc: Global, object: &Value, names: &mut NameRows) -> Result<(),
     Ok(())
 }
 
-// The names of a map, each after the others. Rows come in order, so that none has to make room.
+// The names of a map, each after the others. Rows come in order, so that none has to make room, and a group is noted when
+// the next begins.
 fn in_groups(
     alloc: Global,
     map: BTreeMap<(NameMarker, DataLocale, NameKey), String>,
@@ -58,12 +59,36 @@ fn in_groups(
     ensures refused { IfErr result (λ e. e ≡ TableError.Memory) }
 {
     let mut rows = NameRows::new(alloc);
+    let mut group = None;
     for ((marker, locale, key), name) in map {
+        if group != Some((marker, locale)) {
+            note_group(alloc, &mut rows, group)?;
+            group = Some((marker, locale));
+        }
         let Ok(()) = rows.insert(marker, locale, key, name) else {
             return Err(TableError::Memory);
         };
     }
+    note_group(alloc, &mut rows, group)?;
     Ok(rows)
+}
+
+// Notes where the names of a group are, once they are all there.
+fn note_group(
+    alloc: Global,
+    rows: &mut NameRows,
+    group: Option<(NameMarker, DataLocale)>,
+) -> Result<(), TableError>
+    ensures names { rows.new ≡ rows.old }
+    ensures refused { IfErr result (λ e. e ≡ TableError.Memory) }
+{
+    let Some((marker, locale)) = group else {
+        return Ok(());
+    };
+    match rows.note(alloc, marker, locale) {
+        Ok(()) => Ok(()),
+        Err(_) => Err(TableError::Memory),
+    }
 }
 
 const NAME_MARKERS: [(&str, NameMarker); 16] = [

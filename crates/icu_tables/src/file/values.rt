@@ -8,8 +8,7 @@ ghost use Rattle.icu_tables.specs.inner.Reads.{Reads};
 
 use crate::TableError;
 use crate::file::keys::RowKey;
-use icu_locale_core::Numbered;
-use icu_provider::{NumberedMap, SortedMap};
+use icu_provider::{Marked, NotedMap, SortedMap};
 use serde_json::Value;
 use std::alloc::Global;
 
@@ -63,7 +62,7 @@ impl<K: RowKey, V: FromValue> FromValue for SortedMap<K, V> {
     }
 }
 
-impl<K: RowKey + Numbered, V: FromValue> FromValue for NumberedMap<K, V> {
+impl<K: RowKey + Marked, V: FromValue> FromValue for NotedMap<K, V> {
     ghost use Rattle.std.specs.Prelude.{List};
     ghost use Rattle.icu_tables.specs.Rows.{seen_rows};
 
@@ -74,18 +73,12 @@ impl<K: RowKey + Numbered, V: FromValue> FromValue for NumberedMap<K, V> {
     ghost shape = { map_of K.key V.shape };
 
     fn from_value(alloc: Global, value: &Value) -> Result<Self, TableError> {
-        Ok(NumberedMap::try_from_sorted(
-            alloc,
-            rows_of(alloc, value)?,
-        )?)
+        Ok(NotedMap::try_from_sorted(alloc, rows_of(alloc, value)?)?)
     }
 }
 
 // The rows of an object whose members are rows. The names of its members rise, and so do the keys.
-fn rows_of<K: RowKey, V: FromValue>(
-    alloc: Global,
-    value: &Value,
-) -> Result<Vec<(K, V)>, TableError>
+fn rows_of<K: RowKey, V: FromValue>(alloc: Global, value: &Value) -> Result<Vec<(K, V)>, TableError>
     ensures read { Reads (λ rows. seen_rows V.seen rows.items) result
         (map_of K.key V.shape (view value.now)) }
     ensures sorted { IfOk result (λ rows. IsSortedMap K.cmp rows.items) }

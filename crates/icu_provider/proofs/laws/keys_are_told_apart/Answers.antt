@@ -1,4 +1,4 @@
-use Rattle.icu_provider.proofs.Requests.{texts_tie, pairs_tie, locales_tie, exemplars_tie, names_tie, menus_tie}
+use Rattle.icu_provider.specs.laws.Requests.{texts_tie, pairs_tie, locales_tie, exemplars_tie, names_tie, menus_tie}
 use Rattle.icu_provider.proofs.laws.keys_are_told_apart.Goals as goal
 
 pub returns-clause-texts : goal.returns-clause-texts

@@ -157,7 +157,7 @@ same_name a b tied =
     ∙ ap (λ n. get_or all_names n names.LanguageLongHeavy) (nat_cmp-IsAntisymmetric (name_place a) (name_place b) tied)
     ∙ name_at_place b
 
-same_key : (a b : NameKey) → key_order a b ≡ Equal → a ≡ b
+pub same_key : (a b : NameKey) → key_order a b ≡ Equal → a ≡ b
 same_key (Language l s r) (Language m t u) tied =
     let first = both_tied (text_cmp l m) _ tied in
     let rest = both_tied (option_cmp text_cmp s t) (option_cmp text_cmp r u) first.1 in
@@ -178,7 +178,7 @@ same_key (Variant s) (Script t) tied = absurd (not_greater tied)
 same_key (Variant s) (Region t) tied = absurd (not_greater tied)
 same_key (Variant s) (Variant t) tied = ap (λ x. Variant x) (text_same s t tied)
 
-key_itself : (a : NameKey) → key_order a a ≡ Equal
+pub key_itself : (a : NameKey) → key_order a a ≡ Equal
 key_itself (Language l s r) =
     then_tied (text_cmp l l) _ (text_itself l)
     (then_tied (option_cmp text_cmp s s) (option_cmp text_cmp r r) (part_itself s) (part_itself r))

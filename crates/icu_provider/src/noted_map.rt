@@ -1,40 +1,51 @@
-//! A sorted map whose keys have numbers, with notes by which most look-ups take one step.
+//! A sorted map whose keys have marks, with notes by which most look-ups take one step.
 ghost use Rattle.std.specs.Prelude.{◌≡◌, ◌≢◌, ◌==◌, ◌<◌, [], ℕ, get_or, length, is_some, option_copied, List, IfOk, IsOk};
 ghost use Rattle.icu_locale_core.specs.Maps.{value_at};
 ghost use Rattle.icu_provider.specs.SortedMaps.{Inserts, IsFoundEach, IsSortedMap, RefusesMemory};
 ghost use Rattle.icu_provider.specs.inner.Notes.{bucket, IsNoted};
 
+use crate::marked::Marked;
 use crate::{DataError, Rows, SortedMap};
-use icu_locale_core::Numbered;
 use std::alloc::{AllocError, Global};
 use std::marker::Model;
 
-/// A map whose rows are in one list, in the order of their keys, which have numbers. Beside the rows it may keep notes of
-/// where keys are: a look-up then takes one step for most keys, be they there or not. `insert` takes the notes away, and
+/// A map whose rows are in one list, in the order of their keys. Beside the rows it may keep notes of where keys are, by
+/// their marks: a look-up then takes one step for most keys, be they there or not. `insert` takes the notes away, and
 /// `note` makes them again.
 #[derive(Debug, Drop)]
-pub struct NumberedMap<K: Numbered, V> {
+pub struct NotedMap<K: Marked, V> {
     rows: SortedMap<K, V>,
-    // At the bucket of a key's number one more than the place of some row, and 0 where no key has that bucket. None where
+    // At the bucket of a key's mark one more than the place of some row, and 0 where no key has that bucket. None where
     // nothing is noted.
     notes: Vec<u16>,
 }
 
-impl<K: Numbered, V> Model for NumberedMap<K, V> {
+impl<K: Marked, V> Model for NotedMap<K, V> {
     ghost Value = { List (K × V) };
 
     ghost view = { λ m. m.rows };
 
-    ghost invariant = { λ m. IsNoted K.cmp K.IsNumber m.rows m.notes.items };
+    ghost invariant = { λ m. IsNoted K.cmp K.IsMark m.rows m.notes.items };
 }
 
-impl<K: Numbered, V> NumberedMap<K, V> {
+impl<K: Marked, V> NotedMap<K, V> {
     /// A map with no rows.
     pub fn new(alloc: Global) -> Self
         ensures { result ≡ [] }
     {
-        NumberedMap {
+        NotedMap {
             rows: SortedMap::new(alloc),
+            notes: Vec::new(alloc),
+        }
+    }
+
+    /// A map with the rows of a list whose keys rise, and no notes of them. It takes no memory.
+    pub fn from_sorted(alloc: Global, rows: Vec<(K, V)>) -> Self
+        requires { IsSortedMap K.cmp rows.items }
+        ensures { result ≡ rows.items }
+    {
+        NotedMap {
+            rows: SortedMap::from_sorted(rows),
             notes: Vec::new(alloc),
         }
     }
@@ -53,7 +64,7 @@ impl<K: Numbered, V> NumberedMap<K, V> {
         ensures free { rows.items ≡ [] → IsOk result }
     {
         let notes = notes_of(alloc, &rows)?;
-        Ok(NumberedMap {
+        Ok(NotedMap {
             rows: SortedMap::from_sorted(rows),
             notes,
         })
@@ -78,16 +89,15 @@ impl<K: Numbered, V> NumberedMap<K, V> {
     pub fn get(&self, key: &K) -> Option<&V>
         ensures { option_copied result ≡ value_at K.cmp self.now key.now }
     {
-        let number = key.number();
         let notes = self.notes.as_slice();
-        let bucket = bucket(number, notes.len());
+        let bucket = bucket(key.mark(), notes.len());
         if bucket < notes.len() {
             let note = notes[bucket] as usize;
             if note == 0 {
                 return None;
             }
             if let Some(row) = self.rows.as_slice().get(note - 1)
-                && row.0.number() == number
+                && key.is(&row.0)
             {
                 return Some(&row.1);
             }
@@ -100,7 +110,7 @@ impl<K: Numbered, V> NumberedMap<K, V> {
     fn searched(&self, key: &K) -> Option<&V>
         ensures { option_copied result ≡ value_at K.cmp self.now key.now }
     {
-        self.rows.get_numbered(key)
+        K::find(&self.rows, key)
     }
 
     /// Whether some row has the key.
@@ -166,8 +176,8 @@ const BUCKETS_A_ROW: usize = 8;
 const MORE_BUCKETS: usize = 32;
 
 // A note for each row's key.
-fn notes_of<K: Numbered, V>(alloc: Global, rows: &[(K, V)]) -> Result<Vec<u16>, AllocError>
-    ensures noted { IfOk result (λ notes. IsNoted K.cmp K.IsNumber rows.now notes.items) }
+fn notes_of<K: Marked, V>(alloc: Global, rows: &[(K, V)]) -> Result<Vec<u16>, AllocError>
+    ensures noted { IfOk result (λ notes. IsNoted K.cmp K.IsMark rows.now notes.items) }
     ensures free { rows.now ≡ [] → IsOk result }
 {
     let mut notes = Vec::new(alloc);
@@ -180,20 +190,20 @@ fn notes_of<K: Numbered, V>(alloc: Global, rows: &[(K, V)]) -> Result<Vec<u16>, 
         .saturating_add(MORE_BUCKETS);
     notes.resize_with(buckets, || 0)?;
     for place in 0..rows.len() {
-        note(&mut notes, rows[place].0.number(), place);
+        note(&mut notes, rows[place].0.mark(), place);
     }
     Ok(notes)
 }
 
-// Notes the place of a number.
-fn note(notes: &mut Vec<u16>, number: u64, place: usize)
+// Notes the place of a mark.
+fn note(notes: &mut Vec<u16>, mark: u64, place: usize)
     ensures length { length notes.new.items ≡ length notes.old.items }
-    ensures noted { let at = bucket number (length notes.old.items) in
+    ensures noted { let at = bucket mark (length notes.old.items) in
         at < length notes.old.items → get_or notes.new.items at 0 ≢ 0 }
     ensures others { (at : ℕ) → get_or notes.old.items at 0 ≢ 0
         → get_or notes.new.items at 0 ≢ 0 }
 {
-    let bucket = bucket(number, notes.len());
+    let bucket = bucket(mark, notes.len());
     if bucket < notes.len() {
         notes[bucket] = note_of(place);
     }
@@ -206,11 +216,11 @@ fn note_of(place: usize) -> u16
     u16::try_from(place.saturating_add(1)).unwrap_or(u16::MAX)
 }
 
-// Which of so many buckets a number falls into.
+// Which of so many buckets a mark falls into.
 #[inline(always)]
-fn bucket(number: u64, count: usize) -> usize
-    ensures { result ≡ bucket number count }
+fn bucket(mark: u64, count: usize) -> usize
+    ensures { result ≡ bucket mark count }
 {
-    let mixed = number.wrapping_mul(0x9E37_79B9_7F4A_7C15) >> 32;
+    let mixed = mark.wrapping_mul(0x9E37_79B9_7F4A_7C15) >> 32;
     (mixed.wrapping_mul(count as u64) >> 32) as usize
 }
