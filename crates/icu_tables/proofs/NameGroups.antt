@@ -1,6 +1,7 @@
 -- Names in groups: what a look-up finds, and what a row that is put into its group does to the one list.
 use Rattle.std.proofs.Common.{◌≡◌, ◌≢◌, nat_eq, length, List, [], ◌∷◌, unwrap_or, String, Option, Some, None, option_and_then, Result, Ok, Err, IsSome, IfSome, refl, sym}
-use Rattle.std.proofs.Common.{ap, ◌∙◌, subst}
+use Rattle.std.proofs.Common.{ap, ◌∙◌, subst, arith, ℕ, ◌<◌}
+use Rattle.std.proofs.lemmas.Bool.Decides.{nat_tests}
 use Rattle.std.specs.Global.{Global}
 use Rattle.std.specs.Cmp.{IsTotalOrder}
 use Rattle.std.specs.List.{AllByRecursion}
@@ -83,11 +84,20 @@ rise_after groups g names rise is = record {
   none_empty = each-insert_entry group_cmp (λ rows. rows ≢ []) groups g names rise.none_empty is.1;
 }
 
+both_some : (m n : ℕ) → 0 < m → 0 < n → nat_eq m 0 ≡ nat_eq n 0
+both_some m n p q = grind (arith, nat_tests, p, q)
+
 -- there is no name exactly where there is no group
 pub none_without_groups : (groups : Groups) → Rise groups → nat_eq (length groups) 0 ≡ nat_eq (length (flat_names groups)) 0
 none_without_groups [] rise = refl
 none_without_groups ((g, []) ∷ groups) rise = absurd (rise.none_empty.0 refl)
-none_without_groups ((g, name ∷ names) ∷ groups) rise = refl
+none_without_groups ((g, name ∷ names) ∷ groups) rise = both_some _ _ (omega arith) (omega arith)
+
+-- a group that stays as it was changes no group
+pub same_groups : (groups : Groups) (g : NameGroup) (old new : Names) → Rise groups → value_at group_cmp groups g ≡ Some old → new ≡ old
+    → insert_entry group_cmp groups g new ≡ groups
+same_groups groups g old new rise there same =
+    ap (insert_entry group_cmp groups g) same ∙ insert_entry-same group_total groups g old rise.groups_rise there
 
 module _ (groups : Groups) (g : NameGroup) (key : NameKey) (rise : Rise groups) where
   -- what each group has, one that is found has
@@ -114,7 +124,7 @@ module _ (groups : Groups) (g : NameGroup) (key : NameKey) (rise : Rise groups) 
 
     -- a group of one name is put among groups that rise
     pub rise_new : (new : Groups) (result : Result (Unit {0}) DataError) → Inserts group_cmp groups new g ((key, name) ∷ []) result → Rise new
-    rise_new new (Ok done) inserts = subst Rise (sym inserts.holds.rows) (rise_after groups g _ rise (one_rises key name, cons-nil))
+    rise_new new (Ok done) inserts = subst Rise (sym inserts.holds.rows) (rise_after groups g _ rise (one_rises key name, λ empty. absurd (omega (arith, ap length empty))))
     rise_new new (Err e) inserts = subst Rise (sym inserts.refuses.unchanged) rise
 
     -- what an insert into the one list says
@@ -139,7 +149,7 @@ module _ (groups : Groups) (g : NameGroup) (key : NameKey) (rise : Rise groups) 
           → Inserts key_cmp old names key name result → Put (insert_entry group_cmp groups g names) result
       inserts_there old names (Ok done) there inserts = put _ (Some old) there (ap (insert_entry group_cmp groups g) inserts.holds.rows)
       inserts_there old names (Err e) there inserts =
-          let same = ap (insert_entry group_cmp groups g) inserts.refuses.unchanged ∙ insert_entry-same group_total groups g old rise.groups_rise there in
+          let same = same_groups groups g old names rise there inserts.refuses.unchanged in
           let whole = name_in_groups ∙ ap (option_and_then (λ rows. value_at key_cmp rows key)) there in
           record {
             holds = tt;

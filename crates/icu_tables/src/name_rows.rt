@@ -140,10 +140,10 @@ impl NameRows {
         ensures names { self.new ≡ self.old }
         ensures refused { IfErr result (λ e. e.kind ≡ DataErrorKind.Memory) }
     {
-        match self.groups.get_mut(&(marker, locale)) {
-            Some(names) => names.note(alloc),
-            None => Ok(()),
-        }
+        let Some(names) = self.groups.get_mut(&(marker, locale)) else {
+            return Ok(());
+        };
+        names.note(alloc)
     }
 
     /// Nothing, but that the keys rise, so that no request has two rows.

@@ -61,16 +61,44 @@ fn in_groups(
     let mut rows = NameRows::new(alloc);
     let mut group = None;
     for ((marker, locale, key), name) in map {
-        if group != Some((marker, locale)) {
-            note_group(alloc, &mut rows, group)?;
-            group = Some((marker, locale));
-        }
+        enter_group(alloc, &mut rows, &mut group, &marker, &locale)?;
         let Ok(()) = rows.insert(marker, locale, key, name) else {
             return Err(TableError::Memory);
         };
     }
     note_group(alloc, &mut rows, group)?;
     Ok(rows)
+}
+
+// Goes on to the group of a marker and a locale, and notes the one before, where that is another.
+fn enter_group(
+    alloc: Global,
+    rows: &mut NameRows,
+    group: &mut Option<(NameMarker, DataLocale)>,
+    marker: &NameMarker,
+    locale: &DataLocale,
+) -> Result<(), TableError>
+    ensures names { rows.new ≡ rows.old }
+    ensures refused { IfErr result (λ e. e ≡ TableError.Memory) }
+{
+    if is_group(group, marker, locale) {
+        return Ok(());
+    }
+    note_group(alloc, rows, *group)?;
+    *group = Some((*marker, *locale));
+    Ok(())
+}
+
+// Whether these are the marker and the locale of a group.
+fn is_group(
+    group: &Option<(NameMarker, DataLocale)>,
+    marker: &NameMarker,
+    locale: &DataLocale,
+) -> bool {
+    match group {
+        Some(group) => group.0 == *marker && group.1 == *locale,
+        None => false,
+    }
 }
 
 // Notes where the names of a group are, once they are all there.

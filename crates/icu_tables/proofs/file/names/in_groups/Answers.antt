@@ -13,14 +13,15 @@ use Rattle.icu_tables.proofs.file.names.in_groups.Goals as goal
 -- the keys of a map rise, so the row comes after those that are there
 pub loop-marker-preserved : goal.loop-marker-preserved
 loop-marker-preserved c =
-    let rows = c.loop-marker.rows in
+    let rows = c.enter_group.new.rows in
     let rest = c.next.new.self in
     let row : (NameMarker × DataLocale × NameKey) × String Global = ((c.in-Some.marker, c.in-Some.locale, c.in-Some.key), c.in-Some.name) in
-    let whole : c.args.map.entries ≡ rows ++ row ∷ rest = c.loop-marker.invariant ∙ ap (λ left. rows ++ left) c.in-Some.ensures.steps in
+    let whole : c.args.map.entries ≡ rows ++ row ∷ rest = c.loop-marker.invariant
+    ∙ ap (λ left. c.loop-marker.rows ++ left) c.in-Some.ensures.steps ∙ ap (λ now. now ++ row ∷ rest) (sym c.enter_group.ensures.names) in
     let rises = subst (IsSortedMap name_cmp) whole c.into_iter-marker-iterator.ensures.into_iter_gives.5 in
     let put : c.insert.new.self ≡ rows ++ row ∷ [] = c.in-Ok.ensures.holds.rows ∙ insert_entry-behind name_total rows rest row rises in
     whole ∙ sym (append_assoc rows (row ∷ []) rest) ∙ ap (λ now. now ++ rest) (sym put)
 
 -- no row is left, so all are in
 pub returns-clause-rows : goal.returns-clause-rows
-returns-clause-rows c = sym (c.loop-marker.invariant ∙ ap (λ left. c.loop-marker.rows ++ left) c.in-None.ensures.steps.0 ∙ append-nil c.loop-marker.rows)
+returns-clause-rows c = c.note_group.ensures.names ∙ sym (c.loop-marker.invariant ∙ ap (λ left. c.loop-marker.rows ++ left) c.in-None.ensures.steps.0 ∙ append-nil c.loop-marker.rows)
