@@ -26,7 +26,7 @@ pub const SHORT_LIGHT: [NameMarker; 4] = [
 pub type RegionDisplayName<'d> = SubtagName<'d, Region>;
 
 /// The name of a region that is lent. No call takes memory.
-pub type RegionDisplayNameBorrowed<'a> = SubtagNameBorrowed<'a>;
+pub type RegionDisplayNameBorrowed<'a> = SubtagNameBorrowed<'a, Region>;
 
 impl<'d> SubtagName<'d, Region> {
     /// The name of a region: of medium length, among the most asked ones.

@@ -30,7 +30,7 @@ pub const SHORT_HEAVY: [NameMarker; 4] = [
 pub type ScriptDisplayName<'d> = SubtagName<'d, Script>;
 
 /// The name of a script that is lent. No call takes memory.
-pub type ScriptDisplayNameBorrowed<'a> = SubtagNameBorrowed<'a>;
+pub type ScriptDisplayNameBorrowed<'a> = SubtagNameBorrowed<'a, Script>;
 
 impl<'d> SubtagName<'d, Script> {
     /// The name of a script: of medium length, among the most asked ones.

@@ -9,7 +9,7 @@ use crate::shown::{Shown, Subtag};
 use icu_locale_core::{Region, Script, Variant};
 use icu_provider::{DataError, DataProvider, NameKey, NameMarker};
 use std::fmt;
-use std::marker::Model;
+use std::marker::{Model, PhantomData};
 
 // A subtag that is named alone.
 pub trait Named: Subtag {
@@ -60,11 +60,12 @@ impl<'d, S: Named> Model for SubtagName<'d, S> {
 
 impl<'d, S: Named> SubtagName<'d, S> {
     /// The same name, lent again.
-    pub fn as_borrowed(&self) -> SubtagNameBorrowed<'_>
+    pub fn as_borrowed(&self) -> SubtagNameBorrowed<'_, S>
         ensures { result.text.now ≡ self.now }
     {
         SubtagNameBorrowed {
             text: self.shown.as_str(),
+            subtag: PhantomData,
         }
     }
 
@@ -113,12 +114,14 @@ impl<S: Named> fmt::Display for SubtagName<'_, S> {
 
 /// The name of a region, a script or a variant that is lent. No call takes memory.
 #[derive(Clone, Copy, Debug)]
-pub struct SubtagNameBorrowed<'a> {
+pub struct SubtagNameBorrowed<'a, S> {
     /// The name.
     pub text: &'a str,
+    // Whose name it is.
+    subtag: PhantomData<S>,
 }
 
-impl fmt::Display for SubtagNameBorrowed<'_> {
+impl<S> fmt::Display for SubtagNameBorrowed<'_, S> {
     ghost output = { λ n. Some n.text.now };
 
     fn fmt<W: fmt::Write>(&self, f: &mut fmt::Formatter<W>) -> fmt::Result {

@@ -15,7 +15,7 @@ pub(crate) const HEAVY: [NameMarker; 1] = [NameMarker::VariantMediumHeavy];
 pub type VariantDisplayName<'d> = SubtagName<'d, Variant>;
 
 /// The name of a variant that is lent. No call takes memory.
-pub type VariantDisplayNameBorrowed<'a> = SubtagNameBorrowed<'a>;
+pub type VariantDisplayNameBorrowed<'a> = SubtagNameBorrowed<'a, Variant>;
 
 impl<'d> SubtagName<'d, Variant> {
     /// The name of a variant: of medium length, the rare ones too.
