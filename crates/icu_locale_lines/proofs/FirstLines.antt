@@ -1,17 +1,17 @@
 -- First lines of texts that come by parts.
-use Rattle.std.proofs.Common.{◌≡◌, ◌≢◌, ◌⊎◌, ℕ, suc, ◌+◌, Bool, not, true, false, ◌||◌, List, [], ◌∷◌, ◌++◌, length, inl, inr, refl, ap, sym, subst}
-use Rattle.std.proofs.Common.{◌∙◌, length-append, take, drop, cond, arith}
+use Rattle.std.proofs.Common.{◌≡◌, ◌≢◌, ◌⊎◌, ◌<◌, ◌≤◌, ℕ, suc, ◌+◌, Bool, not, true, false, ◌||◌, List, [], ◌∷◌, ◌++◌, length, inl, inr, refl, ap, sym, subst}
+use Rattle.std.proofs.Common.{◌∙◌, length-append, length-drop, take, drop, cond, arith}
 use Rattle.std.specs.List.{list_any, position_or_len}
 use Rattle.std.proofs.lemmas.Bool.{false≢true}
 use Rattle.std.proofs.lemmas.Bool.Decides.{nat_tests}
 use Rattle.icu_locale_lines.specs.Lines.{is_line_feed, first_line, after_first_line}
 
 -- a text without a line feed is its first line
-abbrev IsWhole : List ℕ → Type 0
+abbrev pub IsWhole : List ℕ → Type 0
 IsWhole t = (first_line t ≡ t) × (list_any is_line_feed t ≡ false)
 
 -- a text with one is cut there
-abbrev IsCut : List ℕ → Type 0
+abbrev pub IsCut : List ℕ → Type 0
 IsCut t = (t ≡ first_line t ++ 10 ∷ after_first_line t) × (list_any is_line_feed (first_line t) ≡ false)
 
 one_more : (n : ℕ) → 1 + n ≡ suc n
@@ -55,7 +55,7 @@ module _ (c : ℕ) (t : List ℕ) where
     ap (list_any is_line_feed) (first_here is),
   )
 
-cut_at : (t : List ℕ) → IsWhole t ⊎ IsCut t
+pub cut_at : (t : List ℕ) → IsWhole t ⊎ IsCut t
 cut_at [] = inl (refl, refl)
 cut_at (c ∷ t) = (elim (is_line_feed c) as (λ b. is_line_feed c ≡ b → IsWhole (c ∷ t) ⊎ IsCut (c ∷ t)) [
   | true ↦ λ is. inr (cut_here c t is)
@@ -80,6 +80,10 @@ cut_by_length t other = by (cut_at t)
     by (inl whole) = absurd (other (ap length whole.0))
     by (inr cut) = cut
 
+pub or_parts : (a b : Bool) → (a || b) ≡ false → (a ≡ false) × (b ≡ false)
+or_parts true b e = absurd (false≢true (sym e))
+or_parts false b e = (refl, e)
+
 -- the first line of a line and its line feed, whatever follows
 pub place_of_end : (line t : List ℕ) → list_any is_line_feed line ≡ false → first_line (line ++ 10 ∷ t) ≡ line × after_first_line (line ++ 10 ∷ t) ≡ t
 place_of_end [] t none = (refl, refl)
@@ -87,19 +91,37 @@ place_of_end (c ∷ line) t none =
     let both = or_parts (is_line_feed c) (list_any is_line_feed line) none in
     let rest = place_of_end line t both.1 in
     (first_behind c (line ++ 10 ∷ t) both.0 ∙ ap (λ x. c ∷ x) rest.0, after_behind c (line ++ 10 ∷ t) both.0 ∙ rest.1)
-  where
-    or_parts : (a b : Bool) → (a || b) ≡ false → (a ≡ false) × (b ≡ false)
-    or_parts true b e = absurd (false≢true (sym e))
-    or_parts false b e = (refl, e)
 
 -- without one all is the first line, and nothing follows it
 pub alone : (t : List ℕ) → list_any is_line_feed t ≡ false → first_line t ≡ t × after_first_line t ≡ []
 alone [] none = (refl, refl)
 alone (c ∷ t) none =
-    let both = parts (is_line_feed c) (list_any is_line_feed t) none in
+    let both = or_parts (is_line_feed c) (list_any is_line_feed t) none in
     let rest = alone t both.1 in
     (first_behind c t both.0 ∙ ap (λ x. c ∷ x) rest.0, after_behind c t both.0 ∙ rest.1)
-  where
-    parts : (a b : Bool) → (a || b) ≡ false → (a ≡ false) × (b ≡ false)
-    parts true b e = absurd (false≢true (sym e))
-    parts false b e = (refl, e)
+
+-- what is before a line feed goes on from one text to the next
+pub first_line-behind : (a b : List ℕ) → list_any is_line_feed a ≡ false → first_line (a ++ b) ≡ a ++ first_line b
+first_line-behind [] b none = refl
+first_line-behind (c ∷ a) b none =
+    let both = or_parts (is_line_feed c) (list_any is_line_feed a) none in
+    first_behind c (a ++ b) both.0 ∙ ap (λ x. c ∷ x) (first_line-behind a b both.1)
+
+-- a first line grows no shorter by what follows
+pub first_line-grows : (a b : List ℕ) → length (first_line a) ≤ length (first_line (a ++ b))
+first_line-grows [] b = omega arith
+first_line-grows (c ∷ a) b = (elim (is_line_feed c) as (λ f. is_line_feed c ≡ f → length (first_line (c ∷ a)) ≤ length (first_line (c ∷ (a ++ b)))) [
+  | true ↦ λ is. let none = ap length (first_here c a is) in omega (arith, none)
+  | false ↦ λ is.
+      let one = ap length (first_behind c a is) in
+      let two = ap length (first_behind c (a ++ b) is) in
+      let rest = first_line-grows a b in
+      omega (arith, one, two, rest)
+]) refl
+
+-- what follows a first line is shorter
+pub after_first_line-shorter : (t : List ℕ) → t ≢ [] → length (after_first_line t) < length t
+after_first_line-shorter [] some = absurd (some refl)
+after_first_line-shorter (c ∷ t) some =
+    let left = length-drop (position_or_len is_line_feed (c ∷ t) + 1) (c ∷ t) in
+    omega (arith, left)

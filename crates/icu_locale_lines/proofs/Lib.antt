@@ -1,7 +1,9 @@
 mod Alike
+mod Bounds
 mod Chains
 mod CommandWords
 mod FirstLines
+mod FirstReads
 mod FullNames
 mod LineAnswers
 mod Listings
@@ -9,6 +11,7 @@ mod LineCuts
 mod ListReading
 mod LocaleLines
 mod OneAnswer
+mod PartEnds
 mod Progress
 mod RunEnds
 mod StreamEnds

@@ -1,5 +1,5 @@
 -- What a run that answers lines as they come reads and writes.
-use Rattle.std.specs.Prelude.{◌≡◌, ◌⊎◌, ◌<◌, ℕ, length, Bool, true, false, List, [], ◌∷◌, ◌++◌, Ok}
+use Rattle.std.specs.Prelude.{◌≡◌, ◌⊎◌, ◌<◌, ◌≤◌, ◌+◌, ℕ, length, Bool, true, false, List, [], ◌∷◌, ◌++◌, Option, None, Some, Ok}
 use Rattle.std.specs.List.{list_any}
 use Rattle.std.specs.Io.KnownBytes.{Consumes, IsAtEnd, prepend_known}
 use Rattle.icu_tables.specs.Rows.{rows_of}
@@ -15,65 +15,92 @@ use Rattle.icu_locale_lines.specs.declared.error.CliError.{CliError}
 use Rattle.icu_locale_lines.specs.declared.error.CliError.TheVariants as error
 use Rattle.icu_locale_lines.specs.declared.runs.Status.{Status}
 use Rattle.icu_locale_lines.specs.declared.work.Work.{Work}
-use Rattle.icu_locale_lines.specs.Lines.{is_line_feed, Stream}
+use Rattle.icu_locale_lines.specs.Lines.{is_line_feed, first_line, exceeds, AreWithin, Stream}
 use Rattle.icu_locale_lines.specs.Refusals.{IsRefusedReading, IsRefusedSupplement}
 use Rattle.icu_locale_lines.specs.Runs.{WritesAll, WritesWholeLines, WritesPart}
-use Rattle.icu_locale_lines.specs.WholeRuns.{IsUnloaded, IsUnread, IsUnlisted, StopsSettled, IsRunFrom}
+use Rattle.icu_locale_lines.specs.WholeRuns.{IsUnloaded, IsUnread, IsUnlisted, StopsSettled, ReadsInput, WritesOutput}
 use Rattle.icu_locale_lines.specs.Commands.{IsWorkOf, ListsOver, text_answered}
+
+-- what is read at once, in bytes
+abbrev pub part_size : ℕ
+part_size = 16384
+
+-- ---- lines within a bound, where there is one
+
+-- a line that has not ended, and is not longer than the bound
+abbrev pub IsUnended : Option ℕ → List ℕ → Type 0
+IsUnended longest text = (list_any is_line_feed text ≡ false) × (exceeds longest text ≡ false)
+
+-- the first line of a text is longer than the bound, and the text by no more than is read at once
+abbrev pub BeginsTooLong : Option ℕ → List ℕ → Type 0
+BeginsTooLong None text = ⊥
+BeginsTooLong (Some longest) text =
+    (longest < length (first_line text)) × (length text ≤ longest + part_size)
+
+-- what is left where reading stops
+abbrev pub StopsReading : Option ℕ → List ℕ → Type 0
+StopsReading longest text = IsUnended longest text ⊎ BeginsTooLong longest text
 
 -- a text of whole lines: nothing, or all up to a line feed
 abbrev pub EndsLines : List ℕ → Type 0
 EndsLines t = (t ≡ []) ⊎ ((front : List ℕ) × (t ≡ front ++ 10 ∷ []))
 
--- the lines that a text ends are answered, and what follows the last is left
-pub record AnswersEnded (work : Work) (text left : List ℕ) (old new : Stream)
+-- lines that a text ends are answered, each within the bound, and what follows the last is left
+pub record AnswersEnded (longest : Option ℕ) (work : Work) (text left : List ℕ) (old new : Stream)
     (status : Status) : Type 0 where
   pub ended : List ℕ
   pub whole : EndsLines ended
+  pub within : AreWithin longest ended
   pub parted : text ≡ ended ++ left
   pub answered : WritesAll work ended old new status
 
--- what came is answered but for a line that had not ended
-pub record StopsBetween (work : Work) (read read' wrote wrote' : Stream) : Type 0 where
+-- what came is answered but for what is left, and IsLeft says what that is
+pub record StopsBetween (IsLeft : Option ℕ → List ℕ → Type 0) (longest : Option ℕ) (work : Work)
+    (read read' wrote wrote' : Stream) : Type 0 where
   pub text : List ℕ
   pub left : List ℕ
   pub status : Status
   pub consumed : Consumes read read' text
-  pub answered : AnswersEnded work text left wrote wrote' status
-  pub unended : list_any is_line_feed left ≡ false
+  pub answered : AnswersEnded longest work text left wrote wrote' status
+  pub unanswered : IsLeft longest left
 
--- the lines that a text ends are answered as far as Leaves says
-pub record LeavesEnded (Leaves : Work → List ℕ → Stream → Stream → Type 0) (work : Work)
-    (text : List ℕ) (old new : Stream) : Type 0 where
+-- lines that a text ends, each within the bound, are answered as far as Leaves says
+pub record LeavesEnded (Leaves : Work → List ℕ → Stream → Stream → Type 0) (longest : Option ℕ)
+    (work : Work) (text : List ℕ) (old new : Stream) : Type 0 where
   pub ended : List ℕ
   pub left : List ℕ
   pub whole : EndsLines ended
+  pub within : AreWithin longest ended
   pub parted : text ≡ ended ++ left
   pub leaves : Leaves work ended old new
 
--- the lines of a text are answered as far as Leaves says: what follows the last line feed is one
--- only where the input has ended
-abbrev pub LeavesLines : (Work → List ℕ → Stream → Stream → Type 0) → Work → Stream → List ℕ
-    → Stream → Stream → Type 0
-LeavesLines Leaves work read' text wrote wrote' =
-    LeavesEnded Leaves work text wrote wrote' ⊎ (IsAtEnd read' × Leaves work text wrote wrote')
+-- lines of a text are answered as far as Leaves says: what follows the last line feed is one only
+-- where the input has ended
+abbrev pub LeavesLines : (Work → List ℕ → Stream → Stream → Type 0) → Option ℕ → Work → Stream
+    → List ℕ → Stream → Stream → Type 0
+LeavesLines Leaves longest work read' text wrote wrote' =
+    LeavesEnded Leaves longest work text wrote wrote'
+    ⊎ (IsAtEnd read' × AreWithin longest text × Leaves work text wrote wrote')
 
 -- what came is answered as far as Leaves says
-abbrev pub StopsWithin : (Work → List ℕ → Stream → Stream → Type 0) → Work → Stream → Stream
-    → Stream → Stream → Type 0
-StopsWithin Leaves work read read' wrote wrote' =
-    (text : List ℕ) × Consumes read read' text × LeavesLines Leaves work read' text wrote wrote'
+abbrev pub StopsWithin : (Work → List ℕ → Stream → Stream → Type 0) → Option ℕ → Work → Stream
+    → Stream → Stream → Stream → Type 0
+StopsWithin Leaves longest work read read' wrote wrote' = (text : List ℕ)
+    × Consumes read read' text × LeavesLines Leaves longest work read' text wrote wrote'
 
--- what lines leave that stop early: after a failed read each line that had ended is answered; where
--- memory was refused whole lines alone are written; a failed write leaves the earlier lines and a
--- beginning of the one in hand, and a failed flush each line that had ended
-abbrev pub StopsStream : Work → Stream → Stream → Stream → Stream → CliError → Type 0
-StopsStream work read read' wrote wrote' error.Read = StopsBetween work read read' wrote wrote'
-StopsStream work read read' wrote wrote' error.Memory =
-    StopsWithin WritesWholeLines work read read' wrote wrote'
-StopsStream work read read' wrote wrote' error.Write =
-    StopsWithin WritesPart work read read' wrote wrote' ⊎ StopsBetween work read read' wrote wrote'
-StopsStream work read read' wrote wrote' e = ⊥
+-- what lines leave that stop early: after a failed read each line that had ended is answered, and
+-- else each before the first that is too long; where memory was refused whole lines alone are
+-- written; a failed write leaves the earlier lines and a beginning of the one in hand, and a failed
+-- flush each line that had ended
+abbrev pub StopsStream : Option ℕ → Work → Stream → Stream → Stream → Stream → CliError → Type 0
+StopsStream longest work read read' wrote wrote' error.Read =
+    StopsBetween StopsReading longest work read read' wrote wrote'
+StopsStream longest work read read' wrote wrote' error.Memory =
+    StopsWithin WritesWholeLines longest work read read' wrote wrote'
+StopsStream longest work read read' wrote wrote' error.Write =
+    StopsWithin WritesPart longest work read read' wrote wrote'
+    ⊎ StopsBetween IsUnended longest work read read' wrote wrote'
+StopsStream longest work read read' wrote wrote' e = ⊥
 
 -- ---- a first line
 
@@ -82,60 +109,69 @@ abbrev pub line_end : Bool → List ℕ
 line_end true = []
 line_end false = 10 ∷ []
 
--- a line was read to its line feed, or to the end of the input, and mid is what is left after it
-pub record ReadsLine (read mid : Stream) (line : List ℕ) (has_ended : Bool) : Type 0 where
+-- a line within the bound was read to its line feed, or to the end of the input, and mid is what is
+-- left after it
+pub record ReadsLine (longest : Option ℕ) (read mid : Stream) (line : List ℕ) (has_ended : Bool)
+    : Type 0 where
   pub consumed : Consumes read mid (line ++ line_end has_ended)
   pub alone : list_any is_line_feed line ≡ false
+  pub within : exceeds longest line ≡ false
   pub at_end : has_ended ≡ true → IsAtEnd mid
 
--- some text without a line feed was read
-abbrev pub ReadsUnended : Stream → Stream → Type 0
-ReadsUnended read read' =
-    (text : List ℕ) × Consumes read read' text × (list_any is_line_feed text ≡ false)
+-- a line was read that did not end, or one that is too long
+abbrev pub ReadsNoLine : Option ℕ → Stream → Stream → Type 0
+ReadsNoLine longest read read' =
+    (text : List ℕ) × Consumes read read' text × StopsReading longest text
 
 -- ---- a command
 
+-- a run over tables that are loaded, all of whose lines are within the bound; of what it read the
+-- reader still held left
+abbrev pub IsRunWithin : Option ℕ → Command → Tables → Stream → Stream → Stream → Stream → Stream
+    → Status → Type 0
+IsRunWithin longest c t read left read' wrote wrote' status = (input : List ℕ)
+    × ReadsInput c read left read' input × AreWithin longest input
+    × WritesOutput c t input wrote wrote' status
+
 -- some lines of a command were answered, as far as StopsStream says; before them the first line was
 -- read where it lists what is available, and else nothing
-pub record StopsAmong (c : LineCommand) (t : Tables) (read read' wrote wrote' : Stream)
-    (e : CliError) : Type 0 where
+pub record StopsAmong (longest : Option ℕ) (c : LineCommand) (t : Tables)
+    (read read' wrote wrote' : Stream) (e : CliError) : Type 0 where
   pub head : List ℕ
   pub mid : Stream
   pub head_read : Consumes read mid head
+  pub within : AreWithin longest head
   pub work : Work
   pub work_of : (text : List ℕ) → IsWorkOf c t (head ++ text) work
   pub answered : (text : List ℕ) → text_answered c (head ++ text) ≡ text
-  pub stops : StopsStream work mid read' wrote wrote' e
+  pub stops : StopsStream longest work mid read' wrote wrote' e
 
--- the first line, which lists what is available, did not end or lists nothing
-abbrev pub StopsListing : LineCommand → Tables → Stream → Stream → CliError → Type 0
-StopsListing c t read read' e =
-    (ListsOver c.task t × IsUnread (ReadsUnended read read') e)
+-- the first line, which lists what is available, was not read whole or lists nothing
+abbrev pub StopsListing : Option ℕ → LineCommand → Tables → Stream → Stream → CliError → Type 0
+StopsListing longest c t read read' e =
+    (ListsOver c.task t × IsUnread (ReadsNoLine longest read read') e)
     ⊎ ((line : List ℕ) × (has_ended : Bool) × (mid : Stream)
-    × ReadsLine read mid line has_ended × IsUnlisted c t line e)
+    × ReadsLine longest read mid line has_ended × IsUnlisted c t line e)
 
 -- what is left of a command once its tables are loaded, with all of read to answer; of that the
 -- reader still held left
-abbrev pub StopsLoaded : Command → Tables → Stream → Stream → Stream → Stream → Stream → CliError
-    → Type 0
-StopsLoaded command.Settled t read left read' wrote wrote' e =
+abbrev pub StopsLoaded : Option ℕ → Command → Tables → Stream → Stream → Stream → Stream → Stream
+    → CliError → Type 0
+StopsLoaded longest command.Settled t read left read' wrote wrote' e =
     (read' ≡ left) × StopsSettled t wrote wrote' e
-StopsLoaded (command.Lines c) t read left read' wrote wrote' e =
-    (StopsListing c t read read' e × (wrote' ≡ wrote)) ⊎ StopsAmong c t read read' wrote wrote' e
+StopsLoaded longest (command.Lines c) t read left read' wrote wrote' e =
+    (StopsListing longest c t read read' e × (wrote' ≡ wrote))
+    ⊎ StopsAmong longest c t read read' wrote wrote' e
 
 -- what a refused stream leaves, with read and left as above: it stopped before it read more, or once
 -- its tables were loaded
-abbrev pub IsRefusedStream : Command → Tables → Stream → Stream → Stream → Stream → Stream
-    → CliError → Type 0
-IsRefusedStream c t read left read' wrote wrote' e =
+abbrev pub IsRefusedStream : Option ℕ → Command → Tables → Stream → Stream → Stream → Stream
+    → Stream → CliError → Type 0
+IsRefusedStream longest c t read left read' wrote wrote' e =
     (IsUnloaded c t e × (read' ≡ left) × (wrote' ≡ wrote))
-    ⊎ StopsLoaded c t read left read' wrote wrote' e
+    ⊎ StopsLoaded longest c t read left read' wrote wrote' e
 
 -- ---- tables of the first line
-
--- what is read at once, in bytes
-abbrev pub part_size : ℕ
-part_size = 16384
 
 -- what follows a line and was read with it is less than what is read at once; left is all else
 pub record LeavesBehind (mid left : Stream) : Type 0 where
@@ -143,42 +179,43 @@ pub record LeavesBehind (mid left : Stream) : Type 0 where
   pub short : length rest < part_size
   pub behind : mid ≡ prepend_known rest left
 
--- the first line was read, and gives tables with these rows
+-- the first line, however long, was read, and gives tables with these rows
 pub record ReadsTablesLine (read mid : Stream) (t : Tables) : Type 0 where
   pub line : List ℕ
   pub has_ended : Bool
-  pub reads : ReadsLine read mid line has_ended
+  pub reads : ReadsLine None read mid line has_ended
   pub rows : rows_in line ≡ Ok (rows_of t)
   pub alone : t.supplement ≡ no_supplement
 
 -- a stream over the tables of the first line; left is what the reader still held after them
-abbrev pub IsJsonStream : Command → Stream → Stream → Stream → Stream → Status → Type 0
-IsJsonStream c read read' wrote wrote' status = (t : Tables) × (mid : Stream) × (left : Stream)
-    × ReadsTablesLine read mid t × LeavesBehind mid left
-    × IsRunFrom c t mid left read' wrote wrote' status
+abbrev pub IsJsonStream : Option ℕ → Command → Stream → Stream → Stream → Stream → Status → Type 0
+IsJsonStream longest c read read' wrote wrote' status = (t : Tables) × (mid : Stream)
+    × (left : Stream) × ReadsTablesLine read mid t × LeavesBehind mid left
+    × IsRunWithin longest c t mid left read' wrote wrote' status
 
 -- the first line was read, and gives no tables
 abbrev pub ReadsNoTables : Stream → Stream → CliError → Type 0
 ReadsNoTables read read' e = (line : List ℕ) × (has_ended : Bool) × (mid : Stream)
-    × ReadsLine read mid line has_ended × LeavesBehind mid read' × IsRefusedReading line e
+    × ReadsLine None read mid line has_ended × LeavesBehind mid read' × IsRefusedReading line e
 
 -- what a refused stream over the tables of the first line leaves: it stopped while it read that
 -- line, at that line, or once it had its tables
-abbrev pub IsRefusedJsonStream : Command → Stream → Stream → Stream → Stream → CliError → Type 0
-IsRefusedJsonStream c read read' wrote wrote' e =
-    (IsUnread (ReadsUnended read read') e × (wrote' ≡ wrote))
+abbrev pub IsRefusedJsonStream : Option ℕ → Command → Stream → Stream → Stream → Stream → CliError
+    → Type 0
+IsRefusedJsonStream longest c read read' wrote wrote' e =
+    (IsUnread (ReadsNoLine None read read') e × (wrote' ≡ wrote))
     ⊎ (ReadsNoTables read read' e × (wrote' ≡ wrote))
     ⊎ ((t : Tables) × (mid : Stream) × (left : Stream) × ReadsTablesLine read mid t
-    × LeavesBehind mid left × IsRefusedStream c t mid left read' wrote wrote' e)
+    × LeavesBehind mid left × IsRefusedStream longest c t mid left read' wrote wrote' e)
 
 -- ---- tables of the first line, and their supplement of the second
 
--- the second line was read, and gives a supplement of tables with these rows
+-- the second line, however long, was read, and gives a supplement of tables with these rows
 pub record ReadsSupplement (between mid : Stream) (tables t : Tables) : Type 0 where
   pub supplement : Supplement
   pub line : List ℕ
   pub has_ended : Bool
-  pub reads : ReadsLine between mid line has_ended
+  pub reads : ReadsLine None between mid line has_ended
   pub rows : further.rows_in line ≡ Ok (further.rows_of supplement)
   pub is : t ≡ record tables { supplement = supplement }
 
@@ -191,25 +228,27 @@ pub record ReadsBoth (read mid : Stream) (t : Tables) : Type 0 where
 
 -- a stream over the tables of the first line and their supplement; left is what the reader still
 -- held after them
-abbrev pub IsSupplementStream : Command → Stream → Stream → Stream → Stream → Status → Type 0
-IsSupplementStream c read read' wrote wrote' status = (t : Tables) × (mid : Stream)
+abbrev pub IsSupplementStream : Option ℕ → Command → Stream → Stream → Stream → Stream → Status
+    → Type 0
+IsSupplementStream longest c read read' wrote wrote' status = (t : Tables) × (mid : Stream)
     × (left : Stream) × ReadsBoth read mid t × LeavesBehind mid left
-    × IsRunFrom c t mid left read' wrote wrote' status
+    × IsRunWithin longest c t mid left read' wrote wrote' status
 
 -- the second line did not end, or gives no supplement
 abbrev pub ReadsNoSupplement : Stream → Stream → CliError → Type 0
-ReadsNoSupplement between read' e = IsUnread (ReadsUnended between read') e
+ReadsNoSupplement between read' e = IsUnread (ReadsNoLine None between read') e
     ⊎ ((line : List ℕ) × (has_ended : Bool) × (mid : Stream)
-    × ReadsLine between mid line has_ended × LeavesBehind mid read' × IsRefusedSupplement line e)
+    × ReadsLine None between mid line has_ended × LeavesBehind mid read'
+    × IsRefusedSupplement line e)
 
 -- what a refused stream over tables and their supplement leaves: it stopped while it read the first
 -- line, at that line, at the second, or once it had both
-abbrev pub IsRefusedSupplementStream : Command → Stream → Stream → Stream → Stream → CliError
-    → Type 0
-IsRefusedSupplementStream c read read' wrote wrote' e =
-    (IsUnread (ReadsUnended read read') e × (wrote' ≡ wrote))
+abbrev pub IsRefusedSupplementStream : Option ℕ → Command → Stream → Stream → Stream → Stream
+    → CliError → Type 0
+IsRefusedSupplementStream longest c read read' wrote wrote' e =
+    (IsUnread (ReadsNoLine None read read') e × (wrote' ≡ wrote))
     ⊎ (ReadsNoTables read read' e × (wrote' ≡ wrote))
     ⊎ ((tables : Tables) × (between : Stream) × ReadsTablesLine read between tables
     × ReadsNoSupplement between read' e × (wrote' ≡ wrote))
     ⊎ ((t : Tables) × (mid : Stream) × (left : Stream) × ReadsBoth read mid t
-    × LeavesBehind mid left × IsRefusedStream c t mid left read' wrote wrote' e)
+    × LeavesBehind mid left × IsRefusedStream longest c t mid left read' wrote wrote' e)

@@ -3,7 +3,7 @@
 use crate::command::Command;
 use crate::error::CliError;
 use crate::runs::Status;
-use crate::runs::stream::{stream_json_within, stream_supplement_within, stream_within};
+use crate::runs::stream::{stream_json_over, stream_over, stream_supplement_over};
 use crate::runs::whole::{run, run_json};
 use crate::sample_tables::{sample, whole_sample};
 use std::alloc::Global;
@@ -82,9 +82,9 @@ pub fn stream_words<R: Read, W: Write + Drop>(
     }
     let mut writer = BufWriter::new(alloc, writer).map_err(|_| CliError::Memory)?;
     let status = if supplement {
-        stream_supplement_within(alloc, &command, longest, reader, &mut writer)
+        stream_supplement_over(alloc, &command, longest, reader, &mut writer)
     } else if json {
-        stream_json_within(alloc, &command, longest, reader, &mut writer)
+        stream_json_over(alloc, &command, longest, reader, &mut writer)
     } else {
         stream_over_sample(alloc, &command, longest, reader, &mut writer)
     };
@@ -95,12 +95,12 @@ pub fn stream_words<R: Read, W: Write + Drop>(
 fn stream_over_sample<R: Read, W: Write>(
     alloc: Global,
     command: &Command,
-    longest: usize,
+    longest: Option<usize>,
     reader: &mut R,
     writer: &mut W,
 ) -> Result<Status, CliError> {
     let tables = whole_sample(alloc)?;
-    stream_within(alloc, command, &tables, longest, reader, writer)
+    stream_over(alloc, command, &tables, longest, &[], reader, writer)
 }
 
 // Whether the last word is `supplement`, and the words before it.
@@ -111,17 +111,17 @@ fn supplement_of(words: &[String]) -> (bool, &[String]) {
     }
 }
 
-// How many bytes of a line are kept at most, and the words after those that say so.
-fn longest_of(words: &[String]) -> Result<(usize, &[String]), CliError> {
+// How many bytes a line may have, where the words say that, and the words after those.
+fn longest_of(words: &[String]) -> Result<(Option<usize>, &[String]), CliError> {
     match words.split_first() {
         Some((word, rest)) if word.as_str() == "longest" => match rest.split_first() {
             Some((number, rest)) => match number.as_str().parse() {
-                Ok(longest) => Ok((longest, rest)),
+                Ok(longest) => Ok((Some(longest), rest)),
                 Err(_) => Err(CliError::Usage),
             },
             None => Err(CliError::Usage),
         },
-        _ => Ok((usize::MAX, words)),
+        _ => Ok((None, words)),
     }
 }
 

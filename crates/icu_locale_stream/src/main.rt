@@ -19,7 +19,7 @@ supplement the second their supplement; without json both are a small sample.
   locales                  lines hold locale identifiers with extensions, which are written with the answer
   bcp47                    the same, and tags as browsers send them: i-klingon, zh-cmn-Hans, x-private
   posix                    the same, and names of POSIX locales: en_US.UTF-8, sr_RS@latin, C
-  longest N                a line that has not ended after N bytes ends the run as a failed read does
+  longest N                the first line longer than N bytes ends the run as a failed read does
 
   maximize                 the maximal form of each identifier
   minimize                 the minimal form, with the region kept before the script

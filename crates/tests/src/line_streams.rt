@@ -2,7 +2,8 @@
 use crate::known::{repeated, sample, words};
 use crate::program::{RUNS, command, is_as_wanted, read_row, told};
 use icu_locale_lines::{
-    CliError, Command, LineCommand, Status, Task, Transform, stream, stream_json, stream_words,
+    CliError, Command, LineCommand, Status, Task, Transform, stream, stream_json, stream_within,
+    stream_words,
 };
 use icu_tables::Tables;
 use std::alloc::Global;
@@ -236,6 +237,83 @@ fn words_of_a_stream(rt: HostRuntime) {
     let misspelled = words(&rt, alloc, "minimize jsn");
     let ended = stream_words(alloc, &misspelled, &mut input, &mut written);
     assert!(rt; ended == Err(CliError::Usage));
+}
+
+// Rows as `RUNS` has them, of streams whose lines are bounded.
+const BOUNDED: &str = r#"
+longest 2 maximize | zh-TW\n | | read failed
+longest 2 maximize | zh-TW | | read failed
+longest 2 maximize | zh\nde\nzh-TW\nde\n | zh-Hans-CN\tM\nde-Latn-DE\tM\n | read failed
+longest 2 maximize | zh | zh-Hans-CN\tM\n | 0
+longest 2 maximize | zh\nde\n | zh-Hans-CN\tM\nde-Latn-DE\tM\n | 0
+longest 5 maximize | zh-TW\n | zh-Hant-TW\tM\n | 0
+longest 4 maximize | zh\nzh-TW | zh-Hans-CN\tM\n | read failed
+longest 0 maximize | \n | ?\tInvalidLanguage\n | 1
+longest 0 maximize | \nz | ?\tInvalidLanguage\n | read failed
+longest 0 maximize | | | 0
+longest 0 settled | zh\n | yes\n | 0
+longest 4 negotiate | en de\nfr\n | | read failed
+longest 4 negotiate | en de | | read failed
+longest 5 negotiate | en de\nfr de\n | 1\tde\n | 0
+longest 5 negotiate | en de\nfr de\nfr en de\n | 1\tde\n | read failed
+longest 4 nearest | en de\nfr\n | | read failed
+longest 2 maximize json | {"likely_language":{"und":["en","Latn","US"]},"likely_script_region":{}}\nen\nen-US\n | en\tU\n | read failed
+longest 2 maximize json supplement | {"likely_language":{"und":["en","Latn","US"]},"likely_script_region":{}}\n{"parents":{"en-AU":"en-001"}}\nen\nen-US\n | en\tU\n | read failed
+"#;
+
+// A row whose input comes by parts.
+fn one_bounded(rt: &impl Abort, alloc: Global, line: &str, at_once: usize) {
+    let row = read_row(rt, alloc, line);
+    let asked = words(rt, alloc, &row.words);
+    let mut reader = PartReader::new(row.input.as_bytes(), at_once, false);
+    let mut written = Vec::new(alloc);
+    let ended = stream_words(alloc, &asked, &mut reader, &mut written);
+    is_as_wanted(rt, alloc, &row, &written, ended);
+}
+
+#[test]
+fn lines_within_a_bound(rt: HostRuntime) {
+    for line in BOUNDED.lines() {
+        if !line.is_empty() {
+            for at_once in [0, 1, 2, 3, 4096] {
+                one_bounded(&rt, rt.alloc(), line, at_once);
+            }
+        }
+    }
+}
+
+// A line longer than a part is answered, and refused only where a bound is less.
+#[test]
+fn a_line_of_several_parts(rt: HostRuntime) {
+    let alloc = rt.alloc();
+    let tables = sample(&rt, alloc);
+    let mut input = repeated(&rt, alloc, "a", 40_000);
+    input.push_str("\nzh\n").expect(&rt, "memory");
+    let all = "?\tInvalidLanguage\nzh-Hans-CN\tM\n".as_bytes();
+    for at_once in [0, 7, 4096, 1_000_000] {
+        let mut reader = PartReader::new(input.as_bytes(), at_once, false);
+        let mut written = Vec::new(alloc);
+        let ended = stream(alloc, &MAXIMIZE, &tables, &mut reader, &mut written);
+        assert!(rt; ended == Ok(Status::Refused));
+        assert!(rt; written.as_slice() == all);
+    }
+    for (longest, wanted, output) in [
+        (40_000, Ok(Status::Refused), all),
+        (39_999, Err(CliError::Read), "".as_bytes()),
+    ] {
+        let mut reader = PartReader::new(input.as_bytes(), 1_000_000, false);
+        let mut written = Vec::new(alloc);
+        let ended = stream_within(
+            alloc,
+            &MAXIMIZE,
+            &tables,
+            longest,
+            &mut reader,
+            &mut written,
+        );
+        assert!(rt; ended == wanted);
+        assert!(rt; written.as_slice() == output);
+    }
 }
 
 // Words, a whole first line after which every read fails, what is written, and how it ends.

@@ -1,8 +1,9 @@
 //! The lines of a text.
-ghost use Rattle.std.specs.Prelude.{◌≡◌, ◌≢◌, ◌∷◌, [], List, ℕ};
-ghost use Rattle.std.specs.List.{position};
+ghost use Rattle.std.specs.Prelude.{◌≡◌, ◌≢◌, ◌⊎◌, ◌++◌, ◌∷◌, [], true, false, List, ℕ};
+ghost use Rattle.std.specs.List.{list_any, position};
 ghost use Rattle.std.specs.Iterator.{YieldsFirstRef, item_count};
-ghost use Rattle.icu_locale_lines.specs.Lines.{is_line_feed, lines, first_line, after_first_line};
+ghost use Rattle.icu_locale_lines.specs.Lines.{is_line_feed, lines, first_line, after_first_line, exceeds, AreWithin};
+ghost use Rattle.icu_locale_lines.specs.Streams.{EndsLines};
 
 use memchr::memchr;
 use std::marker::Model;
@@ -66,4 +67,50 @@ fn line_feed(text: &[u8]) -> Option<usize>
     ensures { result ≡ position is_line_feed text.now }
 {
     memchr(b'\n', text)
+}
+
+// A text up to its last line feed, and what follows that.
+pub fn cut_behind_lines(text: &[u8]) -> (&[u8], &[u8])
+    ensures parted { text.now ≡ result.0.now ++ result.1.now }
+    ensures front { EndsLines result.0.now }
+    ensures rest { list_any is_line_feed result.1.now ≡ false }
+{
+    let mut count = text.len();
+    while count > 0 {
+        if text[count - 1] == b'\n' {
+            return text.split_at(count);
+        }
+        count -= 1;
+    }
+    (&[], text)
+}
+
+// A text of whole lines up to the first that is too long, and the rest.
+pub fn cut_before_long(longest: Option<usize>, text: &[u8]) -> (&[u8], &[u8])
+    ensures parted { text.now ≡ result.0.now ++ result.1.now }
+    ensures front { EndsLines text.now → EndsLines result.0.now × AreWithin longest result.0.now }
+    ensures rest { (result.1.now ≡ []) ⊎ (exceeds longest (first_line result.1.now) ≡ true) }
+{
+    if longest.is_none() {
+        return (text, &[]);
+    }
+    let mut rest = text;
+    while !rest.is_empty() {
+        let (line, behind) = cut(rest);
+        if is_too_long(longest, line) {
+            break;
+        }
+        rest = behind;
+    }
+    text.split_at(text.len() - rest.len())
+}
+
+// Whether a line has more bytes than a bound allows, where there is one.
+pub fn is_too_long(longest: Option<usize>, line: &[u8]) -> bool
+    ensures { result ≡ exceeds longest line.now }
+{
+    match longest {
+        Some(longest) => longest < line.len(),
+        None => false,
+    }
 }

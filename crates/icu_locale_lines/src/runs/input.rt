@@ -1,11 +1,13 @@
 //! The input, read to its end, or up to the end of its first line.
-ghost use Rattle.std.specs.Prelude.{◌≡◌, ◌⊎◌, ◌<◌, ◌≤◌, length, IfOk, IfErr, Err, option_map};
+ghost use Rattle.std.specs.Prelude.{◌≡◌, ◌⊎◌, ◌<◌, ◌≤◌, ◌++◌, length, true, false, IfOk, IfErr, Err, option_map};
+ghost use Rattle.std.specs.List.{list_any};
 ghost use Rattle.std.specs.Io.KnownBytes.{Consumes, IsAtEnd, prepend_known};
-ghost use Rattle.icu_locale_lines.specs.Streams.{ReadsLine, ReadsUnended, part_size};
+ghost use Rattle.icu_locale_lines.specs.Lines.{is_line_feed, first_line, exceeds};
+ghost use Rattle.icu_locale_lines.specs.Streams.{ReadsLine, ReadsNoLine, part_size};
 ghost use Rattle.icu_locale_lines.specs.inner.Parts.{TakesLine};
 
 use crate::error::CliError;
-use crate::runs::cut::cut;
+use crate::runs::cut::{cut, is_too_long};
 use std::alloc::Global;
 use std::io::Read;
 
@@ -55,23 +57,24 @@ pub struct FirstLine {
 }
 
 // Reads the first line after what was read before. An input in which it has not ended after the last read that it may
-// take counts as a failed read.
+// take counts as a failed read, and so does a line that is too long.
 pub fn read_first_line<R: Read>(
     alloc: Global,
+    longest: Option<usize>,
     before: &[u8],
     reader: &mut R,
 ) -> Result<FirstLine, CliError>
-    ensures line { IfOk result (λ l. ReadsLine
+    requires short { length before.now ≤ part_size }
+    ensures line { IfOk result (λ l. ReadsLine longest
         (prepend_known before.now (R.remaining reader.old))
         (prepend_known l.rest.items (R.remaining reader.new)) l.line.items l.has_ended) }
-    ensures short { length before.now ≤ part_size
-        → IfOk result (λ l. length l.rest.items < part_size) }
-    ensures unended { result ≡ Err CliError.Read → ReadsUnended
+    ensures short { IfOk result (λ l. length l.rest.items < part_size) }
+    ensures none { result ≡ Err CliError.Read → ReadsNoLine longest
         (prepend_known before.now (R.remaining reader.old)) (R.remaining reader.new) }
     ensures refused { IfErr result (λ e. (e ≡ CliError.Read) ⊎ (e ≡ CliError.Memory)) }
 {
     let mut line = Vec::new(alloc);
-    if let Some(rest) = take_line(alloc, &mut line, before)? {
+    if let Some(rest) = take_line(alloc, longest, &mut line, before)? {
         return Ok(FirstLine {
             line,
             rest,
@@ -90,7 +93,7 @@ pub fn read_first_line<R: Read>(
             }
             Ok(count) => {
                 let (part, _) = buffer.split_at(count);
-                if let Some(rest) = take_line(alloc, &mut line, part)? {
+                if let Some(rest) = take_line(alloc, longest, &mut line, part)? {
                     return Ok(FirstLine {
                         line,
                         rest,
@@ -104,18 +107,27 @@ pub fn read_first_line<R: Read>(
     Err(CliError::Read)
 }
 
-// Puts a part after the beginning of a line, up to a line feed, and gives what follows that, if there is one.
+// Puts a part after the beginning of a line, up to a line feed, and gives what follows that, if there is one. A line that
+// is too long counts as a failed read.
 pub fn take_line(
     alloc: Global,
+    longest: Option<usize>,
     line: &mut Vec<u8>,
     part: &[u8],
 ) -> Result<Option<Vec<u8>>, CliError>
+    requires { list_any is_line_feed line.old.items ≡ false }
     ensures taken { IfOk result (λ rest. TakesLine line.old.items part.now line.new.items
         (option_map (λ r. r.items) rest)) }
-    ensures refused { IfErr result (λ e. e ≡ CliError.Memory) }
+    ensures within { IfOk result (λ _. exceeds longest line.new.items ≡ false) }
+    ensures long { result ≡ Err CliError.Read
+        → exceeds longest (first_line (line.old.items ++ part.now)) ≡ true }
+    ensures refused { IfErr result (λ e. (e ≡ CliError.Read) ⊎ (e ≡ CliError.Memory)) }
 {
     let (front, behind) = cut(part);
     line.extend_from_slice(front)?;
+    if is_too_long(longest, line) {
+        return Err(CliError::Read);
+    }
     if front.len() == part.len() {
         return Ok(None);
     }

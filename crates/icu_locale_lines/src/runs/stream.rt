@@ -1,23 +1,26 @@
 //! A run that answers lines as they come: each answer is written before more is read.
 ghost use Rattle.icu_tables.specs.Supplement.{rows_in, rows_of};
 ghost use Rattle.icu_locale_lines.specs.Refusals.{IsRefusedSupplement};
-ghost use Rattle.std.specs.Prelude.{◌≡◌, ◌↔◌, Ok, Err, IfOk, IfErr, false, ◌⊎◌, ◌++◌, List, ℕ};
+ghost use Rattle.std.specs.Prelude.{◌≡◌, ◌↔◌, ◌≤◌, Ok, Err, IfOk, IfErr, None, Some, false, ◌++◌, length, List, ℕ};
 ghost use Rattle.std.specs.Io.KnownBytes.{prepend_known};
 ghost use Rattle.icu_tables.specs.declared.tables.Tables.{Tables};
 ghost use Rattle.icu_locale_lines.specs.Loads.{not_found};
-ghost use Rattle.icu_locale_lines.specs.Streams.{IsSupplementStream, IsRefusedSupplementStream, StopsLoaded, IsRefusedStream, IsJsonStream, IsRefusedJsonStream, EndsLines, AnswersEnded, LeavesEnded, StopsStream};
-ghost use Rattle.icu_locale_lines.specs.WholeRuns.{IsRun, IsRunFrom};
+ghost use Rattle.icu_locale_lines.specs.Streams.{part_size, IsRunWithin, IsRefusedStream, IsJsonStream, IsRefusedJsonStream, IsSupplementStream, IsRefusedSupplementStream};
+ghost use Rattle.icu_locale_lines.specs.Streams.{IsUnended, StopsLoaded, EndsLines, AnswersEnded, StopsStream};
+ghost use Rattle.icu_locale_lines.specs.inner.Parts.{StopsPart};
+ghost use Rattle.icu_locale_lines.specs.WholeRuns.{IsRun};
 ghost use Rattle.icu_locale_lines.specs.Commands.{IsListing, IsUnsettled, has_tables};
 ghost use Rattle.icu_locale_lines.specs.declared.command.Command.TheVariants.{Lines};
 ghost use Rattle.icu_locale_lines.specs.declared.command.LineCommand.{LineCommand};
 ghost use Rattle.std.specs.List.{list_any};
-ghost use Rattle.icu_locale_lines.specs.Lines.{is_line_feed};
-ghost use Rattle.icu_locale_lines.specs.Runs.{ReadsAll, WritesAll, WritesWholeLines, WritesPart};
+ghost use Rattle.icu_locale_lines.specs.Lines.{is_line_feed, AreWithin};
+ghost use Rattle.icu_locale_lines.specs.Runs.{ReadsAll, WritesAll};
 
 use crate::answer::write_answers;
 use crate::command::Command;
 use crate::error::CliError;
 use crate::runs::Status;
+use crate::runs::cut::{cut_before_long, cut_behind_lines, is_too_long};
 use crate::runs::input::{MOST_READS, PART, read_first_line};
 use crate::runs::whole::{read_tables, write_settled};
 use crate::work::Work;
@@ -51,20 +54,20 @@ pub fn stream<R: Read, W: Write>(
         ↔ (has_tables command.now tables.now ≡ false) }
     ensures unsettled { (result ≡ Err CliError.NotSettled)
         ↔ IsUnsettled command.now tables.now }
-    ensures refused { IfErr result (IsRefusedStream command.now tables.now
+    ensures refused { IfErr result (IsRefusedStream None command.now tables.now
         (R.remaining reader.old) (R.remaining reader.old) (R.remaining reader.new)
         (W.contents writer.old) (W.contents writer.new)) }
 {
-    stream_within(alloc, command, tables, usize::MAX, reader, writer)
+    stream_over(alloc, command, tables, None, &[], reader, writer)
 }
 
-/// Does as `stream`, but a line that has not ended after so many bytes and what was read with them counts as a failed
-/// read, so that an input without line feeds does not fill memory. A line of at most so many bytes is always answered,
-/// and what lists the available identifiers may be of any length.
+/// Does as `stream`, but a line longer than so many bytes counts as a failed read, its line feed not counted and however
+/// the input comes by parts: the lines before it are answered, and no more is read. So does a first line that lists what
+/// is available. An input without line feeds does not fill memory then.
 ///
 /// # Errors
 ///
-/// Those of `stream`.
+/// Those of `stream`; `Read` also where a line is longer than that.
 pub fn stream_within<R: Read, W: Write>(
     alloc: Global,
     command: &Command,
@@ -73,17 +76,18 @@ pub fn stream_within<R: Read, W: Write>(
     reader: &mut R,
     writer: &mut W,
 ) -> Result<Status, CliError>
-    ensures output { IfOk result (IsRun command.now tables.now (R.remaining reader.old)
-        (R.remaining reader.new) (W.contents writer.old) (W.contents writer.new)) }
+    ensures output { IfOk result (IsRunWithin (Some longest) command.now tables.now
+        (R.remaining reader.old) (R.remaining reader.old) (R.remaining reader.new)
+        (W.contents writer.old) (W.contents writer.new)) }
     ensures data { (result ≡ Err (CliError.Data not_found))
         ↔ (has_tables command.now tables.now ≡ false) }
     ensures unsettled { (result ≡ Err CliError.NotSettled)
         ↔ IsUnsettled command.now tables.now }
-    ensures refused { IfErr result (IsRefusedStream command.now tables.now
+    ensures refused { IfErr result (IsRefusedStream (Some longest) command.now tables.now
         (R.remaining reader.old) (R.remaining reader.old) (R.remaining reader.new)
         (W.contents writer.old) (W.contents writer.new)) }
 {
-    stream_over(alloc, command, tables, longest, &[], reader, writer)
+    stream_over(alloc, command, tables, Some(longest), &[], reader, writer)
 }
 
 /// Takes the tables of the first line as JSON, as soon as it has come, and does as `stream` with what follows. `Settled`
@@ -100,19 +104,20 @@ pub fn stream_json<R: Read, W: Write>(
     reader: &mut R,
     writer: &mut W,
 ) -> Result<Status, CliError>
-    ensures output { IfOk result (IsJsonStream command.now (R.remaining reader.old)
+    ensures output { IfOk result (IsJsonStream None command.now (R.remaining reader.old)
         (R.remaining reader.new) (W.contents writer.old) (W.contents writer.new)) }
-    ensures refused { IfErr result (IsRefusedJsonStream command.now (R.remaining reader.old)
+    ensures refused { IfErr result (IsRefusedJsonStream None command.now (R.remaining reader.old)
         (R.remaining reader.new) (W.contents writer.old) (W.contents writer.new)) }
 {
-    stream_json_within(alloc, command, usize::MAX, reader, writer)
+    stream_json_over(alloc, command, None, reader, writer)
 }
 
-/// Takes the tables of the first line, however long, and does as `stream_within` with what follows.
+/// Takes the tables of the first line and does as `stream_within` with what follows. The line of the tables may be of any
+/// length: it comes from who runs this.
 ///
 /// # Errors
 ///
-/// Those of `stream_json`.
+/// Those of `stream_json`; `Read` also where a line that follows is longer than so many bytes.
 pub fn stream_json_within<R: Read, W: Write>(
     alloc: Global,
     command: &Command,
@@ -120,12 +125,31 @@ pub fn stream_json_within<R: Read, W: Write>(
     reader: &mut R,
     writer: &mut W,
 ) -> Result<Status, CliError>
-    ensures output { IfOk result (IsJsonStream command.now (R.remaining reader.old)
-        (R.remaining reader.new) (W.contents writer.old) (W.contents writer.new)) }
-    ensures refused { IfErr result (IsRefusedJsonStream command.now (R.remaining reader.old)
-        (R.remaining reader.new) (W.contents writer.old) (W.contents writer.new)) }
+    ensures output { IfOk result (IsJsonStream (Some longest) command.now
+        (R.remaining reader.old) (R.remaining reader.new) (W.contents writer.old)
+        (W.contents writer.new)) }
+    ensures refused { IfErr result (IsRefusedJsonStream (Some longest) command.now
+        (R.remaining reader.old) (R.remaining reader.new) (W.contents writer.old)
+        (W.contents writer.new)) }
 {
-    let first = read_first_line(alloc, &[], reader)?;
+    stream_json_over(alloc, command, Some(longest), reader, writer)
+}
+
+// Takes the tables of the first line, and answers what follows.
+pub fn stream_json_over<R: Read, W: Write>(
+    alloc: Global,
+    command: &Command,
+    longest: Option<usize>,
+    reader: &mut R,
+    writer: &mut W,
+) -> Result<Status, CliError>
+    ensures output { IfOk result (IsJsonStream longest command.now (R.remaining reader.old)
+        (R.remaining reader.new) (W.contents writer.old) (W.contents writer.new)) }
+    ensures refused { IfErr result (IsRefusedJsonStream longest command.now
+        (R.remaining reader.old) (R.remaining reader.new) (W.contents writer.old)
+        (W.contents writer.new)) }
+{
+    let first = read_first_line(alloc, None, &[], reader)?;
     let tables = read_tables(alloc, &first.line)?;
     stream_over(
         alloc,
@@ -138,8 +162,8 @@ pub fn stream_json_within<R: Read, W: Write>(
     )
 }
 
-/// Takes the tables of the first line and their supplement of the second, however long, and does as `stream_within` with
-/// what follows. It takes memory for both lines and what they give too.
+/// Takes the tables of the first line and their supplement of the second, and does as `stream_within` with what follows.
+/// Both lines may be of any length: they come from who runs this. It takes memory for them and what they give too.
 ///
 /// # Errors
 ///
@@ -154,15 +178,33 @@ pub fn stream_supplement_within<R: Read, W: Write>(
     reader: &mut R,
     writer: &mut W,
 ) -> Result<Status, CliError>
-    ensures output { IfOk result (IsSupplementStream command.now (R.remaining reader.old)
-        (R.remaining reader.new) (W.contents writer.old) (W.contents writer.new)) }
-    ensures refused { IfErr result (IsRefusedSupplementStream command.now
+    ensures output { IfOk result (IsSupplementStream (Some longest) command.now
+        (R.remaining reader.old) (R.remaining reader.new) (W.contents writer.old)
+        (W.contents writer.new)) }
+    ensures refused { IfErr result (IsRefusedSupplementStream (Some longest) command.now
         (R.remaining reader.old) (R.remaining reader.new) (W.contents writer.old)
         (W.contents writer.new)) }
 {
-    let first = read_first_line(alloc, &[], reader)?;
+    stream_supplement_over(alloc, command, Some(longest), reader, writer)
+}
+
+// Takes the tables of the first line and their supplement of the second, and answers what follows.
+pub fn stream_supplement_over<R: Read, W: Write>(
+    alloc: Global,
+    command: &Command,
+    longest: Option<usize>,
+    reader: &mut R,
+    writer: &mut W,
+) -> Result<Status, CliError>
+    ensures output { IfOk result (IsSupplementStream longest command.now (R.remaining reader.old)
+        (R.remaining reader.new) (W.contents writer.old) (W.contents writer.new)) }
+    ensures refused { IfErr result (IsRefusedSupplementStream longest command.now
+        (R.remaining reader.old) (R.remaining reader.new) (W.contents writer.old)
+        (W.contents writer.new)) }
+{
+    let first = read_first_line(alloc, None, &[], reader)?;
     let mut tables = read_tables(alloc, &first.line)?;
-    let second = read_first_line(alloc, &first.rest, reader)?;
+    let second = read_first_line(alloc, None, &first.rest, reader)?;
     let supplement = read_supplement(alloc, &second.line)?;
     tables.set_supplement(supplement);
     stream_over(
@@ -189,23 +231,24 @@ fn read_supplement(alloc: Global, json: &[u8]) -> Result<Supplement, CliError>
 }
 
 // What a command answers to what is left of a reader, after what was read of it before. `Settled` reads no more.
-fn stream_over<R: Read, W: Write>(
+pub fn stream_over<R: Read, W: Write>(
     alloc: Global,
     command: &Command,
     tables: &Tables,
-    longest: usize,
+    longest: Option<usize>,
     before: &[u8],
     reader: &mut R,
     writer: &mut W,
 ) -> Result<Status, CliError>
-    ensures output { IfOk result (IsRunFrom command.now tables.now
+    requires short { length before.now ≤ part_size }
+    ensures output { IfOk result (IsRunWithin longest command.now tables.now
         (prepend_known before.now (R.remaining reader.old)) (R.remaining reader.old)
         (R.remaining reader.new) (W.contents writer.old) (W.contents writer.new)) }
     ensures data { (result ≡ Err (CliError.Data not_found))
         ↔ (has_tables command.now tables.now ≡ false) }
     ensures unsettled { (result ≡ Err CliError.NotSettled)
         ↔ IsUnsettled command.now tables.now }
-    ensures refused { IfErr result (IsRefusedStream command.now tables.now
+    ensures refused { IfErr result (IsRefusedStream longest command.now tables.now
         (prepend_known before.now (R.remaining reader.old)) (R.remaining reader.old)
         (R.remaining reader.new) (W.contents writer.old) (W.contents writer.new)) }
 {
@@ -224,21 +267,22 @@ fn stream_over<R: Read, W: Write>(
 fn stream_listed<R: Read, W: Write>(
     alloc: Global,
     listing: Listing<'_>,
-    longest: usize,
+    longest: Option<usize>,
     before: &[u8],
     reader: &mut R,
     writer: &mut W,
 ) -> Result<Status, CliError>
+    requires short { length before.now ≤ part_size }
     ensures output { (c : LineCommand) (t : Tables) → IsListing c t listing.entry
-        → IfOk result (IsRunFrom (Lines c) t
+        → IfOk result (IsRunWithin longest (Lines c) t
         (prepend_known before.now (R.remaining reader.old)) (R.remaining reader.old)
         (R.remaining reader.new) (W.contents writer.old) (W.contents writer.new)) }
     ensures refused { (c : LineCommand) (t : Tables) → IsListing c t listing.entry
-        → IfErr result (StopsLoaded (Lines c) t
+        → IfErr result (StopsLoaded longest (Lines c) t
         (prepend_known before.now (R.remaining reader.old)) (R.remaining reader.old)
         (R.remaining reader.new) (W.contents writer.old) (W.contents writer.new)) }
 {
-    let first = read_first_line(alloc, before, reader)?;
+    let first = read_first_line(alloc, longest, before, reader)?;
     let work = listing.over(alloc, &first.line)?;
     if first.has_ended {
         return Ok(Status::Accepted);
@@ -248,32 +292,29 @@ fn stream_listed<R: Read, W: Write>(
 
 // Answers what is left of a reader, after what was read of it before. After each part it answers the lines that this
 // part ends, and keeps what follows the last line feed; at the end it answers what is left. An input that has not ended
-// after the last read that it may take counts as a failed read, and so does a line that has not ended and has more bytes
-// than are kept.
+// after the last read that it may take counts as a failed read, and so does a line that is too long.
 fn stream_lines<R: Read, W: Write>(
     alloc: Global,
     work: &Work<'_>,
-    longest: usize,
+    longest: Option<usize>,
     first: &[u8],
     reader: &mut R,
     writer: &mut W,
 ) -> Result<Status, CliError>
+    requires short { length first.now ≤ part_size }
     ensures whole { IfOk result (λ status. (input : List ℕ)
         × ReadsAll (prepend_known first.now (R.remaining reader.old))
-        (R.remaining reader.new) input
+        (R.remaining reader.new) input × AreWithin longest input
         × WritesAll work.now input (W.contents writer.old) (W.contents writer.new) status) }
-    ensures refused { IfErr result (StopsStream work.now
+    ensures refused { IfErr result (StopsStream longest work.now
         (prepend_known first.now (R.remaining reader.old)) (R.remaining reader.new)
         (W.contents writer.old) (W.contents writer.new)) }
 {
     let mut carry = Vec::new(alloc);
     let mut text = Vec::new(alloc);
-    let mut status = answer_part(work, &mut text, &mut carry, first, writer)?;
+    let mut status = answer_part(work, longest, &mut text, &mut carry, first, writer)?;
     let mut buffer = [0; PART];
     for _ in 0..MOST_READS {
-        if carry.len() > longest {
-            return Err(CliError::Read);
-        }
         if writer.flush().is_err() {
             return Err(CliError::Write);
         }
@@ -284,7 +325,7 @@ fn stream_lines<R: Read, W: Write>(
             }
             Ok(count) => {
                 let (part, _) = buffer.split_at(count);
-                let ended = answer_part(work, &mut text, &mut carry, part, writer)?;
+                let ended = answer_part(work, longest, &mut text, &mut carry, part, writer)?;
                 status = status.and(ended);
             }
             Err(_) => return Err(CliError::Read),
@@ -293,48 +334,59 @@ fn stream_lines<R: Read, W: Write>(
     Err(CliError::Read)
 }
 
-// Answers the lines that a part ends, of which what was carried begins the first, and carries what follows the last.
+// Answers the lines that a part ends, and carries what follows the last. A line that is too long counts as a failed read.
 fn answer_part<W: Write>(
     work: &Work<'_>,
+    longest: Option<usize>,
     text: &mut Vec<u8>,
     carry: &mut Vec<u8>,
     part: &[u8],
     writer: &mut W,
 ) -> Result<Status, CliError>
-    ensures whole { IfOk result (AnswersEnded work.now (carry.old.items ++ part.now) carry.new.items
+    requires { list_any is_line_feed carry.old.items ≡ false }
+    ensures whole { IfOk result (AnswersEnded longest work.now
+        (carry.old.items ++ part.now) carry.new.items
         (W.contents writer.old) (W.contents writer.new)) }
-    ensures carried { list_any is_line_feed carry.old.items ≡ false → IfOk result
-        (λ _. list_any is_line_feed carry.new.items ≡ false) }
-    ensures memory { result ≡ Err CliError.Memory → LeavesEnded WritesWholeLines work.now
-        (carry.old.items ++ part.now) (W.contents writer.old) (W.contents writer.new) }
-    ensures write { result ≡ Err CliError.Write → LeavesEnded WritesPart work.now
-        (carry.old.items ++ part.now) (W.contents writer.old) (W.contents writer.new) }
-    ensures refused { IfErr result (λ e. (e ≡ CliError.Memory) ⊎ (e ≡ CliError.Write)) }
+    ensures unended { IfOk result (λ _. IsUnended longest carry.new.items) }
+    ensures refused { IfErr result (StopsPart longest work.now (carry.old.items ++ part.now)
+        (W.contents writer.old) (W.contents writer.new)) }
 {
     let (front, rest) = cut_behind_lines(part);
-    if front.is_empty() {
-        carry.extend_from_slice(part)?;
-        return Ok(Status::Accepted);
-    }
-    carry.extend_from_slice(front)?;
-    let status = write_answers(work, text, carry.as_slice(), writer)?;
-    carry.clear();
+    let status = answer_front(work, longest, text, carry, front, writer)?;
     carry.extend_from_slice(rest)?;
+    if is_too_long(longest, carry) {
+        return Err(CliError::Read);
+    }
     Ok(status)
 }
 
-// A text up to its last line feed, and what follows that.
-fn cut_behind_lines(text: &[u8]) -> (&[u8], &[u8])
-    ensures parted { text.now ≡ result.0.now ++ result.1.now }
-    ensures front { EndsLines result.0.now }
-    ensures rest { list_any is_line_feed result.1.now ≡ false }
+// Answers the lines of a text, of which what was carried begins the first, up to the first that is too long.
+fn answer_front<W: Write>(
+    work: &Work<'_>,
+    longest: Option<usize>,
+    text: &mut Vec<u8>,
+    carry: &mut Vec<u8>,
+    front: &[u8],
+    writer: &mut W,
+) -> Result<Status, CliError>
+    requires alone { list_any is_line_feed carry.old.items ≡ false }
+    requires whole { EndsLines front.now }
+    ensures whole { IfOk result (AnswersEnded longest work.now
+        (carry.old.items ++ front.now) carry.new.items
+        (W.contents writer.old) (W.contents writer.new)) }
+    ensures alone { IfOk result (λ _. list_any is_line_feed carry.new.items ≡ false) }
+    ensures refused { IfErr result (StopsPart longest work.now (carry.old.items ++ front.now)
+        (W.contents writer.old) (W.contents writer.new)) }
 {
-    let mut count = text.len();
-    while count > 0 {
-        if text[count - 1] == b'\n' {
-            return text.split_at(count);
-        }
-        count -= 1;
+    if front.is_empty() {
+        return Ok(Status::Accepted);
     }
-    (&[], text)
+    carry.extend_from_slice(front)?;
+    let (short, long) = cut_before_long(longest, carry.as_slice());
+    let status = write_answers(work, text, short, writer)?;
+    if !long.is_empty() {
+        return Err(CliError::Read);
+    }
+    carry.clear();
+    Ok(status)
 }

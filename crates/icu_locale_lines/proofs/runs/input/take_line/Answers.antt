@@ -1,8 +1,18 @@
-use Rattle.std.proofs.Common.{◌≡◌, false, ◌++◌, ◌∷◌, ap, sym, ◌∙◌, subst, length}
+use Rattle.std.proofs.Common.{◌≡◌, true, false, ◌++◌, ◌∷◌, ap, sym, ◌∙◌, subst, length, rules}
 use Rattle.std.specs.List.{list_any}
-use Rattle.icu_locale_lines.specs.Lines.{is_line_feed}
-use Rattle.icu_locale_lines.proofs.FirstLines.{whole_by_length, cut_by_length}
+use Rattle.icu_locale_lines.specs.Lines.{is_line_feed, first_line, exceeds}
+use Rattle.icu_locale_lines.proofs.FirstLines.{whole_by_length, cut_by_length, first_line-behind}
 use Rattle.icu_locale_lines.proofs.runs.input.take_line.Goals as goal
+
+-- what was read of the line is too long
+pub returns-then-is_too_long-clause-long : goal.returns-then-is_too_long-clause-long
+returns-then-is_too_long-clause-long c = λ refused.
+    let longest = c.args.longest in
+    let line = c.args.line.now.items in
+    let read : c.deref.result.now ≡ line ++ first_line c.args.part.now =
+    c.deref.ensures.value ∙ c.in_ok-extend_from_slice.ensures.items ∙ ap (λ x. line ++ x) c.cut.ensures.first in
+    let long : exceeds longest c.deref.result.now ≡ true = sym c.is_too_long.ensures ∙ search rules in
+    ap (exceeds longest) (first_line-behind line c.args.part.now c.requires ∙ sym read) ∙ long
 
 -- the part has no line feed
 pub returns-then-front-part-clause-taken : goal.returns-then-front-part-clause-taken

@@ -1,55 +1,89 @@
-use Rattle.std.proofs.Common.{◌++◌, Err, refl, ap, ◌∙◌}
+use Rattle.std.proofs.Common.{◌≡◌, ◌++◌, true, ap, sym, subst, ◌∙◌, append_assoc, rules}
 use Rattle.std.proofs.lemmas.Result.{err_from_is_err_and}
-use Rattle.icu_locale_lines.specs.Runs.{WritesWholeLines, WritesPart}
-use Rattle.icu_locale_lines.specs.declared.error.CliError.TheVariants.{Memory, Write}
-use Rattle.icu_locale_lines.proofs.Streaming.{LeavesEnded-none, WritesWholeLines-answered, same_refusal, part_leaves, part_whole}
+use Rattle.icu_locale_lines.specs.Lines.{first_line, exceeds}
+use Rattle.icu_locale_lines.specs.Runs.{WritesWholeLines}
+use Rattle.icu_locale_lines.specs.Streams.{AnswersEnded, LeavesEnded}
+use Rattle.icu_locale_lines.specs.inner.Parts.{StopsPart}
+use Rattle.icu_locale_lines.proofs.Bounds.{exceeds-unended}
+use Rattle.icu_locale_lines.proofs.PartEnds.{AnswersEnded-more, LeavesEnded-answered, StopsPart-more}
 use Rattle.icu_locale_lines.proofs.runs.stream.answer_part.Goals as goal
 
-pub returns-in_err-extend_from_slice-clause-memory : goal.returns-in_err-extend_from_slice-clause-memory
-returns-in_err-extend_from_slice-clause-memory g c = λ refused. LeavesEnded-none c.args.work.now (c.args.carry.now.items ++ c.args.part.now)
-    (g.W.Write.contents c.args.writer.now)
-
-pub returns-in_err-extend_from_slice-2-clause-memory : goal.returns-in_err-extend_from_slice-2-clause-memory
-returns-in_err-extend_from_slice-2-clause-memory g c = λ refused. LeavesEnded-none c.args.work.now
-    (c.args.carry.now.items ++ c.args.part.now) (g.W.Write.contents c.args.writer.now)
-
-pub returns-in_err-status-clause-memory : goal.returns-in_err-status-clause-memory
-returns-in_err-status-clause-memory g c = λ refused.
-    let contents = g.W.Write.contents in
+-- the lines that the part ends were refused
+pub returns-in_err-status-clause-refused : goal.returns-in_err-status-clause-refused
+returns-in_err-status-clause-refused g c =
+    let wrote = g.W.Write.contents in
+    let carry = c.args.carry.now.items in
     let cut = c.cut_behind_lines in
+    let front = cut.result.0.now in
+    let rest = cut.result.1.now in
     let e = c.in_err-status.field-0.0 in
-    let passed_on = err_from_is_err_and c.from_residual-in_err-status.result c.from_residual-in_err-status.ensures.1 in
-    part_leaves c.args.carry.now.items c.args.part.now cut.result.0.now cut.result.1.now c.as_slice.result.now cut.ensures.parted
-    cut.ensures.front c.if-is_empty.ensures (c.as_slice.ensures.value ∙ c.in_ok-extend_from_slice-2.ensures.items)
-    c.args.work.now (contents c.args.writer.now) (contents c.write_answers.new.writer) WritesWholeLines
-    (c.in_err-status.ensures.memory (same_refusal c.from_residual-in_err-status.result e passed_on.0 Memory passed_on.1 passed_on.2 refused (Err e) refl))
+    let all : (carry ++ front) ++ rest ≡ carry ++ c.args.part.now =
+    append_assoc carry front rest ∙ ap (λ p. carry ++ p) (sym cut.ensures.parted) in
+    let passed_on = err_from_is_err_and c.from_residual.result c.from_residual.ensures.1 in
+    rw (passed_on.1, passed_on.2) (subst (λ t. StopsPart c.args.longest c.args.work.now t (wrote c.args.writer.now) (wrote c.answer_front.new.writer) e) all
+    (StopsPart-more c.args.longest c.args.work.now (wrote c.args.writer.now) (wrote c.answer_front.new.writer) (carry ++ front) rest e
+    c.in_err-status.ensures.refused))
 
-pub returns-in_err-status-clause-write : goal.returns-in_err-status-clause-write
-returns-in_err-status-clause-write g c = λ refused.
-    let contents = g.W.Write.contents in
+-- there was no memory for what follows the last line feed
+pub returns-in_err-extend_from_slice-clause-refused : goal.returns-in_err-extend_from_slice-clause-refused
+returns-in_err-extend_from_slice-clause-refused g c =
+    let wrote = g.W.Write.contents in
+    let carry = c.args.carry.now.items in
     let cut = c.cut_behind_lines in
-    let e = c.in_err-status.field-0.0 in
-    let passed_on = err_from_is_err_and c.from_residual-in_err-status.result c.from_residual-in_err-status.ensures.1 in
-    part_leaves c.args.carry.now.items c.args.part.now cut.result.0.now cut.result.1.now c.as_slice.result.now cut.ensures.parted
-    cut.ensures.front c.if-is_empty.ensures (c.as_slice.ensures.value ∙ c.in_ok-extend_from_slice-2.ensures.items)
-    c.args.work.now (contents c.args.writer.now) (contents c.write_answers.new.writer) WritesPart
-    (c.in_err-status.ensures.write (same_refusal c.from_residual-in_err-status.result e passed_on.0 Write passed_on.1 passed_on.2 refused (Err e) refl))
+    let front = cut.result.0.now in
+    let rest = cut.result.1.now in
+    let held = c.answer_front.new.carry.items in
+    let work = c.args.work.now in
+    let all : (carry ++ front) ++ rest ≡ carry ++ c.args.part.now =
+    append_assoc carry front rest ∙ ap (λ p. carry ++ p) (sym cut.ensures.parted) in
+    let more = AnswersEnded-more c.args.longest work (wrote c.args.writer.now) (wrote c.answer_front.new.writer) (carry ++ front) held rest
+    c.in_ok-status.status c.in_ok-status.ensures.whole in
+    let passed_on = err_from_is_err_and c.from_residual-in_err-extend_from_slice.result c.from_residual-in_err-extend_from_slice.ensures.1 in
+    rw (passed_on.1, passed_on.2) (subst (λ t. LeavesEnded WritesWholeLines c.args.longest work t (wrote c.args.writer.now)
+    (wrote c.answer_front.new.writer)) all (LeavesEnded-answered c.args.longest work (wrote c.args.writer.now) (wrote c.answer_front.new.writer)
+    ((carry ++ front) ++ rest) (held ++ rest) c.in_ok-status.status more))
 
-pub returns-in_err-extend_from_slice-3-clause-memory : goal.returns-in_err-extend_from_slice-3-clause-memory
-returns-in_err-extend_from_slice-3-clause-memory g c = λ refused.
-    let contents = g.W.Write.contents in
+-- the line that has not ended is too long
+pub returns-then-is_too_long-clause-refused : goal.returns-then-is_too_long-clause-refused
+returns-then-is_too_long-clause-refused g c =
+    let wrote = g.W.Write.contents in
+    let carry = c.args.carry.now.items in
     let cut = c.cut_behind_lines in
-    part_leaves c.args.carry.now.items c.args.part.now cut.result.0.now cut.result.1.now c.as_slice.result.now cut.ensures.parted
-    cut.ensures.front c.if-is_empty.ensures (c.as_slice.ensures.value ∙ c.in_ok-extend_from_slice-2.ensures.items)
-    c.args.work.now (contents c.args.writer.now) (contents c.write_answers.new.writer) WritesWholeLines
-    (WritesWholeLines-answered c.args.work.now c.as_slice.result.now (contents c.args.writer.now)
-    (contents c.write_answers.new.writer) c.in_ok-status.status c.in_ok-status.ensures.whole)
+    let front = cut.result.0.now in
+    let rest = cut.result.1.now in
+    let held = c.answer_front.new.carry.items in
+    let left = c.extend_from_slice.new.self.items in
+    let work = c.args.work.now in
+    let status = c.in_ok-status.status in
+    let all : (carry ++ front) ++ rest ≡ carry ++ c.args.part.now =
+    append_assoc carry front rest ∙ ap (λ p. carry ++ p) (sym cut.ensures.parted) in
+    let is : left ≡ held ++ rest = c.in_ok-extend_from_slice.ensures.items in
+    let more = AnswersEnded-more c.args.longest work (wrote c.args.writer.now) (wrote c.answer_front.new.writer) (carry ++ front) held rest
+    status c.in_ok-status.ensures.whole in
+    let long : exceeds c.args.longest left ≡ true = ap (exceeds c.args.longest) (sym c.deref.ensures.value) ∙ sym c.is_too_long.ensures ∙ search rules in (
+      left,
+      status,
+      subst (λ l. AnswersEnded c.args.longest work (carry ++ c.args.part.now) l (wrote c.args.writer.now) (wrote c.answer_front.new.writer) status)
+          (sym is) (subst (λ t. AnswersEnded c.args.longest work t (held ++ rest) (wrote c.args.writer.now)
+          (wrote c.answer_front.new.writer) status) all more),
+      exceeds-unended c.args.longest held rest left is c.in_ok-status.ensures.alone cut.ensures.rest long,
+    )
 
 pub returns-clause-whole : goal.returns-clause-whole
 returns-clause-whole g c =
-    let contents = g.W.Write.contents in
+    let wrote = g.W.Write.contents in
+    let carry = c.args.carry.now.items in
     let cut = c.cut_behind_lines in
-    part_whole c.args.carry.now.items c.args.part.now cut.result.0.now cut.result.1.now c.as_slice.result.now cut.ensures.parted
-    cut.ensures.front c.if-is_empty.ensures (c.as_slice.ensures.value ∙ c.in_ok-extend_from_slice-2.ensures.items)
-    c.args.work.now (contents c.args.writer.now) (contents c.write_answers.new.writer) c.in_ok-status.status c.in_ok-status.ensures.whole
-    c.extend_from_slice-3.new.self.items (c.in_ok-extend_from_slice-3.ensures.items ∙ ap (λ x. x ++ cut.result.1.now) c.clear.ensures.items)
+    let front = cut.result.0.now in
+    let rest = cut.result.1.now in
+    let held = c.answer_front.new.carry.items in
+    let work = c.args.work.now in
+    let status = c.in_ok-status.status in
+    let all : (carry ++ front) ++ rest ≡ carry ++ c.args.part.now =
+    append_assoc carry front rest ∙ ap (λ p. carry ++ p) (sym cut.ensures.parted) in
+    let is : c.extend_from_slice.new.self.items ≡ held ++ rest = c.in_ok-extend_from_slice.ensures.items in
+    let more = AnswersEnded-more c.args.longest work (wrote c.args.writer.now) (wrote c.answer_front.new.writer) (carry ++ front) held rest
+    status c.in_ok-status.ensures.whole in
+    subst (λ l. AnswersEnded c.args.longest work (carry ++ c.args.part.now) l (wrote c.args.writer.now) (wrote c.answer_front.new.writer) status)
+    (sym is) (subst (λ t. AnswersEnded c.args.longest work t (held ++ rest) (wrote c.args.writer.now)
+    (wrote c.answer_front.new.writer) status) all more)

@@ -1,11 +1,13 @@
-use Rattle.std.proofs.Common.{◌≡◌, [], take, rules, inl, inr, refl, sym, subst, ◌∙◌, append-nil}
+use Rattle.std.proofs.Common.{◌≡◌, ◌≤◌, Err, [], take, length, rules, inr, refl, ap, sym, subst, ◌∙◌, arith}
 use Rattle.std.specs.Io.KnownBytes.{Consumes, IsAtEnd, prepend_known}
 use Rattle.std.proofs.lemmas.Result.{err_from_is_err_and}
 use Rattle.icu_locale_lines.specs.Runs.{WritesAll, WritesWholeLines, WritesPart}
+use Rattle.icu_locale_lines.specs.Streams.{part_size}
 use Rattle.icu_locale_lines.specs.declared.runs.Status.TheVariants.{Accepted}
+use Rattle.icu_locale_lines.specs.inner.Parts.{StopsPart}
 use Rattle.icu_locale_lines.proofs.Streaming.{Consumes-prepended, StreamProgress-none, StreamProgress-more, StreamProgress-refused}
-use Rattle.icu_locale_lines.proofs.Streaming.{StreamProgress-unread, StreamProgress-stopped, StreamProgress-end, StreamProgress-flushed}
-use Rattle.icu_locale_lines.proofs.Streaming.{StreamProgress-unflushed}
+use Rattle.icu_locale_lines.proofs.Streaming.{StreamProgress-unread, StreamProgress-stopped, StreamProgress-last, StreamProgress-end}
+use Rattle.icu_locale_lines.proofs.Streaming.{StreamProgress-flushed, StreamProgress-unflushed}
 use Rattle.icu_locale_lines.proofs.runs.stream.stream_lines.Goals as goal
 
 -- what was read before was refused
@@ -19,11 +21,10 @@ returns-in_err-status-clause-refused g c =
     let held = c.new-carry.result.items in
     let e = c.in_err-status.field-0.0 in
     let passed_on = err_from_is_err_and c.from_residual.result c.from_residual.ensures.1 in
-    rw (passed_on.1, passed_on.2) (StreamProgress-refused work start start (wrote c.args.writer.now) (wrote c.args.writer.now) Accepted held
-    (StreamProgress-none work start (wrote c.args.writer.now) held c.new-carry.ensures.items)
-    (read c.args.reader.now) (wrote c.answer_part.new.writer) first (Consumes-prepended first (read c.args.reader.now)) e c.in_err-status.ensures.refused
-    (λ r is target. inl (c.in_err-status.ensures.memory (sym is ∙ target)))
-    (λ r is target. inl (c.in_err-status.ensures.write (sym is ∙ target))))
+    rw (passed_on.1, passed_on.2) (StreamProgress-refused c.args.longest work start start (wrote c.args.writer.now) (wrote c.args.writer.now) Accepted held
+    (StreamProgress-none c.args.longest work start (wrote c.args.writer.now) held c.new-carry.ensures.items)
+    (read c.args.reader.now) (wrote c.answer_part.new.writer) first (Consumes-prepended first (read c.args.reader.now)) c.requires.short
+    e c.in_err-status.ensures.refused)
 
 -- the last line was refused
 pub returns-in_err-last-in-Ok-eq0-clause-refused : goal.returns-in_err-last-in-Ok-eq0-clause-refused
@@ -31,28 +32,21 @@ returns-in_err-last-in-Ok-eq0-clause-refused g c =
     let read = g.R.Read.remaining in
     let wrote = g.W.Write.contents in
     let start = prepend_known c.args.first.now (read c.args.reader.now) in
-    let before = StreamProgress-flushed c.args.work.now start (read c.loop.reader) (wrote c.args.writer.now) (wrote c.loop.writer)
+    let before = StreamProgress-flushed c.args.longest c.args.work.now start (read c.loop.reader) (wrote c.args.writer.now) (wrote c.loop.writer)
     (wrote c.flush.new.self) c.loop.status c.loop.carry.items c.loop.invariant c.flush.ensures.bytes in
     let work = c.args.work.now in
     let none : c.in-Ok-eq0.field-0 ≡ 0 = search rules in
     let more = subst (λ n. Consumes (read c.loop.reader) (read c.read.new.self) (take n c.read.new.buf)) none c.in-Ok-eq0.ensures.bytes.0 in
     let ended : IsAtEnd (read c.read.new.self) = search rules in
-    let same = c.as_slice.ensures.value ∙ sym (append-nil c.loop.carry.items) in
     let e = c.in_err-last-in-Ok-eq0.field-0.0 in
     let passed_on = err_from_is_err_and c.from_residual-in_err-last-in-Ok-eq0.result c.from_residual-in_err-last-in-Ok-eq0.ensures.1 in
-    rw (passed_on.1, passed_on.2) (StreamProgress-refused work start (read c.loop.reader) (wrote c.args.writer.now)
+    rw (passed_on.1, passed_on.2) (StreamProgress-last c.args.longest work start (read c.loop.reader) (wrote c.args.writer.now)
     (wrote c.flush.new.self) c.loop.status c.loop.carry.items before
-    (read c.read.new.self) (wrote c.write_answers.new.writer) [] more e c.in_err-last-in-Ok-eq0.ensures.refused
-    (λ r is target. inr (
-      ended,
-      subst (λ t. WritesWholeLines work t (wrote c.flush.new.self) (wrote c.write_answers.new.writer)) same
-          (c.in_err-last-in-Ok-eq0.ensures.memory (sym is ∙ target)),
-    ))
-    (λ r is target. inr (
-      ended,
-      subst (λ t. WritesPart work t (wrote c.flush.new.self) (wrote c.write_answers.new.writer)) same
-          (c.in_err-last-in-Ok-eq0.ensures.write (sym is ∙ target)),
-    )))
+    (read c.read.new.self) (wrote c.write_answers.new.writer) [] refl more ended e c.in_err-last-in-Ok-eq0.ensures.refused
+    (λ is. subst (λ t. WritesWholeLines work t (wrote c.flush.new.self) (wrote c.write_answers.new.writer)) c.as_slice.ensures.value
+    (c.in_err-last-in-Ok-eq0.ensures.memory (ap (λ e. Err e) is)))
+    (λ is. subst (λ t. WritesPart work t (wrote c.flush.new.self) (wrote c.write_answers.new.writer)) c.as_slice.ensures.value
+    (c.in_err-last-in-Ok-eq0.ensures.write (ap (λ e. Err e) is))))
 
 -- the input is at its end, and its last line is answered
 pub returns-in-Ok-eq0-clause-whole : goal.returns-in-Ok-eq0-clause-whole
@@ -60,13 +54,14 @@ returns-in-Ok-eq0-clause-whole g c =
     let read = g.R.Read.remaining in
     let wrote = g.W.Write.contents in
     let start = prepend_known c.args.first.now (read c.args.reader.now) in
-    let before = StreamProgress-flushed c.args.work.now start (read c.loop.reader) (wrote c.args.writer.now) (wrote c.loop.writer)
+    let before = StreamProgress-flushed c.args.longest c.args.work.now start (read c.loop.reader) (wrote c.args.writer.now) (wrote c.loop.writer)
     (wrote c.flush.new.self) c.loop.status c.loop.carry.items c.loop.invariant c.flush.ensures.bytes in
     let work = c.args.work.now in
     let none : c.in-Ok-eq0.field-0 ≡ 0 = search rules in
     let more = subst (λ n. Consumes (read c.loop.reader) (read c.read.new.self) (take n c.read.new.buf)) none c.in-Ok-eq0.ensures.bytes.0 in
     let ended : IsAtEnd (read c.read.new.self) = search rules in
-    StreamProgress-end work start (read c.loop.reader) (wrote c.args.writer.now) (wrote c.flush.new.self) c.loop.status c.loop.carry.items before
+    StreamProgress-end c.args.longest work start (read c.loop.reader) (wrote c.args.writer.now) (wrote c.flush.new.self) c.loop.status
+    c.loop.carry.items before
     (read c.read.new.self) (wrote c.write_answers.new.writer) [] refl more ended c.in_ok-last-in-Ok-eq0.last c.and.result
     (subst (λ t. WritesAll work t (wrote c.flush.new.self) (wrote c.write_answers.new.writer) c.in_ok-last-in-Ok-eq0.last)
     c.as_slice.ensures.value c.in_ok-last-in-Ok-eq0.ensures.whole) c.and.ensures
@@ -77,16 +72,16 @@ returns-in_err-ended-in-Ok-clause-refused g c =
     let read = g.R.Read.remaining in
     let wrote = g.W.Write.contents in
     let start = prepend_known c.args.first.now (read c.args.reader.now) in
-    let before = StreamProgress-flushed c.args.work.now start (read c.loop.reader) (wrote c.args.writer.now) (wrote c.loop.writer)
+    let before = StreamProgress-flushed c.args.longest c.args.work.now start (read c.loop.reader) (wrote c.args.writer.now) (wrote c.loop.writer)
     (wrote c.flush.new.self) c.loop.status c.loop.carry.items c.loop.invariant c.flush.ensures.bytes in
+    let part = c.split_at.result.0.now in
     let more = subst (Consumes (read c.loop.reader) (read c.read.new.self)) (sym c.split_at.ensures.front) c.in-Ok.ensures.bytes.0 in
+    let size : length part ≤ part_size = search rules in
     let e = c.in_err-ended-in-Ok.field-0.0 in
     let passed_on = err_from_is_err_and c.from_residual-in_err-ended-in-Ok.result c.from_residual-in_err-ended-in-Ok.ensures.1 in
-    rw (passed_on.1, passed_on.2) (StreamProgress-refused c.args.work.now start (read c.loop.reader) (wrote c.args.writer.now)
+    rw (passed_on.1, passed_on.2) (StreamProgress-refused c.args.longest c.args.work.now start (read c.loop.reader) (wrote c.args.writer.now)
     (wrote c.flush.new.self) c.loop.status c.loop.carry.items before
-    (read c.read.new.self) (wrote c.answer_part-in-Ok.new.writer) c.split_at.result.0.now more e c.in_err-ended-in-Ok.ensures.refused
-    (λ r is target. inl (c.in_err-ended-in-Ok.ensures.memory (sym is ∙ target)))
-    (λ r is target. inl (c.in_err-ended-in-Ok.ensures.write (sym is ∙ target))))
+    (read c.read.new.self) (wrote c.answer_part-in-Ok.new.writer) part more size e c.in_err-ended-in-Ok.ensures.refused)
 
 -- a failed read leaves what is carried unanswered
 pub returns-in-Err-clause-refused : goal.returns-in-Err-clause-refused
@@ -94,10 +89,10 @@ returns-in-Err-clause-refused g c =
     let read = g.R.Read.remaining in
     let wrote = g.W.Write.contents in
     let start = prepend_known c.args.first.now (read c.args.reader.now) in
-    let before = StreamProgress-flushed c.args.work.now start (read c.loop.reader) (wrote c.args.writer.now) (wrote c.loop.writer)
+    let before = StreamProgress-flushed c.args.longest c.args.work.now start (read c.loop.reader) (wrote c.args.writer.now) (wrote c.loop.writer)
     (wrote c.flush.new.self) c.loop.status c.loop.carry.items c.loop.invariant c.flush.ensures.bytes in
-    StreamProgress-unread c.args.work.now start (read c.loop.reader) (wrote c.args.writer.now) (wrote c.flush.new.self) c.loop.status c.loop.carry.items before
-    (read c.read.new.self) c.in-Err.ensures.bytes
+    StreamProgress-unread c.args.longest c.args.work.now start (read c.loop.reader) (wrote c.args.writer.now) (wrote c.flush.new.self) c.loop.status
+    c.loop.carry.items before (read c.read.new.self) c.in-Err.ensures.bytes
 
 -- one more part is answered
 pub loop-preserved : goal.loop-preserved
@@ -105,13 +100,14 @@ loop-preserved g c =
     let read = g.R.Read.remaining in
     let wrote = g.W.Write.contents in
     let start = prepend_known c.args.first.now (read c.args.reader.now) in
-    let before = StreamProgress-flushed c.args.work.now start (read c.loop.reader) (wrote c.args.writer.now) (wrote c.loop.writer)
+    let before = StreamProgress-flushed c.args.longest c.args.work.now start (read c.loop.reader) (wrote c.args.writer.now) (wrote c.loop.writer)
     (wrote c.flush.new.self) c.loop.status c.loop.carry.items c.loop.invariant c.flush.ensures.bytes in
     let more = subst (Consumes (read c.loop.reader) (read c.read.new.self)) (sym c.split_at.ensures.front) c.in-Ok.ensures.bytes.0 in
-    StreamProgress-more c.args.work.now start (read c.loop.reader) (wrote c.args.writer.now) (wrote c.flush.new.self) c.loop.status c.loop.carry.items before
+    StreamProgress-more c.args.longest c.args.work.now start (read c.loop.reader) (wrote c.args.writer.now) (wrote c.flush.new.self) c.loop.status
+    c.loop.carry.items before
     (read c.read.new.self) (wrote c.answer_part-in-Ok.new.writer) c.split_at.result.0.now c.answer_part-in-Ok.new.carry.items
     c.in_ok-ended-in-Ok.ended c.and-status.result more
-    c.in_ok-ended-in-Ok.ensures.whole (c.in_ok-ended-in-Ok.ensures.carried before.unended) c.and-status.ensures
+    c.in_ok-ended-in-Ok.ensures.whole c.in_ok-ended-in-Ok.ensures.unended c.and-status.ensures
 
 -- a flush failed
 pub returns-then-is_err-clause-refused : goal.returns-then-is_err-clause-refused
@@ -119,13 +115,5 @@ returns-then-is_err-clause-refused g c =
     let read = g.R.Read.remaining in
     let wrote = g.W.Write.contents in
     let start = prepend_known c.args.first.now (read c.args.reader.now) in
-    inr (StreamProgress-unflushed c.args.work.now start (read c.loop.reader) (wrote c.args.writer.now) (wrote c.loop.writer)
+    inr (StreamProgress-unflushed c.args.longest c.args.work.now start (read c.loop.reader) (wrote c.args.writer.now) (wrote c.loop.writer)
     (wrote c.flush.new.self) c.loop.status c.loop.carry.items c.loop.invariant c.flush.ensures.bytes)
-
--- a line that has not ended has more bytes than are kept
-pub returns-then-len-longest-clause-refused : goal.returns-then-len-longest-clause-refused
-returns-then-len-longest-clause-refused g c =
-    let read = g.R.Read.remaining in
-    let wrote = g.W.Write.contents in
-    StreamProgress-stopped c.args.work.now (prepend_known c.args.first.now (read c.args.reader.now)) (read c.loop.reader)
-    (wrote c.args.writer.now) (wrote c.loop.writer) c.loop.status c.loop.carry.items c.loop.invariant

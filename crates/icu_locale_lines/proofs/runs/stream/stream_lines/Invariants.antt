@@ -4,5 +4,5 @@ use Rattle.icu_locale_lines.proofs.runs.stream.stream_lines.Given as goal
 
 -- what was read is answered but for what is carried
 abbrev pub invariant-loop : goal.invariant-loop
-invariant-loop g l = StreamProgress l.work (prepend_known l.first (g.R.Read.remaining l.initial.reader)) (g.R.Read.remaining l.reader)
+invariant-loop g l = StreamProgress l.longest l.work (prepend_known l.first (g.R.Read.remaining l.initial.reader)) (g.R.Read.remaining l.reader)
     (g.W.Write.contents l.fn.writer) (g.W.Write.contents l.writer) l.status l.carry.items

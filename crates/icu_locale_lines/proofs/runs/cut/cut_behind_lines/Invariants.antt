@@ -1,7 +1,7 @@
 use Rattle.std.proofs.Common.{◌≡◌, ◌≤◌, false, length, drop}
 use Rattle.std.specs.List.{list_any}
 use Rattle.icu_locale_lines.specs.Lines.{is_line_feed}
-use Rattle.icu_locale_lines.proofs.runs.stream.cut_behind_lines.Given as goal
+use Rattle.icu_locale_lines.proofs.runs.cut.cut_behind_lines.Given as goal
 
 -- there is no line feed from the place on
 abbrev pub invariant-loop-count : goal.invariant-loop-count
