@@ -19,5 +19,5 @@ fn main(rt: HostRuntime) -> ExitCode {
 
 fn start(rt: &HostRuntime) -> Result<Status, CliError> {
     let words = program_words(rt)?;
-    run_words(rt.alloc(), &words, &mut rt.reader(), io::writer(rt))
+    run_words(rt.alloc(), &words, &mut rt.reader(), &mut io::writer(rt))
 }

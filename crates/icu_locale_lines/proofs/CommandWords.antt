@@ -4,7 +4,7 @@ use Rattle.std.proofs.Common.{subst, ◌∙◌, arith}
 use Rattle.std.specs.Char.{to_ascii_lowercase}
 use Rattle.std.proofs.lemmas.Bool.{and_parts}
 use Rattle.std.proofs.lemmas.Bool.Decides.{nat_tests}
-use Rattle.std.proofs.lemmas.List.{length-map, append_cancel_right}
+use Rattle.std.proofs.lemmas.List.{length-map, map-append, append_cancel_right}
 use Rattle.icu_locale_core.specs.Identifier.{IsIdentifier, Spells, pieces, subtags}
 use Rattle.icu_locale_core.specs.Subtag.{has_length, is_alphabetic, lowercase}
 use Rattle.icu_locale_core.specs.declared.langid.LanguageIdentifier.{LanguageIdentifier}
@@ -56,7 +56,7 @@ name_only chain text t are =
     ]
 
 -- the last of two lists that are one
-ends : {X : Type 0} (xs ys : List X) (x y : X) → xs ++ x ∷ [] ≡ ys ++ y ∷ [] → x ≡ y
+pub ends : {X : Type 0} (xs ys : List X) (x y : X) → xs ++ x ∷ [] ≡ ys ++ y ∷ [] → x ≡ y
 ends [] [] x y e = cc
 ends [] (v ∷ []) x y e = absurd (cc)
 ends [] (v ∷ w ∷ ws) x y e = absurd (cc)
@@ -99,32 +99,37 @@ three_words word chain text (Lines c) are =
     let name = (three_named (word ∷ chain ∷ text ∷ []) word chain text refl c.task are.1).0 in
     (subst (λ w. AreCommandWords (w ∷ chain ∷ text ∷ []) (Lines c)) name are, name)
 
--- words that end with `json` are not those of a task without it
-never_task : (front : List (List ℕ)) (t : Task) → AreTaskWords (front ++ codes "json" ∷ []) t → ⊥
-never_task [] t (arguments, are, is) =
-    let word : codes "json" ≡ task_word t = cc in
-    json_apart t word
-never_task (w ∷ []) t are = by (counted (w ∷ codes "json" ∷ []) t are)
-  where
-    by : (length (w ∷ codes "json" ∷ []) ≡ 1) ⊎ ((chain : List ℕ) × (text : List ℕ) × (w ∷ codes "json" ∷ [] ≡ codes "name" ∷ chain ∷ text ∷ [])) → ⊥
-    by (inl one) = omega (arith, one)
-    by (inr (chain, text, is)) = let two : 2 ≡ 3 = ap length is in omega (arith, two)
-never_task (w ∷ v ∷ []) t are =
-    let spells = (name_only v (codes "json") t (three_named (w ∷ v ∷ codes "json" ∷ []) w v (codes "json") refl t are).1).spelled in
-    unspelled spells.0 spells.1 spells.2
-never_task (w ∷ v ∷ u ∷ us) t are = by (counted (w ∷ v ∷ u ∷ (us ++ codes "json" ∷ [])) t are)
-  where
-    by : (length (w ∷ v ∷ u ∷ (us ++ codes "json" ∷ [])) ≡ 1) ⊎ ((chain : List ℕ) × (text : List ℕ)
-        × (w ∷ v ∷ u ∷ (us ++ codes "json" ∷ []) ≡ codes "name" ∷ chain ∷ text ∷ [])) → ⊥
-    by (inl one) = omega (arith, one)
-    by (inr (chain, text, is)) = not_nil us (codes "json") (cc)
+-- words that end with one that is no word of a command, and spells nothing, are not those of a command
+module _ (last : List ℕ) (settled : last ≡ codes "settled" → ⊥) (apart : (t : Task) → last ≡ task_word t → ⊥)
+    (unspelled : (x : LanguageIdentifier) → IsIdentifier x → Spells last x → ⊥) where
+  never_task : (front : List (List ℕ)) (t : Task) → AreTaskWords (front ++ last ∷ []) t → ⊥
+  never_task [] t (arguments, are, is) =
+      let word : last ≡ task_word t = cc in
+      apart t word
+  never_task (w ∷ []) t are = by (counted (w ∷ last ∷ []) t are)
+    where
+      by : (length (w ∷ last ∷ []) ≡ 1) ⊎ ((chain : List ℕ) × (text : List ℕ) × (w ∷ last ∷ [] ≡ codes "name" ∷ chain ∷ text ∷ [])) → ⊥
+      by (inl one) = omega (arith, one)
+      by (inr (chain, text, is)) = let two : 2 ≡ 3 = ap length is in omega (arith, two)
+  never_task (w ∷ v ∷ []) t are =
+      let spells = (name_only v last t (three_named (w ∷ v ∷ last ∷ []) w v last refl t are).1).spelled in
+      unspelled spells.0 spells.1 spells.2
+  never_task (w ∷ v ∷ u ∷ us) t are = by (counted (w ∷ v ∷ u ∷ (us ++ last ∷ [])) t are)
+    where
+      by : (length (w ∷ v ∷ u ∷ (us ++ last ∷ [])) ≡ 1) ⊎ ((chain : List ℕ) × (text : List ℕ)
+          × (w ∷ v ∷ u ∷ (us ++ last ∷ []) ≡ codes "name" ∷ chain ∷ text ∷ [])) → ⊥
+      by (inl one) = omega (arith, one)
+      by (inr (chain, text, is)) = not_nil us last (cc)
 
--- nor of a command
+  pub never_last : (front : List (List ℕ)) (c : Command) → AreCommandWords (front ++ last ∷ []) c → ⊥
+  never_last [] Settled are = let word : last ≡ codes "settled" = cc in settled word
+  never_last (w ∷ []) Settled are = absurd (cc)
+  never_last (w ∷ v ∷ vs) Settled are = absurd (cc)
+  never_last front (Lines c) are = never_task front c.task are.1
+
+-- so it is with `json`
 never_json : (front : List (List ℕ)) (c : Command) → AreCommandWords (front ++ codes "json" ∷ []) c → ⊥
-never_json [] Settled are = absurd (cc)
-never_json (w ∷ []) Settled are = absurd (cc)
-never_json (w ∷ v ∷ vs) Settled are = absurd (cc)
-never_json front (Lines c) are = never_task front c.task are.1
+never_json = never_last (codes "json") (λ is. absurd (cc)) json_apart unspelled
 
 -- words with `json` after them are those of a command with tables as JSON
 pub with_json : (front : List (List ℕ)) (c : Command × Bool) → AreWords (front ++ codes "json" ∷ []) c.0 c.1 → AreCommandWords front c.0 × (c.1 ≡ true)
@@ -141,15 +146,21 @@ pub without_json : (words : List (List ℕ)) → ((front : List (List ℕ)) → 
 without_json words none (c, false) are = (are, refl)
 without_json words none (c, true) (front, are, is) = absurd (none front is)
 
--- words that end with another word do not end with `json`
-pub ends_otherwise : (words before : List (List ℕ)) (word : List ℕ) → words ≡ before ++ word ∷ [] → word ≢ codes "json"
-    → (front : List (List ℕ)) → words ≡ front ++ codes "json" ∷ [] → ⊥
-ends_otherwise words before word is other front json = other (ends before front word (codes "json") (sym is ∙ json))
+-- words that end with another word do not end with this one
+pub ends_otherwise : (words before : List (List ℕ)) (word last : List ℕ) → words ≡ before ++ word ∷ [] → word ≢ last
+    → (front : List (List ℕ)) → words ≡ front ++ last ∷ [] → ⊥
+ends_otherwise words before word last is other front same = other (ends before front word last (sym is ∙ same))
 
--- no words do not end with `json`
-pub no_words : {X : Type 0} (f : X → List ℕ) (words : List X) → length words ≡ 0 → (front : List (List ℕ)) → map f words ≡ front ++ codes "json" ∷ [] → ⊥
-no_words f [] none front e = not_nil front (codes "json") (sym e)
-no_words f (w ∷ ws) none front e = absurd (omega (arith, none))
+-- no words end with none
+pub no_words : {X : Type 0} (f : X → List ℕ) (words : List X) (last : List ℕ) → length words ≡ 0 → (front : List (List ℕ))
+    → map f words ≡ front ++ last ∷ [] → ⊥
+no_words f [] last none front e = not_nil front last (sym e)
+no_words f (w ∷ ws) last none front e = absurd (omega (arith, none))
+
+-- the texts of words with one after them
+pub texts : {X : Type 0} (f : X → List ℕ) (words front : List X) (last : X) (text : List ℕ) → words ≡ front ++ last ∷ [] → f last ≡ text
+    → map f words ≡ map f front ++ text ∷ []
+texts f words front last text is same = ap (map f) is ∙ map-append f front (last ∷ []) ∙ ap (λ t. map f front ++ t ∷ []) same
 
 -- a name's words are those of one command
 pub name_alone : (chain text : List ℕ) (c : Command) → AreCommandWords (codes "name" ∷ chain ∷ text ∷ []) c → (t : Task)

@@ -1,5 +1,5 @@
 -- Why the name of a locale identifier is refused.
-use Rattle.std.proofs.Common.{◌≡◌, ◌⊎◌, refl, ap, sym, inl, inr, Ok, Err, List, Result, Option, Some, None}
+use Rattle.std.proofs.Common.{◌≡◌, ◌⊎◌, ap, sym, inl, inr, Ok, Err, List, Result, Option, Some, None}
 use Rattle.icu_locale_core.specs.declared.langid.LanguageIdentifier.{LanguageIdentifier}
 use Rattle.icu_locale_extensions.specs.declared.identifier.LocaleIdentifier.{LocaleIdentifier}
 use Rattle.icu_locale_names.specs.Chains.{made_of}

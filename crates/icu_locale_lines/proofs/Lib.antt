@@ -1,4 +1,5 @@
 mod Alike
+mod AskedWords
 mod Bounds
 mod Chains
 mod CommandWords
@@ -16,3 +17,4 @@ mod Progress
 mod RunEnds
 mod StreamEnds
 mod Streaming
+mod WordEnds

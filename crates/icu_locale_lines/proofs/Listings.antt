@@ -7,10 +7,10 @@ use Rattle.icu_locale.specs.Rules.{AreRules}
 use Rattle.icu_locale_extensions.specs.declared.syntax.Syntax.{Syntax}
 use Rattle.icu_locale_matching.specs.Service.{Service}
 use Rattle.icu_tables.specs.declared.tables.Tables.{Tables}
-use Rattle.icu_locale_lines.specs.Commands.{IsListing, ListsBy, ListsOver, IsServerOf, AreToolsOf, text_left, text_answered}
+use Rattle.icu_locale_lines.specs.Commands.{IsListing, ListsBy, ListsOver, AreToolsOf, text_left, text_answered}
 use Rattle.icu_locale_lines.specs.Lines.{first_line, after_first_line}
 use Rattle.icu_locale_lines.specs.Lists.{listed, SpellsAll}
-use Rattle.icu_locale_lines.specs.Loads.{IsExpanderOf, has_likely}
+use Rattle.icu_locale_lines.specs.Loads.{IsExpanderOf}
 use Rattle.icu_locale_lines.specs.Refusals.{IsRefusedList, IsFaultyList}
 use Rattle.icu_locale_lines.specs.declared.command.LineCommand.{LineCommand}
 use Rattle.icu_locale_lines.specs.declared.command.Task.{Task}

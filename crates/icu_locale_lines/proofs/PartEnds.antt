@@ -1,9 +1,8 @@
 -- What the lines of a text leave, behind others, or with more text behind them.
-use Rattle.std.proofs.Common.{◌≡◌, ◌⊎◌, ◌↔◌, ℕ, zero, suc, ◌<◌, ◌≤◌, ◌==◌, ◌||◌, Bool, true, false, List, [], ◌∷◌, ◌++◌, length, take, drop, get_or, Option, None, Some}
-use Rattle.std.proofs.Common.{inl, inr, refl, ap, sym, subst, ◌∙◌, append_assoc, append-nil, length-append, arith}
-use Rattle.std.specs.List.{list_any}
-use Rattle.std.specs.Io.KnownBytes.{Appends, Consumes, Keeps, IsAtEnd, prepend_known}
-use Rattle.std.proofs.KnownBytes.{Appends-trans, Appends-nil, Appends-kept, Consumes-nil, Consumes-trans, Consumes-kept}
+use Rattle.std.proofs.Common.{◌≡◌, ◌⊎◌, ◌↔◌, ℕ, ◌==◌, Bool, true, false, List, [], ◌∷◌, ◌++◌, length, Option}
+use Rattle.std.proofs.Common.{inl, inr, refl, ap, sym, subst, ◌∙◌, append_assoc, append-nil, arith}
+use Rattle.std.specs.Io.KnownBytes.{Appends}
+use Rattle.std.proofs.KnownBytes.{Appends-trans, Appends-nil}
 use Rattle.std.proofs.lemmas.Bool.{false≢true}
 use Rattle.std.proofs.lemmas.Bool.Decides.{nat_tests}
 use Rattle.std.proofs.lemmas.List.Folds.{list_all-append}
@@ -11,15 +10,15 @@ use Rattle.std.proofs.lemmas.Grind.{flat_map-append}
 use Rattle.icu_locale_lines.specs.declared.error.CliError.{CliError}
 use Rattle.icu_locale_lines.specs.declared.error.CliError.TheVariants as error
 use Rattle.icu_locale_lines.specs.declared.runs.Status.{Status}
-use Rattle.icu_locale_lines.specs.declared.runs.Status.TheVariants.{Accepted, Refused}
+use Rattle.icu_locale_lines.specs.declared.runs.Status.TheVariants.{Accepted}
 use Rattle.icu_locale_lines.specs.declared.work.Work.{Work}
 use Rattle.icu_locale_lines.specs.Answers.{IsAnswer}
-use Rattle.icu_locale_lines.specs.Lines.{is_line_feed, lines, first_line, exceeds, AreWithin, Stream}
-use Rattle.icu_locale_lines.specs.Runs.{AreAnswers, text_of_lines, all_accepted, ReadsAll, WritesAll, WritesUpTo, WritesWholeLines, WritesPart}
-use Rattle.icu_locale_lines.specs.Streams.{part_size, IsUnended, StopsReading, EndsLines, AnswersEnded, LeavesEnded, StopsBetween, StopsStream}
+use Rattle.icu_locale_lines.specs.Lines.{lines, first_line, exceeds, AreWithin, Stream}
+use Rattle.icu_locale_lines.specs.Runs.{AreAnswers, text_of_lines, all_accepted, WritesAll, WritesUpTo, WritesWholeLines, WritesPart}
+use Rattle.icu_locale_lines.specs.Streams.{EndsLines, AnswersEnded, LeavesEnded}
 use Rattle.icu_locale_lines.specs.inner.Parts.{StopsPart}
 use Rattle.icu_locale_lines.specs.laws.Parts.{AllZip-append, all_accepted_of_parts}
-use Rattle.icu_locale_lines.proofs.Bounds.{lines_after, within_none, within_alone, within_after, exceeds-grows, begins_too_long}
+use Rattle.icu_locale_lines.proofs.Bounds.{lines_after, within_none, exceeds-grows}
 
 pub EndsLines-append : (a b : List ℕ) → EndsLines a → EndsLines b → EndsLines (a ++ b)
 EndsLines-append a b first (inl none) = subst EndsLines (sym (ap (λ x. a ++ x) none ∙ append-nil a)) first

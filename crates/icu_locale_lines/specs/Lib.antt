@@ -13,5 +13,6 @@ pub mod Streams
 pub mod Texts
 pub mod WholeRuns
 pub mod Wholes
+pub mod WordRuns
 pub mod inner
 pub mod laws

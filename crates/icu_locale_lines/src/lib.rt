@@ -2,6 +2,7 @@
 #![tactic(auto)]
 
 mod answer;
+mod asked;
 mod command;
 mod error;
 pub mod laws;
@@ -10,9 +11,10 @@ mod runs;
 mod sample_tables;
 mod work;
 
+pub use asked::{Asked, Source};
 pub use command::{Command, LineCommand, Task, Wishes, syntax_of};
 pub use error::CliError;
-pub use program::{program_words, run_buffered, run_words, stream_words};
+pub use program::{program_words, run_by, run_words, stream_words};
 pub use runs::Status;
 pub use runs::input::read_all;
 pub use runs::stream::{

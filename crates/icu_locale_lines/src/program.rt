@@ -1,5 +1,12 @@
-//! Runs and streams by the words of a command, over a sink with a buffer.
+//! Runs and streams by the words of a command.
+ghost use Rattle.std.specs.Prelude.{◌≡◌, ◌↔◌, Bool, Err, IfOk, IfErr, Option, ℕ, map};
+ghost use Rattle.std.specs.String.{string_bytes};
+ghost use Rattle.icu_locale_lines.specs.Commands.{AreRunWords};
+ghost use Rattle.icu_locale_lines.specs.WordRuns.{IsRunBy, IsRefusedRunBy, IsWordsRun, IsRefusedWordsRun, AreAsked, IsStreamFrom, IsRefusedStreamFrom, IsWordsStream, IsRefusedWordsStream};
+ghost use Rattle.icu_locale_lines.specs.declared.asked.Asked.{Asked};
+ghost use Rattle.icu_locale_lines.specs.declared.command.Command.{Command};
 
+use crate::asked::{Asked, Source};
 use crate::command::Command;
 use crate::error::CliError;
 use crate::runs::Status;
@@ -7,121 +14,109 @@ use crate::runs::stream::{stream_json_over, stream_over, stream_supplement_over}
 use crate::runs::whole::{run, run_json};
 use crate::sample_tables::{sample, whole_sample};
 use std::alloc::Global;
-use std::io::{BufWriter, Read, Write};
+use std::io::{Read, Write};
 use std::{env, io};
 
-/// Asks the words, and then does as `run_buffered`. Tests show what it does.
+/// Asks the words, and then does as `run_by`.
 ///
 /// # Errors
 ///
-/// `Usage` where the words are those of no command, and those of `run_buffered`.
-pub fn run_words<R: Read, W: Write + Drop>(
+/// - `Usage` exactly where the words are those of no command: nothing was read or written.
+/// - The others as `run_by` answers them.
+pub fn run_words<R: Read, W: Write>(
     alloc: Global,
     words: &[String],
     reader: &mut R,
-    writer: W,
-) -> Result<Status, CliError> {
+    writer: &mut W,
+) -> Result<Status, CliError>
+    ensures output { IfOk result (IsWordsRun (map string_bytes words.now)
+        (R.remaining reader.old) (R.remaining reader.new) (W.contents writer.old)
+        (W.contents writer.new)) }
+    ensures usage { (result ≡ Err CliError.Usage) ↔ ((c : Command) (json : Bool)
+        → ¬ (AreRunWords (map string_bytes words.now) c json)) }
+    ensures refused { IfErr result (IsRefusedWordsRun (map string_bytes words.now)
+        (R.remaining reader.old) (R.remaining reader.new) (W.contents writer.old)
+        (W.contents writer.new)) }
+{
     let (command, json) = Command::from_words(alloc, words)?;
-    run_buffered(alloc, &command, json, reader, writer)
+    run_by(alloc, &command, json, reader, writer)
 }
 
-/// Runs a command: over the tables of the first line where `json` is true, else over the sample. The output is kept until
-/// there is much of it, and is written out at the end, whatever that is.
+/// Runs a command: over the tables of the first line where `json` is true, else over the sample.
 ///
 /// # Errors
 ///
-/// Those of `run` and `run_json`; `Memory` also where no room was found for what is kept.
-pub fn run_buffered<R: Read, W: Write + Drop>(
+/// Those of `run` and `run_json`; `Memory` also where none was found for the sample: nothing was read or written.
+pub fn run_by<R: Read, W: Write>(
     alloc: Global,
     command: &Command,
     json: bool,
     reader: &mut R,
-    writer: W,
-) -> Result<Status, CliError> {
-    let mut writer = BufWriter::new(alloc, writer).map_err(|_| CliError::Memory)?;
-    let status = if json {
-        run_json(alloc, command, reader, &mut writer)
-    } else {
-        run_over_sample(alloc, command, reader, &mut writer)
-    };
-    writer.flush().map_err(|_| CliError::Write)?;
-    status
-}
-
-fn run_over_sample<R: Read, W: Write>(
-    alloc: Global,
-    command: &Command,
-    reader: &mut R,
     writer: &mut W,
-) -> Result<Status, CliError> {
+) -> Result<Status, CliError>
+    ensures output { IfOk result (IsRunBy command.now json (R.remaining reader.old)
+        (R.remaining reader.new) (W.contents writer.old) (W.contents writer.new)) }
+    ensures refused { IfErr result (IsRefusedRunBy command.now json (R.remaining reader.old)
+        (R.remaining reader.new) (W.contents writer.old) (W.contents writer.new)) }
+{
+    if json {
+        return run_json(alloc, command, reader, writer);
+    }
     let tables = sample(alloc)?;
     run(alloc, command, &tables, reader, writer)
 }
 
-/// Asks the words, and then streams a command: over the tables of the first line where `json` follows it, with their
-/// supplement of the second where `json supplement` does, else over the sample with its supplement. Before the command may
-/// come the word of a syntax, and before that `longest` and a number, as `stream_within` has it. What a part of the input
-/// answers is kept until more is read, and then written out; so it is at the end, whatever that is. Tests show what it
-/// does.
+/// Asks the words, as `Asked::from_words` does, and then streams the command over the tables that they say: the sample
+/// with its supplement, those of the first line, or those and the supplement of the second.
 ///
 /// # Errors
 ///
-/// `Usage` where the words are those of no command, and those of `stream`, `stream_json` and `stream_supplement_within`;
-/// `Memory` also where no room was found for what is kept.
-pub fn stream_words<R: Read, W: Write + Drop>(
+/// - `Usage` exactly where the words ask for no stream: nothing was read or written.
+/// - The others as `stream_within`, `stream_json_within` and `stream_supplement_within` answer them, or `stream` and
+///   `stream_json` where no bound is asked for; `Memory` also where none was found for the sample.
+pub fn stream_words<R: Read, W: Write>(
     alloc: Global,
     words: &[String],
     reader: &mut R,
-    writer: W,
-) -> Result<Status, CliError> {
-    let (longest, words) = longest_of(words)?;
-    let (supplement, words) = supplement_of(words);
-    let (command, json) = Command::from_stream_words(alloc, words)?;
-    if supplement && !json {
-        return Err(CliError::Usage);
-    }
-    let mut writer = BufWriter::new(alloc, writer).map_err(|_| CliError::Memory)?;
-    let status = if supplement {
-        stream_supplement_over(alloc, &command, longest, reader, &mut writer)
-    } else if json {
-        stream_json_over(alloc, &command, longest, reader, &mut writer)
-    } else {
-        stream_over_sample(alloc, &command, longest, reader, &mut writer)
-    };
-    writer.flush().map_err(|_| CliError::Write)?;
-    status
+    writer: &mut W,
+) -> Result<Status, CliError>
+    ensures output { IfOk result (IsWordsStream (map string_bytes words.now)
+        (R.remaining reader.old) (R.remaining reader.new) (W.contents writer.old)
+        (W.contents writer.new)) }
+    ensures usage { (result ≡ Err CliError.Usage) ↔ ((asked : Asked)
+        → ¬ (AreAsked (map string_bytes words.now) asked)) }
+    ensures refused { IfErr result (IsRefusedWordsStream (map string_bytes words.now)
+        (R.remaining reader.old) (R.remaining reader.new) (W.contents writer.old)
+        (W.contents writer.new)) }
+{
+    let asked = Asked::from_words(alloc, words)?;
+    stream_asked(alloc, &asked, reader, writer)
 }
 
-fn stream_over_sample<R: Read, W: Write>(
+// The stream that is asked for.
+fn stream_asked<R: Read, W: Write>(
     alloc: Global,
-    command: &Command,
-    longest: Option<usize>,
+    asked: &Asked,
     reader: &mut R,
     writer: &mut W,
-) -> Result<Status, CliError> {
-    let tables = whole_sample(alloc)?;
-    stream_over(alloc, command, &tables, longest, &[], reader, writer)
-}
-
-// Whether the last word is `supplement`, and the words before it.
-fn supplement_of(words: &[String]) -> (bool, &[String]) {
-    match words.split_last() {
-        Some((last, front)) if last.as_str() == "supplement" => (true, front),
-        _ => (false, words),
-    }
-}
-
-// How many bytes a line may have, where the words say that, and the words after those.
-fn longest_of(words: &[String]) -> Result<(Option<usize>, &[String]), CliError> {
-    match words.split_first() {
-        Some((word, rest)) if word.as_str() == "longest" => match rest.split_first() {
-            Some((number, rest)) => match number.as_str().parse() {
-                Ok(longest) => Ok((Some(longest), rest)),
-                Err(_) => Err(CliError::Usage),
-            },
-            None => Err(CliError::Usage),
-        },
-        _ => Ok((None, words)),
+) -> Result<Status, CliError>
+    ensures output { IfOk result (IsStreamFrom asked.now.source asked.now.longest
+        asked.now.command (R.remaining reader.old) (R.remaining reader.new)
+        (W.contents writer.old) (W.contents writer.new)) }
+    ensures refused { IfErr result (IsRefusedStreamFrom asked.now.source asked.now.longest
+        asked.now.command (R.remaining reader.old) (R.remaining reader.new)
+        (W.contents writer.old) (W.contents writer.new)) }
+{
+    let (command, longest) = (&asked.command, asked.longest);
+    match asked.source {
+        Source::Sample => {
+            let tables = whole_sample(alloc)?;
+            stream_over(alloc, command, &tables, longest, &[], reader, writer)
+        }
+        Source::Json => stream_json_over(alloc, command, longest, reader, writer),
+        Source::JsonAndSupplement => {
+            stream_supplement_over(alloc, command, longest, reader, writer)
+        }
     }
 }
 

@@ -1,7 +1,9 @@
 //! The tables that the program keeps: a few rows of most kinds, as a user would hand them in.
-ghost use Rattle.std.specs.Prelude.{◌≡◌, IfErr};
+ghost use Rattle.std.specs.Prelude.{◌≡◌, IfOk, IfErr};
+ghost use Rattle.icu_locale_lines.specs.WordRuns.{IsSample, IsWholeSample};
 
 use crate::error::CliError;
+use crate::runs::whole::read_tables;
 use icu_tables::{Supplement, Tables};
 use std::alloc::Global;
 
@@ -87,9 +89,13 @@ pub const SAMPLE_SUPPLEMENT: &str = "{\
 ///
 /// `Memory` alone.
 pub fn sample(alloc: Global) -> Result<Tables, CliError>
-    ensures { IfErr result (λ e. e ≡ CliError.Memory) }
+    ensures rows { IfOk result IsSample }
+    ensures refused { IfErr result (λ e. e ≡ CliError.Memory) }
 {
-    Tables::from_json(alloc, SAMPLE.as_bytes()).map_err(|_| CliError::Memory)
+    match read_tables(alloc, SAMPLE.as_bytes()) {
+        Ok(tables) => Ok(tables),
+        Err(_) => Err(CliError::Memory),
+    }
 }
 
 /// The sample tables with their supplement: some parents, rules of language matching and aliases of values. The texts
@@ -99,7 +105,8 @@ pub fn sample(alloc: Global) -> Result<Tables, CliError>
 ///
 /// `Memory` alone.
 pub fn whole_sample(alloc: Global) -> Result<Tables, CliError>
-    ensures { IfErr result (λ e. e ≡ CliError.Memory) }
+    ensures rows { IfOk result IsWholeSample }
+    ensures refused { IfErr result (λ e. e ≡ CliError.Memory) }
 {
     let supplement = match Supplement::from_json(alloc, SAMPLE_SUPPLEMENT.as_bytes()) {
         Ok(supplement) => supplement,

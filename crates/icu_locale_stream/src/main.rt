@@ -1,7 +1,7 @@
 //! Locale identifiers as they come: each line of the input is answered before more is read.
 #![tactic(auto)]
 
-use icu_locale_lines::{CliError, Command, Status, program_words, stream_words};
+use icu_locale_lines::{Asked, CliError, Source, Status, program_words, stream_words};
 use std::alloc::Global;
 use std::cell::Cell;
 use std::io;
@@ -105,23 +105,19 @@ fn start(rt: &HostRuntime, is_closed: &Cell<bool>) -> Result<Status, CliError> {
             if is_over_sample(rt.alloc(), &words) && rt.stderr().is_terminal() {
                 let _ = rt.eprintln(OVER_SAMPLE);
             }
-            let writer = Noting {
+            let mut writer = Noting {
                 writer: io::writer(rt),
                 is_closed,
             };
-            stream_words(rt.alloc(), &words, &mut rt.reader(), writer)
+            stream_words(rt.alloc(), &words, &mut rt.reader(), &mut writer)
         }
     }
 }
 
-// Whether the words are those of a command over the sample.
+// Whether the words ask for a stream over the sample.
 fn is_over_sample(alloc: Global, words: &[String]) -> bool {
-    let asked = match words {
-        [word, _, rest @ ..] if word.as_str() == "longest" => rest,
-        _ => words,
-    };
-    match Command::from_stream_words(alloc, asked) {
-        Ok((_, json)) => !json,
+    match Asked::from_words(alloc, words) {
+        Ok(asked) => asked.source == Source::Sample,
         Err(_) => false,
     }
 }

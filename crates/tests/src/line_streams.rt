@@ -368,19 +368,20 @@ fn much_is_read_at_once(rt: HostRuntime) {
     assert!(rt; many_lines(&rt, rt.alloc(), 40_000, 1_000_000) == 9);
 }
 
-// Where the work and the last flush both fail, the failed flush is told.
+// Words whose stream fails at a flush, and at the read behind it.
 #[test]
-fn a_failed_flush_behind_a_failed_read(rt: HostRuntime) {
+fn a_failed_flush_before_a_failed_read(rt: HostRuntime) {
     let alloc = rt.alloc();
     let maximize = words(&rt, alloc, "maximize");
-    for (flushes, wanted) in [(2, CliError::Write), (3, CliError::Read)] {
+    for (flushes, wanted) in [(1, CliError::Write), (2, CliError::Read)] {
         let mut reader = PartReader::new(b"zh-CN", 0, true);
-        let writer = ByteWriter {
+        let mut writer = ByteWriter {
             bytes: Vec::new(alloc),
             room: 99,
             flushes,
         };
-        let ended = stream_words(alloc, &maximize, &mut reader, writer);
+        let ended = stream_words(alloc, &maximize, &mut reader, &mut writer);
         assert!(rt; ended == Err(wanted));
+        assert!(rt; writer.bytes.is_empty());
     }
 }

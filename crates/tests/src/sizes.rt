@@ -1,7 +1,7 @@
 //! Runs that are larger than those of rows: a megabyte of tables, a thousand identifiers, names of thousands of bytes.
 use crate::known::repeated;
 use crate::program::command;
-use icu_locale_lines::{SAMPLE, Status, run_buffered};
+use icu_locale_lines::{SAMPLE, Status, run_by};
 use std::alloc::Global;
 use std::process::Abort;
 
@@ -11,7 +11,7 @@ fn written(rt: &impl Abort, alloc: Global, words: &str, text: &str) -> Vec<u8> {
     assert!(rt; is_json);
     let mut written = Vec::new(alloc);
     let mut reader = text.as_bytes();
-    let ended = run_buffered(alloc, &command, true, &mut reader, &mut written);
+    let ended = run_by(alloc, &command, true, &mut reader, &mut written);
     assert!(rt; ended == Ok(Status::Accepted));
     written
 }

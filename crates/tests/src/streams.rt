@@ -2,7 +2,7 @@
 use crate::known::{repeated, sample, text};
 use crate::program::command;
 use icu_locale_lines::{
-    CliError, Command, LineCommand, SAMPLE, Status, Task, Transform, read_all, run, run_buffered,
+    CliError, Command, LineCommand, SAMPLE, Status, Task, Transform, read_all, run, run_by,
     run_json,
 };
 use icu_tables::Tables;
@@ -194,35 +194,26 @@ fn a_byte_at_a_time_and_a_full_writer(rt: HostRuntime) {
     }
 }
 
-// How a run ends whose output is written out at its end, to a writer with so much room, which then may fail.
-fn written_at_the_end(
-    alloc: Global,
-    json: bool,
-    room: usize,
-    fails: bool,
-) -> Result<Status, CliError> {
+// How a run ends, over the sample or over tables of its first line, to a writer with so much room.
+fn run_with_room(alloc: Global, json: bool, room: usize) -> Result<Status, CliError> {
     let mut reader = b"{\"likely_language\":{\"und\":[\"en\",\"Latn\",\"US\"]},\
         \"likely_script_region\":{}}\nen\n"
         .as_slice();
-    let writer = SlowWriter {
+    let mut writer = SlowWriter {
         bytes: Vec::new(alloc),
         at_once: 64,
         room,
-        fails,
+        fails: false,
     };
-    run_buffered(alloc, &Command::Settled, json, &mut reader, writer)
+    run_by(alloc, &Command::Settled, json, &mut reader, &mut writer)
 }
 
 #[test]
-fn a_failed_write_or_flush_at_the_end(rt: HostRuntime) {
+fn a_failed_write_over_both_tables(rt: HostRuntime) {
     let alloc = rt.alloc();
     for json in [false, true] {
-        let full = written_at_the_end(alloc, json, 3, false);
-        assert!(rt; full == Err(CliError::Write));
-        let whole = written_at_the_end(alloc, json, 4, false);
-        assert!(rt; whole == Ok(Status::Accepted));
-        let not_flushed = written_at_the_end(alloc, json, 4, true);
-        assert!(rt; not_flushed == Err(CliError::Write));
+        assert!(rt; run_with_room(alloc, json, 3) == Err(CliError::Write));
+        assert!(rt; run_with_room(alloc, json, 4) == Ok(Status::Accepted));
     }
 }
 
@@ -275,7 +266,7 @@ fn an_input_of_five_megabytes(rt: HostRuntime) {
 }
 
 #[test]
-fn long_lines_through_a_buffer(rt: HostRuntime) {
+fn long_lines(rt: HostRuntime) {
     let alloc = rt.alloc();
     let line = long_line(&rt, alloc, "zh", "\n");
     let input = repeated(&rt, alloc, line.as_str(), 3);
@@ -283,7 +274,7 @@ fn long_lines_through_a_buffer(rt: HostRuntime) {
     let output = repeated(&rt, alloc, answer.as_str(), 3);
     let mut written = Vec::new(alloc);
     let mut reader = input.as_bytes();
-    let ended = run_buffered(
+    let ended = run_by(
         alloc,
         &Command::Lines(LineCommand::plain(Task::Transform(Transform::Maximize))),
         false,

@@ -99,6 +99,23 @@ no_task word other task e =
 pub json_apart : (task : Task) → codes "json" ≡ task_word task → ⊥
 json_apart task e = no_task (codes "json") refl task e
 
+-- nor `longest`, nor `supplement`
+pub longest_apart : (task : Task) → codes "longest" ≡ task_word task → ⊥
+longest_apart task e = no_task (codes "longest") refl task e
+
+pub supplement_apart : (task : Task) → codes "supplement" ≡ task_word task → ⊥
+supplement_apart (Transform Maximize) e = absurd (cc)
+supplement_apart (Transform Minimize) e = absurd (cc)
+supplement_apart (Transform MinimizeScript) e = absurd (cc)
+supplement_apart Canonicalize e = absurd (cc)
+supplement_apart Direction e = absurd (cc)
+supplement_apart Negotiate e = absurd (cc)
+supplement_apart Fallback e = absurd (cc)
+supplement_apart (Serve Header) e = absurd (cc)
+supplement_apart (Serve Requests) e = absurd (cc)
+supplement_apart Distance e = absurd (cc)
+supplement_apart (Name kind preferences) e = absurd (cc)
+
 syntax_apart : (s : Syntax) (task : Task) → syntax_word s ≡ task_word task → ⊥
 syntax_apart s task e = no_task (syntax_word s) (syntax_begins s) task e
 

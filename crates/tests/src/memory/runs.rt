@@ -3,8 +3,8 @@ use crate::known::{sample, words};
 use crate::line_streams::PartReader;
 use crate::memory::budget::{Answered, Call, HeldWriter, at_budget, by_budget};
 use icu_locale_lines::{
-    CliError, Command, LineCommand, SAMPLE, Status, Task, Transform, run, run_buffered, run_json,
-    stream, stream_json, stream_words,
+    CliError, Command, LineCommand, SAMPLE, Status, Task, Transform, run, run_by, run_json, stream,
+    stream_json, stream_words,
 };
 use icu_tables::Tables;
 use std::alloc::Global;
@@ -182,9 +182,9 @@ fn a_run_writes_whole_lines(rt: HostRuntime) {
     }
 }
 
-// A run whose output is kept in a buffer, and of whose lines the last takes more memory than anything before it.
+// A run of whose lines the last takes more memory than anything before it.
 #[derive(Drop)]
-struct BufferedRun<'r> {
+struct WholeRun<'r> {
     input: &'r str,
 }
 
@@ -192,12 +192,12 @@ const FIRST: &str = "en-Latn-US\tM\n";
 
 const BOTH: &str = "en-Latn-US\tM\n?\tInvalidSubtag\n";
 
-impl Call for BufferedRun<'_> {
+impl Call for WholeRun<'_> {
     // Where the last line finds no memory, the one before is written out.
     fn answer(&self, alloc: Global) -> Answered {
         let mut writer = HeldWriter::new(128);
         let mut reader = self.input.as_bytes();
-        let ended = run_buffered(
+        let ended = run_by(
             alloc,
             &Command::Lines(LineCommand::plain(Task::Transform(Transform::Maximize))),
             true,
@@ -232,14 +232,14 @@ fn two_lines(rt: &impl Abort, alloc: Global) -> String {
     text
 }
 
-// The same as a stream, whose output is kept in a buffer until more is read.
+// The same as a stream.
 #[derive(Drop)]
-struct BufferedStream<'r> {
+struct WordsStream<'r> {
     words: &'r [String],
     input: &'r str,
 }
 
-impl Call for BufferedStream<'_> {
+impl Call for WordsStream<'_> {
     fn answer(&self, alloc: Global) -> Answered {
         let mut writer = HeldWriter::new(128);
         let mut reader = self.input.as_bytes();
@@ -249,18 +249,10 @@ impl Call for BufferedStream<'_> {
 }
 
 // At some budget all but the list of the last line's variants has room.
-#[test]
-fn a_stream_that_ends_early_writes_out_its_lines(rt: HostRuntime) {
-    let alloc = rt.alloc();
-    let words = words(&rt, alloc, "maximize json");
-    let input = two_lines(&rt, alloc);
-    let call = BufferedStream {
-        words: &words,
-        input: input.as_str(),
-    };
+fn writes_whole_lines<C: Call>(rt: &impl Abort, alloc: Global, call: &C) {
     let mut partly = false;
     for size in 4..20_usize {
-        let answered = at_budget(alloc, &call, size.saturating_mul(4_096)).expect(&rt, "memory");
+        let answered = at_budget(alloc, call, size.saturating_mul(4_096)).expect(rt, "memory");
         assert!(rt; answered != Answered::Wrong);
         partly = partly || answered == Answered::Partly;
     }
@@ -269,14 +261,24 @@ fn a_stream_that_ends_early_writes_out_its_lines(rt: HostRuntime) {
 }
 
 #[test]
+fn a_stream_that_ends_early_writes_out_its_lines(rt: HostRuntime) {
+    let alloc = rt.alloc();
+    let words = words(&rt, alloc, "maximize json");
+    let input = two_lines(&rt, alloc);
+    let call = WordsStream {
+        words: &words,
+        input: input.as_str(),
+    };
+    writes_whole_lines(&rt, alloc, &call);
+}
+
+#[test]
 fn a_run_that_ends_early_writes_out_its_lines(rt: HostRuntime) {
     let alloc = rt.alloc();
     let input = two_lines(&rt, alloc);
-    let call = BufferedRun {
+    let call = WholeRun {
         input: input.as_str(),
     };
-    // all but the list of the last line's variants has room
-    assert!(rt; at_budget(alloc, &call, 32_768).expect(&rt, "memory") == Answered::Partly);
+    writes_whole_lines(&rt, alloc, &call);
     assert!(rt; at_budget(alloc, &call, 16).expect(&rt, "memory") == Answered::Refused);
-    assert!(rt; call.answer(alloc) == Answered::Whole);
 }

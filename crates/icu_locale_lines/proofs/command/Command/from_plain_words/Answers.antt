@@ -1,15 +1,9 @@
-use Rattle.std.proofs.Common.{◌≡◌, ◌≢◌, List, ℕ, [], ◌∷◌, ◌++◌, map, codes, Ok, refl, sym, ap, subst, ◌∙◌, rules}
+use Rattle.std.proofs.Common.{◌≡◌, ◌≢◌, List, ℕ, [], ◌∷◌, ◌++◌, map, codes, Ok, refl, sym, subst, rules}
 use Rattle.std.specs.String.{string_bytes}
-use Rattle.std.proofs.lemmas.List.{map-append}
 use Rattle.icu_locale_lines.specs.Commands.{AreWords}
-use Rattle.icu_locale_lines.proofs.CommandWords.{with_json, without_json, ends_otherwise, no_words}
+use Rattle.icu_locale_lines.proofs.CommandWords.{with_json, without_json, ends_otherwise, no_words, texts}
 use Rattle.icu_locale_lines.proofs.command.Command.from_plain_words.Goals as goal
 use Rattle.icu_locale_lines.proofs.command.Command.from_plain_words.Goals.{in_default-via-in-Some+else-eq, in_default-via-in_default}
-
--- the texts of words with one after them
-texts : {X : Type 0} (f : X → List ℕ) (words front : List X) (last : X) (text : List ℕ) → words ≡ front ++ last ∷ [] → f last ≡ text
-    → map f words ≡ map f front ++ text ∷ []
-texts f words front last text is same = ap (map f) is ∙ map-append f front (last ∷ []) ∙ ap (λ t. map f front ++ t ∷ []) same
 
 pub returns-in_err-from_front-in-Some-clause-only : goal.returns-in_err-from_front-in-Some-clause-only
 returns-in_err-from_front-in-Some-clause-only c = λ other are.
@@ -41,9 +35,9 @@ returns-in_err-from_front-in_default-clause-only c = λ other are.
     let ends : (front : List (List ℕ)) → map string_bytes c.args.words.now ≡ front ++ codes "json" ∷ [] → ⊥ = elim c.in_default.branch [
       | in_default-via-in-Some+else-eq w ↦
           let other : string_bytes w.in-Some.json.now ≢ codes "json" = search rules in
-          ends_otherwise (map string_bytes c.args.words.now) (map string_bytes w.in-Some.front.now) (string_bytes w.in-Some.json.now)
+          ends_otherwise (map string_bytes c.args.words.now) (map string_bytes w.in-Some.front.now) (string_bytes w.in-Some.json.now) (codes "json")
           (texts string_bytes c.args.words.now w.in-Some.front.now w.in-Some.json.now (string_bytes w.in-Some.json.now) w.in-Some.ensures.cases.0 refl) other
-      | in_default-via-in_default w ↦ no_words string_bytes c.args.words.now (search rules)
+      | in_default-via-in_default w ↦ no_words string_bytes c.args.words.now (codes "json") (search rules)
     ] in
     let these = without_json (map string_bytes c.args.words.now) ends other are in
     let named = c.from_front-in_default.ensures.only other.0 these.0 in
@@ -54,9 +48,9 @@ returns-in_ok-from_front-in_default-clause-only c = λ other are.
     let ends : (front : List (List ℕ)) → map string_bytes c.args.words.now ≡ front ++ codes "json" ∷ [] → ⊥ = elim c.in_default.branch [
       | in_default-via-in-Some+else-eq w ↦
           let other : string_bytes w.in-Some.json.now ≢ codes "json" = search rules in
-          ends_otherwise (map string_bytes c.args.words.now) (map string_bytes w.in-Some.front.now) (string_bytes w.in-Some.json.now)
+          ends_otherwise (map string_bytes c.args.words.now) (map string_bytes w.in-Some.front.now) (string_bytes w.in-Some.json.now) (codes "json")
           (texts string_bytes c.args.words.now w.in-Some.front.now w.in-Some.json.now (string_bytes w.in-Some.json.now) w.in-Some.ensures.cases.0 refl) other
-      | in_default-via-in_default w ↦ no_words string_bytes c.args.words.now (search rules)
+      | in_default-via-in_default w ↦ no_words string_bytes c.args.words.now (codes "json") (search rules)
     ] in
     let these = without_json (map string_bytes c.args.words.now) ends other are in
     let named = c.from_front-in_default.ensures.only other.0 these.0 in

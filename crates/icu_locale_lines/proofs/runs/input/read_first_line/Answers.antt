@@ -1,7 +1,6 @@
-use Rattle.std.proofs.Common.{◌≡◌, ◌≤◌, [], length, ap, sym, subst, ◌∙◌, rules, option_map}
+use Rattle.std.proofs.Common.{◌≤◌, length, ap, sym, subst, ◌∙◌, rules, option_map}
 use Rattle.std.specs.Io.KnownBytes.{Consumes, prepend_known}
 use Rattle.std.proofs.KnownBytes.{Consumes-nil}
-use Rattle.std.proofs.lemmas.Result.{err_from_is_err_and}
 use Rattle.icu_locale_lines.specs.Lines.{exceeds}
 use Rattle.icu_locale_lines.specs.Streams.{part_size}
 use Rattle.icu_locale_lines.specs.inner.Parts.{TakesLine}

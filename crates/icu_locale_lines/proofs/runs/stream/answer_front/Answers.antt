@@ -1,6 +1,5 @@
-use Rattle.std.proofs.Common.{◌≡◌, ◌++◌, Err, inl, inr, refl, ap, sym, subst, ◌∙◌, rules}
+use Rattle.std.proofs.Common.{◌≡◌, ◌++◌, Err, refl, ap, sym, ◌∙◌, rules}
 use Rattle.std.proofs.lemmas.Result.{err_from_is_err_and}
-use Rattle.icu_locale_lines.specs.Streams.{EndsLines}
 use Rattle.icu_locale_lines.proofs.PartEnds.{LeavesEnded-none, StopsPart-front, ends_carried, long_left, nothing_left}
 use Rattle.icu_locale_lines.proofs.runs.stream.answer_front.Goals as goal
 

@@ -1,6 +1,6 @@
 use Rattle.std.proofs.Common.{◌≡◌, ◌++◌, true, ap, sym, subst, ◌∙◌, append_assoc, rules}
 use Rattle.std.proofs.lemmas.Result.{err_from_is_err_and}
-use Rattle.icu_locale_lines.specs.Lines.{first_line, exceeds}
+use Rattle.icu_locale_lines.specs.Lines.{exceeds}
 use Rattle.icu_locale_lines.specs.Runs.{WritesWholeLines}
 use Rattle.icu_locale_lines.specs.Streams.{AnswersEnded, LeavesEnded}
 use Rattle.icu_locale_lines.specs.inner.Parts.{StopsPart}

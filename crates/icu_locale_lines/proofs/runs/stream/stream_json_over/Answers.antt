@@ -1,4 +1,4 @@
-use Rattle.std.proofs.Common.{IfOk, IfErr, refl, ap, sym, subst, ◌∙◌, arith}
+use Rattle.std.proofs.Common.{IfOk, IfErr, refl, ap, sym, subst, ◌∙◌}
 use Rattle.std.specs.Io.KnownBytes.{prepend_known}
 use Rattle.icu_tables.specs.File.{rows_in}
 use Rattle.icu_locale_lines.specs.Streams.{LeavesBehind, IsRefusedStream}

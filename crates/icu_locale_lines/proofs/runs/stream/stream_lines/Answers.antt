@@ -1,12 +1,11 @@
-use Rattle.std.proofs.Common.{◌≡◌, ◌≤◌, Err, [], take, length, rules, inr, refl, ap, sym, subst, ◌∙◌, arith}
+use Rattle.std.proofs.Common.{◌≡◌, ◌≤◌, Err, [], take, length, rules, inr, refl, ap, sym, subst}
 use Rattle.std.specs.Io.KnownBytes.{Consumes, IsAtEnd, prepend_known}
 use Rattle.std.proofs.lemmas.Result.{err_from_is_err_and}
 use Rattle.icu_locale_lines.specs.Runs.{WritesAll, WritesWholeLines, WritesPart}
 use Rattle.icu_locale_lines.specs.Streams.{part_size}
 use Rattle.icu_locale_lines.specs.declared.runs.Status.TheVariants.{Accepted}
-use Rattle.icu_locale_lines.specs.inner.Parts.{StopsPart}
 use Rattle.icu_locale_lines.proofs.Streaming.{Consumes-prepended, StreamProgress-none, StreamProgress-more, StreamProgress-refused}
-use Rattle.icu_locale_lines.proofs.Streaming.{StreamProgress-unread, StreamProgress-stopped, StreamProgress-last, StreamProgress-end}
+use Rattle.icu_locale_lines.proofs.Streaming.{StreamProgress-unread, StreamProgress-last, StreamProgress-end}
 use Rattle.icu_locale_lines.proofs.Streaming.{StreamProgress-flushed, StreamProgress-unflushed}
 use Rattle.icu_locale_lines.proofs.runs.stream.stream_lines.Goals as goal
 

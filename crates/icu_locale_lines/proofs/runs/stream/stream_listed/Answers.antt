@@ -1,11 +1,9 @@
-use Rattle.std.proofs.Common.{◌≡◌, ◌++◌, ◌∷◌, [], ℕ, List, Ok, IfOk, IfErr, inr, refl, subst}
+use Rattle.std.proofs.Common.{◌≡◌, ◌++◌, ◌∷◌, [], ℕ, List, IfOk, IfErr, inr, refl, subst}
 use Rattle.std.specs.Io.KnownBytes.{Consumes, prepend_known}
-use Rattle.std.proofs.lemmas.Result.{err_from_is_err_and}
 use Rattle.icu_locale_lines.specs.Commands.{IsWorkOf}
 use Rattle.icu_locale_lines.specs.Lines.{first_line, AreWithin}
 use Rattle.icu_locale_lines.specs.Streams.{line_end, StopsStream}
 use Rattle.icu_locale_lines.specs.Runs.{ReadsAll, WritesAll}
-use Rattle.icu_locale_lines.specs.WholeRuns.{IsUnlisted}
 use Rattle.icu_locale_lines.proofs.Bounds.{within_ended}
 use Rattle.icu_locale_lines.proofs.StreamEnds.{ended_run, run_behind, stopped_behind, answered_behind, work_behind}
 use Rattle.icu_locale_lines.proofs.runs.stream.stream_listed.Goals as goal

@@ -1,4 +1,4 @@
-use Rattle.std.proofs.Common.{◌≡◌, false, [], IfErr, inl, refl, sym, subst, rules}
+use Rattle.std.proofs.Common.{◌≡◌, false, [], inl, refl, subst, rules}
 use Rattle.std.specs.Io.KnownBytes.{prepend_known}
 use Rattle.std.proofs.KnownBytes.{Consumes-nil}
 use Rattle.std.proofs.lemmas.Result.{IfErr-at_err}

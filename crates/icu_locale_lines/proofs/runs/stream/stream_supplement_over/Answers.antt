@@ -1,4 +1,4 @@
-use Rattle.std.proofs.Common.{IfOk, IfErr, Err, None, refl, ap, sym, subst, ◌∙◌, inl, inr, arith}
+use Rattle.std.proofs.Common.{IfOk, IfErr, Err, None, refl, ap, sym, subst, ◌∙◌, inl, inr}
 use Rattle.std.specs.Io.KnownBytes.{prepend_known}
 use Rattle.std.proofs.lemmas.Result.{err_from_is_err_and}
 use Rattle.icu_tables.specs.File.{rows_in}

@@ -1,4 +1,4 @@
-use Rattle.std.proofs.Common.{◌≡◌, ◌∙◌, ◌++◌, ap, sym, refl, codes, Bool, List, ℕ, append_assoc, not, length, ◌==◌}
+use Rattle.std.proofs.Common.{◌≡◌, ◌∙◌, ◌++◌, ap, refl, codes, Bool, List, ℕ, append_assoc, not, length, ◌==◌}
 use Rattle.icu_locale_names.specs.Pieces.{text_of, has_raw}
 use Rattle.icu_locale_lines.specs.Texts.{raw_mark}
 use Rattle.icu_locale_lines.proofs.work.name.add_full_name.Goals as goal

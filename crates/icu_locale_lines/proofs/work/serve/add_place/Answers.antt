@@ -1,4 +1,4 @@
-use Rattle.std.proofs.Common.{◌≡◌, ◌<◌, ℕ, Bool, List, Option, IfSome, true, length, sym, subst}
+use Rattle.std.proofs.Common.{◌≡◌, ◌<◌, ℕ, Option, IfSome, true, length, sym, subst}
 use Rattle.icu_locale_lines.specs.Serving.{TellsServed}
 use Rattle.icu_locale_lines.proofs.LineAnswers.{if_adds, told_from_line}
 use Rattle.icu_locale_lines.proofs.work.serve.add_place.Goals as goal

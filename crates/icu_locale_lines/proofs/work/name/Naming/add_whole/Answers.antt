@@ -1,8 +1,8 @@
-use Rattle.std.proofs.Common.{◌≡◌, ◌⊎◌, ◌∙◌, subst, sym, inl, inr, Ok, Err, List, Result, Option, Some, None}
+use Rattle.std.proofs.Common.{subst, sym, inl, inr}
 use Rattle.icu_locale_names.specs.LanguageChains.{chain_of}
 use Rattle.icu_locale_names.specs.declared.options.LanguageDisplay.TheVariants.{Dialect}
 use Rattle.icu_locale_full_names.specs.FullNames.{GivesFullName}
-use Rattle.icu_locale_lines.specs.Names.{answers_in, full_name_asked, IsNamedLine}
+use Rattle.icu_locale_lines.specs.Names.{answers_in, IsNamedLine}
 use Rattle.icu_locale_lines.proofs.FullNames.{refusal_of}
 use Rattle.icu_locale_lines.proofs.LineAnswers.{if_adds, if_unnamed}
 use Rattle.icu_locale_lines.proofs.work.name.Naming.add_whole.Goals as goal

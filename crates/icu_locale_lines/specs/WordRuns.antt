@@ -1,0 +1,127 @@
+-- What is done that words ask for.
+use Rattle.std.specs.Prelude.{◌≡◌, ◌⊎◌, ◌<◌, ◌^◌, ℕ, Bool, true, false, List, [], ◌∷◌, ◌++◌, Option, None, Some, Ok, codes}
+use Rattle.std.specs.Str.Parse.{IsNumeral, digits_value, without_leading_plus}
+use Rattle.icu_tables.specs.Rows.{rows_of}
+use Rattle.icu_tables.specs.File.{rows_in}
+use Rattle.icu_tables.specs.Supplement.{no_supplement}
+use Rattle.icu_tables.specs.Supplement as further
+use Rattle.icu_tables.specs.declared.supplement.Supplement.{Supplement}
+use Rattle.icu_tables.specs.declared.tables.Tables.{Tables}
+use Rattle.icu_locale_lines.specs.declared.command.Command.{Command}
+use Rattle.icu_locale_lines.specs.declared.asked.Asked.{Asked}
+use Rattle.icu_locale_lines.specs.declared.asked.Source.{Source}
+use Rattle.icu_locale_lines.specs.declared.asked.Source.TheVariants as source
+use Rattle.icu_locale_lines.specs.declared.error.CliError.{CliError}
+use Rattle.icu_locale_lines.specs.declared.error.CliError.TheVariants as error
+use Rattle.icu_locale_lines.specs.declared.runs.Status.{Status}
+use Rattle.icu_locale_lines.specs.declared.sample_tables.TheConstants.{SAMPLE, SAMPLE_SUPPLEMENT}
+use Rattle.icu_locale_lines.specs.Commands.{AreRunWords, AreStreamWords}
+use Rattle.icu_locale_lines.specs.Lines.{Stream}
+use Rattle.icu_locale_lines.specs.Streams.{IsRunWithin, IsRefusedStream, IsJsonStream, IsRefusedJsonStream, IsSupplementStream, IsRefusedSupplementStream}
+use Rattle.icu_locale_lines.specs.WholeRuns.{IsRun, IsRefusedRun, IsJsonRun, IsRefusedJsonRun}
+
+-- the tables of the sample
+abbrev pub IsSample : Tables → Type 0
+IsSample t = (rows_in SAMPLE.now ≡ Ok (rows_of t)) × (t.supplement ≡ no_supplement)
+
+-- the tables of the sample with their supplement
+pub record IsWholeSample (t : Tables) : Type 0 where
+  pub sample : Tables
+  pub rows : IsSample sample
+  pub supplement : Supplement
+  pub supplement_rows : further.rows_in SAMPLE_SUPPLEMENT.now ≡ Ok (further.rows_of supplement)
+  pub is : t ≡ record sample { supplement = supplement }
+
+-- nothing was read or written
+abbrev pub LeavesAll : Stream → Stream → Stream → Stream → Type 0
+LeavesAll read read' wrote wrote' = (read' ≡ read) × (wrote' ≡ wrote)
+
+-- ---- runs
+
+-- a run of a command: over the tables of the first line where json is true, else over the sample
+abbrev pub IsRunBy : Command → Bool → Stream → Stream → Stream → Stream → Status → Type 0
+IsRunBy c true read read' wrote wrote' status = IsJsonRun c read read' wrote wrote' status
+IsRunBy c false read read' wrote wrote' status =
+    (t : Tables) × IsSample t × IsRun c t read read' wrote wrote' status
+
+-- what such a run leaves where it is refused; the sample may find no memory
+abbrev pub IsRefusedRunBy : Command → Bool → Stream → Stream → Stream → Stream → CliError → Type 0
+IsRefusedRunBy c true read read' wrote wrote' e = IsRefusedJsonRun c read read' wrote wrote' e
+IsRefusedRunBy c false read read' wrote wrote' e =
+    ((e ≡ error.Memory) × LeavesAll read read' wrote wrote')
+    ⊎ ((t : Tables) × IsSample t × IsRefusedRun c t read read' wrote wrote' e)
+
+-- the run of the command that words name
+abbrev pub IsWordsRun : List (List ℕ) → Stream → Stream → Stream → Stream → Status → Type 0
+IsWordsRun words read read' wrote wrote' status = (c : Command) × (json : Bool)
+    × AreRunWords words c json × IsRunBy c json read read' wrote wrote' status
+
+-- what is left where words name no command, or its run is refused
+abbrev pub IsRefusedWordsRun : List (List ℕ) → Stream → Stream → Stream → Stream → CliError → Type 0
+IsRefusedWordsRun words read read' wrote wrote' e =
+    ((e ≡ error.Usage) × LeavesAll read read' wrote wrote')
+    ⊎ ((c : Command) × (json : Bool) × AreRunWords words c json
+    × IsRefusedRunBy c json read read' wrote wrote' e)
+
+-- ---- streams
+
+-- a text is a number of bytes, in decimal digits, before which a plus may stand
+abbrev pub IsBound : List ℕ → ℕ → Type 0
+IsBound text n = IsNumeral 10 (without_leading_plus text)
+    × (n ≡ digits_value 10 (without_leading_plus text)) × (n < 2 ^ 64)
+
+-- the words of a bound: `longest` and a number, or none
+abbrev pub AreBoundWords : Option ℕ → List (List ℕ) → Type 0
+AreBoundWords None words = words ≡ []
+AreBoundWords (Some n) words =
+    (text : List ℕ) × IsBound text n × (words ≡ codes "longest" ∷ text ∷ [])
+
+-- the words of a command and of where its tables come from: `supplement` may follow `json`
+abbrev pub AreSourceWords : List (List ℕ) → Command → Source → Type 0
+AreSourceWords words c source.Sample = AreStreamWords words c false
+AreSourceWords words c source.Json = AreStreamWords words c true
+AreSourceWords words c source.JsonAndSupplement = (front : List (List ℕ))
+    × AreStreamWords front c true × (words ≡ front ++ codes "supplement" ∷ [])
+
+-- the words of a stream: a bound may come first
+pub record AreAsked (words : List (List ℕ)) (asked : Asked) : Type 0 where
+  pub first : List (List ℕ)
+  pub rest : List (List ℕ)
+  pub bound : AreBoundWords asked.longest first
+  pub source : AreSourceWords rest asked.command asked.source
+  pub parted : words ≡ first ++ rest
+
+-- a stream of a command over tables that come from a source
+abbrev pub IsStreamFrom : Source → Option ℕ → Command → Stream → Stream → Stream → Stream → Status
+    → Type 0
+IsStreamFrom source.Sample longest c read read' wrote wrote' status = (t : Tables)
+    × IsWholeSample t × IsRunWithin longest c t read read read' wrote wrote' status
+IsStreamFrom source.Json longest c read read' wrote wrote' status =
+    IsJsonStream longest c read read' wrote wrote' status
+IsStreamFrom source.JsonAndSupplement longest c read read' wrote wrote' status =
+    IsSupplementStream longest c read read' wrote wrote' status
+
+-- what such a stream leaves where it is refused; the sample may find no memory
+abbrev pub IsRefusedStreamFrom : Source → Option ℕ → Command → Stream → Stream → Stream → Stream
+    → CliError → Type 0
+IsRefusedStreamFrom source.Sample longest c read read' wrote wrote' e =
+    ((e ≡ error.Memory) × LeavesAll read read' wrote wrote')
+    ⊎ ((t : Tables) × IsWholeSample t
+    × IsRefusedStream longest c t read read read' wrote wrote' e)
+IsRefusedStreamFrom source.Json longest c read read' wrote wrote' e =
+    IsRefusedJsonStream longest c read read' wrote wrote' e
+IsRefusedStreamFrom source.JsonAndSupplement longest c read read' wrote wrote' e =
+    IsRefusedSupplementStream longest c read read' wrote wrote' e
+
+-- the stream that words ask for
+abbrev pub IsWordsStream : List (List ℕ) → Stream → Stream → Stream → Stream → Status → Type 0
+IsWordsStream words read read' wrote wrote' status = (asked : Asked) × AreAsked words asked
+    × IsStreamFrom asked.source asked.longest asked.command read read' wrote wrote' status
+
+-- what is left where words ask for none, or it is refused
+abbrev pub IsRefusedWordsStream : List (List ℕ) → Stream → Stream → Stream → Stream → CliError
+    → Type 0
+IsRefusedWordsStream words read read' wrote wrote' e =
+    ((e ≡ error.Usage) × LeavesAll read read' wrote wrote')
+    ⊎ ((asked : Asked) × AreAsked words asked
+    × IsRefusedStreamFrom asked.source asked.longest asked.command read read' wrote wrote' e)
