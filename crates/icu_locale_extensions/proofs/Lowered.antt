@@ -1,11 +1,10 @@
 -- Texts of letters and digits in lower case, and whether there is a piece.
 use Rattle.std.proofs.Common.{◌≡◌, ◌<◌, ℕ, zero, suc, Bool, true, false, not, ◌&&◌, ◌||◌, List, [], ◌∷◌, ◌++◌, get_or, length, Option, None, Some}
 use Rattle.std.proofs.Common.{IsTrue, ◌↔◌, refl, ap, sym, arith}
-use Rattle.std.specs.Char.{is_ascii_alphanumeric, to_ascii_lowercase, encode_utf8}
+use Rattle.std.specs.Char.{is_ascii_alphanumeric}
 use Rattle.std.specs.Option.{is_some}
 use Rattle.std.proofs.lemmas.Bool.{and_parts, false≢true}
 use Rattle.std.proofs.lemmas.Bool.Decides.{nat_tests}
-use Rattle.std.proofs.lemmas.Str.Ascii.{encode_ascii, lowercase_ascii}
 use Rattle.icu_locale_core.specs.Subtag.{has_length, is_alphabetic, is_numeric, is_alphanumeric, IsLanguage, IsScript, IsRegion, IsVariant}
 use Rattle.icu_locale_core.specs.declared.langid.LanguageIdentifier.{LanguageIdentifier}
 use Rattle.icu_locale_extensions.specs.Cuts.{Block}

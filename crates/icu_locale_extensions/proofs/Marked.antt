@@ -1,11 +1,11 @@
 -- Extensions written after their marks, and the whole of an identifier.
-use Rattle.std.proofs.Common.{◌≡◌, ℕ, true, false, List, [], ◌∷◌, ◌++◌, codes, refl, ap, sym, ◌∙◌, append_assoc}
+use Rattle.std.proofs.Common.{◌≡◌, ℕ, true, List, [], ◌∷◌, ◌++◌, codes, refl, ap, sym, ◌∙◌, append_assoc}
 use Rattle.std.proofs.lemmas.Bool.{false≢true}
 use Rattle.icu_locale_core.specs.Identifier.{subtags}
 use Rattle.icu_locale_core.specs.TextSet.{rising}
 use Rattle.icu_locale_core.specs.declared.langid.LanguageIdentifier.{LanguageIdentifier}
 use Rattle.icu_locale_extensions.specs.Extensions.{any_piece}
-use Rattle.icu_locale_extensions.specs.Locales.{marked, marked_if_any, extension_pieces, written, lower_subtags, transform_pieces, unicode_pieces}
+use Rattle.icu_locale_extensions.specs.Locales.{marked, marked_if_any, extension_pieces, written, transform_pieces, unicode_pieces}
 use Rattle.icu_locale_extensions.specs.Rows.{flat, dashed, below_t, above_t}
 use Rattle.icu_locale_extensions.specs.declared.identifier.LocaleIdentifier.{LocaleIdentifier}
 use Rattle.icu_locale_extensions.proofs.Dashes.{dashed-append, dashed-keywords}

@@ -1,7 +1,7 @@
 -- A set that texts are put into one by one.
 use Rattle.std.specs.Prelude.{◌≡◌, ℕ, Bool, true, false, ◌||◌, List, [], ◌∷◌, ◌++◌}
 use Rattle.std.proofs.Common.{refl, ap, sym, ◌∙◌}
-use Rattle.std.proofs.lemmas.List.{append-nil, nil_from_length}
+use Rattle.std.proofs.lemmas.List.{nil_from_length}
 use Rattle.icu_locale_core.specs.TextSet.{contains, from_list, rising}
 use Rattle.icu_locale_core.specs.laws.TextSets.{contains-from_list, from_list-rising, is_among, is_among-append, length-rising_empty, same_set}
 

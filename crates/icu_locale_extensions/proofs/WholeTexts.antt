@@ -2,7 +2,7 @@
 use Rattle.std.specs.Prelude.{◌≡◌, ◌⊎◌, ℕ, Bool, true, false, ◌||◌, List, [], ◌∷◌, slice_index_or, Result, Ok, Err, IfOk, if◌then◌else◌}
 use Rattle.std.proofs.Common.{refl, ap, sym, ◌∙◌, subst, inl, inr, arith}
 use Rattle.std.specs.List.{list_all, list_any}
-use Rattle.std.proofs.lemmas.Bool.{false≢true}
+use Rattle.std.proofs.lemmas.Bool.{false≢true, or_right}
 use Rattle.std.proofs.lemmas.Bool.Decides.{nat_tests}
 use Rattle.icu_locale_core.specs.Identifier.{pieces, starts_with_language, IsIdentifier}
 use Rattle.icu_locale_core.specs.Identifier as core
@@ -74,10 +74,6 @@ language-front (p ∷ ps) =
       | true ↦ λ s. sym (singleton_no_language p s)
       | false ↦ λ s. refl
     ] refl
-
-behind : (a : Bool) {b : Bool} → b ≡ true → (a || b) ≡ true
-behind true e = refl
-behind false e = e
 
 -- what follows the first singleton has the extensions and the private use
 pub rest_blocks : (qs : List (List ℕ)) → blocks_of qs ≡ blocks_of (from is_singleton qs)
@@ -223,6 +219,6 @@ module _ (t : List ℕ) (r : Result LanguageIdentifier ParseError) (reads : Read
         only = only_read result refl;
         language = (λ f. absurd (behind_it.language f), λ g. absurd (starts g));
         subtag = λ f x known s. behind_it.refused f x known (spelled_behind x s);
-        memory = λ f. behind (list_any is_variant (identifier_pieces t))
+        memory = λ f. or_right (list_any is_variant (identifier_pieces t)) _
             ((λ i. list_any is_kept (sym same_blocks i) || any_piece (sym same_private i)) ∙ behind_it.memory f);
       }
