@@ -1,6 +1,6 @@
 -- Marks are ASCII, and maps in which the first row with a mark counts.
-use Rattle.std.proofs.Common.{◌≡◌, ◌<◌, ℕ, Bool, true, false, cond, not, ◌&&◌, ◌||◌, List, [], ◌∷◌, ◌++◌, Option, Some, None, IsSome, refl, ap, sym}
-use Rattle.std.proofs.Common.{◌∙◌, subst, arith}
+use Rattle.std.proofs.Common.{◌≡◌, ◌<◌, ℕ, Bool, true, false, cond, not, ◌&&◌, ◌||◌, List, [], ◌∷◌, ◌++◌, Option, Some, None, IsSome, is_some, refl, ap, sym}
+use Rattle.std.proofs.Common.{◌∙◌, subst, arith, append_assoc}
 use Rattle.std.specs.BTreeMap.{is_at}
 use Rattle.std.specs.Option.{option_or}
 use Rattle.std.specs.Ordering.{eq_by_cmp}
@@ -48,6 +48,16 @@ value_at-append (row ∷ rows) more q = by (is_at (text_cmp q) row.0) (value_at-
     by true rest = refl
     by false rest = rest
 
+-- one row more, of those that are left
+pub HaveFirstOf-step : (all rows new left : List Block) (row : Block) → HaveFirstOf all (rows ++ row ∷ left)
+    → HaveFirstOf new (rows ++ row ∷ []) → HaveFirstOf all (new ++ left)
+HaveFirstOf-step all rows new left row before added q =
+    before q
+    ∙ ap (λ r. value_at text_cmp r q) (sym (append_assoc rows (row ∷ []) left))
+    ∙ value_at-append (rows ++ row ∷ []) left q
+    ∙ ap (λ o. option_or o (value_at text_cmp left q)) (sym (added q))
+    ∙ sym (value_at-append new left q)
+
 module _ (rows : List Block) (mark : List ℕ) (pieces : List (List ℕ)) where
   -- a row after others counts only where they have none with its mark
   behind : (q : List ℕ) (b : Bool) → eq_by_cmp text_cmp q mark ≡ b
@@ -83,3 +93,13 @@ module _ (rows : List Block) (mark : List ℕ) (pieces : List (List ℕ)) where
           let none : value_at text_cmp rows q ≡ None = ap (value_at text_cmp rows) (same_from_tied q mark e) ∙ absent in
           ap (λ b. cond b (Some pieces) (value_at text_cmp rows q)) e ∙ sym (behind q true e ∙ ap (λ o. option_or o (Some pieces)) none)
       by false e = ap (λ b. cond b (Some pieces) (value_at text_cmp rows q)) e ∙ nothing_behind (value_at text_cmp rows q) ∙ sym (behind q false e)
+
+  -- where it is there, a row that is put in and then put back changes nothing
+  pub first_is_put_back : (mid new : List Block) (first : List (List ℕ)) → value_at text_cmp rows mark ≡ Some first
+      → SetsOnly text_cmp rows mid mark (Some pieces) → SetsOnly text_cmp mid new mark (Some first) → HaveFirstOf new (rows ++ (mark, pieces) ∷ [])
+  first_is_put_back mid new first there sets back q =
+      back q ∙ by (eq_by_cmp text_cmp mark q) refl ∙ first_is_there (ap is_some there) q
+    where
+      by : (b : Bool) → eq_by_cmp text_cmp mark q ≡ b → cond b (Some first) (value_at text_cmp mid q) ≡ value_at text_cmp rows q
+      by true e = sym there ∙ ap (value_at text_cmp rows) (same_from_tied mark q e)
+      by false e = sets q ∙ ap (λ b. cond b (Some pieces) (value_at text_cmp rows q)) e
