@@ -1,6 +1,8 @@
-//! Sorted maps, whatever the order of inserts.
-use icu_provider::{DataError, SortedMap};
+//! Sorted maps, whatever the order of inserts, and with notes of their keys.
+use icu_locale_core::{Language, Region};
+use icu_provider::{DataError, NotedMap, SortedMap};
 use std::alloc::Global;
+use std::str;
 
 // A map with a row for each number, whose value is one more.
 fn filled(alloc: Global, keys: &[u16]) -> Result<SortedMap<u16, u16>, DataError> {
@@ -79,4 +81,76 @@ fn a_walk_shows_what_is_left(rt: HostRuntime) {
     assert!(rt; rows.as_slice() == [(2, 3), (3, 4)].as_slice());
     assert!(rt; rows.clone().expect(&rt, "memory").count() == 2);
     assert!(rt; rows.count() == 2);
+}
+
+const LETTERS: &[u8; 26] = b"abcdefghijklmnopqrstuvwxyz";
+
+const REGIONS: [&str; 4] = ["001", "002", "003", "005"];
+
+// The language of three letters at a place of their list.
+fn language_at(place: usize) -> Option<Language> {
+    let letters = [
+        LETTERS[place / 676 % 26],
+        LETTERS[place / 26 % 26],
+        LETTERS[place % 26],
+    ];
+    Language::try_from_str(str::from_utf8(&letters).ok()?).ok()
+}
+
+fn region(text: &str) -> Option<Region> {
+    Region::try_from_str(text).ok()
+}
+
+// Whether each language of three letters is found with each of the regions, and with no other.
+fn finds_all(map: &NotedMap<(Language, Region), usize>) -> Option<bool> {
+    let other = region("004")?;
+    for place in 0..17_576 {
+        let language = language_at(place)?;
+        for text in REGIONS {
+            if map.get(&(language, region(text)?)).copied() != Some(place) {
+                return Some(false);
+            }
+        }
+        if map.contains_key(&(language, other)) {
+            return Some(false);
+        }
+    }
+    Some(true)
+}
+
+// More rows than notes can tell the places of.
+#[test]
+fn notes_change_no_answer(rt: HostRuntime) {
+    let mut map = NotedMap::new(rt.alloc());
+    for place in 0..17_576 {
+        let language = language_at(place).expect(&rt, "a language");
+        for text in REGIONS {
+            let key = (language, region(text).expect(&rt, "a region"));
+            map.insert(key, place).expect(&rt, "memory");
+        }
+    }
+    assert!(rt; map.len() == 70_304);
+    assert!(rt; finds_all(&map) == Some(true), "before there are notes");
+    map.note(rt.alloc()).expect(&rt, "memory");
+    assert!(rt; finds_all(&map) == Some(true), "by notes");
+    let last = (
+        language_at(17_575).expect(&rt, "a language"),
+        region("004").expect(&rt, "a region"),
+    );
+    map.insert(last, 7).expect(&rt, "memory");
+    assert!(rt;
+        map.get(&last).copied() == Some(7),
+        "what is put in after them"
+    );
+    map.note(rt.alloc()).expect(&rt, "memory");
+    assert!(rt; map.get(&last).copied() == Some(7), "and noted again");
+    assert!(rt; map.iter().count() == 70_305 && map.as_slice().len() == 70_305);
+}
+
+#[test]
+fn a_map_without_rows_is_noted_for_nothing(rt: HostRuntime) {
+    let mut map = NotedMap::<Region, u8>::new(rt.alloc());
+    map.note(rt.alloc()).expect(&rt, "memory");
+    assert!(rt; map.is_empty());
+    assert!(rt; !map.contains_key(&region("DE").expect(&rt, "a region")));
 }

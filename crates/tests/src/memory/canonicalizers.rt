@@ -10,7 +10,7 @@ use std::process::Abort;
 
 // Rules, an identifier, a transform language or none, and what becomes of them where no memory is left: what they are
 // then, or the identifier that comes again. Nothing of them has variants.
-static WITHOUT_MEMORY: [(&str, &str, &str, &str); 13] = [
+static WITHOUT_MEMORY: [(&str, &str, &str, &str); 21] = [
     (ENDING, "sh", "", "sr-Latn"),
     (ENDING, "sh-Cyrl", "", "sr-Cyrl"),
     (ENDING, "aa", "", "cc"),
@@ -24,7 +24,32 @@ static WITHOUT_MEMORY: [(&str, &str, &str, &str); 13] = [
     (CIRCLING, "ja", "xx", "NoFixedPoint yy"),
     (CIRCLING, "zz", "aa", "NoFixedPoint zz"),
     (ITSELF, "aa", "", "NoFixedPoint aa"),
+    (SERBIAN, "sh", "", "sr-Latn"),
+    (SERBIAN, "sh-Cyrl", "", "sr-Cyrl"),
+    (TWO_STEPS, "aa", "", "cc"),
+    (TWO_KINDS, "en-Qaai-276", "", "en-Zinh-DE"),
+    (CIRCLE_OF_TWO, "aa", "", "NoFixedPoint aa"),
+    (CIRCLE_OF_TWO, "sh", "aa", "NoFixedPoint aa"),
+    (CIRCLE_AFTER_ONE, "aa", "", "NoFixedPoint bb"),
+    (CIRCLE_AFTER_ONE, "bb", "", "NoFixedPoint bb"),
 ];
+
+const SERBIAN: &str = "{\"aliases\":{\"language_len2\":{\"sh\":\"sr-Latn\"}}}";
+
+const TWO_STEPS: &str = "{\"aliases\":{\"language_len2\":{\"aa\":\"bb\",\"bb\":\"cc\"}}}";
+
+const TWO_KINDS: &str =
+    "{\"aliases\":{\"script\":{\"Qaai\":\"Zinh\"},\"region_num\":{\"276\":\"DE\"}}}";
+
+const CIRCLE_OF_TWO: &str =
+    "{\"aliases\":{\"language_len2\":{\"aa\":\"bb\",\"bb\":\"aa\",\"sh\":\"sr-Latn\"}}}";
+
+const CIRCLE_AFTER_ONE: &str =
+    "{\"aliases\":{\"language_len2\":{\"aa\":\"bb\",\"bb\":\"cc\",\"cc\":\"bb\"}}}";
+
+// Two variants that one replaces, and no other rule.
+const HEPBURN: &str =
+    "{\"aliases\":{\"language_variants\":[[\"und\",\"heploc-hepburn\",\"und-alalc97\"]]}}";
 
 pub const ENDING: &str =
     "{\"aliases\":{\"language_len2\":{\"sh\":\"sr-Latn\",\"aa\":\"bb\",\"bb\":\"cc\"},\
@@ -222,18 +247,31 @@ impl Canonicalize<'_, '_> {
 #[test]
 fn canonicalizers(rt: HostRuntime) {
     let alloc = rt.alloc();
-    let tables = sample(&rt, alloc);
-    let expander = LocaleExpander::try_new_common_unstable(&tables).expect(&rt, "tables");
-    let aliases = tables.load_aliases().expect(&rt, "aliases");
+    let sample = sample(&rt, alloc);
+    let expander = LocaleExpander::try_new_common_unstable(&sample).expect(&rt, "tables");
+    let aliases = sample.load_aliases().expect(&rt, "aliases");
     let make = MakeCanonicalizer { aliases, expander };
     assert!(rt; by_budget(alloc, &make).expect(&rt, "memory").is_good());
+    let own = tables(&rt, alloc, HEPBURN);
+    for aliases in [aliases, own.load_aliases().expect(&rt, "aliases")] {
+        replace_by_budget(&rt, alloc, aliases, expander);
+    }
+}
+
+// Two variants are replaced by one.
+fn replace_by_budget(
+    rt: &impl Abort,
+    alloc: Global,
+    aliases: &Aliases,
+    expander: LocaleExpander<'_>,
+) {
     let canonicalizer = LocaleCanonicalizer::new_with_expander(alloc, aliases, expander).expect(
-        &rt, "tables",
+        rt, "rules",
     );
     let call = Canonicalize {
         canonicalizer: &canonicalizer,
         from: "ja-Latn-fonipa-hepburn-heploc",
         to: "ja-Latn-alalc97-fonipa",
     };
-    assert!(rt; by_budget(alloc, &call).expect(&rt, "memory").is_good());
+    assert!(rt; by_budget(alloc, &call).expect(rt, "memory").is_good());
 }
