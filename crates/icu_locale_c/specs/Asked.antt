@@ -1,5 +1,5 @@
 -- What a command that is read answers over what is held.
-use Rattle.std.specs.Prelude.{◌≡◌, ℕ, Bool, true, false, List, None}
+use Rattle.std.specs.Prelude.{◌≡◌, ℕ, Bool, true, false, List, None, IsSome}
 use Rattle.icu_locale_lines.specs.Answers.{IsAnswer}
 use Rattle.icu_locale_lines.specs.Commands.{has_tables}
 use Rattle.icu_locale_lines.specs.declared.command.Command.TheVariants.{Lines}
@@ -24,9 +24,15 @@ asks_list Negotiate = true
 asks_list (Serve wishes) = true
 asks_list task = false
 
--- why there is none
+-- the list is there that the task asks for, if it asks for one
+abbrev pub HasList : Held → LineCommand → Type 0
+HasList h asked = asks_list asked.task ≡ true → IsSome h.available
+
+-- why there is none: that a list is lacking comes before all else, and then that a table is
 abbrev pub IsRefusedLine : Held → LineCommand → Refusal → Type 0
-IsRefusedLine h asked refusal.Memory = has_tables (Lines asked) h.tables ≡ true
-IsRefusedLine h asked refusal.Table = has_tables (Lines asked) h.tables ≡ false
+IsRefusedLine h asked refusal.Memory =
+    HasList h asked × (has_tables (Lines asked) h.tables ≡ true)
+IsRefusedLine h asked refusal.Table =
+    HasList h asked × (has_tables (Lines asked) h.tables ≡ false)
 IsRefusedLine h asked refusal.Negotiate = (asks_list asked.task ≡ true) × (h.available ≡ None)
 IsRefusedLine h asked e = ⊥

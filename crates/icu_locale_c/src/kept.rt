@@ -1,5 +1,5 @@
 //! What a handle keeps beside its tables, once it was asked for.
-ghost use Rattle.std.specs.Prelude.{◌≡◌, Option, Some, IfOk, IfErr, IfSome};
+ghost use Rattle.std.specs.Prelude.{◌≡◌, Option, Some, IfOk, IfErr, IfSome, IsOk, IsSome};
 ghost use Rattle.icu_locale.specs.LikelyTable.{likely};
 ghost use Rattle.icu_locale.specs.RuleSet.{lent};
 ghost use Rattle.icu_locale.specs.declared.negotiator.available.Available.{Available};
@@ -47,6 +47,7 @@ pub fn read_rules(
         → AreKept tables.now list kept.new }
     ensures rules { IfSome kept.old.rules (AreRulesOf tables.now)
         → IfSome kept.new.rules (AreRulesOf tables.now) }
+    ensures there { IsOk result → IsSome kept.new.rules }
     ensures refused { IfErr result (λ e. e ≡ Refusal.Memory) }
 {
     if kept.rules.is_some() {
@@ -103,7 +104,8 @@ fn copied(
     alloc: Global,
     identifiers: &[LanguageIdentifier],
 ) -> Result<Vec<LanguageIdentifier>, ParseError>
-    ensures { IfOk result (λ list. list.items ≡ identifiers.now) }
+    ensures same { IfOk result (λ list. list.items ≡ identifiers.now) }
+    ensures refused { IfErr result (λ e. e ≡ ParseError.Memory) }
 {
     let mut list = Vec::with_capacity(alloc, identifiers.len())?;
     for identifier in identifiers {

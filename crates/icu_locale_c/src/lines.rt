@@ -1,10 +1,10 @@
 //! The program's line for a line, over what a handle keeps.
-ghost use Rattle.std.specs.Prelude.{◌≡◌, ◌<◌, ◌-◌, take, length, Option, IfOk, IfErr, IfSome};
+ghost use Rattle.std.specs.Prelude.{◌≡◌, ◌<◌, ◌-◌, false, take, length, Option, IfOk, IfErr, IfSome};
 ghost use Rattle.icu_locale.specs.LikelyTable.{likely};
 ghost use Rattle.icu_locale.specs.RuleSet.{lent};
 ghost use Rattle.icu_locale.specs.declared.negotiator.available.Available.{Available};
 ghost use Rattle.icu_locale_lines.specs.Answers.{IsCanonicalAnswer};
-ghost use Rattle.icu_locale_c.specs.Asked.{IsLineOf, IsRefusedLine};
+ghost use Rattle.icu_locale_c.specs.Asked.{IsLineOf, IsRefusedLine, asks_list};
 ghost use Rattle.icu_locale_c.specs.Calls.{Writes, unended};
 ghost use Rattle.icu_locale_c.specs.Held.{AreKept, AreRulesOf, IsListOver, held, without_list};
 
@@ -87,6 +87,7 @@ fn plain_line(
     room: &mut Vec<u8>,
     line: &[u8],
 ) -> Result<bool, Refusal>
+    requires { asks_list asked.now.task ≡ false }
     ensures answered { IfOk result (IsLineOf (without_list tables.now) asked.now line.now
         room.new.items) }
     ensures refused { IfErr result (IsRefusedLine (without_list tables.now) asked.now) }

@@ -18,7 +18,7 @@ returns-in-Ok-try_new-clause-kept c =
     let made = c.in-Ok-try_new in
     let by_rules = subst (λ r. IsPreparedOver (likely c.over-rules.result.expander) r m made.served) c.over-rules.ensures.rules made.ensures.over in
     let prepared = subst (λ e. IsPreparedOver (likely e) (rules_over read table) m made.served) c.over-rules.ensures.expander by_rules in
-    let listed = made.ensures.available ∙ c.in-Ok-copied.ensures ∙ c.identifiers.ensures in
+    let listed = made.ensures.available ∙ c.in-Ok-copied.ensures.same ∙ c.identifiers.ensures in
     let served = served_over_one t read c.args.list.now made.served c.in-Ok.expander table m c.in-Ok.ensures.made c.requires.aliases
     c.requires.matching listed prepared in
     record {
