@@ -50,10 +50,7 @@ impl Rewriting for Values<'_> {
 fn next_value<'r>(rules: &RulesRef<'r>, value: &Value) -> Option<&'r Value>
     ensures { option_copied result ≡ next_value (lent rules.now) value.now }
 {
-    rules
-        .read
-        .subdivision
-        .get(&value.as_single_subtag()?)
+    rules.read.subdivision.get(&value.as_single_subtag()?)
 }
 
 // Where the runs of the values at `rg` and then at `sd` end, each if that is at a later place than its start. Their steps
