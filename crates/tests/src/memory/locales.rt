@@ -1,5 +1,5 @@
 //! Reading locale identifiers in each syntax, copying and writing them.
-use crate::memory::budget::{Answered, Call, by_budget};
+use crate::memory::budget::{Answered, Call, by_budget, take_all};
 use icu_locale_core::ParseError;
 use icu_locale_extensions::{LocaleIdentifier, Syntax};
 use std::alloc::Global;
@@ -90,4 +90,17 @@ fn written_locale_identifiers(rt: HostRuntime) {
             .expect(&rt, "memory")
             .is_good()
     );
+}
+
+// A form without extensions wants no memory but for the text.
+#[test]
+fn a_bare_form_goes_into_room_that_is_there(rt: HostRuntime) {
+    let alloc = rt.alloc();
+    let identifier = LocaleIdentifier::try_from_str(alloc, "de-1901").expect(&rt, "memory");
+    let mut text = Vec::with_capacity(alloc, 64).expect(&rt, "memory");
+    let held = take_all(alloc).expect(&rt, "memory");
+    let written = identifier.append_to(&mut text);
+    drop(held);
+    assert!(rt; written.is_ok());
+    assert!(rt; text.as_slice() == "de-1901".as_bytes());
 }
