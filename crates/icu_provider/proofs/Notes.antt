@@ -1,24 +1,49 @@
 -- What notes tell of a key.
-use Rattle.std.proofs.Common.{◌≡◌, ◌≢◌, ℕ, ◌<◌, ◌+◌, List, length, get_or, None, ap, sym, ◌∙◌, arith, ⊎_elim, subst}
-use Rattle.std.specs.List.{AllWithin}
+use Rattle.std.proofs.Common.{◌≡◌, ◌≢◌, ℕ, ◌<◌, ◌+◌, ◌-◌, ◌⊎◌, List, length, get_or, None, ap, sym, ◌∙◌, arith, ⊎_elim, inr, subst}
 use Rattle.std.proofs.Math.Nat.{eq-or-lt_of_le}
 use Rattle.std.specs.declared.cmp.Ordering.{Ordering}
 use Rattle.std.specs.declared.cmp.Ordering.TheVariants.{Equal}
 use Rattle.std.specs.Map.{lookup}
 use Rattle.std.specs.BTreeMap.{is_at}
+use Rattle.std.proofs.lemmas.Bool.{cases_eq}
 use Rattle.std.proofs.lemmas.Map.{lookup-none}
 use Rattle.std.proofs.lemmas.List.{get_or_default}
 use Rattle.std.proofs.lemmas.List.Elements.{recursion_from_All}
-use Rattle.icu_provider.specs.inner.Notes.{bucket, HasNote, IsNoted}
+use Rattle.icu_provider.specs.inner.Notes.{bucket, many, AreNoted, IsNoted}
 use Rattle.icu_provider.specs.laws.SortedMaps.{not_tied}
 
-module _ {K V : Type 0} (compare : K → K → Ordering) (IsMark : K → ℕ → Type 0) (rows : List (K × V)) (notes : List ℕ) where
+-- a note of a place, or of several keys
+abbrev Notes : ℕ → ℕ → Type 0
+Notes note place = (note ≡ place + 1) ⊎ (note ≡ many)
+
+-- it is never 0
+not_zero : (note place : ℕ) → Notes note place → note ≢ 0
+not_zero note place notes none = ⊎_elim (λ e. absurd (omega (arith, e, none))) (λ e. absurd (omega (arith, e, none))) notes
+
+module _ {K V : Type 0} (compare : K → K → Ordering) (IsMark : K → ℕ → Type 0) (rows : List (K × V)) (notes : List ℕ) (key : K) (mark at : ℕ)
+    (noted : IsNoted compare IsMark rows notes) (is : IsMark key mark) (here : at ≡ bucket mark (length notes)) (in_range : at < length notes) where
+  -- a row with the key is noted at its bucket
+  noted_at : (k : ℕ) (d : K × V) → k < length rows → compare key (get_or rows k d).0 ≡ Equal → Notes (get_or notes at 0) k
+  noted_at k d low tied = subst (λ b. Notes (get_or notes b 0) k) (sym here) (noted k d low key mark tied is (subst (λ b. b < length notes) here in_range))
+
   -- where nothing is noted at a key's bucket, no row has the key
-  pub lookup_unnoted : (key : K) (mark at : ℕ) → IsNoted compare IsMark rows notes → IsMark key mark
-      → at ≡ bucket mark (length notes) → at < length notes → get_or notes at 0 ≡ 0 → lookup (is_at (compare key)) rows ≡ None
-  lookup_unnoted key mark at noted is here in_range unnoted = lookup-none (is_at (compare key)) rows
+  pub lookup_unnoted : get_or notes at 0 ≡ 0 → lookup (is_at (compare key)) rows ≡ None
+  lookup_unnoted unnoted = lookup-none (is_at (compare key)) rows
       (recursion_from_All _ rows (λ k d low. not_tied (compare key (get_or rows k d).0)
-      (λ tied. noted k d low key mark tied is (subst (λ b. b < length notes) here in_range) (ap (λ b. get_or notes b 0) (sym here) ∙ unnoted))))
+      (λ tied. not_zero _ k (noted_at k d low tied) unnoted)))
+
+  -- where one row is noted, no other has the key
+  pub lookup_noted : (row : K × V) → get_or notes at 0 ≢ many → row ≡ get_or rows (get_or notes at 0 - 1) row → compare key row.0 ≢ Equal
+      → lookup (is_at (compare key)) rows ≡ None
+  lookup_noted row one read other = lookup-none (is_at (compare key)) rows
+      (recursion_from_All _ rows (λ k d low. not_tied (compare key (get_or rows k d).0)
+      (λ tied. ⊎_elim
+      (λ (e : get_or notes at 0 ≡ k + 1).
+      let place : k ≡ get_or notes at 0 - 1 = omega (arith, e) in
+      let same : get_or rows k d ≡ row = get_or_default rows k d row low ∙ ap (λ n. get_or rows n row) place ∙ sym read in
+      other (subst (λ (r : K × V). compare key r.0 ≡ Equal) same tied))
+      (λ (e : get_or notes at 0 ≡ many). one e)
+      (noted_at k d low tied))))
 
 module _ {K V : Type 0} (compare : K → K → Ordering) (IsMark : K → ℕ → Type 0) (rows : List (K × V)) (notes : List ℕ)
     (shared : (x y : K) (m n : ℕ) → compare x y ≡ Equal → IsMark x m → IsMark y n → m ≡ n) where
@@ -30,18 +55,29 @@ module _ {K V : Type 0} (compare : K → K → Ordering) (IsMark : K → ℕ →
       shared key _ other mark (ap (λ (r : K × V). compare key r.0) read ∙ tied) is_other is
 
   -- the next row's key is noted as well
-  pub noted_next : (new : List ℕ) (place mark : ℕ) (row : K × V) → AllWithin (λ r. HasNote compare IsMark notes r.0) rows 0 place
+  pub noted_next : (new : List ℕ) (place mark : ℕ) (row : K × V) → AreNoted compare IsMark rows notes place
       → place < length rows → IsMark (get_or rows place row).0 mark → length new ≡ length notes
-      → (bucket mark (length notes) < length notes → get_or new (bucket mark (length notes)) 0 ≢ 0)
-      → ((at : ℕ) → get_or notes at 0 ≢ 0 → get_or new at 0 ≢ 0)
-      → AllWithin (λ r. HasNote compare IsMark new r.0) rows 0 (place + 1)
-  noted_next new place mark row earlier in_range is long noted others k d low high key other tied is_other within =
-      let at = bucket other (length notes) in
-      let inside : at < length notes = subst (λ n. bucket other n < n) long within in
-      let stays : get_or new at 0 ≢ 0 = ⊎_elim
+      → (bucket mark (length notes) < length notes → Notes (get_or new (bucket mark (length notes)) 0) place)
+      → (bucket mark (length notes) < length notes → get_or notes (bucket mark (length notes)) 0 ≢ 0
+      → get_or new (bucket mark (length notes)) 0 ≡ many)
+      → ((at : ℕ) → at ≢ bucket mark (length notes) → get_or new at 0 ≡ get_or notes at 0)
+      → AreNoted compare IsMark rows new (place + 1)
+  noted_next new place mark row earlier in_range is long noted again others k d low key other tied is_other within =
+      let count = length notes in
+      let at = bucket other count in
+      let inside : at < count = subst (λ n. bucket other n < n) long within in
+      let stays : Notes (get_or new at 0) k = ⊎_elim
       (λ (same : k ≡ place).
       let mark_is = of_row place mark k row d key other in_range is same tied is_other in
-      subst (λ n. bucket n (length notes) < length notes → get_or new (bucket n (length notes)) 0 ≢ 0) (sym mark_is) noted inside)
-      (λ (before : k < place). others at (earlier k d low before key other tied is_other inside))
-      (eq-or-lt_of_le (omega (arith, high))) in
-      subst (λ n. get_or new (bucket other n) 0 ≢ 0) (sym long) stays
+      subst (λ n. bucket n count < count → Notes (get_or new (bucket n count) 0) k) (sym mark_is)
+      (subst (λ p. bucket mark count < count → Notes (get_or new (bucket mark count) 0) p) (sym same) noted) inside)
+      (λ (before : k < place).
+      let was = earlier k d before key other tied is_other inside in
+      ⊎_elim
+      (λ (hit : at ≡ bucket mark count).
+      inr (ap (λ n. get_or new n 0) hit ∙ again (subst (λ n. n < count) hit inside)
+      (subst (λ n. get_or notes n 0 ≢ 0) hit (not_zero _ k was))))
+      (λ (missed : at ≢ bucket mark count). subst (λ n. Notes n k) (sym (others at missed)) was)
+      (cases_eq at (bucket mark count)))
+      (eq-or-lt_of_le (omega (arith, low))) in
+      subst (λ n. Notes (get_or new (bucket other n) 0) k) (sym long) stays

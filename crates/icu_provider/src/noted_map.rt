@@ -1,8 +1,9 @@
 //! A sorted map whose keys have marks, with notes by which most look-ups take one step.
-ghost use Rattle.std.specs.Prelude.{◌≡◌, ◌≢◌, ◌==◌, ◌<◌, [], ℕ, get_or, length, is_some, option_copied, List, IfOk, IsOk};
+ghost use Rattle.std.specs.Prelude.{◌≡◌, ◌≢◌, ◌==◌, ◌<◌, [], ℕ, get_or, length, is_some, option_copied, List, IfOk, IsOk, ◌⊎◌, ◌+◌, Some, None};
+ghost use Rattle.std.specs.declared.cmp.Ordering.TheVariants.{Equal};
 ghost use Rattle.icu_locale_core.specs.Maps.{value_at};
 ghost use Rattle.icu_provider.specs.SortedMaps.{Inserts, IsFoundEach, IsSortedMap, RefusesMemory};
-ghost use Rattle.icu_provider.specs.inner.Notes.{bucket, IsNoted};
+ghost use Rattle.icu_provider.specs.inner.Notes.{bucket, many, IsNoted};
 
 use crate::marked::Marked;
 use crate::{DataError, Rows, SortedMap};
@@ -15,8 +16,8 @@ use std::marker::Model;
 #[derive(Debug, Drop)]
 pub struct NotedMap<K: Marked, V> {
     rows: SortedMap<K, V>,
-    // At the bucket of a key's mark one more than the place of some row, and 0 where no key has that bucket. None where
-    // nothing is noted.
+    // At the bucket of a key's mark one more than the place of its row, or `MANY`, and 0 where no key has that bucket.
+    // None where nothing is noted.
     notes: Vec<u16>,
 }
 
@@ -92,14 +93,14 @@ impl<K: Marked, V> NotedMap<K, V> {
         let notes = self.notes.as_slice();
         let bucket = bucket(key.mark(), notes.len());
         if bucket < notes.len() {
-            let note = notes[bucket] as usize;
+            let note = notes[bucket];
             if note == 0 {
                 return None;
             }
-            if let Some(row) = self.rows.as_slice().get(note - 1)
-                && key.is(&row.0)
+            if note != MANY
+                && let Some(row) = self.rows.as_slice().get(note as usize - 1)
             {
-                return Some(&row.1);
+                return value_of(row, key);
             }
         }
         self.searched(key)
@@ -169,11 +170,23 @@ impl<K: Marked, V> NotedMap<K, V> {
     }
 }
 
+// The value of a row, if it has the key.
+#[inline(always)]
+fn value_of<'m, K: Marked, V>(row: &'m (K, V), key: &K) -> Option<&'m V>
+    ensures tied { K.cmp key.now row.now.0 ≡ Equal → option_copied result ≡ Some row.now.1 }
+    ensures other { K.cmp key.now row.now.0 ≢ Equal → option_copied result ≡ None }
+{
+    if key.is(&row.0) { Some(&row.1) } else { None }
+}
+
 // How many buckets there are for each row, and beside these, so that most keys have one of their own, and most other
 // keys one where nothing is noted.
 const BUCKETS_A_ROW: usize = 8;
 
 const MORE_BUCKETS: usize = 32;
+
+// The note of a bucket that several keys have, or whose place is too high to be noted.
+const MANY: u16 = u16::MAX;
 
 // A note for each row's key.
 fn notes_of<K: Marked, V>(alloc: Global, rows: &[(K, V)]) -> Result<Vec<u16>, AllocError>
@@ -198,22 +211,28 @@ fn notes_of<K: Marked, V>(alloc: Global, rows: &[(K, V)]) -> Result<Vec<u16>, Al
 // Notes the place of a mark.
 fn note(notes: &mut Vec<u16>, mark: u64, place: usize)
     ensures length { length notes.new.items ≡ length notes.old.items }
-    ensures noted { let at = bucket mark (length notes.old.items) in
-        at < length notes.old.items → get_or notes.new.items at 0 ≢ 0 }
-    ensures others { (at : ℕ) → get_or notes.old.items at 0 ≢ 0
-        → get_or notes.new.items at 0 ≢ 0 }
+    ensures noted { let at = bucket mark (length notes.old.items) in at < length notes.old.items
+        → (get_or notes.new.items at 0 ≡ place + 1) ⊎ (get_or notes.new.items at 0 ≡ many) }
+    ensures again { let at = bucket mark (length notes.old.items) in at < length notes.old.items
+        → get_or notes.old.items at 0 ≢ 0 → get_or notes.new.items at 0 ≡ many }
+    ensures others { (at : ℕ) → at ≢ bucket mark (length notes.old.items)
+        → get_or notes.new.items at 0 ≡ get_or notes.old.items at 0 }
 {
     let bucket = bucket(mark, notes.len());
     if bucket < notes.len() {
-        notes[bucket] = note_of(place);
+        notes[bucket] = if notes[bucket] == 0 {
+            note_of(place)
+        } else {
+            MANY
+        };
     }
 }
 
-// One more than a place, or the highest note where that is too high: a look-up then finds another row there.
+// One more than a place, if that can be noted.
 fn note_of(place: usize) -> u16
-    ensures { result ≢ 0 }
+    ensures { (result ≡ place + 1) ⊎ (result ≡ many) }
 {
-    u16::try_from(place.saturating_add(1)).unwrap_or(u16::MAX)
+    u16::try_from(place.saturating_add(1)).unwrap_or(MANY)
 }
 
 // Which of so many buckets a mark falls into.

@@ -26,10 +26,10 @@ use Rattle.icu_provider.specs.declared.names.NameKey.TheVariants.{Language, Scri
 use Rattle.icu_provider.specs.declared.names.NameMarker.{NameMarker}
 use Rattle.icu_provider.specs.declared.names.NameMarker.TheVariants as names
 
-not_less : Less ≡ Equal → ⊥
+pub not_less : Less ≡ Equal → ⊥
 not_less is = subst (λ o. T (is_eq o)) (sym is) tt
 
-not_greater : Greater ≡ Equal → ⊥
+pub not_greater : Greater ≡ Equal → ⊥
 not_greater is = subst (λ o. T (is_eq o)) (sym is) tt
 
 -- two comparisons, one after the other, tie where both do

@@ -6,4 +6,4 @@ pub loop-place-preserved : goal.loop-place-preserved
 loop-place-preserved g c =
     noted_next g.K.Ord.cmp g.K.Marked.IsMark c.args.rows.now c.loop-place.notes.items g.met.K.Marked.shared _ c.loop-place.place c.mark.result
     c.index-rows-place.result c.loop-place.invariant c.loop-place-test.true c.mark.ensures
-    c.note.ensures.length c.note.ensures.noted c.note.ensures.others
+    c.note.ensures.length c.note.ensures.noted c.note.ensures.again c.note.ensures.others
