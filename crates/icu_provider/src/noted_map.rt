@@ -181,7 +181,7 @@ fn value_of<'m, K: Marked, V>(row: &'m (K, V), key: &K) -> Option<&'m V>
 
 // How many buckets there are for each row, and beside these, so that most keys have one of their own, and most other
 // keys one where nothing is noted.
-const BUCKETS_A_ROW: usize = 8;
+const BUCKETS_A_ROW: usize = 12;
 
 const MORE_BUCKETS: usize = 32;
 
