@@ -5,11 +5,11 @@ from .programs import COMMANDS, Stop, by_arrays, cost_of, counts_of, has_valgrin
 # The goals: at most so much of what a line costs in plain Rust, or so many branches, and so many times ahead of others.
 AHEAD = {"ICU4C": 40, "ICU4C, own form": 40, "Node.js": 40}
 TIME = Unit(lambda cost: cost.seconds * 1e9, 0,
-            {"maximize": 0.75, "minimize": 0.50, "canonicalize": 0.90, "name": 0.60}, AHEAD | {"unic-langid": 1.35})
+            {"maximize": 0.75, "minimize": 0.50, "canonicalize": 0.90, "name": 0.60}, AHEAD | {"unic-langid": 1.5})
 INSTRUCTIONS = Unit(lambda counts: counts.instructions, 0,
-                    {"maximize": 0.80, "minimize": 0.48, "minimize-script": 0.48, "canonicalize": 0.95, "direction": 0.90,
-                     "negotiate": 0.52, "name": 0.52}, AHEAD)
-BRANCHES = Unit(lambda counts: counts.mispredicted, 1, {"maximize": 5, "canonicalize": 7}, {})
+                    {"maximize": 0.72, "minimize": 0.40, "minimize-script": 0.48, "canonicalize": 0.75, "direction": 0.70,
+                     "negotiate": 0.52, "name": 0.42}, AHEAD)
+BRANCHES = Unit(lambda counts: counts.mispredicted, 1, {"maximize": 3.2, "canonicalize": 4, "name": 20}, {})
 
 
 def check_equal(program, other, inputs, command, lines):
