@@ -8,12 +8,13 @@ ghost use Rattle.icu_provider.specs.inner.Notes.{bucket, many, IsNoted};
 use crate::marked::Marked;
 use crate::{DataError, Rows, SortedMap};
 use std::alloc::{AllocError, Global};
+use std::fmt;
 use std::marker::Model;
 
 /// A map whose rows are in one list, in the order of their keys. Beside the rows it may keep notes of where keys are, by
 /// their marks: a look-up then takes one step for most keys, be they there or not. `insert` takes the notes away, and
 /// `note` makes them again.
-#[derive(Debug, Drop)]
+#[derive(Drop)]
 pub struct NotedMap<K: Marked, V> {
     rows: SortedMap<K, V>,
     // At the bucket of a key's mark one more than the place of its row, or `MANY`, and 0 where no key has that bucket.
@@ -138,7 +139,8 @@ impl<K: Marked, V> NotedMap<K, V> {
         self.rows.insert(key, value)
     }
 
-    /// Makes notes of the rows, so that look-ups are fast. It takes memory for them, and the rows stay.
+    /// Makes notes of the rows, so that look-ups are fast, but for less than eight rows. It takes memory for them, and the
+    /// rows stay.
     ///
     /// # Errors
     ///
@@ -170,6 +172,13 @@ impl<K: Marked, V> NotedMap<K, V> {
     }
 }
 
+// Its rows, as those of a `SortedMap`.
+impl<K: Marked + fmt::Debug, V: fmt::Debug> fmt::Debug for NotedMap<K, V> {
+    fn fmt<W: fmt::Write>(&self, f: &mut fmt::Formatter<W>) -> fmt::Result {
+        self.rows.fmt(f)
+    }
+}
+
 // The value of a row, if it has the key.
 #[inline(always)]
 fn value_of<'m, K: Marked, V>(row: &'m (K, V), key: &K) -> Option<&'m V>
@@ -178,6 +187,9 @@ fn value_of<'m, K: Marked, V>(row: &'m (K, V), key: &K) -> Option<&'m V>
 {
     if key.is(&row.0) { Some(&row.1) } else { None }
 }
+
+// How many rows are noted at least: fewer are searched as quickly.
+const FEWEST: usize = 8;
 
 // How many buckets there are for each row, and beside these, so that most keys have one of their own, and most other
 // keys one where nothing is noted.
@@ -194,7 +206,7 @@ fn notes_of<K: Marked, V>(alloc: Global, rows: &[(K, V)]) -> Result<Vec<u16>, Al
     ensures free { rows.now ≡ [] → IsOk result }
 {
     let mut notes = Vec::new(alloc);
-    if rows.is_empty() {
+    if rows.len() < FEWEST {
         return Ok(notes);
     }
     let buckets = rows
