@@ -8,11 +8,11 @@ use std::io::Write;
 const MOST_BLOCKS: usize = 65_536;
 
 // What is handed back at the most, in steps of so many bytes.
-const MOST_BYTES: usize = 131_072;
+const MOST_BYTES: usize = 98_304;
 
 const STEP: usize = 16;
 
-const BUDGETS: usize = 8_192;
+const BUDGETS: usize = 6_144;
 
 // Blocks of one size, until one is refused.
 fn take_blocks(alloc: Global, held: &mut Vec<Vec<u8>>, size: usize) {
