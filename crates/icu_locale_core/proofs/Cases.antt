@@ -8,6 +8,7 @@ use Rattle.std.proofs.lemmas.Str.Ascii.{lowercase-lowercase, uppercase-uppercase
 use Rattle.std.proofs.lemmas.List.{length-map}
 use Rattle.icu_locale_core.specs.Subtag.{has_length, is_alphabetic, is_numeric, is_alphanumeric, starts_with_digit, is_script, is_region, is_variant}
 use Rattle.icu_locale_core.specs.Subtag.{is_key, lowercase, uppercase, titlecase, IsWritten}
+use Rattle.icu_locale_core.specs.laws.Classes.{part_language, part_script, part_region, part_variant, part_key, part_subtag}
 use Rattle.icu_locale_core.specs.inner.Class.{is_member, written_case, written_byte}
 use Rattle.icu_locale_core.specs.declared.classes.Class.{Class}
 use Rattle.icu_locale_core.specs.declared.classes.Class.TheVariants.{Language, Script, Region, Variant, Key, Subtag}
@@ -121,38 +122,14 @@ get_or-written_case Variant t i h = get_or-map to_ascii_lowercase t i h
 get_or-written_case Key t i h = get_or-map to_ascii_lowercase t i h
 get_or-written_case Subtag t i h = get_or-map to_ascii_lowercase t i h
 
--- a test that each character of a class passes holds of each character that another weaker one holds of
-list_all-weaker : (p q : ℕ → Bool) → ((c : ℕ) → p c ≡ true → q c ≡ true) → (t : List ℕ) → list_all p t ≡ true → list_all q t ≡ true
-list_all-weaker p q weaker [] h = refl
-list_all-weaker p q weaker (c ∷ t) h = grind (arith, nat_tests, weaker c, list_all-weaker p q weaker t)
-
-alphanumeric_from_alphabetic : (t : List ℕ) → is_alphabetic t ≡ true → is_alphanumeric t ≡ true
-alphanumeric_from_alphabetic t h = list_all-weaker is_ascii_alphabetic is_ascii_alphanumeric (λ c h. grind (arith, nat_tests)) t h
-
-alphanumeric_from_numeric : (t : List ℕ) → is_numeric t ≡ true → is_alphanumeric t ≡ true
-alphanumeric_from_numeric t h = list_all-weaker is_ascii_digit is_ascii_alphanumeric (λ c h. grind (arith, nat_tests)) t h
-
-region_plain : (a b c d : Bool) (t : List ℕ) → (b ≡ true → is_alphanumeric t ≡ true) → (d ≡ true → is_alphanumeric t ≡ true)
-    → ((a && b) || (c && d)) ≡ true → is_alphanumeric t ≡ true
-region_plain true true c d t f g h = f refl
-region_plain true false c d t f g h = g ((and_parts c d h).1)
-region_plain false b c d t f g h = g ((and_parts c d h).1)
-
-key_plain : (t : List ℕ) → is_key t ≡ true → is_alphanumeric t ≡ true
-key_plain [] h = refl
-key_plain (c ∷ []) h = absurd (cc)
-key_plain (c ∷ d ∷ []) h = grind (arith, nat_tests, alphanumeric_from_alphabetic (d ∷ []))
-key_plain (c ∷ d ∷ e ∷ t) h = absurd (cc)
-
 -- a member of a class is letters and digits
 pub plain_from_member : (class : Class) (t : List ℕ) → is_member class t ≡ true → is_alphanumeric t ≡ true
-plain_from_member Language t h = alphanumeric_from_alphabetic t ((and_parts (has_length 2 3 t) (is_alphabetic t) h).1)
-plain_from_member Script t h = alphanumeric_from_alphabetic t ((and_parts (has_length 4 4 t) (is_alphabetic t) h).1)
-plain_from_member Region t h = region_plain (has_length 2 2 t) (is_alphabetic t) (has_length 3 3 t) (is_numeric t) t
-    (alphanumeric_from_alphabetic t) (alphanumeric_from_numeric t) h
-plain_from_member Variant t h = (and_parts (has_length 5 8 t || (has_length 4 4 t && starts_with_digit t)) (is_alphanumeric t) h).1
-plain_from_member Key t h = key_plain t h
-plain_from_member Subtag t h = (and_parts (has_length 3 8 t) (is_alphanumeric t) h).1
+plain_from_member Language t h = (part_language t h).plain
+plain_from_member Script t h = (part_script t h).plain
+plain_from_member Region t h = (part_region t h).plain
+plain_from_member Variant t h = (part_variant t h).plain
+plain_from_member Key t h = (part_key t h).plain
+plain_from_member Subtag t h = (part_subtag t h).plain
 
 -- so is its written form
 pub written_plain : (class : Class) (t : List ℕ) → is_member class t ≡ true → is_alphanumeric (written_case class t) ≡ true

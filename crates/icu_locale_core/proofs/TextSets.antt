@@ -1,6 +1,6 @@
 -- The rising list of a set, and a set inside another.
 use Rattle.std.proofs.Common.{◌≡◌, ◌↔◌, ℕ, ◌<◌, Bool, true, false, not, ◌&&◌, ◌||◌, List, [], ◌∷◌, map, T, Option, None, Some, IsSome, is_some, refl}
-use Rattle.std.proofs.Common.{ap, sym, ◌∙◌, arith}
+use Rattle.std.proofs.Common.{ap, sym, ◌∙◌, ⊎_elim, arith}
 use Rattle.std.specs.List.{AllByRecursion, Contains, list_all, list_any}
 use Rattle.std.specs.Map.{lookup}
 use Rattle.std.specs.List.Sorted.{IsStrictlySortedBy}
@@ -10,7 +10,7 @@ use Rattle.std.specs.FinMap.Entries.{below_all}
 use Rattle.std.specs.declared.cmp.Ordering.TheVariants.{Less, Equal, Greater}
 use Rattle.std.specs.FinMap as fin
 use Rattle.std.specs.FinMap.{is_sorted}
-use Rattle.std.proofs.lemmas.Bool.{false≢true, and_parts}
+use Rattle.std.proofs.lemmas.Bool.{false≢true, and_parts, or_parts, or_cases}
 use Rattle.std.proofs.lemmas.Cmp.{eq_by_cmp_equiv}
 use Rattle.std.proofs.lemmas.List.{length-map}
 use Rattle.std.proofs.lemmas.Map.Keys.{IsDistinct-cons, IsDistinct-from_sorted}
@@ -83,20 +83,12 @@ members_of_list ts t = (
   λ here. contains-from_list ts t ∙ is_among-Contains t ts here,
 )
 
-both_false : (a b : Bool) → (a || b) ≡ false → (a ≡ false) × (b ≡ false)
-both_false true b e = absurd (false≢true (sym e))
-both_false false b e = (refl, e)
-
 none_tied : (t : List ℕ) (ts : List (List ℕ)) → is_among t ts ≡ false
     → AllByRecursion (λ y. eq_by_cmp text_cmp t y ≡ false) ts
 none_tied t [] lacks = tt
 none_tied t (u ∷ ts) lacks =
-    let apart = both_false (eq_by_cmp text_cmp t u) (is_among t ts) lacks in
+    let apart = or_parts (eq_by_cmp text_cmp t u) (is_among t ts) lacks in
     (apart.0, none_tied t ts apart.1)
-
-either : (a b c : Bool) → (a || b) ≡ true → (a ≡ true → c ≡ true) → (b ≡ true → c ≡ true) → c ≡ true
-either true b c e first second = first refl
-either false b c e first second = second e
 
 is_there : {A : Type 0} (o : Option A) → is_some o ≡ true → IsSome o
 is_there None e = absurd (false≢true e)
@@ -116,7 +108,7 @@ fewer_members s u t within there lacks =
         → IsSome (lookup (eq_by_cmp text_cmp q) (fin.entries u))
     found q here =
         let member : contains u q ≡ true =
-        either (eq_by_cmp text_cmp q t) (is_among q (rising s)) (contains u q) here
-        (λ tied. ap (contains u) (same_from_tied q t tied) ∙ there)
-        (λ among. is_subset-at s u q within (contains-rising s q ∙ among)) in
+        ⊎_elim (λ tied. ap (contains u) (same_from_tied q t tied) ∙ there)
+        (λ among. is_subset-at s u q within (contains-rising s q ∙ among))
+        (or_cases (eq_by_cmp text_cmp q t) (is_among q (rising s)) here) in
         is_there _ (ap is_some (sym (as_find text_cmp (fin.entries u) q) ∙ sym (fin.get-entries u q)) ∙ member)

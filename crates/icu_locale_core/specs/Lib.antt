@@ -4,6 +4,7 @@ pub mod Identifier
 pub mod Keywords
 pub mod Maps
 pub mod Numbers
+pub mod Places
 pub mod Readings
 pub mod Subtag
 pub mod TextSet

@@ -1,9 +1,11 @@
 -- A finite map as the list of its rows, a key and its value each.
-use Rattle.std.specs.Prelude.{◌≡◌, List, Option, if◌then◌else◌}
+use Rattle.std.specs.Prelude.{◌≡◌, ◌↔◌, ◌≢◌, List, Option, Some, if◌then◌else◌}
+use Rattle.std.specs.List.{Contains}
 use Rattle.std.specs.declared.cmp.Ordering.{Ordering}
+use Rattle.std.specs.declared.cmp.Ordering.TheVariants.{Equal}
 use Rattle.std.specs.List.Sorted.{IsStrictlySortedBy}
 use Rattle.std.specs.Map.{keys_of, lookup}
-use Rattle.std.specs.BTreeMap.{is_at}
+use Rattle.std.specs.BTreeMap.{is_at, insert_entry}
 
 -- the keys rise, so no key comes twice
 abbrev pub IsSortedMap : {K V : Type 0} → (K → K → Ordering) → List (K × V) → Type 0
@@ -19,3 +21,23 @@ abbrev pub SetsOnly : {K V : Type 0} → (K → K → Ordering) → (old new : L
 SetsOnly {K} compare old new key answer =
     (other : K) → value_at compare new other
     ≡ (if is_at (compare key) other then answer else value_at compare old other)
+
+-- at each key both find the same: of rows with one key the first counts
+abbrev pub FindsAlike : {K V : Type 0} → (K → K → Ordering) → (rows others : List (K × V)) → Type 0
+FindsAlike {K} compare rows others =
+    (key : K) → value_at compare rows key ≡ value_at compare others key
+
+-- an order ties equal keys alone
+abbrev pub TiesEqualAlone : {K : Type 0} → (K → K → Ordering) → Type 0
+TiesEqualAlone {K} compare = (x y : K) → (compare x y ≡ Equal) ↔ (x ≡ y)
+
+-- new has the value at the key and at each other key what old has, and the row is among its rows
+pub record Holds {K V : Type 0} (compare : K → K → Ordering) (old new : List (K × V)) (key : K)
+    (value : V) : Type 0 where
+  pub rows : new ≡ insert_entry compare old key value
+  pub sets : SetsOnly compare old new key (Some value)
+  pub sorted : IsSortedMap compare new
+  pub found : value_at compare new key ≡ Some value
+  pub others : (other : K) → compare key other ≢ Equal
+      → value_at compare new other ≡ value_at compare old other
+  pub stands : TiesEqualAlone compare → Contains new (key, value)

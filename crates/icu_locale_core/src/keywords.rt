@@ -1,19 +1,19 @@
 //! The keywords of a locale: a map from keys to values.
-ghost use Rattle.std.specs.Prelude.{◌≡◌, ◌↔◌, [], IsTrue, IsSome, IsOk, IfOk, IfErr, OnOk, OnErr, Some, None, option_copied};
+ghost use Rattle.std.specs.Prelude.{◌≡◌, ◌↔◌, ◌++◌, ◌∷◌, [], IsTrue, IsSome, IsOk, IfOk, IfErr, OnOk, OnErr, Some, None, option_copied};
 ghost use Rattle.std.specs.Cmp.{partial_equiv_from_equiv};
 ghost use Rattle.std.specs.Cmp.Lexicographic.{pointwise, lists_equiv};
 ghost use Rattle.std.specs.Fmt.{WritesOnOk};
 ghost use Rattle.std.specs.List.{All};
 ghost use Rattle.icu_locale_core.specs.Keywords.{with_value, without_key, row_eq, KeywordRows, IsKeyword, written_keyword, written_keywords};
-ghost use Rattle.icu_locale_core.specs.Maps.{IsSortedMap, value_at, SetsOnly};
+ghost use Rattle.icu_locale_core.specs.Maps.{IsSortedMap, FindsAlike, SetsOnly, value_at};
 ghost use Rattle.icu_locale_core.specs.laws.Maps.{rows_equiv};
 ghost use Rattle.icu_locale_core.specs.TextSet.{text_cmp};
 
 use crate::langid::write_after_dash;
+use crate::sorted_rows::{Rows, SortedRows};
 use crate::value::write_pieces;
 use crate::{Key, ParseError, Value};
 use std::alloc::Global;
-use std::collections::{BTreeMap, btree_map};
 use std::fmt;
 use std::marker::Model;
 
@@ -23,14 +23,15 @@ use std::marker::Model;
 /// memory.
 #[derive(Drop)]
 pub struct Keywords {
-    map: BTreeMap<Key, Value>,
-    alloc: Global,
+    map: SortedRows<Key, Value>,
 }
 
 impl Model for Keywords {
     ghost Value = { KeywordRows };
 
-    ghost view = { λ a. a.map.entries };
+    ghost view = { λ a. a.map };
+
+    ghost invariant = { λ a. All IsKeyword a.map };
 }
 
 impl Keywords {
@@ -39,8 +40,7 @@ impl Keywords {
         ensures { result ≡ [] }
     {
         Keywords {
-            map: BTreeMap::new(alloc),
-            alloc,
+            map: SortedRows::new(alloc),
         }
     }
 
@@ -55,19 +55,14 @@ impl Keywords {
     pub fn known(&self)
         ensures { IsSortedMap text_cmp self.now }
     {
-        let _ = self.map.len();
+        let _ = self.map.as_slice();
     }
 
     /// Nothing, but that each row has a key and a value.
     pub fn known_rows(&self)
         ensures { All IsKeyword self.now }
     {
-        if self.map.is_empty() {
-            return;
-        }
-        for (key, value) in self.map.iter() {
-            know_keyword(key, value);
-        }
+        let _ = &self.map;
     }
 
     /// The value at a key, if any.
@@ -90,7 +85,24 @@ impl Keywords {
         ensures unchanged { OnErr result (self.new ≡ self.old) }
         ensures present { IsSome (value_at text_cmp self.old key) → IsOk result }
     {
+        know_keyword(&key, &value);
         Ok(self.map.insert(key, value)?)
+    }
+
+    /// Puts a value at a key, where there is none yet. At a key that is there it takes no memory.
+    ///
+    /// # Errors
+    ///
+    /// `Memory` where the map could not grow. It is unchanged then, and the value is dropped.
+    pub fn add(&mut self, key: Key, value: Value) -> Result<(), ParseError>
+        ensures added { OnOk result
+            (FindsAlike text_cmp self.new (self.old ++ (key, value) ∷ [])) }
+        ensures refused { IfErr result (λ e. e ≡ ParseError.Memory) }
+        ensures unchanged { OnErr result (self.new ≡ self.old) }
+        ensures present { IsSome (value_at text_cmp self.old key) → IsOk result }
+    {
+        know_keyword(&key, &value);
+        Ok(self.map.add(key, value)?)
     }
 
     /// Takes a key out, and gives the value that was there, if any.
@@ -103,7 +115,7 @@ impl Keywords {
     }
 
     /// The keywords in rising order of their keys.
-    pub fn iter(&self) -> btree_map::Iter<'_, Key, Value>
+    pub fn iter(&self) -> Rows<'_, Key, Value>
         ensures { result ≡ self.now }
     {
         self.map.iter()
@@ -119,12 +131,8 @@ impl Keywords {
         ensures refused { IfErr result (λ e. e ≡ ParseError.Memory) }
         ensures free { self.now ≡ [] → IsOk result }
     {
-        if self.map.is_empty() {
-            return Ok(Keywords::new(self.alloc));
-        }
         Ok(Keywords {
-            map: self.map.clone()?,
-            alloc: self.alloc,
+            map: self.map.try_clone()?,
         })
     }
 }
@@ -143,7 +151,7 @@ impl PartialEq for Keywords {
     ghost laws = { partial_equiv_from_equiv (lists_equiv rows_equiv) };
 
     fn eq(&self, other: &Self) -> bool {
-        self.map == other.map
+        self.map.as_slice() == other.map.as_slice()
     }
 }
 

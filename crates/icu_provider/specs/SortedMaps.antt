@@ -1,26 +1,20 @@
 -- Maps whose keys rise, as the lists of their rows, the orders of keys, what a look-up answers and what an insert does.
-use Rattle.std.specs.Prelude.{◌≡◌, ◌↔◌, ℕ, List, Some, Option, String, Vec, Bool, is_some, ◌≢◌, [], ◌∷◌, ◌++◌, Result, IsOk, IfErr, IsSome, OnOk, OnErr}
-use Rattle.std.specs.List.{All, Contains}
+use Rattle.std.specs.Prelude.{◌≡◌, ℕ, List, Some, Option, String, Vec, Bool, is_some, [], ◌∷◌, ◌++◌, Result, IsOk, IfErr, IsSome, OnOk, OnErr}
+use Rattle.std.specs.List.{All}
 use Rattle.std.specs.declared.cmp.Ordering.{Ordering}
-use Rattle.std.specs.declared.cmp.Ordering.TheVariants.{Equal}
 use Rattle.std.specs.Ordering.{ordering_then}
 use Rattle.std.specs.Option.{option_map}
 use Rattle.std.specs.Global.{Global}
 use Rattle.std.specs.String.{string_bytes}
-use Rattle.std.specs.BTreeMap.{insert_entry}
 use Rattle.icu_locale_core.specs.TextSet.{text_cmp}
-use Rattle.icu_locale_core.specs.Maps.{value_at, SetsOnly}
+use Rattle.icu_locale_core.specs.Maps.{value_at}
 use Rattle.icu_provider.specs.declared.error.DataError.{DataError}
 use Rattle.icu_provider.specs.declared.error.DataErrorKind.TheVariants.{Memory}
-pub use Rattle.icu_locale_core.specs.Maps.{IsSortedMap}
+pub use Rattle.icu_locale_core.specs.Maps.{IsSortedMap, TiesEqualAlone, Holds}
 
 -- pairs of texts in the order of the first and then of the second
 abbrev pub pair_cmp : (List ℕ × List ℕ) → (List ℕ × List ℕ) → Ordering
 pair_cmp a b = ordering_then (text_cmp a.0 b.0) (text_cmp a.1 b.1)
-
--- an order ties equal keys alone
-abbrev pub TiesEqualAlone : {K : Type 0} → (K → K → Ordering) → Type 0
-TiesEqualAlone {K} compare = (x y : K) → (compare x y ≡ Equal) ↔ (x ≡ y)
 
 -- each row is found at its own key
 abbrev pub IsFoundEach : {K V : Type 0} → (K → K → Ordering) → List (K × V) → Type 0
@@ -43,17 +37,6 @@ pub record RefusesMemory {Rows : Type 0} (old new : Rows) (result : Result (Unit
     : Type 0 where
   pub memory : IfErr result (λ e. e.kind ≡ Memory)
   pub unchanged : OnErr result (new ≡ old)
-
--- new has the value at the key and at each other key what old has, and the row is among its rows
-pub record Holds {K V : Type 0} (compare : K → K → Ordering) (old new : List (K × V)) (key : K)
-    (value : V) : Type 0 where
-  pub rows : new ≡ insert_entry compare old key value
-  pub sets : SetsOnly compare old new key (Some value)
-  pub sorted : IsSortedMap compare new
-  pub found : value_at compare new key ≡ Some value
-  pub others : (other : K) → compare key other ≢ Equal
-      → value_at compare new other ≡ value_at compare old other
-  pub stands : TiesEqualAlone compare → Contains new (key, value)
 
 -- the value is put at the key, and memory is asked for only where the key is new
 pub record Inserts {K V : Type 0} (compare : K → K → Ordering) (old new : List (K × V)) (key : K)

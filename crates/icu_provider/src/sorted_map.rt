@@ -1,15 +1,13 @@
 //! A map in a sorted list: look-ups by binary search, and walks in the keys' order.
-ghost use Rattle.std.specs.Prelude.{◌≡◌, ◌==◌, ◌<◌, ◌≤◌, ◌^◌, [], length, Some, MatchResult, is_some, option_copied, List, ⊤};
+ghost use Rattle.std.specs.Prelude.{◌≡◌, ◌==◌, ◌<◌, ◌≤◌, ◌^◌, [], length, Some, MatchResult, is_some, option_copied, List};
 ghost use Rattle.std.specs.Option.{option_copied_mut};
-ghost use Rattle.std.specs.Iterator.{YieldsFirstBy, item_count};
-ghost use Rattle.std.specs.Map.Iter.{deref_pair};
 ghost use Rattle.icu_locale_core.specs.Maps.{value_at};
 ghost use Rattle.icu_provider.specs.SortedMaps.{Inserts, IsFoundEach, IsSortedMap};
 ghost use Rattle.icu_provider.specs.Places.{IsAt, IsGapFor, IsNearest};
 
 use crate::DataError;
-use icu_locale_core::Numbered;
-use std::alloc::{AllocError, Global};
+use icu_locale_core::{Numbered, Rows};
+use std::alloc::Global;
 use std::cmp::{Ord, Ordering};
 use std::marker::Model;
 
@@ -126,9 +124,7 @@ impl<K: Ord, V> SortedMap<K, V> {
         ensures sorted { IsSortedMap K.cmp self.now }
         ensures found { IsFoundEach K.cmp self.now }
     {
-        Rows {
-            rows: &self.entries,
-        }
+        Rows::new(&self.entries)
     }
 
     // Where the key is, or where it would go.
@@ -185,49 +181,4 @@ fn not_above(number: u64, other: u64) -> usize
     ensures above { other < number → result ≡ 0 }
 {
     ((other + (1 << 63) - number) >> 63) as usize
-}
-
-/// The rows of a sorted map that a walk has not come to yet, in the keys' order. It takes no memory.
-#[derive(Debug, Drop)]
-pub struct Rows<'a, K, V> {
-    rows: &'a [(K, V)],
-}
-
-impl<'a, K, V> Model for Rows<'a, K, V> {
-    ghost Value = { List (K × V) };
-
-    ghost view = { λ r. r.rows.now };
-}
-
-impl<'a, K, V> Rows<'a, K, V> {
-    /// The rows that are left.
-    pub fn as_slice(&self) -> &'a [(K, V)]
-        ensures { result.now ≡ self.now }
-    {
-        self.rows
-    }
-}
-
-impl<'a, K, V> Clone for Rows<'a, K, V> {
-    ghost is_clone = { λ s r. r ≡ s };
-
-    ghost is_infallible = { λ _. ⊤ };
-
-    fn clone(&self) -> Result<Rows<'a, K, V>, AllocError> {
-        Ok(Rows { rows: self.rows })
-    }
-}
-
-impl<'a, K, V> Iterator for Rows<'a, K, V> {
-    type Item = (&'a K, &'a V);
-
-    ghost next_gives = { YieldsFirstBy deref_pair (λ s. s) };
-
-    ghost remaining = { item_count (λ s. s) };
-
-    fn next(&mut self) -> Option<(&'a K, &'a V)> {
-        let (first, others) = self.rows.split_first()?;
-        *self = Rows { rows: others };
-        Some((&first.0, &first.1))
-    }
 }
