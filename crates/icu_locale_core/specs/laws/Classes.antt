@@ -81,8 +81,14 @@ part_subtag p h =
 
 -- ---- the subtags of an identifier
 
+-- variants in rising order
+pub rising_variants : (x : LanguageIdentifier) → IsIdentifier x → All IsVariant (rising x.variants)
+rising_variants x is = All-weaker (Contains (rising x.variants)) IsVariant
+    (λ v here. is.variants v (contains-rising x.variants v ∙ is_among-Contains v (rising x.variants) here))
+    (rising x.variants) (All-contains_itself (rising x.variants))
+
 module _ (P : List ℕ → Type 0) (language : (p : List ℕ) → IsLanguage p → P p) (script : (p : List ℕ) → IsScript p → P p)
-    (region : (p : List ℕ) → IsRegion p → P p) (variant : (p : List ℕ) → IsVariant p → P p) (x : LanguageIdentifier) (is : IsIdentifier x) where
+    (region : (p : List ℕ) → IsRegion p → P p) (variant : (p : List ℕ) → IsVariant p → P p) where
   of_script : (o : Option (List ℕ)) → IfSome o IsScript → All P (option_to_list o)
   of_script None known = All-nil P
   of_script (Some t) known = All-cons P t [] (script t known) (All-nil P)
@@ -91,18 +97,14 @@ module _ (P : List ℕ → Type 0) (language : (p : List ℕ) → IsLanguage p �
   of_region None known = All-nil P
   of_region (Some t) known = All-cons P t [] (region t known) (All-nil P)
 
-  of_variants : All P (rising x.variants)
-  of_variants = All-weaker (Contains (rising x.variants)) P (λ v here. variant v
-      (is.variants v (contains-rising x.variants v ∙ is_among-Contains v (rising x.variants) here))) (rising x.variants)
-      (All-contains_itself (rising x.variants))
-
-  -- what holds of each class holds of each subtag
-  pub each_subtag : All P (subtags x (rising x.variants))
-  each_subtag =
+  -- what holds of each class holds of each subtag, whatever the order of the variants
+  pub each_subtag : (x : LanguageIdentifier) → IsIdentifier x → (order : List (List ℕ)) → All IsVariant order → All P (subtags x order)
+  each_subtag x is order each =
       All-cons P x.language _ (language x.language is.language)
       (All-append P (option_to_list x.script) _ (of_script x.script is.script)
-      (All-append P (option_to_list x.region) (rising x.variants) (of_region x.region is.region) of_variants))
+      (All-append P (option_to_list x.region) order (of_region x.region is.region) (All-weaker IsVariant P variant order each)))
 
-pub subtag_parts : (x : LanguageIdentifier) → IsIdentifier x → All (IsPart 2) (subtags x (rising x.variants))
-subtag_parts x is = each_subtag (IsPart 2) (λ p h. part_language p h.member) (λ p h. IsPart-less 2 4 (omega arith) p (part_script p h.member))
-    (λ p h. part_region p h.member) (λ p h. IsPart-less 2 4 (omega arith) p (part_variant p h.member)) x is
+-- each has two letters or digits at least
+pub subtag_parts : (x : LanguageIdentifier) → IsIdentifier x → (order : List (List ℕ)) → All IsVariant order → All (IsPart 2) (subtags x order)
+subtag_parts = each_subtag (IsPart 2) (λ p h. part_language p h.member) (λ p h. IsPart-less 2 4 (omega arith) p (part_script p h.member))
+    (λ p h. part_region p h.member) (λ p h. IsPart-less 2 4 (omega arith) p (part_variant p h.member))
