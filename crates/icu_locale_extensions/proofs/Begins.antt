@@ -17,7 +17,7 @@ use Rattle.icu_locale_core.specs.declared.langid.LanguageIdentifier.{LanguageIde
 use Rattle.icu_locale_extensions.specs.Cuts.{front}
 use Rattle.icu_locale_extensions.specs.Extensions.{is_singleton}
 use Rattle.icu_locale_extensions.specs.Reads.{SpellIdentifier}
-use Rattle.icu_locale_extensions.proofs.Lengths.{part_script, part_variant}
+use Rattle.icu_locale_core.specs.laws.Classes.{part_script, part_variant}
 
 -- what is not true is false
 pub not_true : (b : Bool) → not b ≡ true → b ≡ false
@@ -129,7 +129,7 @@ region_begins (a ∷ b ∷ c ∷ d ∷ q) is = grind (arith, nat_tests)
 variants_begin : (vs : List (List ℕ)) → All IsVariant vs → no_region vs ≡ true
 variants_begin [] each = refl
 variants_begin (v ∷ vs) each =
-    let long = long_piece v (part_variant v (All-head IsVariant v vs each)).long in
+    let long = long_piece v (part_variant v (All-head IsVariant v vs each).member).long in
     λ i. not (long.1.0 i) && not (long.1.1 i)
 
 or_true : (a : Bool) → (a || true) ≡ true
@@ -143,7 +143,7 @@ module _ (l : List ℕ) (language : IsLanguage l) (vs : List (List ℕ)) (each :
       without : (vs : List (List ℕ)) → All IsVariant vs → may_begin (l ∷ vs) ≡ true
       without [] each = language.member
       without (v ∷ vs) each =
-          let long = long_piece v (part_variant v (All-head IsVariant v vs each)).long in
+          let long = long_piece v (part_variant v (All-head IsVariant v vs each).member).long in
           λ i. language.member i && (not (long.0 i) && (not (long.1.0 i) || no_region vs))
   no_region_before (Some r) fits =
       (λ i. language.member i && (not (region_begins r fits i) && (not (length r == 2) || variants_begin vs each i))) ∙ or_true (not (length r == 2))
@@ -151,7 +151,7 @@ module _ (l : List ℕ) (language : IsLanguage l) (vs : List (List ℕ)) (each :
   pub subtags_begin : (s r : Option (List ℕ)) → IfSome s IsScript → IfSome r IsRegion → may_begin (l ∷ (option_to_list s ++ (option_to_list r ++ vs))) ≡ true
   subtags_begin None r known fits = no_region_before r fits
   subtags_begin (Some s) r known fits =
-      let long = long_piece s (part_script s known).long in
+      let long = long_piece s (part_script s known.member).long in
       λ i. language.member i && (not (long.0 i) && (not (long.1.0 i) || no_region (option_to_list r ++ vs)))
 
 -- ---- what spells an identifier

@@ -1,85 +1,26 @@
 -- How long the pieces of each class are, that they are letters and digits, and which of them are keys.
-use Rattle.std.proofs.Common.{◌≡◌, ◌≤◌, ℕ, Bool, true, false, ◌&&◌, ◌||◌, List, [], ◌∷◌, length, map, Option, None, Some, IfSome, refl, ◌∙◌, arith}
-use Rattle.std.specs.List.{All, Contains}
-use Rattle.std.specs.Option.{option_to_list}
+use Rattle.std.proofs.Common.{◌≡◌, ℕ, true, false, ◌&&◌, List, [], ◌∷◌, map, Option, None, Some, IfSome, refl, ◌∙◌, ⊎_elim, arith}
+use Rattle.std.specs.List.{All}
 use Rattle.std.specs.Char.{is_ascii_alphabetic, is_ascii_digit, is_ascii_alphanumeric, to_ascii_lowercase}
-use Rattle.std.proofs.lemmas.Bool.{and_parts, false≢true}
+use Rattle.std.proofs.lemmas.Bool.{and_parts, or_cases, false≢true}
 use Rattle.std.proofs.lemmas.Bool.Decides.{nat_tests}
 use Rattle.std.proofs.lemmas.List.{length-map}
-use Rattle.std.proofs.lemmas.List.Elements.{All-nil, All-cons, All-head, All-tail, All-append, All-weaker, All-contains_itself}
+use Rattle.std.proofs.lemmas.List.Elements.{All-nil, All-cons, All-head, All-tail}
 use Rattle.icu_locale_core.specs.Identifier.{IsIdentifier, subtags}
-use Rattle.icu_locale_core.specs.Subtag.{has_length, is_alphabetic, is_numeric, is_alphanumeric, is_key, is_variant, lowercase, IsLanguage, IsScript}
-use Rattle.icu_locale_core.specs.Subtag.{IsRegion, IsVariant, IsKey, IsSubtag}
+use Rattle.icu_locale_core.specs.Subtag.{has_length, is_alphabetic, is_numeric, is_alphanumeric, is_key, lowercase, IsLanguage, IsScript}
+use Rattle.icu_locale_core.specs.Subtag.{IsRegion, IsVariant}
 use Rattle.icu_locale_core.specs.TextSet.{rising}
 use Rattle.icu_locale_core.specs.declared.langid.LanguageIdentifier.{LanguageIdentifier}
-use Rattle.icu_locale_core.specs.laws.TextSets.{contains-rising, is_among-Contains}
+use Rattle.icu_locale_core.specs.laws.Classes.{IsPart, IsPart-less, part_between, part_variant, plain_digits, each_subtag, rising_variants, subtag_parts}
 use Rattle.icu_locale_extensions.specs.Extensions.{is_singleton, is_tkey, IsPiece, IsTkey}
 use Rattle.icu_locale_extensions.specs.Locales.{lower_subtags}
-use Rattle.icu_locale_extensions.proofs.Lowered.{plain_language, plain_script, plain_region, plain_variant}
 use Rattle.icu_locale_extensions.proofs.Spellings.{alphanumeric-lowercase}
 use Rattle.icu_locale_extensions.proofs.Unmarked.{Unmarked}
-
--- low or more letters and digits
-pub record IsPart (low : ℕ) (p : List ℕ) : Type 0 where
-  pub long : low ≤ length p
-  pub plain : is_alphanumeric p ≡ true
-
-pub IsPart-less : (low high : ℕ) → low ≤ high → (p : List ℕ) → IsPart high p → IsPart low p
-IsPart-less low high less p is = record { long = omega (arith, is.long, less); plain = is.plain }
-
-pub has_length-long : (low high : ℕ) (p : List ℕ) → has_length low high p ≡ true → low ≤ length p
-has_length-long low high p h = grind (arith, nat_tests)
-
--- ---- classes
 
 pub part_piece : (low : ℕ) (p : List ℕ) → IsPiece low p → IsPart low p
 part_piece low p is =
     let both = and_parts (has_length low 8 p) (is_alphanumeric p) is.member in
-    record { long = has_length-long low 8 p both.0; plain = both.1 }
-
-pub part_subtag : (p : List ℕ) → IsSubtag p → IsPart 3 p
-part_subtag p is =
-    let both = and_parts (has_length 3 8 p) (is_alphanumeric p) is.member in
-    record { long = has_length-long 3 8 p both.0; plain = both.1 }
-
-pub part_language : (p : List ℕ) → IsLanguage p → IsPart 2 p
-part_language p is = record {
-  long = has_length-long 2 3 p (and_parts (has_length 2 3 p) (is_alphabetic p) is.member).0;
-  plain = plain_language p is;
-}
-
-pub part_script : (p : List ℕ) → IsScript p → IsPart 4 p
-part_script p is = record {
-  long = has_length-long 4 4 p (and_parts (has_length 4 4 p) (is_alphabetic p) is.member).0;
-  plain = plain_script p is;
-}
-
-either : (a b : Bool) {P : Type 0} → (a || b) ≡ true → (a ≡ true → P) → (b ≡ true → P) → P
-either true b e first second = first refl
-either false b e first second = second e
-
-pub part_region : (p : List ℕ) → IsRegion p → IsPart 2 p
-part_region p is = record {
-  long = either (has_length 2 2 p && is_alphabetic p) (has_length 3 3 p && is_numeric p) is.member
-      (λ e. has_length-long 2 2 p (and_parts (has_length 2 2 p) (is_alphabetic p) e).0)
-      (λ e. let three = has_length-long 3 3 p (and_parts (has_length 3 3 p) (is_numeric p) e).0 in omega (arith, three));
-  plain = plain_region p is;
-}
-
-variant_long : (p : List ℕ) → is_variant p ≡ true → 4 ≤ length p
-variant_long p is = grind (arith, nat_tests)
-
-pub part_variant : (p : List ℕ) → IsVariant p → IsPart 4 p
-part_variant p is = record { long = variant_long p is.member; plain = plain_variant p is }
-
-pub part_key : (p : List ℕ) → IsKey p → IsPart 2 p
-part_key [] is = absurd (false≢true is.member)
-part_key (c ∷ []) is = absurd (false≢true is.member)
-part_key (c ∷ d ∷ []) is =
-    let both = and_parts (is_ascii_alphanumeric c) (is_ascii_alphabetic d) is.member in
-    let second : is_ascii_alphanumeric d ≡ true = grind (arith, nat_tests, both.1) in
-    record { long = omega arith; plain = λ i. both.0 i && (second i && true) }
-part_key (c ∷ d ∷ e ∷ t) is = absurd (false≢true is.member)
+    part_between low 8 p both.0 both.1
 
 pub part_tkey : (p : List ℕ) → IsTkey p → IsPart 2 p
 part_tkey [] is = absurd (false≢true is.member)
@@ -136,44 +77,19 @@ script_no_tkey : (p : List ℕ) → IsScript p → is_tkey p ≡ false
 script_no_tkey p is = letters_no_tkey p (and_parts (has_length 4 4 p) (is_alphabetic p) is.member).1
 
 region_no_tkey : (p : List ℕ) → IsRegion p → is_tkey p ≡ false
-region_no_tkey p is =
-    either (has_length 2 2 p && is_alphabetic p) (has_length 3 3 p && is_numeric p) is.member
-    (λ e. letters_no_tkey p (and_parts (has_length 2 2 p) (is_alphabetic p) e).1)
-    (λ e. long_no_tkey p (record { long = has_length-long 3 3 p (and_parts (has_length 3 3 p) (is_numeric p) e).0; plain = plain_region p is }))
+region_no_tkey p is = ⊎_elim
+    (λ two. letters_no_tkey p (and_parts (has_length 2 2 p) (is_alphabetic p) two).1)
+    (λ three. let both = and_parts (has_length 3 3 p) (is_numeric p) three in long_no_tkey p (part_between 3 3 p both.0 (plain_digits p both.1)))
+    (or_cases (has_length 2 2 p && is_alphabetic p) (has_length 3 3 p && is_numeric p) is.member)
 
 variant_no_tkey : (p : List ℕ) → IsVariant p → is_tkey p ≡ false
-variant_no_tkey p is = long_no_tkey p (IsPart-less 3 4 (omega arith) p (part_variant p is))
+variant_no_tkey p is = long_no_tkey p (IsPart-less 3 4 (omega arith) p (part_variant p is.member))
 
 -- ---- the subtags of an identifier
 
-module _ (P : List ℕ → Type 0) (language : (p : List ℕ) → IsLanguage p → P p) (script : (p : List ℕ) → IsScript p → P p)
-    (region : (p : List ℕ) → IsRegion p → P p) (variant : (p : List ℕ) → IsVariant p → P p) (x : LanguageIdentifier) (is : IsIdentifier x) where
-  of_script : (o : Option (List ℕ)) → IfSome o IsScript → All P (option_to_list o)
-  of_script None known = All-nil P
-  of_script (Some t) known = All-cons P t [] (script t known) (All-nil P)
-
-  of_region : (o : Option (List ℕ)) → IfSome o IsRegion → All P (option_to_list o)
-  of_region None known = All-nil P
-  of_region (Some t) known = All-cons P t [] (region t known) (All-nil P)
-
-  of_variants : All P (rising x.variants)
-  of_variants = All-weaker (Contains (rising x.variants)) P (λ v here. variant v
-      (is.variants v (contains-rising x.variants v ∙ is_among-Contains v (rising x.variants) here))) (rising x.variants)
-      (All-contains_itself (rising x.variants))
-
-  -- what holds of each class holds of each subtag
-  pub each_subtag : All P (subtags x (rising x.variants))
-  each_subtag =
-      All-cons P x.language _ (language x.language is.language)
-      (All-append P (option_to_list x.script) _ (of_script x.script is.script)
-      (All-append P (option_to_list x.region) (rising x.variants) (of_region x.region is.region) of_variants))
-
-pub subtag_parts : (x : LanguageIdentifier) → IsIdentifier x → All (IsPart 2) (subtags x (rising x.variants))
-subtag_parts x is = each_subtag (IsPart 2) part_language (λ p h. IsPart-less 2 4 (omega arith) p (part_script p h)) part_region
-    (λ p h. IsPart-less 2 4 (omega arith) p (part_variant p h)) x is
-
 pub subtags_no_tkey : (x : LanguageIdentifier) → IsIdentifier x → Unmarked is_tkey (subtags x (rising x.variants))
 subtags_no_tkey x is = each_subtag (λ p. is_tkey p ≡ false) language_no_tkey script_no_tkey region_no_tkey variant_no_tkey x is
+    (rising x.variants) (rising_variants x is)
 
 All-lowercase : (P : List ℕ → Type 0) → ((p : List ℕ) → P p → P (lowercase p)) → (ps : List (List ℕ)) → All P ps → All P (map lowercase ps)
 All-lowercase P kept [] all = All-nil P
@@ -181,7 +97,7 @@ All-lowercase P kept (p ∷ ps) all = All-cons P (lowercase p) (map lowercase ps
 
 pub lower_parts : (lang : Option LanguageIdentifier) → IfSome lang IsIdentifier → All (IsPart 2) (lower_subtags lang)
 lower_parts None is = All-nil (IsPart 2)
-lower_parts (Some l) is = All-lowercase (IsPart 2) (part_lowercase 2) (subtags l (rising l.variants)) (subtag_parts l is)
+lower_parts (Some l) is = All-lowercase (IsPart 2) (part_lowercase 2) (subtags l (rising l.variants)) (subtag_parts l is (rising l.variants) (rising_variants l is))
 
 pub lower_no_tkey : (lang : Option LanguageIdentifier) → IfSome lang IsIdentifier → Unmarked is_tkey (lower_subtags lang)
 lower_no_tkey None is = All-nil (λ p. is_tkey p ≡ false)

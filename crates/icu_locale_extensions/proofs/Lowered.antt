@@ -1,11 +1,11 @@
 -- Texts of letters and digits in lower case, and whether there is a piece.
-use Rattle.std.proofs.Common.{◌≡◌, ◌<◌, ℕ, zero, suc, Bool, true, false, not, ◌&&◌, ◌||◌, List, [], ◌∷◌, ◌++◌, get_or, length, Option, None, Some}
+use Rattle.std.proofs.Common.{◌≡◌, ◌<◌, ℕ, zero, suc, Bool, true, false, not, ◌||◌, List, [], ◌∷◌, ◌++◌, get_or, length, Option, None, Some}
 use Rattle.std.proofs.Common.{IsTrue, ◌↔◌, refl, ap, sym, arith}
 use Rattle.std.specs.Char.{is_ascii_alphanumeric}
 use Rattle.std.specs.Option.{is_some}
 use Rattle.std.proofs.lemmas.Bool.{and_parts, false≢true}
 use Rattle.std.proofs.lemmas.Bool.Decides.{nat_tests}
-use Rattle.icu_locale_core.specs.Subtag.{has_length, is_alphabetic, is_numeric, is_alphanumeric, IsLanguage, IsScript, IsRegion, IsVariant}
+use Rattle.icu_locale_core.specs.Subtag.{is_alphanumeric}
 use Rattle.icu_locale_core.specs.declared.langid.LanguageIdentifier.{LanguageIdentifier}
 use Rattle.icu_locale_extensions.specs.Cuts.{Block}
 use Rattle.icu_locale_extensions.specs.Extensions.{any_piece}
@@ -18,33 +18,6 @@ pub small_at : (t : List ℕ) (i : ℕ) → is_alphanumeric t ≡ true → i < l
 small_at [] i is within = absurd (omega arith)
 small_at (c ∷ t) zero is within = grind (arith, nat_tests)
 small_at (c ∷ t) (suc i) is within = small_at t i (and_parts (is_ascii_alphanumeric c) (is_alphanumeric t) is).1 (omega arith)
-
-pub plain_letters : (t : List ℕ) → is_alphabetic t ≡ true → is_alphanumeric t ≡ true
-plain_letters [] is = refl
-plain_letters (c ∷ t) is = grind (arith, nat_tests, plain_letters t)
-
-pub plain_digits : (t : List ℕ) → is_numeric t ≡ true → is_alphanumeric t ≡ true
-plain_digits [] is = refl
-plain_digits (c ∷ t) is = grind (arith, nat_tests, plain_digits t)
-
-pub plain_language : (t : List ℕ) → IsLanguage t → is_alphanumeric t ≡ true
-plain_language t is = plain_letters t (and_parts (has_length 2 3 t) (is_alphabetic t) is.member).1
-
-pub plain_script : (t : List ℕ) → IsScript t → is_alphanumeric t ≡ true
-plain_script t is = plain_letters t (and_parts (has_length 4 4 t) (is_alphabetic t) is.member).1
-
-either : (a b : Bool) {P : Type 0} → (a || b) ≡ true → (a ≡ true → P) → (b ≡ true → P) → P
-either true b e first second = first refl
-either false b e first second = second e
-
-pub plain_region : (t : List ℕ) → IsRegion t → is_alphanumeric t ≡ true
-plain_region t is =
-    either (has_length 2 2 t && is_alphabetic t) (has_length 3 3 t && is_numeric t) is.member
-    (λ e. plain_letters t (and_parts (has_length 2 2 t) (is_alphabetic t) e).1)
-    (λ e. plain_digits t (and_parts (has_length 3 3 t) (is_numeric t) e).1)
-
-pub plain_variant : (t : List ℕ) → IsVariant t → is_alphanumeric t ≡ true
-plain_variant t is = (and_parts _ (is_alphanumeric t) is.member).1
 
 -- ---- whether there is a piece
 

@@ -5,7 +5,7 @@ use Rattle.icu_locale_core.specs.Identifier.{subtags}
 use Rattle.icu_locale_core.specs.TextSet.{rising}
 use Rattle.icu_locale_core.specs.declared.langid.LanguageIdentifier.{LanguageIdentifier}
 use Rattle.icu_locale_extensions.specs.Extensions.{any_piece}
-use Rattle.icu_locale_extensions.specs.Locales.{marked, marked_if_any, extension_pieces, written, transform_pieces, unicode_pieces}
+use Rattle.icu_locale_extensions.specs.Locales.{lower_subtags, marked, marked_if_any, extension_pieces, written, transform_pieces, unicode_pieces}
 use Rattle.icu_locale_extensions.specs.Rows.{flat, dashed, below_t, above_t}
 use Rattle.icu_locale_extensions.specs.declared.identifier.LocaleIdentifier.{LocaleIdentifier}
 use Rattle.icu_locale_extensions.proofs.Dashes.{dashed-append, dashed-keywords}
@@ -23,6 +23,12 @@ dashed_unicode x some =
     ap (λ t. codes "-u" ++ (dashed x.attributes ++ t)) (dashed-keywords x.locale.extensions.unicode.keywords)
     ∙ ap (λ t. codes "-u" ++ t) (sym (dashed-append x.attributes (flat x.locale.extensions.unicode.keywords)))
     ∙ sym (dashed_marked (codes "u") (unicode_pieces x) some)
+
+pub dashed_transform : (x : LocaleIdentifier) → any_piece (transform_pieces x) ≡ true
+    → codes "-t" ++ (dashed (lower_subtags x.locale.extensions.transform.lang) ++ dashed (flat x.fields)) ≡ dashed (marked (codes "t") (transform_pieces x))
+dashed_transform x some =
+    ap (λ t. codes "-t" ++ t) (sym (dashed-append (lower_subtags x.locale.extensions.transform.lang) (flat x.fields)))
+    ∙ sym (dashed_marked (codes "t") (transform_pieces x) some)
 
 -- the extensions, one by one
 pub dashed_extensions : (x : LocaleIdentifier)

@@ -4,7 +4,6 @@ use Rattle.std.specs.Prelude.{codes, Option, Some, None, IfSome, if◌then◌els
 use Rattle.std.proofs.Common.{refl, ap, sym, ◌∙◌, arith}
 use Rattle.std.specs.Char.{is_ascii_alphanumeric}
 use Rattle.std.specs.List.{All, before_first, after_first, list_all, list_any, onto_first, position_or_len}
-use Rattle.std.specs.Option.{option_to_list}
 use Rattle.std.proofs.lemmas.Bool.{and_parts, false_from_ne_true, false≢true}
 use Rattle.std.proofs.lemmas.Bool.Decides.{nat_tests}
 use Rattle.std.proofs.lemmas.List.{drop_all, take_all}
@@ -12,7 +11,7 @@ use Rattle.std.proofs.lemmas.List.Elements.{All-head, All-tail}
 use Rattle.std.proofs.lemmas.List.Sums.{position_or_len_is}
 use Rattle.std.proofs.lemmas.Slice.Eq.{bytes_eq-Decides}
 use Rattle.icu_locale_core.specs.Identifier.{is_separator, pieces, subtags, IsIdentifier}
-use Rattle.icu_locale_core.specs.Subtag.{has_length, is_alphanumeric, is_key, is_subtag, lowercase, IsRegion, IsScript}
+use Rattle.icu_locale_core.specs.Subtag.{has_length, is_alphanumeric, is_key, is_subtag, lowercase}
 use Rattle.icu_locale_core.specs.laws.Identifiers.{same_text}
 use Rattle.icu_locale_core.specs.declared.langid.LanguageIdentifier.{LanguageIdentifier}
 use Rattle.icu_locale_extensions.specs.Blocks.{are_once, body}
@@ -25,7 +24,7 @@ use Rattle.icu_locale_extensions.specs.Syntaxes.{ends_base, marks_modifier}
 use Rattle.icu_locale_extensions.specs.declared.identifier.LocaleIdentifier.{LocaleIdentifier}
 use Rattle.icu_locale_extensions.proofs.Begins.{not_true, variants_of}
 use Rattle.icu_locale_extensions.proofs.Cutting.{front-from}
-use Rattle.icu_locale_extensions.proofs.Lengths.{part_language, part_region, part_script, part_variant}
+use Rattle.icu_locale_core.specs.laws.Classes.{part_language, part_region, part_script, part_variant, each_subtag}
 use Rattle.icu_locale_extensions.proofs.ReadParts.{marks-blocks}
 use Rattle.icu_locale_extensions.proofs.Spellings.{alphanumeric-lowercase, plain_piece}
 use Rattle.icu_locale_extensions.proofs.WholeTexts.{front-front}
@@ -136,20 +135,10 @@ plain_identifier ps x is s =
     ∙ plain-lowercase (subtags x s.spells.order) ∙ all_subtags
   where
     all_subtags : are_plain (subtags x s.spells.order) ≡ true
-    all_subtags = λ i. (part_language x.language is.language).plain i && (plain_append (option_to_list x.script)
-        (option_to_list x.region ++ s.spells.order) (of_script x.script is.script)
-        (plain_append (option_to_list x.region) s.spells.order (of_region x.region is.region) variants)) i
-      where
-        of_script : (o : Option (List ℕ)) → IfSome o IsScript → are_plain (option_to_list o) ≡ true
-        of_script None known = refl
-        of_script (Some q) known = λ i. (part_script q known).plain i && true
-
-        of_region : (o : Option (List ℕ)) → IfSome o IsRegion → are_plain (option_to_list o) ≡ true
-        of_region None known = refl
-        of_region (Some q) known = λ i. (part_region q known).plain i && true
-
-        variants : are_plain s.spells.order ≡ true
-        variants = plain_all (λ v h. (part_variant v h).plain) s.spells.order (variants_of x is s.spells.order s.spells.lists)
+    all_subtags = plain_all (λ p h. h) (subtags x s.spells.order) (each_subtag (λ p. is_alphanumeric p ≡ true)
+        (λ p h. (part_language p h.member).plain) (λ p h. (part_script p h.member).plain)
+        (λ p h. (part_region p h.member).plain) (λ p h. (part_variant p h.member).plain)
+        x is s.spells.order (variants_of x is s.spells.order s.spells.lists))
 
 plain_language : (ps : List (List ℕ)) (l : Option LanguageIdentifier) → IfSome l IsIdentifier → SpellLanguage ps l → are_plain ps ≡ true
 plain_language ps None known s = ap are_plain s

@@ -12,7 +12,7 @@ use Rattle.icu_locale_core.specs.laws.Identifiers.{same_text, values_decide}
 use Rattle.icu_locale_extensions.specs.Extensions.{is_singleton, is_x}
 use Rattle.icu_locale_extensions.specs.Locales.{IsLocaleIdentifier}
 use Rattle.icu_locale_extensions.specs.Reads.{identifier_pieces, Spells}
-use Rattle.icu_locale_extensions.specs.Syntaxes.{is_extended, is_private, is_standard, legacy, preferred, tag_text}
+use Rattle.icu_locale_extensions.specs.Syntaxes.{is_extended, is_private, is_registered, is_standard, legacy, preferred, tag_text}
 use Rattle.icu_locale_extensions.specs.declared.identifier.LocaleIdentifier.{LocaleIdentifier}
 use Rattle.icu_locale_extensions.proofs.Begins.{identifier_begins, may_begin, may_begin-front, may_begin-lowercase, not_true, three_letters}
 use Rattle.icu_locale_extensions.proofs.Tags.{value_none}
@@ -47,7 +47,7 @@ extended-strict (p ∷ []) begins = refl
 extended-strict (p ∷ q ∷ ps) begins =
     let rest = (and_parts (is_language p) _ begins).1 in
     let other = not_true (three_letters q) (and_parts (not (three_letters q)) _ rest).0 in
-    ap (λ b. is_language p && b) other ∙ and-false (is_language p)
+    ap (λ b. (is_language p && b) && is_registered p q) other ∙ ap (λ b. b && is_registered p q) (and-false (is_language p))
 
 module _ (t : List ℕ) (begins : may_begin (pieces t) ≡ true) where
   -- the text stands for itself

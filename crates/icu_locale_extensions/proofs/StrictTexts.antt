@@ -1,14 +1,13 @@
 -- A strict text spells the same in each syntax, and a text spells one locale identifier at most in each.
-use Rattle.std.specs.Prelude.{◌≡◌, ℕ, false, ◌==◌, ◌||◌, List, [], ◌∷◌, map, codes, Option, Some, None, IfSome, if◌then◌else◌}
-use Rattle.std.proofs.Common.{refl, ap, sym, ◌∙◌, subst, arith}
+use Rattle.std.specs.Prelude.{◌≡◌, ℕ, false, ◌==◌, ◌||◌, List, [], ◌∷◌, map, codes, if◌then◌else◌}
+use Rattle.std.proofs.Common.{refl, ap, sym, ◌∙◌, subst}
 use Rattle.std.specs.Char.{to_ascii_lowercase}
 use Rattle.std.specs.List.{All, list_any}
-use Rattle.std.specs.Option.{option_to_list}
 use Rattle.std.proofs.lemmas.List.{length-map}
-use Rattle.std.proofs.lemmas.List.Elements.{All-append, All-cons, All-head, All-nil, All-tail, All-weaker}
+use Rattle.std.proofs.lemmas.List.Elements.{All-head, All-tail}
 use Rattle.icu_locale_core.specs.Identifier.{pieces, subtags, IsIdentifier}
 use Rattle.icu_locale_core.specs.Identifier as core
-use Rattle.icu_locale_core.specs.Subtag.{lowercase, IsRegion, IsScript, IsVariant}
+use Rattle.icu_locale_core.specs.Subtag.{lowercase}
 use Rattle.icu_locale_core.specs.declared.langid.LanguageIdentifier.{LanguageIdentifier}
 use Rattle.icu_locale_extensions.specs.Extensions.{is_singleton}
 use Rattle.icu_locale_extensions.specs.Locales.{IsLocaleIdentifier}
@@ -18,7 +17,8 @@ use Rattle.icu_locale_extensions.specs.declared.identifier.LocaleIdentifier.{Loc
 use Rattle.icu_locale_extensions.specs.declared.syntax.Syntax.{Syntax}
 use Rattle.icu_locale_extensions.specs.declared.syntax.Syntax.TheVariants.{Unicode, Bcp47, Posix}
 use Rattle.icu_locale_extensions.proofs.Begins.{variants_of}
-use Rattle.icu_locale_extensions.proofs.Lengths.{long_no_singleton, part_language, part_region, part_script, part_variant, IsPart, IsPart-less}
+use Rattle.icu_locale_core.specs.laws.Classes.{IsPart, subtag_parts}
+use Rattle.icu_locale_extensions.proofs.Lengths.{long_no_singleton}
 use Rattle.icu_locale_extensions.proofs.Modifiers.{changed}
 use Rattle.icu_locale_extensions.proofs.PlainTexts.{plain_base, plain_no_modifier, plain_text}
 use Rattle.icu_locale_extensions.proofs.StrictTags.{not_standard, strict_begins, tag_is_text}
@@ -54,21 +54,6 @@ once_by once Posix t x y is also s k =
 
 -- ---- identifiers
 
-long_subtags : (x : LanguageIdentifier) → IsIdentifier x → (order : List (List ℕ)) → All IsVariant order → All (IsPart 2) (subtags x order)
-long_subtags x is order each =
-    All-cons (IsPart 2) x.language _ (part_language x.language is.language)
-    (All-append (IsPart 2) (option_to_list x.script) _ (of_script x.script is.script)
-    (All-append (IsPart 2) (option_to_list x.region) order (of_region x.region is.region)
-    (All-weaker IsVariant (IsPart 2) (λ v h. IsPart-less 2 4 (omega arith) v (part_variant v h)) order each)))
-  where
-    of_script : (o : Option (List ℕ)) → IfSome o IsScript → All (IsPart 2) (option_to_list o)
-    of_script None known = All-nil (IsPart 2)
-    of_script (Some q) known = All-cons (IsPart 2) q [] (IsPart-less 2 4 (omega arith) q (part_script q known)) (All-nil (IsPart 2))
-
-    of_region : (o : Option (List ℕ)) → IfSome o IsRegion → All (IsPart 2) (option_to_list o)
-    of_region None known = All-nil (IsPart 2)
-    of_region (Some q) known = All-cons (IsPart 2) q [] (part_region q known) (All-nil (IsPart 2))
-
 singletons-lowercase : (ps : List (List ℕ)) → list_any is_singleton (map lowercase ps) ≡ list_any is_singleton ps
 singletons-lowercase [] = refl
 singletons-lowercase (p ∷ ps) = λ i. (length-map p to_ascii_lowercase i == 1) || singletons-lowercase ps i
@@ -80,7 +65,7 @@ no_singleton (p ∷ ps) each = λ i. long_no_singleton p (All-head (IsPart 2) p 
 pub plain_pieces : (t : List ℕ) (x : LanguageIdentifier) → IsIdentifier x → core.Spells t x → list_any is_singleton (pieces t) ≡ false
 plain_pieces t x is s =
     sym (singletons-lowercase (pieces t)) ∙ ap (list_any is_singleton) s.same ∙ singletons-lowercase (subtags x s.order)
-    ∙ no_singleton (subtags x s.order) (long_subtags x is s.order (variants_of x is s.order s.lists))
+    ∙ no_singleton (subtags x s.order) (subtag_parts x is s.order (variants_of x is s.order s.lists))
 
 pub identifier_alike : (syntax : Syntax) (t : List ℕ) (x : LanguageIdentifier) → IsIdentifier x → core.Spells t x → SpellsBy syntax t (bare x)
 identifier_alike syntax t x is s = strict_alike t (bare x) (bare_is x is) (to_bare t (plain_pieces t x is s) x s) syntax

@@ -23,7 +23,8 @@ use Rattle.icu_locale_extensions.specs.Locales.{IsLocaleIdentifier, marked_if_an
 use Rattle.icu_locale_extensions.specs.Locales.{written_pieces, written}
 use Rattle.icu_locale_extensions.specs.Rows.{flat, below_t, above_t}
 use Rattle.icu_locale_extensions.specs.declared.identifier.LocaleIdentifier.{LocaleIdentifier}
-use Rattle.icu_locale_extensions.proofs.Lengths.{IsPart, IsPart-less, part_piece, part_subtag, part_key, part_tkey, subtag_parts, lower_parts}
+use Rattle.icu_locale_core.specs.laws.Classes.{IsPart, IsPart-less, part_subtag, part_key, rising_variants, subtag_parts}
+use Rattle.icu_locale_extensions.proofs.Lengths.{part_piece, part_tkey, lower_parts}
 use Rattle.icu_locale_extensions.proofs.Lengths.{lower_no_tkey, long_no_singleton, long_no_key, long_no_tkey}
 use Rattle.icu_locale_extensions.proofs.Unmarked.{Unmarked, IsCutRow, front-unmarked, from-unmarked, front-marked, front-pieces_rows}
 use Rattle.icu_locale_extensions.proofs.Unmarked.{blocks-pieces_rows, flat-append, row_if_any, flat-row_if_any}
@@ -56,7 +57,7 @@ no_tkeys : (ps : List (List ℕ)) → All (IsPiece 3) ps → Unmarked is_tkey ps
 no_tkeys ps all = All-weaker (IsPiece 3) (λ p. is_tkey p ≡ false) (λ p h. long_no_tkey p (part_piece 3 p h)) ps all
 
 no_keys : (ps : List (List ℕ)) → All IsSubtag ps → Unmarked is_key ps
-no_keys ps all = All-weaker IsSubtag (λ p. is_key p ≡ false) (λ p h. long_no_key p (part_subtag p h)) ps all
+no_keys ps all = All-weaker IsSubtag (λ p. is_key p ≡ false) (λ p h. long_no_key p (part_subtag p h.member)) ps all
 
 no_singletons : (ps : List (List ℕ)) → All (IsPart 2) ps → Unmarked is_singleton ps
 no_singletons ps all = All-weaker (IsPart 2) (λ p. is_singleton p ≡ false) long_no_singleton ps all
@@ -108,8 +109,8 @@ field_parts row is = record {
 
 keyword_parts : (row : Block) → IsKeyword row → IsRowOf (IsPart 2) row
 keyword_parts row is = record {
-  mark = part_key row.0 is.key;
-  pieces = longer_parts row.1 (All-weaker IsSubtag (IsPart 3) part_subtag row.1 is.value.each);
+  mark = part_key row.0 is.key.member;
+  pieces = longer_parts row.1 (All-weaker IsSubtag (IsPart 3) (λ p h. part_subtag p h.member) row.1 is.value.each);
 }
 
 -- ---- x
@@ -201,6 +202,9 @@ extension_rows x =
 abbrev pub id_pieces : LocaleIdentifier → List (List ℕ)
 id_pieces x = subtags x.locale.id (rising x.locale.id.variants)
 
+pub id_parts : (x : LocaleIdentifier) → IsLocaleIdentifier x → All (IsPart 2) (id_pieces x)
+id_parts x is = subtag_parts x.locale.id is.id (rising x.locale.id.variants) (rising_variants x.locale.id is.id)
+
 -- x and what follows it
 abbrev pub private_pieces : LocaleIdentifier → List (List ℕ)
 private_pieces x = marked_if_any (codes "x") x.private_use
@@ -213,7 +217,7 @@ module _ (x : LocaleIdentifier) (is : IsLocaleIdentifier x) where
 
   pub unicode_parts : All (IsPart 2) (unicode_pieces x)
   unicode_parts = All-append (IsPart 2) x.attributes (flat x.locale.extensions.unicode.keywords)
-      (longer_parts x.attributes (All-weaker IsSubtag (IsPart 3) part_subtag x.attributes is.attributes.each))
+      (longer_parts x.attributes (All-weaker IsSubtag (IsPart 3) (λ p h. part_subtag p h.member) x.attributes is.attributes.each))
       (all_flat (IsPart 2) x.locale.extensions.unicode.keywords (each_row keyword_parts x.locale.extensions.unicode.keywords is.each_keyword))
 
   -- t is cut into its language and its fields
@@ -270,7 +274,7 @@ module _ (x : LocaleIdentifier) (is : IsLocaleIdentifier x) where
   in_two = append_assoc (id_pieces x) (flat (extension_rows x)) (private_pieces x) ∙ ap (λ r. id_pieces x ++ r) flat-extension_rows
 
   before_x : All NotX (id_pieces x ++ flat (extension_rows x))
-  before_x = All-append NotX (id_pieces x) (flat (extension_rows x)) (not_x (id_pieces x) (subtag_parts x.locale.id is.id))
+  before_x = All-append NotX (id_pieces x) (flat (extension_rows x)) (not_x (id_pieces x) (id_parts x is))
       (all_flat NotX (extension_rows x) (each_extension (IsRowOf NotX) (each_row other_not_x x.others is.each_other)
       (all_if_any NotX (codes "t") (transform_pieces x) refl (not_x (transform_pieces x) transform_parts))
       (all_if_any NotX (codes "u") (unicode_pieces x) refl (not_x (unicode_pieces x) unicode_parts))))
@@ -295,7 +299,7 @@ module _ (x : LocaleIdentifier) (is : IsLocaleIdentifier x) where
 
   pub blocks-extensions : blocks is_singleton (id_pieces x ++ flat (extension_rows x)) ≡ extension_rows x
   blocks-extensions = blocks-pieces_rows is_singleton (id_pieces x) (extension_rows x)
-      (no_singletons (id_pieces x) (subtag_parts x.locale.id is.id)) extension_cuts
+      (no_singletons (id_pieces x) (id_parts x is)) extension_cuts
 
   front_of_private_singleton : (o : Option (List (List ℕ))) → front is_singleton (marked_if_any (codes "x") o) ≡ []
   front_of_private_singleton None = refl
@@ -305,7 +309,7 @@ module _ (x : LocaleIdentifier) (is : IsLocaleIdentifier x) where
   pub front-singleton : front is_singleton (written_pieces x) ≡ id_pieces x
   front-singleton =
       ap (front is_singleton) (sym in_two ∙ append_assoc (id_pieces x) (flat (extension_rows x)) (private_pieces x))
-      ∙ front-unmarked is_singleton (id_pieces x) (flat (extension_rows x) ++ private_pieces x) (no_singletons (id_pieces x) (subtag_parts x.locale.id is.id))
+      ∙ front-unmarked is_singleton (id_pieces x) (flat (extension_rows x) ++ private_pieces x) (no_singletons (id_pieces x) (id_parts x is))
       ∙ ap (λ r. id_pieces x ++ r) (behind (extension_rows x) extension_cuts) ∙ append-nil (id_pieces x)
     where
       behind : (rows : List Block) → All (IsCutRow is_singleton) rows → front is_singleton (flat rows ++ private_pieces x) ≡ []
@@ -322,7 +326,7 @@ module _ (x : LocaleIdentifier) (is : IsLocaleIdentifier x) where
   written_parts =
       subst (All (IsPart 1)) in_two
       (All-append (IsPart 1) (id_pieces x ++ flat (extension_rows x)) (private_pieces x)
-      (All-append (IsPart 1) (id_pieces x) (flat (extension_rows x)) (shorter_parts (id_pieces x) (subtag_parts x.locale.id is.id))
+      (All-append (IsPart 1) (id_pieces x) (flat (extension_rows x)) (shorter_parts (id_pieces x) (id_parts x is))
       (all_flat (IsPart 1) (extension_rows x) (each_extension (IsRowOf (IsPart 1)) (each_row other_parts x.others is.each_other)
       (all_if_any (IsPart 1) (codes "t") (transform_pieces x) (record { long = omega arith; plain = refl })
       (shorter_parts (transform_pieces x) transform_parts))

@@ -14,7 +14,8 @@ use Rattle.icu_locale_extensions.specs.Cuts.{front, from, blocks}
 use Rattle.icu_locale_extensions.specs.Extensions.{any_piece, is_singleton, is_x, is_u, is_t, is_tkey}
 use Rattle.icu_locale_extensions.specs.Locales.{IsLocaleIdentifier, marked_if_any, lower_subtags, transform_pieces, unicode_pieces, written, written_pieces}
 use Rattle.icu_locale_extensions.specs.declared.identifier.LocaleIdentifier.{LocaleIdentifier}
-use Rattle.icu_locale_extensions.proofs.Lengths.{IsPart, IsPart-less, lower_parts}
+use Rattle.icu_locale_core.specs.laws.Classes.{IsPart, IsPart-less}
+use Rattle.icu_locale_extensions.proofs.Lengths.{lower_parts}
 use Rattle.icu_locale_extensions.proofs.Spellings.{lowercase-twice}
 use Rattle.icu_locale_extensions.proofs.WrittenCuts.{id_pieces, extension_rows, pieces-join, pieces-written, front-x, from-x, front-singleton}
 use Rattle.icu_locale_extensions.proofs.WrittenCuts.{blocks-extensions, front-transform, blocks-transform, front-unicode, blocks-unicode}

@@ -30,9 +30,10 @@ use Rattle.icu_locale_extensions.specs.Locales.{IsLocaleIdentifier, marked_if_an
 use Rattle.icu_locale_extensions.specs.Reads.{Spells, SpellIdentifier, SpellLanguage, SpellUnicode, SpellTransform, SpellParts, extensions}
 use Rattle.icu_locale_extensions.specs.Rows.{flat, below_t, above_t, HaveFirstOf}
 use Rattle.icu_locale_extensions.specs.declared.identifier.LocaleIdentifier.{LocaleIdentifier}
-use Rattle.icu_locale_extensions.proofs.Lengths.{IsPart, IsPart-less, subtag_parts, lower_parts}
+use Rattle.icu_locale_core.specs.laws.Classes.{IsPart, IsPart-less}
+use Rattle.icu_locale_extensions.proofs.Lengths.{lower_parts}
 use Rattle.icu_locale_extensions.proofs.Unmarked.{row_if_any}
-use Rattle.icu_locale_extensions.proofs.WrittenCuts.{id_pieces, private_pieces, extension_rows, pieces-join, pieces-written, front-x, from-x}
+use Rattle.icu_locale_extensions.proofs.WrittenCuts.{id_pieces, id_parts, private_pieces, extension_rows, pieces-join, pieces-written, front-x, from-x}
 use Rattle.icu_locale_extensions.proofs.WrittenCuts.{front-singleton, blocks-extensions, front-transform, blocks-transform, front-unicode}
 use Rattle.icu_locale_extensions.proofs.WrittenCuts.{blocks-unicode}
 use Rattle.icu_locale_extensions.proofs.WrittenOnce.{lower_spells}
@@ -340,7 +341,7 @@ module _ (spells : WrittenSpells) (x : LocaleIdentifier) (is : IsLocaleIdentifie
   id_spelled : SpellIdentifier (id_pieces x) x.locale.id
   id_spelled = record {
     text = core.written x.locale.id;
-    cut = pieces-join x.locale.id.language _ (All-weaker (IsPart 2) (IsPart 1) (IsPart-less 1 2 (omega arith)) (id_pieces x) (subtag_parts x.locale.id is.id));
+    cut = pieces-join x.locale.id.language _ (All-weaker (IsPart 2) (IsPart 1) (IsPart-less 1 2 (omega arith)) (id_pieces x) (id_parts x is));
     spells = spells x.locale.id is.id;
   }
 

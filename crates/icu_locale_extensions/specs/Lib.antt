@@ -1,6 +1,7 @@
 pub mod Attributes
 pub mod Blocks
 pub mod Cuts
+pub mod ExtendedLanguages
 pub mod Extensions
 pub mod Locales
 pub mod Reads

@@ -2,7 +2,7 @@
 -- in the strict grammar.
 use Rattle.std.specs.Prelude.{◌≡◌, ◌↔◌, ℕ, Bool, true, false, ◌&&◌, ◌||◌, ◌==◌, IsTrue, List, [], ◌∷◌, ◌++◌, map, codes, Option, Some, None}
 use Rattle.std.specs.Prelude.{unwrap_or, Result, Err, IfOk, if◌then◌else◌}
-use Rattle.std.specs.List.{before_first, after_first}
+use Rattle.std.specs.List.{before_first, after_first, list_any}
 use Rattle.std.specs.Option.{option_or}
 use Rattle.std.specs.Cmp.Lexicographic.{pointwise}
 use Rattle.icu_locale_core.specs.Identifier.{is_separator, pieces, starts_with_language}
@@ -12,6 +12,7 @@ use Rattle.icu_locale_core.specs.laws.Identifiers.{same_text}
 use Rattle.icu_locale_core.specs.declared.langid.LanguageIdentifier.{LanguageIdentifier}
 use Rattle.icu_locale_core.specs.declared.parse_error.ParseError.{ParseError}
 use Rattle.icu_locale_core.specs.declared.parse_error.ParseError.TheVariants.{InvalidLanguage, InvalidSubtag, Memory}
+use Rattle.icu_locale_extensions.specs.ExtendedLanguages.{extended_languages}
 use Rattle.icu_locale_extensions.specs.Extensions.{is_x}
 use Rattle.icu_locale_extensions.specs.Locales.{IsLocaleIdentifier}
 use Rattle.icu_locale_extensions.specs.Reads.{takes_memory, IsOkUnlessMemory, Spells}
@@ -66,13 +67,24 @@ abbrev pub is_private : List (List ℕ) → Bool
 is_private [] = false
 is_private (p ∷ ps) = is_x p
 
--- extlang of RFC 5646, section 2.2.2: a language, and then 3 letters
+-- some row has a language with a prefix, case aside
+abbrev pub has_row : List (List ℕ × List ℕ) → (prefix language : List ℕ) → Bool
+has_row rows prefix language =
+    list_any (λ row. same_text (lowercase language) (lowercase row.0)
+    && same_text (lowercase prefix) (lowercase row.1)) rows
+
+-- the registry has an extended language with a prefix (section 2.2.2)
+unfoldable pub is_registered : (prefix language : List ℕ) → Bool
+is_registered prefix language = has_row extended_languages prefix language
+
+-- extlang of RFC 5646, section 2.2.2: a language, and then 3 letters that are registered with it
 abbrev pub is_extended : List (List ℕ) → Bool
-is_extended (p ∷ q ∷ ps) = is_language p && (has_length 3 3 q && is_alphabetic q)
+is_extended (p ∷ q ∷ ps) =
+    (is_language p && (has_length 3 3 q && is_alphabetic q)) && is_registered p q
 is_extended ps = false
 
 -- what a tag stands for: the value preferred to it; private use alone after `und`; an extended
--- language in the place of its prefix, and of these one (section 2.2.2); else the tag itself
+-- language in the place of its prefix, and of these one; else the tag itself
 abbrev pub tag_text : List ℕ → List ℕ
 tag_text t =
     unwrap_or (preferred (pieces t)) (

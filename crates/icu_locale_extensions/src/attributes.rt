@@ -27,6 +27,8 @@ impl Model for Attributes {
     ghost Value = { List (List ℕ) };
 
     ghost view = { λ a. a.set.keys };
+
+    ghost invariant = { λ a. All IsSubtag a.set.keys };
 }
 
 impl Attributes {
@@ -66,6 +68,7 @@ impl Attributes {
         ensures unchanged { OnErr result (self.new ≡ self.old) }
         ensures present { is_among attribute self.old ≡ true → IsOk result }
     {
+        let _ = attribute.as_str();
         Ok(self.set.insert(attribute)?)
     }
 
@@ -89,20 +92,7 @@ impl Attributes {
     pub fn known(&self)
         ensures { AreAttributes self.now }
     {
-        self.know_each();
         let _ = self.set.len();
-    }
-
-    // Each of them is a subtag.
-    fn know_each(&self)
-        ensures { All IsSubtag self.now }
-    {
-        if self.set.is_empty() {
-            return;
-        }
-        for attribute in self.set.iter() {
-            let _ = attribute.as_str();
-        }
     }
 
     /// An equal set. Without attributes it takes no memory.

@@ -1,12 +1,15 @@
 //! The reader of tags of BCP 47 (RFC 5646).
 ghost use Rattle.std.specs.Prelude.{◌≡◌, ◌∷◌, ◌++◌, ◌&&◌, codes, is_some, IfSome, Some, true};
 ghost use Rattle.icu_locale_core.specs.Identifier.{pieces};
-ghost use Rattle.icu_locale_core.specs.Subtag.{has_length, is_alphabetic, is_language};
+ghost use Rattle.icu_locale_core.specs.Subtag.{has_length, is_alphabetic, is_language, lowercase};
+ghost use Rattle.icu_locale_core.specs.laws.Identifiers.{same_text};
 ghost use Rattle.icu_locale_extensions.specs.Reads.{ReadsLocale};
-ghost use Rattle.icu_locale_extensions.specs.Syntaxes.{is_extended, is_private, tag_text, ReadsBy};
+ghost use Rattle.icu_locale_extensions.specs.Syntaxes.{has_row, is_extended, is_private, is_registered, tag_text, ReadsBy};
 ghost use Rattle.icu_locale_extensions.specs.inner.Lent.{pieces_of};
+ghost use Rattle.icu_locale_extensions.specs.inner.Tables.{rows_of};
 
 use crate::cuts::{cut, is_named};
+use crate::extended_languages::EXTENDED_LANGUAGES;
 use crate::identifier::LocaleIdentifier;
 use crate::laws;
 use crate::legacy::preferred;
@@ -18,8 +21,9 @@ use std::alloc::Global;
 impl LocaleIdentifier {
     /// Reads a tag of BCP 47 (RFC 5646) in any case, its pieces apart by `-` or `_`, as the strict grammar reads what
     /// the tag stands for: of a legacy tag, as `i-klingon`, the value that is preferred to it; of private use alone, as
-    /// `x-whatever`, that after `und`; of an extended language, as `zh-yue`, that without its prefix, which is
-    /// dropped; else the tag itself. It takes memory for variants, private use and extensions alone.
+    /// `x-whatever`, that after `und`; of an extended language that is registered with its prefix, as `zh-yue`,
+    /// that without the prefix; else the tag itself. Five legacy tags are spelled by the strict grammar too, and are
+    /// read so: `art-lojban`, `cel-gaulish`, `zh-guoyu`, `zh-hakka` and `zh-xiang`. It takes memory for variants, private use and extensions alone.
     ///
     /// # Errors
     ///
@@ -68,7 +72,7 @@ fn without_prefix<'a>(first: &[u8], behind: Option<&'a [u8]>) -> Option<&'a [u8]
 {
     let tag = behind?;
     let (second, _) = cut(tag);
-    if is_language(first) && are_three_letters(second) {
+    if is_language(first) && are_three_letters(second) && is_registered(first, second) {
         return Some(tag);
     }
     None
@@ -90,4 +94,31 @@ fn are_three_letters(piece: &[u8]) -> bool
         [a, b, c] => a.is_ascii_alphabetic() && b.is_ascii_alphabetic() && c.is_ascii_alphabetic(),
         _ => false,
     }
+}
+
+// Whether the registry has an extended language with a prefix, case aside.
+fn is_registered(prefix: &[u8], language: &[u8]) -> bool
+    ensures { result ≡ is_registered prefix.now language.now }
+{
+    has_row(&EXTENDED_LANGUAGES, prefix, language)
+}
+
+// Whether some row has a language with a prefix, case aside.
+fn has_row(rows: &[(&str, &str)], prefix: &[u8], language: &[u8]) -> bool
+    ensures { result ≡ has_row (rows_of rows.now) prefix.now language.now }
+{
+    for (extended, its_prefix) in rows {
+        if are_spelled(language, extended, prefix, its_prefix) {
+            return true;
+        }
+    }
+    false
+}
+
+// Whether two pieces are two texts, case aside.
+fn are_spelled(first: &[u8], text: &str, second: &[u8], other: &str) -> bool
+    ensures { result ≡ (same_text (lowercase first.now) (lowercase text.now)
+        && same_text (lowercase second.now) (lowercase other.now)) }
+{
+    first.eq_ignore_ascii_case(text.as_bytes()) && second.eq_ignore_ascii_case(other.as_bytes())
 }

@@ -13,9 +13,8 @@ ghost use Rattle.icu_locale_extensions.specs.Extensions.{is_tkey, IsTkey, IsFiel
 ghost use Rattle.icu_locale_extensions.specs.Rows.{HaveFirstOf, flat, dashed};
 
 use crate::texts::{Subtags, write_after_dash};
-use icu_locale_core::ParseError;
+use icu_locale_core::{ParseError, Rows, SortedRows};
 use std::alloc::Global;
-use std::collections::{BTreeMap, btree_map};
 use std::fmt;
 use std::marker::Model;
 
@@ -75,14 +74,15 @@ impl fmt::Debug for FieldKey {
 /// A contract sees the rows of the map, a key and its pieces each, the keys rising. Only `add`, `set` and
 /// `try_clone` take memory.
 pub struct Fields {
-    map: BTreeMap<FieldKey, Subtags<3>>,
-    alloc: Global,
+    map: SortedRows<FieldKey, Subtags<3>>,
 }
 
 impl Model for Fields {
     ghost Value = { List (List ℕ × List (List ℕ)) };
 
-    ghost view = { λ a. a.map.entries };
+    ghost view = { λ a. a.map };
+
+    ghost invariant = { λ a. All IsField a.map };
 }
 
 impl Fields {
@@ -91,8 +91,7 @@ impl Fields {
         ensures { result ≡ [] }
     {
         Fields {
-            map: BTreeMap::new(alloc),
-            alloc,
+            map: SortedRows::new(alloc),
         }
     }
 
@@ -121,10 +120,8 @@ impl Fields {
         ensures unchanged { OnErr result (self.new ≡ self.old) }
         ensures present { IsSome (value_at text_cmp self.old key) → IsOk result }
     {
-        if self.map.get(&key).is_none() {
-            self.map.insert(key, value)?;
-        }
-        Ok(())
+        know_field(&key, &value);
+        Ok(self.map.add(key, value)?)
     }
 
     /// Puts pieces at a key, and gives the pieces that were there. At a key that is there it takes no memory.
@@ -143,6 +140,7 @@ impl Fields {
         ensures unchanged { OnErr result (self.new ≡ self.old) }
         ensures present { IsSome (value_at text_cmp self.old key) → IsOk result }
     {
+        know_field(&key, &value);
         Ok(self.map.insert(key, value)?)
     }
 
@@ -155,29 +153,31 @@ impl Fields {
     }
 
     /// The fields in rising order of their keys.
-    pub fn iter(&self) -> btree_map::Iter<'_, FieldKey, Subtags<3>>
+    pub fn iter(&self) -> Rows<'_, FieldKey, Subtags<3>>
         ensures { result ≡ self.now }
     {
         self.map.iter()
+    }
+
+    // The fields in that order.
+    pub(crate) fn as_slice(&self) -> &[(FieldKey, Subtags<3>)]
+        ensures { result.now ≡ self.now }
+    {
+        self.map.as_slice()
     }
 
     /// Nothing, but that the keys rise, so that no key comes twice.
     pub fn known(&self)
         ensures { IsSortedMap text_cmp self.now }
     {
-        let _ = self.map.len();
+        let _ = self.map.as_slice();
     }
 
     /// Nothing, but that each row has a key and pieces of 3 to 8 letters or digits.
     pub fn known_rows(&self)
         ensures { All IsField self.now }
     {
-        if self.map.is_empty() {
-            return;
-        }
-        for (key, value) in self.map.iter() {
-            know_field(key, value);
-        }
+        let _ = &self.map;
     }
 
     /// An equal map. Without fields it takes no memory.
@@ -190,12 +190,8 @@ impl Fields {
         ensures refused { IfErr result (λ e. e ≡ ParseError.Memory) }
         ensures free { self.now ≡ [] → IsOk result }
     {
-        if self.map.is_empty() {
-            return Ok(Fields::new(self.alloc));
-        }
         Ok(Fields {
-            map: self.map.clone()?,
-            alloc: self.alloc,
+            map: self.map.try_clone()?,
         })
     }
 }
@@ -211,7 +207,7 @@ fn know_field(key: &FieldKey, value: &Subtags<3>)
 // Written out, so that a caller drops it by one call at each exit.
 impl Drop for Fields {
     fn drop(self) {
-        let Fields { map: _, alloc: _ } = self;
+        let Fields { map: _ } = self;
     }
 }
 
@@ -221,7 +217,7 @@ impl PartialEq for Fields {
     ghost laws = { partial_equiv_from_equiv (lists_equiv rows_equiv) };
 
     fn eq(&self, other: &Self) -> bool {
-        self.map == other.map
+        self.map.as_slice() == other.map.as_slice()
     }
 }
 

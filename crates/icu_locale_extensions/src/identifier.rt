@@ -3,9 +3,10 @@ ghost use Rattle.std.specs.Prelude.{◌≡◌, ◌++◌, codes, true, [], None, 
 ghost use Rattle.std.specs.Fmt.{WritesOnOk};
 ghost use Rattle.icu_locale_core.specs.Identifier.{IsIdentifier};
 ghost use Rattle.icu_locale_extensions.specs.Extensions.{any_piece, ArePieces};
-ghost use Rattle.icu_locale_extensions.specs.Locales.{IsLocaleIdentifier, TakesNoMemory, extension_pieces, written, marked, marked_if_any, transform_pieces, unicode_pieces};
+ghost use Rattle.icu_locale_extensions.specs.Locales.{IsLocaleIdentifier, TakesNoMemory, written, marked, marked_if_any, transform_pieces, unicode_pieces};
 ghost use Rattle.icu_locale_extensions.specs.Rows.{dashed};
 
+use crate::appending::append_extensions;
 use crate::attributes::Attributes;
 use crate::fields::Fields;
 use crate::lower::write_lower_if_any;
@@ -78,8 +79,7 @@ impl LocaleIdentifier {
         know_pieces(&self.private_use);
     }
 
-    /// Appends the written form to a text: what Display writes. It takes memory where the text has no room for it, and
-    /// for a form with extensions or private use, which is made apart first.
+    /// Appends the written form to a text: what Display writes. It takes memory where the text has no room for it.
     ///
     /// # Errors
     ///
@@ -89,13 +89,15 @@ impl LocaleIdentifier {
         ensures refused { IfErr result (λ e. e ≡ ParseError.Memory) }
         ensures unchanged { OnErr result (text.new.items ≡ text.old.items) }
     {
-        if is_bare(self) {
-            return self.locale.id.append_to(text);
+        let before = text.as_slice().len();
+        self.locale.id.append_to(text)?;
+        match append_extensions(self, text) {
+            Ok(()) => Ok(()),
+            Err(_) => {
+                text.truncate(before);
+                Err(ParseError::Memory)
+            }
         }
-        let mut written = String::with_capacity(*text.allocator(), 64)?;
-        written.write(self)?;
-        text.extend_from_slice(written.as_bytes())?;
-        Ok(())
     }
 
     /// An equal locale identifier. Without variants, extensions and private use it takes no memory.
@@ -121,13 +123,6 @@ impl LocaleIdentifier {
             private_use,
         })
     }
-}
-
-// Whether nothing follows the identifier.
-fn is_bare(x: &LocaleIdentifier) -> bool
-    ensures { result ≡ true → extension_pieces x.now ≡ [] }
-{
-    x.others.is_empty() && !has_transform(x) && !has_unicode(x) && x.private_use.is_none()
 }
 
 fn know_language(lang: &Option<LanguageIdentifier>)
@@ -196,13 +191,13 @@ fn write_unicode<W: fmt::Write>(x: &LocaleIdentifier, f: &mut fmt::Formatter<W>)
     fmt::Display::fmt(&x.locale.extensions.unicode.keywords, f)
 }
 
-fn has_transform(x: &LocaleIdentifier) -> bool
+pub fn has_transform(x: &LocaleIdentifier) -> bool
     ensures { result ≡ any_piece (transform_pieces x.now) }
 {
     x.locale.extensions.transform.lang.is_some() || !x.fields.is_empty()
 }
 
-fn has_unicode(x: &LocaleIdentifier) -> bool
+pub fn has_unicode(x: &LocaleIdentifier) -> bool
     ensures { result ≡ any_piece (unicode_pieces x.now) }
 {
     !x.attributes.is_empty() || !x.locale.extensions.unicode.keywords.is_empty()

@@ -15,9 +15,8 @@ ghost use Rattle.icu_locale_extensions.specs.Rows.{HaveFirstOf, flat, dashed, be
 
 use crate::fields::write_row;
 use crate::texts::Subtags;
-use icu_locale_core::ParseError;
+use icu_locale_core::{ParseError, Rows, SortedRows};
 use std::alloc::Global;
-use std::collections::{BTreeMap, btree_map};
 use std::fmt;
 use std::marker::Model;
 
@@ -56,7 +55,7 @@ impl Singleton {
     }
 
     // Whether its extension is written before `t`.
-    fn is_below_t(&self) -> bool
+    pub(crate) fn is_below_t(&self) -> bool
         ensures { result ≡ is_lt (text_cmp self.now (codes "t")) }
     {
         self.0[0] < b't'
@@ -93,14 +92,15 @@ impl fmt::Debug for Singleton {
 /// A contract sees the rows of the map, a singleton and its pieces each, the singletons rising. Only `add` and `try_clone` take
 /// memory.
 pub struct Others {
-    map: BTreeMap<Singleton, Subtags<2>>,
-    alloc: Global,
+    map: SortedRows<Singleton, Subtags<2>>,
 }
 
 impl Model for Others {
     ghost Value = { List (List ℕ × List (List ℕ)) };
 
-    ghost view = { λ a. a.map.entries };
+    ghost view = { λ a. a.map };
+
+    ghost invariant = { λ a. All IsOther a.map };
 }
 
 impl Others {
@@ -109,8 +109,7 @@ impl Others {
         ensures { result ≡ [] }
     {
         Others {
-            map: BTreeMap::new(alloc),
-            alloc,
+            map: SortedRows::new(alloc),
         }
     }
 
@@ -140,10 +139,8 @@ impl Others {
         ensures unchanged { OnErr result (self.new ≡ self.old) }
         ensures present { IsSome (value_at text_cmp self.old singleton) → IsOk result }
     {
-        if self.map.get(&singleton).is_none() {
-            self.map.insert(singleton, value)?;
-        }
-        Ok(())
+        know_other(&singleton, &value);
+        Ok(self.map.add(singleton, value)?)
     }
 
     /// Takes a singleton out, and gives the pieces that were there, if any.
@@ -155,29 +152,31 @@ impl Others {
     }
 
     /// The extensions in rising order of their singletons.
-    pub fn iter(&self) -> btree_map::Iter<'_, Singleton, Subtags<2>>
+    pub fn iter(&self) -> Rows<'_, Singleton, Subtags<2>>
         ensures { result ≡ self.now }
     {
         self.map.iter()
+    }
+
+    // The extensions in that order.
+    pub(crate) fn as_slice(&self) -> &[(Singleton, Subtags<2>)]
+        ensures { result.now ≡ self.now }
+    {
+        self.map.as_slice()
     }
 
     /// Nothing, but that the singletons rise, so that none comes twice.
     pub fn known(&self)
         ensures { IsSortedMap text_cmp self.now }
     {
-        let _ = self.map.len();
+        let _ = self.map.as_slice();
     }
 
     /// Nothing, but that each row has a singleton and pieces of 2 to 8 letters or digits.
     pub fn known_rows(&self)
         ensures { All IsOther self.now }
     {
-        if self.map.is_empty() {
-            return;
-        }
-        for (singleton, value) in self.map.iter() {
-            know_other(singleton, value);
-        }
+        let _ = &self.map;
     }
 
     /// An equal map. Without extensions it takes no memory.
@@ -190,12 +189,8 @@ impl Others {
         ensures refused { IfErr result (λ e. e ≡ ParseError.Memory) }
         ensures free { self.now ≡ [] → IsOk result }
     {
-        if self.map.is_empty() {
-            return Ok(Others::new(self.alloc));
-        }
         Ok(Others {
-            map: self.map.clone()?,
-            alloc: self.alloc,
+            map: self.map.try_clone()?,
         })
     }
 }
@@ -211,7 +206,7 @@ fn know_other(singleton: &Singleton, value: &Subtags<2>)
 // Written out, so that a caller drops it by one call at each exit.
 impl Drop for Others {
     fn drop(self) {
-        let Others { map: _, alloc: _ } = self;
+        let Others { map: _ } = self;
     }
 }
 
@@ -221,7 +216,7 @@ impl PartialEq for Others {
     ghost laws = { partial_equiv_from_equiv (lists_equiv rows_equiv) };
 
     fn eq(&self, other: &Self) -> bool {
-        self.map == other.map
+        self.map.as_slice() == other.map.as_slice()
     }
 }
 

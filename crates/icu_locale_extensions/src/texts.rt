@@ -1,5 +1,5 @@
 //! The pieces of a field, of another extension and of private use.
-ghost use Rattle.std.specs.Prelude.{◌≡◌, ◌++◌, codes, true, false, map, Err, OnOk, MatchOption, None, Some, IfOk, IfErr, IsOk, List, ℕ, nat_eq};
+ghost use Rattle.std.specs.Prelude.{◌≡◌, ◌↔◌, ◌++◌, ◌∷◌, [], codes, true, false, map, length, Err, OnOk, OnErr, MatchOption, None, Some, IfOk, IfErr, IsOk, List, ℕ, nat_eq};
 ghost use Rattle.std.proofs.Common.{rules};
 ghost use Rattle.std.specs.Cmp.{partial_order_from_own_ties};
 ghost use Rattle.std.specs.Cmp.Lexicographic.{pointwise, slice_cmp};
@@ -17,6 +17,7 @@ ghost use Rattle.icu_locale_extensions.specs.Extensions.{any_piece, is_piece, ar
 ghost use Rattle.icu_locale_extensions.specs.Rows.{dashed};
 ghost use Rattle.icu_locale_extensions.specs.inner.Texts.{IsPiecesText, spelled};
 
+use crate::appending::append_lower;
 use icu_locale_core::{ParseError, Pieces};
 use std::alloc::{AllocError, Global};
 use std::cmp::Ordering;
@@ -106,6 +107,41 @@ impl<const LOW: usize> Subtags<LOW> {
         ensures { result ≡ self.now }
     {
         Pieces::new(&self.text)
+    }
+
+    /// How many pieces there are: one or more. It takes no memory.
+    pub fn len(&self) -> usize
+        ensures { result ≡ length self.now }
+    {
+        let _ = self.text.len();
+        self.iter().count()
+    }
+
+    /// Puts a piece after the others, in lower case.
+    ///
+    /// # Errors
+    ///
+    /// - `InvalidSubtag` exactly where it is not of `LOW` to 8 letters or digits.
+    /// - `Memory` where the text could not grow.
+    ///
+    /// The pieces are as they were then.
+    pub fn push(&mut self, piece: &[u8]) -> Result<(), ParseError>
+        ensures pushed { OnOk result (self.new ≡ self.old ++ lowercase piece.now ∷ []) }
+        ensures refused { (result ≡ Err ParseError.InvalidSubtag) ↔ (is_piece LOW piece.now ≡ false) }
+        ensures language { ¬ (result ≡ Err ParseError.InvalidLanguage) }
+        ensures unchanged { OnErr result (self.new ≡ self.old) }
+    {
+        if !is_piece(piece, LOW) {
+            return Err(ParseError::InvalidSubtag);
+        }
+        let before = self.text.len();
+        match append_lower(piece, &mut self.text) {
+            Ok(()) => Ok(()),
+            Err(_) => {
+                self.text.truncate(before);
+                Err(ParseError::Memory)
+            }
+        }
     }
 
     /// Equal pieces.

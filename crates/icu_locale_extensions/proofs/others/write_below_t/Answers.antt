@@ -22,5 +22,5 @@ returns g c =
     let given = joined_given deref_pair (dashed_where is_below_t) c.loop-singleton.yielded _ _ c.loop-singleton.invariant.parted c.in-None.ensures.steps.0 in
     let all = given ∙ dashed-filter is_below_t c.into_iter-singleton-iterator.result
     ∙ ap (λ rows. dashed (flat (below_t rows))) (c.into_iter-singleton-iterator.ensures.into_iter_gives
-    ∙ c.iter-singleton-items.ensures.rest ∙ c.others.view_is) in
+    ∙ c.iter-singleton-items.ensures.rows ∙ c.others.view_is) in
     λ plain ok. subst (λ (t : List ℕ). HasWritten g.W.Write.write_str_gives c.args.f.now t c.loop-singleton.f) all (c.loop-singleton.invariant.wrote plain)

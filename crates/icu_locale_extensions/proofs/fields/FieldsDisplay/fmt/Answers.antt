@@ -17,7 +17,7 @@ pub returns : goal.returns
 returns g c =
     let given = joined_given deref_pair dashed_row c.loop-key.yielded _ _ c.loop-key.invariant.parted c.in-None.ensures.steps.0 in
     let all = given ∙ dashed-flat _ ∙ ap (λ rows. dashed (flat rows)) (c.into_iter-key-iterator.ensures.into_iter_gives
-    ∙ c.iter-key-items.ensures.rest ∙ c.self.view_is) in
+    ∙ c.iter-key-items.ensures.rows ∙ c.self.view_is) in
     record {
       writes = λ plain ok. subst (λ (t : List ℕ). HasWritten g.W.Write.write_str_gives c.args.f.now t c.loop-key.f) all (c.loop-key.invariant.wrote plain);
       styled = tt;
