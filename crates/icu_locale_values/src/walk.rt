@@ -10,11 +10,10 @@ ghost use Rattle.icu_locale_values.specs.inner.Walked.{next_at, universe, has_ro
 ghost use Rattle.icu_locale_values.specs.declared.walk.Refusal.TheVariants.{Memory};
 
 use crate::kinds::{AliasKey, AliasValue};
-use icu_locale_core::ParseError;
+use icu_locale_core::{ParseError, Rows};
 use icu_locale_runs::{Outcome, Rewriting, Turns, end_of_run};
 use icu_provider::SortedMap;
 use std::alloc::Global;
-use std::collections::btree_map;
 
 // Why the walk comes to no end: a value at a key is the first that comes again.
 #[derive(Drop)]
@@ -58,7 +57,7 @@ impl<V: AliasValue> Rewriting for Aliased<'_, V> {
 pub(crate) fn later_ends<K: AliasKey, V: AliasValue>(
     alloc: Global,
     table: &SortedMap<K, SortedMap<V, V>>,
-    rows: btree_map::Iter<'_, K, V>,
+    rows: Rows<'_, K, V>,
 ) -> Result<Vec<(K, V)>, Refusal<K, V>>
     requires { IsSortedMap K.cmp rows }
     ensures ends { IfOk result (λ ends. AreLaterEnds K.cmp
