@@ -1,7 +1,7 @@
 -- A canonical locale is kept, and a locale that changes is one to which something is applied.
 use Rattle.std.proofs.Common.{ℕ, List, ◌≡◌, ◌≢◌, ◌↔◌, IsSome, Bool, true, false, ◌||◌, [], Option, Some, None, is_some, option_and_then, IfSome, ◌⊎◌}
 use Rattle.std.proofs.Common.{inl, inr, refl, ap, sym, ◌∙◌, subst}
-use Rattle.std.proofs.lemmas.Bool.{false≢true, cases_Bool, or_parts}
+use Rattle.std.proofs.lemmas.Bool.{false≢true, cases_Bool, or_parts, or_from}
 use Rattle.icu_locale_core.specs.TextSet.{text_cmp, empty}
 use Rattle.icu_locale_core.specs.Keywords.{KeywordRows}
 use Rattle.icu_locale_core.specs.declared.langid.LanguageIdentifier.{LanguageIdentifier}
@@ -21,9 +21,6 @@ use Rattle.icu_locale.proofs.Values.{canonical_at_rg, canonical_at_sd}
 use Rattle.icu_locale_runs.specs.laws.Runs.{end_is_unique}
 use Rattle.icu_locale_runs.specs.laws.LaterEnds.{none_stands_behind, none_behind_any, alone, stands_alone, in_place, kept, no_later_end, later_end_none}
 use Rattle.icu_locale_runs.specs.laws.LaterEnds.{same_where_none, none_behind, EndsIfAny-later_end, EndsIfAny-becomes}
-
-all_off : (a b c d : Bool) → a ≡ false → b ≡ false → c ≡ false → d ≡ false → (a || (b || (c || d))) ≡ false
-all_off a b c d p q r s = λ i. p i || (q i || (r i || s i))
 
 no_option : {X : Type 0} (o : Option X) → is_some o ≡ false → o ≡ None
 no_option None e = refl
@@ -62,9 +59,10 @@ module _ (likely : LikelySubtags) (rules : Rules) (old new : Locale) (canonical 
 
   pub canonical_unapplied : is_applied likely rules new ≡ false
   canonical_unapplied =
-      all_off (is_some (next likely rules new.id)) (is_some (option_and_then (by_language_alias rules) new.extensions.transform.lang))
-      (is_some (subdivision_alias rules new_keywords rg)) (is_some (subdivision_alias rules new_keywords sd))
-      (ap is_some canonical.id.last) (ap is_some new_transform) (ap is_some new_rg) (ap is_some new_sd)
+      or_from (is_some (next likely rules new.id)) _ (ap is_some canonical.id.last)
+      (or_from (is_some (option_and_then (by_language_alias rules) new.extensions.transform.lang)) _ (ap is_some new_transform)
+      (or_from (is_some (subdivision_alias rules new_keywords rg)) (is_some (subdivision_alias rules new_keywords sd))
+      (ap is_some new_rg) (ap is_some new_sd)))
 
   pub canonical_in_place : EndsInPlace likely rules new
   canonical_in_place = record {

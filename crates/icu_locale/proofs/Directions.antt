@@ -1,7 +1,7 @@
 -- Over lists that share no script, the list of scripts from right to left decides alone.
 use Rattle.std.proofs.Common.{◌≡◌, ℕ, Bool, true, false, not, ◌&&◌, cond, IsTrue, List, [], ◌∷◌, Option, Some, None, is_some, ◌↔◌, if◌then◌else◌}
 use Rattle.std.proofs.Common.{refl, ap, sym, ◌∙◌}
-use Rattle.std.proofs.lemmas.Bool.{false≢true, and_parts}
+use Rattle.std.proofs.lemmas.Bool.{false≢true, and_parts, and_from, not-true, not_from_false}
 use Rattle.std.proofs.lemmas.Cmp.{tied_itself}
 use Rattle.std.specs.BTreeMap.{is_at}
 use Rattle.std.specs.List.{list_all}
@@ -25,14 +25,6 @@ right_to_left d (Some s) apart = by_lists (is_listed d.ltr s) (is_listed d.rtl s
 
 -- ---- a test of the lists
 
-is_false : (b : Bool) → not b ≡ true → b ≡ false
-is_false true e = absurd (false≢true e)
-is_false false e = refl
-
-is_true : (b : Bool) → b ≡ false → not b ≡ true
-is_true true e = absurd (false≢true (sym e))
-is_true false e = refl
-
 module _ (others : List (List ℕ × Unit {0})) where
   abbrev none_of : List (List ℕ × Unit {0}) → Bool
   none_of scripts = list_all (λ row. not (is_listed others row.0)) scripts
@@ -50,16 +42,13 @@ module _ (others : List (List ℕ × Unit {0})) where
   apart_from_test [] test s here = absurd (false≢true here)
   apart_from_test (row ∷ scripts) test s here =
       let both = and_parts (not (is_listed others row.0)) (none_of scripts) test in
-      by_tie row scripts s (is_at (text_cmp s) row.0) refl here (is_false _ both.0)
+      by_tie row scripts s (is_at (text_cmp s) row.0) refl here (not-true _ both.0)
       (apart_from_test scripts both.1 s)
 
   later : (tied : Bool) (row : List ℕ × Unit {0}) (found : Option (Unit {0})) → is_some found ≡ true
       → is_some (cond tied (Some row.1) found) ≡ true
   later true row found here = refl
   later false row found here = here
-
-  both_hold : (a b : Bool) → a ≡ true → b ≡ true → (a && b) ≡ true
-  both_hold a b p q = (λ i. p i && b) ∙ q
 
   pub test_from_apart : (scripts : List (List ℕ × Unit {0}))
       → ((s : List ℕ) → is_listed scripts s ≡ true → is_listed others s ≡ false)
@@ -69,8 +58,8 @@ module _ (others : List (List ℕ × Unit {0})) where
       let here : is_listed (row ∷ scripts) row.0 ≡ true =
       ap (λ tied. is_some (cond (is_eq tied) (Some row.1) (value_at text_cmp scripts row.0)))
       (tied_itself text_total row.0) in
-      both_hold (not (is_listed others row.0)) (none_of scripts)
-      (is_true _ (apart row.0 here))
+      and_from (not (is_listed others row.0)) (none_of scripts)
+      (not_from_false _ (apart row.0 here))
       (test_from_apart scripts (λ s there. apart s
       (later (is_at (text_cmp s) row.0) row (value_at text_cmp scripts s) there)))
 

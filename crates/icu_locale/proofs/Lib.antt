@@ -1,6 +1,7 @@
 mod Alone
 mod Classes
 mod Directions
+mod Lengths
 mod Least
 mod Rows
 mod Settling

@@ -1,6 +1,7 @@
 -- What is kept of rows, one row after another.
 use Rattle.std.proofs.Common.{◌≡◌, ℕ, zero, suc, ◌<◌, Bool, true, false, ◌&&◌, List, [], ◌∷◌, ◌++◌, map, length, get_or, Option, Some, None, inl, inr}
 use Rattle.std.proofs.Common.{refl, ap, sym, ◌∙◌, subst, arith, append-nil}
+use Rattle.std.proofs.lemmas.Bool.{and_left, and_right}
 use Rattle.std.specs.List.{list_all, AllByRecursion}
 use Rattle.std.specs.List.Sorted.{IsStrictlySortedBy}
 use Rattle.std.specs.Map.{keys_of}
@@ -35,12 +36,8 @@ module _ {R K : Type 0} (reads : R → K → Type 0) where
 pub list_all-off : {X : Type 0} (p : List ℕ → Bool) (f : X → List ℕ) (xs : List X) (k : ℕ) (d : X) → k < length xs
     → p (f (get_or xs k d)) ≡ false → list_all p (map f xs) ≡ false
 list_all-off p f [] k d within off = absurd (omega arith)
-list_all-off p f (x ∷ xs) zero d within off = ap (λ b. b && list_all p (map f xs)) off
-list_all-off p f (x ∷ xs) (suc k) d within off = rw (list_all-off p f xs k d (omega arith) off) (and_false (p (f x)))
-  where
-    and_false : (b : Bool) → (b && false) ≡ false
-    and_false true = refl
-    and_false false = refl
+list_all-off p f (x ∷ xs) zero d within off = and_left (p (f x)) (list_all p (map f xs)) off
+list_all-off p f (x ∷ xs) (suc k) d within off = and_right (p (f x)) (list_all p (map f xs)) (list_all-off p f xs k d (omega arith) off)
 
 -- ---- keys that rise still rise among the rows that were read
 

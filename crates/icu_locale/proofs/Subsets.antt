@@ -1,7 +1,7 @@
 -- The sets of texts of a list are exactly those whose members the list has, and images of sets.
 use Rattle.std.proofs.Common.{◌≡◌, ℕ, true, ◌||◌, List, [], ◌∷◌, map, length, refl, ap, sym, ◌∙◌, arith, Bool, false, not, ◌&&◌, inl, inr, subst}
 use Rattle.std.specs.Ordering.{is_eq, eq_by_cmp}
-use Rattle.std.proofs.lemmas.Bool.{false≢true, cases_Bool, or_cases, false_from_ne_true}
+use Rattle.std.proofs.lemmas.Bool.{false≢true, cases_Bool, or_cases, and_parts, not-true, false_from_ne_true}
 use Rattle.std.proofs.lemmas.Cmp.{tied_itself}
 use Rattle.std.proofs.Math.Bool.{or-false}
 use Rattle.std.specs.List.{Contains}
@@ -46,10 +46,6 @@ put_back s t here = same_set _ s (λ q.
     same true there h = sym (h refl)
     same false there h = refl
 
-taken_out : (tied there : Bool) → (not tied && there) ≡ true → (tied ≡ false) × (there ≡ true)
-taken_out true there e = absurd (false≢true e)
-taken_out false there e = (refl, e)
-
 pub subset_among : (ts : List (List ℕ)) (s : TextSet) → ((q : List ℕ) → contains s q ≡ true → Contains ts q) → Contains (subsets ts) s
 subset_among [] s inside =
     let none : empty ≡ s = same_set empty s (λ q. contains-empty q ∙ sym (false_from_ne_true (contains s q) (λ here. Contains-nil q (inside q here)))) in
@@ -59,10 +55,10 @@ subset_among (t ∷ ts) s inside =
       | inl here ↦
           let rest = difference s (from_list (t ∷ [])) in
           let among : Contains (subsets ts) rest = subset_among ts rest (λ q there.
-          let parts = taken_out (eq_by_cmp text_cmp q t) (contains s q) (sym
+          let parts = and_parts (not (eq_by_cmp text_cmp q t)) (contains s q) (sym
           (contains-difference s (from_list (t ∷ [])) q ∙ ap (λ b. not b && contains s q) (contains-one t q)) ∙ there) in
           elim (Contains-cons_cases t q ts (inside q parts.1)) [
-            | inl same ↦ absurd (false≢true (sym parts.0 ∙ ap (λ u. eq_by_cmp text_cmp q u) same ∙ itself q))
+            | inl same ↦ absurd (false≢true (sym (not-true _ parts.0) ∙ ap (λ u. eq_by_cmp text_cmp q u) same ∙ itself q))
             | inr later ↦ later
           ]) in
           Contains-append_right (subsets ts) (map (λ u. fin.insert u t tt) (subsets ts)) s

@@ -4,6 +4,7 @@ use Rattle.std.specs.Option.{option_or}
 use Rattle.std.specs.Str.{bytes_eq}
 use Rattle.std.specs.List.{Contains}
 use Rattle.std.specs.Borrow.{Bor}
+use Rattle.std.proofs.lemmas.Option.{cond_some}
 use Rattle.std.proofs.lemmas.Bool.{and_parts}
 use Rattle.std.proofs.lemmas.List.Elements.{Contains-append_left, Contains-append_right}
 use Rattle.icu_locale_core.specs.TextSet.{text_cmp}
@@ -20,7 +21,7 @@ use Rattle.icu_locale.specs.declared.expander.LocaleExpander.{LocaleExpander}
 use Rattle.icu_locale.specs.laws.Locales.{same_text}
 use Rattle.icu_locale_core.specs.laws.TextSets.{text_same}
 use Rattle.icu_locale_runs.specs.laws.Lists.{some_map, some_or}
-use Rattle.icu_locale.proofs.TableRows.{row_found, key_among, test_of, pair_same}
+use Rattle.icu_locale.proofs.TableRows.{row_found, key_among, pair_same}
 
 -- ---- the triple at a key has the subtags of the key
 
@@ -39,20 +40,16 @@ extension_has_key : (extended : Option (Bor LikelySubtagsExtended)) (k : LikelyK
 extension_has_key None k t e = absurd (cc)
 extension_has_key (Some a) k t e = row_has_key (extended_rows a.now) k t e
 
-some_of : {A : Type 0} (b : Bool) (x y : A) → (if b then Some x else None) ≡ Some y → x ≡ y
-some_of true x y e = cc
-some_of false x y e = absurd (cc)
-
 und_has_key : (u : Triple) (k : LikelyKey) (t : Triple) → und_row u k ≡ Some t → HasKey t k
 und_has_key u (LanguageRegion l r) t e = absurd (cc)
 und_has_key u (LanguageScript l s) t e = absurd (cc)
 und_has_key u (LanguageAlone l) t e = absurd (cc)
 und_has_key u (ScriptRegion s r) t e =
-    let tests = and_parts (bytes_eq s u.1) (bytes_eq r u.2) (test_of (bytes_eq s u.1 && bytes_eq r u.2) u t e) in
-    let is = some_of (bytes_eq s u.1 && bytes_eq r u.2) u t e in
+    let tests = and_parts (bytes_eq s u.1) (bytes_eq r u.2) (cond_some (bytes_eq s u.1 && bytes_eq r u.2) u t e).0 in
+    let is = (cond_some (bytes_eq s u.1 && bytes_eq r u.2) u t e).1 in
     (sym (same_text s u.1 tests.0 ∙ ap (λ (w : Triple). w.1) is), sym (same_text r u.2 tests.1 ∙ ap (λ (w : Triple). w.2) is))
-und_has_key u (ScriptAlone s) t e = sym (same_text s u.1 (test_of (bytes_eq s u.1) u t e) ∙ ap (λ (w : Triple). w.1) (some_of (bytes_eq s u.1) u t e))
-und_has_key u (RegionAlone r) t e = sym (same_text r u.2 (test_of (bytes_eq r u.2) u t e) ∙ ap (λ (w : Triple). w.2) (some_of (bytes_eq r u.2) u t e))
+und_has_key u (ScriptAlone s) t e = sym (same_text s u.1 (cond_some (bytes_eq s u.1) u t e).0 ∙ ap (λ (w : Triple). w.1) (cond_some (bytes_eq s u.1) u t e).1)
+und_has_key u (RegionAlone r) t e = sym (same_text r u.2 (cond_some (bytes_eq r u.2) u t e).0 ∙ ap (λ (w : Triple). w.2) (cond_some (bytes_eq r u.2) u t e).1)
 
 pub table_has_key : (e : LocaleExpander) (k : LikelyKey) (t : Triple) → likely e k ≡ Some t → HasKey t k
 table_has_key e k t f =
@@ -110,12 +107,12 @@ und_key_among u (LanguageRegion l r) t e = absurd (cc)
 und_key_among u (LanguageScript l s) t e = absurd (cc)
 und_key_among u (LanguageAlone l) t e = absurd (cc)
 und_key_among u (ScriptRegion s r) t e =
-    let tests = and_parts (bytes_eq s u.1) (bytes_eq r u.2) (test_of (bytes_eq s u.1 && bytes_eq r u.2) u t e) in
+    let tests = and_parts (bytes_eq s u.1) (bytes_eq r u.2) (cond_some (bytes_eq s u.1 && bytes_eq r u.2) u t e).0 in
     let is_s : u.1 ≡ s = sym (same_text s u.1 tests.0) in
     let is_r : u.2 ≡ r = sym (same_text r u.2 tests.1) in
     (0, omega arith, λ i. ScriptRegion (is_s i) (is_r i))
-und_key_among u (ScriptAlone s) t e = (1, omega arith, ap ScriptAlone (sym (same_text s u.1 (test_of (bytes_eq s u.1) u t e))))
-und_key_among u (RegionAlone r) t e = (2, omega arith, ap RegionAlone (sym (same_text r u.2 (test_of (bytes_eq r u.2) u t e))))
+und_key_among u (ScriptAlone s) t e = (1, omega arith, ap ScriptAlone (sym (same_text s u.1 (cond_some (bytes_eq s u.1) u t e).0)))
+und_key_among u (RegionAlone r) t e = (2, omega arith, ap RegionAlone (sym (same_text r u.2 (cond_some (bytes_eq r u.2) u t e).0)))
 
 pub table_key_among : (e : LocaleExpander) (k : LikelyKey) (t : Triple) → likely e k ≡ Some t → Contains (table_keys e) k
 table_key_among e k t f =

@@ -10,6 +10,7 @@ use Rattle.std.specs.declared.cmp.Ordering.TheVariants.{Less, Equal, Greater}
 use Rattle.std.specs.Ordering.{ordering_then}
 use Rattle.std.specs.FinMap.{IsAntisymmetric}
 use Rattle.std.specs.Cmp.{Equal-is}
+use Rattle.std.proofs.lemmas.Option.{cond_some}
 use Rattle.std.proofs.lemmas.Bool.{and_parts, false≢true}
 use Rattle.std.proofs.lemmas.Map.Views.{Contains-from_lookup}
 use Rattle.icu_locale_core.specs.TextSet.{text_cmp}
@@ -59,11 +60,6 @@ pub key_among : {K V : Type 0} (key : K → LikelyKey) (rows : List (K × V)) (q
     → Contains (keys_by key rows) (key q)
 key_among key rows q (row, among, is) = subst (λ w. Contains (keys_by key rows) (key w)) is (Contains-map (λ r. key r.0) rows row among)
 
--- a value that was mapped was there
-pub test_of : {A : Type 0} (b : Bool) (x y : A) → (if b then Some x else None) ≡ Some y → b ≡ true
-test_of true x y e = refl
-test_of false x y e = absurd (cc)
-
 module _ (table : LikelySubtags) where
   row_settles : (rows : LikelyRows) → RowsSettle table rows → (k : LikelyKey) (t : Triple) → row_at rows k ≡ Some t → settles table k ≡ true
   row_settles rows all (LanguageRegion l r) t e = let v = some_map _ (value_at pair_cmp rows.language_region (l, r)) t e in
@@ -90,12 +86,12 @@ module _ (table : LikelySubtags) where
   und_settles u all (LanguageScript l s) t e = absurd (cc)
   und_settles u all (LanguageAlone l) t e = absurd (cc)
   und_settles u all (ScriptRegion s r) t e =
-      let tests = and_parts (bytes_eq s u.1) (bytes_eq r u.2) (test_of (bytes_eq s u.1 && bytes_eq r u.2) u t e) in
+      let tests = and_parts (bytes_eq s u.1) (bytes_eq r u.2) (cond_some (bytes_eq s u.1 && bytes_eq r u.2) u t e).0 in
       let is_s : u.1 ≡ s = sym (same_text s u.1 tests.0) in
       let is_r : u.2 ≡ r = sym (same_text r u.2 tests.1) in
       (λ i. settles table (ScriptRegion (sym is_s i) (sym is_r i))) ∙ all.script_region
-  und_settles u all (ScriptAlone s) t e = ap (λ w. settles table (ScriptAlone w)) (same_text s u.1 (test_of (bytes_eq s u.1) u t e)) ∙ all.script
-  und_settles u all (RegionAlone r) t e = ap (λ w. settles table (RegionAlone w)) (same_text r u.2 (test_of (bytes_eq r u.2) u t e)) ∙ all.region
+  und_settles u all (ScriptAlone s) t e = ap (λ w. settles table (ScriptAlone w)) (same_text s u.1 (cond_some (bytes_eq s u.1) u t e).0) ∙ all.script
+  und_settles u all (RegionAlone r) t e = ap (λ w. settles table (RegionAlone w)) (same_text r u.2 (cond_some (bytes_eq r u.2) u t e).0) ∙ all.region
 
 -- each key that the table has settles
 every_row : (e : LocaleExpander) → AllRowsSettle e → (k : LikelyKey) (t : Triple) → likely e k ≡ Some t → settles (likely e) k ≡ true

@@ -25,6 +25,7 @@ use Rattle.std.proofs.lemmas.Slice.Eq.{bytes_eq-Decides}
 use Rattle.icu_locale_runs.specs.laws.Lists.{some_map, some_or, Contains-here, Contains-there, Contains-map, Contains-flat_map, Contains-find}
 use Rattle.icu_locale.proofs.Parts.{IsMadeOf, IsMadeOf-itself, made_of-has, IsMadeOf-from, IsMadeOf-replaced, IsMadeOf-bare, IsMadeOf-script}
 use Rattle.icu_locale.proofs.Parts.{IsMadeOf-region, IsMadeOf-image}
+use Rattle.icu_locale.proofs.WithoutVariants.{guarded}
 
 pub has_row : {V : Type 0} (rows : List (List ℕ × V)) (k : List ℕ) (v : V) → value_at text_cmp rows k ≡ Some v → Contains rows (k, v)
 has_row rows k v found = Contains-from_lookup {eq = eq_by_cmp text_cmp} same_from_tied k v rows found
@@ -80,10 +81,6 @@ parts-HasParts rules x = record {
 
 -- ---- one turn
 
-some_guarded : {X : Type 0} (test : Bool) (o : Option X) (z : X) → cond test o None ≡ Some z → o ≡ Some z
-some_guarded true o z e = e
-some_guarded false o z e = absurd (none-some z e)
-
 any_text : (l : List ℕ) (rs : List (List ℕ)) → list_any (λ s. bytes_eq s l) rs ≡ true → Contains rs l
 any_text l [] e = absurd (false≢true e)
 any_text l (r ∷ rs) e =
@@ -118,7 +115,7 @@ module _ (likely : LikelySubtags) (rules : Rules) (ps : List LanguageIdentifier)
   made_by_sign_region y z made e =
       let source : LanguageIdentifier = record { language = codes "sgn"; script = None; region = y.region; variants = empty } in
       let found = some_map (λ l. replaced y source (of_language l)) (sign_language rules y) z e in
-      let looked = some_guarded (bytes_eq y.language (codes "sgn")) (option_and_then (value_at text_cmp rules.aliases.sgn_region) y.region) found.0 found.1 in
+      let looked = (guarded (bytes_eq y.language (codes "sgn")) (option_and_then (value_at text_cmp rules.aliases.sgn_region) y.region) found.0 found.1).1 in
       let here : Contains ps (of_language found.0) = option_and_then_some (value_at text_cmp rules.aliases.sgn_region) y.region found.0
       looked (λ k is at. has.sign k found.0 at) in
       subst (IsMadeOf ps) found.2 (IsMadeOf-replaced ps y source (of_language found.0) made (IsMadeOf-itself ps (of_language found.0) here))
@@ -131,8 +128,8 @@ module _ (likely : LikelySubtags) (rules : Rules) (ps : List LanguageIdentifier)
   made_by_language_alias : (y z : LanguageIdentifier) → IsMadeOf ps y → by_language_alias rules y ≡ Some z → IsMadeOf ps z
   made_by_language_alias y z made e =
       let found = some_map (λ b. replaced y (of_language y.language) (record b { variants = empty })) (language_alias rules y.language) z e in
-      let looked = some_guarded (is_known y.language) (value_at text_cmp (cond
-      (length y.language == 2) rules.language_len2 rules.language_len3) y.language) found.0 found.1 in
+      let looked = (guarded (is_known y.language) (value_at text_cmp (cond
+      (length y.language == 2) rules.language_len2 rules.language_len3) y.language) found.0 found.1).1 in
       let here = alias_among (length y.language == 2) y.language found.0 looked in
       subst (IsMadeOf ps) found.2 (IsMadeOf-replaced ps y (of_language y.language) (record found.0 { variants = empty }) made
       (IsMadeOf-bare ps found.0 (IsMadeOf-itself ps found.0 here)))

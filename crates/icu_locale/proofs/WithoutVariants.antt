@@ -54,8 +54,8 @@ replaced-alias x b known = λ i. record {
   variants = kept x.variants i;
 }
 
-pub guarded : {T : Type 0} (test : Bool) (o : Option T) (x : T) → cond test o None ≡ Some x → test ≡ true
-guarded true o x e = refl
+pub guarded : {T : Type 0} (test : Bool) (o : Option T) (x : T) → cond test o None ≡ Some x → (test ≡ true) × (o ≡ Some x)
+guarded true o x e = (refl, e)
 guarded false o x e = absurd (none-some x e)
 
 pub IfSome-from : {X : Type 0} (o : Option X) (P : X → Type 0) → ((z : X) → o ≡ Some z → P z) → IfSome o P

@@ -1,8 +1,10 @@
 //! The seven kinds of rules. Each finds what is to be rewritten and takes no memory.
-ghost use Rattle.std.specs.Prelude.{◌≡◌, option_copied, is_some};
+ghost use Rattle.std.specs.Prelude.{◌≡◌, ◌==◌, if◌then◌else◌, length, option_copied, is_some, None, IsTrue};
 ghost use Rattle.std.specs.Option.{option_map};
 ghost use Rattle.std.specs.List.{find, list_any};
 ghost use Rattle.icu_locale_core.specs.TextSet.{rising};
+ghost use Rattle.icu_locale_core.specs.Subtag.{is_alphabetic};
+ghost use Rattle.icu_locale.specs.LikelySubtags.{LikelySubtags};
 ghost use Rattle.icu_locale.specs.LikelyTable.{likely};
 ghost use Rattle.icu_locale.specs.RuleSet.{lent};
 ghost use Rattle.icu_locale.specs.Rules.{matches};
@@ -28,8 +30,8 @@ ghost use Rattle.icu_locale.specs.inner.CanonicalParts.{rewritten};
 
 use super::replacing::{is_known, rule_matches};
 use crate::{LocaleExpander, Rule, RulesRef};
-use icu_locale_core::{Language, LanguageIdentifier, Region, Script, Variant, Variants};
-use icu_provider::DataLocale;
+use icu_locale_core::{Language, LanguageIdentifier, Numbered, Region, Script, Variant, Variants};
+use icu_provider::{DataLocale, NotedMap};
 
 // What a turn rewrites.
 #[derive(Clone, Copy)]
@@ -43,7 +45,66 @@ pub enum Rewrite<'r> {
 }
 
 // The rewrite of the first kind that matches.
+#[inline(always)]
 pub fn find_rewrite<'r>(
+    rules: &RulesRef<'r>,
+    expander: &LocaleExpander<'_>,
+    x: &LanguageIdentifier,
+) -> Option<Rewrite<'r>>
+    ensures { option_map (rewritten (lent rules.now) x.now) result
+        ≡ next (likely expander.now) (lent rules.now) x.now }
+{
+    if is_plain(rules, x) {
+        None
+    } else {
+        first_rewrite(rules, expander, x)
+    }
+}
+
+// Whether there are no variants, and no rule asks for the subtags. Most identifiers are so, and no kind matches them.
+#[inline(always)]
+fn is_plain(rules: &RulesRef<'_>, x: &LanguageIdentifier) -> bool
+    ensures { IsTrue result → (likely : LikelySubtags) → next likely (lent rules.now) x.now ≡ None }
+{
+    x.variants.len() == 0
+        && rules.read.language.as_slice().is_empty()
+        && language_alias(rules, &x.language).is_none()
+        && has_plain_script(rules, x)
+        && has_plain_region(rules, x)
+}
+
+// Whether no rule asks for the script, if there is one.
+#[inline(always)]
+fn has_plain_script(rules: &RulesRef<'_>, x: &LanguageIdentifier) -> bool
+    ensures { IsTrue result → by_script (lent rules.now) x.now ≡ None }
+{
+    match x.script {
+        Some(script) => rules.aliases.get_script(script).is_none(),
+        None => true,
+    }
+}
+
+// Whether no rule asks for the region, if there is one.
+#[inline(always)]
+fn has_plain_region(rules: &RulesRef<'_>, x: &LanguageIdentifier) -> bool
+    ensures sign { IsTrue result → by_sign_region (lent rules.now) x.now ≡ None }
+    ensures alone { IsTrue result → by_region (lent rules.now) x.now ≡ None }
+    ensures complex { IsTrue result → (likely : LikelySubtags)
+        → by_complex_region likely (lent rules.now) x.now ≡ None }
+{
+    match x.region {
+        Some(region) => {
+            x.language != Language::SIGN
+                && region_alias(rules, region).is_none()
+                && rules.aliases.complex_region.get(&region).is_none()
+        }
+        None => true,
+    }
+}
+
+// The same as `find_rewrite`, asked kind by kind.
+#[inline(never)]
+fn first_rewrite<'r>(
     rules: &RulesRef<'r>,
     expander: &LocaleExpander<'_>,
     x: &LanguageIdentifier,
@@ -134,13 +195,36 @@ pub fn by_language_alias<'r>(rules: &RulesRef<'r>, x: &LanguageIdentifier) -> Op
 fn language_alias<'r>(rules: &RulesRef<'r>, language: &Language) -> Option<&'r LanguageIdentifier>
     ensures { option_copied result ≡ language_alias (lent rules.now) language.now }
 {
-    if !is_known(language) {
-        None
-    } else if language.as_str().len() == 2 {
-        rules.read.language_len2.get(language)
+    if is_known(language) {
+        aliases_for(rules, language).get(language)
     } else {
-        rules.read.language_len3.get(language)
+        None
     }
+}
+
+// The table for the length of a language.
+#[inline(always)]
+fn aliases_for<'r>(
+    rules: &RulesRef<'r>,
+    language: &Language,
+) -> &'r NotedMap<Language, LanguageIdentifier>
+    ensures { result.now ≡ (if length language.now == 2 then (lent rules.now).language_len2
+        else (lent rules.now).language_len3) }
+{
+    if has_two_letters(language) {
+        &rules.read.language_len2
+    } else {
+        &rules.read.language_len3
+    }
+}
+
+// Whether a language has two letters and not three: the third byte of its number is zero then.
+#[inline(always)]
+fn has_two_letters(language: &Language) -> bool
+    ensures { result ≡ (length language.now == 2) }
+{
+    let _ = language.as_str();
+    language.number() % 65536 < 256
 }
 
 fn by_script<'r>(rules: &RulesRef<'r>, x: &LanguageIdentifier) -> Option<Rewrite<'r>>
@@ -159,13 +243,23 @@ fn by_region<'r>(rules: &RulesRef<'r>, x: &LanguageIdentifier) -> Option<Rewrite
     Some(Rewrite::Subtags(x.language, x.script, Some(region)))
 }
 
+#[inline(always)]
 fn region_alias(rules: &RulesRef<'_>, region: Region) -> Option<Region>
     ensures { result ≡ region_alias (lent rules.now) region }
 {
+    region_aliases_for(rules, region).get(&region).copied()
+}
+
+// The table of regions of letters or of those of digits.
+#[inline(always)]
+fn region_aliases_for<'r>(rules: &RulesRef<'r>, region: Region) -> &'r NotedMap<Region, Region>
+    ensures { result.now ≡ (if is_alphabetic region then rules.now.aliases.now.region_alpha
+        else rules.now.aliases.now.region_num) }
+{
     if region.is_alphabetic() {
-        rules.aliases.get_region_alpha(region)
+        &rules.aliases.region_alpha
     } else {
-        rules.aliases.get_region_num(region)
+        &rules.aliases.region_num
     }
 }
 

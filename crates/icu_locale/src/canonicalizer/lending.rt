@@ -113,6 +113,21 @@ impl<'r> CanonicalizerRef<'r> {
         if matching(self, id, false, turns).is_none() {
             return Ok(TransformResult::Unmodified);
         }
+        self.rewrite_identifier(id, turns)
+    }
+
+    // Brings an identifier to the end of its run. It stays apart from the search before it, which answers most calls.
+    #[inline(never)]
+    fn rewrite_identifier(
+        &self,
+        id: &mut LanguageIdentifier,
+        turns: &mut Turns,
+    ) -> Result<TransformResult, CanonicalizeError>
+        ensures outcome { Canonicalizes (likely self.now.expander) (lent self.now.rules)
+            (without_extensions id.old) (without_extensions id.new) result }
+        ensures count { CountsSearchesOf (next (likely self.now.expander) (lent self.now.rules))
+            (Some id.old) result turns.old turns.new }
+    {
         match later_end(self, id, false, turns)? {
             Some(last) => {
                 *id = last;

@@ -13,5 +13,5 @@ returns c =
     let b = c.in_ok-alias.alias.now in
     let found : language_alias (lent c.args.rules.now) x.language ≡ Some b = sym c.in_ok-alias.ensures in
     (λ i. Some (record { language = b.language; script = c.or.ensures i; region = c.or-2.ensures i; variants = x.variants }))
-    ∙ ap Some (sym (replaced-alias x b (guarded _ _ b found)))
+    ∙ ap Some (sym (replaced-alias x b (guarded _ _ b found).0))
     ∙ ap (option_map (λ a. replaced x (of_language x.language) (record a { variants = empty }))) (sym found)
