@@ -1,5 +1,5 @@
 -- A canonical locale is kept, and a locale that changes is one to which something is applied.
-use Rattle.std.proofs.Common.{ℕ, List, ◌≡◌, ◌≢◌, ◌↔◌, IsSome, Bool, true, false, ◌||◌, [], Option, Some, None, is_some, option_and_then, IfSome, ◌⊎◌}
+use Rattle.std.proofs.Common.{ℕ, List, ◌≡◌, ◌≢◌, ◌↔◌, IsSome, Bool, true, false, [], Option, Some, None, is_some, option_and_then, IfSome, ◌⊎◌}
 use Rattle.std.proofs.Common.{inl, inr, refl, ap, sym, ◌∙◌, subst}
 use Rattle.std.proofs.lemmas.Bool.{false≢true, cases_Bool, or_parts, or_from}
 use Rattle.icu_locale_core.specs.TextSet.{text_cmp, empty}

@@ -3,6 +3,7 @@ mod Classes
 mod Directions
 mod Lengths
 mod Least
+mod Members
 mod Rows
 mod Settling
 mod TableLaws

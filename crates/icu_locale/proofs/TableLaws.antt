@@ -1,5 +1,5 @@
 -- The likely table of an expander as one finite map.
-use Rattle.std.proofs.Common.{◌≡◌, ◌++◌, Bool, true, false, ◌&&◌, Option, Some, None, if◌then◌else◌, ap, sym, ◌∙◌, ⊎_elim, arith}
+use Rattle.std.proofs.Common.{◌≡◌, ◌++◌, ◌&&◌, Option, Some, None, ap, sym, ◌∙◌, ⊎_elim, arith}
 use Rattle.std.specs.Option.{option_or}
 use Rattle.std.specs.Str.{bytes_eq}
 use Rattle.std.specs.List.{Contains}

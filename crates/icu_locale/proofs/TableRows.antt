@@ -1,5 +1,5 @@
 -- A key of the likely table is that of some row, and its own subtags are looked at.
-use Rattle.std.proofs.Common.{◌≡◌, ◌↔◌, List, Bool, true, false, ◌&&◌, Option, Some, None, IfSome, MatchBool, IsTrue, if◌then◌else◌, refl, ap, subst}
+use Rattle.std.proofs.Common.{◌≡◌, ◌↔◌, List, Bool, true, false, ◌&&◌, Option, Some, None, IfSome, MatchBool, IsTrue, refl, ap, subst}
 use Rattle.std.proofs.Common.{sym, ◌∙◌, ⊎_elim}
 use Rattle.std.specs.Option.{option_or}
 use Rattle.std.specs.Str.{bytes_eq}
