@@ -17,13 +17,14 @@
  * What a caller owes, and nothing checks:
  *
  * - A handle is zero before its first use, as `= {0}` makes it. It is never copied and never written to by the caller.
- *   A second handle to the same tables comes from icu_locale_share, or with a list from icu_locale_available.
+ *   A second handle to the same tables comes from icu_locale_share, or with a list from icu_locale_available or
+ *   icu_locale_available_in.
  * - One call at a time is made on a handle. Other threads may use other handles at the same time, also those to the
  *   same tables. A handle may go to another thread, by what orders the two: a thread's start or join, or a lock.
  * - A pointer and the length after it are a slice: as many bytes can be read there, at `out` as many can be written.
  *   No pointer is null, not even where the length is 0. Lengths are at most PTRDIFF_MAX.
  * - `out`, `written`, `request`, `available`, a handle and the slices that are read share no byte with each other. The
- *   two handles of icu_locale_share are two, and so are those of icu_locale_available.
+ *   two handles of icu_locale_share are two, and so are those of icu_locale_available and icu_locale_available_in.
  * - malloc, realloc and free are those of one allocator, and align as the C standard says. No call is made in a signal
  *   handler, nor in the child of a fork in a process that has threads.
  *
@@ -40,15 +41,16 @@
 extern "C" {
 #endif
 
-/* A handle to tables, and to a list of what is available where icu_locale_available has made it. Null says that it is
-   closed. What it points to is the library's. */
+/* A handle to tables, and to a list of what is available where icu_locale_available or icu_locale_available_in has made it.
+   Null says that it is closed. What it points to is the library's. */
 struct icu_locale {
     void *at;
 };
 
 /* The numbers that calls return. */
 enum {
-    /* icu_locale_open, icu_locale_supplement, icu_locale_share and icu_locale_available: it is done. */
+    /* icu_locale_open, icu_locale_supplement, icu_locale_share, icu_locale_available and icu_locale_available_in: it is
+       done. */
     ICU_LOCALE_DONE = 0,
 
     /* icu_locale_answer: the line is accepted, and `out` begins with the answer. */
@@ -63,10 +65,11 @@ enum {
     ICU_LOCALE_NOT_SETTLED = 0,
     ICU_LOCALE_SETTLED = 1,
 
-    /* icu_locale_negotiate: a request is met, and its place and that of the available identifier are told. */
+    /* icu_locale_negotiate and icu_locale_negotiate_in: a request is met, and its place and that of the available identifier
+       are told. */
     ICU_LOCALE_MET = 0,
 
-    /* icu_locale_negotiate: no request is met. */
+    /* icu_locale_negotiate and icu_locale_negotiate_in: no request is met. */
     ICU_LOCALE_NOT_MET = 1,
 
     /* Any call but icu_locale_open and icu_locale_close: the handle is closed. */
@@ -84,20 +87,23 @@ enum {
     /* icu_locale_open and icu_locale_supplement: the JSON has not the shape of tables, or of a supplement. */
     ICU_LOCALE_SHAPE = 6,
 
-    /* icu_locale_answer: the words are those of no command that answers lines. */
+    /* icu_locale_answer: the words are those of no command that answers lines. icu_locale_available_in and
+       icu_locale_negotiate_in: the word is that of no syntax. */
     ICU_LOCALE_COMMAND = 7,
 
-    /* icu_locale_answer, icu_locale_is_settled and icu_locale_available: the tables leave out one that is needed. */
+    /* icu_locale_answer, icu_locale_is_settled, icu_locale_available and icu_locale_available_in: the tables leave out one that
+       is needed. */
     ICU_LOCALE_TABLE = 8,
 
-    /* icu_locale_negotiate, and icu_locale_answer at `negotiate`, `serve` and `nearest`: the handle holds no list of what is
-       available. This is told before a table that is left out. */
+    /* icu_locale_negotiate and icu_locale_negotiate_in, and icu_locale_answer at `negotiate`, `serve` and `nearest`: the handle
+       holds no list of what is available. This is told before a table that is left out. */
     ICU_LOCALE_NEGOTIATE = 9,
 
-    /* icu_locale_available and icu_locale_negotiate: the text lists something that is no identifier. */
+    /* icu_locale_available, icu_locale_negotiate and both in a syntax: the text lists something that is no identifier, or no
+       locale identifier in the syntax. */
     ICU_LOCALE_LIST = 10,
 
-    /* icu_locale_available: the likely tables are not settled. */
+    /* icu_locale_available and icu_locale_available_in: the likely tables are not settled. */
     ICU_LOCALE_UNSETTLED = 11,
 
     /* icu_locale_supplement: another handle has the tables too. */
@@ -147,8 +153,8 @@ int32_t icu_locale_share(struct icu_locale *from, struct icu_locale *to);
  *
  * ICU_LOCALE_ACCEPTED, ICU_LOCALE_REFUSED: `out` begins with the answer, and `written` is how long that is.
  * ICU_LOCALE_ROOM: `out` is as it was, and `written` is how much room the answer wants.
- * ICU_LOCALE_CLOSED, ICU_LOCALE_MEMORY, ICU_LOCALE_COMMAND, ICU_LOCALE_TABLE, ICU_LOCALE_NEGOTIATE: `out` is as it was,
- * and `written` is 0.
+ * ICU_LOCALE_CLOSED, ICU_LOCALE_COMMAND, ICU_LOCALE_NEGOTIATE, ICU_LOCALE_TABLE, ICU_LOCALE_MEMORY: `out` is as it was,
+ * and `written` is 0. Where several hold, the number is that of the first in this order; room is asked for last.
  *
  * The tables stay. The answer is made in a list that the handle keeps, and then copied to `out`: the first calls take
  * memory for it, and later ones where they want a longer one, or come after a call that found no memory. What is taken
@@ -195,6 +201,20 @@ int32_t icu_locale_available(struct icu_locale *from, const uint8_t *list, size_
  */
 int32_t icu_locale_negotiate(struct icu_locale *negotiator, const uint8_t *requests, size_t requests_length,
                              size_t *request, size_t *available);
+
+/*
+ * The same two calls of lists in a syntax, which `syntax` names by its word, as before a command of icu_locale_answer:
+ * `locales`, `bcp47` or `posix`. An empty text names none, and the call does what that without a syntax does. Extensions
+ * have no part in what is met; at `negotiate`, `serve` and `nearest` icu_locale_answer writes with them what such a list
+ * has, as `0`, a tab and `en-u-hc-h12`, whatever the syntax of its own words.
+ *
+ * ICU_LOCALE_COMMAND: the word is that of no syntax, which is told before all else, and all is as it was. The other
+ * numbers are those of the calls above, in their order.
+ */
+int32_t icu_locale_available_in(struct icu_locale *from, const uint8_t *syntax, size_t syntax_length, const uint8_t *list,
+                                size_t list_length, struct icu_locale *negotiator);
+int32_t icu_locale_negotiate_in(struct icu_locale *negotiator, const uint8_t *syntax, size_t syntax_length,
+                                const uint8_t *requests, size_t requests_length, size_t *request, size_t *available);
 
 /* Lets the tables and the list go, and makes the handle zero. It may be opened again. A second call does nothing. */
 void icu_locale_close(struct icu_locale *handle);

@@ -15,7 +15,7 @@ use Rattle.icu_locale.specs.Negotiation.{IsMadeOver, identifiers_of, Negotiation
 use Rattle.icu_locale.specs.LikelyTable.{likely}
 use Rattle.icu_locale.specs.LikelySubtags.{AreSettled}
 use Rattle.icu_locale.specs.declared.negotiator.available.Available.{Available}
-use Rattle.icu_locale_lines.specs.Lists.{listed, SpellsAll, IsListedAnswer, IsNegotiatedLine}
+use Rattle.icu_locale_lines.specs.Lists.{listed, IsAvailable, IsListedAnswer, IsNegotiatedLine}
 use Rattle.icu_locale_lines.specs.Serving.{IsWishAnswer}
 use Rattle.icu_locale_lines.specs.Wholes.{rules_of}
 use Rattle.icu_locale_lines.specs.declared.work.canonicalizing.Canonicalizing.{Canonicalizing}
@@ -27,6 +27,8 @@ use Rattle.icu_locale_lines.specs.declared.command.Wishes.{Wishes}
 use Rattle.icu_locale_matching.specs.Service.{Service}
 use Rattle.icu_provider.specs.declared.matching.LanguageMatching.{LanguageMatching}
 use Rattle.icu_locale_lines.specs.declared.work.Work.{Work}
+use Rattle.icu_locale_lines.specs.declared.work.offered.Offered.{Offered}
+use Rattle.icu_locale_extensions.specs.declared.identifier.LocaleIdentifier.{LocaleIdentifier}
 use Rattle.icu_locale_lines.specs.laws.Expanders.{same_likely}
 use Rattle.icu_locale_c.specs.Negotiations.{IsListed}
 use Rattle.icu_locale_lines.specs.declared.command.Task.{Task}
@@ -64,16 +66,17 @@ line_over_rules t e read table asked line whole by over has rules is same (Err f
 
 -- a line of wishes over a server of what is held
 pub line_over_server : {E : Type 0} (t : Tables) (e : LocaleExpander) (read : ReadRules) (table : Aliases) (m : LanguageMatching) (a : Available)
-    (wishes : Wishes) (asked : LineCommand) (line whole : List ℕ) (s : Service)
+    (o : Offered) (wishes : Wishes) (asked : LineCommand) (line whole : List ℕ) (s : Service)
     → IsExpanderOf t e → t.aliases ≡ Some table → AreRules table (rules_over read table) → t.supplement.matching ≡ Some m
     → asked.task ≡ task.Serve wishes → s.expander ≡ e → s.rules ≡ rules_over read table → s.matching ≡ m
     → s.limits ≡ record { threshold = 50; demotion = 5 } → s.available ≡ identifiers_of a
-    → (r : Result Bool E) → IfOk r (IsWishAnswer asked.syntax wishes s line whole) → IfOk r (IsLineOf (with_list t (identifiers_of a)) asked line whole)
-line_over_server t e read table m a wishes asked line whole s over has rules matching is se sr sm sl sa (Ok b) answer = record {
-  work = record { syntax = asked.syntax; tools = tools.Serve wishes s };
+    → (r : Result Bool E) → IfOk r (IsWishAnswer asked.syntax wishes s o.wholes.items line whole)
+    → IfOk r (IsLineOf (with_list t (identifiers_of a) o.wholes.items) asked line whole)
+line_over_server t e read table m a o wishes asked line whole s over has rules matching is se sr sm sl sa (Ok b) answer = record {
+  work = record { syntax = asked.syntax; tools = tools.Serve wishes s o };
   work_of = record {
     syntax = refl;
-    tools = subst (λ k. AreToolsOver asked.syntax k (with_list t (identifiers_of a)) (tools.Serve wishes s)) (sym is) (
+    tools = subst (λ k. AreToolsOver asked.syntax k (with_list t (identifiers_of a) o.wholes.items) (tools.Serve wishes s o)) (sym is) (
       refl,
       record {
         tables = record {
@@ -85,15 +88,17 @@ line_over_server t e read table m a wishes asked line whole s over has rules mat
         };
         available = ap (λ x. Some x) (sym sa);
       },
+      refl,
     );
   };
   answer = served_answer asked.syntax wishes s line whole b answer;
 }
   where
     served_answer : (syntax : Option Syntax) (wishes : Wishes) (s : Service) (line whole : List ℕ) (b : Bool)
-        → IsWishAnswer syntax wishes s line whole b → IsAnswer (record { syntax = syntax; tools = tools.Serve wishes s }) line whole b
+        → IsWishAnswer syntax wishes s o.wholes.items line whole b
+        → IsAnswer (record { syntax = syntax; tools = tools.Serve wishes s o }) line whole b
     served_answer syntax wishes s line whole b answer = answer
-line_over_server t e read table m a wishes asked line whole s over has rules matching is se sr sm sl sa (Err f) answer = tt
+line_over_server t e read table m a o wishes asked line whole s over has rules matching is se sr sm sl sa (Err f) answer = tt
 
 -- the work of a command that lists nothing asks for no list
 pub work_without_list : (asked : LineCommand) (t : Tables) (w : Work) → ((input : List ℕ) → IsWorkOf asked t input w
@@ -123,45 +128,47 @@ list_over t e f list over same made = record {
 }
 
 -- a negotiation over such an expander and a list
-pub negotiation_over : (t : Tables) (e : LocaleExpander) (n : Negotiation) (a : Available) → IsListOver t a → IsExpanderOf t e
-    → n.expander ≡ e → n.available ≡ identifiers_of a → IsNegotiationOf (with_list t (identifiers_of a)) n
-negotiation_over t e n a kept over same listed = record {
+pub negotiation_over : (t : Tables) (e : LocaleExpander) (n : Negotiation) (a : Available) (ws : List LocaleIdentifier) → IsListOver t a
+    → IsExpanderOf t e → n.expander ≡ e → n.available ≡ identifiers_of a → IsNegotiationOf (with_list t (identifiers_of a) ws) n
+negotiation_over t e n a ws kept over same listed = record {
   expander = subst (IsExpanderOf t) (sym same) over;
   settled = subst (λ (x : LocaleExpander). AreSettled (likely x)) (sym same) (kept.made e over).settled;
   available = ap Some (sym listed);
 }
 
 -- the answer to a list is that of the work over it
-list_answered : (syntax : Option Syntax) (n : Negotiation) (line whole : List ℕ) (accepted : Bool)
-    → IsListedAnswer syntax (IsNegotiatedLine n) line whole accepted → IsAnswer (record { syntax = syntax; tools = tools.Negotiate n }) line whole accepted
-list_answered None n line whole accepted answer = answer
-list_answered (Some s) n line whole accepted answer = answer
+list_answered : (syntax : Option Syntax) (n : Negotiation) (o : Offered) (line whole : List ℕ) (accepted : Bool)
+    → IsListedAnswer syntax (IsNegotiatedLine n o.wholes.items) line whole accepted
+    → IsAnswer (record { syntax = syntax; tools = tools.Negotiate n o }) line whole accepted
+list_answered None n o line whole accepted answer = answer
+list_answered (Some s) n o line whole accepted answer = answer
 
-pub line_over_list : (t : Tables) (e : LocaleExpander) (n : Negotiation) (a : Available) (asked : LineCommand) (line whole : List ℕ)
+pub line_over_list : (t : Tables) (e : LocaleExpander) (n : Negotiation) (a : Available) (o : Offered) (asked : LineCommand) (line whole : List ℕ)
     (accepted : Bool) → IsListOver t a → asked.task ≡ task.Negotiate → IsExpanderOf t e → n.expander ≡ e → n.available ≡ identifiers_of a
-    → IsListedAnswer asked.syntax (IsNegotiatedLine n) line whole accepted → IsLineOf (with_list t (identifiers_of a)) asked line whole accepted
-line_over_list t e n a asked line whole accepted kept is over same listed answer = record {
-  work = record { syntax = asked.syntax; tools = tools.Negotiate n };
+    → IsListedAnswer asked.syntax (IsNegotiatedLine n o.wholes.items) line whole accepted
+    → IsLineOf (with_list t (identifiers_of a) o.wholes.items) asked line whole accepted
+line_over_list t e n a o asked line whole accepted kept is over same listed answer = record {
+  work = record { syntax = asked.syntax; tools = tools.Negotiate n o };
   work_of = record {
     syntax = refl;
-    tools = subst (λ k. AreToolsOver asked.syntax k (with_list t (identifiers_of a)) (tools.Negotiate n)) (sym is)
-        (negotiation_over t e n a kept over same listed);
+    tools = subst (λ k. AreToolsOver asked.syntax k (with_list t (identifiers_of a) o.wholes.items) (tools.Negotiate n o)) (sym is)
+        (negotiation_over t e n a o.wholes.items kept over same listed, refl);
   };
-  answer = list_answered asked.syntax n line whole accepted answer;
+  answer = list_answered asked.syntax n o line whole accepted answer;
 }
 
-listed_anew : (t : Tables) (a : Available) (line : List ℕ) → IsListOver t a → SpellsAll None (listed line) (identifiers_of a)
-    → IsListed t line (with_list t (identifiers_of a))
-listed_anew t a line kept spelled = record {
-  tables = refl;
-  negotiation = record { expander = kept.expander; available = identifiers_of a };
-  over = record { expander = kept.over; settled = (kept.made kept.expander kept.over).settled; available = refl };
-  spelled = spelled;
-}
+module _ (syntax : Option Syntax) (t : Tables) (a : Available) (ws : List LocaleIdentifier) (line : List ℕ) (kept : IsListOver t a)
+    (spelled : IsAvailable syntax (listed line) (identifiers_of a) ws) where
+  listed_anew : IsListed syntax t line (with_list t (identifiers_of a) ws)
+  listed_anew = record {
+    tables = refl;
+    negotiation = record { expander = kept.expander; available = identifiers_of a };
+    over = record { expander = kept.over; settled = (kept.made kept.expander kept.over).settled; available = refl };
+    spelled = spelled;
+  }
 
-pub listed_in : {B E : Type 0} (held : B → Held) (t u : Tables) (a : Available) (line : List ℕ) → u ≡ t → IsListOver t a
-    → SpellsAll None (listed line) (identifiers_of a) → (r : Result B E) → IfOk r (λ b. held b ≡ with_list u (identifiers_of a))
-    → IfOk r (λ b. IsListed t line (held b))
-listed_in held t u a line same kept spelled (Ok b) is = subst (IsListed t line) (sym (is ∙ ap (λ x. with_list x (identifiers_of a)) same))
-    (listed_anew t a line kept spelled)
-listed_in held t u a line same kept spelled (Err f) is = tt
+  pub listed_in : {B E : Type 0} (held : B → Held) (u : Tables) → u ≡ t → (r : Result B E)
+      → IfOk r (λ b. held b ≡ with_list u (identifiers_of a) ws) → IfOk r (λ b. IsListed syntax t line (held b))
+  listed_in held u same (Ok b) is =
+      subst (IsListed syntax t line) (sym (is ∙ ap (λ x. with_list x (identifiers_of a) ws) same)) listed_anew
+  listed_in held u same (Err f) is = tt

@@ -16,7 +16,7 @@ use Rattle.icu_locale_lines.specs.WholeRuns.{TellsSettled}
 use Rattle.icu_locale_lines.specs.declared.command.Command.TheVariants.{Settled, Lines}
 use Rattle.icu_locale_lines.specs.declared.command.LineCommand.{LineCommand}
 use Rattle.icu_locale_lines.specs.declared.work.Work.{Work}
-use Rattle.icu_locale_c.specs.Asked.{asks_list}
+use Rattle.icu_locale_c.specs.Asked.{HasList, asks_list}
 use Rattle.icu_locale_c.specs.Held.{Held, IsWorkOver, without_list}
 use Rattle.icu_locale_c.specs.declared.refusal.Refusal.{Refusal}
 use Rattle.icu_locale_c.specs.declared.refusal.Refusal.TheVariants as refusal
@@ -55,22 +55,25 @@ pub record WantsRoom (h : Held) (command line out : List ℕ) (written : ℕ) : 
   pub wanted : written ≡ length text
   pub short : length out < length text
 
--- the text names a command, and whether the tables that it needs are held
-pub record NeedsTables (t : Tables) (command : List ℕ) (held : Bool) : Type 0 where
+-- the text names a command, the list is there that this asks for, if it asks for one, and whether
+-- the tables that it needs are held
+pub record NeedsTables (h : Held) (command : List ℕ) (held : Bool) : Type 0 where
   pub asked : LineCommand
   pub named : Names command asked
-  pub are_held : has_tables (Lines asked) t ≡ held
+  pub listed : HasList h asked
+  pub are_held : has_tables (Lines asked) h.tables ≡ held
 
 -- the text names a task that asks for a list, in a syntax or none
 abbrev pub NamesListed : List ℕ → Type 0
 NamesListed command = (c : LineCommand) × Names command c × (asks_list c.task ≡ true)
 
--- why there is no answer, whatever the room
+-- why there is no answer, whatever the room: the handle is asked first, then the words, then a list,
+-- and then the tables
 abbrev pub HasNoAnswer : Option Held → List ℕ → Refusal → Type 0
 HasNoAnswer held command refusal.Closed = held ≡ None
-HasNoAnswer held command refusal.Memory = IsSomeAnd held (λ h. NeedsTables h.tables command true)
+HasNoAnswer held command refusal.Memory = IsSomeAnd held (λ h. NeedsTables h command true)
 HasNoAnswer held command refusal.Command = IsSomeAnd held (λ h. NamesNone command)
-HasNoAnswer held command refusal.Table = IsSomeAnd held (λ h. NeedsTables h.tables command false)
+HasNoAnswer held command refusal.Table = IsSomeAnd held (λ h. NeedsTables h command false)
 HasNoAnswer held command refusal.Negotiate =
     IsSomeAnd held (λ h. NamesListed command × (h.available ≡ None))
 HasNoAnswer held command e = ⊥
@@ -111,8 +114,11 @@ IsOpened json old new (Err e) = (new ≡ old) × IsRefusedOpen json e
 
 -- what is held, with another supplement of its tables
 abbrev pub with_supplement : Held → Supplement → Held
-with_supplement h s =
-    record { tables = record h.tables { supplement = s }; available = h.available }
+with_supplement h s = record {
+  tables = record h.tables { supplement = s };
+  available = h.available;
+  wholes = h.wholes;
+}
 
 -- why the tables are given no supplement; that another handle has them too is told by no clause
 abbrev pub IsRefusedSupplement : Option Held → List ℕ → Refusal → Type 0

@@ -1,8 +1,10 @@
 -- What a handle holds: tables, and a list of what is available where one was given.
-use Rattle.std.specs.Prelude.{◌≡◌, List, [], Option, Some, None, IfSome, IsSomeAnd, option_map}
+use Rattle.std.specs.Prelude.{◌≡◌, List, [], Option, Some, None, IfSome, IsSome, IsSomeAnd, option_map}
 use Rattle.std.specs.Coded.{Coded, code_by, coded×, coded_list, coded_option}
 use Rattle.icu_locale_core.specs.contracts.langid.LanguageIdentifier.{the_row as identifier_row}
 use Rattle.icu_locale_core.specs.declared.langid.LanguageIdentifier.{LanguageIdentifier}
+use Rattle.icu_locale_extensions.specs.contracts.identifier.LocaleIdentifier.{the_row as whole_row}
+use Rattle.icu_locale_extensions.specs.declared.identifier.LocaleIdentifier.{LocaleIdentifier}
 use Rattle.icu_locale.specs.Negotiation.{IsMadeOver, Negotiation, identifiers_of}
 use Rattle.icu_locale.specs.RuleSet.{rules_over}
 use Rattle.icu_locale.specs.Rules.{AreRules}
@@ -24,33 +26,37 @@ use Rattle.icu_locale_lines.specs.declared.command.LineCommand.{LineCommand}
 use Rattle.icu_locale_c.specs.declared.kept.Kept.{Kept}
 use Rattle.icu_locale_extensions.specs.declared.syntax.Syntax.{Syntax}
 use Rattle.icu_locale_lines.specs.declared.command.Task.{Task}
-use Rattle.icu_locale_lines.specs.declared.command.Task.TheVariants.{Negotiate, Serve}
+use Rattle.icu_locale_lines.specs.declared.command.Task.TheVariants.{Canonicalize, Negotiate, Serve}
 use Rattle.icu_locale_lines.specs.declared.work.Work.{Work}
 use Rattle.icu_locale_lines.specs.declared.work.Tools.{Tools}
 use Rattle.icu_locale_lines.specs.declared.work.Tools.TheVariants as tools
 
--- tables, and the available identifiers, as they were handed in
+-- tables, the available identifiers, as they were handed in, and the locale identifiers that are
+-- written for them where the list was read in a syntax
 pub record Held : Type 0 where
   pub tables : Tables
   pub available : Option (List LanguageIdentifier)
+  pub wholes : List LocaleIdentifier
 
 -- tables without a list
 abbrev pub without_list : Tables → Held
-without_list t = record { tables = t; available = None }
+without_list t = record { tables = t; available = None; wholes = [] }
 
 -- tables with a list
-abbrev pub with_list : Tables → List LanguageIdentifier → Held
-with_list t list = record { tables = t; available = Some list }
+abbrev pub with_list : Tables → List LanguageIdentifier → List LocaleIdentifier → Held
+with_list t list wholes = record { tables = t; available = Some list; wholes = wholes }
 
 -- tables, and the list that is kept of what is available, if one is
-abbrev pub held : Tables → Option Available → Held
-held t list = record { tables = t; available = option_map identifiers_of list }
+abbrev pub held : Tables → Option Available → List LocaleIdentifier → Held
+held t list wholes =
+    record { tables = t; available = option_map identifiers_of list; wholes = wholes }
 
 -- the code of what is held
 abbrev pub held_code : Coded Held
-held_code = code_by (Tables × Option (List LanguageIdentifier))
-    (coded× tables_row.coded (coded_option (coded_list identifier_row.coded)))
-    (λ h. (h.tables, h.available)) (λ p. record { tables = p.0; available = p.1 }) (λ h i. h)
+held_code = code_by (Tables × Option (List LanguageIdentifier) × List LocaleIdentifier)
+    (coded× tables_row.coded (coded× (coded_option (coded_list identifier_row.coded))
+    (coded_list whole_row.coded))) (λ h. (h.tables, h.available, h.wholes))
+    (λ p. record { tables = p.0; available = p.1; wholes = p.2 }) (λ h i. h)
 
 -- rules are what can be read of the aliases of the tables, which have some
 abbrev pub AreRulesOf : Tables → ReadRules → Type 0
@@ -76,6 +82,17 @@ pub record AreKept (t : Tables) (list : Option Available) (kept : Kept) : Type 0
   pub served : IfSome kept.served (λ s. IsSomeAnd kept.rules
       (λ read. IsSomeAnd list (λ a. IsServedOver t read a s)))
 
+-- what a task asks for beside the tables is kept
+abbrev pub HasKept : Task → Kept → Type 0
+HasKept Canonicalize kept = IsSome kept.rules
+HasKept (Serve wishes) kept = IsSome kept.rules × IsSome kept.served
+HasKept task kept = Unit {0}
+
+-- what was kept is kept still
+pub record StaysKept (old new : Kept) : Type 0 where
+  pub rules : IsSome old.rules → new.rules ≡ old.rules
+  pub served : IsSome old.served → new.served ≡ old.served
+
 -- a negotiation over what is held: the likely tables are settled, and the list is the one that is held
 pub record IsNegotiationOf (h : Held) (n : Negotiation) : Type 0 where
   pub expander : IsExpanderOf h.tables n.expander
@@ -88,10 +105,12 @@ pub record IsServerOver (h : Held) (s : Service) : Type 0 where
   pub available : h.available ≡ Some s.available
 
 -- the tools of a task over what is held; those of `negotiate`, `serve` and `nearest` are over the
--- list
+-- list, and write it as it was read
 abbrev pub AreToolsOver : Option Syntax → Task → Held → Tools → Type 0
-AreToolsOver syntax Negotiate h (tools.Negotiate n) = IsNegotiationOf h n
-AreToolsOver syntax (Serve wishes) h (tools.Serve how s) = (how ≡ wishes) × IsServerOver h s
+AreToolsOver syntax Negotiate h (tools.Negotiate n offered) =
+    IsNegotiationOf h n × (offered.wholes.items ≡ h.wholes)
+AreToolsOver syntax (Serve wishes) h (tools.Serve how s offered) =
+    (how ≡ wishes) × IsServerOver h s × (offered.wholes.items ≡ h.wholes)
 AreToolsOver syntax task h w = AreToolsOf syntax task h.tables [] w
 
 -- the work of a command over what is held

@@ -1,12 +1,13 @@
 //! What a handle keeps beside its tables, once it was asked for.
-ghost use Rattle.std.specs.Prelude.{◌≡◌, Option, Some, IfOk, IfErr, IfSome, IsOk, IsSome};
+ghost use Rattle.std.specs.Prelude.{◌≡◌, [], true, Option, Some, IfOk, IfErr, IfSome, IsOk, IsSome};
 ghost use Rattle.icu_locale.specs.LikelyTable.{likely};
 ghost use Rattle.icu_locale.specs.RuleSet.{lent};
 ghost use Rattle.icu_locale.specs.declared.negotiator.available.Available.{Available};
 ghost use Rattle.icu_locale_matching.specs.Service.{IsPreparedOver};
+ghost use Rattle.icu_locale_lines.specs.Loads.{has_likely};
 ghost use Rattle.icu_locale_lines.specs.Serving.{IsWishAnswer};
 ghost use Rattle.icu_locale_c.specs.Asked.{IsLineOf, IsRefusedLine};
-ghost use Rattle.icu_locale_c.specs.Held.{AreKept, AreRulesOf, with_list};
+ghost use Rattle.icu_locale_c.specs.Held.{AreKept, AreRulesOf, HasKept, StaysKept, with_list};
 ghost use Rattle.icu_locale.specs.Negotiation.{identifiers_of};
 ghost use Rattle.icu_locale_matching.specs.Service as service;
 
@@ -14,7 +15,7 @@ use crate::refusal::Refusal;
 use icu_locale::{Available, CanonicalizerRef, LocaleExpander, ReadRules};
 use icu_locale_core::{LanguageIdentifier, ParseError};
 use icu_locale_extensions::Syntax;
-use icu_locale_lines::{LineCommand, Task, Wishes, answer_wishes, load_expander};
+use icu_locale_lines::{LineCommand, Offered, Task, Wishes, answer_wishes, load_expander};
 use icu_locale_matching::{LocaleServer, MatchLimits, ServedLocales};
 use icu_provider::{Aliases, LanguageMatching};
 use icu_tables::Tables;
@@ -48,6 +49,9 @@ pub fn read_rules(
     ensures rules { IfSome kept.old.rules (AreRulesOf tables.now)
         → IfSome kept.new.rules (AreRulesOf tables.now) }
     ensures there { IsOk result → IsSome kept.new.rules }
+    ensures stays { StaysKept kept.old kept.new }
+    ensures again { IsSome kept.old.rules → IsOk result }
+    ensures free { HasNoTexts aliases.now → IsOk result }
     ensures refused { IfErr result (λ e. e ≡ Refusal.Memory) }
 {
     if kept.rules.is_some() {
@@ -75,6 +79,11 @@ fn prepare(
     requires matching { tables.now.supplement.matching ≡ Some matching.now }
     requires kept { AreKept tables.now (Some list.now) kept.old }
     ensures kept { AreKept tables.now (Some list.now) kept.new }
+    ensures there { IsOk result → IsSome kept.old.rules → has_likely tables.now ≡ true
+        → IsSome kept.new.served }
+    ensures rules { kept.new.rules ≡ kept.old.rules }
+    ensures stays { IsSome kept.old.served → kept.new.served ≡ kept.old.served }
+    ensures again { IsSome kept.old.served → IsOk result }
     ensures refused { IfErr result (λ e. e ≡ Refusal.Memory) }
 {
     let Some(read) = &kept.rules else {
@@ -105,6 +114,7 @@ fn copied(
     identifiers: &[LanguageIdentifier],
 ) -> Result<Vec<LanguageIdentifier>, ParseError>
     ensures same { IfOk result (λ list. list.items ≡ identifiers.now) }
+    ensures free { identifiers.now ≡ [] → IsOk result }
     ensures refused { IfErr result (λ e. e ≡ ParseError.Memory) }
 {
     let mut list = Vec::with_capacity(alloc, identifiers.len())?;
@@ -120,6 +130,7 @@ pub fn wishes_line(
     alloc: Global,
     tables: &Tables,
     list: &Available,
+    offered: &Offered,
     kept: &mut Kept,
     wishes: Wishes,
     asked: &LineCommand,
@@ -129,10 +140,13 @@ pub fn wishes_line(
     requires kept { AreKept tables.now (Some list.now) kept.old }
     requires task { asked.now.task ≡ Task.Serve wishes }
     ensures kept { AreKept tables.now (Some list.now) kept.new }
-    ensures answered { IfOk result (IsLineOf (with_list tables.now (identifiers_of list.now))
+    ensures there { IsOk result → HasKept (Task.Serve wishes) kept.new }
+    ensures stays { StaysKept kept.old kept.new }
+    ensures answered { IfOk result (IsLineOf
+        (with_list tables.now (identifiers_of list.now) offered.now.wholes.items)
         asked.now line.now room.new.items) }
     ensures refused { IfErr result (IsRefusedLine
-        (with_list tables.now (identifiers_of list.now)) asked.now) }
+        (with_list tables.now (identifiers_of list.now) offered.now.wholes.items) asked.now) }
 {
     let Some(matching) = &tables.supplement.matching else {
         return Err(Refusal::Table);
@@ -148,7 +162,16 @@ pub fn wishes_line(
     match (&kept.rules, &kept.served) {
         (Some(read), Some(served)) => {
             let rules = CanonicalizerRef::over(read, aliases, expander);
-            served_line(rules, matching, served, wishes, asked.syntax, room, line)
+            served_line(
+                rules,
+                matching,
+                served,
+                offered,
+                wishes,
+                asked.syntax,
+                room,
+                line,
+            )
         }
         _ => Err(Refusal::Memory),
     }
@@ -159,6 +182,7 @@ fn served_line(
     rules: CanonicalizerRef<'_>,
     matching: &LanguageMatching,
     served: &ServedLocales,
+    offered: &Offered,
     wishes: Wishes,
     syntax: Option<Syntax>,
     room: &mut Vec<u8>,
@@ -171,11 +195,11 @@ fn served_line(
       matching = matching.now;
       limits = record { threshold = 50; demotion = 5 };
       available = service.identifiers_of served.now;
-    }) line.now room.new.items) }
+    }) offered.now.wholes.items line.now room.new.items) }
     ensures refused { IfErr result (λ e. e ≡ Refusal.Memory) }
 {
     let server = LocaleServer::over(rules, matching, MatchLimits::default(), served);
-    match answer_wishes(room, &server, wishes, syntax, line) {
+    match answer_wishes(room, &server, offered, wishes, syntax, line) {
         Ok(accepted) => Ok(accepted),
         Err(_) => Err(Refusal::Memory),
     }

@@ -3,7 +3,7 @@
 
 ghost use Rattle.std.specs.Prelude.{◌≡◌, None, Bool, Result};
 ghost use Rattle.icu_locale_c.specs.Calls.{IsCall, IsOpened, IsShared, IsSupplemented, IsSettledCall, done_number, answer_number, yes_number};
-ghost use Rattle.icu_locale_c.specs.Negotiations.{IsAvailableCall, IsNegotiatedCall};
+ghost use Rattle.icu_locale_c.specs.Negotiations.{IsAvailableCall, IsAvailableIn, IsNegotiatedCall, IsNegotiatedIn};
 ghost use Rattle.icu_locale_c.specs.declared.refusal.Refusal.{Refusal};
 
 mod handle;
@@ -18,6 +18,8 @@ mod words;
 use crate::handle::Handle;
 use crate::refusal::{Refusal, answer_number, done_number, yes_number};
 use crate::shared::Shared;
+use crate::words::read_syntax;
+use icu_locale_extensions::Syntax;
 use icu_tables::{TableError, Tables};
 use std::alloc::Global;
 
@@ -79,9 +81,10 @@ pub extern "C" fn icu_locale_available(
 ) -> i32
     ensures stays { from.new.held ≡ from.old.held }
     ensures listed { (outcome : Result (Unit {0}) Refusal) × (result ≡ done_number outcome)
-        × IsAvailableCall from.old.held list.now negotiator.old.held negotiator.new.held outcome }
+        × IsAvailableCall None from.old.held list.now negotiator.old.held negotiator.new.held
+        outcome }
 {
-    done_number(available(alloc, from, list, negotiator))
+    done_number(available(alloc, from, None, list, negotiator))
 }
 
 /// The places of the first request of a line that is met, and of the first available identifier that meets it.
@@ -95,10 +98,45 @@ pub extern "C" fn icu_locale_negotiate(
 ) -> i32
     ensures stays { negotiator.new.held ≡ negotiator.old.held }
     ensures negotiated { (outcome : Result Bool Refusal) × (result ≡ answer_number outcome)
-        × IsNegotiatedCall negotiator.old.held requests.now (request.old, available.old)
+        × IsNegotiatedCall None negotiator.old.held requests.now (request.old, available.old)
         (request.new, available.new) outcome }
 {
-    answer_number(negotiate(alloc, negotiator, requests, request, available))
+    answer_number(negotiate(alloc, negotiator, None, requests, request, available))
+}
+
+/// The same as `icu_locale_available` of a list in the syntax that a word names: its texts are written whole.
+#[unsafe(no_mangle)]
+pub extern "C" fn icu_locale_available_in(
+    alloc: Global,
+    from: &mut Handle,
+    syntax: &[u8],
+    list: &[u8],
+    negotiator: &mut Handle,
+) -> i32
+    ensures stays { from.new.held ≡ from.old.held }
+    ensures listed { (outcome : Result (Unit {0}) Refusal) × (result ≡ done_number outcome)
+        × IsAvailableIn from.old.held syntax.now list.now negotiator.old.held
+        negotiator.new.held outcome }
+{
+    done_number(available_in(alloc, from, syntax, list, negotiator))
+}
+
+/// The same as `icu_locale_negotiate` of requests in the syntax that a word names.
+#[unsafe(no_mangle)]
+pub extern "C" fn icu_locale_negotiate_in(
+    alloc: Global,
+    negotiator: &mut Handle,
+    syntax: &[u8],
+    requests: &[u8],
+    request: &mut usize,
+    available: &mut usize,
+) -> i32
+    ensures stays { negotiator.new.held ≡ negotiator.old.held }
+    ensures negotiated { (outcome : Result Bool Refusal) × (result ≡ answer_number outcome)
+        × IsNegotiatedIn negotiator.old.held syntax.now requests.now
+        (request.old, available.old) (request.new, available.new) outcome }
+{
+    answer_number(negotiate_in(alloc, negotiator, syntax, requests, request, available))
 }
 
 /// Whether the likely tables are settled.
@@ -171,30 +209,73 @@ fn answer(
     outcome
 }
 
-fn available(alloc: Global, from: &mut Handle, list: &[u8], to: &mut Handle) -> Result<(), Refusal>
+fn available_in(
+    alloc: Global,
+    from: &mut Handle,
+    word: &[u8],
+    list: &[u8],
+    to: &mut Handle,
+) -> Result<(), Refusal>
     ensures stays { from.new.held ≡ from.old.held }
-    ensures listed { IsAvailableCall from.old.held list.now to.old.held to.new.held result }
+    ensures listed { IsAvailableIn from.old.held word.now list.now to.old.held to.new.held
+        result }
+{
+    match read_syntax(word) {
+        Ok(syntax) => available(alloc, from, syntax, list, to),
+        Err(refusal) => Err(refusal),
+    }
+}
+
+fn available(
+    alloc: Global,
+    from: &mut Handle,
+    syntax: Option<Syntax>,
+    list: &[u8],
+    to: &mut Handle,
+) -> Result<(), Refusal>
+    ensures stays { from.new.held ≡ from.old.held }
+    ensures listed { IsAvailableCall syntax from.old.held list.now to.old.held to.new.held
+        result }
 {
     let held = from.take(alloc)?;
-    let listed = held.with_available(alloc, list);
+    let listed = held.with_available(alloc, syntax, list);
     *from = Handle::of(held);
     *to = Handle::of(listed?);
     Ok(())
 }
 
-fn negotiate(
+fn negotiate_in(
     alloc: Global,
     handle: &mut Handle,
+    word: &[u8],
     requests: &[u8],
     request: &mut usize,
     available: &mut usize,
 ) -> Result<bool, Refusal>
     ensures stays { handle.new.held ≡ handle.old.held }
-    ensures negotiated { IsNegotiatedCall handle.old.held requests.now
+    ensures negotiated { IsNegotiatedIn handle.old.held word.now requests.now
+        (request.old, available.old) (request.new, available.new) result }
+{
+    match read_syntax(word) {
+        Ok(syntax) => negotiate(alloc, handle, syntax, requests, request, available),
+        Err(refusal) => Err(refusal),
+    }
+}
+
+fn negotiate(
+    alloc: Global,
+    handle: &mut Handle,
+    syntax: Option<Syntax>,
+    requests: &[u8],
+    request: &mut usize,
+    available: &mut usize,
+) -> Result<bool, Refusal>
+    ensures stays { handle.new.held ≡ handle.old.held }
+    ensures negotiated { IsNegotiatedCall syntax handle.old.held requests.now
         (request.old, available.old) (request.new, available.new) result }
 {
     let mut shared = handle.take(alloc)?;
-    let outcome = shared.negotiate(alloc, requests);
+    let outcome = shared.negotiate(alloc, syntax, requests);
     *handle = Handle::of(shared);
     match outcome? {
         Some((asked, found)) => {

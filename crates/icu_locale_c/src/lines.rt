@@ -1,12 +1,12 @@
 //! The program's line for a line, over what a handle keeps.
-ghost use Rattle.std.specs.Prelude.{◌≡◌, ◌<◌, ◌-◌, false, take, length, Option, IfOk, IfErr, IfSome};
+ghost use Rattle.std.specs.Prelude.{◌≡◌, ◌<◌, ◌-◌, false, take, length, Option, IfOk, IfErr, IfSome, IsOk, IsSome};
 ghost use Rattle.icu_locale.specs.LikelyTable.{likely};
 ghost use Rattle.icu_locale.specs.RuleSet.{lent};
 ghost use Rattle.icu_locale.specs.declared.negotiator.available.Available.{Available};
 ghost use Rattle.icu_locale_lines.specs.Answers.{IsCanonicalAnswer};
 ghost use Rattle.icu_locale_c.specs.Asked.{IsLineOf, IsRefusedLine, asks_list};
 ghost use Rattle.icu_locale_c.specs.Calls.{Writes, unended};
-ghost use Rattle.icu_locale_c.specs.Held.{AreKept, AreRulesOf, IsListOver, held, without_list};
+ghost use Rattle.icu_locale_c.specs.Held.{AreKept, AreRulesOf, HasKept, IsListOver, StaysKept, held, without_list};
 
 use crate::kept::{Kept, read_rules, wishes_line};
 use crate::negotiations::requests_line;
@@ -14,7 +14,8 @@ use crate::refusal::Refusal;
 use icu_locale::{Available, CanonicalizerRef};
 use icu_locale_extensions::Syntax;
 use icu_locale_lines::{
-    CliError, LineCommand, Loaded, Task, Tools, Transform, Work, answer_locale, load_expander,
+    CliError, LineCommand, Loaded, Offered, Task, Tools, Transform, Work, answer_locale,
+    load_expander,
 };
 use icu_locale_values::{ValueAliases, WholeCanonicalizer};
 use icu_tables::{Supplement, Tables};
@@ -27,6 +28,7 @@ pub fn line_of(
     tables: &Tables,
     kept: &mut Kept,
     list: &Option<Available>,
+    offered: &Offered,
     asked: &LineCommand,
     room: &mut Vec<u8>,
     line: &[u8],
@@ -34,17 +36,22 @@ pub fn line_of(
     requires kept { AreKept tables.now list.now kept.old }
     requires list { IfSome list.now (IsListOver tables.now) }
     ensures kept { AreKept tables.now list.now kept.new }
-    ensures answered { IfOk result (IsLineOf (held tables.now list.now) asked.now line.now
-        room.new.items) }
-    ensures refused { IfErr result (IsRefusedLine (held tables.now list.now) asked.now) }
+    ensures there { IsOk result → HasKept asked.now.task kept.new }
+    ensures stays { StaysKept kept.old kept.new }
+    ensures answered { IfOk result (IsLineOf
+        (held tables.now list.now offered.now.wholes.items) asked.now line.now room.new.items) }
+    ensures refused { IfErr result (IsRefusedLine
+        (held tables.now list.now offered.now.wholes.items) asked.now) }
 {
     match asked.task {
         Task::Negotiate => match list {
-            Some(list) => requests_line(tables, list, asked, room, line),
+            Some(list) => requests_line(tables, list, offered, asked, room, line),
             None => Err(Refusal::Negotiate),
         },
         Task::Serve(wishes) => match list {
-            Some(list) => wishes_line(alloc, tables, list, kept, wishes, asked, room, line),
+            Some(list) => wishes_line(
+                alloc, tables, list, offered, kept, wishes, asked, room, line,
+            ),
             None => Err(Refusal::Negotiate),
         },
         Task::Canonicalize => locale_line(alloc, tables, kept, asked, room, line),
@@ -117,6 +124,8 @@ fn locale_line(
     requires task { asked.now.task ≡ Task.Canonicalize }
     ensures kept { (list : Option Available) → AreKept tables.now list kept.old
         → AreKept tables.now list kept.new }
+    ensures there { IsOk result → IsSome kept.new.rules }
+    ensures stays { StaysKept kept.old kept.new }
     ensures answered { IfOk result (IsLineOf (without_list tables.now) asked.now line.now
         room.new.items) }
     ensures refused { IfErr result (IsRefusedLine (without_list tables.now) asked.now) }

@@ -1,5 +1,5 @@
 //! Tables that several handles have, and what one of them keeps beside them.
-ghost use Rattle.std.specs.Prelude.{◌≡◌, Some, IfOk, IfErr, IfSome};
+ghost use Rattle.std.specs.Prelude.{◌≡◌, [], Some, IfOk, IfErr, IfSome};
 ghost use Rattle.icu_locale_c.specs.Calls.{IsCall, IsSettledCall, IsSupplemented};
 ghost use Rattle.icu_locale_c.specs.Held.{Held, AreKept, IsListOver, held, held_code, without_list};
 ghost use Rattle.icu_locale_c.specs.Negotiations.{IsListed, IsMet, IsRefusedListing, IsRefusedNegotiation};
@@ -10,7 +10,8 @@ use crate::negotiations::{negotiate, read_available};
 use crate::refusal::Refusal;
 use crate::words::read_command;
 use icu_locale::Available;
-use icu_locale_lines::load_expander;
+use icu_locale_extensions::Syntax;
+use icu_locale_lines::{Offered, load_expander};
 use icu_tables::{Supplement, TableError, Tables};
 use std::alloc::Global;
 use std::marker::Model;
@@ -21,6 +22,7 @@ use std::sync::Arc;
 pub struct Shared {
     tables: Arc<Tables>,
     available: Option<Available>,
+    offered: Offered,
     kept: Kept,
     room: Vec<u8>,
 }
@@ -30,7 +32,7 @@ impl Model for Shared {
 
     ghost coded = { held_code };
 
-    ghost view = { λ s. held s.tables.value s.available };
+    ghost view = { λ s. held s.tables.value s.available s.offered.wholes.items };
 
     ghost invariant = { λ s. AreKept s.tables.value s.available s.kept
         × IfSome s.available (IsListOver s.tables.value) };
@@ -41,6 +43,7 @@ impl Drop for Shared {
         let Shared {
             tables: _,
             available: _,
+            offered: _,
             kept: _,
             room: _,
         } = self;
@@ -55,7 +58,7 @@ impl Shared {
         let Ok(tables) = Arc::new(alloc, tables) else {
             return Err(Refusal::Memory);
         };
-        boxed(alloc, tables, None)
+        boxed(alloc, tables, None, nothing(alloc))
     }
 
     // Reads the supplement of the tables, in place of theirs, where no other handle has them.
@@ -86,30 +89,40 @@ impl Shared {
         let Ok(tables) = Arc::clone(&self.tables) else {
             return Err(Refusal::Memory);
         };
-        boxed(alloc, tables, None)
+        boxed(alloc, tables, None, nothing(alloc))
     }
 
     // The same tables once more, with the list that a line lists.
-    pub fn with_available(&self, alloc: Global, line: &[u8]) -> Result<Box<Shared>, Refusal>
-        ensures made { IfOk result (λ b. IsListed self.now.tables line.now b.value) }
-        ensures refused { IfErr result (IsRefusedListing self.now.tables line.now) }
+    pub fn with_available(
+        &self,
+        alloc: Global,
+        syntax: Option<Syntax>,
+        line: &[u8],
+    ) -> Result<Box<Shared>, Refusal>
+        ensures made { IfOk result (λ b. IsListed syntax self.now.tables line.now b.value) }
+        ensures refused { IfErr result (IsRefusedListing syntax self.now.tables line.now) }
     {
-        let available = read_available(alloc, &self.tables, line)?;
+        let (available, offered) = read_available(alloc, &self.tables, syntax, line)?;
         let Ok(tables) = Arc::clone(&self.tables) else {
             return Err(Refusal::Memory);
         };
-        boxed(alloc, tables, Some(available))
+        boxed(alloc, tables, Some(available), offered)
     }
 
     // The places of the first request of a line that is met and of what meets it.
-    pub fn negotiate(&self, alloc: Global, line: &[u8]) -> Result<Option<(usize, usize)>, Refusal>
-        ensures met { IfOk result (IsMet self.now line.now) }
-        ensures refused { IfErr result (IsRefusedNegotiation self.now line.now) }
+    pub fn negotiate(
+        &self,
+        alloc: Global,
+        syntax: Option<Syntax>,
+        line: &[u8],
+    ) -> Result<Option<(usize, usize)>, Refusal>
+        ensures met { IfOk result (IsMet syntax self.now line.now) }
+        ensures refused { IfErr result (IsRefusedNegotiation syntax self.now line.now) }
     {
         let Some(list) = &self.available else {
             return Err(Refusal::Negotiate);
         };
-        negotiate(alloc, &self.tables, list, line)
+        negotiate(alloc, &self.tables, list, syntax, line)
     }
 
     pub fn is_settled(&self) -> Result<bool, Refusal>
@@ -144,6 +157,7 @@ impl Shared {
             &self.tables,
             &mut self.kept,
             &self.available,
+            &self.offered,
             &asked,
             &mut self.room,
             line,
@@ -158,18 +172,30 @@ impl Shared {
     }
 }
 
+// What is written of no list.
+fn nothing(alloc: Global) -> Offered
+    ensures { result.wholes.items ≡ [] }
+{
+    Offered {
+        wholes: Vec::new(alloc),
+    }
+}
+
 fn boxed(
     alloc: Global,
     tables: Arc<Tables>,
     available: Option<Available>,
+    offered: Offered,
 ) -> Result<Box<Shared>, Refusal>
     requires { IfSome available (IsListOver tables.value) }
-    ensures made { IfOk result (λ b. b.value ≡ held tables.value available) }
+    ensures made { IfOk result (λ b.
+        b.value ≡ held tables.value available offered.wholes.items) }
     ensures refused { IfErr result (λ e. e ≡ Refusal.Memory) }
 {
     let shared = Shared {
         tables,
         available,
+        offered,
         kept: Kept {
             rules: None,
             served: None,

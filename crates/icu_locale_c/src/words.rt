@@ -1,17 +1,43 @@
 //! The command that a text names.
-ghost use Rattle.std.specs.Prelude.{◌≡◌, ◌∷◌, [], Some, codes, IfOk, IfErr};
+ghost use Rattle.std.specs.Prelude.{◌≡◌, ◌≢◌, ◌∷◌, [], Some, codes, IfOk, IfErr};
 ghost use Rattle.std.specs.List.{slice_split};
 ghost use Rattle.std.specs.Option.{MatchOption};
 ghost use Rattle.icu_locale_lines.specs.Commands.{AreCommandWords, AreTaskWords};
 ghost use Rattle.icu_locale_lines.specs.Lists.{is_space};
 ghost use Rattle.icu_locale_lines.specs.declared.command.Command.TheVariants.{Lines};
 ghost use Rattle.icu_locale_c.specs.Calls.{AreNoCommand, Names, NamesNone};
+ghost use Rattle.icu_locale_c.specs.Negotiations.{IsNoSyntax, NamesSyntax};
 ghost use Rattle.icu_locale_c.specs.inner.Words.{AreNoPlain};
 
 use crate::refusal::Refusal;
 use icu_locale_extensions::Syntax;
 use icu_locale_lines::{Command, LineCommand, syntax_of};
 use std::alloc::Global;
+
+// The syntax that a word names; no word names none.
+pub fn read_syntax(word: &[u8]) -> Result<Option<Syntax>, Refusal>
+    ensures named { IfOk result (NamesSyntax word.now) }
+    ensures refused { IfErr result (IsNoSyntax word.now) }
+{
+    if word.is_empty() {
+        return Ok(None);
+    }
+    match str::from_utf8(word) {
+        Ok(word) => syntax_in(word),
+        Err(_) => Err(Refusal::Command),
+    }
+}
+
+fn syntax_in(word: &str) -> Result<Option<Syntax>, Refusal>
+    requires { word.now ≢ [] }
+    ensures named { IfOk result (NamesSyntax word.now) }
+    ensures refused { IfErr result (IsNoSyntax word.now) }
+{
+    match syntax_of(word) {
+        Some(syntax) => Ok(Some(syntax)),
+        None => Err(Refusal::Command),
+    }
+}
 
 // The command that a text names: the stream's words, one space between two.
 pub fn read_command(alloc: Global, text: &[u8]) -> Result<LineCommand, Refusal>

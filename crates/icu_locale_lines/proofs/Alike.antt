@@ -53,7 +53,7 @@ use Rattle.icu_locale_lines.proofs.OneAnswer.{not_refused, no_locale_fault, loca
 
 -- ---- how an identifier is written
 
-written_bare : (y : LanguageIdentifier) → whole.written (bare y) ≡ core.written y
+pub written_bare : (y : LanguageIdentifier) → whole.written (bare y) ≡ core.written y
 written_bare y = ap (λ ps. join_by (λ p. p) (codes "-") ps) (append-nil (subtags y (rising y.variants)))
 
 pub line_bare : (y : LanguageIdentifier) (m : TransformResult) → whole_line (bare y) m ≡ transformed_line y m
@@ -144,7 +144,7 @@ module _ (facts : SyntaxFacts) (s : Syntax) (line text : List ℕ) (a : Bool) wh
     no_whole_fault e fault = facts.nothing s line e (bare x) fault (facts.known x is) (facts.alike s line x is spells)
 
     -- an answer that is the same for the identifier and the bare locale identifier
-    each_alike : (IsWhole : LocaleIdentifier → List ℕ → Bool → Type 0) (IsLine : LanguageIdentifier → List ℕ → Bool → Type 0)
+    pub each_alike : (IsWhole : LocaleIdentifier → List ℕ → Bool → Type 0) (IsLine : LanguageIdentifier → List ℕ → Bool → Type 0)
         → IsWhole (bare x) text a ↔ IsLine x text a
         → IsSpelledAnswer s IsWhole line text a ↔ IsIdentifierAnswer IsLine line text a
     each_alike IsWhole IsLine both = (forth, back)
@@ -163,7 +163,7 @@ module _ (facts : SyntaxFacts) (s : Syntax) (line text : List ℕ) (a : Bool) wh
         )
         back (inr h) = absurd (not_refused line x h.0 is spells h.1)
 
-    transformed_alike : (form : Transform) (table : LikelySubtags) → IsWholeTransformed form table (bare x) text a ↔ IsTransformed form table x text a
+    pub transformed_alike : (form : Transform) (table : LikelySubtags) → IsWholeTransformed form table (bare x) text a ↔ IsTransformed form table x text a
     transformed_alike form table = (
       λ h. (h.0, h.1, h.2, h.3 ∙ line_bare h.0 h.1, h.4),
       λ h. (h.0, h.1, h.2, h.3 ∙ sym (line_bare h.0 h.1), h.4),
@@ -173,12 +173,12 @@ module _ (facts : SyntaxFacts) (s : Syntax) (line text : List ℕ) (a : Bool) wh
     asked_alike n None = refl
     asked_alike n (Some names) = facts.kept (answers_in n.tables n.preferences.locale) (chain_of n.chain) Dialect names.now x
 
-    named_alike : (n : Naming) → IsWholeNamed n (bare x) text a ↔ IsNamed n x text a
+    pub named_alike : (n : Naming) → IsWholeNamed n (bare x) text a ↔ IsNamed n x text a
     named_alike n =
         let same = asked_alike n n.extensions in
         (subst (λ name. IsNamedLine name text a) same, subst (λ name. IsNamedLine name text a) (sym same))
 
-    canonical_answers_alike : (by : WholeRules) → position is_tab line ≡ None
+    pub canonical_answers_alike : (by : WholeRules) → position is_tab line ≡ None
         → IsSpelledAnswer s (IsWholeCanonicalized by) line text a ↔ IsLocaleAnswer by.likely by.rules line text a
     canonical_answers_alike by none = (forth, back)
       where
@@ -242,9 +242,9 @@ module _ (facts : SyntaxFacts) (s : Syntax) (line text : List ℕ) (a : Bool) wh
       each_alike x is spells (IsWholeTransformed form (likely e)) (IsTransformed form (likely e)) (transformed_alike x is spells form (likely e))
   answers_alike (tools.Canonicalize c) (none, x, is, spells) = canonical_answers_alike x is spells (rules_of c) none
   answers_alike (tools.Direction d) (none, x, is, spells) = each_alike x is spells (λ w. IsDirected d w.locale.id) (IsDirected d) (λ h. h, λ h. h)
-  answers_alike (tools.Negotiate n) (xs, each) = lists_alike (IsNegotiatedLine n) xs each
-  answers_alike (tools.Serve Header t) holds = (λ h. h, λ h. h)
-  answers_alike (tools.Serve Requests t) (xs, each) = lists_alike (IsNearestLine t) xs each
+  answers_alike (tools.Negotiate n o) (xs, each) = lists_alike (IsNegotiatedLine n o.wholes.items) xs each
+  answers_alike (tools.Serve Header t o) holds = (λ h. h, λ h. h)
+  answers_alike (tools.Serve Requests t o) (xs, each) = lists_alike (IsNearestLine t o.wholes.items) xs each
   answers_alike (tools.Distance d) (xs, each) = lists_alike (IsDistanceLine d.matching.now (likely d.expander)) xs each
   answers_alike (tools.Name n) (none, x, is, spells) = each_alike x is spells (IsWholeNamed n) (IsNamed n) (named_alike x is spells n)
   answers_alike (tools.Fallback f) (none, x, is, spells) = each_alike x is spells (λ w. IsChained f w.locale.id) (IsChained f) (λ h. h, λ h. h)

@@ -11,8 +11,10 @@ mod Listings
 mod LineCuts
 mod ListReading
 mod LocaleLines
+mod Offers
 mod OneAnswer
 mod PartEnds
+mod PlainLines
 mod Progress
 mod RunEnds
 mod StreamEnds

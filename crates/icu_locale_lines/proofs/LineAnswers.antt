@@ -2,11 +2,12 @@
 use Rattle.std.proofs.Common.{◌≡◌, ◌≢◌, ◌⊎◌, Bool, true, false, Option, None, refl, sym, List, [], ◌∷◌, ◌++◌, Some, ℕ, zero, suc, get_or, Result, Ok}
 use Rattle.std.proofs.Common.{Err, IfOk, inl, inr, subst, ap, ◌∙◌, ◌<◌, length}
 use Rattle.std.specs.List.{slice_get, position}
-use Rattle.std.proofs.lemmas.Option.{same_Some, none-some, slice_get_read}
+use Rattle.std.specs.Option.{option_map, option_or}
+use Rattle.std.proofs.lemmas.Option.{slice_get_read, slice_get_within}
 use Rattle.icu_locale.specs.LikelyTable.{likely}
 use Rattle.icu_locale.specs.Negotiation.{Negotiation, IsNegotiated}
-use Rattle.icu_locale_lines.specs.Lists.{IsNegotiatedLine, SpellsIn, IsFaultIn}
-use Rattle.icu_locale_core.specs.Identifier.{IsIdentifier, Spells, parse_error_name}
+use Rattle.icu_locale_lines.specs.Lists.{IsNegotiatedLine, SpellsIn, IsFaultIn, TellsPlace, shown_at}
+use Rattle.icu_locale_core.specs.Identifier.{IsIdentifier, Spells, parse_error_name, written}
 use Rattle.icu_locale_core.specs.declared.parse_error.ParseError.{ParseError}
 use Rattle.icu_locale_core.specs.declared.parse_error.ParseError.TheVariants as parse_error
 use Rattle.icu_locale_core.specs.declared.langid.LanguageIdentifier.{LanguageIdentifier}
@@ -18,6 +19,8 @@ use Rattle.icu_locale.specs.declared.canonicalizer.CanonicalizeError.{Canonicali
 use Rattle.icu_locale.specs.declared.canonicalizer.CanonicalizeError.TheVariants.{Memory, NoFixedPoint, NoSubdivisionFixedPoint}
 use Rattle.icu_locale.specs.declared.canonicalizer.rules.Rules.{Rules}
 use Rattle.icu_locale.specs.declared.expander.TransformResult.{TransformResult}
+use Rattle.icu_locale_extensions.specs.Locales as extended
+use Rattle.icu_locale_extensions.specs.declared.identifier.LocaleIdentifier.{LocaleIdentifier}
 use Rattle.icu_locale_extensions.specs.declared.syntax.Syntax.{Syntax}
 use Rattle.icu_provider.specs.declared.error.DataError.{DataError}
 use Rattle.icu_provider.specs.declared.error.DataErrorKind.{DataErrorKind}
@@ -25,8 +28,7 @@ use Rattle.icu_provider.specs.declared.error.DataErrorKind.TheVariants as kind
 use Rattle.icu_locale_lines.specs.declared.error.CliError.{CliError}
 use Rattle.icu_locale_lines.specs.Answers.{AddsLine, IsAnswerOf, IsCanonicalizedTo}
 use Rattle.icu_locale_lines.specs.Locales.{is_tab, is_readable, keywords_of, SpellsLocale}
-use Rattle.icu_locale_lines.specs.Serving.{TellsServed}
-use Rattle.icu_locale_lines.specs.Texts.{matched_line, refused_line}
+use Rattle.icu_locale_lines.specs.Texts.{refused_line}
 use Rattle.icu_locale_lines.specs.inner.Parts.{TellsRefusal}
 use Rattle.icu_locale_lines.proofs.LineCuts.{before_first-no_position}
 use Rattle.icu_locale_lines.proofs.LocaleLines.{value_text-no_position}
@@ -101,23 +103,28 @@ spelled_alone line x none spelled = record {
   transform = refl;
 }
 
-get_or-slice_get : (xs : List LanguageIdentifier) (j : ℕ) (x d : LanguageIdentifier) → slice_get xs j ≡ Some x → get_or xs j d ≡ x
-get_or-slice_get [] j x d at = absurd (none-some x at)
-get_or-slice_get (y ∷ ys) zero x d at = same_Some y x at
-get_or-slice_get (y ∷ ys) (suc j) x d at = get_or-slice_get ys j x d at
+-- what is negotiated is available at its place
+pub negotiated_within : (n : Negotiation) (requests : List LanguageIdentifier) (i j : ℕ)
+    → IsNegotiated (likely n.expander) requests n.available (Some (i, j)) → j < length n.available
+negotiated_within n requests i j negotiated =
+    slice_get_within n.available j negotiated.matches.identifier negotiated.matches.offered
 
 -- the line of a match is that of what was negotiated
-pub negotiated_from_line : (n : Negotiation) (requests : List LanguageIdentifier) (i j : ℕ) (x : LanguageIdentifier)
-    → IsNegotiated (likely n.expander) requests n.available (Some (i, j)) → x ≡ get_or n.available j x
-    → (t : List ℕ) (a : Bool) → (t ≡ matched_line i x) × (a ≡ true) → IsNegotiatedLine n requests t a
-negotiated_from_line n requests i j x negotiated here t a h =
-    let m = negotiated.matches in
-    let same = here ∙ get_or-slice_get n.available j m.identifier x m.offered in
-    (Some (i, j), negotiated, (m.identifier, m.offered, h.0 ∙ ap (matched_line i) same), h.1)
+pub negotiated_from_line : (n : Negotiation) (wholes : List LocaleIdentifier) (requests : List LanguageIdentifier) (i j : ℕ)
+    → IsNegotiated (likely n.expander) requests n.available (Some (i, j))
+    → (t : List ℕ) (a : Bool) → TellsPlace n.available wholes i j t × (a ≡ true) → IsNegotiatedLine n wholes requests t a
+negotiated_from_line n wholes requests i j negotiated t a h = (Some (i, j), negotiated, h.0, h.1)
 
--- the line of a place is that of what is served there
-pub told_from_line : (available : List LanguageIdentifier) (place : ℕ) (x : LanguageIdentifier) → place < length available
-    → x ≡ get_or available place x → (t : List ℕ) (a : Bool) → (t ≡ matched_line place x) × (a ≡ true)
-    → TellsServed available (Some place) t × (a ≡ true)
-told_from_line available place x within here t a h =
-    ((x, slice_get_read available (length available) place x refl within here, h.0), h.1)
+-- ---- how what is available is written
+
+module _ (available : List LanguageIdentifier) (wholes : List LocaleIdentifier) (place : ℕ) where
+  -- whole where that is kept
+  pub shown_whole : (x : LocaleIdentifier) → slice_get wholes place ≡ Some x → shown_at available wholes place ≡ Some (extended.written x)
+  shown_whole x here = ap (λ o. option_or (option_map extended.written o) (option_map written (slice_get available place))) here
+
+  -- and else as an identifier
+  pub shown_alone : slice_get wholes place ≡ None → (x : LanguageIdentifier) → place < length available → x ≡ get_or available place x
+      → shown_at available wholes place ≡ Some (written x)
+  shown_alone none x within here =
+      ap (λ o. option_or (option_map extended.written o) (option_map written (slice_get available place))) none
+      ∙ ap (option_map written) (slice_get_read available (length available) place x refl within here)

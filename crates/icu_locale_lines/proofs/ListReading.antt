@@ -1,6 +1,6 @@
 -- How a line of identifiers is read, text by text.
 use Rattle.std.proofs.Common.{◌≡◌, ◌⊎◌, ℕ, ◌<◌, Bool, true, false, ◌==◌, List, [], ◌∷◌, ◌++◌, length, get_or, take, drop, Option, Result, Err, inl}
-use Rattle.std.proofs.Common.{inr, refl, ap, sym, subst, ◌∙◌, arith, map, zero, suc}
+use Rattle.std.proofs.Common.{inr, refl, ap, sym, subst, ◌∙◌, arith, map, zero, suc, Some}
 use Rattle.std.specs.Borrow.{Bor}
 use Rattle.std.proofs.lemmas.Bool.{false≢true}
 use Rattle.std.proofs.lemmas.List.{map-append}
@@ -12,7 +12,7 @@ use Rattle.icu_locale_core.specs.declared.parse_error.ParseError.TheVariants.{In
 use Rattle.icu_locale_extensions.specs.Syntaxes.{ReadsBy, IsFaultBy, starts_by}
 use Rattle.icu_locale_extensions.specs.declared.identifier.LocaleIdentifier.{LocaleIdentifier}
 use Rattle.icu_locale_extensions.specs.declared.syntax.Syntax.{Syntax}
-use Rattle.icu_locale_lines.specs.Lists.{is_space, listed, SpellsAll, SpellsIn, IsFault, IsFaultIn, IsFirstFault}
+use Rattle.icu_locale_lines.specs.Lists.{is_space, listed, ids_of, SpellsAll, SpellsIn, SpellsWhole, SpellsWholes, IsFault, IsFaultIn, IsFirstFault}
 
 -- one more at the end of both lists
 pub AllZip-push : {A B : Type 0} (P : A → B → Type 0) (xs : List A) (ys : List B) (x : A) (y : B) → AllZip P xs ys → P x y
@@ -87,3 +87,22 @@ refused_here syntax texts n identifiers spelled low t here e (inr refusal) = inr
   spelled = spelled;
   refused = refusal;
 })
+
+-- ---- the locale identifiers of texts
+
+-- one more text is read
+pub SpellsWholes-push : (syntax : Syntax) (texts : List (Bor (List ℕ))) (old new : List LocaleIdentifier) (text : Bor (List ℕ))
+    (x : LocaleIdentifier) → SpellsWholes syntax (map (λ t. t.now) texts) old → SpellsWhole syntax text.now x → new ≡ old ++ x ∷ []
+    → SpellsWholes syntax (map (λ t. t.now) (texts ++ text ∷ [])) new
+SpellsWholes-push syntax texts old new text x each one pushed =
+    subst (λ ts. SpellsWholes syntax ts new) (sym (map-append (λ (t : Bor (List ℕ)). t.now) texts (text ∷ [])))
+    (subst (SpellsWholes syntax (map (λ t. t.now) texts ++ text.now ∷ [])) (sym pushed)
+    (AllZip-push (SpellsWhole syntax) (map (λ t. t.now) texts) old text.now x each one))
+
+-- texts that spell locale identifiers spell their identifiers
+pub ids_spelled : (syntax : Syntax) (texts : List (List ℕ)) (wholes : List LocaleIdentifier) → SpellsWholes syntax texts wholes
+    → SpellsAll (Some syntax) texts (ids_of wholes)
+ids_spelled syntax [] [] each = tt
+ids_spelled syntax [] (x ∷ xs) each = absurd each
+ids_spelled syntax (t ∷ ts) [] each = absurd each
+ids_spelled syntax (t ∷ ts) (x ∷ xs) each = ((x, each.0.0, each.0.1, refl), ids_spelled syntax ts xs each.1)

@@ -9,7 +9,7 @@ use Rattle.icu_locale_matching.specs.Service.{Service}
 use Rattle.icu_tables.specs.declared.tables.Tables.{Tables}
 use Rattle.icu_locale_lines.specs.Commands.{IsListing, ListsBy, ListsOver, AreToolsOf, text_left, text_answered}
 use Rattle.icu_locale_lines.specs.Lines.{first_line, after_first_line}
-use Rattle.icu_locale_lines.specs.Lists.{listed, SpellsAll}
+use Rattle.icu_locale_lines.specs.Lists.{listed, IsAvailable}
 use Rattle.icu_locale_lines.specs.Loads.{IsExpanderOf}
 use Rattle.icu_locale_lines.specs.Refusals.{IsRefusedList, IsFaultyList}
 use Rattle.icu_locale_lines.specs.declared.command.LineCommand.{LineCommand}
@@ -20,6 +20,7 @@ use Rattle.icu_locale_lines.specs.declared.error.CliError.TheVariants as error
 use Rattle.icu_locale_lines.specs.declared.work.listing.Listing.{Listing}
 use Rattle.icu_locale_lines.specs.declared.work.listing.ListOver.{ListOver}
 use Rattle.icu_locale_lines.specs.declared.work.listing.ListOver.TheVariants as over
+use Rattle.icu_locale_lines.specs.declared.work.offered.Offered.{Offered}
 use Rattle.icu_locale_lines.specs.declared.work.Tools.TheVariants as tools
 
 -- a command that waits for its first line answers what follows it
@@ -66,28 +67,28 @@ lists_over c t listing is = lists_by c.task t listing.over is.over
 -- ---- the tools over what a line lists
 
 module _ (syntax : Option Syntax) (t : Tables) (input : List ℕ) where
-  pub negotiate_tools : (task : Task) (e : _) (n : Negotiation) → ListsBy task t (over.Negotiate e) → n.expander ≡ e
-      → SpellsAll syntax (listed (first_line input)) n.available → AreToolsOf syntax task t input (tools.Negotiate n)
-  negotiate_tools (Transform form) e n h same spelled = absurd h
-  negotiate_tools Canonicalize e n h same spelled = absurd h
-  negotiate_tools Direction e n h same spelled = absurd h
-  negotiate_tools Negotiate e n h same spelled =
+  pub negotiate_tools : (task : Task) (e : _) (n : Negotiation) (o : Offered) → ListsBy task t (over.Negotiate e) → n.expander ≡ e
+      → IsAvailable syntax (listed (first_line input)) n.available o.wholes.items → AreToolsOf syntax task t input (tools.Negotiate n o)
+  negotiate_tools (Transform form) e n o h same spelled = absurd h
+  negotiate_tools Canonicalize e n o h same spelled = absurd h
+  negotiate_tools Direction e n o h same spelled = absurd h
+  negotiate_tools Negotiate e n o h same spelled =
       (subst (IsExpanderOf t) (sym same) h.0, subst (λ f. AreSettled (likely f)) (sym same) h.1, spelled)
-  negotiate_tools (Name chain preferences) e n h same spelled = absurd h
-  negotiate_tools Fallback e n h same spelled = absurd h
-  negotiate_tools (Serve wishes) e n h same spelled = absurd h
-  negotiate_tools Distance e n h same spelled = absurd h
+  negotiate_tools (Name chain preferences) e n o h same spelled = absurd h
+  negotiate_tools Fallback e n o h same spelled = absurd h
+  negotiate_tools (Serve wishes) e n o h same spelled = absurd h
+  negotiate_tools Distance e n o h same spelled = absurd h
 
-  pub serve_tools : (task : Task) (how : _) (k : _) (m : _) (s : Service) → ListsBy task t (over.Serve how k m) → s.expander ≡ k.expander
+  pub serve_tools : (task : Task) (how : _) (k : _) (m : _) (s : Service) (o : Offered) → ListsBy task t (over.Serve how k m) → s.expander ≡ k.expander
       → s.rules ≡ k.rules → s.matching ≡ m.now → s.limits ≡ record { threshold = 50; demotion = 5 }
-      → SpellsAll syntax (listed (first_line input)) s.available → AreToolsOf syntax task t input (tools.Serve how s)
-  serve_tools (Transform form) how k m s h expander rules matching limits spelled = absurd h
-  serve_tools Canonicalize how k m s h expander rules matching limits spelled = absurd h
-  serve_tools Direction how k m s h expander rules matching limits spelled = absurd h
-  serve_tools Negotiate how k m s h expander rules matching limits spelled = absurd h
-  serve_tools (Name chain preferences) how k m s h expander rules matching limits spelled = absurd h
-  serve_tools Fallback how k m s h expander rules matching limits spelled = absurd h
-  serve_tools (Serve wishes) how k m s h expander rules matching limits spelled = (
+      → IsAvailable syntax (listed (first_line input)) s.available o.wholes.items → AreToolsOf syntax task t input (tools.Serve how s o)
+  serve_tools (Transform form) how k m s o h expander rules matching limits spelled = absurd h
+  serve_tools Canonicalize how k m s o h expander rules matching limits spelled = absurd h
+  serve_tools Direction how k m s o h expander rules matching limits spelled = absurd h
+  serve_tools Negotiate how k m s o h expander rules matching limits spelled = absurd h
+  serve_tools (Name chain preferences) how k m s o h expander rules matching limits spelled = absurd h
+  serve_tools Fallback how k m s o h expander rules matching limits spelled = absurd h
+  serve_tools (Serve wishes) how k m s o h expander rules matching limits spelled = (
     h.0,
     record {
       expander = subst (IsExpanderOf t) (sym expander) h.1;
@@ -97,7 +98,7 @@ module _ (syntax : Option Syntax) (t : Tables) (input : List ℕ) where
     },
     spelled,
   )
-  serve_tools Distance how k m s h expander rules matching limits spelled = absurd h
+  serve_tools Distance how k m s o h expander rules matching limits spelled = absurd h
 
 -- a list is refused over settled tables for a fault or for memory
 settled_by : (task : Task) (t : Tables) (e : _) → ListsBy task t (over.Negotiate e) → AreSettled (likely e)

@@ -50,7 +50,7 @@ use Rattle.icu_locale_lines.specs.Wholes.{IsWholeCanonicalized, TellsWholeRefusa
 use Rattle.icu_locale_lines.specs.Serving.{TellsServed, IsNearestLine, IsDistanceLine, IsWishAnswer}
 use Rattle.icu_locale_lines.specs.declared.command.Wishes.{Wishes}
 use Rattle.icu_locale_lines.specs.declared.command.Wishes.TheVariants.{Header, Requests}
-use Rattle.icu_locale_lines.specs.Lists.{IsListedAnswer, IsNegotiatedLine, TellsMatch, listed, SpellsAll, SpellsIn, IsFault, IsFaultIn}
+use Rattle.icu_locale_lines.specs.Lists.{IsListedAnswer, IsNegotiatedLine, TellsMatch, shown_at, listed, SpellsAll, SpellsIn, IsFault, IsFaultIn}
 use Rattle.icu_locale_lines.specs.declared.work.form.Transform.{Transform}
 use Rattle.icu_locale_lines.specs.declared.work.form.Transform.TheVariants.{Maximize, Minimize, MinimizeScript}
 use Rattle.icu_locale_lines.specs.Answers.{IsAnswer, IsAnswerBy, IsForm, IsTransformed, IsDirected, IsNamed, IsWholeNamed, IsCanonicalizedTo, IsIdentifierAnswer}
@@ -230,26 +230,26 @@ first_one i j k l (inr p) (inl q) = (omega (arith, p.0, q), omega (arith, p.0, q
 first_one i j k l (inr p) (inr q) = (p.0, omega (arith, p.1, q.1))
 
 -- what is served is one
-module _ (available : List LanguageIdentifier) (one two : List ℕ) where
-  told_one : (found other : Option ℕ) → found ≡ other → TellsServed available found one → TellsServed available other two → one ≡ two
+module _ (available : List LanguageIdentifier) (wholes : List LocaleIdentifier) (one two : List ℕ) where
+  told_one : (found other : Option ℕ) → found ≡ other → TellsServed available wholes found one → TellsServed available wholes other two → one ≡ two
   told_one None None same h k = h ∙ sym k
   told_one None (Some j) same h k = absurd (none-some j same)
   told_one (Some i) None same h k = absurd (none-some i (sym same))
   told_one (Some i) (Some j) same h k =
       let place = same_Some i j same in
-      let e = same_Some h.0 k.0 (sym h.1 ∙ ap (slice_get available) place ∙ k.1) in
+      let e = same_Some h.0 k.0 (sym h.1 ∙ ap (shown_at available wholes) place ∙ k.1) in
       h.2 ∙ (λ n. matched_line (place n) (e n)) ∙ sym k.2
 
 -- what is negotiated is one
-module _ (table : LikelySubtags) (requests available : List LanguageIdentifier) (one two : List ℕ) where
+module _ (table : LikelySubtags) (requests available : List LanguageIdentifier) (wholes : List LocaleIdentifier) (one two : List ℕ) where
   negotiated_one : (found other : Option (ℕ × ℕ)) → IsNegotiated table requests available found
-      → IsNegotiated table requests available other → TellsMatch available found one → TellsMatch available other two → one ≡ two
+      → IsNegotiated table requests available other → TellsMatch available wholes found one → TellsMatch available wholes other two → one ≡ two
   negotiated_one None None p q h k = h ∙ sym k
   negotiated_one None (Some n) p q h k = absurd (p n.0 n.1 q.matches)
   negotiated_one (Some m) None p q h k = absurd (q m.0 m.1 p.matches)
   negotiated_one (Some m) (Some n) p q h k =
       let places = first_one m.0 m.1 n.0 n.1 (p.first n.0 n.1 q.matches) (q.first m.0 m.1 p.matches) in
-      let e = same_Some h.0 k.0 (sym h.1 ∙ ap (slice_get available) places.1 ∙ k.1) in
+      let e = same_Some h.0 k.0 (sym h.1 ∙ ap (shown_at available wholes) places.1 ∙ k.1) in
       h.2 ∙ (λ i. matched_line (places.0 i) (e i)) ∙ sym k.2
 
 module _ (spelled_once : (t : List ℕ) (x y : LanguageIdentifier) → IsIdentifier x → IsIdentifier y → Spells t x → Spells t y → x ≡ y) where
@@ -390,15 +390,16 @@ module _ (spelled_once : (t : List ℕ) (x y : LanguageIdentifier) → IsIdentif
       same_chain : (f : LocaleFallbackerWithConfig) (x : LanguageIdentifier) → IsChained f x one a → IsChained f x two b → SameAnswer one two a b
       same_chain f x p q = let e = chained_one f x one two a b p q in record { text = e.0; accepted = e.1 }
 
-      negotiated_line_one : (n : Negotiation) (xs : List LanguageIdentifier) → IsNegotiatedLine n xs one a → IsNegotiatedLine n xs two b
-          → SameAnswer one two a b
-      negotiated_line_one n xs h k =
-          record { text = negotiated_one (likely n.expander) xs n.available one two h.0 k.0 h.1 k.1 h.2 k.2; accepted = h.3 ∙ sym k.3 }
+      negotiated_line_one : (n : Negotiation) (ws : List LocaleIdentifier) (xs : List LanguageIdentifier) → IsNegotiatedLine n ws xs one a
+          → IsNegotiatedLine n ws xs two b → SameAnswer one two a b
+      negotiated_line_one n ws xs h k =
+          record { text = negotiated_one (likely n.expander) xs n.available ws one two h.0 k.0 h.1 k.1 h.2 k.2; accepted = h.3 ∙ sym k.3 }
 
-      nearest_line_one : (s : Service) (xs : List LanguageIdentifier) → IsNearestLine s xs one a → IsNearestLine s xs two b → SameAnswer one two a b
-      nearest_line_one s xs h k =
+      nearest_line_one : (s : Service) (ws : List LocaleIdentifier) (xs : List LanguageIdentifier) → IsNearestLine s ws xs one a
+          → IsNearestLine s ws xs two b → SameAnswer one two a b
+      nearest_line_one s ws xs h k =
           let found = ap place_of (nearest_once s xs h.0 k.0 h.1 k.1) in
-          record { text = told_one s.available one two (place_of h.0) (place_of k.0) found h.2 k.2; accepted = h.3 ∙ sym k.3 }
+          record { text = told_one s.available ws one two (place_of h.0) (place_of k.0) found h.2 k.2; accepted = h.3 ∙ sym k.3 }
 
       distance_line_one : (t : LanguageMatching) (table : LikelySubtags) (xs : List LanguageIdentifier) → IsDistanceLine t table xs one a
           → IsDistanceLine t table xs two b → SameAnswer one two a b
@@ -407,11 +408,11 @@ module _ (spelled_once : (t : List ℕ) (x y : LanguageIdentifier) → IsIdentif
       distance_line_one t table (d ∷ s ∷ []) h k = same h.0 k.0 refl h.1 k.1
       distance_line_one t table (d ∷ s ∷ x ∷ xs) h k = same h.0 k.0 refl h.1 k.1
 
-      wish_one : (syntax : Option Syntax) (wishes : Wishes) (s : Service) → IsWishAnswer syntax wishes s line one a
-          → IsWishAnswer syntax wishes s line two b → SameAnswer one two a b
-      wish_one syntax Header s h k =
-          record { text = told_one s.available one two h.0 k.0 (served_once s line h.0 k.0 h.1 k.1) h.2 k.2; accepted = h.3 ∙ sym k.3 }
-      wish_one syntax Requests s h k = list_answer_one syntax one two a b (IsNearestLine s) (nearest_line_one s) line h k
+      wish_one : (syntax : Option Syntax) (wishes : Wishes) (s : Service) (ws : List LocaleIdentifier) → IsWishAnswer syntax wishes s ws line one a
+          → IsWishAnswer syntax wishes s ws line two b → SameAnswer one two a b
+      wish_one syntax Header s ws h k =
+          record { text = told_one s.available ws one two h.0 k.0 (served_once s line h.0 k.0 h.1 k.1) h.2 k.2; accepted = h.3 ∙ sym k.3 }
+      wish_one syntax Requests s ws h k = list_answer_one syntax one two a b (IsNearestLine s ws) (nearest_line_one s ws) line h k
 
       plain_one : (work : Tools) → IsAnswerBy None work line one a → IsAnswerBy None work line two b → SameAnswer one two a b
       plain_one (tools.Transform form e) h k = identifier_one one two a b spelled_once (IsTransformed form (likely e))
@@ -419,8 +420,9 @@ module _ (spelled_once : (t : List ℕ) (x y : LanguageIdentifier) → IsIdentif
       plain_one (tools.Canonicalize c) h k = locale_answer_one one two a b (rules_of c).likely (rules_of c).rules
           (facts (rules_of c).likely (rules_of c).rules) line h k
       plain_one (tools.Direction d) h k = identifier_one one two a b spelled_once (IsDirected d) (λ x p q. same p.0 q.0 refl p.1 q.1) line h k
-      plain_one (tools.Negotiate n) h k = list_answer_one None one two a b (IsNegotiatedLine n) (negotiated_line_one n) line h k
-      plain_one (tools.Serve wishes s) h k = wish_one None wishes s h k
+      plain_one (tools.Negotiate n o) h k =
+          list_answer_one None one two a b (IsNegotiatedLine n o.wholes.items) (negotiated_line_one n o.wholes.items) line h k
+      plain_one (tools.Serve wishes s o) h k = wish_one None wishes s o.wholes.items h k
       plain_one (tools.Distance d) h k = list_answer_one None one two a b (IsDistanceLine d.matching.now (likely d.expander)) (distance_line_one d.matching.now (likely d.expander)) line h k
       plain_one (tools.Name n) h k = identifier_one one two a b spelled_once (IsNamed n) (λ x p q. named_one one two a b (name_asked n x) p q) line h k
       plain_one (tools.Fallback f) h k = identifier_one one two a b spelled_once (IsChained f) (λ x p q. same_chain f x p q) line h k
@@ -436,8 +438,9 @@ module _ (spelled_once : (t : List ℕ) (x y : LanguageIdentifier) → IsIdentif
       whole_one s (tools.Canonicalize c) h k =
           spelled_one one two a b s (IsWholeCanonicalized (rules_of c)) (λ x p q. whole_canonicalized_one wholes (rules_of c) x one two a b p q) line h k
       whole_one s (tools.Direction d) h k = spelled_one one two a b s (λ x. IsDirected d x.locale.id) (λ x p q. same p.0 q.0 refl p.1 q.1) line h k
-      whole_one s (tools.Negotiate n) h k = list_answer_one (Some s) one two a b (IsNegotiatedLine n) (negotiated_line_one n) line h k
-      whole_one s (tools.Serve wishes t) h k = wish_one (Some s) wishes t h k
+      whole_one s (tools.Negotiate n o) h k =
+          list_answer_one (Some s) one two a b (IsNegotiatedLine n o.wholes.items) (negotiated_line_one n o.wholes.items) line h k
+      whole_one s (tools.Serve wishes t o) h k = wish_one (Some s) wishes t o.wholes.items h k
       whole_one s (tools.Distance d) h k = list_answer_one (Some s) one two a b (IsDistanceLine d.matching.now (likely d.expander)) (distance_line_one d.matching.now (likely d.expander)) line h k
       whole_one s (tools.Name n) h k = spelled_one one two a b s (IsWholeNamed n)
           (λ x p q. named_one one two a b (whole_name_asked n x) p q) line h k

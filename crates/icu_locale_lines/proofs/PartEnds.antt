@@ -14,7 +14,7 @@ use Rattle.icu_locale_lines.specs.declared.runs.Status.TheVariants.{Accepted}
 use Rattle.icu_locale_lines.specs.declared.work.Work.{Work}
 use Rattle.icu_locale_lines.specs.Answers.{IsAnswer}
 use Rattle.icu_locale_lines.specs.Lines.{lines, first_line, exceeds, AreWithin, Stream}
-use Rattle.icu_locale_lines.specs.Runs.{AreAnswers, text_of_lines, all_accepted, WritesAll, WritesUpTo, WritesWholeLines, WritesPart}
+use Rattle.icu_locale_lines.specs.Runs.{AreAnswers, text_of_lines, all_accepted, WritesAll, WritesUpTo, WritesEarlier, WritesWholeLines, WritesPart}
 use Rattle.icu_locale_lines.specs.Streams.{EndsLines, AnswersEnded, LeavesEnded}
 use Rattle.icu_locale_lines.specs.inner.Parts.{StopsPart}
 use Rattle.icu_locale_lines.specs.laws.Parts.{AllZip-append, all_accepted_of_parts}
@@ -40,10 +40,6 @@ module _ (work : Work) (old mid new : Stream) where
         (sym (ap (λ x. x ++ part) (text_of-append first.answers later.answers) ∙ append_assoc (text_of_lines first.answers) (text_of_lines later.answers) part))
         (Appends-trans old mid new (text_of_lines first.answers) (text_of_lines later.answers ++ part) first.written later.written);
   }
-
-  pub WritesWholeLines-behind : (done t : List ℕ) (status : Status) → EndsLines done → WritesAll work done old mid status
-      → WritesWholeLines work t mid new → WritesWholeLines work (done ++ t) old new
-  WritesWholeLines-behind done t status ends first later = (later.0, WritesUpTo-behind done t [] later.0 status ends first later.1)
 
   pub WritesPart-behind : (done t : List ℕ) (status : Status) → EndsLines done → WritesAll work done old mid status
       → WritesPart work t mid new → WritesPart work (done ++ t) old new
@@ -78,6 +74,10 @@ module _ (work : Work) (old mid new : Stream) where
               both.1 (first.status_is.1 at.0, later.status_is.1 at.1),
         );
   }
+
+-- those before one are whole lines
+pub earlier_whole : (work : Work) (text : List ℕ) (old new : Stream) → WritesEarlier work text old new → WritesWholeLines work text old new
+earlier_whole work text old new w = (w.0 ∷ w.1, w.2)
 
 -- the whole lines were answered
 pub WritesWholeLines-answered : (work : Work) (front : List ℕ) (old new : Stream) (status : Status) → WritesAll work front old new status

@@ -16,15 +16,15 @@ use Rattle.icu_locale_lines.specs.Answers.{AddsLine, IsAnswer}
 use Rattle.icu_locale_lines.specs.Lines.{lines}
 use Rattle.icu_locale_names.specs.Pieces.{AppendsPart}
 use Rattle.icu_locale_lines.proofs.ListReading.{AllZip-push}
-use Rattle.icu_locale_lines.specs.Runs.{AreAnswers, text_of_lines, all_accepted, WritesAll, WritesWholeLines, WritesPart}
+use Rattle.icu_locale_lines.specs.Runs.{AreAnswers, text_of_lines, all_accepted, WritesAll, WritesUpTo, WritesPart}
 
 abbrev was_accepted : List ℕ × Bool → Bool
 was_accepted a = a.1
 
 -- the lines up to rest are answered, and of the answers all is written but for what is pending
-pub record Progress (work : Work) (input : List ℕ) (old new : Option (List ℕ)) (pending : List ℕ) (status : Status) (rest : List (List ℕ)) : Type 0 where
+pub record Progress (work : Work) (all : List (List ℕ)) (old new : Option (List ℕ)) (pending : List ℕ) (status : Status) (rest : List (List ℕ)) : Type 0 where
   pub answered : List (List ℕ)
-  pub parted : lines input ≡ answered ++ rest
+  pub parted : all ≡ answered ++ rest
   pub answers : List (List ℕ × Bool)
   pub each : AreAnswers work answered answers
   pub sent : List ℕ
@@ -108,8 +108,8 @@ zip_cut P (x ∷ xs) (b ∷ before) y after each =
     (x ∷ first, z, later, ap (λ r. x ∷ r) parted, (each.0, zipped), one)
 
 -- nothing is answered yet
-pub Progress-start : (work : Work) (input : List ℕ) (old : Option (List ℕ)) → Progress work input old old [] Accepted (lines input)
-Progress-start work input old = record {
+pub Progress-start : (work : Work) (all : List (List ℕ)) (old : Option (List ℕ)) → Progress work all old old [] Accepted all
+Progress-start work all old = record {
   answered = [];
   parted = refl;
   answers = [];
@@ -120,11 +120,11 @@ Progress-start work input old = record {
   status_is = (λ e. refl, λ e. refl);
 }
 
-module _ (work : Work) (input : List ℕ) (old mid : Option (List ℕ)) (pending : List ℕ) (status : Status) where
+module _ (work : Work) (all : List (List ℕ)) (old mid : Option (List ℕ)) (pending : List ℕ) (status : Status) where
   -- one more line
-  pub Progress-more : (line : List ℕ) (rest : List (List ℕ)) → Progress work input old mid pending status (line ∷ rest)
+  pub Progress-more : (line : List ℕ) (rest : List (List ℕ)) → Progress work all old mid pending status (line ∷ rest)
       → (accepted : Bool) (new : List ℕ) → AddsLine (IsAnswer work line) pending new accepted
-      → (later : Status) → (later ≡ Accepted) ↔ ((status ≡ Accepted) × (accepted ≡ true)) → Progress work input old mid new later rest
+      → (later : Status) → (later ≡ Accepted) ↔ ((status ≡ Accepted) × (accepted ≡ true)) → Progress work all old mid new later rest
   Progress-more line rest before accepted new adds later after = record {
     answered = before.answered ++ line ∷ [];
     parted = before.parted ∙ sym (append_assoc before.answered (line ∷ []) rest);
@@ -142,9 +142,9 @@ module _ (work : Work) (input : List ℕ) (old mid : Option (List ℕ)) (pending
     );
   }
 
-  module _ (rest : List (List ℕ)) (before : Progress work input old mid pending status rest) (new : Option (List ℕ)) where
+  module _ (rest : List (List ℕ)) (before : Progress work all old mid pending status rest) (new : Option (List ℕ)) where
     -- what was pending is written
-    pub Progress-sent : Appends mid new pending → (left : List ℕ) → left ≡ [] → Progress work input old new left status rest
+    pub Progress-sent : Appends mid new pending → (left : List ℕ) → left ≡ [] → Progress work all old new left status rest
     Progress-sent appended left none = record {
       answered = before.answered;
       parted = before.parted;
@@ -156,31 +156,28 @@ module _ (work : Work) (input : List ℕ) (old mid : Option (List ℕ)) (pending
       status_is = before.status_is;
     }
 
-    pub WritesWholeLines-sent : Appends mid new pending → WritesWholeLines work input old new
-    WritesWholeLines-sent appended = (
-      rest,
-      record {
-        answered = before.answered;
-        parted = before.parted;
-        answers = before.answers;
-        each = before.each;
-        written = subst (Appends old new) (sym (append-nil (text_of_lines before.answers) ∙ before.whole))
-            (Appends-trans old mid new before.sent pending before.written appended);
-      },
-    )
-
-    pub WritesAll-sent : rest ≡ [] → Appends mid new pending → WritesAll work input old new status
-    WritesAll-sent none appended = record {
+    pub WritesUpTo-sent : (input : List ℕ) → all ≡ lines input → Appends mid new pending → WritesUpTo work input old new [] rest
+    WritesUpTo-sent input same appended = record {
+      answered = before.answered;
+      parted = sym same ∙ before.parted;
       answers = before.answers;
-      each = subst (λ ls. AreAnswers work ls before.answers) (sym (before.parted ∙ ap (λ r. before.answered ++ r) none
+      each = before.each;
+      written = subst (Appends old new) (sym (append-nil (text_of_lines before.answers) ∙ before.whole))
+          (Appends-trans old mid new before.sent pending before.written appended);
+    }
+
+    pub WritesAll-sent : (input : List ℕ) → all ≡ lines input → rest ≡ [] → Appends mid new pending → WritesAll work input old new status
+    WritesAll-sent input same none appended = record {
+      answers = before.answers;
+      each = subst (λ ls. AreAnswers work ls before.answers) (sym (sym same ∙ before.parted ∙ ap (λ r. before.answered ++ r) none
           ∙ append-nil before.answered)) before.each;
       written = subst (Appends old new) (sym before.whole) (Appends-trans old mid new before.sent pending before.written appended);
       status_is = before.status_is;
     }
 
     -- a failed write leaves whole lines and a beginning of the next
-    pub WritesPart-from_part : AppendsPart mid new pending → WritesPart work input old new
-    WritesPart-from_part part =
+    pub WritesPart-from_part : (input : List ℕ) → all ≡ lines input → AppendsPart mid new pending → WritesPart work input old new
+    WritesPart-from_part input same part =
         let whole : text_of_lines before.answers ≡ (before.sent ++ part.written) ++ part.left = before.whole
         ∙ ap (λ p. before.sent ++ p) part.parted ∙ sym (append_assoc before.sent part.written part.left) in
         let within = cut_within before.answers (before.sent ++ part.written) part.left whole part.short in
@@ -198,7 +195,7 @@ module _ (work : Work) (input : List ℕ) (old mid : Option (List ℕ)) (pending
           short = within.short;
           earlier = record {
             answered = first;
-            parted = before.parted ∙ ap (λ a. a ++ rest) parted ∙ append_assoc first (line ∷ later) rest;
+            parted = sym same ∙ before.parted ∙ ap (λ a. a ++ rest) parted ∙ append_assoc first (line ∷ later) rest;
             answers = within.before;
             each = zipped;
             written = subst (Appends old new) within.is (Appends-trans old mid new before.sent part.written before.written part.appended);

@@ -11,7 +11,7 @@ use Rattle.icu_locale_lines.specs.declared.runs.Status.{Status}
 use Rattle.icu_locale_lines.specs.declared.command.LineCommand.{LineCommand}
 use Rattle.icu_locale_lines.specs.declared.work.Work.{Work}
 use Rattle.icu_locale_lines.specs.Lines.{Stream}
-use Rattle.icu_locale_lines.specs.Runs.{ReadsAll, WritesAll, WritesWholeLines, WritesPart}
+use Rattle.icu_locale_lines.specs.Runs.{ReadsAll, WritesAll, WritesEarlier, WritesPart}
 use Rattle.icu_locale_lines.specs.Commands.{text_answered, IsWorkOf}
 use Rattle.icu_locale_lines.specs.WholeRuns.{WritesLines, WritesUntil, StopsAmongLines, StopsLines, IsRun, IsRefusedRun, IsRefusedOutput, ReadsTables}
 use Rattle.icu_locale_lines.specs.WholeRuns.{IsRefusedJsonRun}
@@ -57,12 +57,12 @@ module _ (c : LineCommand) (t : Tables) (input : List ℕ) (work : Work) (work_o
   stops : (e : CliError) → WritesUntil e work text wrote wrote' → StopsAmongLines c t input wrote wrote' e
   stops e left = record { work = work; work_of = work_of; left = subst (λ x. WritesUntil e work x wrote wrote') (sym answered) left }
 
-  pub lines_stopped : IfErr r (λ e. (e ≡ Memory) ⊎ (e ≡ Write)) → (r ≡ Err Memory → WritesWholeLines work text wrote wrote')
+  pub lines_stopped : IfErr r (λ e. (e ≡ Memory) ⊎ (e ≡ Write)) → (r ≡ Err Memory → WritesEarlier work text wrote wrote')
       → (r ≡ Err Write → WritesPart work text wrote wrote') → IfErr r (StopsLines c t input wrote wrote')
   lines_stopped which memory write = by r which memory write
     where
       by : (s : Result Status CliError) → IfErr s (λ e. (e ≡ Memory) ⊎ (e ≡ Write))
-          → (s ≡ Err Memory → WritesWholeLines work text wrote wrote') → (s ≡ Err Write → WritesPart work text wrote wrote')
+          → (s ≡ Err Memory → WritesEarlier work text wrote wrote') → (s ≡ Err Write → WritesPart work text wrote wrote')
           → IfErr s (StopsLines c t input wrote wrote')
       by (Ok s) which memory write = tt
       by (Err e) (inl is) memory write = inr (stops e (subst (λ x. WritesUntil x work text wrote wrote') (sym is) (memory (ap Err is))))

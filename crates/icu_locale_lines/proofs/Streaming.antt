@@ -12,10 +12,10 @@ use Rattle.icu_locale_lines.specs.declared.runs.Status.TheVariants.{Accepted, Re
 use Rattle.icu_locale_lines.specs.declared.work.Work.{Work}
 use Rattle.icu_locale_lines.specs.Lines.{is_line_feed, exceeds, AreWithin, Stream}
 use Rattle.icu_locale_lines.specs.Runs.{text_of_lines, ReadsAll, WritesAll, WritesWholeLines, WritesPart}
-use Rattle.icu_locale_lines.specs.Streams.{part_size, IsUnended, StopsReading, EndsLines, AnswersEnded, LeavesEnded, StopsBetween, StopsStream}
+use Rattle.icu_locale_lines.specs.Streams.{part_size, IsUnended, StopsReading, EndsLines, AnswersEnded, LeavesEnded, LeavesLines, StopsBetween, StopsLate, StopsStream}
 use Rattle.icu_locale_lines.specs.inner.Parts.{StopsPart}
 use Rattle.icu_locale_lines.proofs.Bounds.{within_none, within_alone, within_after, begins_too_long}
-use Rattle.icu_locale_lines.proofs.PartEnds.{EndsLines-append, WritesWholeLines-behind, WritesPart-behind, WritesAll-behind, WritesAll-none}
+use Rattle.icu_locale_lines.proofs.PartEnds.{EndsLines-append, WritesPart-behind, WritesAll-behind, WritesAll-none}
 
 -- how far a run has come that answers lines as they come
 pub record StreamProgress (longest : Option ℕ) (work : Work) (read read' wrote wrote' : Stream) (status : Status) (carry : List ℕ) : Type 0 where
@@ -98,11 +98,26 @@ module _ (longest : Option ℕ) (work : Work) (read mid wrote between : Stream) 
     leaves = behind l.ended l.leaves;
   }
 
-  whole_behind : (wrote' : Stream) (t : List ℕ) → WritesWholeLines work t between wrote' → WritesWholeLines work (before.done ++ t) wrote wrote'
-  whole_behind wrote' t w = WritesWholeLines-behind work wrote between wrote' before.done t status before.whole before.answered w
-
   part_behind : (wrote' : Stream) (t : List ℕ) → WritesPart work t between wrote' → WritesPart work (before.done ++ t) wrote wrote'
   part_behind wrote' t w = WritesPart-behind work wrote between wrote' before.done t status before.whole before.answered w
+
+  -- no memory for what came last
+  late : (new wrote' : Stream) (part : List ℕ) → Consumes read new (before.done ++ (carry ++ part)) → length part ≤ part_size
+      → LeavesLines WritesWholeLines longest work new (carry ++ part) between wrote' → StopsLate longest work read new wrote wrote'
+  late new wrote' part consumed size left = record {
+    done = before.done;
+    begun = carry;
+    part = part;
+    between = between;
+    status = status;
+    consumed = consumed;
+    whole = before.whole;
+    within = before.within;
+    answered = before.answered;
+    unended = (before.unended, before.short);
+    short = size;
+    left = left;
+  }
 
   -- a part was refused
   pub StreamProgress-refused : (new wrote' : Stream) (part : List ℕ) → Consumes mid new part → length part ≤ part_size → (e : CliError)
@@ -117,11 +132,8 @@ module _ (longest : Option ℕ) (work : Work) (read mid wrote between : Stream) 
         (let all = ap length answers.parted in let left_of = length-append answers.ended left in let whole = length-append carry part in
         omega (arith, all, left_of, whole)) long);
   }
-  StreamProgress-refused new wrote' part more size error.Memory l = (
-    before.done ++ (carry ++ part),
-    consumed_more new part more,
-    inl (leaves_behind WritesWholeLines wrote' (whole_behind wrote') (carry ++ part) l),
-  )
+  StreamProgress-refused new wrote' part more size error.Memory l =
+      late new wrote' part (consumed_more new part more) size (inl l)
   StreamProgress-refused new wrote' part more size error.Write l = inl (
     before.done ++ (carry ++ part),
     consumed_more new part more,
@@ -147,11 +159,10 @@ module _ (longest : Option ℕ) (work : Work) (read mid wrote between : Stream) 
   pub StreamProgress-last : (new wrote' : Stream) (nothing : List ℕ) → nothing ≡ [] → Consumes mid new nothing → IsAtEnd new → (e : CliError)
       → (e ≡ error.Memory) ⊎ (e ≡ error.Write) → (e ≡ error.Memory → WritesWholeLines work carry between wrote')
       → (e ≡ error.Write → WritesPart work carry between wrote') → StopsStream longest work read new wrote wrote' e
-  StreamProgress-last new wrote' nothing none more ended e (inl is) memory write = subst (StopsStream longest work read new wrote wrote') (sym is) (
-    before.done ++ carry,
-    consumed_all new nothing none more,
-    inr (ended, all_within, whole_behind wrote' carry (memory is)),
-  )
+  StreamProgress-last new wrote' nothing none more ended e (inl is) memory write = subst (StopsStream longest work read new wrote wrote') (sym is)
+      (late new wrote' [] (subst (λ n. Consumes read new (before.done ++ (carry ++ n))) none (consumed_more new nothing more)) (omega arith)
+      (subst (λ t. LeavesLines WritesWholeLines longest work new t between wrote') (sym (append-nil carry))
+      (inr (ended, within_alone longest carry (before.unended, before.short), memory is))))
   StreamProgress-last new wrote' nothing none more ended e (inr is) memory write = subst (StopsStream longest work read new wrote wrote') (sym is)
       (inl (before.done ++ carry, consumed_all new nothing none more, inr (ended, all_within, part_behind wrote' carry (write is))))
 

@@ -1,7 +1,7 @@
 -- What is written for each line that is read.
 use Rattle.std.specs.Prelude.{◌≡◌, ◌≢◌, ◌↔◌, ◌⊎◌, ℕ, Bool, true, false, List, ◌++◌, take, length, codes, Option, None, MatchOption}
-use Rattle.std.specs.List.{position}
-use Rattle.icu_locale_core.specs.Identifier.{IsIdentifier, Spells, parse_error_name}
+use Rattle.std.specs.List.{list_any, position}
+use Rattle.icu_locale_core.specs.Identifier.{IsIdentifier, Spells, parse_error_name, pieces}
 use Rattle.icu_locale_core.specs.declared.langid.LanguageIdentifier.{LanguageIdentifier}
 use Rattle.icu_locale_core.specs.declared.locale.Locale.{Locale}
 use Rattle.icu_locale_core.specs.declared.parse_error.ParseError.{ParseError}
@@ -32,6 +32,7 @@ use Rattle.icu_locale_lines.specs.declared.command.Wishes.TheVariants.{Header, R
 use Rattle.icu_locale_lines.specs.Locales.{is_tab, SpellsLocale, IsLocaleFault}
 use Rattle.icu_locale_lines.specs.Names.{name_asked, whole_name_asked, IsNamedLine}
 use Rattle.icu_locale_lines.specs.Texts.{transformed_line, canonical_line, whole_line, refused_line, direction_line}
+use Rattle.icu_locale_extensions.specs.Extensions.{is_singleton}
 use Rattle.icu_locale_extensions.specs.Locales.{IsLocaleIdentifier}
 use Rattle.icu_locale_extensions.specs.Syntaxes.{SpellsBy, IsFaultBy}
 use Rattle.icu_locale_extensions.specs.declared.identifier.LocaleIdentifier.{LocaleIdentifier}
@@ -160,7 +161,8 @@ IsCanonicalAnswer syntax by line text accepted =
     (λ s. IsSpelledAnswer s (IsWholeCanonicalized by) line text accepted)
 
 -- the answer to a line, or to a line that lists some: extensions are written as they are, and have
--- no part in a direction, a negotiation, or a name where it is not known what they are called
+-- no part in a direction, in what is decided of a list, or in a name where it is not known what they
+-- are called
 abbrev pub IsAnswerBy : Option Syntax → Tools → List ℕ → List ℕ → Bool → Type 0
 IsAnswerBy syntax (tools.Transform form e) line text accepted = IsAnswerOf syntax
     (IsTransformed form (likely e)) (IsWholeTransformed form (likely e)) line text accepted
@@ -168,14 +170,14 @@ IsAnswerBy syntax (tools.Canonicalize k) line text accepted =
     IsCanonicalAnswer syntax (rules_of k) line text accepted
 IsAnswerBy syntax (tools.Direction d) line text accepted =
     IsAnswerOf syntax (IsDirected d) (λ x. IsDirected d x.locale.id) line text accepted
-IsAnswerBy syntax (tools.Negotiate negotiation) line text accepted =
-    IsListedAnswer syntax (IsNegotiatedLine negotiation) line text accepted
+IsAnswerBy syntax (tools.Negotiate negotiation offered) line text accepted = IsListedAnswer syntax
+    (IsNegotiatedLine negotiation offered.wholes.items) line text accepted
 IsAnswerBy syntax (tools.Name n) line text accepted =
     IsAnswerOf syntax (IsNamed n) (IsWholeNamed n) line text accepted
 IsAnswerBy syntax (tools.Fallback f) line text accepted =
     IsAnswerOf syntax (IsChained f) (λ x. IsChained f x.locale.id) line text accepted
-IsAnswerBy syntax (tools.Serve wishes s) line text accepted =
-    IsWishAnswer syntax wishes s line text accepted
+IsAnswerBy syntax (tools.Serve wishes s offered) line text accepted =
+    IsWishAnswer syntax wishes s offered.wholes.items line text accepted
 IsAnswerBy syntax (tools.Distance d) line text accepted =
     IsListedAnswer syntax (IsDistanceLine d.matching.now (likely d.expander)) line text accepted
 
@@ -190,9 +192,28 @@ ListsIdentifiers line = (xs : List LanguageIdentifier) × SpellsAll None (listed
 -- a line holds identifiers alone, without a value: one, or any number where the task takes a list;
 -- a header is one in each syntax
 abbrev pub HoldsIdentifiers : Tools → List ℕ → Type 0
-HoldsIdentifiers (tools.Negotiate negotiation) line = ListsIdentifiers line
-HoldsIdentifiers (tools.Serve Header s) line = Unit {0}
-HoldsIdentifiers (tools.Serve Requests s) line = ListsIdentifiers line
+HoldsIdentifiers (tools.Negotiate negotiation offered) line = ListsIdentifiers line
+HoldsIdentifiers (tools.Serve Header s offered) line = Unit {0}
+HoldsIdentifiers (tools.Serve Requests s offered) line = ListsIdentifiers line
 HoldsIdentifiers (tools.Distance d) line = ListsIdentifiers line
 HoldsIdentifiers tools line = (position is_tab line ≡ None)
     × (x : LanguageIdentifier) × IsIdentifier x × Spells line x
+
+-- a text has a piece of one character
+abbrev pub has_singleton : List ℕ → Bool
+has_singleton text = list_any is_singleton (pieces text)
+
+-- no text that a line lists has one
+abbrev pub ListsNoSingleton : List ℕ → Type 0
+ListsNoSingleton line = list_any has_singleton (listed line) ≡ false
+
+-- a line has no piece of one character, nor has a text of a line that the task takes for a list, and
+-- at `canonicalize` it has no tab; a header may have any
+abbrev pub HasNoSingleton : Tools → List ℕ → Type 0
+HasNoSingleton (tools.Negotiate negotiation offered) line = ListsNoSingleton line
+HasNoSingleton (tools.Serve Header s offered) line = Unit {0}
+HasNoSingleton (tools.Serve Requests s offered) line = ListsNoSingleton line
+HasNoSingleton (tools.Distance d) line = ListsNoSingleton line
+HasNoSingleton (tools.Canonicalize k) line =
+    (position is_tab line ≡ None) × (has_singleton line ≡ false)
+HasNoSingleton tools line = has_singleton line ≡ false

@@ -24,7 +24,7 @@ use Rattle.icu_locale.specs.LikelySubtags.{AreSettled}
 use Rattle.icu_locale.specs.declared.expander.LocaleExpander.{LocaleExpander}
 use Rattle.icu_tables.specs.declared.tables.Tables.{Tables}
 use Rattle.icu_locale_lines.specs.Lines.{first_line, after_first_line}
-use Rattle.icu_locale_lines.specs.Lists.{listed, SpellsAll}
+use Rattle.icu_locale_lines.specs.Lists.{listed, IsAvailable}
 use Rattle.icu_locale_lines.specs.Loads.{IsExpanderOf, has_likely}
 use Rattle.icu_locale_matching.specs.Service.{Service}
 use Rattle.icu_locale_lines.specs.declared.work.listing.Listing.{Listing}
@@ -140,6 +140,17 @@ abbrev pub has_tables : Command → Tables → Bool
 has_tables Settled t = has_likely t
 has_tables (Lines c) t = holds_for c.task t
 
+-- a task reads rules before its first line, for which it takes memory
+abbrev pub reads_rules : Task → Bool
+reads_rules Canonicalize = true
+reads_rules (Serve wishes) = true
+reads_rules task = false
+
+-- a command does, whose tables are all held
+abbrev pub ReadsRules : Command → Tables → Type 0
+ReadsRules Settled t = ⊥
+ReadsRules (Lines c) t = (reads_rules c.task ≡ true) × (holds_for c.task t ≡ true)
+
 -- a command answers lines
 abbrev pub AnswersLines : Command → Type 0
 AnswersLines Settled = ⊥
@@ -184,16 +195,18 @@ AreToolsOf syntax Canonicalize t input (tools.Canonicalize k) =
     × (k.values.keywords.now ≡ t.supplement.keywords) × (k.values.fields.now ≡ t.supplement.fields)
 AreToolsOf syntax Direction t input (tools.Direction d) =
     IsExpanderOf t d.expander × (t.script_direction ≡ Some d.script_direction.now)
-AreToolsOf syntax Negotiate t input (tools.Negotiate n) = IsExpanderOf t n.expander
-    × AreSettled (likely n.expander) × SpellsAll syntax (listed (first_line input)) n.available
+AreToolsOf syntax Negotiate t input (tools.Negotiate n offered) = IsExpanderOf t n.expander
+    × AreSettled (likely n.expander)
+    × IsAvailable syntax (listed (first_line input)) n.available offered.wholes.items
 AreToolsOf syntax (Name chain preferences) t input (tools.Name n) =
     ((n.tables.tables.now ≡ t) × (n.tables.names ≡ t.names))
     × (n.chain ≡ chain) × (n.preferences ≡ preferences)
     × (option_copied n.extensions ≡ value_at locale_cmp t.supplement.extension_names preferences.locale)
 AreToolsOf syntax Fallback t input (tools.Fallback f) = IsExpanderOf t f.fallbacker.expander
     × (f.fallbacker.parents.now ≡ t.supplement.parents) × (f.config.priority ≡ Language)
-AreToolsOf syntax (Serve wishes) t input (tools.Serve how s) =
-    (how ≡ wishes) × IsServerOf t s × SpellsAll syntax (listed (first_line input)) s.available
+AreToolsOf syntax (Serve wishes) t input (tools.Serve how s offered) =
+    (how ≡ wishes) × IsServerOf t s
+    × IsAvailable syntax (listed (first_line input)) s.available offered.wholes.items
 AreToolsOf syntax Distance t input (tools.Distance d) =
     IsExpanderOf t d.expander × (t.supplement.matching ≡ Some d.matching.now)
 AreToolsOf syntax task t input other = ⊥

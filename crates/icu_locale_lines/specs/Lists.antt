@@ -1,12 +1,14 @@
 -- Lines that list identifiers, and what is written for a line of requests.
-use Rattle.std.specs.Prelude.{◌≡◌, ℕ, Bool, ◌⊎◌, ◌==◌, true, false, List, [], ◌∷◌, ◌++◌, codes, Option, Some, None}
+use Rattle.std.specs.Prelude.{◌≡◌, ℕ, Bool, ◌⊎◌, ◌==◌, true, false, List, [], ◌∷◌, ◌++◌, map, codes, Option, Some, None}
 use Rattle.std.specs.List.{AllZip, slice_split, slice_get}
-use Rattle.icu_locale_core.specs.Identifier.{IsIdentifier, Spells, starts_with_language, parse_error_name}
+use Rattle.std.specs.Option.{option_map, option_or}
+use Rattle.icu_locale_core.specs.Identifier.{IsIdentifier, Spells, starts_with_language, parse_error_name, written}
 use Rattle.icu_locale_core.specs.declared.langid.LanguageIdentifier.{LanguageIdentifier}
 use Rattle.icu_locale_core.specs.declared.parse_error.ParseError.{ParseError}
 use Rattle.icu_locale_core.specs.declared.parse_error.ParseError.TheVariants.{InvalidLanguage, InvalidSubtag, Memory}
 use Rattle.icu_locale.specs.LikelyTable.{likely}
 use Rattle.icu_locale_extensions.specs.Locales.{IsLocaleIdentifier}
+use Rattle.icu_locale_extensions.specs.Locales as extended
 use Rattle.icu_locale_extensions.specs.Syntaxes.{SpellsBy, IsFaultBy}
 use Rattle.icu_locale_extensions.specs.declared.identifier.LocaleIdentifier.{LocaleIdentifier}
 use Rattle.icu_locale_extensions.specs.declared.syntax.Syntax.{Syntax}
@@ -65,14 +67,48 @@ IsListedAnswer syntax IsLine line text accepted =
     ⊎ ((e : ParseError) × IsFirstFault syntax (listed line) e
     × (text ≡ refused_line (parse_error_name e)) × (accepted ≡ false))
 
--- the place of the request that is met, and the available identifier that meets it; or `none`
-abbrev pub TellsMatch : List LanguageIdentifier → Option (ℕ × ℕ) → List ℕ → Type 0
-TellsMatch available None text = text ≡ codes "none\n"
-TellsMatch available (Some p) text =
-    (x : LanguageIdentifier) × (slice_get available p.1 ≡ Some x) × (text ≡ matched_line p.0 x)
+-- ---- what is available
+
+-- a text spells a locale identifier in a syntax
+abbrev pub SpellsWhole : Syntax → List ℕ → LocaleIdentifier → Type 0
+SpellsWhole syntax text x = IsLocaleIdentifier x × SpellsBy syntax text x
+
+-- each text spells its locale identifier, in order
+abbrev pub SpellsWholes : Syntax → List (List ℕ) → List LocaleIdentifier → Type 0
+SpellsWholes syntax texts wholes = AllZip (SpellsWhole syntax) texts wholes
+
+-- the identifiers of locale identifiers
+abbrev pub ids_of : List LocaleIdentifier → List LanguageIdentifier
+ids_of wholes = map (λ x. x.locale.id) wholes
+
+-- what texts make available: an identifier each, on which is decided; in a syntax that of a locale
+-- identifier each, which is written whole, and none is kept without one
+abbrev pub IsAvailable : Option Syntax → List (List ℕ) → List LanguageIdentifier
+    → List LocaleIdentifier → Type 0
+IsAvailable None texts identifiers wholes = SpellsAll None texts identifiers × (wholes ≡ [])
+IsAvailable (Some syntax) texts identifiers wholes =
+    SpellsWholes syntax texts wholes × (identifiers ≡ ids_of wholes)
+
+-- how what is available at a place is written: the locale identifier with its extensions where one
+-- is kept, else the identifier
+abbrev pub shown_at : List LanguageIdentifier → List LocaleIdentifier → ℕ → Option (List ℕ)
+shown_at available wholes place = option_or (option_map extended.written (slice_get wholes place))
+    (option_map written (slice_get available place))
+
+-- a line tells a place, and what is available at another
+abbrev pub TellsPlace : List LanguageIdentifier → List LocaleIdentifier → ℕ → ℕ → List ℕ → Type 0
+TellsPlace available wholes place found text = (shown : List ℕ)
+    × (shown_at available wholes found ≡ Some shown) × (text ≡ matched_line place shown)
+
+-- the place of the request that is met, and what is available and meets it; or `none`
+abbrev pub TellsMatch : List LanguageIdentifier → List LocaleIdentifier → Option (ℕ × ℕ) → List ℕ
+    → Type 0
+TellsMatch available wholes None text = text ≡ codes "none\n"
+TellsMatch available wholes (Some p) text = TellsPlace available wholes p.0 p.1 text
 
 -- the line of requests: what is negotiated
-abbrev pub IsNegotiatedLine : Negotiation → List LanguageIdentifier → List ℕ → Bool → Type 0
-IsNegotiatedLine n requests text accepted = (found : Option (ℕ × ℕ))
+abbrev pub IsNegotiatedLine : Negotiation → List LocaleIdentifier → List LanguageIdentifier
+    → List ℕ → Bool → Type 0
+IsNegotiatedLine n wholes requests text accepted = (found : Option (ℕ × ℕ))
     × IsNegotiated (likely n.expander) requests n.available found
-    × TellsMatch n.available found text × (accepted ≡ true)
+    × TellsMatch n.available wholes found text × (accepted ≡ true)

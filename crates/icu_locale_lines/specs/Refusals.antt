@@ -7,7 +7,6 @@ use Rattle.icu_locale_lines.specs.declared.error.CliError.{CliError}
 use Rattle.icu_locale_lines.specs.declared.error.CliError.TheVariants.{Tables, Supplement, Data, Memory, Available, NotSettled, Usage, Read, Write}
 use Rattle.icu_locale_lines.specs.Lists.{listed, SpellsAll, IsFirstFault}
 use Rattle.icu_locale_extensions.specs.declared.syntax.Syntax.{Syntax}
-use Rattle.icu_locale_lines.specs.Loads.{not_found}
 use Rattle.icu_locale_core.specs.Identifier.{parse_error_name}
 use Rattle.icu_locale_core.specs.declared.langid.LanguageIdentifier.{LanguageIdentifier}
 use Rattle.icu_provider.specs.Provider.{kind_name}
@@ -26,14 +25,6 @@ abbrev pub IsRefusedSupplement : List ℕ → CliError → Type 0
 IsRefusedSupplement text (Supplement e) = further.rows_in text ≡ Err e
 IsRefusedSupplement text Memory = Unit {0}
 IsRefusedSupplement text e = ⊥
-
--- why a table is not loaded: it is not held, or memory was refused
-abbrev pub IsRefusedTable : CliError → Type 0
-IsRefusedTable e = (e ≡ Data not_found) ⊎ (e ≡ Memory)
-
--- why tables are not loaded: one is not held, memory was refused, or they are not settled
-abbrev pub IsRefusedLoad : CliError → Type 0
-IsRefusedLoad e = (e ≡ Data not_found) ⊎ (e ≡ Memory) ⊎ (e ≡ NotSettled)
 
 -- why a line gives no negotiator
 abbrev pub IsRefusedList : Option Syntax → LikelySubtags → List ℕ → CliError → Type 0

@@ -42,6 +42,11 @@ pub record WritesUpTo (work : Work) (input : List ℕ) (old new : Stream) (part 
   pub each : AreAnswers work answered answers
   pub written : Appends old new (text_of_lines answers ++ part)
 
+-- a line found no memory: the answers to all lines before it are written, and nothing else
+abbrev pub WritesEarlier : Work → List ℕ → Stream → Stream → Type 0
+WritesEarlier work input old new = (line : List ℕ) × (rest : List (List ℕ))
+    × WritesUpTo work input old new [] (line ∷ rest)
+
 -- whole lines alone are written
 abbrev pub WritesWholeLines : Work → List ℕ → Stream → Stream → Type 0
 WritesWholeLines work input old new = (rest : List (List ℕ)) × WritesUpTo work input old new [] rest

@@ -88,15 +88,32 @@ abbrev pub StopsWithin : (Work → List ℕ → Stream → Stream → Type 0) �
 StopsWithin Leaves longest work read read' wrote wrote' = (text : List ℕ)
     × Consumes read read' text × LeavesLines Leaves longest work read' text wrote wrote'
 
+-- the lines that had ended are all answered but for what came last, which is a line that was begun and
+-- no more than is read at once: of its lines whole ones alone are written
+pub record StopsLate (longest : Option ℕ) (work : Work) (read read' wrote wrote' : Stream)
+    : Type 0 where
+  pub done : List ℕ
+  pub begun : List ℕ
+  pub part : List ℕ
+  pub between : Stream
+  pub status : Status
+  pub consumed : Consumes read read' (done ++ (begun ++ part))
+  pub whole : EndsLines done
+  pub within : AreWithin longest done
+  pub answered : WritesAll work done wrote between status
+  pub unended : IsUnended longest begun
+  pub short : length part ≤ part_size
+  pub left : LeavesLines WritesWholeLines longest work read' (begun ++ part) between wrote'
+
 -- what lines leave that stop early: after a failed read each line that had ended is answered, and
--- else each before the first that is too long; where memory was refused whole lines alone are
--- written; a failed write leaves the earlier lines and a beginning of the one in hand, and a failed
--- flush each line that had ended
+-- else each before the first that is too long; where memory was refused each that had ended before
+-- what came last, and of that whole lines alone; a failed write leaves the earlier lines and a
+-- beginning of the one in hand, and a failed flush each line that had ended
 abbrev pub StopsStream : Option ℕ → Work → Stream → Stream → Stream → Stream → CliError → Type 0
 StopsStream longest work read read' wrote wrote' error.Read =
     StopsBetween StopsReading longest work read read' wrote wrote'
 StopsStream longest work read read' wrote wrote' error.Memory =
-    StopsWithin WritesWholeLines longest work read read' wrote wrote'
+    StopsLate longest work read read' wrote wrote'
 StopsStream longest work read read' wrote wrote' error.Write =
     StopsWithin WritesPart longest work read read' wrote wrote'
     ⊎ StopsBetween IsUnended longest work read read' wrote wrote'

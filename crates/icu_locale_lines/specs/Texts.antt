@@ -65,6 +65,6 @@ raw_mark false = codes "N"
 abbrev pub named_line : List Piece → List ℕ
 named_line pieces = text_of pieces ++ (codes "\t" ++ (raw_mark (has_raw pieces) ++ codes "\n"))
 
--- the place of a request, a tab, and the available identifier in written case
-abbrev pub matched_line : ℕ → LanguageIdentifier → List ℕ
-matched_line place x = decimal place ++ (codes "\t" ++ (written x ++ codes "\n"))
+-- a place, a tab, and what is available as it is written
+abbrev pub matched_line : ℕ → List ℕ → List ℕ
+matched_line place shown = decimal place ++ (codes "\t" ++ (shown ++ codes "\n"))

@@ -19,10 +19,10 @@ use Rattle.icu_locale_lines.specs.declared.work.Work.{Work}
 use Rattle.icu_locale_lines.specs.Lines.{first_line, after_first_line, Stream}
 use Rattle.icu_locale_lines.specs.Loads.{IsExpanderOf, not_found}
 use Rattle.icu_locale_names.specs.Pieces.{AppendsPart}
-use Rattle.icu_locale_lines.specs.Runs.{ReadsAll, WritesAll, WritesWholeLines, WritesPart}
+use Rattle.icu_locale_lines.specs.Runs.{ReadsAll, WritesAll, WritesEarlier, WritesPart}
 use Rattle.icu_locale_lines.specs.Refusals.{IsFaultyList, IsRefusedReading}
 use Rattle.icu_locale_lines.specs.Texts.{settled_line}
-use Rattle.icu_locale_lines.specs.Commands.{AnswersLines, IsWorkOf, IsUnsettled, ListsOver, has_tables, text_answered}
+use Rattle.icu_locale_lines.specs.Commands.{AnswersLines, ReadsRules, IsWorkOf, IsUnsettled, ListsOver, has_tables, text_answered}
 
 -- the work of the command was done on every line that it answers
 pub record WritesLines (c : LineCommand) (t : Tables) (input : List ℕ) (wrote wrote' : Stream)
@@ -52,12 +52,12 @@ WritesOutput (command.Lines c) t input wrote wrote' status =
 
 -- ---- where a call stops, and why it may stop there
 
--- before lines are read: a table is not held, likely tables are not settled, or rules find no
--- memory, of which `settled` takes none
+-- before lines are read: a table is not held, likely tables are not settled, or there is no memory for
+-- rules, which only `canonicalize`, `serve` and `nearest` read there
 abbrev pub IsUnloaded : Command → Tables → CliError → Type 0
 IsUnloaded c t (error.Data e) = (e ≡ not_found) × (has_tables c t ≡ false)
 IsUnloaded c t error.NotSettled = IsUnsettled c t
-IsUnloaded c t error.Memory = AnswersLines c
+IsUnloaded c t error.Memory = ReadsRules c t
 IsUnloaded c t e = ⊥
 
 -- while lines are read: a read failed, which leaves what Left says, or there was no memory
@@ -70,10 +70,10 @@ IsUnread Left e = ⊥
 abbrev pub IsUnlisted : LineCommand → Tables → List ℕ → CliError → Type 0
 IsUnlisted c t line e = ListsOver c.task t × IsFaultyList c.syntax line e
 
--- among the answers to the lines of a text: where memory was refused whole lines alone are written,
--- and a failed write leaves the earlier lines and a beginning of the one in hand
+-- among the answers to the lines of a text: where memory was refused all lines before the one in hand
+-- are written, and a failed write leaves these and a beginning of the one in hand
 abbrev pub WritesUntil : CliError → Work → List ℕ → Stream → Stream → Type 0
-WritesUntil error.Memory work text wrote wrote' = WritesWholeLines work text wrote wrote'
+WritesUntil error.Memory work text wrote wrote' = WritesEarlier work text wrote wrote'
 WritesUntil error.Write work text wrote wrote' = WritesPart work text wrote wrote'
 WritesUntil e work text wrote wrote' = ⊥
 

@@ -1,11 +1,12 @@
 //! Answers: one line, and all lines of an input, written whole or refused.
-ghost use Rattle.std.specs.Prelude.{◌≡◌, ◌≢◌, ◌++◌, decimal, IfOk, IfErr, false, ◌⊎◌, Err, OnOk, OnErr};
+ghost use Rattle.std.specs.Prelude.{◌≡◌, ◌≢◌, ◌++◌, ◌∷◌, [], List, ℕ, decimal, IfOk, IfErr, false, ◌⊎◌, Err, OnOk, OnErr};
 ghost use Rattle.icu_locale_core.specs.Identifier.{parse_error_name};
 ghost use Rattle.icu_locale_lines.specs.Answers.{AddsLine, Keeps};
+ghost use Rattle.icu_locale_lines.specs.Lines.{lines};
 ghost use Rattle.icu_locale_lines.specs.Texts.{refused_line};
 ghost use Rattle.std.specs.Io.KnownBytes.{Appends};
 ghost use Rattle.icu_locale_names.specs.Pieces.{AppendsPart};
-ghost use Rattle.icu_locale_lines.specs.Runs.{WritesAll, WritesWholeLines, WritesPart};
+ghost use Rattle.icu_locale_lines.specs.Runs.{WritesAll, WritesEarlier, WritesPart, WritesUpTo};
 
 use crate::error::CliError;
 use crate::runs::Status;
@@ -67,8 +68,7 @@ pub fn add_fault(text: &mut Vec<u8>, refusal: ParseError) -> Result<bool, CliErr
     }
 }
 
-// The answers to all lines, joined in a list that is written when it is full, and at the end. Where
-// memory is refused, the lines that are whole are written all the same. What the list held before is lost.
+// The answers to all lines. Where memory is refused for a line, those to all lines before it are written.
 pub fn write_answers<W: Write>(
     work: &Work<'_>,
     text: &mut Vec<u8>,
@@ -78,14 +78,36 @@ pub fn write_answers<W: Write>(
     ensures whole { IfOk result (WritesAll work.now input.now (W.contents writer.old)
         (W.contents writer.new)) }
     ensures memory { result ≡ Err CliError.Memory
-        → WritesWholeLines work.now input.now (W.contents writer.old) (W.contents writer.new) }
+        → WritesEarlier work.now input.now (W.contents writer.old) (W.contents writer.new) }
     ensures write { result ≡ Err CliError.Write
         → WritesPart work.now input.now (W.contents writer.old) (W.contents writer.new) }
     ensures refused { IfErr result (λ e. (e ≡ CliError.Memory) ⊎ (e ≡ CliError.Write)) }
 {
+    let mut left = Lines::new(input);
+    write_lines(work, text, &mut left, writer)
+}
+
+// The answers to the lines that are left, joined in a list that is written when it is full, and at the end. A line for
+// which memory is refused is the last that is taken, and the answers to all lines before it are written. What the list
+// held before is lost.
+fn write_lines<W: Write>(
+    work: &Work<'_>,
+    text: &mut Vec<u8>,
+    left: &mut Lines<'_>,
+    writer: &mut W,
+) -> Result<Status, CliError>
+    ensures whole { (input : List ℕ) → left.old ≡ lines input → IfOk result
+        (WritesAll work.now input (W.contents writer.old) (W.contents writer.new)) }
+    ensures memory { (input : List ℕ) → left.old ≡ lines input → result ≡ Err CliError.Memory
+        → (line : List ℕ) × WritesUpTo work.now input (W.contents writer.old)
+        (W.contents writer.new) [] (line ∷ left.new) }
+    ensures write { (input : List ℕ) → left.old ≡ lines input → result ≡ Err CliError.Write
+        → WritesPart work.now input (W.contents writer.old) (W.contents writer.new) }
+    ensures refused { IfErr result (λ e. (e ≡ CliError.Memory) ⊎ (e ≡ CliError.Write)) }
+{
     let mut status = Status::Accepted;
     text.clear();
-    for line in Lines::new(input) {
+    while let Some(line) = left.next() {
         match work.add_answer(text, line) {
             Ok(accepted) => status = status.after(accepted),
             Err(refusal) => {

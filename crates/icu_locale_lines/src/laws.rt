@@ -4,8 +4,12 @@ ghost use Rattle.icu_locale_lines.specs.declared.runs.Status.{Status};
 ghost use Rattle.icu_locale_lines.specs.declared.work.Tools.{Tools};
 ghost use Rattle.icu_locale_lines.specs.declared.work.Work.{Work};
 ghost use Rattle.icu_locale_extensions.specs.declared.syntax.Syntax.{Syntax};
-ghost use Rattle.icu_locale_lines.specs.Answers.{HoldsIdentifiers, IsAnswer, IsAnswerBy};
+ghost use Rattle.icu_locale_extensions.specs.declared.syntax.Syntax.TheVariants.{Unicode};
+ghost use Rattle.icu_locale_lines.specs.Answers.{HasNoSingleton, HoldsIdentifiers, IsAnswer, IsAnswerBy};
+ghost use Rattle.icu_locale_lines.specs.Lists.{IsAvailable, listed, shown_at};
 ghost use Rattle.icu_locale_lines.specs.Runs.{WritesAll};
+ghost use Rattle.icu_locale_core.specs.declared.langid.LanguageIdentifier.{LanguageIdentifier};
+ghost use Rattle.icu_locale_extensions.specs.declared.identifier.LocaleIdentifier.{LocaleIdentifier};
 
 use icu_locale::laws::{canonical_form_is_one, minimal_form_is_one};
 use icu_locale_core::laws::spelled_once;
@@ -31,11 +35,21 @@ pub fn a_line_has_one_answer()
     the_nearest_to_requests_is_one();
 }
 
-/// A line that holds identifiers alone is answered alike in each syntax of locale identifiers and without one.
+/// A line that holds identifiers alone is answered alike in each syntax of locale identifiers and without one. In the
+/// syntax of UTS #35 so is each line without a piece of one character, also where it is refused. Where a first line lists
+/// identifiers alone, the same is available, and is written alike.
 pub fn syntaxes_answer_alike()
-    ensures { (tools : Tools) (s : Syntax) (line text : List ℕ) (accepted : Bool)
+    ensures alike { (tools : Tools) (s : Syntax) (line text : List ℕ) (accepted : Bool)
         → HoldsIdentifiers tools line
         → IsAnswerBy (Some s) tools line text accepted ↔ IsAnswerBy None tools line text accepted }
+    ensures plain { (tools : Tools) (line text : List ℕ) (accepted : Bool)
+        → HasNoSingleton tools line
+        → IsAnswerBy (Some Unicode) tools line text accepted
+        ↔ IsAnswerBy None tools line text accepted }
+    ensures offered { (s : Syntax) (line : List ℕ) (xs ys : List LanguageIdentifier)
+        (ws vs : List LocaleIdentifier) → IsAvailable None (listed line) xs ws
+        → IsAvailable (Some s) (listed line) ys vs
+        → (ys ≡ xs) × ((place : ℕ) → shown_at ys vs place ≡ shown_at xs ws place) }
 {
     spelled_once();
     spelled_once_by();

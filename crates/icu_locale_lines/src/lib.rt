@@ -29,6 +29,7 @@ pub use work::listing::{ListOver, Listing, list_available};
 pub use work::load::{Loaded, load_expander};
 pub use work::locale::answer_locale;
 pub use work::name::Naming;
+pub use work::offered::{Offered, read_available};
 pub use work::serve::answer_wishes;
 pub use work::serving::{Distances, Serving};
 pub use work::{Tools, Work};

@@ -11,6 +11,7 @@ pub mod listing;
 pub mod load;
 pub mod locale;
 pub mod name;
+pub mod offered;
 pub mod serve;
 pub mod serving;
 
@@ -23,6 +24,7 @@ use crate::work::form::{Transform, add_form};
 use crate::work::list::add_requests;
 use crate::work::locale::add_locale;
 use crate::work::name::{Naming, add_name};
+use crate::work::offered::Offered;
 use crate::work::serve::{add_distance, add_served};
 use crate::work::serving::{Distances, Serving};
 use icu_locale::{LocaleDirectionality, LocaleExpander, Negotiator};
@@ -47,14 +49,14 @@ pub enum Tools<'d> {
     Canonicalize(Canonicalizing<'d>),
     /// The direction of each identifier is told.
     Direction(LocaleDirectionality<'d>),
-    /// Each line lists requests.
-    Negotiate(Negotiator<'d>),
+    /// Each line lists requests, and has what is available as it is written.
+    Negotiate(Negotiator<'d>, Offered),
     /// Each identifier is named.
     Name(Naming<'d>),
     /// The chain of each identifier is written.
     Fallback(LocaleFallbackerWithConfig<'d>),
-    /// Each line says what is wished, and has what is served.
-    Serve(Wishes, Serving<'d>),
+    /// Each line says what is wished, and has what is served as it is written.
+    Serve(Wishes, Serving<'d>, Offered),
     /// The distance of two identifiers is told.
     Distance(Distances<'d>),
 }
@@ -110,11 +112,13 @@ impl<'d> Work<'d> {
                 add_locale(text, &canonicalizing.lend(), syntax, line)
             }
             Tools::Direction(directionality) => add_direction(text, directionality, syntax, line),
-            Tools::Negotiate(negotiator) => add_requests(text, &negotiator.lend(), syntax, line),
+            Tools::Negotiate(negotiator, offered) => {
+                add_requests(text, &negotiator.lend(), offered, syntax, line)
+            }
             Tools::Name(naming) => add_name(text, naming, syntax, line),
             Tools::Fallback(fallbacker) => add_chain(text, fallbacker, syntax, line),
-            Tools::Serve(wishes, serving) => {
-                add_served(text, &serving.lend(), *wishes, syntax, line)
+            Tools::Serve(wishes, serving, offered) => {
+                add_served(text, &serving.lend(), offered, *wishes, syntax, line)
             }
             Tools::Distance(distances) => add_distance(text, distances, syntax, line),
         }

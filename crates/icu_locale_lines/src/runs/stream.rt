@@ -40,7 +40,8 @@ use std::io::{Read, Write};
 /// - `Read` where a read failed or the input did not end: each line that had come whole was answered.
 /// - `Write` where a write or a flush failed, or a write took no byte: the earlier lines were answered, and a beginning of
 ///   the answer in hand.
-/// - `Memory` where memory was refused: whole lines only were written.
+/// - `Memory` where memory was refused: each line that had ended before the last 16,384 bytes that were read was answered,
+///   and of what came then whole lines only.
 pub fn stream<R: Read, W: Write>(
     alloc: Global,
     command: &Command,

@@ -31,7 +31,8 @@ use std::io::{Read, Write};
 /// - `Available` where the first line, which lists what `Negotiate` has available, has a fault: nothing was written.
 /// - `Read` where a read failed or the input did not end: nothing was written.
 /// - `Write` where a write failed or took no byte: the earlier lines were written, and a beginning of the one in hand.
-/// - `Memory` where memory was refused: whole lines only were written.
+/// - `Memory` where memory was refused: for a line, and then the answers to all lines before it were written, or before,
+///   and then nothing was.
 pub fn run<R: Read, W: Write>(
     alloc: Global,
     command: &Command,

@@ -1,6 +1,7 @@
 //! Forms of an identifier over likely subtags, and their lines.
 ghost use Rattle.std.specs.Prelude.{◌≡◌, ◌++◌, IfOk, IfErr, OnOk, OnErr, true, codes};
 ghost use Rattle.icu_locale_core.specs.Identifier.{written};
+ghost use Rattle.icu_locale_extensions.specs.Locales as extended;
 ghost use Rattle.icu_locale.specs.LikelyTable.{likely};
 ghost use Rattle.icu_locale_lines.specs.Answers.{IsForm, AddsLine, Keeps, IsAnswerOf, IsSpelledAnswer, IsWholeTransformed, IsTransformed, IsIdentifierAnswer};
 ghost use Rattle.icu_locale_lines.specs.Texts.{mark, transformed_line, whole_line};
@@ -136,11 +137,21 @@ pub fn add_changed(
     ensures refused { IfErr result (λ e. e ≡ CliError.Memory) }
     ensures kept { OnErr result (Keeps text.old.items text.new.items) }
 {
-    if whole.append_to(text).is_err() {
-        return Err(CliError::Memory);
-    }
+    add_whole(text, whole)?;
     add_text(text, ending(changed))?;
     Ok(true)
+}
+
+// A locale identifier in written case is appended to a text.
+pub fn add_whole(text: &mut Vec<u8>, whole: &LocaleIdentifier) -> Result<(), CliError>
+    ensures added { OnOk result (text.new.items ≡ text.old.items ++ extended.written whole.now) }
+    ensures refused { IfErr result (λ e. e ≡ CliError.Memory) }
+    ensures unchanged { OnErr result (text.new.items ≡ text.old.items) }
+{
+    match whole.append_to(text) {
+        Ok(()) => Ok(()),
+        Err(_) => Err(CliError::Memory),
+    }
 }
 
 // An identifier in written case is appended to a text.

@@ -1,12 +1,12 @@
 //! Lines that list identifiers, cut at each space, and lines of requests.
-ghost use Rattle.std.specs.Prelude.{◌≡◌, ◌⊎◌, IfOk, IfErr, OnErr, true};
-ghost use Rattle.icu_locale_lines.specs.Lists.{listed, SpellsAll, IsFirstFault, SpellsIn, IsFaultIn, IsListedAnswer, IsNegotiatedLine};
+ghost use Rattle.std.specs.Prelude.{◌≡◌, ◌⊎◌, ◌<◌, ◌++◌, length, List, ℕ, Some, IfOk, IfErr, OnOk, OnErr, true};
+ghost use Rattle.icu_locale_lines.specs.Lists.{listed, SpellsAll, IsFirstFault, SpellsIn, IsFaultIn, IsListedAnswer, IsNegotiatedLine, TellsPlace, shown_at};
 ghost use Rattle.icu_locale_lines.specs.Answers.{AddsLine, Keeps};
-ghost use Rattle.icu_locale_lines.specs.Texts.{matched_line};
 
 use crate::answer::{add_fault, add_known, add_number, add_text};
 use crate::error::CliError;
-use crate::work::form::add_identifier;
+use crate::work::form::{add_identifier, add_whole};
+use crate::work::offered::Offered;
 use icu_locale::NegotiatorRef;
 use icu_locale_core::{LanguageIdentifier, Locale, ParseError};
 use icu_locale_extensions::{LocaleIdentifier, Syntax};
@@ -70,7 +70,8 @@ fn identifier_of(whole: LocaleIdentifier) -> LanguageIdentifier
     id
 }
 
-/// The answer to a line that lists requests, in the room of an earlier one, and whether the line was accepted.
+/// The answer to a line that lists requests, in the room of an earlier one, and whether the line was accepted. What is
+/// available is written as it is offered.
 ///
 /// # Errors
 ///
@@ -78,68 +79,95 @@ fn identifier_of(whole: LocaleIdentifier) -> LanguageIdentifier
 pub fn answer_requests(
     room: &mut Vec<u8>,
     negotiator: &NegotiatorRef<'_>,
+    offered: &Offered,
     syntax: Option<Syntax>,
     line: &[u8],
 ) -> Result<bool, CliError>
-    ensures answer { IfOk result (IsListedAnswer syntax (IsNegotiatedLine negotiator.now) line.now
-        room.new.items) }
+    ensures answer { IfOk result (IsListedAnswer syntax
+        (IsNegotiatedLine negotiator.now offered.now.wholes.items) line.now room.new.items) }
     ensures refused { IfErr result (λ e. e ≡ CliError.Memory) }
 {
     room.clear();
-    add_requests(room, negotiator, syntax, line)
+    add_requests(room, negotiator, offered, syntax, line)
 }
 
 // The answer to a line that lists requests.
 pub fn add_requests(
     text: &mut Vec<u8>,
     negotiator: &NegotiatorRef<'_>,
+    offered: &Offered,
     syntax: Option<Syntax>,
     line: &[u8],
 ) -> Result<bool, CliError>
     ensures answer { IfOk result (AddsLine
-        (IsListedAnswer syntax (IsNegotiatedLine negotiator.now) line.now)
+        (IsListedAnswer syntax (IsNegotiatedLine negotiator.now offered.now.wholes.items) line.now)
         text.old.items text.new.items) }
     ensures refused { IfErr result (λ e. e ≡ CliError.Memory) }
     ensures kept { OnErr result (Keeps text.old.items text.new.items) }
 {
     match read_list(*text.allocator(), syntax, line) {
-        Ok(requests) => add_negotiated(text, negotiator, &requests),
+        Ok(requests) => add_negotiated(text, negotiator, offered, &requests),
         Err(refusal) => add_fault(text, refusal),
     }
 }
 
-// The line of requests: the place of the first that is met, and the identifier that meets it.
+// The line of requests: the place of the first that is met, and what is available and meets it.
 fn add_negotiated(
     text: &mut Vec<u8>,
     negotiator: &NegotiatorRef<'_>,
+    offered: &Offered,
     requests: &[LanguageIdentifier],
 ) -> Result<bool, CliError>
-    ensures answer { IfOk result (AddsLine (IsNegotiatedLine negotiator.now requests.now)
+    ensures answer { IfOk result (AddsLine
+        (IsNegotiatedLine negotiator.now offered.now.wholes.items requests.now)
         text.old.items text.new.items) }
     ensures refused { IfErr result (λ e. e ≡ CliError.Memory) }
     ensures kept { OnErr result (Keeps text.old.items text.new.items) }
 {
     match negotiator.negotiate(requests) {
-        Some((asked, found)) => add_match(text, asked, &negotiator.available()[found]),
+        Some((asked, found)) => add_match(text, asked, found, negotiator.available(), offered),
         None => add_known(text, "none\n", true),
     }
 }
 
-// The line of a place and an available identifier.
+// The line of a place, and of what is available at another.
 pub fn add_match(
     text: &mut Vec<u8>,
     place: usize,
-    identifier: &LanguageIdentifier,
+    found: usize,
+    available: &[LanguageIdentifier],
+    offered: &Offered,
 ) -> Result<bool, CliError>
-    ensures answer { IfOk result (AddsLine (λ t a. (t ≡ matched_line place identifier.now)
-        × (a ≡ true))
+    requires { found < length available.now }
+    ensures answer { IfOk result (AddsLine
+        (λ t a. TellsPlace available.now offered.now.wholes.items place found t × (a ≡ true))
         text.old.items text.new.items) }
     ensures refused { IfErr result (λ e. e ≡ CliError.Memory) }
     ensures kept { OnErr result (Keeps text.old.items text.new.items) }
 {
     add_number(text, place)?;
     add_text(text, "\t")?;
-    add_identifier(text, identifier)?;
+    add_shown(text, found, available, offered)?;
     add_text(text, "\n")?;
     Ok(true)
+}
+
+// What is available at a place, as it is written.
+fn add_shown(
+    text: &mut Vec<u8>,
+    place: usize,
+    available: &[LanguageIdentifier],
+    offered: &Offered,
+) -> Result<(), CliError>
+    requires { place < length available.now }
+    ensures added { OnOk result ((shown : List ℕ)
+        × (shown_at available.now offered.now.wholes.items place ≡ Some shown)
+        × (text.new.items ≡ text.old.items ++ shown)) }
+    ensures refused { IfErr result (λ e. e ≡ CliError.Memory) }
+    ensures unchanged { OnErr result (text.new.items ≡ text.old.items) }
+{
+    match offered.wholes.get(place) {
+        Some(whole) => add_whole(text, whole),
+        None => add_identifier(text, &available[place]),
+    }
 }

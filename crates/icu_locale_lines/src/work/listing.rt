@@ -4,14 +4,14 @@ ghost use Rattle.icu_locale.specs.LikelyTable.{likely};
 ghost use Rattle.icu_tables.specs.declared.tables.Tables.{Tables};
 ghost use Rattle.icu_locale_lines.specs.Commands.{IsListing, IsWorkOf};
 ghost use Rattle.icu_locale_lines.specs.Lines.{first_line};
-ghost use Rattle.icu_locale_lines.specs.Lists.{listed, SpellsAll};
+ghost use Rattle.icu_locale_lines.specs.Lists.{listed, IsAvailable};
 ghost use Rattle.icu_locale_lines.specs.Refusals.{IsFaultyList, IsRefusedList};
 ghost use Rattle.icu_locale_lines.specs.WholeRuns.{IsUnlisted};
 ghost use Rattle.icu_locale_lines.specs.declared.command.LineCommand.{LineCommand};
 
 use crate::command::Wishes;
 use crate::error::CliError;
-use crate::work::list::read_list;
+use crate::work::offered::{Offered, read_available};
 use crate::work::serving::Serving;
 use crate::work::{Tools, Work};
 use icu_locale::{LocaleCanonicalizer, LocaleExpander, Negotiator, NegotiatorError};
@@ -55,18 +55,19 @@ impl<'d> Listing<'d> {
         let Listing { syntax, over } = self;
         let tools = match over {
             ListOver::Negotiate(expander) => {
-                Tools::Negotiate(list_available(alloc, expander, syntax, line)?)
+                let (negotiator, offered) = list_available(alloc, expander, syntax, line)?;
+                Tools::Negotiate(negotiator, offered)
             }
             ListOver::Serve(wishes, canonicalizer, matching) => {
-                let serving = list_served(alloc, canonicalizer, matching, syntax, line)?;
-                Tools::Serve(wishes, serving)
+                let (serving, offered) = list_served(alloc, canonicalizer, matching, syntax, line)?;
+                Tools::Serve(wishes, serving, offered)
             }
         };
         Ok(Work { syntax, tools })
     }
 }
 
-/// The negotiator over settled tables and the identifiers that a line lists.
+/// The negotiator over settled tables and the identifiers that a line lists, and how these are written.
 ///
 /// # Errors
 ///
@@ -78,51 +79,55 @@ pub fn list_available<'d>(
     expander: LocaleExpander<'d>,
     syntax: Option<Syntax>,
     line: &[u8],
-) -> Result<Negotiator<'d>, CliError>
-    ensures expander { IfOk result (λ n. n.expander ≡ expander.entry) }
-    ensures available { IfOk result (λ n. SpellsAll syntax (listed line.now) n.available) }
+) -> Result<(Negotiator<'d>, Offered), CliError>
+    ensures expander { IfOk result (λ n. n.0.expander ≡ expander.entry) }
+    ensures available { IfOk result (λ n.
+        IsAvailable syntax (listed line.now) n.0.available n.1.wholes.items) }
     ensures refused { IfErr result (IsRefusedList syntax (likely expander.entry) line.now) }
 {
-    match Negotiator::try_new(alloc, expander, listed_in(alloc, syntax, line)?) {
-        Ok(negotiator) => Ok(negotiator),
+    let (available, offered) = listed_in(alloc, syntax, line)?;
+    match Negotiator::try_new(alloc, expander, available) {
+        Ok(negotiator) => Ok((negotiator, offered)),
         Err(NegotiatorError::Memory) => Err(CliError::Memory),
         Err(NegotiatorError::NotSettled) => Err(CliError::NotSettled),
     }
 }
 
-// What serves the identifiers that a line lists.
+// What serves the identifiers that a line lists, and how these are written.
 fn list_served<'d>(
     alloc: Global,
     canonicalizer: LocaleCanonicalizer<'d>,
     matching: &'d LanguageMatching,
     syntax: Option<Syntax>,
     line: &[u8],
-) -> Result<Serving<'d>, CliError>
-    ensures expander { IfOk result (λ s. s.expander ≡ canonicalizer.entry.expander) }
-    ensures rules { IfOk result (λ s. s.rules ≡ canonicalizer.entry.rules) }
-    ensures matching { IfOk result (λ s. s.matching ≡ matching.now) }
-    ensures limits { IfOk result (λ s. s.limits ≡ record { threshold = 50; demotion = 5 }) }
-    ensures available { IfOk result (λ s. SpellsAll syntax (listed line.now) s.available) }
+) -> Result<(Serving<'d>, Offered), CliError>
+    ensures expander { IfOk result (λ s. s.0.expander ≡ canonicalizer.entry.expander) }
+    ensures rules { IfOk result (λ s. s.0.rules ≡ canonicalizer.entry.rules) }
+    ensures matching { IfOk result (λ s. s.0.matching ≡ matching.now) }
+    ensures limits { IfOk result (λ s. s.0.limits ≡ record { threshold = 50; demotion = 5 }) }
+    ensures available { IfOk result (λ s.
+        IsAvailable syntax (listed line.now) s.0.available s.1.wholes.items) }
     ensures refused { IfErr result (IsFaultyList syntax line.now) }
 {
-    let available = listed_in(alloc, syntax, line)?;
+    let (available, offered) = listed_in(alloc, syntax, line)?;
     match Serving::try_new(alloc, canonicalizer, matching, available) {
-        Ok(serving) => Ok(serving),
+        Ok(serving) => Ok((serving, offered)),
         Err(_) => Err(CliError::Memory),
     }
 }
 
-// The identifiers that a line lists.
+// What a line makes available.
 fn listed_in(
     alloc: Global,
     syntax: Option<Syntax>,
     line: &[u8],
-) -> Result<Vec<LanguageIdentifier>, CliError>
-    ensures available { IfOk result (λ list. SpellsAll syntax (listed line.now) list.items) }
+) -> Result<(Vec<LanguageIdentifier>, Offered), CliError>
+    ensures available { IfOk result (λ a.
+        IsAvailable syntax (listed line.now) a.0.items a.1.wholes.items) }
     ensures refused { IfErr result (IsFaultyList syntax line.now) }
 {
-    match read_list(alloc, syntax, line) {
-        Ok(list) => Ok(list),
+    match read_available(alloc, syntax, line) {
+        Ok(available) => Ok(available),
         Err(ParseError::Memory) => Err(CliError::Memory),
         Err(refusal) => Err(CliError::Available(refusal)),
     }

@@ -1,11 +1,10 @@
 //! The tables that a command needs, before the input is read.
 ghost use Rattle.std.specs.Prelude.{◌≡◌, ◌↔◌, ◌&&◌, Some, Err, IfOk, IfErr, IsSomeAnd, is_ok, is_some, false};
 ghost use Rattle.icu_locale.specs.Rules.{AreRules};
-ghost use Rattle.icu_locale_lines.specs.Loads.{IsExpanderOf, has_likely, not_found};
-ghost use Rattle.icu_locale_lines.specs.WholeRuns.{WritesLines, StopsLines};
+ghost use Rattle.icu_locale_lines.specs.Loads.{IsExpanderOf, IsRefusedRules, has_likely, not_found};
+ghost use Rattle.icu_locale_lines.specs.WholeRuns.{IsUnloaded, WritesLines, StopsLines};
 ghost use Rattle.icu_locale_lines.specs.Lines.{Stream};
 ghost use Rattle.icu_locale_lines.specs.Commands.{IsUnsettled, IsLoaded, IsWorkOf, has_matching, has_tables, text_answered};
-ghost use Rattle.icu_locale_lines.specs.Refusals.{IsRefusedLoad, IsRefusedTable};
 ghost use Rattle.icu_locale_lines.specs.declared.command.LineCommand.{LineCommand};
 ghost use Rattle.icu_tables.specs.declared.tables.Tables.{Tables};
 ghost use Rattle.icu_locale_fallback.specs.declared.fallbacker.LocaleFallbackPriority.TheVariants.{Language};
@@ -46,14 +45,14 @@ impl<'d> Loaded<'d> {
     ///
     /// - `Data` exactly where a needed table is not held.
     /// - `NotSettled` exactly where `Negotiate` finds likely tables that are not settled.
-    /// - `Memory` where the rules of `Canonicalize` or `Serve` found no room.
+    /// - `Memory` where the rules of `Canonicalize` or `Serve` found no room. Other tasks never answer it.
     pub fn load(alloc: Global, command: &LineCommand, tables: &'d Tables) -> Result<Self, CliError>
         ensures loaded { IfOk result (IsLoaded command.now tables.now) }
         ensures data { (result ≡ Err (CliError.Data not_found))
             ↔ (has_tables (Command.Lines command.now) tables.now ≡ false) }
         ensures unsettled { (result ≡ Err CliError.NotSettled)
             ↔ IsUnsettled (Command.Lines command.now) tables.now }
-        ensures refused { IfErr result IsRefusedLoad }
+        ensures refused { IfErr result (IsUnloaded (Command.Lines command.now) tables.now) }
     {
         let syntax = command.syntax;
         match command.task {
@@ -181,7 +180,7 @@ fn load_canonicalizer(alloc: Global, tables: &Tables) -> Result<LocaleCanonicali
         (λ table. AreRules table c.rules)) }
     ensures data { (result ≡ Err (CliError.Data not_found))
         ↔ (has_likely tables.entry.now && is_some tables.entry.now.aliases ≡ false) }
-    ensures refused { IfErr result IsRefusedTable }
+    ensures refused { IfErr result (IsRefusedRules tables.entry.now) }
 {
     let expander = load_expander(tables)?;
     let aliases = tables.load_aliases()?;

@@ -10,13 +10,15 @@ use crate::answer::{add_fault, add_known, add_number, add_text};
 use crate::command::Wishes;
 use crate::error::CliError;
 use crate::work::list::{add_match, read_list};
+use crate::work::offered::Offered;
 use crate::work::serving::Distances;
 use icu_locale_core::{LanguageIdentifier, ParseError};
 use icu_locale_extensions::Syntax;
 use icu_locale_matching::laws::what_is_served_is_available;
 use icu_locale_matching::{LocaleServer, Match, distance_of};
 
-/// The answer to a line of wishes, in the room of an earlier one, and whether the line was accepted.
+/// The answer to a line of wishes, in the room of an earlier one, and whether the line was accepted. What is available is
+/// written as it is offered.
 ///
 /// # Errors
 ///
@@ -24,33 +26,37 @@ use icu_locale_matching::{LocaleServer, Match, distance_of};
 pub fn answer_wishes(
     room: &mut Vec<u8>,
     server: &LocaleServer<'_>,
+    offered: &Offered,
     wishes: Wishes,
     syntax: Option<Syntax>,
     line: &[u8],
 ) -> Result<bool, CliError>
-    ensures answer { IfOk result (IsWishAnswer syntax wishes server.now line.now room.new.items) }
+    ensures answer { IfOk result (IsWishAnswer syntax wishes server.now offered.now.wholes.items line.now
+        room.new.items) }
     ensures refused { IfErr result (λ e. e ≡ CliError.Memory) }
 {
     room.clear();
-    add_served(room, server, wishes, syntax, line)
+    add_served(room, server, offered, wishes, syntax, line)
 }
 
 // The answer to a line of wishes.
 pub fn add_served(
     text: &mut Vec<u8>,
     server: &LocaleServer<'_>,
+    offered: &Offered,
     wishes: Wishes,
     syntax: Option<Syntax>,
     line: &[u8],
 ) -> Result<bool, CliError>
-    ensures answer { IfOk result (AddsLine (IsWishAnswer syntax wishes server.now line.now)
+    ensures answer { IfOk result (AddsLine
+        (IsWishAnswer syntax wishes server.now offered.now.wholes.items line.now)
         text.old.items text.new.items) }
     ensures refused { IfErr result (λ e. e ≡ CliError.Memory) }
     ensures kept { OnErr result (Keeps text.old.items text.new.items) }
 {
     match wishes {
-        Wishes::Header => add_served_for(text, server, line),
-        Wishes::Requests => add_nearest(text, server, syntax, line),
+        Wishes::Header => add_served_for(text, server, offered, line),
+        Wishes::Requests => add_nearest(text, server, offered, syntax, line),
     }
 }
 
@@ -58,16 +64,17 @@ pub fn add_served(
 fn add_served_for(
     text: &mut Vec<u8>,
     server: &LocaleServer<'_>,
+    offered: &Offered,
     header: &[u8],
 ) -> Result<bool, CliError>
-    ensures answer { IfOk result (AddsLine (IsServedLine server.now header.now)
+    ensures answer { IfOk result (AddsLine (IsServedLine server.now offered.now.wholes.items header.now)
         text.old.items text.new.items) }
     ensures refused { IfErr result (λ e. e ≡ CliError.Memory) }
     ensures kept { OnErr result (Keeps text.old.items text.new.items) }
 {
     what_is_served_is_available();
     match server.serve(*text.allocator(), header) {
-        Ok(place) => add_place(text, server.available(), place),
+        Ok(place) => add_place(text, server.available(), offered, place),
         Err(_) => Err(CliError::Memory),
     }
 }
@@ -76,17 +83,18 @@ fn add_served_for(
 fn add_nearest(
     text: &mut Vec<u8>,
     server: &LocaleServer<'_>,
+    offered: &Offered,
     syntax: Option<Syntax>,
     line: &[u8],
 ) -> Result<bool, CliError>
     ensures answer { IfOk result (AddsLine
-        (IsListedAnswer syntax (IsNearestLine server.now) line.now)
+        (IsListedAnswer syntax (IsNearestLine server.now offered.now.wholes.items) line.now)
         text.old.items text.new.items) }
     ensures refused { IfErr result (λ e. e ≡ CliError.Memory) }
     ensures kept { OnErr result (Keeps text.old.items text.new.items) }
 {
     match read_list(*text.allocator(), syntax, line) {
-        Ok(requests) => add_nearest_to(text, server, &requests),
+        Ok(requests) => add_nearest_to(text, server, offered, &requests),
         Err(refusal) => add_fault(text, refusal),
     }
 }
@@ -95,16 +103,17 @@ fn add_nearest(
 fn add_nearest_to(
     text: &mut Vec<u8>,
     server: &LocaleServer<'_>,
+    offered: &Offered,
     requests: &[LanguageIdentifier],
 ) -> Result<bool, CliError>
-    ensures answer { IfOk result (AddsLine (IsNearestLine server.now requests.now)
+    ensures answer { IfOk result (AddsLine (IsNearestLine server.now offered.now.wholes.items requests.now)
         text.old.items text.new.items) }
     ensures refused { IfErr result (λ e. e ≡ CliError.Memory) }
     ensures kept { OnErr result (Keeps text.old.items text.new.items) }
 {
     what_is_served_is_available();
     match server.nearest(*text.allocator(), requests) {
-        Ok(found) => add_place(text, server.available(), place_of(found)),
+        Ok(found) => add_place(text, server.available(), offered, place_of(found)),
         Err(_) => Err(CliError::Memory),
     }
 }
@@ -122,17 +131,18 @@ fn place_of(found: Option<Match>) -> Option<usize>
 fn add_place(
     text: &mut Vec<u8>,
     available: &[LanguageIdentifier],
+    offered: &Offered,
     place: Option<usize>,
 ) -> Result<bool, CliError>
     requires { IfSome place (λ p. p < length available.now) }
     ensures answer { IfOk result (AddsLine
-        (λ t a. TellsServed available.now place t × (a ≡ true))
+        (λ t a. TellsServed available.now offered.now.wholes.items place t × (a ≡ true))
         text.old.items text.new.items) }
     ensures refused { IfErr result (λ e. e ≡ CliError.Memory) }
     ensures kept { OnErr result (Keeps text.old.items text.new.items) }
 {
     match place {
-        Some(place) => add_match(text, place, &available[place]),
+        Some(place) => add_match(text, place, place, available, offered),
         None => add_known(text, "none\n", true),
     }
 }

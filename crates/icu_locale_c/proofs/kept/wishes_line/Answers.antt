@@ -24,7 +24,7 @@ returns-in-Some-Some-clause-answered c =
     let m = c.in-Some.matching in
     let kept = kept_served t c.args.list.now c.prepare.new.kept found.read found.served c.in_ok-prepare.ensures.kept found.is-0 found.is-1 in
     let rules = kept_rules t _ c.prepare.new.kept found.read table c.in_ok-prepare.ensures.kept found.is-0 c.in-Some-aliases.is in
-    line_over_server t c.in-Ok.expander found.read table m c.args.list.now c.args.wishes c.args.asked.now c.args.line.now c.served_line.new.room.items
+    line_over_server t c.in-Ok.expander found.read table m c.args.list.now c.args.offered.now c.args.wishes c.args.asked.now c.args.line.now c.served_line.new.room.items
     (record {
       expander = c.over-rules.result.expander;
       rules = lent c.over-rules.result.rules;

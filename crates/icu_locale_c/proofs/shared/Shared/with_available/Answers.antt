@@ -1,5 +1,5 @@
-use Rattle.std.proofs.Common.{rules, None, ◌≡◌}
-use Rattle.icu_locale_lines.specs.Lists.{listed, SpellsAll}
+use Rattle.std.proofs.Common.{rules, ◌≡◌}
+use Rattle.icu_locale_lines.specs.Lists.{listed, IsAvailable}
 use Rattle.icu_locale.specs.Negotiation.{identifiers_of}
 use Rattle.icu_locale_c.specs.Held.{IsListOver}
 use Rattle.icu_locale_c.proofs.HeldLines.{listed_in}
@@ -7,8 +7,10 @@ use Rattle.icu_locale_c.proofs.shared.Shared.with_available.Goals as goal
 
 pub returns-clause-made : goal.returns-clause-made
 returns-clause-made c =
+    let a = c.in_ok-available.available in
+    let ws = c.in_ok-available.offered.wholes.items in
     let same : c.in-Ok.tables.value ≡ c.args.self.now.tables = search rules in
-    let kept : IsListOver c.args.self.now.tables c.in_ok-available.available = search rules in
-    let spelled : SpellsAll None (listed c.args.line.now) (identifiers_of c.in_ok-available.available) = search rules in
-    listed_in (λ b. b.value) c.args.self.now.tables c.in-Ok.tables.value c.in_ok-available.available c.args.line.now same kept spelled
+    let kept : IsListOver c.args.self.now.tables a = search rules in
+    let spelled : IsAvailable c.args.syntax (listed c.args.line.now) (identifiers_of a) ws = search rules in
+    listed_in c.args.syntax c.args.self.now.tables a ws c.args.line.now kept spelled (λ b. b.value) c.in-Ok.tables.value same
     c.boxed.result c.boxed.ensures.made

@@ -1,6 +1,6 @@
 use Rattle.std.proofs.Common.{◌≡◌, ◌++◌, Err, refl, ap, sym, ◌∙◌, rules}
 use Rattle.std.proofs.lemmas.Result.{err_from_is_err_and}
-use Rattle.icu_locale_lines.proofs.PartEnds.{LeavesEnded-none, StopsPart-front, ends_carried, long_left, nothing_left}
+use Rattle.icu_locale_lines.proofs.PartEnds.{LeavesEnded-none, earlier_whole, StopsPart-front, ends_carried, long_left, nothing_left}
 use Rattle.icu_locale_lines.proofs.runs.stream.answer_front.Goals as goal
 
 -- there was no memory for what is carried
@@ -23,7 +23,8 @@ returns-in_err-status-clause-refused g c =
     let passed_on = err_from_is_err_and c.from_residual-in_err-status.result c.from_residual-in_err-status.ensures.1 in
     rw (passed_on.1, passed_on.2) (StopsPart-front c.args.longest c.args.work.now (wrote c.args.writer.now) (wrote c.write_answers.new.writer) text
     cut.result.0.now cut.result.1.now (sym held ∙ cut.ensures.parted) short.0 short.1 e c.in_err-status.ensures.refused
-    (λ is. c.in_err-status.ensures.memory (ap (λ e. Err e) is)) (λ is. c.in_err-status.ensures.write (ap (λ e. Err e) is)))
+    (λ is. earlier_whole c.args.work.now cut.result.0.now (wrote c.args.writer.now) (wrote c.write_answers.new.writer)
+    (c.in_err-status.ensures.memory (ap (λ e. Err e) is))) (λ is. c.in_err-status.ensures.write (ap (λ e. Err e) is)))
 
 -- a line is too long, and those before it are answered
 pub returns-then-not-is_empty-clause-refused : goal.returns-then-not-is_empty-clause-refused

@@ -7,6 +7,7 @@ use Rattle.icu_locale_lines.specs.declared.runs.Status.TheVariants.{Accepted}
 use Rattle.icu_locale_lines.proofs.Streaming.{Consumes-prepended, StreamProgress-none, StreamProgress-more, StreamProgress-refused}
 use Rattle.icu_locale_lines.proofs.Streaming.{StreamProgress-unread, StreamProgress-last, StreamProgress-end}
 use Rattle.icu_locale_lines.proofs.Streaming.{StreamProgress-flushed, StreamProgress-unflushed}
+use Rattle.icu_locale_lines.proofs.PartEnds.{earlier_whole}
 use Rattle.icu_locale_lines.proofs.runs.stream.stream_lines.Goals as goal
 
 -- what was read before was refused
@@ -43,7 +44,8 @@ returns-in_err-last-in-Ok-eq0-clause-refused g c =
     (wrote c.flush.new.self) c.loop.status c.loop.carry.items before
     (read c.read.new.self) (wrote c.write_answers.new.writer) [] refl more ended e c.in_err-last-in-Ok-eq0.ensures.refused
     (λ is. subst (λ t. WritesWholeLines work t (wrote c.flush.new.self) (wrote c.write_answers.new.writer)) c.as_slice.ensures.value
-    (c.in_err-last-in-Ok-eq0.ensures.memory (ap (λ e. Err e) is)))
+    (earlier_whole work c.as_slice.result.now (wrote c.flush.new.self) (wrote c.write_answers.new.writer)
+    (c.in_err-last-in-Ok-eq0.ensures.memory (ap (λ e. Err e) is))))
     (λ is. subst (λ t. WritesPart work t (wrote c.flush.new.self) (wrote c.write_answers.new.writer)) c.as_slice.ensures.value
     (c.in_err-last-in-Ok-eq0.ensures.write (ap (λ e. Err e) is))))
 

@@ -19,6 +19,7 @@ returns-in-Canonicalize-clause-answer c =
 pub returns-in-Negotiate-clause-answer : goal.returns-in-Negotiate-clause-answer
 returns-in-Negotiate-clause-answer c =
     let syntax = c.args.self.now.syntax in
+    let wholes = c.in-Negotiate.offered.wholes.items in
     if_adds _ _ (λ t a h. subst (λ tools. IsAnswerBy syntax tools c.args.line.now t a) (sym c.in-Negotiate.is)
-    (subst (λ n. IsListedAnswer syntax (IsNegotiatedLine n) c.args.line.now t a) c.lend-in-Negotiate.ensures h)) _ _
+    (subst (λ n. IsListedAnswer syntax (IsNegotiatedLine n wholes) c.args.line.now t a) c.lend-in-Negotiate.ensures h)) _ _
     c.add_requests.result c.add_requests.ensures.answer

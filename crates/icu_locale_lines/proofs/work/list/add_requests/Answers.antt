@@ -8,7 +8,7 @@ returns-in-Ok-clause-answer c =
     if_adds _ _ (λ t a h. inl (
       c.in-Ok.requests.items,
       c.in-Ok.ensures.read,
-      subst (λ list. IsNegotiatedLine c.args.negotiator.now list t a) c.deref.ensures.value h,
+      subst (λ list. IsNegotiatedLine c.args.negotiator.now c.args.offered.now.wholes.items list t a) c.deref.ensures.value h,
     )) _ _ c.add_negotiated.result c.add_negotiated.ensures.answer
 
 pub returns-in-Err-clause-answer : goal.returns-in-Err-clause-answer

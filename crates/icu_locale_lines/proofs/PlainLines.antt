@@ -1,0 +1,202 @@
+-- A line without a piece of one character is answered alike in the syntax of UTS #35 and without one.
+use Rattle.std.proofs.Common.{◌≡◌, ◌↔◌, ◌⊎◌, ℕ, Bool, true, false, ◌||◌, List, [], ◌∷◌, ◌++◌, Option, None, Some, map, refl, ap, sym, subst, ◌∙◌, inl, inr}
+use Rattle.std.specs.Prelude.{if◌then◌else◌}
+use Rattle.std.specs.List.{list_any, position}
+use Rattle.std.proofs.lemmas.Bool.{false≢true}
+use Rattle.icu_locale_core.specs.Identifier.{IsIdentifier, pieces}
+use Rattle.icu_locale_core.specs.Identifier as core
+use Rattle.icu_locale_core.specs.Subtag.{lowercase}
+use Rattle.icu_locale_core.specs.declared.langid.LanguageIdentifier.{LanguageIdentifier}
+use Rattle.icu_locale_core.specs.declared.parse_error.ParseError.{ParseError}
+use Rattle.icu_locale_core.specs.declared.parse_error.ParseError.TheVariants.{InvalidLanguage, InvalidSubtag, Memory}
+use Rattle.icu_locale_extensions.specs.Cuts.{front}
+use Rattle.icu_locale_extensions.specs.Extensions.{is_singleton}
+use Rattle.icu_locale_extensions.specs.Locales.{IsLocaleIdentifier}
+use Rattle.icu_locale_extensions.specs.Reads.{bare, Spells}
+use Rattle.icu_locale_extensions.specs.Syntaxes.{IsFaultBy}
+use Rattle.icu_locale_extensions.specs.declared.identifier.LocaleIdentifier.{LocaleIdentifier}
+use Rattle.icu_locale_extensions.specs.declared.syntax.Syntax.{Syntax}
+use Rattle.icu_locale_extensions.specs.declared.syntax.Syntax.TheVariants.{Unicode}
+use Rattle.icu_locale.specs.LikelyTable.{likely}
+use Rattle.icu_locale_values.specs.Whole.{WholeRules}
+use Rattle.icu_locale_lines.specs.Answers.{IsAnswerBy, IsIdentifierAnswer, IsLocaleAnswer, IsSpelledAnswer, IsTransformed, IsWholeTransformed}
+use Rattle.icu_locale_lines.specs.Answers.{IsDirected, IsNamed, IsWholeNamed, has_singleton, HasNoSingleton}
+use Rattle.icu_locale_lines.specs.Chains.{IsChained}
+use Rattle.icu_locale_lines.specs.Lists.{IsFault, IsFirstFault, IsListedAnswer, IsNegotiatedLine, SpellsAll, listed}
+use Rattle.icu_locale_lines.specs.Locales.{is_tab, is_readable, identifier_text, value_text, IsLocaleFault, IsValueFault, SpellsSome}
+use Rattle.icu_locale_lines.specs.Serving.{IsNearestLine, IsDistanceLine}
+use Rattle.icu_locale_lines.specs.Wholes.{IsWholeCanonicalized, rules_of}
+use Rattle.icu_locale_lines.specs.declared.command.Wishes.TheVariants.{Header, Requests}
+use Rattle.icu_locale_lines.specs.declared.work.Tools.{Tools}
+use Rattle.icu_locale_lines.specs.declared.work.Tools.TheVariants as tools
+use Rattle.icu_locale_lines.proofs.Alike.{SyntaxFacts, each_alike, transformed_alike, named_alike, canonical_answers_alike}
+use Rattle.icu_locale_lines.proofs.LineCuts.{before_first-no_position}
+use Rattle.icu_locale_lines.proofs.LocaleLines.{value_text-no_position}
+
+-- none of two passes
+neither : (a b : Bool) → (a || b) ≡ false → (a ≡ false) × (b ≡ false)
+neither true b e = absurd (false≢true (sym e))
+neither false b e = (refl, e)
+
+-- where no piece is marked, all are in front
+front_all : (is_mark : List ℕ → Bool) (ps : List (List ℕ)) → list_any is_mark ps ≡ false → front is_mark ps ≡ ps
+front_all is_mark [] none = refl
+front_all is_mark (p ∷ ps) none =
+    let both = neither (is_mark p) (list_any is_mark ps) none in
+    ap (λ (b : Bool). if b then [] else p ∷ front is_mark ps) both.0 ∙ ap (λ qs. p ∷ qs) (front_all is_mark ps both.1)
+
+-- ---- a text without a piece of one character
+
+module _ (t : List ℕ) (plain : has_singleton t ≡ false) where
+  -- spells the identifier alone
+  from_whole : (w : LocaleIdentifier) → Spells t w → core.Spells t w.locale.id
+  from_whole w s = record {
+    order = s.id.spells.order;
+    lists = s.id.spells.lists;
+    same = ap (map lowercase) (sym (front_all is_singleton (pieces t) plain) ∙ sym s.id.cut) ∙ s.id.spells.same;
+  }
+
+  module _ (facts : SyntaxFacts) where
+    -- and is refused alike
+    fault_alone : (e : ParseError) → IsFaultBy Unicode t e → IsFault t e
+    fault_alone InvalidLanguage why = why
+    fault_alone InvalidSubtag why = (why.0, λ x is s. why.1 (bare x) (facts.known x is) (facts.alike Unicode t x is s))
+    fault_alone Memory why = absurd why
+
+    fault_whole : (e : ParseError) → IsFault t e → IsFaultBy Unicode t e
+    fault_whole InvalidLanguage why = why
+    fault_whole InvalidSubtag why = (why.0, λ w known s. why.1 w.locale.id known.id (from_whole w s))
+    fault_whole Memory why = absurd why
+
+-- ---- the answers
+
+module _ (facts : SyntaxFacts) (line text : List ℕ) (a : Bool) where
+  module _ (plain : has_singleton line ≡ false) where
+    -- an answer that is the same where the line spells an identifier
+    each_plain : (IsWhole : LocaleIdentifier → List ℕ → Bool → Type 0) (IsLine : LanguageIdentifier → List ℕ → Bool → Type 0)
+        → ((x : LanguageIdentifier) (is : IsIdentifier x) (spells : core.Spells line x) → IsWhole (bare x) text a ↔ IsLine x text a)
+        → IsSpelledAnswer Unicode IsWhole line text a ↔ IsIdentifierAnswer IsLine line text a
+    each_plain IsWhole IsLine both = (forth, back)
+      where
+        forth : IsSpelledAnswer Unicode IsWhole line text a → IsIdentifierAnswer IsLine line text a
+        forth (inl h) =
+            let x = h.0.locale.id in
+            let spells = from_whole line plain h.0 h.2 in
+            (each_alike facts Unicode line text a x h.1.id spells IsWhole IsLine (both x h.1.id spells)).0 (inl h)
+        forth (inr h) = inr (h.0, fault_alone line plain facts h.0 h.1, h.2, h.3)
+
+        back : IsIdentifierAnswer IsLine line text a → IsSpelledAnswer Unicode IsWhole line text a
+        back (inl h) = (each_alike facts Unicode line text a h.0 h.1 h.2 IsWhole IsLine (both h.0 h.1 h.2)).1 (inl h)
+        back (inr h) = inr (h.0, fault_whole line plain facts h.0 h.1, h.2, h.3)
+
+    -- without a tab a locale is refused as an identifier is
+    module _ (none : position is_tab line ≡ None) where
+      locale_fault : (e : ParseError) → IsFault line e → IsLocaleFault line e
+      locale_fault e why = record { fault = inl (subst (λ t. IsFault t e) (sym (before_first-no_position is_tab line none)) why) }
+
+      fault_of_locale : (e : ParseError) → IsLocaleFault line e → IsFault line e
+      fault_of_locale e f = by f.fault
+        where
+          by : IsFault (identifier_text line) e ⊎ (SpellsSome (identifier_text line) × IsValueFault (value_text line) e) → IsFault line e
+          by (inl why) = subst (λ t. IsFault t e) (before_first-no_position is_tab line none) why
+          by (inr why) = absurd (false≢true (sym why.1.0 ∙ ap is_readable (value_text-no_position line none)))
+
+      canonical_plain : (by : WholeRules)
+          → IsSpelledAnswer Unicode (IsWholeCanonicalized by) line text a ↔ IsLocaleAnswer by.likely by.rules line text a
+      canonical_plain by = (forth, back)
+        where
+          forth : IsSpelledAnswer Unicode (IsWholeCanonicalized by) line text a → IsLocaleAnswer by.likely by.rules line text a
+          forth (inl h) =
+              let spells = from_whole line plain h.0 h.2 in
+              (canonical_answers_alike facts Unicode line text a h.0.locale.id h.1.id spells by none).0 (inl h)
+          forth (inr h) = inr (h.0, locale_fault h.0 (fault_alone line plain facts h.0 h.1), h.2, h.3)
+
+          back : IsLocaleAnswer by.likely by.rules line text a → IsSpelledAnswer Unicode (IsWholeCanonicalized by) line text a
+          back (inl h) =
+              let spells = subst (λ t. core.Spells t h.0.id) (before_first-no_position is_tab line none) h.1.id in
+              (canonical_answers_alike facts Unicode line text a h.0.id h.1.known spells by none).1 (inl h)
+          back (inr h) = inr (h.0, fault_whole line plain facts h.0 (fault_of_locale h.0 h.1), h.2, h.3)
+
+  -- ---- lists
+
+  spells_alone : (texts : List (List ℕ)) (xs : List LanguageIdentifier) → list_any has_singleton texts ≡ false
+      → SpellsAll (Some Unicode) texts xs → SpellsAll None texts xs
+  spells_alone [] [] plain each = tt
+  spells_alone [] (x ∷ xs) plain each = absurd each
+  spells_alone (t ∷ ts) [] plain each = absurd each
+  spells_alone (t ∷ ts) (x ∷ xs) plain ((w, known, spells, same), later) =
+      let both = neither (has_singleton t) (list_any has_singleton ts) plain in (
+        (subst IsIdentifier same known.id, subst (core.Spells t) same (from_whole t both.0 w spells)),
+        spells_alone ts xs both.1 later,
+      )
+
+  spells_whole : (texts : List (List ℕ)) (xs : List LanguageIdentifier) → SpellsAll None texts xs → SpellsAll (Some Unicode) texts xs
+  spells_whole [] [] each = tt
+  spells_whole [] (x ∷ xs) each = absurd each
+  spells_whole (t ∷ ts) [] each = absurd each
+  spells_whole (t ∷ ts) (x ∷ xs) each =
+      ((bare x, facts.known x each.0.0, facts.alike Unicode t x each.0.0 each.0.1, refl), spells_whole ts xs each.1)
+
+  -- no text of a list has a piece of one character, none before a text, nor that text
+  before_text : (earlier : List (List ℕ)) (t : List ℕ) (later : List (List ℕ)) → list_any has_singleton (earlier ++ t ∷ later) ≡ false
+      → (list_any has_singleton earlier ≡ false) × (has_singleton t ≡ false)
+  before_text [] t later plain = (refl, (neither (has_singleton t) (list_any has_singleton later) plain).0)
+  before_text (e ∷ es) t later plain =
+      let both = neither (has_singleton e) (list_any has_singleton (es ++ t ∷ later)) plain in
+      let more = before_text es t later both.1 in
+      (ap (λ b. b || list_any has_singleton es) both.0 ∙ more.0, more.1)
+
+  module _ (plain : list_any has_singleton (listed line) ≡ false) where
+    cut_there : (s : Option Syntax) (e : ParseError) (f : IsFirstFault s (listed line) e)
+        → (list_any has_singleton f.earlier ≡ false) × (has_singleton f.text ≡ false)
+    cut_there s e f = before_text f.earlier f.text f.later (subst (λ ts. list_any has_singleton ts ≡ false) f.parted plain)
+
+    first_alone : (e : ParseError) → IsFirstFault (Some Unicode) (listed line) e → IsFirstFault None (listed line) e
+    first_alone e f = let both = cut_there (Some Unicode) e f in record {
+      earlier = f.earlier;
+      text = f.text;
+      later = f.later;
+      parted = f.parted;
+      identifiers = f.identifiers;
+      spelled = spells_alone f.earlier f.identifiers both.0 f.spelled;
+      refused = fault_alone f.text both.1 facts e f.refused;
+    }
+
+    first_whole : (e : ParseError) → IsFirstFault None (listed line) e → IsFirstFault (Some Unicode) (listed line) e
+    first_whole e f = let both = cut_there None e f in record {
+      earlier = f.earlier;
+      text = f.text;
+      later = f.later;
+      parted = f.parted;
+      identifiers = f.identifiers;
+      spelled = spells_whole f.earlier f.identifiers f.spelled;
+      refused = fault_whole f.text both.1 facts e f.refused;
+    }
+
+    lists_plain : (IsLine : List LanguageIdentifier → List ℕ → Bool → Type 0)
+        → IsListedAnswer (Some Unicode) IsLine line text a ↔ IsListedAnswer None IsLine line text a
+    lists_plain IsLine = (forth, back)
+      where
+        forth : IsListedAnswer (Some Unicode) IsLine line text a → IsListedAnswer None IsLine line text a
+        forth (inl h) = inl (h.0, spells_alone (listed line) h.0 plain h.1, h.2)
+        forth (inr h) = inr (h.0, first_alone h.0 h.1, h.2, h.3)
+
+        back : IsListedAnswer None IsLine line text a → IsListedAnswer (Some Unicode) IsLine line text a
+        back (inl h) = inl (h.0, spells_whole (listed line) h.0 h.1, h.2)
+        back (inr h) = inr (h.0, first_whole h.0 h.1, h.2, h.3)
+
+  pub plain_answers_alike : (work : Tools) → HasNoSingleton work line
+      → IsAnswerBy (Some Unicode) work line text a ↔ IsAnswerBy None work line text a
+  plain_answers_alike (tools.Transform form e) plain = each_plain plain (IsWholeTransformed form (likely e)) (IsTransformed form (likely e))
+      (λ x is spells. transformed_alike facts Unicode line text a x is spells form (likely e))
+  plain_answers_alike (tools.Canonicalize c) (none, plain) = canonical_plain plain none (rules_of c)
+  plain_answers_alike (tools.Direction d) plain =
+      each_plain plain (λ w. IsDirected d w.locale.id) (IsDirected d) (λ x is spells. (λ h. h, λ h. h))
+  plain_answers_alike (tools.Negotiate n o) plain = lists_plain plain (IsNegotiatedLine n o.wholes.items)
+  plain_answers_alike (tools.Serve Header t o) plain = (λ h. h, λ h. h)
+  plain_answers_alike (tools.Serve Requests t o) plain = lists_plain plain (IsNearestLine t o.wholes.items)
+  plain_answers_alike (tools.Distance d) plain = lists_plain plain (IsDistanceLine d.matching.now (likely d.expander))
+  plain_answers_alike (tools.Name n) plain = each_plain plain (IsWholeNamed n) (IsNamed n)
+      (λ x is spells. named_alike facts Unicode line text a x is spells n)
+  plain_answers_alike (tools.Fallback f) plain =
+      each_plain plain (λ w. IsChained f w.locale.id) (IsChained f) (λ x is spells. (λ h. h, λ h. h))
