@@ -28,6 +28,10 @@ class Answers(Held):
             raise ValueError(f"the syntaxes are locales, bcp47 and posix, and {shown(str(syntax))} is none")
         return SYNTAXES[syntax] + command
 
+    def _word(self, syntax: Optional[Syntax]) -> bytes:
+        """The word of a syntax, and none where there is none."""
+        return b"" if syntax is None else self._words(b"", syntax).rstrip()
+
     def _told(self, command: bytes, identifier: Text, syntax: Syntax) -> str:
         return self.answer(self._words(command, syntax), identifier)
 

@@ -31,8 +31,8 @@ class Calls:
         self.share = _call(short.icu_locale_share, _HANDLE, _HANDLE)
         self.answer = _call(short.icu_locale_answer, _HANDLE, *_TEXT, *_TEXT, ctypes.c_void_p, SIZE, size_at)
         self.is_settled = _call(long.icu_locale_is_settled, _HANDLE)
-        self.available = _call(long.icu_locale_available, _HANDLE, *_TEXT, _HANDLE)
-        self.negotiate = _call(short.icu_locale_negotiate, _HANDLE, *_TEXT, size_at, size_at)
+        self.available = _call(long.icu_locale_available_in, _HANDLE, *_TEXT, *_TEXT, _HANDLE)
+        self.negotiate = _call(short.icu_locale_negotiate_in, _HANDLE, *_TEXT, *_TEXT, size_at, size_at)
         self.close = _call(short.icu_locale_close, _HANDLE)
         short.icu_locale_close.restype = None
 

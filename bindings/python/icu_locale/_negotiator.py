@@ -55,12 +55,12 @@ class Negotiator(Held):
     def _begin(self) -> None:
         super()._begin()
         self._available: Tuple[Text, ...] = ()
-        self._line = b""
+        self._line = self._word = b""
 
     def _fresh(self) -> Slot:
         slot, tables = Slot(), super()._fresh()
         try:
-            number = self._calls.available(tables.handle, self._line, len(self._line), slot.handle)
+            number = self._calls.available(tables.handle, self._word, len(self._word), self._line, len(self._line), slot.handle)
         finally:
             self._calls.close(tables.handle)
         if number == TableMissing.number:
@@ -91,16 +91,21 @@ class Negotiator(Held):
         asked, request, available = listed(requests), SIZE(), SIZE()
         line, slot = line_of(asked), self._take()
         try:
-            number = self._calls.negotiate(slot.handle, line, len(line), request, available)
+            number = self._calls.negotiate(slot.handle, self._word, len(self._word), line, len(line), request, available)
         finally:
             self._give_back(slot)
         if number == MET:
             return Match(request.value, available.value)
         if number == InvalidList.number:
-            raise self._list_refusal(asked)
+            raise self._list_refusal(asked, maximize_in(self._word))
         if number != NOT_MET:
             refuse(number)
         return None
+
+
+def maximize_in(word: bytes) -> bytes:
+    """The words that tell which text of a list is refused, in the syntax of a word or in none."""
+    return word + b" maximize" if word else b"maximize"
 
 
 def line_of(identifiers: Iterable[Text]) -> bytes:

@@ -2,9 +2,9 @@
 from os import PathLike
 from typing import Any, Iterable, Optional, Tuple, Union, overload
 
-from ._answers import Answers
+from ._answers import Answers, Syntax
 from ._data import Locales, texts_of
-from ._negotiator import Negotiator, Tag, gathered, line_of, listed
+from ._negotiator import Negotiator, Tag, gathered, line_of, listed, maximize_in
 from ._refusals import InvalidList, Text, as_bytes, refuse
 from ._switcher import Default, Headers, Switcher
 
@@ -95,8 +95,10 @@ class Tables(Answers):
         made._is_open = True
         return made
 
-    def negotiator(self, available: Iterable[Text]) -> Negotiator:
+    def negotiator(self, available: Iterable[Text], *, syntax: Optional[Syntax] = None) -> Negotiator:
         """What serves a reader one of the identifiers that are available. It holds these tables too: they may be closed.
+        `syntax` says how these and the requests are read: as identifiers alone, or with extensions, which have no part in
+        what is met.
 
         >>> from icu_locale.example import TABLES
         >>> tables = Tables.from_json(TABLES)
@@ -106,17 +108,20 @@ class Tables(Answers):
         Traceback (most recent call last):
             ...
         icu_locale.InvalidList: what stands at place 1 is no identifier: 'zh Hant'
+        >>> negotiator = tables.negotiator(["de", "en-u-hc-h12"], syntax="locales")
+        >>> negotiator.negotiate(["fr-x-a", "EN-u-nu-latn"]), negotiator.answer("negotiate", "en")
+        (Match(request=1, available=1), '0\\ten-u-hc-h12')
         """
-        return self._negotiator_over(listed(available))
+        return self._negotiator_over(listed(available), self._word(syntax))
 
-    def _negotiator_over(self, available: Tuple[Text, ...]) -> Negotiator:
+    def _negotiator_over(self, available: Tuple[Text, ...], word: bytes = b"") -> Negotiator:
         made = Negotiator._closed()
-        made._available, made._line = available, line_of(available)
+        made._available, made._line, made._word = available, line_of(available), word
         self._share_root(made._root)
         try:
             made._free.append(made._fresh())
         except InvalidList:
-            raise self._list_refusal(available) from None
+            raise self._list_refusal(available, maximize_in(word)) from None
         made._is_open = True
         return made
 

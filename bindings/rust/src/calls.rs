@@ -50,14 +50,18 @@ extern "C" {
         written: *mut usize,
     ) -> i32;
     pub fn icu_locale_is_settled(handle: *mut Handle) -> i32;
-    pub fn icu_locale_available(
+    pub fn icu_locale_available_in(
         from: *mut Handle,
+        syntax: *const u8,
+        syntax_length: usize,
         list: *const u8,
         list_length: usize,
         negotiator: *mut Handle,
     ) -> i32;
-    pub fn icu_locale_negotiate(
+    pub fn icu_locale_negotiate_in(
         negotiator: *mut Handle,
+        syntax: *const u8,
+        syntax_length: usize,
         requests: *const u8,
         requests_length: usize,
         request: *mut usize,

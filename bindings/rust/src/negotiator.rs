@@ -15,16 +15,17 @@ pub struct Match {
     pub available: usize,
 }
 
-/// What is available, by `Tables::negotiator`. Any number of threads may use it at once.
+/// What is available, by `Tables::negotiator` or `Tables::negotiator_in`. Any number of threads may use it at once.
 #[derive(Debug)]
 pub struct Negotiator {
     pool: Pool,
+    word: &'static str,
     available: Vec<String>,
 }
 
 impl Negotiator {
-    pub(crate) fn over(tables: Handle, available: Vec<String>) -> Result<Self, Refusal> {
-        Ok(Negotiator { pool: Pool::listing(tables, &available)?, available })
+    pub(crate) fn over(tables: Handle, word: &'static str, available: Vec<String>) -> Result<Self, Refusal> {
+        Ok(Negotiator { pool: Pool::listing(tables, word, &available)?, word, available })
     }
 
     /// The identifiers that are available, as they were handed in.
@@ -54,9 +55,17 @@ impl Negotiator {
         let line = line(requests)?;
         let (mut request, mut available) = (0, 0);
         let number = self.pool.with(|handle| {
-            // SAFETY: the slice is one of Rust's, the places are two of this call's, and so is the handle, by `&mut`.
+            // SAFETY: the slices are Rust's, the places are two of this call's, and so is the handle, by `&mut`.
             unsafe {
-                calls::icu_locale_negotiate(handle, line.as_ptr(), line.len(), &mut request, &mut available)
+                calls::icu_locale_negotiate_in(
+                    handle,
+                    self.word.as_ptr(),
+                    self.word.len(),
+                    line.as_ptr(),
+                    line.len(),
+                    &mut request,
+                    &mut available,
+                )
             }
         })?;
         match number {

@@ -19,8 +19,14 @@ struct Place(AtomicPtr<c_void>);
 /// The root is a handle that others are made of, and no call else is made on it. With a list they negotiate.
 pub struct Pool {
     root: Mutex<Handle>,
-    list: Option<String>,
+    list: Option<List>,
     free: [Place; PLACES],
+}
+
+/// The line of a list, and the word of its syntax, which is empty where it has none.
+pub struct List {
+    pub word: &'static str,
+    pub line: String,
 }
 
 /// A handle of one call, which goes back at its end.
@@ -39,13 +45,13 @@ fn home() -> usize {
 
 impl Pool {
     /// A pool over tables, and over the line of a list where there is one.
-    pub fn over(root: Handle, list: Option<String>) -> Self {
+    pub fn over(root: Handle, list: Option<List>) -> Self {
         Pool { root: Mutex::new(root), list, free: std::array::from_fn(|_| Place(AtomicPtr::new(null_mut()))) }
     }
 
     /// A pool over tables and a list, which is read.
-    pub fn listing<T: AsRef<str>>(root: Handle, available: &[T]) -> Result<Self, Refusal> {
-        let pool = Pool::over(root, Some(line(available)?));
+    pub fn listing<T: AsRef<str>>(root: Handle, word: &'static str, available: &[T]) -> Result<Self, Refusal> {
+        let pool = Pool::over(root, Some(List { word, line: line(available)? }));
         pool.with(|_| ())?;
         Ok(pool)
     }
@@ -100,10 +106,20 @@ impl Pool {
     // A new handle that holds what the others hold.
     fn fresh(&self) -> Result<Handle, Refusal> {
         let mut tables = self.share()?;
-        let Some(list) = &self.list else { return Ok(tables) };
+        let Some(List { word, line }) = &self.list else { return Ok(tables) };
         let mut handle = Handle::closed();
-        // SAFETY: the slice is one of Rust's, and the two handles are two, which nobody else has.
-        match unsafe { calls::icu_locale_available(&mut tables, list.as_ptr(), list.len(), &mut handle) } {
+        // SAFETY: the slices are Rust's, and the two handles are two, which nobody else has.
+        let number = unsafe {
+            calls::icu_locale_available_in(
+                &mut tables,
+                word.as_ptr(),
+                word.len(),
+                line.as_ptr(),
+                line.len(),
+                &mut handle,
+            )
+        };
+        match number {
             DONE => Ok(handle),
             number => Err(Refusal::of_number(number)),
         }

@@ -12,7 +12,7 @@ pub struct Switcher {
 
 impl Switcher {
     pub(crate) fn over(tables: Handle, available: Vec<String>) -> Result<Self, Refusal> {
-        Ok(Switcher { pool: Pool::listing(tables, &available)?, available })
+        Ok(Switcher { pool: Pool::listing(tables, "", &available)?, available })
     }
 
     /// The identifiers that are available, as they were handed in.

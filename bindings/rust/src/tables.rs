@@ -151,7 +151,28 @@ impl Tables {
         I: IntoIterator,
         I::Item: Into<String>,
     {
-        Negotiator::over(self.pool.share()?, available.into_iter().map(Into::into).collect())
+        Negotiator::over(self.pool.share()?, "", available.into_iter().map(Into::into).collect())
+    }
+
+    /// The same of locale identifiers in a syntax, in which requests are read too. Extensions have no part in what is met.
+    ///
+    /// # Errors
+    ///
+    /// Those of `negotiator`.
+    ///
+    /// ```
+    /// use icu_locale_calls::{Match, Syntax, Tables, EXAMPLE};
+    /// let tables = Tables::from_json(EXAMPLE.as_bytes())?;
+    /// let negotiator = tables.negotiator_in(Syntax::Locales, ["de", "en-u-hc-h12"])?;
+    /// assert_eq!(negotiator.negotiate(["fr-x-a", "en-u-nu-latn"])?, Some(Match { request: 1, available: 1 }));
+    /// # Ok::<(), icu_locale_calls::Refusal>(())
+    /// ```
+    pub fn negotiator_in<I>(&self, syntax: Syntax, available: I) -> Result<Negotiator, Refusal>
+    where
+        I: IntoIterator,
+        I::Item: Into<String>,
+    {
+        Negotiator::over(self.pool.share()?, syntax.word(), available.into_iter().map(Into::into).collect())
     }
 
     /// What the program `icu_locale_cli` answers to a line, without its line feed, by the words of a command.
@@ -239,6 +260,6 @@ impl Tables {
 
     // Handles to these tables that hold a list.
     fn listing<T: AsRef<str>>(&self, available: &[T]) -> Result<Pool, Refusal> {
-        Pool::listing(self.pool.share()?, available)
+        Pool::listing(self.pool.share()?, "", available)
     }
 }
