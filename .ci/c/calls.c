@@ -40,6 +40,23 @@ static void meets(struct icu_locale *handle, const char *requests, int32_t numbe
     free(other);
 }
 
+// The same two calls in a syntax.
+static int32_t listed_in(struct icu_locale *from, const char *syntax, const char *list, struct icu_locale *negotiator) {
+    uint8_t *word = copy_of(syntax), *bytes = copy_of(list);
+    int32_t number = icu_locale_available_in(from, word, strlen(syntax), bytes, strlen(list), negotiator);
+    free(word);
+    free(bytes);
+    return number;
+}
+
+static int32_t met_in(struct icu_locale *handle, const char *syntax, const char *requests, size_t *request, size_t *available) {
+    uint8_t *word = copy_of(syntax), *bytes = copy_of(requests);
+    int32_t number = icu_locale_negotiate_in(handle, word, strlen(syntax), bytes, strlen(requests), request, available);
+    free(word);
+    free(bytes);
+    return number;
+}
+
 static void refuses(struct icu_locale *handle, const char *requests, int32_t number) {
     meets(handle, requests, number, 0, 0);
 }
@@ -106,6 +123,14 @@ static void commands(struct icu_locale *handle) {
     answers(handle, "fallback", "de-1996", ICU_LOCALE_ACCEPTED, "de-1996 de und");
     answers(handle, "fallback", "", ICU_LOCALE_REFUSED, "?\tInvalidLanguage");
     answers(handle, "locales fallback", "en-US-u-hc-h12", ICU_LOCALE_ACCEPTED, "en-US en und");
+    answers(handle, "locales maximize", "EN-u-hc-h12-ca-buddhist-x-A", ICU_LOCALE_ACCEPTED, "en-Latn-US-u-ca-buddhist-hc-h12-x-a\tM");
+    answers(handle, "locales canonicalize", "sh-t-sh-u-rg-abcdefg", ICU_LOCALE_ACCEPTED, "sr-Latn-t-sr-latn-u-rg-xyz\tM");
+    answers(handle, "locales canonicalize", "sh\tabcdefg", ICU_LOCALE_REFUSED, "?\tInvalidLanguage");
+    answers(handle, "locales maximize", "i-klingon", ICU_LOCALE_REFUSED, "?\tInvalidLanguage");
+    answers(handle, "bcp47 canonicalize", "i-klingon", ICU_LOCALE_ACCEPTED, "tlh\tU");
+    answers(handle, "bcp47 canonicalize", "x-mine", ICU_LOCALE_ACCEPTED, "und-x-mine\tU");
+    answers(handle, "posix canonicalize", "sr_RS.UTF-8@latin", ICU_LOCALE_ACCEPTED, "sr-Latn-RS\tU");
+    answers(handle, "posix name light en", "it-Latn-150-x-a", ICU_LOCALE_ACCEPTED, "Italian (Latin, Europe)\tN");
     answers(handle, "direction", "ar", ICU_LOCALE_ACCEPTED, "rtl");
     answers(handle, "direction", "und", ICU_LOCALE_ACCEPTED, "none");
     answers(handle, "name light en", "it-Qabc-150", ICU_LOCALE_ACCEPTED, "Italian (Qabc, Europe)\tR");
@@ -141,7 +166,9 @@ static void supplements(const uint8_t *json, size_t length) {
 static void wrong_words(struct icu_locale *handle) {
     const char *words[] = {"", " ", "maximise", "Maximize", "maximize ", " maximize", "maximize json", "settled", "name",
                            "name light", "name light ", "name  light en", "name light  en", "name light en x", "name lighter en",
-                           "name light en-fonipa", "name light e", "light en", "maxi\xff", "name \xff en", "name light \xff"};
+                           "name light en-fonipa", "name light e", "light en", "maxi\xff", "name \xff en", "name light \xff",
+                           "locales", "locales ", " locales maximize", "locales  maximize", "locales locales maximize", "bcp47 settled",
+                           "posix json", "unicode maximize", "maximize locales", "locales name light"};
     for (size_t place = 0; place < sizeof words / sizeof *words; place++) {
         answers(handle, words[place], "en", ICU_LOCALE_COMMAND, "");
     }
@@ -186,6 +213,39 @@ static void negotiations(struct icu_locale *handle) {
     answers(handle, "negotiate", "", ICU_LOCALE_ACCEPTED, "none");
     answers(handle, "negotiate", "zh-TW en-", ICU_LOCALE_REFUSED, "?\tInvalidSubtag");
     answers(handle, "negotiate", "zh-TW ", ICU_LOCALE_REFUSED, "?\tInvalidLanguage");
+}
+
+// Lists in a syntax: what is available is written whole, whatever the syntax of the words, and decided by its identifiers.
+static void in_syntax(struct icu_locale *from) {
+    struct icu_locale one = {0}, two = {0};
+    size_t request = 77, available = 77;
+    const char *list = "en-u-hc-h12 EN_u_hc_h23 de_u_co_phonebk", *none[] = {"unicode", "locales ", "LOCALES", "maximize", "\xff"};
+    want(listed_in(from, "locales", list, &one) == ICU_LOCALE_DONE, "a list in a syntax");
+    answers(&one, "negotiate", "en", ICU_LOCALE_ACCEPTED, "0\ten-u-hc-h12");
+    answers(&one, "locales negotiate", "fr-x-a de-AT-x-a de-x-a", ICU_LOCALE_ACCEPTED, "2\tde-u-co-phonebk");
+    answers(&one, "negotiate", "en-x-a", ICU_LOCALE_REFUSED, "?\tInvalidSubtag");
+    want(met_in(&one, "posix", "fr de_DE.UTF-8", &request, &available) == ICU_LOCALE_MET && request == 1 && available == 2,
+         "requests in a syntax");
+    want(met_in(&one, "", "en", &request, &available) == ICU_LOCALE_MET && request == 0 && available == 0, "requests in none");
+    want(met_in(&one, "", "en-x-a", &request, &available) == ICU_LOCALE_LIST, "a faulty request in no syntax");
+    want(met_in(&one, "locales", "fr-x-a", &request, &available) == ICU_LOCALE_NOT_MET, "a request that is not met");
+    for (size_t place = 0; place < sizeof none / sizeof *none; place++) {
+        void *at = one.at;
+        want(listed_in(from, none[place], list, &one) == ICU_LOCALE_COMMAND && one.at == at, "a list in what is no syntax");
+        want(met_in(&one, none[place], "en", &request, &available) == ICU_LOCALE_COMMAND, "requests in what is no syntax");
+    }
+    want(request == 0 && available == 0, "places are written where there is no answer");
+    want(listed_in(from, "locales", "en de-u", &one) == ICU_LOCALE_LIST, "a faulty list in a syntax");
+    answers(&one, "negotiate", "en", ICU_LOCALE_ACCEPTED, "0\ten-u-hc-h12");
+    want(listed_in(from, "", "en-u-hc-h12", &one) == ICU_LOCALE_LIST, "an extension in no syntax");
+    want(listed_in(from, "bcp47", "x-mine zh-cmn-Hans", &one) == ICU_LOCALE_DONE, "a list of tags");
+    answers(&one, "bcp47 negotiate", "cmn-Hans", ICU_LOCALE_ACCEPTED, "0\tcmn-Hans");
+    want(listed_in(from, "", "EN", &one) == ICU_LOCALE_DONE, "a list in no syntax");
+    answers(&one, "locales negotiate", "en-u-hc-h12", ICU_LOCALE_ACCEPTED, "0\ten");
+    icu_locale_close(&one);
+    want(listed_in(&one, "locales", list, &two) == ICU_LOCALE_CLOSED && !two.at, "a list in a syntax over a closed handle");
+    want(met_in(&one, "locales", "en", &request, &available) == ICU_LOCALE_CLOSED, "requests in a syntax of a closed handle");
+    want(met_in(from, "locales", "en", &request, &available) == ICU_LOCALE_NEGOTIATE, "requests in a syntax without a list");
 }
 
 static void refused_lists(struct icu_locale *from, struct icu_locale *negotiator) {
@@ -309,6 +369,7 @@ int main(int count, char **names) {
     without_list(&one);
     rooms(&one, "maximize");
     lists(&one);
+    in_syntax(&one);
     many(&one);
     want(list_of(&one, "en-US zh-Hant yue-CN", &other) == ICU_LOCALE_DONE, "a list into a handle to the same tables");
     left_out(&one, &other);

@@ -2,6 +2,7 @@
 use crate::faults::is_named;
 use crate::known::{sample, text, words};
 use icu_locale_core::ParseError;
+use icu_locale_extensions::Syntax;
 use icu_locale_lines::{
     CliError, Command, LineCommand, SAMPLE, Status, Task, Transform, run, run_json,
 };
@@ -252,6 +253,38 @@ fn bytes_past_ascii(rt: HostRuntime) {
         b"en\tabc-\xff\n\xff\tabc",
         b"?\tInvalidSubtag\n?\tInvalidLanguage\n",
     )
+}
+
+// A run takes a command in a syntax, which no words of a run name.
+#[test]
+fn runs_in_a_syntax(rt: HostRuntime) {
+    for (task, input, output) in [
+        (
+            Task::Transform(Transform::Maximize),
+            "EN-u-hc-h12-ca-buddhist\nzh-t-ja-x-mine\nde-u\n",
+            "en-Latn-US-u-ca-buddhist-hc-h12\tM\nzh-Hans-CN-t-ja-x-mine\tM\n?\tInvalidSubtag\n",
+        ),
+        (
+            Task::Canonicalize,
+            "sh-t-sh-u-rg-abcdefg\nsh\tabcdefg\n",
+            "sr-Latn-t-sr-latn-u-rg-xyz\tM\n?\tInvalidLanguage\n",
+        ),
+        (
+            Task::Negotiate,
+            "en-u-hc-h12 en-u-hc-h23\nen-x-a\nen-u\n",
+            "0\ten-u-hc-h12\n?\tInvalidSubtag\n",
+        ),
+    ] {
+        let syntax = Some(Syntax::Unicode);
+        let command = Command::Lines(LineCommand { syntax, task });
+        refused_run(
+            &rt,
+            rt.alloc(),
+            &command,
+            input.as_bytes(),
+            output.as_bytes(),
+        );
+    }
 }
 
 #[test]

@@ -7,7 +7,7 @@ use std::process::Abort;
 
 // Words, the input, what is written, and how it ends. RFC 9110, section 12.5.4, has headers like these, and the distances
 // are those of CLDR's rules that the sample has.
-const OVER_THE_SAMPLE: [(&str, &str, &str, &str); 14] = [
+const OVER_THE_SAMPLE: [(&str, &str, &str, &str); 17] = [
     ("serve", "de en en-GB\nde-AT\n", "0\tde\n", "0"),
     (
         "serve",
@@ -22,7 +22,7 @@ const OVER_THE_SAMPLE: [(&str, &str, &str, &str); 14] = [
     (
         "locales serve",
         "de-u-co-phonebk en\nen;q=0.5, de;q=0.9\n",
-        "0\tde\n",
+        "0\tde-u-co-phonebk\n",
         "0",
     ),
     (
@@ -39,8 +39,26 @@ const OVER_THE_SAMPLE: [(&str, &str, &str, &str); 14] = [
     ),
     (
         "locales nearest",
-        "zh zh-TW\nzh-Hant-u-nu-latn\n",
-        "1\tzh-TW\n",
+        "zh ZH_TW_x_a\nzh-Hant-u-nu-latn\nzh-Hans\n",
+        "1\tzh-TW-x-a\n0\tzh\n",
+        "0",
+    ),
+    (
+        "locales negotiate",
+        "en-u-hc-h12 en-u-hc-h23 x\nen\n",
+        "",
+        "available: InvalidLanguage",
+    ),
+    (
+        "locales negotiate",
+        "en-u-hc-h12 en-u-hc-h23\nen\nfr-x-a EN-u-nu-latn\nen-u\n",
+        "0\ten-u-hc-h12\n1\ten-u-hc-h12\n?\tInvalidSubtag\n",
+        "1",
+    ),
+    (
+        "posix negotiate",
+        "sr_RS.UTF-8@latin C\nsr-Latn-RS\nen_US.UTF-8\n",
+        "0\tsr-Latn-RS\n0\ten-US-u-va-posix\n",
         "0",
     ),
     (
