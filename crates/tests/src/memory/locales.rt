@@ -92,15 +92,16 @@ fn written_locale_identifiers(rt: HostRuntime) {
     );
 }
 
-// A form without extensions wants no memory but for the text.
+// A form wants no memory but for the text.
 #[test]
-fn a_bare_form_goes_into_room_that_is_there(rt: HostRuntime) {
+fn a_form_goes_into_room_that_is_there(rt: HostRuntime) {
     let alloc = rt.alloc();
-    let identifier = LocaleIdentifier::try_from_str(alloc, "de-1901").expect(&rt, "memory");
+    let identifier = LocaleIdentifier::try_from_str(alloc, "de-1901-u-hc-h12-a-bcd-x-mine");
+    let identifier = identifier.expect(&rt, "memory");
     let mut text = Vec::with_capacity(alloc, 64).expect(&rt, "memory");
     let held = take_all(alloc).expect(&rt, "memory");
     let written = identifier.append_to(&mut text);
     drop(held);
     assert!(rt; written.is_ok());
-    assert!(rt; text.as_slice() == "de-1901".as_bytes());
+    assert!(rt; text.as_slice() == "de-1901-a-bcd-u-hc-h12-x-mine".as_bytes());
 }

@@ -1,0 +1,72 @@
+//! Each part of a locale identifier is looked at and changed.
+use crate::known::{key, language, subtag, value};
+use icu_locale_extensions::{FieldKey, LocaleIdentifier, Singleton, Subtags};
+use std::alloc::Global;
+use std::process::Abort;
+
+#[test]
+fn parts_are_looked_at(rt: HostRuntime) {
+    let x = whole(&rt, rt.alloc());
+    assert!(rt; x.locale.id.language == language(&rt, "en"));
+    assert!(rt; x.attributes.contains(&subtag(&rt, "attr")));
+    assert!(rt;
+        x.locale
+            .extensions
+            .unicode
+            .keywords
+            .get(key(&rt, "hc"))
+            .is_some()
+    );
+    assert!(rt; x.locale.extensions.transform.lang.is_some());
+    assert!(rt; x.fields.get(field(&rt)).is_some());
+    assert!(rt; x.others.get(singleton(&rt)).is_some());
+    let own = x.private_use.as_ref().expect(&rt, "private use");
+    assert!(rt; own.len() == 2);
+    assert!(rt; own.iter().count() == 2);
+}
+
+#[test]
+fn parts_are_changed(rt: HostRuntime) {
+    let alloc = rt.alloc();
+    let mut x = whole(&rt, alloc);
+    x.locale.id.language = language(&rt, "fr");
+    let _ = x.attributes.remove(&subtag(&rt, "attr"));
+    let _ = x
+        .attributes
+        .insert(subtag(&rt, "other"))
+        .expect(&rt, "memory");
+    let keywords = &mut x.locale.extensions.unicode.keywords;
+    let _ = keywords
+        .set(key(&rt, "ca"), value(&rt, alloc, "buddhist"))
+        .expect(&rt, "memory");
+    x.locale.extensions.transform.lang = None;
+    let pieces = Subtags::try_from_str(alloc, "ungegn").expect(&rt, "memory");
+    let _ = x.fields.set(field(&rt), pieces).expect(&rt, "memory");
+    let _ = x.others.remove(singleton(&rt));
+    x.private_use = Some(longer(&rt, alloc));
+    let mut text = Vec::new(alloc);
+    x.append_to(&mut text).expect(&rt, "memory");
+    let wanted = "fr-t-m0-ungegn-u-other-ca-buddhist-hc-h12-x-mine-yours";
+    assert!(rt; text.as_slice() == wanted.as_bytes());
+}
+
+// Pieces, one of which was put after the others. A piece that may not be there changes nothing.
+fn longer(rt: &impl Abort, alloc: Global) -> Subtags<1> {
+    let mut pieces = Subtags::try_from_str(alloc, "mine").expect(rt, "memory");
+    pieces.push("Yours".as_bytes()).expect(rt, "memory");
+    let _ = pieces.push("no piece".as_bytes());
+    pieces
+}
+
+fn whole(rt: &impl Abort, alloc: Global) -> LocaleIdentifier {
+    let text = "en-a-bcd-t-ja-m0-names-u-attr-hc-h12-x-two-own";
+    LocaleIdentifier::try_from_str(alloc, text).expect(rt, text)
+}
+
+fn field(rt: &impl Abort) -> FieldKey {
+    FieldKey::try_from_bytes("m0".as_bytes()).expect(rt, "m0")
+}
+
+fn singleton(rt: &impl Abort) -> Singleton {
+    Singleton::try_from_bytes("a".as_bytes()).expect(rt, "a")
+}
