@@ -1,6 +1,7 @@
-use Rattle.std.proofs.Common.{subst}
+use Rattle.std.proofs.Common.{ap, subst, ◌∙◌}
 use Rattle.icu_locale_core.specs.TextSet.{text_cmp}
 use Rattle.icu_locale_values.specs.Aliases.{next_keyword}
+use Rattle.icu_locale_values.specs.Whole.{is_any_followed}
 use Rattle.icu_locale_values.specs.Refusals.{IsFirstRepeat}
 use Rattle.icu_locale_values.specs.inner.Walked.{AreLaterEnds}
 use Rattle.icu_locale_values.proofs.canonicalizer.WholeCanonicalizer.keyword_ends.Goals as goal
@@ -14,3 +15,7 @@ returns-in-Err-Repeats-clause-refusal c =
     let refused = rw c.in-Err-Repeats.field-0-is at c.in-Err-Repeats.ensures.refused in
     subst (λ rows. IsFirstRepeat text_cmp (next_keyword c.args.self.now.values.keywords.now) rows c.in-Err-Repeats.key c.in-Err-Repeats.first)
     c.iter.ensures refused
+
+pub returns-in-Err-Repeats-clause-free : goal.returns-in-Err-Repeats-clause-free
+returns-in-Err-Repeats-clause-free c none =
+    c.in-Err-Repeats.ensures.free (ap (is_any_followed (next_keyword c.args.self.now.values.keywords.now)) c.iter.ensures ∙ none)
