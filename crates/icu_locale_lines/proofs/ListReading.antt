@@ -1,6 +1,6 @@
 -- How a line of identifiers is read, text by text.
 use Rattle.std.proofs.Common.{◌≡◌, ◌⊎◌, ℕ, ◌<◌, Bool, true, false, ◌==◌, List, [], ◌∷◌, ◌++◌, length, get_or, take, drop, Option, Result, Err, inl}
-use Rattle.std.proofs.Common.{inr, refl, ap, sym, subst, ◌∙◌, arith, map, zero, suc, Some}
+use Rattle.std.proofs.Common.{inr, refl, ap, sym, subst, ◌∙◌, arith, map, zero, suc, None, Some}
 use Rattle.std.specs.Borrow.{Bor}
 use Rattle.std.proofs.lemmas.Bool.{false≢true}
 use Rattle.std.proofs.lemmas.List.{map-append}
@@ -12,7 +12,7 @@ use Rattle.icu_locale_core.specs.declared.parse_error.ParseError.TheVariants.{In
 use Rattle.icu_locale_extensions.specs.Syntaxes.{ReadsBy, IsFaultBy, starts_by}
 use Rattle.icu_locale_extensions.specs.declared.identifier.LocaleIdentifier.{LocaleIdentifier}
 use Rattle.icu_locale_extensions.specs.declared.syntax.Syntax.{Syntax}
-use Rattle.icu_locale_lines.specs.Lists.{is_space, listed, ids_of, SpellsAll, SpellsIn, SpellsWhole, SpellsWholes, IsFault, IsFaultIn, IsFirstFault}
+use Rattle.icu_locale_lines.specs.Lists.{is_space, listed, ids_of, IsAvailable, SpellsAll, SpellsIn, SpellsWhole, SpellsWholes, IsFault, IsFaultIn, IsFirstFault}
 
 -- one more at the end of both lists
 pub AllZip-push : {A B : Type 0} (P : A → B → Type 0) (xs : List A) (ys : List B) (x : A) (y : B) → AllZip P xs ys → P x y
@@ -106,3 +106,15 @@ ids_spelled syntax [] [] each = tt
 ids_spelled syntax [] (x ∷ xs) each = absurd each
 ids_spelled syntax (t ∷ ts) [] each = absurd each
 ids_spelled syntax (t ∷ ts) (x ∷ xs) each = ((x, each.0.0, each.0.1, refl), ids_spelled syntax ts xs each.1)
+
+-- what is available is spelled
+all_spelled : (s : Syntax) (texts : List (List ℕ)) (ws : List LocaleIdentifier) → SpellsWholes s texts ws → SpellsAll (Some s) texts (ids_of ws)
+all_spelled s [] [] each = tt
+all_spelled s [] (w ∷ ws) each = absurd each
+all_spelled s (t ∷ ts) [] each = absurd each
+all_spelled s (t ∷ ts) (w ∷ ws) each = ((w, each.0.0, each.0.1, refl), all_spelled s ts ws each.1)
+
+pub some_spelled : (syntax : Option Syntax) (texts : List (List ℕ)) (xs : List LanguageIdentifier) (ws : List LocaleIdentifier)
+    → IsAvailable syntax texts xs ws → (ys : List LanguageIdentifier) × SpellsAll syntax texts ys
+some_spelled None texts xs ws is = (xs, is.0)
+some_spelled (Some s) texts xs ws is = (ids_of ws, all_spelled s texts ws is.0)

@@ -24,3 +24,9 @@ returns-in-Name-clause-loaded c = λ input.
       },
       ap (λ task. text_left task input) c.in-Name.is,
     )
+
+-- so it is refused
+pub returns-then-not-is_settled-clause-refused : goal.returns-then-not-is_settled-clause-refused
+returns-then-not-is_settled-clause-refused c =
+    unsettled_from_one (Lines c.args.command.now) c.args.tables.now c.in_ok-expander-in-Negotiate.expander (search rules)
+    (search rules) c.in_ok-expander-in-Negotiate.ensures.made (search rules)
