@@ -1,5 +1,5 @@
 -- What is kept beside tables, over each expander of them.
-use Rattle.std.proofs.Common.{◌≡◌, Option, Some, IfSome, sym, subst, ◌∙◌}
+use Rattle.std.proofs.Common.{◌≡◌, Option, Some, IfSome, refl, sym, subst, ◌∙◌}
 use Rattle.std.specs.Prelude.{IsSomeAnd}
 use Rattle.std.proofs.lemmas.Option.{same_Some}
 use Rattle.icu_locale.specs.LikelyTable.{likely}
@@ -17,7 +17,10 @@ use Rattle.icu_provider.specs.declared.matching.LanguageMatching.{LanguageMatchi
 use Rattle.icu_tables.specs.declared.tables.Tables.{Tables}
 use Rattle.icu_locale_lines.specs.Loads.{IsExpanderOf}
 use Rattle.icu_locale_lines.specs.laws.Expanders.{same_likely}
-use Rattle.icu_locale_c.specs.Held.{AreKept, AreRulesOf, IsServedOver}
+use Rattle.icu_locale_lines.specs.declared.command.Task.{Task}
+use Rattle.icu_locale_lines.specs.declared.command.Task.TheVariants.{Transform, Canonicalize, Direction, Negotiate, Name, Fallback, Serve, Distance}
+use Rattle.icu_locale_lines.specs.declared.command.Wishes.{Wishes}
+use Rattle.icu_locale_c.specs.Held.{AreKept, AreRulesOf, HasKept, IsServedOver}
 use Rattle.icu_locale_c.specs.declared.kept.Kept.{Kept}
 
 -- a list that was prepared over one expander of the tables was prepared over each
@@ -44,3 +47,14 @@ pub kept_rules : (t : Tables) (list : Option Available) (k : Kept) (read : ReadR
 kept_rules t list k read table kept rules has =
     subst (λ (o : Option Aliases). IsSomeAnd o (λ x. AreRules x (rules_over read x))) has
     (subst (λ (o : Option ReadRules). IfSome o (AreRulesOf t)) rules kept.rules)
+
+-- a task that asks for nothing beside the tables has what it asks for
+pub nothing_kept : (task : Task) (kept : Kept) → (task ≡ Canonicalize → ⊥) → ((w : Wishes) → task ≡ Serve w → ⊥) → HasKept task kept
+nothing_kept (Transform form) kept rules served = tt
+nothing_kept Canonicalize kept rules served = absurd (rules refl)
+nothing_kept Direction kept rules served = tt
+nothing_kept Negotiate kept rules served = tt
+nothing_kept (Name chain preferences) kept rules served = tt
+nothing_kept Fallback kept rules served = tt
+nothing_kept (Serve w) kept rules served = absurd (served w refl)
+nothing_kept Distance kept rules served = tt

@@ -53,10 +53,10 @@ held t list wholes =
 
 -- the code of what is held
 abbrev pub held_code : Coded Held
-held_code = code_by (Tables × Option (List LanguageIdentifier) × List LocaleIdentifier)
+held_code = code_by (Tables × (Option (List LanguageIdentifier) × List LocaleIdentifier))
     (coded× tables_row.coded (coded× (coded_option (coded_list identifier_row.coded))
-    (coded_list whole_row.coded))) (λ h. (h.tables, h.available, h.wholes))
-    (λ p. record { tables = p.0; available = p.1; wholes = p.2 }) (λ h i. h)
+    (coded_list whole_row.coded))) (λ h. (h.tables, (h.available, h.wholes)))
+    (λ p. record { tables = p.0; available = p.1.0; wholes = p.1.1 }) (λ h i. h)
 
 -- rules are what can be read of the aliases of the tables, which have some
 abbrev pub AreRulesOf : Tables → ReadRules → Type 0
