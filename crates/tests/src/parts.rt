@@ -22,7 +22,8 @@ fn parts_are_looked_at(rt: HostRuntime) {
     assert!(rt; x.others.get(singleton(&rt)).is_some());
     let own = x.private_use.as_ref().expect(&rt, "private use");
     assert!(rt; own.len() == 2);
-    assert!(rt; own.iter().count() == 2);
+    let first = own.iter().peek().expect(&rt, "a piece");
+    assert!(rt; first == "two".as_bytes());
 }
 
 #[test]
