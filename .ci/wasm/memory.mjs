@@ -8,6 +8,7 @@ const library = new Library(path), calls = library.calls, json = library.put(fs.
 const SUPPLEMENT = library.put(fs.readFileSync(supplement));
 const LIST = library.put("en-US zh-Hant de-1996-fonipa yue-CN");
 const REQUESTS = library.put("fr de-1996-1901 zh-TW");
+const [SYNTAX, EXTENDED] = ["locales", "en-u-hc-h12-x-mine zh-TW-t-ja-u-nu-hanidec"].map((it) => library.put(it));
 const ROWS = [
     ["maximize", "de-Latn-DE-1901-1996\tM", "de-1996-1901"],
     ["minimize", "zh-TW\tM", "zh-Hant-TW"],
@@ -26,6 +27,7 @@ const SERVED = [
     ["locales nearest", "none", "fr-u-ca-buddhist"],
     ["negotiate", "1\tzh-Hant", "fr zh-TW"],
 ].map(placed);
+const WHOLE = placed(["negotiate", "1\tzh-TW-t-ja-u-nu-hanidec", "fr zh-Hant"]);
 
 function placed([command, wanted, line]) {
     return [library.put(command), wanted, library.put(line)];
@@ -58,7 +60,7 @@ const answersAll = (handle, rows = ROWS) => rows.every((it) => row(handle, it) =
 
 // All calls that take memory, over handles that are then closed. Tells how many requests were refused.
 function refusals() {
-    const [one, other, negotiator] = [library.handle(), library.handle(), library.handle()];
+    const [one, other, negotiator, extended] = Array.from({ length: 4 }, () => library.handle());
     const meet = () => calls.icu_locale_negotiate(negotiator, ...REQUESTS, library.numbers, library.numbers + 8n);
     let count = refusedInTurn("open", () => calls.icu_locale_open(...json, one), () => !library.isOpen(one));
     const isOpen = () => library.isOpen(one);
@@ -72,9 +74,15 @@ function refusals() {
     want(answersAll(negotiator, SERVED) && answersAll(negotiator), "an answer by a list behind refused ones");
     count += refusedInTurn("negotiate", meet, () => library.isOpen(negotiator));
     want(meet() === DONE && library.numberAt(library.numbers) === 2, "the place of what is met");
+    const places = [library.numbers, library.numbers + 8n];
+    const meetExtended = () => calls.icu_locale_negotiate_in(extended, ...SYNTAX, ...EXTENDED, ...places);
+    count += refusedInTurn("available in a syntax", () => calls.icu_locale_available_in(one, ...SYNTAX, ...EXTENDED, extended),
+                           () => !library.isOpen(extended));
+    count += refusedInTurn("negotiate in a syntax", meetExtended, () => library.isOpen(extended));
+    want(row(extended, WHOLE) === DONE, "an answer that is written whole");
     want(answersAll(other), "the tables that are shared");
     count += refusedInTurn("open once more", () => calls.icu_locale_open(...json, other), () => answersAll(other));
-    for (const it of [one, other, negotiator]) {
+    for (const it of [one, other, negotiator, extended]) {
         calls.icu_locale_close(it);
         library.give(it);
     }

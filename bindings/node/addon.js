@@ -13,7 +13,7 @@ function bytes(text) {
   return typeof text === 'string' ? Buffer.from(text) : text;
 }
 
-// The words of a command are made into bytes once.
+// The words of a command or a syntax are made into bytes once.
 function wordsOf(command) {
   let words = kept.get(command);
   if (!words) {
@@ -27,7 +27,7 @@ module.exports = {
   ...calls,
   open: (json) => calls.open(bytes(json)),
   supplement: (held, json) => calls.supplement(held, bytes(json)),
-  available: (held, list) => calls.available(held, bytes(list)),
-  negotiate: (held, requests) => calls.negotiate(held, bytes(requests)),
+  available: (held, syntax, list) => calls.available(held, wordsOf(syntax), bytes(list)),
+  negotiate: (held, syntax, requests) => calls.negotiate(held, wordsOf(syntax), bytes(requests)),
   answer: (held, command, line) => calls.answer(held, wordsOf(command), bytes(line)),
 };

@@ -37,11 +37,21 @@ function optionsOf(options, ...names) {
   return options;
 }
 
+function known(syntax) {
+  if (!SYNTAXES.includes(syntax)) throw new RangeError('the syntaxes are locales, bcp47 and posix');
+  return syntax;
+}
+
 /** The words of a command in a syntax. */
 function wordsIn(command, options) {
   const { syntax = 'locales' } = optionsOf(options, 'syntax');
-  if (!SYNTAXES.includes(syntax)) throw new RangeError('the syntaxes are locales, bcp47 and posix');
-  return `${syntax} ${command}`;
+  return `${known(syntax)} ${command}`;
+}
+
+/** The word of a syntax, which is empty where none is named. */
+function wordOf(options) {
+  const { syntax } = optionsOf(options, 'syntax');
+  return syntax === undefined ? '' : known(syntax);
 }
 
 function made(told) {
@@ -81,7 +91,7 @@ function headerOf(headers) {
 }
 
 /** Why a list is refused: the first that is refused as a line. */
-function listRefusal(tables, list, command = 'maximize') {
+function listRefusal(tables, list, command) {
   const isRefused = (it) => {
     try {
       tables.answer(command, it);
@@ -102,10 +112,10 @@ function leavesOut(held) {
   };
 }
 
-/** What a call tells that is handed a list. */
-function overList(tables, held, list, call) {
-  const told = call(list.join(' '));
-  if (told === LIST) throw listRefusal(tables, list);
+/** What a call of icu_locale.h tells, by its name, that is handed the word of a syntax and a list. */
+function overList(call, tables, held, word, list) {
+  const told = behind.calls[call](held, word, list.join(' '));
+  if (told === LIST) throw listRefusal(tables, list, word ? `${word} maximize` : 'maximize');
   if (told === TABLE) throw leftOut('maximize', leavesOut(held));
   return told;
 }
@@ -122,6 +132,6 @@ function answered(held, command, line) {
 }
 
 module.exports = {
-  DONE, TABLE, behind, stand, text, string, optionsOf, wordsIn, made, listed, joined, headerOf, listRefusal, leavesOut,
-  overList, answered,
+  DONE, TABLE, behind, stand, text, string, optionsOf, wordsIn, wordOf, made, listed, joined, headerOf, listRefusal,
+  leavesOut, overList, answered,
 };

@@ -1,6 +1,6 @@
 // The calls of icu_locale.h for Node.js, by Node-API: `open(json)` makes an object that stands for tables, and
-// `supplement`, `share`, `available`, `answer`, `negotiate`, `isSettled`, `lend` and `close` take one; `borrow(number)` makes one of what
-// another worker has lent. index.js has what is made of these.
+// `supplement`, `share`, `available`, `answer`, `negotiate`, `isSettled`, `lend` and `close` take one; `borrow(number)`
+// makes one of what another worker has lent. index.js has what is made of these.
 #include "icu_locale.h"
 #include <node_api.h>
 #include <pthread.h>
@@ -170,28 +170,30 @@ static napi_value borrow(napi_env env, napi_callback_info info) {
     return number == ICU_LOCALE_DONE ? object : number_of(env, number);
 }
 
-// available(tables, list): a second object, which has the list too, or the number of a refusal.
+// available(tables, syntax, list): a second object, which has the list too, or the number of a refusal.
 static napi_value available_of(napi_env env, napi_callback_info info) {
-    size_t count = 2, length;
-    napi_value values[2], object = NULL;
-    const uint8_t *list;
-    if (napi_get_cb_info(env, info, &count, values, NULL, NULL) != napi_ok || count < 2) return wrong(env);
+    size_t count = 3, syntax_length, length;
+    napi_value values[3], object = NULL;
+    const uint8_t *syntax, *list;
+    if (napi_get_cb_info(env, info, &count, values, NULL, NULL) != napi_ok || count < 3) return wrong(env);
     struct tables *from = tables_of(env, values[0]), *to;
-    if (!from || !bytes_of(env, values[1], &list, &length)) return wrong(env);
+    if (!from || !bytes_of(env, values[1], &syntax, &syntax_length) || !bytes_of(env, values[2], &list, &length))
+        return wrong(env);
     if (!(to = made(env, &object))) return number_of(env, ICU_LOCALE_MEMORY);
-    int32_t number = icu_locale_available(&from->handle, list, length, &to->handle);
+    int32_t number = icu_locale_available_in(&from->handle, syntax, syntax_length, list, length, &to->handle);
     return number == ICU_LOCALE_DONE ? object : number_of(env, number);
 }
 
-// negotiate(negotiator, requests): a list of two places, or the number where no request is met and of a refusal.
+// negotiate(negotiator, syntax, requests): a list of two places, or the number where no request is met and of a refusal.
 static napi_value negotiate(napi_env env, napi_callback_info info) {
-    size_t count = 2, length, places[2];
-    napi_value values[2], list = NULL, place = NULL;
-    const uint8_t *requests;
-    if (napi_get_cb_info(env, info, &count, values, NULL, NULL) != napi_ok || count < 2) return wrong(env);
+    size_t count = 3, syntax_length, length, places[2];
+    napi_value values[3], list = NULL, place = NULL;
+    const uint8_t *syntax, *requests;
+    if (napi_get_cb_info(env, info, &count, values, NULL, NULL) != napi_ok || count < 3) return wrong(env);
     struct tables *tables = tables_of(env, values[0]);
-    if (!tables || !bytes_of(env, values[1], &requests, &length)) return wrong(env);
-    int32_t number = icu_locale_negotiate(&tables->handle, requests, length, &places[0], &places[1]);
+    if (!tables || !bytes_of(env, values[1], &syntax, &syntax_length) || !bytes_of(env, values[2], &requests, &length))
+        return wrong(env);
+    int32_t number = icu_locale_negotiate_in(&tables->handle, syntax, syntax_length, requests, length, &places[0], &places[1]);
     if (number != ICU_LOCALE_MET) return number_of(env, number);
     napi_create_array_with_length(env, 2, &list);
     for (uint32_t at = 0; at < 2; at++) {

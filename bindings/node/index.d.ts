@@ -11,7 +11,7 @@ export type Text = string | Uint8Array;
 
 /**
  * How a text is read: a locale identifier of UTS #35, besides a tag of RFC 5646, or besides a name of a POSIX locale.
- * `locales` where none is named.
+ * `locales` where none is named, but for lists.
  */
 export interface Reading {
   syntax?: 'locales' | 'bcp47' | 'posix';
@@ -72,8 +72,11 @@ export class Tables {
   lend(): bigint;
   /** The tables that another worker has lent. They are in memory once. */
   static borrow(number: bigint): Tables;
-  /** What serves a reader one of the identifiers that are available. It holds these tables too. */
-  negotiator(available: readonly string[]): Negotiator;
+  /**
+   * What serves a reader one of the identifiers that are available. It holds these tables too. `syntax` says how these and
+   * the requests are read: as identifiers alone where none is named, or with extensions, which have no part in what is met.
+   */
+  negotiator(available: readonly string[], options?: Reading): Negotiator;
   /**
    * What serves a reader by the headers Accept-Language of a request. It holds these tables too. What it serves is one of
    * the available identifiers as it was handed in, or the default where none is near enough: null if none is named.

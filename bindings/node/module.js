@@ -118,7 +118,8 @@ class Module {
     this.#its.icu_locale_give(place);
   }
 
-  // The place and the length of a command's words; null where memory is refused. The first and short ones are kept.
+  // The place and the length of the words of a command or a syntax; null where memory is refused. The first and short ones
+  // are kept.
   #words(command) {
     const kept = this.#commands.get(command);
     if (kept) return kept;
@@ -143,16 +144,20 @@ class Module {
     return this.#made((to) => this.#its.icu_locale_share(held.place, to));
   }
 
-  available(held, list) {
+  available(held, syntax, list) {
+    const word = this.#words(syntax);
+    if (!word) return MEMORY;
     return this.#made((to) => this.#over(list, (place, length) => (
-      this.#its.icu_locale_available(held.place, place, length, to))));
+      this.#its.icu_locale_available_in(held.place, ...word, place, length, to))));
   }
 
   /** The places of what is met, or the number where nothing is and of a refusal. */
-  negotiate(held, requests) {
+  negotiate(held, syntax, requests) {
+    const word = this.#words(syntax);
+    if (!word) return MEMORY;
     const other = this.#numbers + 8n;
     const number = this.#over(requests, (place, length) => (
-      this.#its.icu_locale_negotiate(held.place, place, length, this.#numbers, other)));
+      this.#its.icu_locale_negotiate_in(held.place, ...word, place, length, this.#numbers, other)));
     return number ? number : [this.#number(this.#numbers), this.#number(other)];
   }
 

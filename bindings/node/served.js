@@ -8,12 +8,14 @@ const OWN = Symbol('made by the package');
 /** What is available, by `tables.negotiator`. */
 class Negotiator {
   #at;
+  #word;
   #available;
 
-  constructor(own, at, available) {
+  constructor(own, at, word, available) {
     if (own !== OWN) throw new TypeError('a negotiator is made by tables.negotiator');
     behind.mark(this);
     this.#at = at;
+    this.#word = word;
     this.#available = Object.freeze(available);
   }
 
@@ -27,7 +29,7 @@ class Negotiator {
    * `{ request, available }`; null where no request is met.
    */
   negotiate(requests) {
-    const told = overList(this, this.#at, listed(requests), (line) => behind.calls.negotiate(this.#at, line));
+    const told = overList('negotiate', this, this.#at, this.#word, listed(requests));
     if (told === NOT_MET) return null;
     const [request, available] = made(told);
     return { request, available };

@@ -2,7 +2,7 @@
 // Tables of locale identifiers, over what stands behind the package. index.d.ts says what each call takes.
 const { refusal, numbered, ofLine, shown, leftOut } = require('./refused.js');
 const {
-  DONE, TABLE, behind, text, string, optionsOf, wordsIn, made, listed, joined, leavesOut, overList, answered,
+  DONE, TABLE, behind, text, string, optionsOf, wordsIn, wordOf, made, listed, joined, leavesOut, overList, answered,
 } = require('./asking.js');
 const { OWN, Negotiator, Switcher } = require('./served.js');
 const { inOrder } = require('./menu.js');
@@ -70,12 +70,15 @@ class Tables {
     return new Tables(OWN, made(behind.calls.borrow(number)));
   }
 
-  /** What serves a reader one of the identifiers that are available, an array of strings. It holds these tables too. */
-  negotiator(available) {
+  /**
+   * What serves a reader one of the identifiers that are available, an array of strings. It holds these tables too. The
+   * option `syntax` says how these and the requests are read: as identifiers alone, or with extensions.
+   */
+  negotiator(available, options) {
+    const word = wordOf(options);
     const list = listed(available);
-    const held = this.#at;
-    const at = made(overList(this, held, list, (line) => behind.calls.available(held, line)));
-    return new Negotiator(OWN, at, list);
+    const at = made(overList('available', this, this.#at, word, list));
+    return new Negotiator(OWN, at, word, list);
   }
 
   // What was last available is kept, so that it is read once.

@@ -84,6 +84,32 @@ assert.strictEqual(tables.negotiator([]).negotiate(['en']), null);
 assert.ok(negotiator instanceof Negotiator);
 assert.strictEqual(negotiator.answer('maximize', 'zh-TW'), 'zh-Hant-TW\tM');
 
+// a list in a syntax
+for (const [syntax, available, requests, wanted] of [
+  ['locales', ['de', 'en-u-hc-h12'], ['fr-x-a', 'EN-u-nu-latn'], { request: 1, available: 1 }],
+  ['bcp47', ['de', 'i-klingon'], ['x-mine', 'tlh'], { request: 1, available: 1 }],
+  ['posix', ['de_DE.UTF-8', 'zh_TW@euro'], ['fr_FR', 'zh_HK', 'zh_TW.UTF-8'], { request: 2, available: 1 }],
+  ['locales', ['de-u-co-phonebk'], ['en'], null], ['locales', [], ['en'], null], ['posix', ['de'], [], null],
+]) {
+  const over = tables.negotiator(available, { syntax });
+  assert.deepStrictEqual(over.negotiate(requests), wanted, syntax);
+  assert.deepStrictEqual(over.available, available);
+  assert.strictEqual(over.answer('maximize', 'zh-TW'), 'zh-Hant-TW\tM');
+  if (wanted) {
+    assert.match(over.answer(`${syntax} negotiate`, requests.join(' ')), new RegExp(`^${wanted.available}\t`));
+    refuses(() => tables.negotiator(available), 'List');
+    refuses(() => tables.negotiator([]).negotiate(requests), 'List');
+  }
+}
+assert.strictEqual(tables.negotiator(['de', 'en-u-hc-h12'], { syntax: 'locales' }).answer('negotiate', 'en'), '1\ten-u-hc-h12');
+assert.deepStrictEqual(tables.negotiator(['en'], { syntax: undefined }).negotiate(['en']), { request: 0, available: 0 });
+for (const [syntax, faulty] of [['locales', 'en-u'], ['locales', 'i-klingon'], ['bcp47', 'en-'], ['posix', 'i-klingon']]) {
+  const message = `List: what stands at place 1 is no identifier: ${JSON.stringify(faulty)}`;
+  refuses(() => tables.negotiator(['de-x-a', faulty], { syntax }), 'List', message);
+  refuses(() => tables.negotiator([], { syntax }).negotiate(['de-x-a', faulty]), 'List', message);
+}
+for (const syntax of ['utf8', '', null, 5]) assert.throws(() => tables.negotiator(['en'], { syntax }), RangeError);
+
 for (const faulty of ['', ' ', 'en ', ' en', 'en zh', 'e', 'en-', 'en\n', 'en\0', '\u00e9n', '\ud800']) {
   for (const list of [[faulty], ['en', faulty], [faulty, 'en']]) {
     const place = list.indexOf(faulty);

@@ -33,24 +33,31 @@ function trial(line) {
   const held = done(() => calls.open(example));
   assert.strictEqual(done(() => calls.supplement(held, supplement)), 0);
   const shared = done(() => calls.share(held));
-  const negotiator = done(() => calls.available(held, 'en de-1996 zh-Hant'));
-  assert.deepStrictEqual(done(() => calls.negotiate(negotiator, 'fr de-1996-1901 zh-TW')), [2, 2]);
-  for (const each of [shared, negotiator]) {
+  const negotiator = done(() => calls.available(held, '', 'en de-1996 zh-Hant'));
+  assert.deepStrictEqual(done(() => calls.negotiate(negotiator, '', 'fr de-1996-1901 zh-TW')), [2, 2]);
+  const extended = done(() => calls.available(held, 'locales', 'en-u-hc-h12 zh-Hant-x-mine'));
+  assert.deepStrictEqual(done(() => calls.negotiate(extended, 'bcp47', 'i-klingon zh-TW-u-nu-latn')), [1, 1]);
+  assert.strictEqual(done(() => calls.answer(extended, 'negotiate', 'zh-TW')), '1\tzh-Hant-x-mine');
+  for (const word of ['utf8', 'locales'.repeat(20)]) {
+    assert.strictEqual(done(() => calls.available(held, word, 'en')), 7);
+    assert.strictEqual(done(() => calls.negotiate(extended, word, 'en')), 7);
+  }
+  for (const each of [shared, negotiator, extended]) {
     assert.strictEqual(done(() => calls.answer(each, 'locales maximize', line)), `de-Latn-DE-${variants}\tM`);
     assert.strictEqual(done(() => calls.answer(each, `locales  ${'maximize '.repeat(20)}`, 'de'))[0], 7);
     assert.strictEqual(done(() => calls.answer(each, 'name light en', 'it-US')), 'Italian (United States)\tN');
     assert.deepStrictEqual(done(() => calls.answer(each, 'maximize', 'e')), [1, '?\tInvalidLanguage']);
   }
   assert.strictEqual(done(() => calls.answer(negotiator, 'serve', 'fr, zh-TW;q=0.1')), '2\tzh-Hant');
-  for (const each of [held, shared, negotiator]) calls.close(each);
+  for (const each of [held, shared, negotiator, extended]) calls.close(each);
   return taken();
 }
 
-// A trial leaves three handles, whose blocks, of 48 bytes at the most, go when their objects are collected.
+// A trial leaves four handles, whose blocks, of 48 bytes at the most, go when their objects are collected.
 let before = trial(`de-${variants}`);
 for (const line of [`de-${variants}`, Buffer.from(`de-${variants}`)]) {
   const after = trial(line);
-  assert.ok(after <= before + 3 * 48, `${after - before} bytes are lost`);
+  assert.ok(after <= before + 4 * 48, `${after - before} bytes are lost`);
   before = after;
 }
 const held = calls.open(example);

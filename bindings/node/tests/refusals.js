@@ -87,7 +87,7 @@ for (const wrong of ['posix', null, 5, ['posix'], Buffer.from('posix'), { sintax
     () => tables.maximize('de', wrong), () => tables.minimize('de', wrong), () => tables.direction('de', wrong),
     () => tables.fallback('de', wrong), () => tables.name('de', 'en', 'light', wrong), () => tables.distance('de', 'en', wrong),
     () => tables.areSame('de', 'en', wrong), () => Tables.fromJson(example, wrong), () => tables.serve('de', ['de'], wrong),
-    () => tables.nearest(['de'], ['de'], wrong), () => tables.switcher(['de'], wrong), () => tables.menu(['en'], 'en', 'light', wrong),
+    () => tables.nearest(['de'], ['de'], wrong), () => tables.switcher(['de'], wrong), () => tables.negotiator(['de'], wrong), () => tables.menu(['en'], 'en', 'light', wrong),
   ]) assert.throws(call, { name: 'TypeError', message: /^(options are an object, which|there is no option) .+/ });
 }
 for (const wrong of [null, 5, ['usca'], { sintax: 'posix' }]) assert.throws(() => tables.canonicalize('de', wrong), TypeError);

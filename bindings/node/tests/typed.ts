@@ -10,6 +10,7 @@ const direction: 'ltr' | 'rtl' | null = tables.direction('ar');
 const settled: boolean = tables.isSettled();
 const negotiator: Negotiator = tables.negotiator(['en']);
 const match: Match | null = negotiator.negotiate(['fr', 'en']);
+const extended: Negotiator = tables.negotiator(['en-u-hc-h12'], { syntax: 'locales' });
 const switcher: Switcher = Tables.borrow(tables.share().lend()).switcher(negotiator.available);
 const served: (string | null)[] = [switcher.serve(['fr', 'en']), tables.serve(undefined, ['en']), tables.serve('en', ['en'])];
 const headers: Headers[] = [null, undefined, 'fr', new Uint8Array(2), ['fr', new Uint8Array(2)]];
@@ -38,8 +39,10 @@ tables.serve(5, ['zh']);
 tables.serve('yue', ['zh']).length;
 // @ts-expect-error: a syntax is an option
 tables.maximize('de', 'posix');
+// @ts-expect-error: no syntax is called so
+tables.negotiator(['de'], { syntax: 'utf8' });
 // @ts-expect-error: tables are made by calls of their own
 new Tables();
 // @ts-expect-error: no refusal is called so
 new Refused('Nothing');
-export { opened, forms, canonical, both, direction, settled, match, served, always, other, distance, same, menu, by };
+export { opened, forms, canonical, both, direction, settled, match, extended, served, always, other, distance, same, menu, by };
