@@ -73,14 +73,14 @@ def need(found, package):
         raise Stop(f"missing: Debian's package {package}")
 
 
-def check_packages():
-    """Stops where a package is missing that every comparison needs."""
-    need(COMMON.is_dir(), "unicode-cldr-core (or CLDR=FOLDER for its folder `common`)")
-    need(shutil.which("rustc"), "rustc")
+def check_packages(has_lines):
+    """Stops where a package is missing that every comparison needs, or one of lines."""
+    need(not has_lines or COMMON.is_dir(), "unicode-cldr-core (or CLDR=FOLDER for its folder `common`)")
+    need(not has_lines or shutil.which("rustc"), "rustc")
     need(shutil.which("g++"), "g++")
     need(Path("/usr/include/unicode/uloc.h").exists(), "libicu-dev")
     for word, package in (("valgrind", "valgrind"), ("node", "nodejs"), ("parallel", "parallel")):
-        if not shutil.which(word):
+        if not shutil.which(word) and (has_lines or word != "parallel"):
             print(f"without {word}, whose figures are left out: Debian's package {package}", file=sys.stderr)
 
 
@@ -139,18 +139,24 @@ def node_program():
     return Program("Node.js", ["node", str(HERE / "intl.mjs")], commands, is_counted=False, is_slow=True)
 
 
-def langid_program(work):
-    """The program over unic-langid, built by cargo from Debian's crate sources, where they are installed."""
-    if not shutil.which("cargo") or not list(CRATES.glob("unic-langid-[0-9]*")):
-        print("without unic-langid: Debian's packages cargo and librust-unic-langid-dev", file=sys.stderr)
+def crate_program(work, folder, crate, name):
+    """A program over a crate, built by cargo from Debian's crate sources, where they are installed: its path."""
+    if not shutil.which("cargo") or not list(CRATES.glob(f"{crate}-[0-9]*")):
+        print(f"without {crate}: Debian's packages cargo and librust-{crate}-dev", file=sys.stderr)
         return None
-    source = work / "langid"
-    shutil.copytree(HERE / "langid", source)
+    source = work / f"{crate}-program"
+    shutil.copytree(folder, source)
     (source / ".cargo").mkdir()
     (source / ".cargo" / "config.toml").write_text(
         f'[source.crates-io]\nreplace-with = "debian"\n[source.debian]\ndirectory = "{CRATES}"\n')
     subprocess.run(["cargo", "build", "--offline", "--release", "--quiet"], cwd=source, check=True)
-    return Program("unic-langid", [str(source / "target" / "release" / "langid-lines")], ["maximize", "minimize"])
+    return str(source / "target" / "release" / name)
+
+
+def langid_program(work):
+    """The program over unic-langid."""
+    path = crate_program(work, HERE / "langid", "unic-langid", "langid-lines")
+    return path and Program("unic-langid", [path], ["maximize", "minimize"])
 
 
 def golang_program(work):
@@ -212,9 +218,9 @@ def first_line_of(words):
     return (ran.stdout.strip() or ran.stderr.strip()).split("\n")[0]
 
 
-def langid_version():
+def crate_version(crate):
     """The version of Debian's crate."""
-    return sorted(CRATES.glob("unic-langid-[0-9]*"))[-1].name.replace("langid-", "langid ")
+    return sorted(CRATES.glob(f"{crate}-[0-9]*"))[-1].name.replace(f"{crate}-", f"{crate} ")
 
 
 def versions(icu, node, langid, golang):
@@ -222,7 +228,7 @@ def versions(icu, node, langid, golang):
     found = [first_line_of(["rustc", "--version"]), first_line_of(["g++", "--version"])]
     found += [first_line_of([*it.words, "versions"]) for it in (icu, node, golang) if it]
     if langid:
-        found.append(langid_version())
+        found.append(crate_version("unic-langid"))
     if has_valgrind():
         found.append(first_line_of(["valgrind", "--version"]))
     if shutil.which("parallel"):
