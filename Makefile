@@ -1,4 +1,4 @@
-# `make` proves the two programs and what they stand on, and leaves them here; `make c` proves the calls for C, and
+# `make` proves the two programs and what they use, and leaves them here; `make c` proves the calls for C, and
 # leaves their libraries in out/c; `make wasm` leaves the same calls as a module for WebAssembly in out/wasm;
 # `make test` checks every crate; `make install` copies the programs and their manual pages, and what `make c` has left;
 # `make wheel`, `make npm`, `make crate` and `make deb` leave packages in out/packages;

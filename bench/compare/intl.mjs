@@ -55,7 +55,7 @@ function texts(signs, length) {
 const inCapitals = (text) => text.toUpperCase();
 const withCapital = (text) => inCapitals(text[0]) + text.slice(1);
 
-// What a kind of subtag may be, in its written form, and what stands before it in an identifier.
+// What a kind of subtag may be, in its written form, and what is before it in an identifier.
 const KINDS = {
   languages: { type: "language", before: "", all: () => [...texts(LETTERS, 2), ...texts(LETTERS, 3)] },
   scripts: { type: "script", before: "und-", all: () => texts(LETTERS, 4).map(withCapital) },

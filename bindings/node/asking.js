@@ -8,10 +8,10 @@ const TABLE = 8;
 const LIST = 10;
 const SYNTAXES = ['locales', 'bcp47', 'posix'];
 
-// What stands behind the package: the calls of icu_locale.h, and what a platform does in its own way.
+// What the package asks: the calls of icu_locale.h, and what a platform does in its own way.
 const behind = { calls: null, textsOfCldr: null, mark: () => {} };
 
-/** Puts calls and ways of a platform behind the package. */
+/** Gives the package the calls and ways of a platform. */
 function stand(ways) {
   Object.assign(behind, ways);
 }

@@ -1,5 +1,5 @@
 'use strict';
-// Writes browser.mjs: the files that are the package anywhere, in the order in which they stand on one another, and then
+// Writes browser.mjs: the files that are the package anywhere, each after those that it uses, and then
 // fetched.mjs. What they require of each other, and what they export, is left out: all is in one scope there.
 const fs = require('fs');
 const path = require('path');

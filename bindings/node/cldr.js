@@ -1,5 +1,5 @@
 'use strict';
-// CLDR's data inside the package, as texts of tables. docs/CLDR.md of the repository says what stands in each file.
+// CLDR's data inside the package, as texts of tables. docs/CLDR.md of the repository says what is in each file.
 const { refusal, shown } = require('./refused.js');
 
 /** The file of all that no locale has part in. */

@@ -1,4 +1,4 @@
-// The package for browsers, and for other places that fetch. bindings/node/build puts what it stands on before these
+// The package for browsers, and for other places that fetch. bindings/node/build puts what it uses before these
 // lines, and leaves both as browser.mjs, which imports nothing.
 
 const HERE = import.meta.url;

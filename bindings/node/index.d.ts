@@ -121,7 +121,7 @@ export class Tables {
   /**
    * The name in the language of the preferences, with what its extensions say where the supplement has names of extensions
    * in that language, and without them else. The chain is `light` where none is named. With `fallback` the name is in the first
-   * locale behind the preferences that the tables have.
+   * locale after the preferences that the tables have.
    */
   name(identifier: Text, preferences: string, chain?: string, options?: Reading & { fallback?: boolean }): string;
   /**

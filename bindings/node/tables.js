@@ -1,5 +1,5 @@
 'use strict';
-// Tables of locale identifiers, over what stands behind the package. index.d.ts says what each call takes.
+// Tables of locale identifiers, over the calls of the package. index.d.ts says what each call takes.
 const { refusal, numbered, ofLine, shown, leftOut } = require('./refused.js');
 const {
   DONE, TABLE, behind, text, string, optionsOf, wordsIn, wordOf, made, listed, joined, leavesOut, overList, answered,
@@ -7,7 +7,7 @@ const {
 const { OWN, Negotiator, Switcher } = require('./served.js');
 const { inOrder } = require('./menu.js');
 
-// What stands before the mark of an answer.
+// What is before the mark of an answer.
 function beforeMark(answer) {
   return answer.slice(0, answer.lastIndexOf('\t'));
 }
@@ -178,8 +178,8 @@ class Tables {
   }
 
   /**
-   * The name, in the language of the preferences. What the tables have no name for stands as a subtag. With `fallback` it is
-   * in the first locale behind the preferences that the tables have.
+   * The name, in the language of the preferences. What the tables have no name for is a subtag there. With `fallback` it is
+   * in the first locale after the preferences that the tables have.
    */
   name(identifier, preferences, chain = 'light', options = undefined) {
     const { fallback = false, syntax } = optionsOf(options, 'fallback', 'syntax');

@@ -41,12 +41,12 @@ def is_spelled_whole(text):
 
 
 def inner(value):
-    """What stands in an array, or behind the names of an object, its names too."""
+    """What is in an array, or after the names of an object, its names too."""
     return [*value, *value.values()] if isinstance(value, dict) else value if isinstance(value, list) else []
 
 
 def depth(value):
-    """How deep arrays and objects stand in each other."""
+    """How deep arrays and objects are in each other."""
     return max((depth(held) for held in inner(value)), default=0) + isinstance(value, (dict, list))
 
 

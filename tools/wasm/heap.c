@@ -16,7 +16,7 @@ struct block {
 
 static struct block *lists[LISTS];
 static size listed[WORDS];  // a bit for each list that has a block
-static size end;            // behind the head that ends the heap, or 0 before the first request
+static size end;            // after the head that ends the heap, or 0 before the first request
 static size taken, bound = ~(size)0, grants = ~(size)0;
 
 static size length_of(const struct block *block) {
@@ -111,7 +111,7 @@ static int grow(size bytes) {
     return 1;
 }
 
-// Cuts a block that is taken down to so many bytes, where what is behind them makes a block.
+// Cuts a block that is taken down to so many bytes, where what is after them makes a block.
 static void cut(struct block *block, size bytes) {
     size rest = block->bytes - bytes;
     if (rest < LEAST) return;

@@ -21,7 +21,7 @@ void heap_give(void *block);
 // The memory's end stays at or below this address: what would reach further is refused.
 void heap_bound(size address);
 
-// So many requests are granted from now on, and the ones behind them are refused.
+// So many requests are granted from now on, and the ones after them are refused.
 void heap_grants(size requests);
 
 // How many bytes are taken, with 16 for each block.

@@ -30,7 +30,7 @@ def parsed(name):
 
 
 def answers(program, command, questions, inputs, locale="en"):
-    """The answer to each identifier, without the mark behind it."""
+    """The answer to each identifier, without the mark after it."""
     path = inputs.work / "questions"
     tables = inputs.tables.read_text() if program.takes_tables else ""
     path.write_text(tables + "".join(f"{question}\n".replace("_", "-") for question in questions))

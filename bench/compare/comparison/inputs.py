@@ -1,4 +1,4 @@
-"""What the programs are given: tables, and lines behind them."""
+"""What the programs are given: tables, and lines after them."""
 import json
 import os
 import shutil
@@ -29,7 +29,7 @@ def lines_of(path, *words):
 
 
 def joined(target, *paths):
-    """Writes files one behind another."""
+    """Writes files one after another."""
     with open(target, "wb") as written:
         for path in paths:
             with open(path, "rb") as read:
@@ -65,7 +65,7 @@ class Inputs:
         self.requests = lines_of(work / "requests", "--requests", COMMON, str(lines))
 
     def of(self, program, command, count):
-        """The input of a command for a program: so many lines, behind the tables where it takes them."""
+        """The input of a command for a program: so many lines, after the tables where it takes them."""
         is_list = command == "negotiate"
         lines = self.requests if is_list else self.identifiers
         path = first_lines(self.work / f"lines-{count}", lines, count + is_list)

@@ -1,4 +1,4 @@
-"""Documents whose measured parts stand between two marks, and are written anew."""
+"""Documents whose measured parts are between two marks, and are written anew."""
 import datetime
 import os
 import platform

@@ -3,7 +3,7 @@ from .asking import Comparison, answers, macro_regions, spelled, with_region
 from .programs import output_of
 
 UNKNOWN = ("und", "Zzzz", "ZZ")
-# The row of `und` in CLDR, where a script stands in the place of its own.
+# The row of `und` in CLDR, where a script is in the place of its own.
 OF_UND = "en-{}-us"
 KINDS = {
     "macro region": ("macro regions",

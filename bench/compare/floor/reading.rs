@@ -1,4 +1,4 @@
-//! Identifiers, read from a text with zeros behind it.
+//! Identifiers, read from a text with zeros after it.
 use crate::likely::Base;
 use crate::packed::{language, region, script};
 

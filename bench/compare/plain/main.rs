@@ -101,7 +101,7 @@ fn canonicalize(likely: &Likely, rules: &Rules, line: &[u8], output: &mut Vec<u8
     Ok(())
 }
 
-/// A text up to its first line feed, and what stands behind that.
+/// A text up to its first line feed, and what comes after that.
 fn cut(text: &[u8]) -> (&[u8], &[u8]) {
     match text.iter().position(|byte| *byte == b'\n') {
         Some(place) => (&text[..place], &text[place + 1..]),

@@ -83,7 +83,7 @@ fn essentials(value: Value) -> Shaped<Essentials> {
     })
 }
 
-/// Writes the name of an identifier, a tab, and `R` where a raw subtag stands in it, else `N`.
+/// Writes the name of an identifier, a tab, and `R` where a raw subtag is in it, else `N`.
 pub fn write<S: Source>(
     source: &S,
     identifier: &Identifier,
@@ -148,7 +148,7 @@ fn base_name<'n, S: Source>(source: &'n S, base: &Base) -> Option<BaseName<'n>> 
     })
 }
 
-/// What comes first in a name, what a menu puts behind it, and which subtags it stands for beside the language.
+/// What comes first in a name, what a menu puts after it, and which subtags it stands for beside the language.
 struct BaseName<'n> {
     text: &'n [u8],
     extension: &'n [u8],

@@ -1,5 +1,5 @@
 'use strict';
-// The calls by the module where each request for memory is refused in turn, and all behind it: they say so, or do what they
+// The calls by the module where each request for memory is refused in turn, and all after it: they say so, or do what they
 // should, and nothing is lost. Many calls take no more memory.
 const assert = require('assert');
 const fs = require('fs');

@@ -23,7 +23,7 @@ assert.deepStrictEqual(tables.menu(['de', 'EN', 'sv'], 'en'), [
 ]);
 const order = (list, language) => tables.menu(list, language).map((it) => it.locale);
 assert.deepStrictEqual(order(['zu', 'tlh', 'sv', 'en'], 'en'), ['en', 'sv', 'tlh', 'zu']); // by code point: en, tlh, zu, sv
-assert.deepStrictEqual(order(['en', 'zu'], 'sv'), ['zu', 'en']); // in Swedish Ö stands behind z
+assert.deepStrictEqual(order(['en', 'zu'], 'sv'), ['zu', 'en']); // in Swedish Ö comes after z
 assert.deepStrictEqual(order(['zu', 'sv', 'en', 'de'], 'tlh'), ['de', 'en', 'sv', 'zu']); // by code point, not by unit of UTF-16
 assert.deepStrictEqual(tables.menu([], 'en'), []);
 assert.deepStrictEqual(tables.menu(['de-AT'], 'en', 'light', { fallback: true }), [

@@ -1,5 +1,5 @@
 'use strict';
-// The examples of README.md, which is handed in, over CLDR's data inside the package: what a line gives stands behind it. Its
+// The examples of README.md, which is handed in, over CLDR's data inside the package: what a line gives is told after it. Its
 // links lead to where the package has something.
 const assert = require('assert');
 const fs = require('fs');

@@ -145,7 +145,7 @@ class Answers(Held):
     def name(self, identifier: Text, preferences: Text, chain: Text = "light", *, syntax: Syntax = "locales",
              fallback: bool = False) -> str:
         """The name of the identifier in the language of the preferences, with what its extensions say where the supplement
-        has names of extensions in that language, and without them else. What the tables have no name for stands as a subtag. With `fallback` the name is in the first locale behind the preferences that the tables
+        has names of extensions in that language, and without them else. What the tables have no name for is a subtag there. With `fallback` the name is in the first locale after the preferences that the tables
         have.
 
         >>> from icu_locale.example import TABLES
@@ -206,7 +206,7 @@ class Answers(Held):
 
 
 def without_tab(identifier: Text) -> Text:
-    """An identifier. In a line of `canonicalize`, a value would stand behind a tab."""
+    """An identifier. In a line of `canonicalize`, a value would come after a tab."""
     if b"\t" in as_bytes(identifier):
         raise line_refusal(InvalidSubtag.name, identifier)
     return identifier

@@ -61,6 +61,6 @@ def calls() -> Calls:
 
 
 def version() -> str:
-    """The version of this package, which stands in the file VERSION."""
+    """The version of this package, which is in the file VERSION."""
     path = HERE / "VERSION"
     return (path if path.exists() else TOP / "VERSION").read_text(encoding="ascii").strip()

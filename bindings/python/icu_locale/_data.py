@@ -1,4 +1,4 @@
-"""CLDR's data inside the package, as texts of tables. docs/CLDR.md of the repository says what stands in each file."""
+"""CLDR's data inside the package, as texts of tables. docs/CLDR.md of the repository says what is in each file."""
 import gzip
 from pathlib import Path
 from typing import Dict, Iterable, List, Literal, Tuple, Union

@@ -96,7 +96,7 @@ class InvalidLanguage(LineRefused):
 
 
 class InvalidSubtag(LineRefused):
-    """A subtag of the line is none, or stands where it may not."""
+    """A subtag of the line is none, or is where it may not be."""
 
     name = "InvalidSubtag"
 
@@ -126,7 +126,7 @@ class NoFieldFixedPoint(LineRefused):
 
 
 class Circle(LineRefused):
-    """The explicit parents behind a locale lead round in a circle."""
+    """The explicit parents after a locale lead round in a circle."""
 
     name = "Circle"
 
@@ -134,7 +134,7 @@ class Circle(LineRefused):
 class NameMissing(LineRefused, LookupError):
     """The tables were made without the locale of the preferences: they hold no pattern of names in it.
 
-    A name that is missing in a locale that they have is no refusal: its subtag stands there.
+    A name that is missing in a locale that they have is no refusal: its subtag is there.
     """
 
     name = "IdentifierNotFound"

@@ -1,4 +1,4 @@
-"""The examples of README.md, over CLDR's data inside the package: what a line gives stands behind it."""
+"""The examples of README.md, over CLDR's data inside the package: what a line gives is told after it."""
 import re
 import unittest
 from pathlib import Path

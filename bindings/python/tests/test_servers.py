@@ -83,7 +83,7 @@ class Threads(unittest.TestCase):
         self.assertEqual(wrong, [])
 
     def test_no_call_waits_for_another(self):
-        """Fifteen calls stand still in the middle, and the sixteenth has its answer."""
+        """Fifteen calls stop in the middle, and the sixteenth has its answer."""
         standing, ended, tables = threading.Barrier(16), threading.Event(), self.tables
         library = tables._calls
 

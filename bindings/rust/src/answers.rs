@@ -42,7 +42,7 @@ impl Tables {
         self.answer(&format!("{} {command}", self.syntax.word()), text.as_bytes())
     }
 
-    // What stands before the mark of an answer.
+    // What is before the mark of an answer.
     fn form(&self, command: &str, text: &str) -> Result<String, Refusal> {
         self.told(command, text).map(before_mark)
     }
@@ -151,7 +151,7 @@ impl Tables {
         Ok(self.told("fallback", identifier)?.split(' ').map(str::to_owned).collect())
     }
 
-    /// The name of an identifier in the first locale behind the preferences that the tables have, by the chain `light`.
+    /// The name of an identifier in the first locale after the preferences that the tables have, by the chain `light`.
     ///
     /// # Errors
     ///
@@ -195,7 +195,7 @@ impl Tables {
         self.menu_of(locales, language, Tables::name)
     }
 
-    /// The same, with names in the first locale behind the language, and behind each of the list, that the tables have.
+    /// The same, with names in the first locale after the language, and after each of the list, that the tables have.
     ///
     /// # Errors
     ///

@@ -1,4 +1,4 @@
-//! CLDR's data inside the crate, as texts of tables. docs/CLDR.md of the repository says what stands in each file.
+//! CLDR's data inside the crate, as texts of tables. docs/CLDR.md of the repository says what is in each file.
 use crate::inflate::gunzip;
 use crate::Refusal;
 use std::collections::BTreeMap;
@@ -52,7 +52,7 @@ fn put_some(locales: &[&str], columns: &mut [(&[u8], Vec<u8>)]) -> Result<(), Re
     Ok(())
 }
 
-// Puts the rows of the chosen locales of a language behind the parts of the tables, and tells whether there are any. The
+// Puts the rows of the chosen locales of a language after the parts of the tables, and tells whether there are any. The
 // first line has the names of the locales that have the same rows, as groups; each further one is the row of a group.
 fn put(text: &[u8], is_chosen: impl Fn(&str) -> bool, columns: &mut [(&[u8], Vec<u8>)]) -> bool {
     let mut rows = lines(text);

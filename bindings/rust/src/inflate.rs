@@ -11,7 +11,7 @@ const DISTANCES: [(usize, u32); 30] = [
     (129, 6), (193, 6), (257, 7), (385, 7), (513, 8), (769, 8), (1025, 9), (1537, 9), (2049, 10), (3073, 10), (4097, 11),
     (6145, 11), (8193, 12), (12289, 12), (16385, 13), (24577, 13),
 ];
-// In which order the lengths of the code of lengths stand.
+// In which order the lengths of the code of lengths are.
 const ORDER: [usize; 19] = [16, 17, 18, 0, 8, 7, 9, 6, 10, 5, 11, 4, 12, 3, 13, 2, 14, 1, 15];
 const END: usize = 256;
 const LONGEST: u32 = 15;
@@ -52,7 +52,7 @@ struct Bits<'a> {
 }
 
 impl Bits<'_> {
-    // The next bits, at most 32, which are zero behind the end.
+    // The next bits, at most 32, which are zero after the end.
     fn look(&mut self, many: u32) -> usize {
         while self.count < 32 {
             let Some((first, rest)) = self.bytes.split_first() else { break };
@@ -127,7 +127,7 @@ fn fixed() -> Option<Codes> {
     Some(Codes { symbols: Code::of(&lengths)?, distances: Code::of(&[5; 30])? })
 }
 
-// The codes that stand at the head of a block.
+// The codes at the head of a block.
 fn dynamic(bits: &mut Bits<'_>) -> Option<Codes> {
     let (symbols, distances, many) = (bits.take(5)? + 257, bits.take(5)? + 1, bits.take(4)? + 4);
     let mut of_lengths = [0; 19];

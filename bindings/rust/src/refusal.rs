@@ -26,7 +26,7 @@ pub enum Refusal {
     Shared,
     /// The line does not begin with a language.
     InvalidLanguage,
-    /// A subtag of the line is none, or stands where it may not.
+    /// A subtag of the line is none, or is where it may not be.
     InvalidSubtag,
     /// The rules of canonicalization come to no end.
     NoFixedPoint,
@@ -36,13 +36,13 @@ pub enum Refusal {
     NoValueFixedPoint,
     /// The aliases of the values at a key of the extension `t` come to no end.
     NoFieldFixedPoint,
-    /// The explicit parents behind a locale lead round in a circle.
+    /// The explicit parents after a locale lead round in a circle.
     Circle,
     /// The tables hold no pattern of names in the language of the preferences.
     NameMissing,
     /// CLDR has no names for a locale of a list.
     NoLocale {
-        /// Where it stands, counted from 0.
+        /// Its place, counted from 0.
         place: usize,
     },
     /// The crate was made without CLDR's data.

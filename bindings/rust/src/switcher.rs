@@ -97,7 +97,7 @@ where
     }
 }
 
-// The place that an answer tells, which stands before a tab; `none` tells none.
+// The place that an answer tells, which is before a tab; `none` tells none.
 fn place_of(told: &str) -> Option<usize> {
     told.split('\t').next().and_then(|place| place.parse().ok())
 }

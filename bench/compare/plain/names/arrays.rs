@@ -15,7 +15,7 @@ pub struct Arrays {
     essentials: Option<Essentials>,
 }
 
-/// Takes from a table what stands at each kind for a locale, and makes a map of it.
+/// Takes from a table what is at each kind for a locale, and makes a map of it.
 fn tables_of<N: Named, K: Ord, V>(
     table: &mut [(String, Value)],
     kinds: &[N],
@@ -36,7 +36,7 @@ fn tables_of<N: Named, K: Ord, V>(
     Ok(found)
 }
 
-/// Takes what stands for a locale.
+/// Takes what is there for a locale.
 fn take(locales: &mut [(String, Value)], locale: &Base) -> Option<Value> {
     let row = locales.iter_mut().rfind(|row| base_key(row.0.as_bytes()).as_ref() == Some(locale))?;
     Some(std::mem::replace(&mut row.1, Value::Null))

@@ -66,7 +66,7 @@ class Aliases:
             self.maps["region_alpha" if region.isalpha() else "region_num"][region] = regions[0]
 
     def add_subdivision(self, source, target):
-        """A `subdivisionAlias`: to a subdivision, or to a region, which as a value has `zzzz` behind it."""
+        """A `subdivisionAlias`: to a subdivision, or to a region, which as a value has `zzzz` after it."""
         subdivision, (first, *others) = read_subtag("subdivision", source), target.lower().split()
         value = first + WHOLE_REGION if read_subtag("region", first) and len(first) == 2 else first
         if others:
@@ -93,7 +93,7 @@ class Aliases:
                 self.account.note(ADDED, f"{rule} to {replacement}")
 
     def missing_rules(self):
-        """The rules of variants behind one alias of a language that are not there yet."""
+        """The rules of variants after one alias of a language that are not there yet."""
         found = {}
         for rule, replacement in self.language_variants.items():
             for language, meant in self.languages.items():
@@ -119,7 +119,7 @@ def is_sign_language(rule):
 
 
 def meets(rule, replacement, meant):
-    """A rule of variants matters behind an alias: it has the language, or fills what the alias fills already."""
+    """A rule of variants matters after an alias: it has the language, or fills what the alias fills already."""
     if rule.language != UNKNOWN_LANGUAGE:
         return rule.language == meant.language
     return bool((replacement.script and meant.script) or (replacement.region and meant.region))

@@ -2,7 +2,7 @@
 BCP 47.
 
 CLDR writes these names at keys and types of an older form, as `calendar` and `gregorian`; `common/bcp47` says which those
-are. A name of the value `true` stands at the empty text in `u`, where that value is not written, and at `true` in `t`.
+are. A name of the value `true` is at the empty text in `u`, where that value is not written, and at `true` in `t`.
 Currencies, subdivisions, time zones and codes for reordering have names of their own: a currency its symbol, or its code; a
 zone the region whose only zone or primary zone it is, or else its city, as the region format puts it.
 """

@@ -92,7 +92,7 @@ def first_row(maps, script, region):
 
 
 def values(row):
-    """One subtag stands alone, and two in an array."""
+    """One subtag is alone, and two are in an array."""
     found = list(row.values())
     return found[0] if len(found) == 1 else found
 

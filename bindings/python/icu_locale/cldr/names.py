@@ -1,6 +1,6 @@
 """Names of languages, scripts, regions and variants, of the element `localeDisplayNames` (UTS #35 Part 2, section 1).
 
-A table in memory has no use for weights, which divide data that a library is linked with: so each name stands under
+A table in memory has no use for weights, which divide data that a library is linked with: so each name is under
 the lightest marker of its form, which every chain that has this form asks.
 """
 from .subtags import UNKNOWN_LANGUAGE, read_locale, read_subtag
@@ -8,7 +8,7 @@ from .subtags import UNKNOWN_LANGUAGE, read_locale, read_subtag
 # The lists of names: what each is called in CLDR, and its elements.
 LISTS = (("languages", "language"), ("scripts", "script"), ("territories", "territory"), ("variants", "variant"))
 PLAIN = "plain"
-# Where a name of a kind and of a form stands.
+# Where a name of a kind and of a form is.
 MARKERS = {
     ("language", PLAIN): "language/medium/tiny",
     ("language", "short"): "language/short/light",

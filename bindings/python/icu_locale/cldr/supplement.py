@@ -166,7 +166,7 @@ def sets_of(common, matches):
 
 
 def members(groups, value):
-    """The regions of a variable's value: with those behind a `+`, and without those behind a `-`."""
+    """The regions of a variable's value: with those after a `+`, and without those after a `-`."""
     found = set()
     for sign, region in re.findall(r"([+-]?)(\w+)", value):
         part = leaves(groups, [region])
