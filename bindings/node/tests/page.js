@@ -1,6 +1,5 @@
 'use strict';
-// The examples of README.md, which is handed in, over CLDR's data inside the package: what a line gives is told after it. Its
-// links lead to where the package has something.
+// The examples of README.md, which is handed in, over CLDR's data inside the package: what a line gives is told after it.
 const assert = require('assert');
 const fs = require('fs');
 const util = require('util');
@@ -23,9 +22,4 @@ for (const line of lines) {
   }
 }
 assert.ok(count > 20, `${count} examples`);
-const anchor = (title) => `#${title.toLowerCase().replace(/[^a-z ]/g, '').replace(/ /g, '-')}`;
-const titles = [...page.matchAll(/^#+ (.*)$/gm)].map(([, title]) => anchor(title));
-for (const [, link] of page.matchAll(/\]\(([^)]*)\)/g)) {
-  assert.ok(titles.includes(link) || /^https?:/.test(link), `${link} leads out of the package`);
-}
 console.log('page: as it should be');
