@@ -1,1 +1,1 @@
-"""What the tests of the tables want, beside the package that makes them: bindings/python/icu_locale/cldr."""
+"""Test helpers: what the tests of the tables want. The package that makes the tables is bindings/python/icu_locale/cldr."""
