@@ -16,7 +16,7 @@ use Rattle.icu_locale_core.specs.laws.Identifiers.{same_text}
 use Rattle.icu_locale_core.specs.declared.langid.LanguageIdentifier.{LanguageIdentifier}
 use Rattle.icu_locale_extensions.specs.Blocks.{are_once, body}
 use Rattle.icu_locale_extensions.specs.Cuts.{Block, front, from, blocks}
-use Rattle.icu_locale_extensions.specs.Extensions.{any_piece, are_pieces, is_extension, is_other, is_piece, is_singleton, is_t, is_tfield, is_tkey}
+use Rattle.icu_locale_extensions.specs.Extensions.{any_piece, are_pieces, is_extension, is_other, is_piece, IsExtension, is_singleton, is_t, is_tfield, is_tkey}
 use Rattle.icu_locale_extensions.specs.Extensions.{is_transform, is_u, is_unicode, is_x, ArePieces}
 use Rattle.icu_locale_extensions.specs.Locales.{IsLocaleIdentifier}
 use Rattle.icu_locale_extensions.specs.Reads.{extensions, identifier_pieces, private_pieces, SpellIdentifier, SpellLanguage, SpellPrivateUse, Spells}
@@ -221,13 +221,12 @@ no_other_t e (f ∷ es) is none =
     same : is_t f.0 ≡ true → same_text (lowercase e.0) (lowercase f.0) ≡ true
     same t = (bytes_eq-Decides _ _).1 ((bytes_eq-Decides (lowercase e.0) (codes "t")).0 is ∙ sym ((bytes_eq-Decides (lowercase f.0) (codes "t")).0 t))
 
-extensions_plain : (es : List Block) → list_all is_extension es ≡ true → are_once es ≡ true
+extensions_plain : (es : List Block) → All IsExtension es → are_once es ≡ true
     → are_plain (front is_tkey (body is_t es)) ≡ true → list_all plain_block es ≡ true
-extensions_plain [] all once language = refl
-extensions_plain (e ∷ es) all once language =
-    let both = and_parts (is_extension e) (list_all is_extension es) all in
+extensions_plain [] each once language = refl
+extensions_plain (e ∷ es) each once language =
     let apart = and_parts (not (list_any {X = Block} (λ other. same_text (lowercase e.0) (lowercase other.0)) es)) (are_once es) once in
-    by (is_t e.0) refl both.0 apart.0 (extensions_plain es both.1 apart.1)
+    by (is_t e.0) refl (All-head IsExtension e es each) apart.0 (extensions_plain es (All-tail IsExtension e es each) apart.1)
   where
     by : (t : Bool) → is_t e.0 ≡ t → is_extension e ≡ true → not (list_any {X = Block} (λ other. same_text (lowercase e.0) (lowercase other.0)) es) ≡ true
         → (are_plain (front is_tkey (body is_t es)) ≡ true → list_all plain_block es ≡ true) → list_all plain_block (e ∷ es) ≡ true

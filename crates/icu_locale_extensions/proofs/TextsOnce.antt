@@ -1,7 +1,7 @@
 -- A text spells at most one locale identifier, and one without singletons an identifier alone.
 use Rattle.std.specs.Prelude.{◌≡◌, ◌↔◌, ℕ, Bool, true, false, ◌||◌, List, [], ◌∷◌, Option, Some, None, Result, Ok, Err, IfOk, IfSome, if◌then◌else◌}
 use Rattle.std.proofs.Common.{refl, ap, sym, ◌∙◌, subst, inl, inr}
-use Rattle.std.specs.List.{list_all, list_any}
+use Rattle.std.specs.List.{All, list_any}
 use Rattle.std.specs.List.Sorted.{IsStrictlySortedBy}
 use Rattle.std.proofs.lemmas.Bool.{false≢true}
 use Rattle.std.proofs.lemmas.List.Elements.{All-nil}
@@ -14,7 +14,7 @@ use Rattle.icu_locale_core.specs.declared.parse_error.ParseError.{ParseError}
 use Rattle.icu_locale_core.specs.declared.parse_error.ParseError.TheVariants.{InvalidLanguage, InvalidSubtag, Memory}
 use Rattle.icu_locale_extensions.specs.Blocks.{are_once}
 use Rattle.icu_locale_extensions.specs.Cuts.{front, from, blocks}
-use Rattle.icu_locale_extensions.specs.Extensions.{any_piece, is_singleton, is_x, is_extension, IsField, IsOther}
+use Rattle.icu_locale_extensions.specs.Extensions.{any_piece, is_singleton, is_x, IsExtension, IsField, IsOther}
 use Rattle.icu_locale_extensions.specs.Locales.{IsLocaleIdentifier}
 use Rattle.icu_locale_extensions.specs.Reads.{is_kept, as_locale, bare, extensions, identifier_pieces, private_pieces, takes_memory, ReadsLocale}
 use Rattle.icu_locale_extensions.specs.Reads.{SpellIdentifier, SpellLanguage, SpellParts, SpellPrivateUse, Spells}
@@ -138,7 +138,7 @@ module _ (t : List ℕ) (plain : list_any is_singleton (pieces t) ≡ false) whe
   pub to_bare : (x : LanguageIdentifier) → core.Spells t x → Spells t (bare x)
   to_bare x s = record {
     id = record { text = t; cut = sym all_pieces; spells = s };
-    each = ap (list_all is_extension) no_extensions;
+    each = subst (All IsExtension) (sym no_extensions) (All-nil IsExtension);
     once = ap are_once no_extensions;
     parts = subst (λ es. SpellParts es (private_pieces t) (bare x)) (sym no_extensions)
         (subst (λ ps. SpellParts [] ps (bare x)) (sym no_private_use) (record {

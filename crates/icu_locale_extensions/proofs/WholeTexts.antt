@@ -1,9 +1,10 @@
 -- A text and its parts: what is before the first singleton, extensions and private use.
 use Rattle.std.specs.Prelude.{◌≡◌, ◌⊎◌, ℕ, Bool, true, false, ◌||◌, List, [], ◌∷◌, slice_index_or, Result, Ok, Err, IfOk, if◌then◌else◌}
 use Rattle.std.proofs.Common.{refl, ap, sym, ◌∙◌, subst, inl, inr, arith}
-use Rattle.std.specs.List.{list_all, list_any}
-use Rattle.std.proofs.lemmas.Bool.{false≢true, or_right}
+use Rattle.std.specs.List.{All, list_all, list_any}
+use Rattle.std.proofs.lemmas.Bool.{false≢true, and_parts, and_from, or_right}
 use Rattle.std.proofs.lemmas.Bool.Decides.{nat_tests}
+use Rattle.std.proofs.lemmas.List.Elements.{All-nil, All-cons, All-head, All-tail}
 use Rattle.icu_locale_core.specs.Identifier.{pieces, starts_with_language, IsIdentifier}
 use Rattle.icu_locale_core.specs.Identifier as core
 use Rattle.icu_locale_core.specs.Readings.{read_pieces}
@@ -12,13 +13,28 @@ use Rattle.icu_locale_core.specs.declared.langid.LanguageIdentifier.{LanguageIde
 use Rattle.icu_locale_core.specs.declared.parse_error.ParseError.{ParseError}
 use Rattle.icu_locale_core.specs.declared.parse_error.ParseError.TheVariants.{InvalidLanguage, InvalidSubtag, Memory}
 use Rattle.icu_locale_extensions.specs.Blocks.{are_once}
-use Rattle.icu_locale_extensions.specs.Cuts.{front, from, blocks}
-use Rattle.icu_locale_extensions.specs.Extensions.{any_piece, is_singleton, is_x, is_extension}
+use Rattle.icu_locale_extensions.specs.Cuts.{Block, front, from, blocks}
+use Rattle.icu_locale_extensions.specs.Extensions.{any_piece, is_singleton, is_x, is_extension, IsExtension}
 use Rattle.icu_locale_extensions.specs.Locales.{IsLocaleIdentifier}
 use Rattle.icu_locale_extensions.specs.Reads.{is_kept, identifier_pieces, extensions, private_pieces, ReadsLocale, SpellIdentifier, SpellParts, Spells}
 use Rattle.icu_locale_extensions.specs.declared.identifier.LocaleIdentifier.{LocaleIdentifier}
 use Rattle.icu_locale_extensions.specs.inner.Readings.{blocks_of, ReadsBehind, SpellBehind}
 use Rattle.icu_locale_extensions.proofs.IdentifiersTaken.{EndsIdentifiers, language_fault, no_language}
+
+-- ---- extensions
+
+-- what the reader tests of all extensions holds of each
+allowed : (es : List Block) → list_all is_extension es ≡ true → All IsExtension es
+allowed [] all = All-nil IsExtension
+allowed (e ∷ es) all =
+    let both = and_parts (is_extension e) (list_all is_extension es) all in
+    All-cons IsExtension e es both.0 (allowed es both.1)
+
+all_allowed : (es : List Block) → All IsExtension es → list_all is_extension es ≡ true
+all_allowed [] each = refl
+all_allowed (e ∷ es) each =
+    and_from (is_extension e) (list_all is_extension es) (All-head IsExtension e es each)
+    (all_allowed es (All-tail IsExtension e es each))
 
 -- ---- pieces
 
@@ -187,14 +203,14 @@ module _ (t : List ℕ) (r : Result LanguageIdentifier ParseError) (reads : Read
       spelled : (x : LocaleIdentifier) → (x.locale.id ≡ id) × SpellBehind ps x → Spells t x
       spelled x s = record {
         id = subst (SpellIdentifier (identifier_pieces t)) (sym s.0) id_spelled;
-        each = ap (list_all is_extension) (sym same_blocks) ∙ s.1.each;
+        each = allowed (extensions t) (ap (list_all is_extension) (sym same_blocks) ∙ s.1.each);
         once = ap are_once (sym same_blocks) ∙ s.1.once;
         parts = subst (λ es. SpellParts es (private_pieces t) x) same_blocks (subst (λ qs. SpellParts (blocks_of ps) qs x) same_private s.1.parts);
       }
 
       spelled_behind : (x : LocaleIdentifier) → Spells t x → SpellBehind ps x
       spelled_behind x s = record {
-        each = ap (list_all is_extension) same_blocks ∙ s.each;
+        each = ap (list_all is_extension) same_blocks ∙ all_allowed (extensions t) s.each;
         once = ap are_once same_blocks ∙ s.once;
         parts = subst (λ es. SpellParts es (from is_x ps) x) (sym same_blocks) (subst (λ qs. SpellParts (extensions t) qs x) (sym same_private) s.parts);
       }

@@ -6,7 +6,7 @@ use Rattle.std.specs.Map.{keys_of}
 use Rattle.std.specs.Ordering.{is_lt}
 use Rattle.std.specs.declared.cmp.Ordering.TheVariants.{Less}
 use Rattle.std.proofs.lemmas.Bool.{and_parts, and_from, false≢true, false_from_ne_true}
-use Rattle.std.proofs.lemmas.List.Elements.{All-nil, All-cons, All-head, All-tail, All-weaker}
+use Rattle.std.proofs.lemmas.List.Elements.{All-nil, All-cons, All-head, All-tail, All-append, All-weaker}
 use Rattle.std.proofs.lemmas.List.Folds.{list_all-append}
 use Rattle.std.proofs.lemmas.Cmp.{tied_itself}
 use Rattle.std.proofs.lemmas.Map.Keys.{sorted_head, sorted_tail}
@@ -25,7 +25,7 @@ use Rattle.icu_locale_core.specs.laws.RisingLists.{rising-from_list}
 use Rattle.icu_locale_extensions.specs.Blocks.{are_once, lower_block, keyword}
 use Rattle.icu_locale_extensions.specs.Cuts.{Block, front, from, blocks}
 use Rattle.icu_locale_extensions.specs.Extensions.{any_piece, is_piece, are_pieces, is_singleton, is_x, is_u, is_t, is_tkey, is_tfield, is_other}
-use Rattle.icu_locale_extensions.specs.Extensions.{is_unicode, is_transform, is_extension, IsPiece, ArePieces, IsField, IsOther}
+use Rattle.icu_locale_extensions.specs.Extensions.{is_unicode, is_transform, is_extension, IsExtension, IsPiece, ArePieces, IsField, IsOther}
 use Rattle.icu_locale_extensions.specs.Locales.{IsLocaleIdentifier, marked_if_any, lower_subtags, transform_pieces, unicode_pieces, written}
 use Rattle.icu_locale_extensions.specs.Reads.{Spells, SpellIdentifier, SpellLanguage, SpellUnicode, SpellTransform, SpellParts, extensions}
 use Rattle.icu_locale_extensions.specs.Rows.{flat, below_t, above_t, HaveFirstOf}
@@ -127,9 +127,9 @@ other_told row is =
     ∙ and_from (is_alphanumeric row.0) (any_piece row.1 && are_pieces 2 row.1) one.1 (are_pieces_told 2 row.1 is.pieces)
 
 -- a row that is there only with pieces
-if_any_told : (mark : List ℕ) (ps : List (List ℕ)) → (any_piece ps ≡ true → is_extension (mark, ps) ≡ true) → list_all is_extension (row_if_any mark ps) ≡ true
-if_any_told mark [] told = refl
-if_any_told mark (p ∷ ps) told = and_from (is_extension (mark, p ∷ ps)) true (told refl) refl
+if_any_told : (mark : List ℕ) (ps : List (List ℕ)) → (any_piece ps ≡ true → IsExtension (mark, ps)) → All IsExtension (row_if_any mark ps)
+if_any_told mark [] told = All-nil IsExtension
+if_any_told mark (p ∷ ps) told = All-cons IsExtension (mark, p ∷ ps) [] (told refl) (All-nil IsExtension)
 
 module _ (x : LocaleIdentifier) (is : IsLocaleIdentifier x) where
   transform_told : any_piece (transform_pieces x) ≡ true → is_extension (codes "t", transform_pieces x) ≡ true
@@ -141,19 +141,12 @@ module _ (x : LocaleIdentifier) (is : IsLocaleIdentifier x) where
       (list_all-append of_unicode x.attributes (flat x.locale.extensions.unicode.keywords)
       ∙ and_from _ _ (subtags_told x.attributes is.attributes.each) (keywords_told x.locale.extensions.unicode.keywords is.each_keyword))
 
-  each_told : list_all is_extension (extension_rows x) ≡ true
+  each_told : All IsExtension (extension_rows x)
   each_told =
-      let b = below_t x.others in
-      let t = row_if_any (codes "t") (transform_pieces x) in
-      let u = row_if_any (codes "u") (unicode_pieces x) in
-      let a = above_t x.others in
-      list_all-append is_extension b (t ++ (u ++ a))
-      ∙ and_from _ _ (list_all-from is_extension b (below_each x is (λ row. is_extension row ≡ true) other_told))
-      (list_all-append is_extension t (u ++ a)
-      ∙ and_from _ _ (if_any_told (codes "t") (transform_pieces x) transform_told)
-      (list_all-append is_extension u a
-      ∙ and_from _ _ (if_any_told (codes "u") (unicode_pieces x) unicode_told)
-      (list_all-from is_extension a (above_each x is (λ row. is_extension row ≡ true) other_told))))
+      All-append IsExtension (below_t x.others) _ (below_each x is IsExtension other_told)
+      (All-append IsExtension (row_if_any (codes "t") (transform_pieces x)) _ (if_any_told (codes "t") (transform_pieces x) transform_told)
+      (All-append IsExtension (row_if_any (codes "u") (unicode_pieces x)) _ (if_any_told (codes "u") (unicode_pieces x) unicode_told)
+      (above_each x is IsExtension other_told)))
 
 -- ---- each extension comes once
 
@@ -373,7 +366,7 @@ module _ (spells : WrittenSpells) (x : LocaleIdentifier) (is : IsLocaleIdentifie
   pub spells_written : Spells (written x) x
   spells_written = record {
     id = subst (λ ps. SpellIdentifier ps x.locale.id) (sym (ap (front is_singleton) (pieces-written x is) ∙ front-singleton x is)) id_spelled;
-    each = ap (list_all is_extension) found_extensions ∙ each_told x is;
+    each = subst (All IsExtension) (sym found_extensions) (each_told x is);
     once = ap are_once found_extensions ∙ once_told x is;
     parts = subst (λ ps. SpellParts (extensions (written x)) ps x) (sym (ap (from is_x) (pieces-written x is) ∙ from-x x is))
         (subst (λ es. SpellParts es (private_pieces x) x) (sym found_extensions) parts_spelled);

@@ -69,6 +69,9 @@ abbrev pub is_extension : Block → Bool
 is_extension e =
     if is_u e.0 then is_unicode e.1 else (if is_t e.0 then is_transform e.1 else is_other e)
 
+abbrev pub IsExtension : Block → Type 0
+IsExtension e = is_extension e ≡ true
+
 -- ---- in lower case
 
 -- a piece in lower case

@@ -1,7 +1,7 @@
 -- Which text spells a locale identifier (UTS #35 Part 1, section 3.2, unicode_locale_id), and why a text is refused.
 use Rattle.std.specs.Prelude.{◌≡◌, ◌⊎◌, ◌↔◌, ℕ, Bool, true, false, ◌||◌, not, IsTrue, List, [], map, filter, codes, MatchOption, Option, None, Result}
 use Rattle.std.specs.Prelude.{Ok, Err, IfOk}
-use Rattle.std.specs.List.{list_all, list_any}
+use Rattle.std.specs.List.{All, list_any}
 use Rattle.icu_locale_core.specs.Identifier.{pieces, starts_with_language}
 use Rattle.icu_locale_core.specs.Identifier as core
 use Rattle.icu_locale_core.specs.Keywords.{KeywordRows}
@@ -12,7 +12,7 @@ use Rattle.icu_locale_core.specs.declared.parse_error.ParseError.{ParseError}
 use Rattle.icu_locale_core.specs.declared.parse_error.ParseError.TheVariants.{InvalidLanguage, InvalidSubtag, Memory}
 use Rattle.icu_locale_extensions.specs.Blocks.{body, are_once, lower_block, keyword}
 use Rattle.icu_locale_extensions.specs.Cuts.{Block, front, from, blocks}
-use Rattle.icu_locale_extensions.specs.Extensions.{any_piece, is_singleton, is_x, is_u, is_t, is_tkey, is_extension, is_other_singleton}
+use Rattle.icu_locale_extensions.specs.Extensions.{any_piece, is_singleton, is_x, is_u, is_t, is_tkey, is_other_singleton, IsExtension}
 use Rattle.icu_locale_extensions.specs.Locales.{IsLocaleIdentifier, marked_if_any}
 use Rattle.icu_locale_extensions.specs.Rows.{HaveFirstOf}
 use Rattle.icu_locale_extensions.specs.declared.identifier.LocaleIdentifier.{LocaleIdentifier}
@@ -70,7 +70,7 @@ pub record SpellParts (es : List Block) (private : List (List ℕ)) (x : LocaleI
 -- any order, each once, and of private use, case aside
 pub record Spells (t : List ℕ) (x : LocaleIdentifier) : Type 0 where
   pub id : SpellIdentifier (identifier_pieces t) x.locale.id
-  pub each : list_all is_extension (extensions t) ≡ true
+  pub each : All IsExtension (extensions t)
   pub once : are_once (extensions t) ≡ true
   pub parts : SpellParts (extensions t) (private_pieces t) x
 

@@ -127,7 +127,8 @@ impl<const LOW: usize> Subtags<LOW> {
     /// The pieces are as they were then.
     pub fn push(&mut self, piece: &[u8]) -> Result<(), ParseError>
         ensures pushed { OnOk result (self.new ≡ self.old ++ lowercase piece.now ∷ []) }
-        ensures refused { (result ≡ Err ParseError.InvalidSubtag) ↔ (is_piece LOW piece.now ≡ false) }
+        ensures refused { (result ≡ Err ParseError.InvalidSubtag)
+            ↔ (is_piece LOW piece.now ≡ false) }
         ensures language { ¬ (result ≡ Err ParseError.InvalidLanguage) }
         ensures unchanged { OnErr result (self.new ≡ self.old) }
     {
