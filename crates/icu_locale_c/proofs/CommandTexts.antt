@@ -161,6 +161,3 @@ word_whole text c are =
 -- and its words are those of the task
 pub word_plain : (text : List ℕ) (c : LineCommand) → AreCommandWords (text ∷ []) (Lines c) → AreCommandWords (slice_split is_space text) (Lines c)
 word_plain text c are = subst (λ ws. AreCommandWords ws (Lines c)) (sym (word_whole text c are)) are
-
-pub word_named : (text : List ℕ) (c : LineCommand) → AreCommandWords (text ∷ []) (Lines c) → Names text c
-word_named text c are = inl (word_plain text c are)

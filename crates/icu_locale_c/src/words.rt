@@ -11,7 +11,7 @@ ghost use Rattle.icu_locale_c.specs.inner.Words.{AreNoPlain};
 
 use crate::refusal::Refusal;
 use icu_locale_extensions::Syntax;
-use icu_locale_lines::{Command, LineCommand, syntax_of};
+use icu_locale_lines::{Command, LineCommand, syntax_of, task_of};
 use std::alloc::Global;
 
 // The syntax that a word names; no word names none.
@@ -44,21 +44,21 @@ pub fn read_command(alloc: Global, text: &[u8]) -> Result<LineCommand, Refusal>
     ensures named { IfOk result (Names text.now) }
     ensures refused { IfErr result (λ e. (e ≡ Refusal.Command) × NamesNone text.now) }
 {
+    // Most texts are one word, which is compared as it is.
+    if let Some(task) = task_of(text) {
+        return Ok(LineCommand::plain(task));
+    }
     match str::from_utf8(text) {
         Ok(text) => command_in(alloc, text),
         Err(_) => Err(Refusal::Command),
     }
 }
 
-// Most texts are one word, which is compared as it is.
 fn command_in(alloc: Global, text: &str) -> Result<LineCommand, Refusal>
     ensures named { IfOk result (Names text.now) }
     ensures refused { IfErr result (λ e. (e ≡ Refusal.Command)
         × AreNoCommand (slice_split is_space text.now)) }
 {
-    if let Ok(command) = one_word(text) {
-        return Ok(command);
-    }
     match cut(text) {
         Some((word, rest)) => match syntax_of(word) {
             Some(syntax) => with_syntax(alloc, syntax, rest),
@@ -110,9 +110,9 @@ fn one_word(word: &str) -> Result<LineCommand, Refusal>
     ensures refused { IfErr result
         (λ e. (e ≡ Refusal.Command) × AreNoPlain (word.now ∷ [])) }
 {
-    match Command::from_word(word) {
-        Ok(Command::Lines(command)) => Ok(command),
-        _ => Err(Refusal::Command),
+    match task_of(word.as_bytes()) {
+        Some(task) => Ok(LineCommand::plain(task)),
+        None => Err(Refusal::Command),
     }
 }
 

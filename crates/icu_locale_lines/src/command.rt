@@ -1,5 +1,6 @@
 //! What the program is asked to do.
 ghost use Rattle.std.specs.Prelude.{◌≡◌, ◌∷◌, [], Bool, None, Ok, Some, IfOk, IfErr, IfSome, map, codes};
+ghost use Rattle.std.specs.Bool.{Decides};
 ghost use Rattle.std.specs.String.{string_bytes};
 ghost use Rattle.icu_locale_lines.specs.Commands.{AreArguments, AreCommandWords, AreRunWords, AreStreamWords, AreWords, is_streamed, is_streamed_task, plain, syntax_word, task_word};
 ghost use Rattle.icu_locale_lines.specs.declared.command.Command.TheVariants.{Lines};
@@ -186,7 +187,7 @@ impl Command {
         if word == "settled" {
             return Ok(Command::Settled);
         }
-        match task_of(word) {
+        match task_of(word.as_bytes()) {
             Some(task) => Ok(Command::Lines(LineCommand::plain(task))),
             None => Err(CliError::Usage),
         }
@@ -215,25 +216,43 @@ fn is_streamed_task(task: Task) -> bool
     }
 }
 
-// The task of a word alone.
-fn task_of(word: &str) -> Option<Task>
+/// The task of a word alone.
+pub fn task_of(word: &[u8]) -> Option<Task>
     ensures named { IfSome result (λ t. (word.now ≡ task_word t) × AreArguments t []) }
     ensures only { (t : Task) → word.now ≡ task_word t → AreArguments t []
         → result ≡ Some t }
 {
-    match word {
-        "maximize" => Some(Task::Transform(Transform::Maximize)),
-        "minimize" => Some(Task::Transform(Transform::Minimize)),
-        "minimize-script" => Some(Task::Transform(Transform::MinimizeScript)),
-        "canonicalize" => Some(Task::Canonicalize),
-        "direction" => Some(Task::Direction),
-        "negotiate" => Some(Task::Negotiate),
-        "fallback" => Some(Task::Fallback),
-        "serve" => Some(Task::Serve(Wishes::Header)),
-        "nearest" => Some(Task::Serve(Wishes::Requests)),
-        "distance" => Some(Task::Distance),
-        _ => None,
+    if is_word(word, "maximize") {
+        Some(Task::Transform(Transform::Maximize))
+    } else if is_word(word, "minimize") {
+        Some(Task::Transform(Transform::Minimize))
+    } else if is_word(word, "minimize-script") {
+        Some(Task::Transform(Transform::MinimizeScript))
+    } else if is_word(word, "canonicalize") {
+        Some(Task::Canonicalize)
+    } else if is_word(word, "direction") {
+        Some(Task::Direction)
+    } else if is_word(word, "negotiate") {
+        Some(Task::Negotiate)
+    } else if is_word(word, "fallback") {
+        Some(Task::Fallback)
+    } else if is_word(word, "serve") {
+        Some(Task::Serve(Wishes::Header))
+    } else if is_word(word, "nearest") {
+        Some(Task::Serve(Wishes::Requests))
+    } else if is_word(word, "distance") {
+        Some(Task::Distance)
+    } else {
+        None
     }
+}
+
+// Whether bytes are those of a word.
+#[inline(always)]
+fn is_word(bytes: &[u8], word: &str) -> bool
+    ensures told { Decides result (bytes.now ≡ word.now) }
+{
+    bytes == word.as_bytes()
 }
 
 /// The syntax of a word.

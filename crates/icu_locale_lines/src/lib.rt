@@ -12,7 +12,7 @@ mod sample_tables;
 mod work;
 
 pub use asked::{Asked, Source};
-pub use command::{Command, LineCommand, Task, Wishes, syntax_of};
+pub use command::{Command, LineCommand, Task, Wishes, syntax_of, task_of};
 pub use error::CliError;
 pub use program::{program_words, run_by, run_words, stream_words};
 pub use runs::Status;

@@ -31,8 +31,8 @@ pub fn answer_wishes(
     syntax: Option<Syntax>,
     line: &[u8],
 ) -> Result<bool, CliError>
-    ensures answer { IfOk result (IsWishAnswer syntax wishes server.now offered.now.wholes.items line.now
-        room.new.items) }
+    ensures answer { IfOk result (IsWishAnswer syntax wishes server.now offered.now.wholes.items
+        line.now room.new.items) }
     ensures refused { IfErr result (λ e. e ≡ CliError.Memory) }
 {
     room.clear();
@@ -67,7 +67,8 @@ fn add_served_for(
     offered: &Offered,
     header: &[u8],
 ) -> Result<bool, CliError>
-    ensures answer { IfOk result (AddsLine (IsServedLine server.now offered.now.wholes.items header.now)
+    ensures answer { IfOk result (AddsLine
+        (IsServedLine server.now offered.now.wholes.items header.now)
         text.old.items text.new.items) }
     ensures refused { IfErr result (λ e. e ≡ CliError.Memory) }
     ensures kept { OnErr result (Keeps text.old.items text.new.items) }
@@ -106,7 +107,8 @@ fn add_nearest_to(
     offered: &Offered,
     requests: &[LanguageIdentifier],
 ) -> Result<bool, CliError>
-    ensures answer { IfOk result (AddsLine (IsNearestLine server.now offered.now.wholes.items requests.now)
+    ensures answer { IfOk result (AddsLine
+        (IsNearestLine server.now offered.now.wholes.items requests.now)
         text.old.items text.new.items) }
     ensures refused { IfErr result (λ e. e ≡ CliError.Memory) }
     ensures kept { OnErr result (Keeps text.old.items text.new.items) }

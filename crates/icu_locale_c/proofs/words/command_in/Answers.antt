@@ -1,11 +1,8 @@
 use Rattle.std.proofs.Common.{rules}
 use Rattle.std.specs.List.{slice_split}
 use Rattle.icu_locale_lines.specs.Lists.{is_space}
-use Rattle.icu_locale_c.proofs.CommandTexts.{alone_refused, other_refused, syntax_named, syntax_refused, word_named}
+use Rattle.icu_locale_c.proofs.CommandTexts.{alone_refused, other_refused, syntax_named, syntax_refused}
 use Rattle.icu_locale_c.proofs.words.command_in.Goals as goal
-
-pub returns-in-Ok-clause-named : goal.returns-in-Ok-clause-named
-returns-in-Ok-clause-named c = word_named c.args.text.now c.in-Ok.command c.in-Ok.ensures.named
 
 pub returns-in-Some-syntax_of-clause-named : goal.returns-in-Some-syntax_of-clause-named
 returns-in-Some-syntax_of-clause-named c =
