@@ -1,0 +1,15 @@
+mod Cutting
+mod Repeats
+mod Classes
+mod Different
+mod LanguageIds
+mod UnicodeParts
+mod TransformedParts
+mod ExtensionParts
+mod LocaleIds
+mod Lowered
+mod FirstRows
+mod Spelled
+mod Made
+mod MadeWhole
+mod Reading
