@@ -14,6 +14,8 @@ mod faults;
 #[cfg(test)]
 mod full_names;
 #[cfg(test)]
+mod grammar;
+#[cfg(test)]
 mod known;
 #[cfg(test)]
 mod languages;
