@@ -5,6 +5,7 @@ pub mod cut;
 pub mod input;
 pub mod stream;
 pub mod whole;
+pub mod writing;
 
 /// Whether every line was accepted.
 #[derive(Clone, Copy, Debug, PartialEq, Eq)]

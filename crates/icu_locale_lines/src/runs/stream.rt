@@ -16,13 +16,13 @@ ghost use Rattle.std.specs.List.{list_any};
 ghost use Rattle.icu_locale_lines.specs.Lines.{is_line_feed, AreWithin};
 ghost use Rattle.icu_locale_lines.specs.Runs.{ReadsAll, WritesAll};
 
-use crate::answer::write_answers;
 use crate::command::Command;
 use crate::error::CliError;
 use crate::runs::Status;
 use crate::runs::cut::{cut_before_long, cut_behind_lines, is_too_long};
 use crate::runs::input::{MOST_READS, PART, read_first_line};
 use crate::runs::whole::{read_tables, write_settled};
+use crate::runs::writing::write_answers;
 use crate::work::Work;
 use crate::work::listing::Listing;
 use crate::work::load::Loaded;

@@ -3,18 +3,22 @@ ghost use Rattle.std.specs.Prelude.{◌≡◌, ◌↔◌, [], Ok, Err, IfOk, IfE
 ghost use Rattle.icu_tables.specs.Rows.{rows_of};
 ghost use Rattle.icu_tables.specs.File.{rows_in};
 ghost use Rattle.icu_tables.specs.Supplement.{no_supplement};
+ghost use Rattle.icu_tables.specs.declared.tables.Tables.{Tables};
 ghost use Rattle.icu_locale_lines.specs.Loads.{not_found};
 ghost use Rattle.icu_locale_lines.specs.Texts.{settled_line};
-ghost use Rattle.icu_locale_lines.specs.Commands.{IsUnsettled, has_tables};
-ghost use Rattle.icu_locale_lines.specs.WholeRuns.{IsRun, IsRefusedRun, WritesSettled, WritesOutput, IsRefusedOutput, IsJsonRun, IsRefusedJsonRun};
+ghost use Rattle.icu_locale_lines.specs.Lines.{Stream};
+ghost use Rattle.icu_locale_lines.specs.Commands.{IsLoaded, IsUnsettled, IsWorkOf, has_tables, text_answered};
+ghost use Rattle.icu_locale_lines.specs.declared.command.LineCommand.{LineCommand};
+ghost use Rattle.icu_locale_lines.specs.WholeRuns.{IsRun, IsRefusedRun, WritesSettled, WritesLines, StopsLines, WritesOutput, IsRefusedOutput, IsJsonRun, IsRefusedJsonRun};
 ghost use Rattle.icu_locale_lines.specs.Refusals.{IsRefusedReading};
 
-use crate::answer::write_bytes;
 use crate::command::Command;
 use crate::error::CliError;
 use crate::runs::Status;
 use crate::runs::cut::cut;
 use crate::runs::input::{MOST_READS, read_all};
+use crate::runs::writing::{write_answers, write_bytes};
+use crate::work::Work;
 use crate::work::load::{Loaded, load_expander};
 use icu_tables::{TableError, Tables};
 use std::alloc::Global;
@@ -82,6 +86,49 @@ pub fn run_json<R: Read, W: Write>(
     let (json, rest) = cut(&input);
     let tables = read_tables(alloc, json)?;
     write_output(alloc, command, &tables, rest, writer)
+}
+
+impl<'d> Loaded<'d> {
+    // The work on an input, and the text whose lines it answers.
+    fn over<'i>(self, alloc: Global, input: &'i [u8]) -> Result<(Work<'d>, &'i [u8]), CliError>
+        ensures work { (c : LineCommand) (t : Tables) → IsLoaded c t self.entry
+            → IfOk result (λ made. IsWorkOf c t input.now made.0
+            × (text_answered c input.now ≡ made.1.now)) }
+        ensures left { (c : LineCommand) (t : Tables) → IsLoaded c t self.entry
+            → IfErr result (λ e. (wrote : Stream) → StopsLines c t input.now wrote wrote e) }
+    {
+        match self {
+            Loaded::Ready(work) => Ok((work, input)),
+            Loaded::Listing(listing) => {
+                let (first, rest) = cut(input);
+                Ok((listing.over(alloc, first)?, rest))
+            }
+        }
+    }
+
+    /// The answers to the lines of an input. `Negotiate` and `Serve` use the first line for the identifiers that are
+    /// available.
+    ///
+    /// # Errors
+    ///
+    /// - `Available` where that first line has a fault: nothing was written.
+    /// - `Write` where a write failed or took no byte, and `Memory` where memory was refused, as `run` answers them.
+    pub fn write<W: Write>(
+        self,
+        alloc: Global,
+        input: &[u8],
+        writer: &mut W,
+    ) -> Result<Status, CliError>
+        ensures output { (c : LineCommand) (t : Tables) → IsLoaded c t self.entry
+            → IfOk result (WritesLines c t input.now (W.contents writer.old)
+            (W.contents writer.new)) }
+        ensures left { (c : LineCommand) (t : Tables) → IsLoaded c t self.entry
+            → IfErr result (StopsLines c t input.now (W.contents writer.old)
+            (W.contents writer.new)) }
+    {
+        let (work, text) = self.over(alloc, input)?;
+        write_answers(&work, &mut Vec::new(alloc), text, writer)
+    }
 }
 
 // The tables of a JSON text.

@@ -2,18 +2,12 @@
 ghost use Rattle.std.specs.Prelude.{◌≡◌, ◌↔◌, ◌&&◌, Some, Err, IfOk, IfErr, IsSomeAnd, is_ok, is_some, false};
 ghost use Rattle.icu_locale.specs.Rules.{AreRules};
 ghost use Rattle.icu_locale_lines.specs.Loads.{IsExpanderOf, IsRefusedRules, has_likely, not_found};
-ghost use Rattle.icu_locale_lines.specs.WholeRuns.{IsUnloaded, WritesLines, StopsLines};
-ghost use Rattle.icu_locale_lines.specs.Lines.{Stream};
-ghost use Rattle.icu_locale_lines.specs.Commands.{IsUnsettled, IsLoaded, IsWorkOf, has_matching, has_tables, text_answered};
-ghost use Rattle.icu_locale_lines.specs.declared.command.LineCommand.{LineCommand};
-ghost use Rattle.icu_tables.specs.declared.tables.Tables.{Tables};
+ghost use Rattle.icu_locale_lines.specs.WholeRuns.{IsUnloaded};
+ghost use Rattle.icu_locale_lines.specs.Commands.{IsUnsettled, IsLoaded, has_matching, has_tables};
 ghost use Rattle.icu_locale_fallback.specs.declared.fallbacker.LocaleFallbackPriority.TheVariants.{Language};
 
-use crate::answer::write_answers;
 use crate::command::{Command, LineCommand, Task};
 use crate::error::CliError;
-use crate::runs::Status;
-use crate::runs::cut::cut;
 use crate::work::canonicalizing::Canonicalizing;
 use crate::work::listing::{ListOver, Listing};
 use crate::work::name::Naming;
@@ -27,7 +21,6 @@ use icu_locale_values::ValueAliases;
 use icu_provider::{DataError, DataErrorKind, DataProvider, LanguageMatching};
 use icu_tables::{LocaleTables, Tables};
 use std::alloc::Global;
-use std::io::Write;
 
 /// What a command has before its input is read.
 #[derive(Debug, Drop)]
@@ -112,47 +105,6 @@ impl<'d> Loaded<'d> {
                 Ok(Loaded::Ready(Work { syntax, tools }))
             }
         }
-    }
-
-    // The work on an input, and the text whose lines it answers.
-    fn over<'i>(self, alloc: Global, input: &'i [u8]) -> Result<(Work<'d>, &'i [u8]), CliError>
-        ensures work { (c : LineCommand) (t : Tables) → IsLoaded c t self.entry
-            → IfOk result (λ made. IsWorkOf c t input.now made.0
-            × (text_answered c input.now ≡ made.1.now)) }
-        ensures left { (c : LineCommand) (t : Tables) → IsLoaded c t self.entry
-            → IfErr result (λ e. (wrote : Stream) → StopsLines c t input.now wrote wrote e) }
-    {
-        match self {
-            Loaded::Ready(work) => Ok((work, input)),
-            Loaded::Listing(listing) => {
-                let (first, rest) = cut(input);
-                Ok((listing.over(alloc, first)?, rest))
-            }
-        }
-    }
-
-    /// The answers to the lines of an input. `Negotiate` and `Serve` use the first line for the identifiers that are
-    /// available.
-    ///
-    /// # Errors
-    ///
-    /// - `Available` where that first line has a fault: nothing was written.
-    /// - `Write` where a write failed or took no byte, and `Memory` where memory was refused, as `run` answers them.
-    pub fn write<W: Write>(
-        self,
-        alloc: Global,
-        input: &[u8],
-        writer: &mut W,
-    ) -> Result<Status, CliError>
-        ensures output { (c : LineCommand) (t : Tables) → IsLoaded c t self.entry
-            → IfOk result (WritesLines c t input.now (W.contents writer.old)
-            (W.contents writer.new)) }
-        ensures left { (c : LineCommand) (t : Tables) → IsLoaded c t self.entry
-            → IfErr result (StopsLines c t input.now (W.contents writer.old)
-            (W.contents writer.new)) }
-    {
-        let (work, text) = self.over(alloc, input)?;
-        write_answers(&work, &mut Vec::new(alloc), text, writer)
     }
 }
 

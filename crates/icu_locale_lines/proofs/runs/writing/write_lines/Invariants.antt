@@ -1,6 +1,6 @@
 use Rattle.std.proofs.Common.{length}
 use Rattle.icu_locale_lines.proofs.Progress.{Progress}
-use Rattle.icu_locale_lines.proofs.answer.write_lines.Given as goal
+use Rattle.icu_locale_lines.proofs.runs.writing.write_lines.Given as goal
 
 abbrev pub invariant-loop-line : goal.invariant-loop-line
 invariant-loop-line g l = Progress l.work l.initial.left (g.W.Write.contents l.initial.writer) (g.W.Write.contents l.writer) l.text.items l.status l.left
