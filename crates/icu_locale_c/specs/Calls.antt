@@ -8,7 +8,6 @@ use Rattle.icu_tables.specs.Supplement.{no_supplement}
 use Rattle.icu_tables.specs.Supplement as further
 use Rattle.icu_tables.specs.declared.error.TableError.TheVariants as table
 use Rattle.icu_tables.specs.declared.supplement.Supplement.{Supplement}
-use Rattle.icu_tables.specs.declared.tables.Tables.{Tables}
 use Rattle.icu_locale_lines.specs.Answers.{IsAnswer}
 use Rattle.icu_locale_lines.specs.Commands.{AreStreamWords, has_tables}
 use Rattle.icu_locale_lines.specs.Lists.{is_space}

@@ -1,5 +1,5 @@
 -- The answer to one line.
-use Rattle.std.proofs.Common.{◌≡◌, ◌≢◌, ◌⊎◌, Bool, true, false, Option, None, refl, sym, List, [], ◌∷◌, ◌++◌, Some, ℕ, zero, suc, get_or, Result, Ok}
+use Rattle.std.proofs.Common.{◌≡◌, ◌≢◌, ◌⊎◌, Bool, true, false, Option, None, refl, sym, List, [], ◌++◌, Some, ℕ, get_or, Result, Ok}
 use Rattle.std.proofs.Common.{Err, IfOk, inl, inr, subst, ap, ◌∙◌, ◌<◌, length}
 use Rattle.std.specs.List.{slice_get, position}
 use Rattle.std.specs.Option.{option_map, option_or}

@@ -1,5 +1,5 @@
 -- Why a run stops before its first line, and the words of each refusal.
-use Rattle.std.specs.Prelude.{◌≡◌, ◌⊎◌, ℕ, List, Err, codes, ◌++◌, Option}
+use Rattle.std.specs.Prelude.{◌≡◌, ℕ, List, Err, codes, ◌++◌, Option}
 use Rattle.icu_locale.specs.LikelySubtags.{LikelySubtags, AreSettled}
 use Rattle.icu_tables.specs.File.{rows_in}
 use Rattle.icu_tables.specs.Supplement as further

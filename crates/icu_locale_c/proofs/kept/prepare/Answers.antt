@@ -1,7 +1,7 @@
 use Rattle.std.proofs.Common.{Option, sym, subst, ◌∙◌}
 use Rattle.std.specs.Prelude.{IsSomeAnd}
 use Rattle.icu_locale.specs.LikelyTable.{likely}
-use Rattle.icu_locale.specs.RuleSet.{lent, rules_over}
+use Rattle.icu_locale.specs.RuleSet.{rules_over}
 use Rattle.icu_locale.specs.declared.canonicalizer.rules.ReadRules.{ReadRules}
 use Rattle.icu_locale_matching.specs.Service.{IsPreparedOver}
 use Rattle.icu_locale_c.specs.Held.{IsServedOver}
