@@ -1,7 +1,7 @@
 # Makes texts that icu_locale_stream posix reads of the lines of a log: tr -d '\r' < LOG | sed -f examples/clean.sed
 # It takes no line away.
 
-# spaces before and behind
+# spaces before and after
 s/^[[:space:]]*//
 s/[[:space:]]*$//
 

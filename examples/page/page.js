@@ -1,4 +1,4 @@
-// What the page shows. Each answer is the library's; here stand which questions are asked, and where the answers go.
+// What the page shows. Each answer is the library's; this file says which questions are asked, and where the answers go.
 import { Refused, Tables } from 'icu_locale';
 import { WORDS } from './words.js';
 
