@@ -96,7 +96,7 @@ for (const [syntax, available, requests, wanted] of [
   assert.deepStrictEqual(over.available, available);
   assert.strictEqual(over.answer('maximize', 'zh-TW'), 'zh-Hant-TW\tM');
   if (wanted) {
-    assert.match(over.answer(`${syntax} negotiate`, requests.join(' ')), new RegExp(`^${wanted.available}\t`));
+    assert.match(over.answer(`${syntax} negotiate`, requests.join(' ')), new RegExp(`^${wanted.request}\t`));
     refuses(() => tables.negotiator(available), 'List');
     refuses(() => tables.negotiator([]).negotiate(requests), 'List');
   }
