@@ -3,6 +3,7 @@ mod Cases
 mod Merges
 mod Padding
 mod Readings
+mod Sinks
 mod TextSets
 mod Values
 mod VariantLists

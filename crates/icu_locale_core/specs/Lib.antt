@@ -6,6 +6,7 @@ pub mod Maps
 pub mod Numbers
 pub mod Places
 pub mod Readings
+pub mod Sinks
 pub mod Subtag
 pub mod TextSet
 pub mod Value

@@ -42,13 +42,6 @@ pub or_assoc : (a b c : Bool) → ((a || b) || c) ≡ (a || (b || c))
 or_assoc true b c = refl
 or_assoc false b c = refl
 
-pub or_left : (a b : Bool) → a ≡ true → (a || b) ≡ true
-or_left a b is = ap (λ c. c || b) is
-
-pub or_right : (a b : Bool) → b ≡ true → (a || b) ≡ true
-or_right true b is = refl
-or_right false b is = is
-
 pub or_none : (a : Bool) → (a || false) ≡ a
 or_none true = refl
 or_none false = refl

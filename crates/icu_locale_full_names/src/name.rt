@@ -1,9 +1,9 @@
 //! Names of whole locale identifiers.
 ghost use Rattle.std.specs.Prelude.{◌≡◌, ◌≢◌, ◌⊎◌, ◌↔◌, ◌++◌, [], Some, Err, IsErr, IfOk, IfErr, OnOk, OnErr, length, ◌==◌, not};
 ghost use Rattle.std.specs.Io.KnownBytes.{Appends};
+ghost use Rattle.icu_locale_core.specs.Sinks.{AppendsPart};
 ghost use Rattle.icu_locale_names.specs.LanguageChains.{chain_of};
 ghost use Rattle.icu_locale_names.specs.LanguageNames.{in_locale, display_of, GivesParts};
-ghost use Rattle.icu_locale_names.specs.Pieces.{AppendsPart};
 ghost use Rattle.icu_locale_names.specs.LentNames.{parts_of};
 ghost use Rattle.icu_locale_full_names.specs.FullNames.{GivesFullName, full_pieces, written};
 ghost use Rattle.icu_locale_full_names.specs.inner.Has.{lent_language};
@@ -11,12 +11,12 @@ ghost use Rattle.icu_locale_full_names.specs.inner.Lent.{GivesLanguage};
 
 use crate::draft::Draft;
 use crate::whole::add_whole;
-use icu_locale_core::LanguageIdentifier;
+use icu_locale_core::{LanguageIdentifier, write_whole};
 use icu_locale_extensions::LocaleIdentifier;
 use icu_locale_names::{
     DisplayNamesPreferences, LanguageIdentifierDisplayNameBorrowed,
     LanguageIdentifierDisplayNameOptions, LanguageIdentifierNameFallbackError, LanguageNameParts,
-    NameChain, NameWriteError, write_whole,
+    NameChain, NameWriteError,
 };
 use icu_provider::{DataError, DataErrorKind, DataProvider, ExtensionNames};
 use std::alloc::Global;
@@ -140,9 +140,9 @@ impl LocaleDisplayName {
         parts.extend_from_slice(self.raw_spans())?;
         match write_whole(self.as_str().as_bytes(), sink) {
             Ok(()) => Ok(Err(LanguageIdentifierNameFallbackError)),
-            Err(refusal) => {
+            Err(_) => {
                 parts.truncate(before);
-                Err(refusal)
+                Err(NameWriteError::Sink)
             }
         }
     }

@@ -2,14 +2,14 @@
 use Rattle.std.proofs.Common.{◌≡◌, ◌⊎◌, ◌≤◌, ℕ, ◌+◌, ◌-◌, take, drop, subst, append-nil, length-append, true, false, ◌||◌, cond, List, [], ◌∷◌, ◌++◌, length, Option, None, Some, is_none, refl, ap}
 use Rattle.std.proofs.Common.{sym, ◌∙◌, append_assoc, inl, inr, arith}
 use Rattle.std.specs.List.{list_any, slice_split, onto_first}
-use Rattle.std.proofs.lemmas.Bool.{false≢true}
+use Rattle.std.proofs.lemmas.Bool.{false≢true, or_parts}
 use Rattle.std.proofs.lemmas.Bool.Decides.{nat_tests}
 use Rattle.std.proofs.lemmas.List.Folds.{list_any-append}
 use Rattle.std.proofs.Math.Seq.{take-append_seam, drop-append_seam}
 use Rattle.icu_locale_lines.specs.Lines.{is_line_feed, without_empty_last, lines, first_line, after_first_line, exceeds, AreWithin}
 use Rattle.icu_locale_lines.specs.Streams.{part_size, EndsLines, IsUnended, BeginsTooLong}
 use Rattle.icu_locale_lines.specs.laws.Parts.{without_empty_last-more, lines_of_parts}
-use Rattle.icu_locale_lines.proofs.FirstLines.{IsWhole, IsCut, or_parts, cut_at, alone, first_line-grows}
+use Rattle.icu_locale_lines.proofs.FirstLines.{IsWhole, IsCut, cut_at, alone, first_line-grows}
 
 -- the lines of whole lines and what follows them
 pub lines_after : (done t : List ℕ) → EndsLines done → lines (done ++ t) ≡ lines done ++ lines t

@@ -2,7 +2,7 @@
 use Rattle.std.proofs.Common.{◌≡◌, ◌≢◌, ◌⊎◌, ◌<◌, ◌≤◌, ℕ, suc, ◌+◌, Bool, not, true, false, ◌||◌, List, [], ◌∷◌, ◌++◌, length, inl, inr, refl, ap, sym, subst}
 use Rattle.std.proofs.Common.{◌∙◌, length-append, length-drop, take, drop, cond, arith}
 use Rattle.std.specs.List.{list_any, position_or_len}
-use Rattle.std.proofs.lemmas.Bool.{false≢true}
+use Rattle.std.proofs.lemmas.Bool.{false≢true, or_parts}
 use Rattle.std.proofs.lemmas.Bool.Decides.{nat_tests}
 use Rattle.icu_locale_lines.specs.Lines.{is_line_feed, first_line, after_first_line}
 
@@ -79,10 +79,6 @@ cut_by_length t other = by (cut_at t)
     by : IsWhole t ⊎ IsCut t → IsCut t
     by (inl whole) = absurd (other (ap length whole.0))
     by (inr cut) = cut
-
-pub or_parts : (a b : Bool) → (a || b) ≡ false → (a ≡ false) × (b ≡ false)
-or_parts true b e = absurd (false≢true (sym e))
-or_parts false b e = (refl, e)
 
 -- the first line of a line and its line feed, whatever follows
 pub place_of_end : (line t : List ℕ) → list_any is_line_feed line ≡ false → first_line (line ++ 10 ∷ t) ≡ line × after_first_line (line ++ 10 ∷ t) ≡ t

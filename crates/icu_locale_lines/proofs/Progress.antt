@@ -14,7 +14,7 @@ use Rattle.icu_locale_lines.specs.declared.runs.Status.TheVariants.{Accepted}
 use Rattle.icu_locale_lines.specs.declared.work.Work.{Work}
 use Rattle.icu_locale_lines.specs.Answers.{AddsLine, IsAnswer}
 use Rattle.icu_locale_lines.specs.Lines.{lines}
-use Rattle.icu_locale_names.specs.Pieces.{AppendsPart}
+use Rattle.icu_locale_core.specs.Sinks.{AppendsPart}
 use Rattle.icu_locale_lines.proofs.ListReading.{AllZip-push}
 use Rattle.icu_locale_lines.specs.Runs.{AreAnswers, text_of_lines, all_accepted, WritesAll, WritesUpTo, WritesPart}
 

@@ -18,7 +18,7 @@ use Rattle.icu_locale_lines.specs.declared.runs.Status.TheVariants.{Accepted}
 use Rattle.icu_locale_lines.specs.declared.work.Work.{Work}
 use Rattle.icu_locale_lines.specs.Lines.{first_line, after_first_line, Stream}
 use Rattle.icu_locale_lines.specs.Loads.{IsExpanderOf, not_found}
-use Rattle.icu_locale_names.specs.Pieces.{AppendsPart}
+use Rattle.icu_locale_core.specs.Sinks.{AppendsPart}
 use Rattle.icu_locale_lines.specs.Runs.{ReadsAll, WritesAll, WritesEarlier, WritesPart}
 use Rattle.icu_locale_lines.specs.Refusals.{IsFaultyList, IsRefusedReading}
 use Rattle.icu_locale_lines.specs.Texts.{settled_line}

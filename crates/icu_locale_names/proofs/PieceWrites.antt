@@ -1,11 +1,12 @@
 -- How far the pieces of a name are written, how long their text is, and what their report says.
-use Rattle.std.proofs.Common.{◌≡◌, ◌∙◌, refl, ap, ℕ, ◌+◌, List, [], ◌∷◌, ◌++◌, length, length-append, take, ◌≢◌, sym, subst, ◌==◌, false, Option}
+use Rattle.std.proofs.Common.{◌≡◌, ◌∙◌, refl, ap, ℕ, ◌+◌, List, [], ◌∷◌, ◌++◌, length, length-append, take, ◌≢◌, sym, subst, false, Option}
 use Rattle.std.proofs.Common.{append_assoc, append-nil, ◌↔◌, true, ◌||◌, if◌then◌else◌}
 use Rattle.std.proofs.lemmas.List.{take_at}
 use Rattle.std.specs.Io.KnownBytes.{Appends}
 use Rattle.std.proofs.KnownBytes.{Appends-nil, Appends-trans}
 use Rattle.std.proofs.lemmas.Bool.{false≢true}
-use Rattle.icu_locale_names.specs.Pieces.{Piece, text_of, AppendsPart, spans, spans_from, has_raw}
+use Rattle.icu_locale_core.specs.Sinks.{AppendsPart}
+use Rattle.icu_locale_names.specs.Pieces.{Piece, text_of, spans, spans_from, has_raw}
 
 -- the bytes of pieces, the first and then the others
 abbrev pub byte_count : List Piece → ℕ
@@ -25,11 +26,6 @@ take_front old more = take_at old more (length old) refl
 front_is_empty : (xs ys : List ℕ) → xs ++ ys ≡ [] → xs ≡ []
 front_is_empty [] ys is = refl
 front_is_empty (x ∷ xs) ys is = absurd (cc)
-
--- a list that is not empty by a test of its length
-pub not_empty : (xs : List ℕ) → (length xs == 0) ≡ false → xs ≢ []
-not_empty [] is = absurd (cc)
-not_empty (x ∷ xs) is = λ none. absurd (cc)
 
 -- the text up to what is left is written
 pub record Written (text : List ℕ) (old new : Option (List ℕ)) (left : List Piece) : Type 0 where

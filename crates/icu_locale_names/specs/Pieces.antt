@@ -1,7 +1,6 @@
--- A text made of pieces, of which some are raw subtags, and what a sink holds after a write that failed.
-use Rattle.std.specs.Prelude.{ℕ, ◌+◌, Bool, true, false, List, [], ◌∷◌, length, if◌then◌else◌, ◌≡◌, ◌≢◌, ◌++◌, Option}
+-- A text made of pieces, of which some are raw subtags.
+use Rattle.std.specs.Prelude.{ℕ, ◌+◌, Bool, true, false, List, [], ◌∷◌, length, if◌then◌else◌}
 use Rattle.std.specs.List.{flat_map, list_any}
-use Rattle.std.specs.Io.KnownBytes.{Appends}
 
 -- a text, and whether it is a raw subtag
 pub record Piece : Type 0 where
@@ -35,11 +34,3 @@ spans pieces = spans_from 0 pieces
 -- some piece is a raw subtag
 abbrev pub has_raw : List Piece → Bool
 has_raw pieces = list_any (λ p. p.raw) pieces
-
--- a beginning of the text was written, and not the whole
-pub record AppendsPart (old new : Option (List ℕ)) (text : List ℕ) : Type 0 where
-  pub written : List ℕ
-  pub left : List ℕ
-  pub parted : text ≡ written ++ left
-  pub short : left ≢ []
-  pub appended : Appends old new written

@@ -2,7 +2,7 @@
 ghost use Rattle.std.specs.Prelude.{Some, codes};
 
 use std::alloc::{AllocError, AllocFailed};
-use std::fmt;
+use std::{fmt, io};
 use thiserror::Error;
 
 /// A raw subtag is in the text of a name, since the provider has no name for it: `Display` writes the type's name.
@@ -52,5 +52,16 @@ impl<T: Drop> From<AllocFailed<T>> for NameWriteError {
 
     fn from(_refused: AllocFailed<T>) -> Self {
         NameWriteError::Memory
+    }
+}
+
+impl From<io::Error> for NameWriteError {
+    ghost use Rattle.icu_locale_names.specs.declared.errors.NameWriteError.TheVariants.{Sink};
+    ghost use Rattle.std.specs.Prelude.{◌≡◌};
+
+    ghost from_gives = { λ _ e. e ≡ Sink };
+
+    fn from(_failed: io::Error) -> Self {
+        NameWriteError::Sink
     }
 }

@@ -10,7 +10,6 @@ mod options;
 mod region;
 mod script;
 mod shown;
-mod sink;
 mod subtag_name;
 mod variant;
 
@@ -24,6 +23,5 @@ pub use options::{DisplayNamesPreferences, LanguageDisplay, LanguageIdentifierDi
 pub use region::{RegionDisplayName, RegionDisplayNameBorrowed};
 pub use script::{ScriptDisplayName, ScriptDisplayNameBorrowed};
 pub use shown::LentPiece;
-pub use sink::write_whole;
 pub use subtag_name::{SubtagName, SubtagNameBorrowed};
 pub use variant::{VariantDisplayName, VariantDisplayNameBorrowed};

@@ -2,7 +2,7 @@
 #![tactic(auto)]
 
 mod error;
-mod file;
+mod json;
 mod kinds;
 pub mod laws;
 mod locale_names;

@@ -1,7 +1,7 @@
 //! The answers to all lines of an input, written.
 ghost use Rattle.std.specs.Prelude.{◌≡◌, ◌⊎◌, ◌∷◌, [], List, ℕ, Err, IfOk, IfErr, OnOk, OnErr};
 ghost use Rattle.std.specs.Io.KnownBytes.{Appends};
-ghost use Rattle.icu_locale_names.specs.Pieces.{AppendsPart};
+ghost use Rattle.icu_locale_core.specs.Sinks.{AppendsPart};
 ghost use Rattle.icu_locale_lines.specs.Lines.{lines};
 ghost use Rattle.icu_locale_lines.specs.Runs.{WritesAll, WritesEarlier, WritesPart, WritesUpTo};
 
@@ -9,7 +9,7 @@ use crate::error::CliError;
 use crate::runs::Status;
 use crate::runs::cut::Lines;
 use crate::work::Work;
-use icu_locale_names::write_whole;
+use icu_locale_core::write_whole;
 use std::io::Write;
 
 // How many bytes of answers are written at once: with one line more they mostly fit into 64 KiB.

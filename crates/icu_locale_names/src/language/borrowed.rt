@@ -1,8 +1,9 @@
 //! Names of identifiers that are lent, and how they are written.
 ghost use Rattle.std.specs.Prelude.{◌≡◌, ◌≢◌, ◌⊎◌, ◌↔◌, ◌^◌, ◌<◌, ◌≤◌, ◌++◌, length, false, Some, Err, map, OnOk, OnErr, IfOk, IfErr, IsErr, IsTrue};
 ghost use Rattle.std.specs.Io.KnownBytes.{Appends};
+ghost use Rattle.icu_locale_core.specs.Sinks.{AppendsPart};
 ghost use Rattle.icu_locale_names.specs.LentNames.{pieces_of, parts_of};
-ghost use Rattle.icu_locale_names.specs.Pieces.{text_of, spans, has_raw, AppendsPart};
+ghost use Rattle.icu_locale_names.specs.Pieces.{text_of, spans, has_raw};
 ghost use Rattle.icu_locale_names.specs.Shown.{lent_piece};
 ghost use Rattle.icu_locale_names.specs.Walk.{pieces_left, qualifier_pieces};
 ghost use Rattle.icu_provider.specs.Names.{part_of};

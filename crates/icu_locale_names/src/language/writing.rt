@@ -2,12 +2,13 @@
 ghost use Rattle.std.specs.Prelude.{◌≡◌, ◌^◌, ◌<◌, ◌≤◌, length, MatchOption, OnOk, OnErr, IfOk, IfErr, IfSome};
 ghost use Rattle.std.specs.Fmt.{WritesOnOk};
 ghost use Rattle.std.specs.Io.KnownBytes.{Appends};
+ghost use Rattle.icu_locale_core.specs.Sinks.{AppendsPart};
 ghost use Rattle.icu_locale_names.specs.LentNames.{pieces_of};
-ghost use Rattle.icu_locale_names.specs.Pieces.{text_of, spans, has_raw, AppendsPart};
+ghost use Rattle.icu_locale_names.specs.Pieces.{text_of, spans, has_raw};
 
 use crate::errors::NameWriteError;
 use crate::language::LanguageIdentifierDisplayNameBorrowed;
-use crate::sink::write_whole;
+use icu_locale_core::write_whole;
 use std::alloc::Global;
 use std::{fmt, io};
 

@@ -1,6 +1,7 @@
 use Rattle.std.proofs.Common.{◌≡◌, ◌∙◌, ◌||◌, sym, true, is_some}
+use Rattle.std.proofs.lemmas.Bool.{or_left, or_right}
 use Rattle.icu_locale_full_names.specs.inner.Drafts.{is_any}
-use Rattle.icu_locale_full_names.proofs.Joining.{further_is, some_unless_empty, or_left, or_right}
+use Rattle.icu_locale_full_names.proofs.Joining.{further_is, some_unless_empty}
 use Rattle.icu_locale_full_names.proofs.whole.has_further.Goals as goal
 
 -- there is an attribute

@@ -1,11 +1,12 @@
 use Rattle.std.proofs.Common.{◌≡◌, ◌∙◌, ◌||◌, sym, refl, true, false, is_some, Option, Some, None}
 use Rattle.std.specs.Borrow.{Bor}
+use Rattle.std.proofs.lemmas.Bool.{or_left, or_right}
 use Rattle.icu_locale_names.specs.LentNames.{parts_of}
 use Rattle.icu_locale_names.specs.declared.language.borrowed.LanguageIdentifierDisplayNameBorrowed.{LanguageIdentifierDisplayNameBorrowed}
 use Rattle.icu_locale_full_names.specs.FullNames.{further_texts}
 use Rattle.icu_locale_full_names.specs.inner.Drafts.{is_any, are_some}
 use Rattle.icu_locale_full_names.specs.inner.Has.{lent_language}
-use Rattle.icu_locale_full_names.proofs.Joining.{all_is, or_left, or_right}
+use Rattle.icu_locale_full_names.proofs.Joining.{all_is}
 use Rattle.icu_locale_full_names.proofs.whole.has_qualifiers.Goals as goal
 
 lent_is : (name : Option (Bor LanguageIdentifierDisplayNameBorrowed)) → is_some (lent_language name) ≡ is_some name

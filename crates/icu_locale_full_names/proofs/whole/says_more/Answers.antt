@@ -1,7 +1,7 @@
 use Rattle.std.proofs.Common.{◌∙◌, ◌||◌, ap, sym, None}
+use Rattle.std.proofs.lemmas.Bool.{or_left}
 use Rattle.icu_locale_full_names.specs.FullNames.{further_texts}
 use Rattle.icu_locale_full_names.specs.inner.Drafts.{is_any}
-use Rattle.icu_locale_full_names.proofs.Joining.{or_left}
 use Rattle.icu_locale_full_names.proofs.Silence.{silent_name, none_by_test, some_is}
 use Rattle.icu_locale_full_names.proofs.whole.says_more.Goals as goal
 

@@ -1,6 +1,6 @@
 use Rattle.std.proofs.Common.{inr, subst, ◌∙◌}
 use Rattle.std.proofs.lemmas.Result.{err_from_is_err_and}
-use Rattle.icu_locale_names.specs.Pieces.{AppendsPart}
+use Rattle.icu_locale_core.specs.Sinks.{AppendsPart}
 use Rattle.icu_locale_lines.specs.WholeRuns.{TellsSettled}
 use Rattle.icu_locale_lines.proofs.runs.whole.write_settled.Goals as goal
 

@@ -1,5 +1,5 @@
 use Rattle.std.proofs.Common.{subst, ◌∙◌}
-use Rattle.icu_locale_names.specs.Pieces.{AppendsPart}
+use Rattle.icu_locale_core.specs.Sinks.{AppendsPart}
 use Rattle.std.specs.Io.KnownBytes.{Appends}
 use Rattle.icu_locale_lines.proofs.Progress.{Progress, Progress-start, Progress-more, Progress-sent, WritesPart-from_part}
 use Rattle.icu_locale_lines.proofs.runs.writing.write_lines.Goals as goal
