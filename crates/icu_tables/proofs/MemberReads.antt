@@ -4,7 +4,7 @@ use Rattle.serde_json.specs.Data.{Data}
 use Rattle.serde_json.specs.View.{view}
 use Rattle.serde_json.specs.declared.value.Value.{Value}
 use Rattle.icu_tables.specs.declared.error.TableError.{TableError}
-use Rattle.icu_tables.specs.declared.json.objects.MemberReader.{MemberReader}
+use Rattle.icu_tables.specs.declared.from_json.objects.MemberReader.{MemberReader}
 use Rattle.icu_tables.specs.inner.Members.{FillsAfter, GoesOn, or_refusal}
 use Rattle.icu_tables.specs.inner.Reads.{Fills, Reads}
 use Rattle.icu_tables.specs.Shape.{Shape, applied}

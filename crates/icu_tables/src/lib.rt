@@ -2,7 +2,7 @@
 #![tactic(auto)]
 
 mod error;
-mod json;
+mod from_json;
 mod kinds;
 pub mod laws;
 mod locale_names;

@@ -3,8 +3,8 @@ ghost use Rattle.std.specs.Prelude.{◌≡◌, ◌≢◌, Ok, Err, IfOk, IfErr};
 ghost use Rattle.icu_tables.specs.Supplement.{no_supplement, rows_in, rows_of};
 
 use crate::TableError;
-use crate::json::parse;
-use crate::json::values::FromValue;
+use crate::from_json::parse;
+use crate::from_json::values::FromValue;
 use icu_locale_core::{Key, Value};
 use icu_locale_extensions::{FieldKey, Subtags};
 use icu_provider::{DataLocale, ExtensionNames, LanguageMatching, SortedMap};

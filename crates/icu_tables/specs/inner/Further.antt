@@ -5,7 +5,7 @@ use Rattle.icu_provider.specs.declared.matching.LanguageMatching.{LanguageMatchi
 use Rattle.icu_provider.specs.declared.matching.MatchRules.{MatchRules}
 use Rattle.icu_tables.specs.Rows.{seen_rows}
 use Rattle.icu_tables.specs.Supplement.{RuleRows, MatchingRows, SupplementRows, PatternRows}
-use Rattle.icu_tables.specs.declared.json.matching.PatternParts.{PatternParts}
+use Rattle.icu_tables.specs.declared.from_json.matching.PatternParts.{PatternParts}
 use Rattle.icu_tables.specs.declared.supplement.Supplement.{Supplement}
 
 abbrev pub pattern_seen : PatternParts → PatternRows

@@ -3,7 +3,7 @@ use Rattle.std.specs.Prelude.{◌≡◌, Option, Result, Ok, Err}
 use Rattle.serde_json.specs.View.{view}
 use Rattle.icu_tables.specs.Shape.{Shape}
 use Rattle.icu_tables.specs.declared.error.TableError.{TableError}
-use Rattle.icu_tables.specs.declared.json.objects.MemberReader.{MemberReader}
+use Rattle.icu_tables.specs.declared.from_json.objects.MemberReader.{MemberReader}
 use Rattle.icu_tables.specs.inner.Reads.{Fills}
 
 -- after a refusal nothing is read, and before one a place is filled with what is said, or that is refused

@@ -1,0 +1,15 @@
+use Rattle.std.proofs.Common.{◌≡◌, length, sym, ap, arith}
+use Rattle.std.proofs.lemmas.Bool.Decides.{nat_tests}
+use Rattle.icu_tables.proofs.Items.{two_items-other}
+use Rattle.icu_tables.proofs.from_json.arrays.two_items.Goals as goal
+use Rattle.icu_tables.proofs.from_json.arrays.two_items.Goals.{in_default-via-then-as_slice-lt2, in_default-via-else-as_slice-lt2+else-this-lt3}
+
+-- there are not two items
+pub returns-in_default : goal.returns-in_default
+returns-in_default c =
+    let items = c.in_ok-as_array.field-0.now.items in
+    let other : length items ≡ 2 → ⊥ = elim c.in_default.branch [
+      | in_default-via-then-as_slice-lt2 w ↦ λ exactly. grind (arith, nat_tests, c.as_slice.ensures.len, ap length c.as_slice.ensures.value)
+      | in_default-via-else-as_slice-lt2+else-this-lt3 w ↦ λ exactly. grind (arith, nat_tests, c.as_slice.ensures.len, ap length c.as_slice.ensures.value)
+    ] in
+    rw (← c.in_ok-as_array.ensures) (sym (two_items-other items other))

@@ -1,0 +1,12 @@
+use Rattle.icu_tables.proofs.MemberReads.{◌and_fills◌, Tells-start, Reads-told}
+use Rattle.icu_tables.proofs.from_json.matching.LanguageMatchingFromValue.from_value.Goals as goal
+
+-- what was read of each member tells what the object says
+pub returns : goal.returns
+returns c =
+    let none = c.new-table.ensures in
+    rw (c.in_ok-only_members.ensures, c.in_ok-others.ensures)
+    (Reads-told _ _ _ (Tells-start c.of.ensures.object c.of.ensures.outcome
+    and_fills (rw none.macros at c.fill.ensures)
+    and_fills (rw none.paradigms at c.fill-2.ensures)
+    and_fills (rw none.rules at c.fill-3.ensures)) (rw (none.language, none.script, none.region) at c.finish.ensures))

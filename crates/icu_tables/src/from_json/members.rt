@@ -1,0 +1,172 @@
+//! Objects whose members put rows into a map.
+ghost use Rattle.std.specs.Prelude.{◌≡◌, [], Some, IfOk};
+ghost use Rattle.serde_json.specs.Find.{get};
+ghost use Rattle.serde_json.specs.View.{view};
+ghost use Rattle.icu_tables.specs.Fields.{said_or};
+ghost use Rattle.icu_tables.specs.NamedRows.{named_row};
+ghost use Rattle.icu_tables.specs.Puts.{map_by, rows_by};
+ghost use Rattle.icu_tables.specs.inner.Members.{GoesOn};
+ghost use Rattle.icu_tables.specs.inner.Reads.{Fills, Puts, Reads};
+ghost use Rattle.icu_tables.specs.Rows.{seen_rows};
+
+use crate::TableError;
+use crate::from_json::objects::MemberReader;
+use crate::from_json::values::FromValue;
+use icu_provider::SortedMap;
+use serde_json::Value;
+use std::alloc::{AllocError, Global};
+use std::cmp::Ord;
+use std::collections::BTreeMap;
+
+// How a member puts its rows into a map.
+pub(crate) trait PutsRows<K: Ord, V> {
+    ghost use Rattle.std.specs.Prelude.{List, ℕ};
+    ghost use Rattle.serde_json.specs.View.{view};
+    ghost use Rattle.icu_tables.specs.inner.Reads.{Puts};
+    ghost use Rattle.icu_tables.specs.Rows.{seen_rows};
+    ghost use Rattle.icu_tables.specs.Shape.{Shape};
+
+    // What a contract sees of what a row holds.
+    ghost Seen: { Type 0 };
+
+    ghost seen: { V → Self.Seen };
+
+    // The rows of a member, by its name and value.
+    ghost says: { Self → List ℕ → Shape (List (K × Self.Seen)) };
+
+    fn put(
+        &self,
+        alloc: Global,
+        name: &str,
+        value: &Value,
+        map: &mut BTreeMap<K, V>,
+    ) -> Result<(), TableError>
+        ensures { Puts K.cmp result
+            (seen_rows Self.seen map.old.entries) (seen_rows Self.seen map.new.entries)
+            (Self.says self.now name.now (view value.now)) };
+}
+
+// Puts the rows of each member.
+pub(crate) fn put_members<K: Ord, V, P: PutsRows<K, V>>(
+    alloc: Global,
+    value: &Value,
+    how: &P,
+    map: &mut BTreeMap<K, V>,
+) -> Result<(), TableError>
+    ensures { Puts K.cmp result
+        (seen_rows P.seen map.old.entries) (seen_rows P.seen map.new.entries)
+        (rows_by (P.says how.now) (view value.now)) }
+{
+    let Some(members) = value.as_object() else {
+        return Err(TableError::Shape);
+    };
+    for (name, member) in members.iter() {
+        how.put(alloc, name.as_str(), member, map)?;
+    }
+    Ok(())
+}
+
+// The rows that a member says, if it is there. No order of the members costs more than a sort.
+pub(crate) fn rows_said<K: Ord + Drop, V: Drop, P: PutsRows<K, V>>(
+    alloc: Global,
+    object: &Value,
+    name: &str,
+    how: &P,
+) -> Result<BTreeMap<K, V>, TableError>
+    ensures { let found = get name.now (view object.now) in
+        Reads (λ rows. seen_rows P.seen rows.entries) result
+        (said_or (Some []) (map_by K.cmp (P.says how.now)) found) }
+{
+    let mut rows = BTreeMap::new(alloc);
+    if let Some(value) = object.get(name) {
+        put_members(alloc, value, how, &mut rows)?;
+    }
+    Ok(rows)
+}
+
+impl<'v> MemberReader<'v> {
+    // Fills a map with the rows of the next member, and with none if it is not there.
+    pub(crate) fn fill_by<K: Ord + Drop, V: Drop, P: PutsRows<K, V>>(
+        mut self,
+        name: &str,
+        how: &P,
+        map: &mut SortedMap<K, V>,
+    ) -> MemberReader<'v>
+        ensures { GoesOn self.entry result (seen_rows P.seen map.new)
+            (λ object. said_or (Some []) (map_by K.cmp (P.says how.now)) (get name.now object)) }
+    {
+        if self.outcome.is_ok() {
+            self.outcome = fill_by(self.alloc, self.object, name, how, map);
+        }
+        self
+    }
+}
+
+// Puts what a member says into a map in place of its rows, and no rows if it is not there.
+fn fill_by<K: Ord + Drop, V: Drop, P: PutsRows<K, V>>(
+    alloc: Global,
+    object: &Value,
+    name: &str,
+    how: &P,
+    map: &mut SortedMap<K, V>,
+) -> Result<(), TableError>
+    ensures { let found = get name.now (view object.now) in
+        Fills result (seen_rows P.seen map.new)
+        (said_or (Some []) (map_by K.cmp (P.says how.now)) found) }
+{
+    let rows = rows_said(alloc, object, name, how)?;
+    *map = in_one_list(alloc, rows)?;
+    Ok(())
+}
+
+// The rows of a map in one list.
+pub(crate) fn in_one_list<K: Ord + Drop, V: Drop>(
+    alloc: Global,
+    map: BTreeMap<K, V>,
+) -> Result<SortedMap<K, V>, AllocError>
+    ensures { IfOk result (λ rows. rows ≡ map.entries) }
+{
+    let mut rows = Vec::with_capacity(alloc, map.len())?;
+    for row in map {
+        rows.push(row)?;
+    }
+    Ok(SortedMap::from_sorted(rows))
+}
+
+// How the names of members are read as keys.
+pub(crate) trait NamesKeys<K> {
+    ghost use Rattle.std.specs.Prelude.{◌≡◌, List, ℕ, Option};
+
+    ghost key: { Self → List ℕ → Option K };
+
+    fn key_named(&self, name: &str) -> Option<K>
+        ensures { result ≡ key self.now name.now };
+}
+
+// Puts one row for each member whose name is a key. Each value has its shape, also where the name is none.
+#[derive(Clone, Copy)]
+pub(crate) struct RowByRow<R> {
+    pub(crate) keys: R,
+}
+
+impl<K: Ord + Drop, V: FromValue, R: NamesKeys<K>> PutsRows<K, V> for RowByRow<R> {
+    ghost Seen = { V.Seen };
+
+    ghost seen = { V.seen };
+
+    ghost says = { λ rows name. named_row (R.key rows.keys name) V.shape };
+
+    fn put(
+        &self,
+        alloc: Global,
+        name: &str,
+        value: &Value,
+        map: &mut BTreeMap<K, V>,
+    ) -> Result<(), TableError> {
+        let held = V::from_value(alloc, value)?;
+        if let Some(key) = self.keys.key_named(name) {
+            let _ = map.insert(key, held)?;
+        }
+        Ok(())
+    }
+}
