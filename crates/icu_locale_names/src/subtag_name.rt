@@ -7,7 +7,7 @@ use crate::DisplayNamesPreferences;
 use crate::chain::first_name;
 use crate::shown::{Shown, Subtag};
 use icu_locale_core::{Region, Script, Variant};
-use icu_provider::{DataError, DataProvider, NameKey, NameMarker};
+use icu_provider::{DataError, DataErrorKind, DataProvider, NameKey, NameMarker};
 use std::fmt;
 use std::marker::{Model, PhantomData};
 
@@ -79,10 +79,14 @@ impl<'d, S: Named> SubtagName<'d, S> {
         ensures { result ≡ name_by (P.name provider.now) preferences.locale
             (S.key subtag) chain.now }
     {
-        let name = first_name(provider, chain, &preferences.locale, &subtag.key())?;
-        Ok(SubtagName {
-            shown: Shown::Name(name),
-        })
+        match first_name(provider, chain, &preferences.locale, &subtag.key())? {
+            Some(name) => Ok(SubtagName {
+                shown: Shown::Name(name),
+            }),
+            None => Err(DataError {
+                kind: DataErrorKind::IdentifierNotFound,
+            }),
+        }
     }
 
     // The first name of a chain, or the subtag.

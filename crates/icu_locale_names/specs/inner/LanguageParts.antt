@@ -1,26 +1,23 @@
 -- The parts of a name of an identifier, as the code has them.
-use Rattle.std.specs.Prelude.{◌≡◌, ◌⊎◌, ℕ, Bool, if◌then◌else◌, IsTrue, List, [], ◌∷◌, ◌++◌, map, None, Result, Err}
+use Rattle.std.specs.Prelude.{◌≡◌, ◌⊎◌, ℕ, Bool, if◌then◌else◌, IsTrue, List, [], ◌∷◌, map, None, Result, Err}
 use Rattle.icu_locale_core.specs.declared.langid.LanguageIdentifier.{LanguageIdentifier}
-use Rattle.icu_provider.specs.Names.{part_of}
 use Rattle.icu_provider.specs.declared.data_locale.DataLocale.{DataLocale}
 use Rattle.icu_provider.specs.declared.error.DataError.{DataError}
 use Rattle.icu_provider.specs.declared.error.DataErrorKind.TheVariants.{Memory}
-use Rattle.icu_provider.specs.declared.essentials.PatternItem.{PatternItem}
 use Rattle.icu_provider.specs.declared.names.NameKey.{NameKey}
 use Rattle.icu_provider.specs.declared.names.NameKey.TheVariants.{Language}
 use Rattle.icu_provider.specs.declared.names.NameMarker.{NameMarker}
 use Rattle.icu_locale_names.specs.Chains.{or_next, first_hit, made_of, if_missing}
 use Rattle.icu_locale_names.specs.LanguageChains.{LanguageChain}
-use Rattle.icu_locale_names.specs.LanguageNames.{NameParts, Base, Head, KeyParts, glued, menu_base, text_base, raw_base, are_many}
+use Rattle.icu_locale_names.specs.LanguageNames.{Base, KeyParts, menu_base, text_base, raw_base, are_many}
 use Rattle.icu_locale_names.specs.Names.{Answers, MenuAnswers, name_by, menu_by}
 use Rattle.icu_locale_names.specs.Pieces.{Piece, plain, raw_subtag}
 use Rattle.icu_locale_names.specs.declared.language.base.Base as code
 use Rattle.icu_locale_names.specs.declared.name_chain.Chains.{Chains}
-use Rattle.icu_locale_names.specs.declared.language.parts.Parts.{Parts}
 use Rattle.icu_locale_names.specs.declared.language.variants.VariantNames.{VariantNames}
 use Rattle.icu_locale_names.specs.declared.language.variants.VariantNames.TheVariants as variants
 use Rattle.icu_locale_names.specs.declared.shown.Shown.{Shown}
-use Rattle.icu_locale_names.specs.Shown.{piece_of, shown_pieces, text_pieces}
+use Rattle.icu_locale_names.specs.Shown.{piece_of, text_pieces}
 
 -- the chains that a constant lends
 abbrev pub chains_of : Chains → LanguageChain
@@ -63,18 +60,13 @@ abbrev pub keys_asked : Answers → DataLocale → List NameMarker → LanguageI
 keys_asked name locale chain x keys =
     first_hit (λ has. key_asked name locale chain x (key_with x has)) keys
 
--- what the menus answer, and then the texts
-abbrev pub first_asked : Answers → MenuAnswers → DataLocale → LanguageChain → LanguageIdentifier
-    → List (Bool × Bool) → Result Base DataError
-first_asked name menu locale chain x keys =
-    or_next (made_of (menu_base x) (menu_by menu locale x.language chain.menu))
-    (keys_asked name locale chain.text x keys)
-
--- what they answer, or the raw language
+-- what the menus answer, and then the texts, or the raw language
 abbrev pub base_asked : Answers → MenuAnswers → DataLocale → LanguageChain → LanguageIdentifier
     → List (Bool × Bool) → Result Base DataError
 base_asked name menu locale chain x keys =
-    if_missing (raw_base x) (first_asked name menu locale chain x keys)
+    if_missing (raw_base x)
+    (or_next (made_of (menu_base x) (menu_by menu locale x.language chain.menu))
+    (keys_asked name locale chain.text x keys))
 
 -- the names of variants
 abbrev pub variant_list : VariantNames → List (Shown (List ℕ))

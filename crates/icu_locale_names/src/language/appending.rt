@@ -6,9 +6,10 @@ ghost use Rattle.icu_locale_names.specs.LanguageNames.{joined};
 ghost use Rattle.icu_locale_names.specs.LentNames.{pieces_of};
 ghost use Rattle.icu_locale_names.specs.inner.Appended.{AddsPieces, IsGrown, Joins, filled_in, qualifiers_of};
 ghost use Rattle.icu_locale_names.specs.Shown.{piece_of, lent_piece, lent_pieces};
+ghost use Rattle.icu_locale_names.specs.Walk.{qualifier_pieces};
 
-use crate::language::LanguageIdentifierDisplayNameBorrowed;
-use crate::shown::{LentPiece, Shown, lend_if_any, plain_if_any};
+use crate::language::{LanguageIdentifierDisplayNameBorrowed, Qualifiers};
+use crate::shown::{LentPiece, Shown};
 use icu_locale_core::Variant;
 use icu_provider::PatternItem;
 use std::alloc::AllocError;
@@ -81,29 +82,28 @@ fn append_item(
             Ok(false)
         }
         PatternItem::First => append_piece(name.parts.base.lend(), text),
-        PatternItem::Second => append_qualifiers(name, text),
+        PatternItem::Second => append_qualifiers(&name.qualifiers(), name.separator, text),
     }
 }
 
-// The qualifiers, with the separator between each two.
+// Qualifiers, with the separator between each two.
 fn append_qualifiers(
-    name: &LanguageIdentifierDisplayNameBorrowed<'_>,
+    qualifiers: &Qualifiers<'_>,
+    separator: &str,
     text: &mut Vec<u8>,
 ) -> Result<bool, AllocError>
     ensures added { IfOk result (AddsPieces
-        (joined name.now.separator.now (qualifiers_of name.now)) text.old.items text.new.items) }
+        (joined separator.now (qualifier_pieces qualifiers.now)) text.old.items text.new.items) }
     ensures part { OnErr result (IsGrown text.old.items text.new.items) }
 {
     let none = Joined {
         is_any: false,
         is_raw: false,
     };
-    let separator = name.separator;
-    let parts = name.parts;
-    let extension = append_if_any(text, separator, plain_if_any(parts.extension), none)?;
-    let script = append_if_any(text, separator, lend_if_any(&parts.script), extension)?;
-    let region = append_if_any(text, separator, lend_if_any(&parts.region), script)?;
-    let all = append_each(text, separator, name.variants, region)?;
+    let extension = append_if_any(text, separator, qualifiers.extension, none)?;
+    let script = append_if_any(text, separator, qualifiers.script, extension)?;
+    let region = append_if_any(text, separator, qualifiers.region, script)?;
+    let all = append_each(text, separator, qualifiers.variants, region)?;
     Ok(all.is_raw)
 }
 

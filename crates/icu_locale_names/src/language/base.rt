@@ -1,18 +1,18 @@
 //! The base of a name.
-ghost use Rattle.std.specs.Prelude.{◌≡◌, map, if◌then◌else◌, None};
-ghost use Rattle.icu_locale_names.specs.Chains.{made_of};
+ghost use Rattle.std.specs.Prelude.{◌≡◌, map, if◌then◌else◌, false, None, IfErr};
+ghost use Rattle.icu_locale_names.specs.Chains.{is_missing, made_of};
 ghost use Rattle.icu_locale_names.specs.LanguageNames.{in_locale, base_of, keys_of, asks_dialects, menu_base, raw_base, unless_empty};
-ghost use Rattle.icu_locale_names.specs.inner.LanguageParts.{chains_of, shown_base, key_with, key_asked, keys_asked, first_asked, base_asked};
+ghost use Rattle.icu_locale_names.specs.inner.Found.{or_missing};
+ghost use Rattle.icu_locale_names.specs.inner.LanguageParts.{chains_of, shown_base, key_with, key_asked, keys_asked, base_asked};
 ghost use Rattle.icu_locale_names.specs.Shown.{text_pieces};
 
 use crate::LanguageDisplay;
-use crate::chain::{first_menu, first_name, is_missing};
+use crate::chain::{first_menu, first_name};
 use crate::name_chain::Chains;
 use crate::shown::Shown;
 use icu_locale_core::{Language, LanguageIdentifier, Region, Script};
 use icu_provider::{
-    DataError, DataErrorKind, DataLocale, DataProvider, MenuMarker, MenuNameParts, NameKey,
-    NameMarker,
+    DataError, DataLocale, DataProvider, MenuMarker, MenuNameParts, NameKey, NameMarker,
 };
 
 // The base of a name, its extension, and the subtags that are left to qualifiers.
@@ -67,7 +67,7 @@ fn asks_dialects(menu: &[MenuMarker], display: LanguageDisplay) -> bool
     menu.is_empty() && matches!(display, LanguageDisplay::Dialect)
 }
 
-// The base by these keys, or the raw language.
+// The base by the menus, and then by these keys; or the raw language.
 fn base_at<'d, P: DataProvider>(
     provider: &'d P,
     chains: &Chains<'_>,
@@ -78,86 +78,63 @@ fn base_at<'d, P: DataProvider>(
     ensures { made_of shown_base result ≡ base_asked (P.name provider.now) (P.menu provider.now)
         locale.now (chains_of chains.now) subject.now keys.now }
 {
-    match first_base(provider, chains, locale, subject, keys) {
-        Ok(base) => return Ok(base),
-        Err(refusal) => {
-            if !is_missing(refusal) {
-                return Err(refusal);
-            }
-        }
+    if let Some(name) = first_menu(provider, chains.menu, locale, &subject.language)? {
+        return Ok(menu_base(name, subject));
     }
-    Ok(raw_base(subject))
+    match base_by_keys(provider, chains.text, locale, subject, keys) {
+        Ok(Some(base)) => Ok(base),
+        Ok(None) => Ok(raw_base(subject)),
+        Err(refusal) => Err(refusal),
+    }
 }
 
-// The base by the menus, and then by these keys.
-fn first_base<'d, P: DataProvider>(
-    provider: &'d P,
-    chains: &Chains<'_>,
-    locale: &DataLocale,
-    subject: &LanguageIdentifier,
-    keys: &[(bool, bool)],
-) -> Result<Base<'d>, DataError>
-    ensures { made_of shown_base result ≡ first_asked (P.name provider.now) (P.menu provider.now)
-        locale.now (chains_of chains.now) subject.now keys.now }
-{
-    match first_menu(provider, chains.menu, locale, &subject.language) {
-        Ok(name) => return Ok(menu_base(name, subject)),
-        Err(refusal) => {
-            if !is_missing(refusal) {
-                return Err(refusal);
-            }
-        }
-    }
-    base_by_keys(provider, chains.text, locale, subject, keys)
-}
-
-// The base by the first of these keys that the chain names.
+// The base by the first of these keys that the chain names, if any.
 fn base_by_keys<'d, P: DataProvider>(
     provider: &'d P,
     chain: &[NameMarker],
     locale: &DataLocale,
     subject: &LanguageIdentifier,
     keys: &[(bool, bool)],
-) -> Result<Base<'d>, DataError>
-    ensures { made_of shown_base result ≡ keys_asked (P.name provider.now) locale.now chain.now
-        subject.now keys.now }
+) -> Result<Option<Base<'d>>, DataError>
+    ensures found { made_of shown_base (or_missing result)
+        ≡ keys_asked (P.name provider.now) locale.now chain.now subject.now keys.now }
+    ensures refused { IfErr result (λ e. is_missing e.kind ≡ false) }
 {
     for key in keys {
         match base_by_key(provider, chain, locale, subject, key) {
-            Ok(base) => return Ok(base),
-            Err(refusal) => {
-                if !is_missing(refusal) {
-                    return Err(refusal);
-                }
-            }
+            Ok(Some(base)) => return Ok(Some(base)),
+            Ok(None) => {}
+            Err(refusal) => return Err(refusal),
         }
     }
-    Err(DataError {
-        kind: DataErrorKind::IdentifierNotFound,
-    })
+    Ok(None)
 }
 
-// The base by a key that the chain names.
+// The base by a key, if the chain names it.
 fn base_by_key<'d, P: DataProvider>(
     provider: &'d P,
     chain: &[NameMarker],
     locale: &DataLocale,
     subject: &LanguageIdentifier,
     key: &(bool, bool),
-) -> Result<Base<'d>, DataError>
-    ensures { made_of shown_base result ≡ key_asked (P.name provider.now) locale.now chain.now
-        subject.now (key_with subject.now key.now) }
+) -> Result<Option<Base<'d>>, DataError>
+    ensures found { made_of shown_base (or_missing result)
+        ≡ key_asked (P.name provider.now) locale.now chain.now subject.now
+        (key_with subject.now key.now) }
+    ensures refused { IfErr result (λ e. is_missing e.kind ≡ false) }
 {
     let script = kept(subject.script, key.0);
     let region = kept(subject.region, key.1);
     let asked = NameKey::Language(subject.language, script, region);
-    let name = first_name(provider, chain, locale, &asked)?;
-    Ok(Base {
+    let Some(name) = first_name(provider, chain, locale, &asked)? else {
+        return Ok(None);
+    };
+    Ok(Some(Base {
         shown: Shown::Name(name),
         extension: None,
         script: kept(subject.script, !key.0),
         region: kept(subject.region, !key.1),
-    })
+    }))
 }
 
 // A subtag where a key has it.

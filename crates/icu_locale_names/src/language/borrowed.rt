@@ -13,7 +13,7 @@ use crate::language::appending::append_name;
 use crate::language::parts::Parts;
 use crate::language::walk::{PieceWalk, Qualifiers};
 use crate::language::writing::{format_pieces, measured, spans_of, write_pieces};
-use crate::shown::{LentPiece, Shown, lend_if_any, plain_if_any};
+use crate::shown::{LentPiece, Shown};
 use icu_locale_core::Variant;
 use icu_provider::PatternItem;
 use std::{fmt, io};
@@ -135,16 +135,11 @@ impl<'a> LanguageIdentifierDisplayNameBorrowed<'a> {
     }
 
     /// The qualifiers in order.
+    #[inline]
     pub fn qualifiers(&self) -> Qualifiers<'_>
         ensures { qualifier_pieces result ≡ (parts_of self.now).qualifiers }
     {
-        let parts = self.parts;
-        Qualifiers {
-            extension: plain_if_any(parts.extension),
-            script: lend_if_any(&parts.script),
-            region: lend_if_any(&parts.region),
-            variants: self.variants,
-        }
+        Qualifiers::of(self.parts, self.variants)
     }
 
     /// How the base and the qualifiers are put together.

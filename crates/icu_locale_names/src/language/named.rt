@@ -5,7 +5,7 @@ ghost use Rattle.icu_locale_names.specs.Chains.{made_of, answer_all};
 ghost use Rattle.icu_locale_names.specs.inner.LanguageParts.{name_asked};
 ghost use Rattle.icu_locale_names.specs.Shown.{piece_by, pieces_if_any};
 
-use crate::chain::{first_name, is_missing};
+use crate::chain::first_name;
 use crate::shown::Shown;
 use crate::subtag_name::Named;
 use icu_provider::{DataError, DataLocale, DataProvider, NameMarker};
@@ -20,15 +20,10 @@ pub fn name_or_raw<'d, P: DataProvider, S: Named>(
     ensures { made_of (piece_by S.text) result
         ≡ name_asked (P.name provider.now) locale.now S.text S.key chain.now subtag }
 {
-    match first_name(provider, chain, locale, &subtag.key()) {
-        Ok(name) => return Ok(Shown::Name(name)),
-        Err(refusal) => {
-            if !is_missing(refusal) {
-                return Err(refusal);
-            }
-        }
+    match first_name(provider, chain, locale, &subtag.key())? {
+        Some(name) => Ok(Shown::Name(name)),
+        None => Ok(Shown::Raw(subtag)),
     }
-    Ok(Shown::Raw(subtag))
 }
 
 // The name of a subtag, if there is one that is left to a qualifier.

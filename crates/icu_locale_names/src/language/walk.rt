@@ -1,8 +1,8 @@
 //! A walk through the pieces of a name.
-ghost use Rattle.std.specs.Prelude.{◌≡◌, ◌∷◌, [], map, MatchOption};
+ghost use Rattle.std.specs.Prelude.{◌≡◌, ◌∷◌, ◌++◌, [], map, MatchOption};
 ghost use Rattle.std.specs.Iterator.{YieldsFirstBy, item_count};
 ghost use Rattle.icu_locale_names.specs.LanguageNames.{pieces_by_parts};
-ghost use Rattle.icu_locale_names.specs.LentNames.{parts_by};
+ghost use Rattle.icu_locale_names.specs.LentNames.{parts_by, shown_head};
 ghost use Rattle.icu_locale_names.specs.Shown.{piece_of, lent_piece, lent_pieces};
 ghost use Rattle.icu_locale_names.specs.Walk.{qualifier_pieces, pieces_from_script, pieces_from_region, pieces_of_items, pieces_left, pieces_not_ready};
 
@@ -31,6 +31,20 @@ impl<'a> Qualifiers<'a> {
             script: None,
             region: None,
             variants: &[],
+        }
+    }
+
+    // The qualifiers of these parts, with these variants behind them.
+    #[inline(always)]
+    pub(super) fn of(parts: &'a Parts<'a>, variants: &'a [Shown<'a, Variant>]) -> Self
+        ensures { qualifier_pieces result
+            ≡ (shown_head parts.now).qualifiers ++ map piece_of variants.now }
+    {
+        Qualifiers {
+            extension: plain_if_any(parts.extension),
+            script: lend_if_any(&parts.script),
+            region: lend_if_any(&parts.region),
+            variants,
         }
     }
 
@@ -157,12 +171,7 @@ impl<'a> PieceWalk<'a> {
             ≡ pieces_by_parts (parts_by parts.now variants.now pattern.now separator.now) }
     {
         let base = parts.base.lend();
-        let qualifiers = Qualifiers {
-            extension: plain_if_any(parts.extension),
-            script: lend_if_any(&parts.script),
-            region: lend_if_any(&parts.region),
-            variants,
-        };
+        let qualifiers = Qualifiers::of(parts, variants);
         match qualifiers.split_first() {
             None => PieceWalk {
                 frame: Frame {

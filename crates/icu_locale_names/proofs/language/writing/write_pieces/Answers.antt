@@ -1,8 +1,9 @@
 use Rattle.std.proofs.Common.{◌≡◌, subst}
 use Rattle.std.proofs.lemmas.Result.{err_from_is_err_and}
 use Rattle.icu_locale_names.specs.LentNames.{pieces_of}
-use Rattle.icu_locale_names.specs.Pieces.{text_of, AppendsPart}
 use Rattle.std.specs.Io.KnownBytes.{Appends}
+use Rattle.icu_locale_core.specs.Sinks.{AppendsPart}
+use Rattle.icu_locale_names.specs.Pieces.{text_of}
 use Rattle.icu_locale_names.specs.Shown.{lent_piece}
 use Rattle.icu_locale_names.specs.Walk.{pieces_left}
 use Rattle.icu_locale_names.proofs.PieceWrites.{Written, Written-none, Written-more, Written-all, AppendsPart-behind}
