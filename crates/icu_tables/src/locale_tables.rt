@@ -1,5 +1,5 @@
-//! Tables with the names of one locale found beforehand.
-ghost use Rattle.std.specs.Prelude.{◌≡◌};
+//! Tables with what names are made of in one locale found beforehand.
+ghost use Rattle.std.specs.Prelude.{◌≡◌, option_copied};
 ghost use Rattle.icu_locale_core.specs.Maps.{value_at};
 ghost use Rattle.icu_provider.specs.Requests.{exemplar_cmp, locale_cmp, menu_cmp};
 ghost use Rattle.icu_tables.specs.Tables.{held, name_in};
@@ -8,19 +8,25 @@ use crate::kinds::is_of_kind;
 use crate::tables::NOT_FOUND;
 use crate::{LocaleNames, Tables};
 use icu_locale_core::Language;
+use icu_provider::laws::equality_is_told;
 use icu_provider::{
     Aliases, DataError, DataLocale, DataProvider, ExemplarCharactersData, ExemplarMarker,
     LikelySubtagsExtended, LikelySubtagsForLanguage, LikelySubtagsForScriptRegion,
     LocaleNamesEssentials, MenuMarker, MenuNameParts, NameKey, NameMarker, ScriptDirection,
 };
 
-/// Tables whose names are asked in one locale again and again. They answer as the tables do. No call takes memory.
+/// Tables whose names are asked in one locale again and again: the names of that locale, and how their parts are put
+/// together, are found once. They answer as the tables do. No call takes memory.
 #[derive(Debug, Drop)]
 pub struct LocaleTables<'d> {
     /// The tables.
     pub tables: &'d Tables,
     /// Their names.
     pub names: LocaleNames<'d>,
+    locale: DataLocale,
+    // How the parts of names are put together in that locale, if the tables say so.
+    essentials: Option<&'d LocaleNamesEssentials>,
+    ghost found: { option_copied essentials ≡ value_at locale_cmp tables.now.essentials locale },
 }
 
 impl<'d> LocaleTables<'d> {
@@ -32,6 +38,8 @@ impl<'d> LocaleTables<'d> {
         LocaleTables {
             tables,
             names: tables.names.in_locale(locale),
+            locale,
+            essentials: tables.essentials.get(&locale),
         }
     }
 }
@@ -111,6 +119,11 @@ impl<'d> DataProvider for LocaleTables<'d> {
     }
 
     fn load_essentials(&self, locale: DataLocale) -> Result<&LocaleNamesEssentials, DataError> {
-        self.tables.load_essentials(locale)
+        equality_is_told();
+        if locale == self.locale {
+            self.essentials.ok_or(NOT_FOUND)
+        } else {
+            self.tables.load_essentials(locale)
+        }
     }
 }
