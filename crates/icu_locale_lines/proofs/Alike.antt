@@ -8,11 +8,10 @@ use Rattle.icu_locale_core.specs.Identifier as core
 use Rattle.icu_locale_core.specs.TextSet.{rising}
 use Rattle.icu_locale_core.specs.declared.langid.LanguageIdentifier.{LanguageIdentifier}
 use Rattle.icu_locale_core.specs.declared.locale.Locale.{Locale}
-use Rattle.icu_locale_core.specs.declared.parse_error.ParseError.{ParseError}
 use Rattle.icu_locale_extensions.specs.Locales.{IsLocaleIdentifier}
 use Rattle.icu_locale_extensions.specs.Locales as whole
 use Rattle.icu_locale_extensions.specs.Reads.{bare}
-use Rattle.icu_locale_extensions.specs.Syntaxes.{SpellsBy, IsFaultBy}
+use Rattle.icu_locale_extensions.specs.Syntaxes.{SpellsBy}
 use Rattle.icu_locale_extensions.specs.declared.identifier.LocaleIdentifier.{LocaleIdentifier}
 use Rattle.icu_locale_extensions.specs.declared.syntax.Syntax.{Syntax}
 use Rattle.icu_locale.specs.Canonical.{IsCanonical, answer_of, is_applied, put_optional, rg, sd, without_extensions}
@@ -40,16 +39,16 @@ use Rattle.icu_locale_names.specs.declared.options.LanguageDisplay.TheVariants.{
 use Rattle.icu_provider.specs.declared.extension_names.ExtensionNames.{ExtensionNames}
 use Rattle.std.specs.Borrow.{Bor}
 use Rattle.icu_locale_lines.specs.Chains.{IsChained}
-use Rattle.icu_locale_lines.specs.Lists.{IsListedAnswer, IsNegotiatedLine, SpellsAll, listed}
+use Rattle.icu_locale_lines.specs.Lists.{IsListedAnswer, IsNegotiatedLine, SpellsAll, SpellsIn, SpellsWhole, listed}
 use Rattle.icu_locale_lines.specs.Serving.{IsNearestLine, IsDistanceLine}
 use Rattle.icu_locale_lines.specs.declared.command.Wishes.TheVariants.{Header, Requests}
-use Rattle.icu_locale_lines.specs.Locales.{is_tab, SpellsLocale}
+use Rattle.icu_locale_lines.specs.Locales.{is_tab}
 use Rattle.icu_locale_lines.specs.Texts.{canonical_line, transformed_line, whole_line, mark}
 use Rattle.icu_locale_lines.specs.declared.work.form.Transform.{Transform}
 use Rattle.icu_locale_lines.specs.declared.work.Tools.{Tools}
 use Rattle.icu_locale_lines.specs.declared.work.Tools.TheVariants as tools
 use Rattle.icu_locale_lines.proofs.LineAnswers.{spelled_alone}
-use Rattle.icu_locale_lines.proofs.OneAnswer.{not_refused, no_locale_fault, locale_one, all_one, no_fault}
+use Rattle.icu_locale_lines.proofs.Readings.{SpellingFacts, read_alike, alone_once, whole_once, listed_once, locale_once}
 
 -- ---- how an identifier is written
 
@@ -126,42 +125,29 @@ module _ (one : HasOneForm) (by : WholeRules) (x : LanguageIdentifier) (text : L
 
 -- the facts of locale identifiers that are cited
 pub record SyntaxFacts : Type 0 where
-  pub alone : (t : List ℕ) (x y : LanguageIdentifier) → IsIdentifier x → IsIdentifier y → Spells t x → Spells t y → x ≡ y
-  pub once : (s : Syntax) (t : List ℕ) (x y : LocaleIdentifier) → IsLocaleIdentifier x → IsLocaleIdentifier y → SpellsBy s t x → SpellsBy s t y → x ≡ y
-  pub nothing : (s : Syntax) (t : List ℕ) (e : ParseError) (x : LocaleIdentifier) → IsFaultBy s t e → IsLocaleIdentifier x → ¬ (SpellsBy s t x)
+  pub spelling : SpellingFacts
   pub known : (x : LanguageIdentifier) → IsIdentifier x → IsLocaleIdentifier (bare x)
   pub alike : (s : Syntax) (t : List ℕ) (x : LanguageIdentifier) → IsIdentifier x → Spells t x → SpellsBy s t (bare x)
   pub one : HasOneForm
   pub kept : (answers : LocaleAnswers) (chain : LanguageChain) (display : LanguageDisplay) (names : ExtensionNames) (x : LanguageIdentifier)
       → full_name_of answers chain display names (bare x) ≡ name_of answers chain display x
 
-module _ (facts : SyntaxFacts) (s : Syntax) (line text : List ℕ) (a : Bool) where
-  module _ (x : LanguageIdentifier) (is : IsIdentifier x) (spells : Spells line x) where
-    the_bare : (w : LocaleIdentifier) → IsLocaleIdentifier w → SpellsBy s line w → w ≡ bare x
-    the_bare w known also = facts.once s line w (bare x) known (facts.known x is) also (facts.alike s line x is spells)
+-- the name of a locale identifier without extensions
+asked_alike : SyntaxFacts → (n : Naming) (extensions : Option (Bor ExtensionNames)) (x : LanguageIdentifier) → name_asked_with n extensions (bare x) ≡ name_asked n x
+asked_alike facts n None x = refl
+asked_alike facts n (Some names) x = facts.kept (answers_in n.tables n.preferences.locale) (chain_of n.chain) Dialect names.now x
 
-    no_whole_fault : (e : ParseError) → IsFaultBy s line e → ⊥
-    no_whole_fault e fault = facts.nothing s line e (bare x) fault (facts.known x is) (facts.alike s line x is spells)
+module _ (facts : SyntaxFacts) (s : Syntax) (line text : List ℕ) (a : Bool) where
+  module _ (x : LanguageIdentifier) (spells : SpellsIn None line x) where
+    spells_bare : SpellsWhole s line (bare x)
+    spells_bare = (facts.known x spells.0, facts.alike s line x spells.0 spells.1)
 
     -- an answer that is the same for the identifier and the bare locale identifier
     pub each_alike : (IsWhole : LocaleIdentifier → List ℕ → Bool → Type 0) (IsLine : LanguageIdentifier → List ℕ → Bool → Type 0)
         → IsWhole (bare x) text a ↔ IsLine x text a
         → IsSpelledAnswer s IsWhole line text a ↔ IsIdentifierAnswer IsLine line text a
-    each_alike IsWhole IsLine both = (forth, back)
-      where
-        forth : IsSpelledAnswer s IsWhole line text a → IsIdentifierAnswer IsLine line text a
-        forth (inl h) = inl (x, is, spells, both.0 (subst (λ w. IsWhole w text a) (the_bare h.0 h.1 h.2) h.3))
-        forth (inr h) = absurd (no_whole_fault h.0 h.1)
-
-        back : IsIdentifierAnswer IsLine line text a → IsSpelledAnswer s IsWhole line text a
-        back (inl h) = inl (
-          bare x,
-          facts.known x is,
-          facts.alike s line x is spells,
-          both.1
-              (subst (λ y. IsLine y text a) (facts.alone line h.0 x h.1 is h.2 spells) h.3),
-        )
-        back (inr h) = absurd (not_refused line x h.0 is spells h.1)
+    each_alike IsWhole IsLine both =
+        read_alike (whole_once facts.spelling s) (alone_once facts.spelling) IsWhole IsLine line text a (bare x) x spells_bare spells both
 
     pub transformed_alike : (form : Transform) (table : LikelySubtags) → IsWholeTransformed form table (bare x) text a ↔ IsTransformed form table x text a
     transformed_alike form table = (
@@ -169,82 +155,41 @@ module _ (facts : SyntaxFacts) (s : Syntax) (line text : List ℕ) (a : Bool) wh
       λ h. (h.0, h.1, h.2, h.3 ∙ sym (line_bare h.0 h.1), h.4),
     )
 
-    asked_alike : (n : Naming) (extensions : Option (Bor ExtensionNames)) → name_asked_with n extensions (bare x) ≡ name_asked n x
-    asked_alike n None = refl
-    asked_alike n (Some names) = facts.kept (answers_in n.tables n.preferences.locale) (chain_of n.chain) Dialect names.now x
-
     pub named_alike : (n : Naming) → IsWholeNamed n (bare x) text a ↔ IsNamed n x text a
     named_alike n =
-        let same = asked_alike n n.extensions in
+        let same = asked_alike facts n n.extensions x in
         (subst (λ name. IsNamedLine name text a) same, subst (λ name. IsNamedLine name text a) (sym same))
 
     pub canonical_answers_alike : (by : WholeRules) → position is_tab line ≡ None
         → IsSpelledAnswer s (IsWholeCanonicalized by) line text a ↔ IsLocaleAnswer by.likely by.rules line text a
-    canonical_answers_alike by none = (forth, back)
-      where
-        here : SpellsLocale line (without_extensions x)
-        here = spelled_alone line x none (is, spells)
-
-        forth : IsSpelledAnswer s (IsWholeCanonicalized by) line text a → IsLocaleAnswer by.likely by.rules line text a
-        forth (inl h) = inl (
-          without_extensions x,
-          here,
-          to_canonical facts.one by x text a
-              (subst (λ w. IsWholeCanonicalized by w text a) (the_bare h.0 h.1 h.2) h.3),
-        )
-        forth (inr h) = absurd (no_whole_fault h.0 h.1)
-
-        back : IsLocaleAnswer by.likely by.rules line text a → IsSpelledAnswer s (IsWholeCanonicalized by) line text a
-        back (inl h) = inl (
-          bare x,
-          facts.known x is,
-          facts.alike s line x is spells,
-          from_canonical facts.one by x text a (subst (λ l. IsCanonicalized by.likely by.rules l text a)
-              (locale_one facts.alone line h.0 (without_extensions x) h.1 here) h.2),
-        )
-        back (inr h) = absurd (no_locale_fault facts.alone line (without_extensions x) h.0 here h.1)
+    canonical_answers_alike by none =
+        read_alike (whole_once facts.spelling s) (locale_once facts.spelling) (IsWholeCanonicalized by) (IsCanonicalized by.likely by.rules)
+        line text a (bare x) (without_extensions x) spells_bare (spelled_alone line x none spells)
+        (to_canonical facts.one by x text a, from_canonical facts.one by x text a)
 
   -- a list of identifiers is one in each syntax
-  in_syntax : (texts : List (List ℕ)) (xs : List LanguageIdentifier) → SpellsAll None texts xs → SpellsAll (Some s) texts xs
+  pub in_syntax : (texts : List (List ℕ)) (xs : List LanguageIdentifier) → SpellsAll None texts xs → SpellsAll (Some s) texts xs
   in_syntax [] [] each = tt
   in_syntax [] (x ∷ xs) each = absurd each
   in_syntax (t ∷ ts) [] each = absurd each
   in_syntax (t ∷ ts) (x ∷ xs) each =
       ((bare x, facts.known x each.0.0, facts.alike s t x each.0.0 each.0.1, refl), in_syntax ts xs each.1)
 
-  lists_alike : (IsLine : List LanguageIdentifier → List ℕ → Bool → Type 0) (xs : List LanguageIdentifier) → SpellsAll None (listed line) xs
+  pub lists_alike : (IsLine : List LanguageIdentifier → List ℕ → Bool → Type 0) (xs : List LanguageIdentifier) → SpellsAll None (listed line) xs
       → IsListedAnswer (Some s) IsLine line text a ↔ IsListedAnswer None IsLine line text a
-  lists_alike IsLine xs each = (forth, back)
-    where
-      also : SpellsAll (Some s) (listed line) xs
-      also = in_syntax (listed line) xs each
-
-      forth : IsListedAnswer (Some s) IsLine line text a → IsListedAnswer None IsLine line text a
-      forth (inl h) = inl (
-        xs,
-        each,
-        subst (λ ys. IsLine ys text a) (all_one facts.alone facts.once facts.nothing (Some s) (listed line) h.0 xs h.1 also) h.2,
-      )
-      forth (inr h) = let f = h.1 in absurd (no_fault facts.alone facts.once facts.nothing (Some s) f.earlier f.text f.later h.0 xs
-          (subst (λ ts. SpellsAll (Some s) ts xs) f.parted also) f.refused)
-
-      back : IsListedAnswer None IsLine line text a → IsListedAnswer (Some s) IsLine line text a
-      back (inl h) = inl (
-        xs,
-        also,
-        subst (λ ys. IsLine ys text a) (all_one facts.alone facts.once facts.nothing None (listed line) h.0 xs h.1 each) h.2,
-      )
-      back (inr h) = let f = h.1 in absurd (no_fault facts.alone facts.once facts.nothing None f.earlier f.text f.later h.0 xs
-          (subst (λ ts. SpellsAll None ts xs) f.parted each) f.refused)
+  lists_alike IsLine xs each = read_alike (listed_once facts.spelling (Some s)) (listed_once facts.spelling None) IsLine IsLine line text a xs xs
+      (in_syntax (listed line) xs each) each (λ h. h, λ h. h)
 
   pub answers_alike : (work : Tools) → HoldsIdentifiers work line → IsAnswerBy (Some s) work line text a ↔ IsAnswerBy None work line text a
-  answers_alike (tools.Transform form e) (none, x, is, spells) =
-      each_alike x is spells (IsWholeTransformed form (likely e)) (IsTransformed form (likely e)) (transformed_alike x is spells form (likely e))
-  answers_alike (tools.Canonicalize c) (none, x, is, spells) = canonical_answers_alike x is spells (rules_of c) none
-  answers_alike (tools.Direction d) (none, x, is, spells) = each_alike x is spells (λ w. IsDirected d w.locale.id) (IsDirected d) (λ h. h, λ h. h)
+  answers_alike (tools.Transform form e) (none, x, is, spells) = each_alike x (is, spells) (IsWholeTransformed form (likely e))
+      (IsTransformed form (likely e)) (transformed_alike x (is, spells) form (likely e))
+  answers_alike (tools.Canonicalize c) (none, x, is, spells) = canonical_answers_alike x (is, spells) (rules_of c) none
+  answers_alike (tools.Direction d) (none, x, is, spells) =
+      each_alike x (is, spells) (λ w. IsDirected d w.locale.id) (IsDirected d) (λ h. h, λ h. h)
   answers_alike (tools.Negotiate n o) (xs, each) = lists_alike (IsNegotiatedLine n o.wholes.items) xs each
   answers_alike (tools.Serve Header t o) holds = (λ h. h, λ h. h)
   answers_alike (tools.Serve Requests t o) (xs, each) = lists_alike (IsNearestLine t o.wholes.items) xs each
   answers_alike (tools.Distance d) (xs, each) = lists_alike (IsDistanceLine d.matching.now (likely d.expander)) xs each
-  answers_alike (tools.Name n) (none, x, is, spells) = each_alike x is spells (IsWholeNamed n) (IsNamed n) (named_alike x is spells n)
-  answers_alike (tools.Fallback f) (none, x, is, spells) = each_alike x is spells (λ w. IsChained f w.locale.id) (IsChained f) (λ h. h, λ h. h)
+  answers_alike (tools.Name n) (none, x, is, spells) = each_alike x (is, spells) (IsWholeNamed n) (IsNamed n) (named_alike x (is, spells) n)
+  answers_alike (tools.Fallback f) (none, x, is, spells) =
+      each_alike x (is, spells) (λ w. IsChained f w.locale.id) (IsChained f) (λ h. h, λ h. h)

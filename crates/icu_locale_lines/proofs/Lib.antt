@@ -16,6 +16,7 @@ mod OneAnswer
 mod PartEnds
 mod PlainLines
 mod Progress
+mod Readings
 mod RunEnds
 mod StreamEnds
 mod Streaming

@@ -82,8 +82,8 @@ module _ (IsLine : LanguageIdentifier → List ℕ → Bool → Type 0) (line : 
   -- the line of the identifier that a line spells
   pub answer_in : (syntax : Option Syntax) (x : LanguageIdentifier) → SpellsIn syntax line x → (t : List ℕ) (a : Bool) → IsLine x t a
       → IsAnswerOf syntax IsLine (λ w. IsLine w.locale.id) line t a
-  answer_in None x spells t a is = inl (x, spells.0, spells.1, is)
-  answer_in (Some s) x (whole, known, spells, same) t a is = inl (whole, known, spells, subst (λ i. IsLine i t a) (sym same) is)
+  answer_in None x spells t a is = inl (x, spells, is)
+  answer_in (Some s) x (whole, known, spells, same) t a is = inl (whole, (known, spells), subst (λ i. IsLine i t a) (sym same) is)
 
   -- the line of why it spells none
   pub refused_in : (syntax : Option Syntax) (e : ParseError) (t : List ℕ) (a : Bool) → IsFaultIn syntax line e

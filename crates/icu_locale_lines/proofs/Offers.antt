@@ -32,7 +32,7 @@ module _ (facts : SyntaxFacts) (s : Syntax) where
   all_bare (t ∷ ts) (x ∷ xs) (w ∷ ws) each whole =
       let known = facts.known x each.0.0 in
       let spells = facts.alike s t x each.0.0 each.0.1 in
-      let same = facts.once s t w (bare x) whole.0.0 known whole.0.1 spells in
+      let same = facts.spelling.whole s t w (bare x) whole.0.0 known whole.0.1 spells in
       let others = all_bare ts xs ws each.1 whole.1 in
       λ i. same i ∷ others i
 

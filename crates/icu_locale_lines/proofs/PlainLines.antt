@@ -3,7 +3,7 @@ use Rattle.std.proofs.Common.{◌≡◌, ◌↔◌, ◌⊎◌, ℕ, Bool, true, 
 use Rattle.std.specs.Prelude.{if◌then◌else◌}
 use Rattle.std.specs.List.{list_any, position}
 use Rattle.std.proofs.lemmas.Bool.{false≢true}
-use Rattle.icu_locale_core.specs.Identifier.{IsIdentifier, pieces}
+use Rattle.icu_locale_core.specs.Identifier.{pieces}
 use Rattle.icu_locale_core.specs.Identifier as core
 use Rattle.icu_locale_core.specs.Subtag.{lowercase}
 use Rattle.icu_locale_core.specs.declared.langid.LanguageIdentifier.{LanguageIdentifier}
@@ -11,26 +11,27 @@ use Rattle.icu_locale_core.specs.declared.parse_error.ParseError.{ParseError}
 use Rattle.icu_locale_core.specs.declared.parse_error.ParseError.TheVariants.{InvalidLanguage, InvalidSubtag, Memory}
 use Rattle.icu_locale_extensions.specs.Cuts.{front}
 use Rattle.icu_locale_extensions.specs.Extensions.{is_singleton}
-use Rattle.icu_locale_extensions.specs.Reads.{bare, Spells}
+use Rattle.icu_locale_extensions.specs.Reads.{bare}
 use Rattle.icu_locale_extensions.specs.Syntaxes.{IsFaultBy}
 use Rattle.icu_locale_extensions.specs.declared.identifier.LocaleIdentifier.{LocaleIdentifier}
 use Rattle.icu_locale_extensions.specs.declared.syntax.Syntax.{Syntax}
 use Rattle.icu_locale_extensions.specs.declared.syntax.Syntax.TheVariants.{Unicode}
 use Rattle.icu_locale.specs.LikelyTable.{likely}
 use Rattle.icu_locale_values.specs.Whole.{WholeRules}
-use Rattle.icu_locale_lines.specs.Answers.{IsAnswerBy, IsIdentifierAnswer, IsLocaleAnswer, IsSpelledAnswer, IsTransformed, IsWholeTransformed}
+use Rattle.icu_locale_lines.specs.Answers.{IsAnswerBy, IsCanonicalized, IsIdentifierAnswer, IsLocaleAnswer, IsSpelledAnswer, IsTransformed, IsWholeTransformed}
 use Rattle.icu_locale_lines.specs.Answers.{IsDirected, IsNamed, IsWholeNamed, has_singleton, HasNoSingleton}
 use Rattle.icu_locale_lines.specs.Chains.{IsChained}
-use Rattle.icu_locale_lines.specs.Lists.{IsFault, IsFirstFault, IsListedAnswer, IsNegotiatedLine, SpellsAll, listed}
+use Rattle.icu_locale_lines.specs.Lists.{IsFault, IsFirstFault, IsListedAnswer, IsNegotiatedLine, SpellsAll, SpellsIn, SpellsWhole, listed}
 use Rattle.icu_locale_lines.specs.Locales.{is_tab, is_readable, identifier_text, value_text, IsLocaleFault, IsValueFault, SpellsSome}
 use Rattle.icu_locale_lines.specs.Serving.{IsNearestLine, IsDistanceLine}
 use Rattle.icu_locale_lines.specs.Wholes.{IsWholeCanonicalized, rules_of}
 use Rattle.icu_locale_lines.specs.declared.command.Wishes.TheVariants.{Header, Requests}
 use Rattle.icu_locale_lines.specs.declared.work.Tools.{Tools}
 use Rattle.icu_locale_lines.specs.declared.work.Tools.TheVariants as tools
-use Rattle.icu_locale_lines.proofs.Alike.{SyntaxFacts, each_alike, transformed_alike, named_alike, canonical_answers_alike}
+use Rattle.icu_locale_lines.proofs.Alike.{SyntaxFacts, each_alike, transformed_alike, named_alike, canonical_answers_alike, in_syntax, lists_alike}
 use Rattle.icu_locale_lines.proofs.LineCuts.{before_first-no_position}
 use Rattle.icu_locale_lines.proofs.LocaleLines.{value_text-no_position}
+use Rattle.icu_locale_lines.proofs.Readings.{answered_alike, alone_once, whole_once, listed_once, locale_once}
 
 -- none of two passes
 neither : (a b : Bool) → (a || b) ≡ false → (a ≡ false) × (b ≡ false)
@@ -48,24 +49,21 @@ front_all is_mark (p ∷ ps) none =
 
 module _ (t : List ℕ) (plain : has_singleton t ≡ false) where
   -- spells the identifier alone
-  from_whole : (w : LocaleIdentifier) → Spells t w → core.Spells t w.locale.id
-  from_whole w s = record {
+  from_whole : (w : LocaleIdentifier) → SpellsWhole Unicode t w → SpellsIn None t w.locale.id
+  from_whole w (known, s) = (known.id, record {
     order = s.id.spells.order;
     lists = s.id.spells.lists;
     same = ap (map lowercase) (sym (front_all is_singleton (pieces t) plain) ∙ sym s.id.cut) ∙ s.id.spells.same;
-  }
+  })
 
-  module _ (facts : SyntaxFacts) where
-    -- and is refused alike
-    fault_alone : (e : ParseError) → IsFaultBy Unicode t e → IsFault t e
-    fault_alone InvalidLanguage why = why
-    fault_alone InvalidSubtag why = (why.0, λ x is s. why.1 (bare x) (facts.known x is) (facts.alike Unicode t x is s))
-    fault_alone Memory why = absurd why
-
-    fault_whole : (e : ParseError) → IsFault t e → IsFaultBy Unicode t e
-    fault_whole InvalidLanguage why = why
-    fault_whole InvalidSubtag why = (why.0, λ w known s. why.1 w.locale.id known.id (from_whole w s))
-    fault_whole Memory why = absurd why
+  -- and is refused alike
+  fault_alike : SyntaxFacts → (e : ParseError) → IsFaultBy Unicode t e ↔ IsFault t e
+  fault_alike facts InvalidLanguage = (λ why. why, λ why. why)
+  fault_alike facts InvalidSubtag = (
+    λ why. (why.0, λ x is s. why.1 (bare x) (facts.known x is) (facts.alike Unicode t x is s)),
+    λ why. (why.0, λ w known s. let spells = from_whole w (known, s) in why.1 w.locale.id spells.0 spells.1),
+  )
+  fault_alike facts Memory = (λ why. why, λ why. why)
 
 -- ---- the answers
 
@@ -73,20 +71,13 @@ module _ (facts : SyntaxFacts) (line text : List ℕ) (a : Bool) where
   module _ (plain : has_singleton line ≡ false) where
     -- an answer that is the same where the line spells an identifier
     each_plain : (IsWhole : LocaleIdentifier → List ℕ → Bool → Type 0) (IsLine : LanguageIdentifier → List ℕ → Bool → Type 0)
-        → ((x : LanguageIdentifier) (is : IsIdentifier x) (spells : core.Spells line x) → IsWhole (bare x) text a ↔ IsLine x text a)
+        → ((x : LanguageIdentifier) → SpellsIn None line x → IsWhole (bare x) text a ↔ IsLine x text a)
         → IsSpelledAnswer Unicode IsWhole line text a ↔ IsIdentifierAnswer IsLine line text a
-    each_plain IsWhole IsLine both = (forth, back)
+    each_plain IsWhole IsLine both = answered_alike (whole_once facts.spelling Unicode) (alone_once facts.spelling) IsWhole IsLine line text a
+        (λ w reads. by w.locale.id (from_whole line plain w reads)) by (fault_alike line plain facts)
       where
-        forth : IsSpelledAnswer Unicode IsWhole line text a → IsIdentifierAnswer IsLine line text a
-        forth (inl h) =
-            let x = h.0.locale.id in
-            let spells = from_whole line plain h.0 h.2 in
-            (each_alike facts Unicode line text a x h.1.id spells IsWhole IsLine (both x h.1.id spells)).0 (inl h)
-        forth (inr h) = inr (h.0, fault_alone line plain facts h.0 h.1, h.2, h.3)
-
-        back : IsIdentifierAnswer IsLine line text a → IsSpelledAnswer Unicode IsWhole line text a
-        back (inl h) = (each_alike facts Unicode line text a h.0 h.1 h.2 IsWhole IsLine (both h.0 h.1 h.2)).1 (inl h)
-        back (inr h) = inr (h.0, fault_whole line plain facts h.0 h.1, h.2, h.3)
+        by : (x : LanguageIdentifier) → SpellsIn None line x → IsSpelledAnswer Unicode IsWhole line text a ↔ IsIdentifierAnswer IsLine line text a
+        by x spells = each_alike facts Unicode line text a x spells IsWhole IsLine (both x spells)
 
     -- without a tab a locale is refused as an identifier is
     module _ (none : position is_tab line ≡ None) where
@@ -102,19 +93,15 @@ module _ (facts : SyntaxFacts) (line text : List ℕ) (a : Bool) where
 
       canonical_plain : (by : WholeRules)
           → IsSpelledAnswer Unicode (IsWholeCanonicalized by) line text a ↔ IsLocaleAnswer by.likely by.rules line text a
-      canonical_plain by = (forth, back)
+      canonical_plain by = answered_alike (whole_once facts.spelling Unicode) (locale_once facts.spelling)
+          (IsWholeCanonicalized by) (IsCanonicalized by.likely by.rules) line text a
+          (λ w reads. alike w.locale.id (from_whole line plain w reads))
+          (λ old reads. alike old.id (reads.known, subst (λ t. core.Spells t old.id) (before_first-no_position is_tab line none) reads.id))
+          (λ e. let both = fault_alike line plain facts e in (λ why. locale_fault e (both.0 why), λ why. both.1 (fault_of_locale e why)))
         where
-          forth : IsSpelledAnswer Unicode (IsWholeCanonicalized by) line text a → IsLocaleAnswer by.likely by.rules line text a
-          forth (inl h) =
-              let spells = from_whole line plain h.0 h.2 in
-              (canonical_answers_alike facts Unicode line text a h.0.locale.id h.1.id spells by none).0 (inl h)
-          forth (inr h) = inr (h.0, locale_fault h.0 (fault_alone line plain facts h.0 h.1), h.2, h.3)
-
-          back : IsLocaleAnswer by.likely by.rules line text a → IsSpelledAnswer Unicode (IsWholeCanonicalized by) line text a
-          back (inl h) =
-              let spells = subst (λ t. core.Spells t h.0.id) (before_first-no_position is_tab line none) h.1.id in
-              (canonical_answers_alike facts Unicode line text a h.0.id h.1.known spells by none).1 (inl h)
-          back (inr h) = inr (h.0, fault_whole line plain facts h.0 (fault_of_locale h.0 h.1), h.2, h.3)
+          alike : (x : LanguageIdentifier) → SpellsIn None line x
+              → IsSpelledAnswer Unicode (IsWholeCanonicalized by) line text a ↔ IsLocaleAnswer by.likely by.rules line text a
+          alike x spells = canonical_answers_alike facts Unicode line text a x spells by none
 
   -- ---- lists
 
@@ -125,16 +112,9 @@ module _ (facts : SyntaxFacts) (line text : List ℕ) (a : Bool) where
   spells_alone (t ∷ ts) [] plain each = absurd each
   spells_alone (t ∷ ts) (x ∷ xs) plain ((w, known, spells, same), later) =
       let both = neither (has_singleton t) (list_any has_singleton ts) plain in (
-        (subst IsIdentifier same known.id, subst (core.Spells t) same (from_whole t both.0 w spells)),
+        subst (SpellsIn None t) same (from_whole t both.0 w (known, spells)),
         spells_alone ts xs both.1 later,
       )
-
-  spells_whole : (texts : List (List ℕ)) (xs : List LanguageIdentifier) → SpellsAll None texts xs → SpellsAll (Some Unicode) texts xs
-  spells_whole [] [] each = tt
-  spells_whole [] (x ∷ xs) each = absurd each
-  spells_whole (t ∷ ts) [] each = absurd each
-  spells_whole (t ∷ ts) (x ∷ xs) each =
-      ((bare x, facts.known x each.0.0, facts.alike Unicode t x each.0.0 each.0.1, refl), spells_whole ts xs each.1)
 
   -- no text of a list has a piece of one character, none before a text, nor that text
   before_text : (earlier : List (List ℕ)) (t : List ℕ) (later : List (List ℕ)) → list_any has_singleton (earlier ++ t ∷ later) ≡ false
@@ -158,7 +138,7 @@ module _ (facts : SyntaxFacts) (line text : List ℕ) (a : Bool) where
       parted = f.parted;
       identifiers = f.identifiers;
       spelled = spells_alone f.earlier f.identifiers both.0 f.spelled;
-      refused = fault_alone f.text both.1 facts e f.refused;
+      refused = (fault_alike f.text both.1 facts e).0 f.refused;
     }
 
     first_whole : (e : ParseError) → IsFirstFault None (listed line) e → IsFirstFault (Some Unicode) (listed line) e
@@ -168,34 +148,31 @@ module _ (facts : SyntaxFacts) (line text : List ℕ) (a : Bool) where
       later = f.later;
       parted = f.parted;
       identifiers = f.identifiers;
-      spelled = spells_whole f.earlier f.identifiers f.spelled;
-      refused = fault_whole f.text both.1 facts e f.refused;
+      spelled = in_syntax facts Unicode line text a f.earlier f.identifiers f.spelled;
+      refused = (fault_alike f.text both.1 facts e).1 f.refused;
     }
 
     lists_plain : (IsLine : List LanguageIdentifier → List ℕ → Bool → Type 0)
         → IsListedAnswer (Some Unicode) IsLine line text a ↔ IsListedAnswer None IsLine line text a
-    lists_plain IsLine = (forth, back)
+    lists_plain IsLine = answered_alike (listed_once facts.spelling (Some Unicode)) (listed_once facts.spelling None) IsLine IsLine line text a
+        (λ xs reads. by xs (spells_alone (listed line) xs plain reads)) by (λ e. (first_alone e, first_whole e))
       where
-        forth : IsListedAnswer (Some Unicode) IsLine line text a → IsListedAnswer None IsLine line text a
-        forth (inl h) = inl (h.0, spells_alone (listed line) h.0 plain h.1, h.2)
-        forth (inr h) = inr (h.0, first_alone h.0 h.1, h.2, h.3)
-
-        back : IsListedAnswer None IsLine line text a → IsListedAnswer (Some Unicode) IsLine line text a
-        back (inl h) = inl (h.0, spells_whole (listed line) h.0 h.1, h.2)
-        back (inr h) = inr (h.0, first_whole h.0 h.1, h.2, h.3)
+        by : (xs : List LanguageIdentifier) → SpellsAll None (listed line) xs
+            → IsListedAnswer (Some Unicode) IsLine line text a ↔ IsListedAnswer None IsLine line text a
+        by xs each = lists_alike facts Unicode line text a IsLine xs each
 
   pub plain_answers_alike : (work : Tools) → HasNoSingleton work line
       → IsAnswerBy (Some Unicode) work line text a ↔ IsAnswerBy None work line text a
   plain_answers_alike (tools.Transform form e) plain = each_plain plain (IsWholeTransformed form (likely e)) (IsTransformed form (likely e))
-      (λ x is spells. transformed_alike facts Unicode line text a x is spells form (likely e))
+      (λ x spells. transformed_alike facts Unicode line text a x spells form (likely e))
   plain_answers_alike (tools.Canonicalize c) (none, plain) = canonical_plain plain none (rules_of c)
   plain_answers_alike (tools.Direction d) plain =
-      each_plain plain (λ w. IsDirected d w.locale.id) (IsDirected d) (λ x is spells. (λ h. h, λ h. h))
+      each_plain plain (λ w. IsDirected d w.locale.id) (IsDirected d) (λ x spells. (λ h. h, λ h. h))
   plain_answers_alike (tools.Negotiate n o) plain = lists_plain plain (IsNegotiatedLine n o.wholes.items)
   plain_answers_alike (tools.Serve Header t o) plain = (λ h. h, λ h. h)
   plain_answers_alike (tools.Serve Requests t o) plain = lists_plain plain (IsNearestLine t o.wholes.items)
   plain_answers_alike (tools.Distance d) plain = lists_plain plain (IsDistanceLine d.matching.now (likely d.expander))
   plain_answers_alike (tools.Name n) plain = each_plain plain (IsWholeNamed n) (IsNamed n)
-      (λ x is spells. named_alike facts Unicode line text a x is spells n)
+      (λ x spells. named_alike facts Unicode line text a x spells n)
   plain_answers_alike (tools.Fallback f) plain =
-      each_plain plain (λ w. IsChained f w.locale.id) (IsChained f) (λ x is spells. (λ h. h, λ h. h))
+      each_plain plain (λ w. IsChained f w.locale.id) (IsChained f) (λ x spells. (λ h. h, λ h. h))

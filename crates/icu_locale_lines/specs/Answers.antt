@@ -1,10 +1,9 @@
 -- What is written for each line that is read.
 use Rattle.std.specs.Prelude.{◌≡◌, ◌≢◌, ◌↔◌, ◌⊎◌, ℕ, Bool, true, false, List, ◌++◌, take, length, codes, Option, None, MatchOption}
 use Rattle.std.specs.List.{list_any, position}
-use Rattle.icu_locale_core.specs.Identifier.{IsIdentifier, Spells, parse_error_name, pieces}
+use Rattle.icu_locale_core.specs.Identifier.{IsIdentifier, Spells, pieces, written}
 use Rattle.icu_locale_core.specs.declared.langid.LanguageIdentifier.{LanguageIdentifier}
 use Rattle.icu_locale_core.specs.declared.locale.Locale.{Locale}
-use Rattle.icu_locale_core.specs.declared.parse_error.ParseError.{ParseError}
 use Rattle.icu_locale.specs.LikelySubtags.{LikelySubtags, maximal, IsModified, likely_script}
 use Rattle.icu_locale.specs.Minimal.{IsMinimalForm}
 use Rattle.icu_locale.specs.declared.expander.Favor.TheVariants.{RegionFirst, ScriptFirst}
@@ -24,17 +23,18 @@ use Rattle.icu_locale_lines.specs.declared.work.Work.{Work}
 use Rattle.icu_locale_lines.specs.declared.work.Tools.{Tools}
 use Rattle.icu_locale_lines.specs.declared.work.Tools.TheVariants as tools
 use Rattle.icu_locale_lines.specs.Chains.{IsChained}
-use Rattle.icu_locale_lines.specs.Lists.{listed, SpellsAll, IsFault, IsListedAnswer, IsNegotiatedLine}
+use Rattle.icu_locale_lines.specs.Lists.{listed, SpellsAll, SpellsIn, SpellsWhole, IsFault, IsListedAnswer, IsNegotiatedLine}
 use Rattle.icu_locale_lines.specs.Serving.{IsWishAnswer, IsDistanceLine}
 use Rattle.icu_locale_lines.specs.Wholes.{IsWholeCanonicalized, rules_of}
 use Rattle.icu_locale_values.specs.Whole.{WholeRules}
 use Rattle.icu_locale_lines.specs.declared.command.Wishes.TheVariants.{Header, Requests}
 use Rattle.icu_locale_lines.specs.Locales.{is_tab, SpellsLocale, IsLocaleFault}
 use Rattle.icu_locale_lines.specs.Names.{name_asked, whole_name_asked, IsNamedLine}
-use Rattle.icu_locale_lines.specs.Texts.{transformed_line, canonical_line, whole_line, refused_line, direction_line}
+use Rattle.icu_locale_lines.specs.Readings.{IsReadAnswer}
+use Rattle.icu_locale_lines.specs.Texts.{changed_line, canonical_line, refused_line, direction_line}
 use Rattle.icu_locale_extensions.specs.Extensions.{is_singleton}
-use Rattle.icu_locale_extensions.specs.Locales.{IsLocaleIdentifier}
-use Rattle.icu_locale_extensions.specs.Syntaxes.{SpellsBy, IsFaultBy}
+use Rattle.icu_locale_extensions.specs.Locales as extended
+use Rattle.icu_locale_extensions.specs.Syntaxes.{IsFaultBy}
 use Rattle.icu_locale_extensions.specs.declared.identifier.LocaleIdentifier.{LocaleIdentifier}
 use Rattle.icu_locale_extensions.specs.declared.syntax.Syntax.{Syntax}
 
@@ -58,10 +58,18 @@ IsForm Minimize likely x y m =
 IsForm MinimizeScript likely x y m =
     IsMinimalForm ScriptFirst likely x y × ((m ≡ Modified) ↔ (y ≢ x))
 
+-- the line of what has an identifier, which is brought to a form
+abbrev pub IsFormedLine : {A : Type 0} → (id : A → LanguageIdentifier)
+    → (written_with : A → LanguageIdentifier → List ℕ) → Transform → LikelySubtags → A → List ℕ
+    → Bool → Type 0
+IsFormedLine id written_with form likely x text accepted = (y : LanguageIdentifier)
+    × (m : TransformResult) × IsForm form likely (id x) y m
+    × (text ≡ changed_line (written_with x y) m) × (accepted ≡ true)
+
 -- the line of an identifier that is brought to a form
 abbrev pub IsTransformed : Transform → LikelySubtags → LanguageIdentifier → List ℕ → Bool → Type 0
-IsTransformed form likely x text accepted = (y : LanguageIdentifier) × (m : TransformResult)
-    × IsForm form likely x y m × (text ≡ transformed_line y m) × (accepted ≡ true)
+IsTransformed form likely x text accepted =
+    IsFormedLine (λ x. x) (λ x y. written y) form likely x text accepted
 
 -- the line of an identifier whose direction is told
 abbrev pub IsDirected : LocaleDirectionality LocaleExpander → LanguageIdentifier → List ℕ → Bool
@@ -104,17 +112,12 @@ IsCanonicalized likely rules old text accepted =
 abbrev pub IsIdentifierAnswer : (LanguageIdentifier → List ℕ → Bool → Type 0) → List ℕ → List ℕ
     → Bool → Type 0
 IsIdentifierAnswer IsLine line text accepted =
-    ((x : LanguageIdentifier) × IsIdentifier x × Spells line x × IsLine x text accepted)
-    ⊎ ((e : ParseError) × IsFault line e × (text ≡ refused_line (parse_error_name e))
-    × (accepted ≡ false))
+    IsReadAnswer (SpellsIn None) IsFault IsLine line text accepted
 
 -- a line that spells a locale gives the line of its canonical form; every other gives the refusal's
 abbrev pub IsLocaleAnswer : LikelySubtags → Rules → List ℕ → List ℕ → Bool → Type 0
 IsLocaleAnswer likely rules line text accepted =
-    ((locale : Locale) × SpellsLocale line locale
-    × IsCanonicalized likely rules locale text accepted)
-    ⊎ ((e : ParseError) × IsLocaleFault line e × (text ≡ refused_line (parse_error_name e))
-    × (accepted ≡ false))
+    IsReadAnswer SpellsLocale IsLocaleFault (IsCanonicalized likely rules) line text accepted
 
 -- ---- locale identifiers
 
@@ -134,17 +137,14 @@ with_id x id = with_locale x (record { id = id; extensions = x.locale.extensions
 -- the line of a locale identifier whose identifier is brought to a form
 abbrev pub IsWholeTransformed : Transform → LikelySubtags → LocaleIdentifier → List ℕ → Bool
     → Type 0
-IsWholeTransformed form likely x text accepted = (y : LanguageIdentifier) × (m : TransformResult)
-    × IsForm form likely x.locale.id y m × (text ≡ whole_line (with_id x y) m) × (accepted ≡ true)
+IsWholeTransformed form likely x text accepted = IsFormedLine (λ x. x.locale.id)
+    (λ x y. extended.written (with_id x y)) form likely x text accepted
 
 -- a line that spells a locale identifier gives its line; every other gives the refusal's
 abbrev pub IsSpelledAnswer : Syntax → (LocaleIdentifier → List ℕ → Bool → Type 0) → List ℕ → List ℕ
     → Bool → Type 0
 IsSpelledAnswer syntax IsLine line text accepted =
-    ((x : LocaleIdentifier) × IsLocaleIdentifier x × SpellsBy syntax line x
-    × IsLine x text accepted)
-    ⊎ ((e : ParseError) × IsFaultBy syntax line e × (text ≡ refused_line (parse_error_name e))
-    × (accepted ≡ false))
+    IsReadAnswer (SpellsWhole syntax) (IsFaultBy syntax) IsLine line text accepted
 
 -- without a syntax a line is an identifier alone, in one a locale identifier; each has its line
 abbrev pub IsAnswerOf : Option Syntax → (LanguageIdentifier → List ℕ → Bool → Type 0)

@@ -6,6 +6,7 @@ pub mod Lists
 pub mod Loads
 pub mod Locales
 pub mod Names
+pub mod Readings
 pub mod Refusals
 pub mod Runs
 pub mod Serving

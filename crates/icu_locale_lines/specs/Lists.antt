@@ -1,8 +1,8 @@
 -- Lines that list identifiers, and what is written for a line of requests.
-use Rattle.std.specs.Prelude.{◌≡◌, ℕ, Bool, ◌⊎◌, ◌==◌, true, false, List, [], ◌∷◌, ◌++◌, map, codes, Option, Some, None}
+use Rattle.std.specs.Prelude.{◌≡◌, ℕ, Bool, ◌==◌, true, false, List, [], ◌∷◌, ◌++◌, map, codes, Option, Some, None}
 use Rattle.std.specs.List.{AllZip, slice_split, slice_get}
 use Rattle.std.specs.Option.{option_map, option_or}
-use Rattle.icu_locale_core.specs.Identifier.{IsIdentifier, Spells, starts_with_language, parse_error_name, written}
+use Rattle.icu_locale_core.specs.Identifier.{IsIdentifier, Spells, starts_with_language, written}
 use Rattle.icu_locale_core.specs.declared.langid.LanguageIdentifier.{LanguageIdentifier}
 use Rattle.icu_locale_core.specs.declared.parse_error.ParseError.{ParseError}
 use Rattle.icu_locale_core.specs.declared.parse_error.ParseError.TheVariants.{InvalidLanguage, InvalidSubtag, Memory}
@@ -13,7 +13,8 @@ use Rattle.icu_locale_extensions.specs.Syntaxes.{SpellsBy, IsFaultBy}
 use Rattle.icu_locale_extensions.specs.declared.identifier.LocaleIdentifier.{LocaleIdentifier}
 use Rattle.icu_locale_extensions.specs.declared.syntax.Syntax.{Syntax}
 use Rattle.icu_locale.specs.Negotiation.{Negotiation, IsNegotiated}
-use Rattle.icu_locale_lines.specs.Texts.{matched_line, refused_line}
+use Rattle.icu_locale_lines.specs.Readings.{IsReadAnswer}
+use Rattle.icu_locale_lines.specs.Texts.{matched_line}
 
 -- a space
 abbrev pub is_space : ℕ → Bool
@@ -62,10 +63,9 @@ pub record IsFirstFault (syntax : Option Syntax) (texts : List (List ℕ)) (e : 
 -- a line that lists identifiers gives their line; every other gives the refusal of its first fault
 abbrev pub IsListedAnswer : Option Syntax → (List LanguageIdentifier → List ℕ → Bool → Type 0)
     → List ℕ → List ℕ → Bool → Type 0
-IsListedAnswer syntax IsLine line text accepted =
-    ((xs : List LanguageIdentifier) × SpellsAll syntax (listed line) xs × IsLine xs text accepted)
-    ⊎ ((e : ParseError) × IsFirstFault syntax (listed line) e
-    × (text ≡ refused_line (parse_error_name e)) × (accepted ≡ false))
+IsListedAnswer syntax IsLine line text accepted = IsReadAnswer
+    (λ t xs. SpellsAll syntax (listed t) xs) (λ t e. IsFirstFault syntax (listed t) e) IsLine line
+    text accepted
 
 -- ---- what is available
 

@@ -21,9 +21,13 @@ abbrev pub mark : TransformResult → List ℕ
 mark Modified = codes "M"
 mark Unmodified = codes "U"
 
+-- a text, a tab, and whether anything was changed
+abbrev pub changed_line : List ℕ → TransformResult → List ℕ
+changed_line text m = text ++ (codes "\t" ++ (mark m ++ codes "\n"))
+
 -- the identifier in written case, a tab, and whether it was changed
 abbrev pub transformed_line : LanguageIdentifier → TransformResult → List ℕ
-transformed_line x m = written x ++ (codes "\t" ++ (mark m ++ codes "\n"))
+transformed_line x m = changed_line (written x) m
 
 -- the identifier in written case, a tab, the value if there is one, a tab after it, and whether
 -- anything was changed
@@ -39,7 +43,7 @@ canonical_line locale m =
 
 -- a locale identifier in written case, a tab, and whether anything was changed
 abbrev pub whole_line : LocaleIdentifier → TransformResult → List ℕ
-whole_line x m = whole.written x ++ (codes "\t" ++ (mark m ++ codes "\n"))
+whole_line x m = changed_line (whole.written x) m
 
 -- `?`, a tab, and the name of the refusal
 abbrev pub refused_line : List ℕ → List ℕ

@@ -1,6 +1,7 @@
 use Rattle.icu_locale.specs.LikelySubtags.{LikelySubtags}
 use Rattle.icu_locale.specs.declared.canonicalizer.rules.Rules.{Rules}
 use Rattle.icu_locale_lines.proofs.OneAnswer.{CanonicalFacts, WholeFacts, answer_one}
+use Rattle.icu_locale_lines.proofs.Readings.{SpellingFacts}
 use Rattle.icu_locale_lines.proofs.laws.a_line_has_one_answer.Goals as goal
 
 pub returns : goal.returns
@@ -16,6 +17,10 @@ returns c = λ work line one two a b h k.
       none = λ by old new e is why. c.whole_where_runs_end.ensures.refused by old e (c.whole_where_runs_end.ensures.ends by old new is) why;
       once = c.a_refusal_is_one.ensures;
     } in
-    let answers = answer_one c.spelled_once.ensures c.spelled_once_by.ensures c.refusals_are_faults.ensures.nothing
-    c.minimal_form_is_one.ensures.one facts wholes c.what_is_served_is_one.ensures c.the_nearest_to_requests_is_one.ensures line one two a b work h k in
+    let spelling : SpellingFacts = record {
+      alone = c.spelled_once.ensures;
+      whole = c.spelled_once_by.ensures;
+      nothing = c.refusals_are_faults.ensures.nothing;
+    } in
+    let answers = answer_one spelling c.minimal_form_is_one.ensures.one facts wholes c.what_is_served_is_one.ensures c.the_nearest_to_requests_is_one.ensures line one two a b work h k in
     (answers.text, answers.accepted)

@@ -6,9 +6,11 @@ use Rattle.icu_locale_lines.proofs.laws.syntaxes_answer_alike.Goals as goal
 pub returns-clause-alike : goal.returns-clause-alike
 returns-clause-alike c = λ work s line text a holds.
     let facts : SyntaxFacts = record {
-      alone = c.spelled_once.ensures;
-      once = c.spelled_once_by.ensures;
-      nothing = c.refusals_are_faults.ensures.nothing;
+      spelling = record {
+        alone = c.spelled_once.ensures;
+        whole = c.spelled_once_by.ensures;
+        nothing = c.refusals_are_faults.ensures.nothing;
+      };
       known = c.identifiers_read_alike.ensures.known;
       alike = c.identifiers_read_alike.ensures.alike;
       one = c.whole_form_is_one.ensures.one;
@@ -19,9 +21,11 @@ returns-clause-alike c = λ work s line text a holds.
 pub returns-clause-plain : goal.returns-clause-plain
 returns-clause-plain c = λ work line text a holds.
     let facts : SyntaxFacts = record {
-      alone = c.spelled_once.ensures;
-      once = c.spelled_once_by.ensures;
-      nothing = c.refusals_are_faults.ensures.nothing;
+      spelling = record {
+        alone = c.spelled_once.ensures;
+        whole = c.spelled_once_by.ensures;
+        nothing = c.refusals_are_faults.ensures.nothing;
+      };
       known = c.identifiers_read_alike.ensures.known;
       alike = c.identifiers_read_alike.ensures.alike;
       one = c.whole_form_is_one.ensures.one;
@@ -32,9 +36,11 @@ returns-clause-plain c = λ work line text a holds.
 pub returns-clause-offered : goal.returns-clause-offered
 returns-clause-offered c = λ s line xs ys ws vs alone whole.
     let facts : SyntaxFacts = record {
-      alone = c.spelled_once.ensures;
-      once = c.spelled_once_by.ensures;
-      nothing = c.refusals_are_faults.ensures.nothing;
+      spelling = record {
+        alone = c.spelled_once.ensures;
+        whole = c.spelled_once_by.ensures;
+        nothing = c.refusals_are_faults.ensures.nothing;
+      };
       known = c.identifiers_read_alike.ensures.known;
       alike = c.identifiers_read_alike.ensures.alike;
       one = c.whole_form_is_one.ensures.one;

@@ -8,8 +8,7 @@ pub returns-in-Ok-clause-answer : goal.returns-in-Ok-clause-answer
 returns-in-Ok-clause-answer c =
     if_adds _ _ (λ t a h. inl (
       c.in-Ok.whole,
-      c.in-Ok.ensures.found.0,
-      c.in-Ok.ensures.found.1,
+      c.in-Ok.ensures.found,
       (c.apply-changed.new.identifier, c.apply-changed.result, c.apply-changed.ensures, h.0, h.1),
     )) _ _ c.add_changed.result c.add_changed.ensures.answer
 

@@ -6,7 +6,7 @@ use Rattle.icu_locale_lines.proofs.work.name.add_spelled_name.Goals as goal
 
 pub returns-in-Ok-clause-answer : goal.returns-in-Ok-clause-answer
 returns-in-Ok-clause-answer c =
-    if_adds _ _ (λ t a h. inl (c.in-Ok.whole, c.in-Ok.ensures.found.0, c.in-Ok.ensures.found.1, h)) _ _ c.add_whole_name.result
+    if_adds _ _ (λ t a h. inl (c.in-Ok.whole, c.in-Ok.ensures.found, h)) _ _ c.add_whole_name.result
     c.add_whole_name.ensures.answer
 
 pub returns-in-Err-clause-answer : goal.returns-in-Err-clause-answer
