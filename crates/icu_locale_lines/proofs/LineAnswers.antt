@@ -1,12 +1,14 @@
 -- The answer to one line.
 use Rattle.std.proofs.Common.{◌≡◌, ◌≢◌, ◌⊎◌, Bool, true, false, Option, None, refl, sym, List, [], ◌++◌, Some, ℕ, get_or, Result, Ok}
 use Rattle.std.proofs.Common.{Err, IfOk, inl, inr, subst, ap, ◌∙◌, ◌<◌, length}
+use Rattle.std.specs.Prelude.{MatchOption, is_some}
 use Rattle.std.specs.List.{slice_get, position}
+use Rattle.std.proofs.lemmas.Bool.{false≢true}
 use Rattle.std.specs.Option.{option_map, option_or}
 use Rattle.std.proofs.lemmas.Option.{slice_get_read, slice_get_within}
 use Rattle.icu_locale.specs.LikelyTable.{likely}
 use Rattle.icu_locale.specs.Negotiation.{Negotiation, IsNegotiated}
-use Rattle.icu_locale_lines.specs.Lists.{IsNegotiatedLine, SpellsIn, IsFaultIn, TellsPlace, shown_at}
+use Rattle.icu_locale_lines.specs.Lists.{IsNegotiatedLine, SpellsIn, IsFault, IsFaultIn, TellsPlace, shown_at}
 use Rattle.icu_locale_core.specs.Identifier.{IsIdentifier, Spells, parse_error_name, written}
 use Rattle.icu_locale_core.specs.declared.parse_error.ParseError.{ParseError}
 use Rattle.icu_locale_core.specs.declared.parse_error.ParseError.TheVariants as parse_error
@@ -26,10 +28,12 @@ use Rattle.icu_provider.specs.declared.error.DataError.{DataError}
 use Rattle.icu_provider.specs.declared.error.DataErrorKind.{DataErrorKind}
 use Rattle.icu_provider.specs.declared.error.DataErrorKind.TheVariants as kind
 use Rattle.icu_locale_lines.specs.declared.error.CliError.{CliError}
-use Rattle.icu_locale_lines.specs.Answers.{AddsLine, IsAnswerOf, IsCanonicalizedTo}
-use Rattle.icu_locale_lines.specs.Locales.{is_tab, is_readable, keywords_of, SpellsLocale}
+use Rattle.icu_locale_lines.specs.Answers.{AddsLine, IsAnswerOf, IsCanonicalAnswer, IsCanonicalized, IsCanonicalizedTo, IsLocaleAnswer}
+use Rattle.icu_locale_lines.specs.Locales.{is_tab, is_readable, keywords_of, SpellsLocale, IsLocaleFault}
 use Rattle.icu_locale_lines.specs.Texts.{refused_line}
+use Rattle.icu_locale_lines.specs.Wholes.{IsWholeCanonicalized}
 use Rattle.icu_locale_lines.specs.inner.Parts.{TellsRefusal}
+use Rattle.icu_locale_values.specs.Whole.{WholeRules}
 use Rattle.icu_locale_lines.proofs.LineCuts.{before_first-no_position}
 use Rattle.icu_locale_lines.proofs.LocaleLines.{value_text-no_position}
 
@@ -102,6 +106,35 @@ spelled_alone line x none spelled = record {
   keywords = sym (ap keywords_of (value_text-no_position line none));
   transform = refl;
 }
+
+-- without a tab a line that spells no identifier spells no locale
+pub locale_fault : (line : List ℕ) → position is_tab line ≡ None → (e : ParseError) → IsFault line e → IsLocaleFault line e
+locale_fault line none e fault = record { fault = inl (subst (λ t. IsFault t e) (sym (before_first-no_position is_tab line none)) fault) }
+
+-- whether a line is read as an identifier and a value
+abbrev TellsValue : Option Syntax → List ℕ → Bool → Type 0
+TellsValue syntax line has = MatchOption syntax (has ≡ is_some (position is_tab line)) (λ s. has ≡ false)
+
+none_is : (o : Option ℕ) → false ≡ is_some o → o ≡ None
+none_is None is = refl
+none_is (Some n) is = absurd (false≢true is)
+
+module _ (by : WholeRules) (line : List ℕ) (has : Bool) where
+  -- a line that is, without a syntax
+  pub canonical_from_value : (syntax : Option Syntax) → TellsValue syntax line has → has ≡ true → (t : List ℕ) (a : Bool)
+      → IsLocaleAnswer by.likely by.rules line t a → IsCanonicalAnswer syntax by line t a
+  canonical_from_value None tells value t a h = h
+  canonical_from_value (Some s) tells value t a h = absurd (false≢true (sym tells ∙ value))
+
+  -- any other
+  pub canonical_from_read : (syntax : Option Syntax) → TellsValue syntax line has → has ≡ false → (t : List ℕ) (a : Bool)
+      → IsAnswerOf syntax (λ x. IsCanonicalized by.likely by.rules (without_extensions x)) (IsWholeCanonicalized by) line t a
+      → IsCanonicalAnswer syntax by line t a
+  canonical_from_read None tells plain t a (inl h) =
+      inl (without_extensions h.0, spelled_alone line h.0 (none_is (position is_tab line) (sym plain ∙ tells)) h.1, h.2)
+  canonical_from_read None tells plain t a (inr h) =
+      inr (h.0, locale_fault line (none_is (position is_tab line) (sym plain ∙ tells)) h.0 h.1, h.2, h.3)
+  canonical_from_read (Some s) tells plain t a h = h
 
 -- what is negotiated is available at its place
 pub negotiated_within : (n : Negotiation) (requests : List LanguageIdentifier) (i j : ℕ)

@@ -29,6 +29,7 @@ use Rattle.icu_locale_lines.specs.declared.command.Wishes.TheVariants.{Header, R
 use Rattle.icu_locale_lines.specs.declared.work.Tools.{Tools}
 use Rattle.icu_locale_lines.specs.declared.work.Tools.TheVariants as tools
 use Rattle.icu_locale_lines.proofs.Alike.{SyntaxFacts, each_alike, transformed_alike, named_alike, canonical_answers_alike, in_syntax, lists_alike}
+use Rattle.icu_locale_lines.proofs.LineAnswers.{locale_fault}
 use Rattle.icu_locale_lines.proofs.LineCuts.{before_first-no_position}
 use Rattle.icu_locale_lines.proofs.LocaleLines.{value_text-no_position}
 use Rattle.icu_locale_lines.proofs.Readings.{answered_alike, alone_once, whole_once, listed_once, locale_once}
@@ -50,11 +51,14 @@ front_all is_mark (p ∷ ps) none =
 module _ (t : List ℕ) (plain : has_singleton t ≡ false) where
   -- spells the identifier alone
   from_whole : (w : LocaleIdentifier) → SpellsWhole Unicode t w → SpellsIn None t w.locale.id
-  from_whole w (known, s) = (known.id, record {
-    order = s.id.spells.order;
-    lists = s.id.spells.lists;
-    same = ap (map lowercase) (sym (front_all is_singleton (pieces t) plain) ∙ sym s.id.cut) ∙ s.id.spells.same;
-  })
+  from_whole w (known, s) = (
+    known.id,
+    record {
+      order = s.id.spells.order;
+      lists = s.id.spells.lists;
+      same = ap (map lowercase) (sym (front_all is_singleton (pieces t) plain) ∙ sym s.id.cut) ∙ s.id.spells.same;
+    },
+  )
 
   -- and is refused alike
   fault_alike : SyntaxFacts → (e : ParseError) → IsFaultBy Unicode t e ↔ IsFault t e
@@ -81,9 +85,6 @@ module _ (facts : SyntaxFacts) (line text : List ℕ) (a : Bool) where
 
     -- without a tab a locale is refused as an identifier is
     module _ (none : position is_tab line ≡ None) where
-      locale_fault : (e : ParseError) → IsFault line e → IsLocaleFault line e
-      locale_fault e why = record { fault = inl (subst (λ t. IsFault t e) (sym (before_first-no_position is_tab line none)) why) }
-
       fault_of_locale : (e : ParseError) → IsLocaleFault line e → IsFault line e
       fault_of_locale e f = by f.fault
         where
@@ -97,7 +98,7 @@ module _ (facts : SyntaxFacts) (line text : List ℕ) (a : Bool) where
           (IsWholeCanonicalized by) (IsCanonicalized by.likely by.rules) line text a
           (λ w reads. alike w.locale.id (from_whole line plain w reads))
           (λ old reads. alike old.id (reads.known, subst (λ t. core.Spells t old.id) (before_first-no_position is_tab line none) reads.id))
-          (λ e. let both = fault_alike line plain facts e in (λ why. locale_fault e (both.0 why), λ why. both.1 (fault_of_locale e why)))
+          (λ e. let both = fault_alike line plain facts e in (λ why. locale_fault line none e (both.0 why), λ why. both.1 (fault_of_locale e why)))
         where
           alike : (x : LanguageIdentifier) → SpellsIn None line x
               → IsSpelledAnswer Unicode (IsWholeCanonicalized by) line text a ↔ IsLocaleAnswer by.likely by.rules line text a

@@ -2,6 +2,7 @@
 ghost use Rattle.std.specs.Prelude.{◌≡◌, IfOk, IfErr, OnErr};
 ghost use Rattle.icu_locale_lines.specs.Answers.{AddsLine, Keeps, IsAnswer};
 
+pub mod answering;
 pub mod canonicalizing;
 pub mod direction;
 pub mod fallback;
@@ -14,6 +15,7 @@ pub mod name;
 pub mod offered;
 pub mod serve;
 pub mod serving;
+pub mod value;
 
 use crate::command::Wishes;
 use crate::error::CliError;

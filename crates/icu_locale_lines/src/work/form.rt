@@ -1,13 +1,14 @@
 //! Forms of an identifier over likely subtags, and their lines.
-ghost use Rattle.std.specs.Prelude.{◌≡◌, ◌++◌, IfOk, IfErr, OnOk, OnErr, true, codes};
-ghost use Rattle.icu_locale_core.specs.Identifier.{written};
+ghost use Rattle.std.specs.Prelude.{◌≡◌, ◌++◌, ℕ, List, IfOk, IfErr, OnOk, OnErr, true, codes};
+ghost use Rattle.icu_locale_core.specs.Identifier as core;
 ghost use Rattle.icu_locale_extensions.specs.Locales as extended;
 ghost use Rattle.icu_locale.specs.LikelyTable.{likely};
-ghost use Rattle.icu_locale_lines.specs.Answers.{IsForm, AddsLine, Keeps, IsAnswerOf, IsSpelledAnswer, IsWholeTransformed, IsTransformed, IsIdentifierAnswer};
-ghost use Rattle.icu_locale_lines.specs.Texts.{mark, transformed_line, whole_line};
+ghost use Rattle.icu_locale_lines.specs.Answers.{IsForm, AddsLine, Keeps, IsAnswerOf, IsWholeTransformed, IsTransformed};
+ghost use Rattle.icu_locale_lines.specs.Texts.{mark, changed_line};
 
-use crate::answer::{add_fault, add_text};
+use crate::answer::add_text;
 use crate::error::CliError;
+use crate::work::answering::{Answering, add_read};
 use icu_locale::{LocaleExpander, TransformResult};
 use icu_locale_core::LanguageIdentifier;
 use icu_locale_extensions::{LocaleIdentifier, Syntax};
@@ -40,6 +41,38 @@ impl Transform {
     }
 }
 
+// A form, and what brings identifiers to it.
+#[derive(Clone, Copy)]
+struct Forming<'a, 'd> {
+    form: Transform,
+    expander: &'a LocaleExpander<'d>,
+}
+
+impl<'a, 'd> Answering for Forming<'a, 'd> {
+    ghost is_line = { λ f x. IsTransformed f.form (likely f.expander.now) x };
+
+    ghost is_whole_line = { λ f x. IsWholeTransformed f.form (likely f.expander.now) x };
+
+    #[inline(always)]
+    fn add_line(
+        &self,
+        text: &mut Vec<u8>,
+        identifier: &mut LanguageIdentifier,
+    ) -> Result<bool, CliError> {
+        let changed = self.form.apply(self.expander, identifier);
+        add_changed(text, identifier, changed)
+    }
+
+    fn add_whole_line(
+        &self,
+        text: &mut Vec<u8>,
+        whole: &mut LocaleIdentifier,
+    ) -> Result<bool, CliError> {
+        let changed = self.form.apply(self.expander, &mut whole.locale.id);
+        add_changed(text, whole, changed)
+    }
+}
+
 // The answer to a line whose identifier is brought to a form.
 #[inline(always)]
 pub fn add_form(
@@ -55,116 +88,59 @@ pub fn add_form(
     ensures refused { IfErr result (λ e. e ≡ CliError.Memory) }
     ensures kept { OnErr result (Keeps text.old.items text.new.items) }
 {
-    match syntax {
-        None => add_plain_form(text, form, expander, line),
-        Some(syntax) => add_whole_form(text, form, expander, syntax, line),
-    }
+    add_read(text, &Forming { form, expander }, syntax, line)
 }
 
-// The same of a line that is an identifier alone.
-#[inline(always)]
-fn add_plain_form(
-    text: &mut Vec<u8>,
-    form: Transform,
-    expander: &LocaleExpander<'_>,
-    line: &[u8],
-) -> Result<bool, CliError>
-    ensures answer { IfOk result (AddsLine (IsIdentifierAnswer
-        (IsTransformed form (likely expander.now)) line.now)
-        text.old.items text.new.items) }
-    ensures refused { IfErr result (λ e. e ≡ CliError.Memory) }
-    ensures kept { OnErr result (Keeps text.old.items text.new.items) }
-{
-    match LanguageIdentifier::try_from_utf8(*text.allocator(), line) {
-        Ok(mut identifier) => {
-            let changed = form.apply(expander, &mut identifier);
-            add_transformed(text, &identifier, changed)
+// What is written in a line.
+pub trait Written {
+    ghost written: { Self → List ℕ };
+
+    // It is appended to a text.
+    fn add_to(&self, text: &mut Vec<u8>) -> Result<(), CliError>
+        ensures added { OnOk result (text.new.items ≡ text.old.items ++ written self.now) }
+        ensures refused { IfErr result (λ e. e ≡ CliError.Memory) }
+        ensures unchanged { OnErr result (text.new.items ≡ text.old.items) };
+}
+
+impl Written for LanguageIdentifier {
+    ghost written = { core.written };
+
+    #[inline(always)]
+    fn add_to(&self, text: &mut Vec<u8>) -> Result<(), CliError> {
+        match self.append_to(text) {
+            Ok(()) => Ok(()),
+            Err(_) => Err(CliError::Memory),
         }
-        Err(refusal) => add_fault(text, refusal),
     }
 }
 
-// The same of a line that is a locale identifier in a syntax.
-fn add_whole_form(
-    text: &mut Vec<u8>,
-    form: Transform,
-    expander: &LocaleExpander<'_>,
-    syntax: Syntax,
-    line: &[u8],
-) -> Result<bool, CliError>
-    ensures answer { IfOk result (AddsLine (IsSpelledAnswer syntax
-        (IsWholeTransformed form (likely expander.now)) line.now)
-        text.old.items text.new.items) }
-    ensures refused { IfErr result (λ e. e ≡ CliError.Memory) }
-    ensures kept { OnErr result (Keeps text.old.items text.new.items) }
-{
-    match LocaleIdentifier::read(*text.allocator(), syntax, line) {
-        Ok(mut whole) => {
-            let changed = form.apply(expander, &mut whole.locale.id);
-            add_changed(text, &whole, changed)
+impl Written for LocaleIdentifier {
+    ghost written = { extended.written };
+
+    fn add_to(&self, text: &mut Vec<u8>) -> Result<(), CliError> {
+        match self.append_to(text) {
+            Ok(()) => Ok(()),
+            Err(_) => Err(CliError::Memory),
         }
-        Err(refusal) => add_fault(text, refusal),
     }
 }
 
-// The line of an identifier and whether it was changed is appended to the others.
+// The line of what is written, and whether it was changed, is appended to the others.
 #[inline(always)]
-pub fn add_transformed(
+pub fn add_changed<W: Written>(
     text: &mut Vec<u8>,
-    identifier: &LanguageIdentifier,
+    shown: &W,
     changed: TransformResult,
 ) -> Result<bool, CliError>
     ensures answer { IfOk result (AddsLine
-        (λ t a. (t ≡ transformed_line identifier.now changed) × (a ≡ true))
+        (λ t a. (t ≡ changed_line (W.written shown.now) changed) × (a ≡ true))
         text.old.items text.new.items) }
     ensures refused { IfErr result (λ e. e ≡ CliError.Memory) }
     ensures kept { OnErr result (Keeps text.old.items text.new.items) }
 {
-    add_identifier(text, identifier)?;
+    shown.add_to(text)?;
     add_text(text, ending(changed))?;
     Ok(true)
-}
-
-// The line of a locale identifier and whether it was changed.
-pub fn add_changed(
-    text: &mut Vec<u8>,
-    whole: &LocaleIdentifier,
-    changed: TransformResult,
-) -> Result<bool, CliError>
-    ensures answer { IfOk result (AddsLine
-        (λ t a. (t ≡ whole_line whole.now changed) × (a ≡ true))
-        text.old.items text.new.items) }
-    ensures refused { IfErr result (λ e. e ≡ CliError.Memory) }
-    ensures kept { OnErr result (Keeps text.old.items text.new.items) }
-{
-    add_whole(text, whole)?;
-    add_text(text, ending(changed))?;
-    Ok(true)
-}
-
-// A locale identifier in written case is appended to a text.
-pub fn add_whole(text: &mut Vec<u8>, whole: &LocaleIdentifier) -> Result<(), CliError>
-    ensures added { OnOk result (text.new.items ≡ text.old.items ++ extended.written whole.now) }
-    ensures refused { IfErr result (λ e. e ≡ CliError.Memory) }
-    ensures unchanged { OnErr result (text.new.items ≡ text.old.items) }
-{
-    match whole.append_to(text) {
-        Ok(()) => Ok(()),
-        Err(_) => Err(CliError::Memory),
-    }
-}
-
-// An identifier in written case is appended to a text.
-#[inline(always)]
-pub fn add_identifier(text: &mut Vec<u8>, identifier: &LanguageIdentifier) -> Result<(), CliError>
-    ensures added { OnOk result (text.new.items ≡ text.old.items ++ written identifier.now) }
-    ensures refused { IfErr result (λ e. e ≡ CliError.Memory) }
-    ensures unchanged { OnErr result (text.new.items ≡ text.old.items) }
-{
-    match identifier.append_to(text) {
-        Ok(()) => Ok(()),
-        Err(_) => Err(CliError::Memory),
-    }
 }
 
 // The end of a line: a tab, and `M` where something was changed, or `U` where nothing was.

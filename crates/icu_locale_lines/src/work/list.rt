@@ -5,7 +5,7 @@ ghost use Rattle.icu_locale_lines.specs.Answers.{AddsLine, Keeps};
 
 use crate::answer::{add_fault, add_known, add_number, add_text};
 use crate::error::CliError;
-use crate::work::form::{add_identifier, add_whole};
+use crate::work::form::Written;
 use crate::work::offered::Offered;
 use icu_locale::NegotiatorRef;
 use icu_locale_core::{LanguageIdentifier, Locale, ParseError};
@@ -167,7 +167,7 @@ fn add_shown(
     ensures unchanged { OnErr result (text.new.items ≡ text.old.items) }
 {
     match offered.wholes.get(place) {
-        Some(whole) => add_whole(text, whole),
-        None => add_identifier(text, &available[place]),
+        Some(whole) => whole.add_to(text),
+        None => available[place].add_to(text),
     }
 }

@@ -1,29 +1,25 @@
 //! Lines that are brought to their canonical form: an identifier, an identifier, a tab and a value for `rg`, or a locale
 //! identifier in a syntax.
-ghost use Rattle.std.specs.Prelude.{◌≡◌, ◌⊎◌, Some, IfOk, IfErr, ◌++◌, codes, OnOk, OnErr, true, None};
-ghost use Rattle.std.specs.List.{position, flat_map};
-ghost use Rattle.std.specs.Option.{option_copied};
-ghost use Rattle.icu_locale_core.specs.Keywords.{with_value};
-ghost use Rattle.icu_locale.specs.Canonical.{rg, without_extensions};
-ghost use Rattle.icu_locale_lines.specs.Locales.{is_tab, identifier_text, value_text, SpellsLocale, IsLocaleFault};
-ghost use Rattle.icu_locale_lines.specs.inner.Parts.{IsLocaleOf, IsRefusedValue, TellsRefusal};
+ghost use Rattle.std.specs.Prelude.{◌≡◌, ℕ, Bool, List, IfOk, IfErr, OnErr, MatchOption, is_some, false};
+ghost use Rattle.std.specs.List.{position};
+ghost use Rattle.icu_locale.specs.Canonical.{without_extensions};
 ghost use Rattle.icu_locale.specs.LikelyTable.{likely};
 ghost use Rattle.icu_locale.specs.RuleSet.{lent};
-ghost use Rattle.icu_locale_core.specs.Value.{written_value};
-ghost use Rattle.icu_locale_lines.specs.Answers.{IsCanonicalized, AddsLine, Keeps, IsSpelledAnswer, IsLocaleAnswer, IsCanonicalAnswer};
+ghost use Rattle.icu_locale_lines.specs.Answers.{IsCanonicalized, AddsLine, Keeps, IsCanonicalAnswer};
+ghost use Rattle.icu_locale_lines.specs.Locales.{is_tab};
 ghost use Rattle.icu_locale_lines.specs.Wholes.{IsWholeCanonicalized, TellsWholeRefusal};
+ghost use Rattle.icu_locale_lines.specs.inner.Parts.{TellsRefusal};
 ghost use Rattle.icu_locale_values.specs.Whole.{whole_rules};
-ghost use Rattle.icu_locale_lines.specs.Texts.{override_line, canonical_line};
 
-use crate::answer::{add_fault, add_known, add_text};
+use crate::answer::add_known;
 use crate::error::CliError;
-use crate::work::form::{add_changed, add_identifier, add_transformed, ending};
-use icu_locale::{CanonicalizeError, CanonicalizerRef, TransformResult};
-use icu_locale_core::{Key, LanguageIdentifier, Locale, ParseError, Subtag, Value};
+use crate::work::answering::{Answering, add_read};
+use crate::work::form::add_changed;
+use crate::work::value::{add_identifier_and_value, first_tab};
+use icu_locale::CanonicalizeError;
+use icu_locale_core::LanguageIdentifier;
 use icu_locale_extensions::{LocaleIdentifier, Syntax};
 use icu_locale_values::{WholeCanonicalizer, WholeError};
-use memchr::memchr;
-use std::alloc::Global;
 
 /// The answer to a line that is a locale, in the room of an earlier one: the line of its canonical form, and whether the
 /// line was accepted.
@@ -59,148 +55,60 @@ pub fn add_locale(
     ensures refused { IfErr result (λ e. e ≡ CliError.Memory) }
     ensures kept { OnErr result (Keeps text.old.items text.new.items) }
 {
+    if has_value(syntax, line) {
+        return add_identifier_and_value(text, &canonicalizer.rules, line);
+    }
+    add_read(text, canonicalizer, syntax, line)
+}
+
+// Whether a line is read as an identifier and a value: without a syntax, where it has a tab.
+#[inline(always)]
+fn has_value(syntax: Option<Syntax>, line: &[u8]) -> bool
+    ensures { MatchOption syntax (result ≡ is_some (position is_tab line.now))
+        (λ _. result ≡ false) }
+{
     match syntax {
-        None => add_plain_locale(text, &canonicalizer.rules, line),
-        Some(syntax) => add_whole_locale(text, canonicalizer, syntax, line),
+        None => first_tab(line).is_some(),
+        Some(_) => false,
     }
 }
 
-// The same of a line that is an identifier, or an identifier, a tab and a value for `rg`.
-#[inline(always)]
-fn add_plain_locale(
-    text: &mut Vec<u8>,
-    canonicalizer: &CanonicalizerRef<'_>,
-    line: &[u8],
-) -> Result<bool, CliError>
-    ensures answer { IfOk result (AddsLine (IsLocaleAnswer (likely canonicalizer.now.expander)
-        (lent canonicalizer.now.rules) line.now)
-        text.old.items text.new.items) }
-    ensures refused { IfErr result (λ e. e ≡ CliError.Memory) }
-    ensures kept { OnErr result (Keeps text.old.items text.new.items) }
-{
-    match first_tab(line) {
-        None => add_identifier_alone(text, canonicalizer, line),
-        Some(_) => add_identifier_and_value(text, canonicalizer, line),
-    }
-}
+impl<'d> Answering for WholeCanonicalizer<'d> {
+    ghost is_line = { λ c x. IsCanonicalized (likely c.rules.expander) (lent c.rules.rules)
+        (without_extensions x) };
 
-// The same of a line without a tab.
-#[inline(always)]
-fn add_identifier_alone(
-    text: &mut Vec<u8>,
-    canonicalizer: &CanonicalizerRef<'_>,
-    line: &[u8],
-) -> Result<bool, CliError>
-    requires { position is_tab line.now ≡ None }
-    ensures answer { IfOk result (AddsLine (IsLocaleAnswer (likely canonicalizer.now.expander)
-        (lent canonicalizer.now.rules) line.now)
-        text.old.items text.new.items) }
-    ensures refused { IfErr result (λ e. e ≡ CliError.Memory) }
-    ensures kept { OnErr result (Keeps text.old.items text.new.items) }
-{
-    match LanguageIdentifier::try_from_utf8(*text.allocator(), line) {
-        Ok(mut identifier) => add_canonical_identifier(text, canonicalizer, &mut identifier),
-        Err(refusal) => add_fault(text, refusal),
-    }
-}
+    ghost is_whole_line = { λ c x. IsWholeCanonicalized (whole_rules c) x };
 
-// The same of a line with a tab.
-fn add_identifier_and_value(
-    text: &mut Vec<u8>,
-    canonicalizer: &CanonicalizerRef<'_>,
-    line: &[u8],
-) -> Result<bool, CliError>
-    ensures answer { IfOk result (AddsLine (IsLocaleAnswer (likely canonicalizer.now.expander)
-        (lent canonicalizer.now.rules) line.now)
-        text.old.items text.new.items) }
-    ensures refused { IfErr result (λ e. e ≡ CliError.Memory) }
-    ensures kept { OnErr result (Keeps text.old.items text.new.items) }
-{
-    match read_locale(*text.allocator(), line) {
-        Ok(mut locale) => add_canonical(text, canonicalizer, &mut locale),
-        Err(refusal) => add_fault(text, refusal),
+    #[inline(always)]
+    fn add_line(
+        &self,
+        text: &mut Vec<u8>,
+        identifier: &mut LanguageIdentifier,
+    ) -> Result<bool, CliError> {
+        match self.rules.canonicalize_identifier(identifier) {
+            Ok(changed) => add_changed(text, identifier, changed),
+            Err(refusal) => add_refusal(text, of_rules(refusal)),
+        }
     }
-}
 
-// The same of a line that is a locale identifier in a syntax.
-fn add_whole_locale(
-    text: &mut Vec<u8>,
-    canonicalizer: &WholeCanonicalizer<'_>,
-    syntax: Syntax,
-    line: &[u8],
-) -> Result<bool, CliError>
-    ensures answer { IfOk result (AddsLine (IsSpelledAnswer syntax
-        (IsWholeCanonicalized (whole_rules canonicalizer.now)) line.now)
-        text.old.items text.new.items) }
-    ensures refused { IfErr result (λ e. e ≡ CliError.Memory) }
-    ensures kept { OnErr result (Keeps text.old.items text.new.items) }
-{
-    match LocaleIdentifier::read(*text.allocator(), syntax, line) {
-        Ok(mut whole) => add_canonical_whole(text, canonicalizer, &mut whole),
-        Err(refusal) => add_fault(text, refusal),
-    }
-}
-
-// The line of an identifier with no extensions that is brought to its canonical form.
-#[inline(always)]
-fn add_canonical_identifier(
-    text: &mut Vec<u8>,
-    canonicalizer: &CanonicalizerRef<'_>,
-    identifier: &mut LanguageIdentifier,
-) -> Result<bool, CliError>
-    ensures answer { IfOk result (AddsLine (IsCanonicalized (likely canonicalizer.now.expander)
-        (lent canonicalizer.now.rules) (without_extensions identifier.old))
-        text.old.items text.new.items) }
-    ensures refused { IfErr result (λ e. e ≡ CliError.Memory) }
-    ensures kept { OnErr result (Keeps text.old.items text.new.items) }
-{
-    match canonicalizer.canonicalize_identifier(identifier) {
-        Ok(changed) => add_transformed(text, identifier, changed),
-        Err(refusal) => add_refusal(text, refusal),
-    }
-}
-
-// The line of a locale that is brought to its canonical form.
-fn add_canonical(
-    text: &mut Vec<u8>,
-    canonicalizer: &CanonicalizerRef<'_>,
-    locale: &mut Locale,
-) -> Result<bool, CliError>
-    ensures answer { IfOk result (AddsLine (IsCanonicalized (likely canonicalizer.now.expander)
-        (lent canonicalizer.now.rules) locale.old) text.old.items text.new.items) }
-    ensures refused { IfErr result (λ e. e ≡ CliError.Memory) }
-    ensures kept { OnErr result (Keeps text.old.items text.new.items) }
-{
-    match canonicalizer.canonicalize(locale) {
-        Ok(changed) => add_locale_line(text, locale, changed),
-        Err(refusal) => add_refusal(text, refusal),
-    }
-}
-
-// The line of a locale identifier that is brought to its canonical form.
-fn add_canonical_whole(
-    text: &mut Vec<u8>,
-    canonicalizer: &WholeCanonicalizer<'_>,
-    whole: &mut LocaleIdentifier,
-) -> Result<bool, CliError>
-    ensures answer { IfOk result (AddsLine
-        (IsWholeCanonicalized (whole_rules canonicalizer.now) whole.old)
-        text.old.items text.new.items) }
-    ensures refused { IfErr result (λ e. e ≡ CliError.Memory) }
-    ensures kept { OnErr result (Keeps text.old.items text.new.items) }
-{
-    let outcome = canonicalizer.canonicalize(whole);
-    // for the proof: both are maps
-    whole.locale.extensions.unicode.keywords.known();
-    whole.fields.known();
-    match outcome {
-        Ok(changed) => add_changed(text, whole, changed),
-        Err(refusal) => add_whole_refusal(text, refusal),
+    fn add_whole_line(
+        &self,
+        text: &mut Vec<u8>,
+        whole: &mut LocaleIdentifier,
+    ) -> Result<bool, CliError> {
+        let outcome = self.canonicalize(whole);
+        // for the proof: both are maps
+        whole.locale.extensions.unicode.keywords.known();
+        whole.fields.known();
+        match outcome {
+            Ok(changed) => add_changed(text, whole, changed),
+            Err(refusal) => add_refusal(text, refusal),
+        }
     }
 }
 
 // The line of a refusal of a locale identifier. Want of memory has none.
-fn add_whole_refusal(text: &mut Vec<u8>, refusal: WholeError) -> Result<bool, CliError>
+pub fn add_refusal(text: &mut Vec<u8>, refusal: WholeError) -> Result<bool, CliError>
     ensures answer { IfOk result (AddsLine (TellsWholeRefusal refusal)
         text.old.items text.new.items) }
     ensures refused { IfErr result (λ e. e ≡ CliError.Memory) }
@@ -217,168 +125,15 @@ fn add_whole_refusal(text: &mut Vec<u8>, refusal: WholeError) -> Result<bool, Cl
     }
 }
 
-// The line of a canonical locale: its identifier, its value at `rg` if there is one, and whether anything was changed.
-fn add_locale_line(
-    text: &mut Vec<u8>,
-    locale: &Locale,
-    changed: TransformResult,
-) -> Result<bool, CliError>
-    ensures answer { IfOk result (AddsLine
-        (λ t a. (t ≡ canonical_line locale.now changed) × (a ≡ true))
-        text.old.items text.new.items) }
-    ensures refused { IfErr result (λ e. e ≡ CliError.Memory) }
-    ensures kept { OnErr result (Keeps text.old.items text.new.items) }
-{
-    match locale.extensions.unicode.keywords.get(Key::REGION_OVERRIDE) {
-        Some(value) => add_override_line(text, &locale.id, value, changed),
-        None => add_transformed(text, &locale.id, changed),
-    }
-}
-
-// The line of an identifier, a value, and whether anything was changed.
-fn add_override_line(
-    text: &mut Vec<u8>,
-    identifier: &LanguageIdentifier,
-    value: &Value,
-    changed: TransformResult,
-) -> Result<bool, CliError>
-    ensures answer { IfOk result (AddsLine
-        (λ t a. (t ≡ override_line identifier.now (Some value.now) changed) × (a ≡ true))
-        text.old.items text.new.items) }
-    ensures refused { IfErr result (λ e. e ≡ CliError.Memory) }
-    ensures kept { OnErr result (Keeps text.old.items text.new.items) }
-{
-    add_identifier(text, identifier)?;
-    add_text(text, "\t")?;
-    add_value(text, value)?;
-    add_text(text, ending(changed))?;
-    Ok(true)
-}
-
-// The pieces of a value are appended to a text, with `-` between them.
-fn add_value(text: &mut Vec<u8>, value: &Value) -> Result<(), CliError>
-    ensures added { OnOk result (text.new.items ≡ text.old.items ++ written_value value.now) }
-    ensures refused { IfErr result (λ e. e ≡ CliError.Memory) }
-    ensures kept { OnErr result (Keeps text.old.items text.new.items) }
-{
-    let Some((first, rest)) = value.as_slice().split_first() else {
-        return Ok(());
-    };
-    add_text(text, first.as_str())?;
-    add_pieces(text, rest)
-}
-
-// Pieces are appended to a text, with `-` before each.
-fn add_pieces(text: &mut Vec<u8>, pieces: &[Subtag]) -> Result<(), CliError>
-    ensures added { OnOk result (text.new.items
-        ≡ text.old.items ++ flat_map (λ p. codes "-" ++ p) pieces.now) }
-    ensures refused { IfErr result (λ e. e ≡ CliError.Memory) }
-    ensures kept { OnErr result (Keeps text.old.items text.new.items) }
-{
-    for piece in pieces {
-        add_text(text, "-")?;
-        add_text(text, piece.as_str())?;
-    }
-    Ok(())
-}
-
-// The line of a refusal. Want of memory has none.
-fn add_refusal(text: &mut Vec<u8>, refusal: CanonicalizeError) -> Result<bool, CliError>
-    ensures answer { IfOk result (AddsLine (TellsRefusal refusal)
-        text.old.items text.new.items) }
-    ensures refused { IfErr result (λ e. e ≡ CliError.Memory) }
-    ensures kept { OnErr result (Keeps text.old.items text.new.items) }
+// A refusal of a locale, as one of a locale identifier.
+pub fn of_rules(refusal: CanonicalizeError) -> WholeError
+    ensures { (t : List ℕ) (a : Bool) → TellsWholeRefusal result t a → TellsRefusal refusal t a }
 {
     match refusal {
-        CanonicalizeError::Memory => Err(CliError::Memory),
-        CanonicalizeError::NoFixedPoint(_) => add_known(text, "?\tNoFixedPoint\n", false),
-        CanonicalizeError::NoSubdivisionFixedPoint(_) => {
-            add_known(text, "?\tNoSubdivisionFixedPoint\n", false)
+        CanonicalizeError::Memory => WholeError::Memory,
+        CanonicalizeError::NoFixedPoint(first) => WholeError::NoFixedPoint(first),
+        CanonicalizeError::NoSubdivisionFixedPoint(first) => {
+            WholeError::NoSubdivisionFixedPoint(first)
         }
     }
-}
-
-// The locale that a line spells. Its identifier is read before its value.
-#[inline(always)]
-fn read_locale(alloc: Global, line: &[u8]) -> Result<Locale, ParseError>
-    ensures read { IfOk result (SpellsLocale line.now) }
-    ensures refused { IfErr result (λ e. (e ≡ ParseError.Memory) ⊎ IsLocaleFault line.now e) }
-{
-    let (identifier, value) = cut_at_tab(line);
-    match LanguageIdentifier::try_from_utf8(alloc, identifier) {
-        Ok(identifier) => locale_of(alloc, identifier, value),
-        Err(refusal) => Err(refusal),
-    }
-}
-
-// The locale of an identifier, where there is a text with its value at `rg`.
-#[inline(always)]
-fn locale_of(
-    alloc: Global,
-    identifier: LanguageIdentifier,
-    text: Option<&[u8]>,
-) -> Result<Locale, ParseError>
-    ensures made { IfOk result (IsLocaleOf identifier (option_copied text.entry)) }
-    ensures refused { IfErr result (IsRefusedValue (option_copied text.entry)) }
-{
-    match text {
-        Some(text) => with_value(alloc, identifier, text),
-        None => Ok(Locale::new(alloc, identifier)),
-    }
-}
-
-// The locale of an identifier, with the value of a text at `rg`.
-fn with_value(
-    alloc: Global,
-    identifier: LanguageIdentifier,
-    text: &[u8],
-) -> Result<Locale, ParseError>
-    ensures made { IfOk result (IsLocaleOf identifier (Some text.now)) }
-    ensures refused { IfErr result (IsRefusedValue (Some text.now)) }
-{
-    match Value::try_from_utf8(alloc, text) {
-        Ok(value) => put_override(Locale::new(alloc, identifier), value),
-        Err(refusal) => Err(refusal),
-    }
-}
-
-// The locale with a value put at `rg`.
-fn put_override(mut locale: Locale, value: Value) -> Result<Locale, ParseError>
-    ensures id { IfOk result (λ l. l.id ≡ locale.id) }
-    ensures keywords { IfOk result (λ l. l.extensions.unicode.keywords
-        ≡ with_value locale.extensions.unicode.keywords rg value) }
-    ensures transform { IfOk result (λ l. l.extensions.transform.lang
-        ≡ locale.extensions.transform.lang) }
-    ensures refused { IfErr result (λ e. e ≡ ParseError.Memory) }
-{
-    let _ = locale
-        .extensions
-        .unicode
-        .keywords
-        .set(Key::REGION_OVERRIDE, value)?;
-    Ok(locale)
-}
-
-// A line up to its first tab, and what follows that, if there is one.
-#[inline(always)]
-fn cut_at_tab(line: &[u8]) -> (&[u8], Option<&[u8]>)
-    ensures identifier { result.0.now ≡ identifier_text line.now }
-    ensures value { option_copied result.1 ≡ value_text line.now }
-{
-    match first_tab(line) {
-        Some(place) => {
-            let (identifier, rest) = line.split_at(place);
-            let (_, value) = rest.split_at(1);
-            (identifier, Some(value))
-        }
-        None => (line, None),
-    }
-}
-
-// Where the first tab is.
-#[tactic(auto, using(crate::proofs::LineCuts::position_from_first))]
-fn first_tab(line: &[u8]) -> Option<usize>
-    ensures { result ≡ position is_tab line.now }
-{
-    memchr(b'\t', line)
 }

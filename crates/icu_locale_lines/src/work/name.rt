@@ -7,13 +7,14 @@ ghost use Rattle.icu_locale_names.specs.declared.options.LanguageDisplay.TheVari
 ghost use Rattle.icu_locale_names.specs.declared.options.DisplayNamesPreferences.{DisplayNamesPreferences};
 ghost use Rattle.icu_locale_names.specs.Pieces.{Piece};
 ghost use Rattle.icu_locale_full_names.specs.FullNames.{GivesFullName, written};
-ghost use Rattle.icu_locale_lines.specs.Answers.{AddsLine, Keeps, IsAnswerOf, IsIdentifierAnswer, IsSpelledAnswer, IsNamed, IsWholeNamed};
+ghost use Rattle.icu_locale_lines.specs.Answers.{AddsLine, Keeps, IsAnswerOf, IsNamed, IsWholeNamed};
 ghost use Rattle.icu_locale_lines.specs.Commands.{SpellsPreferences};
 ghost use Rattle.icu_locale_lines.specs.Names.{answers_in, name_asked, full_name_asked, IsNamedLine};
 ghost use Rattle.icu_locale_lines.specs.Texts.{named_line, raw_mark, refused_line};
 
-use crate::answer::{add_fault, add_known, add_text};
+use crate::answer::{add_known, add_text};
 use crate::error::CliError;
+use crate::work::answering::{Answering, add_read};
 use icu_locale_core::{LanguageIdentifier, laws};
 use icu_locale_extensions::{LocaleIdentifier, Syntax};
 use icu_locale_full_names::laws::{given_names_are_written, raw_parts_have_spans};
@@ -130,6 +131,37 @@ impl<'d> Naming<'d> {
     }
 }
 
+impl<'d> Answering for Naming<'d> {
+    ghost is_line = { IsNamed };
+
+    ghost is_whole_line = { IsWholeNamed };
+
+    #[inline(always)]
+    fn add_line(
+        &self,
+        text: &mut Vec<u8>,
+        identifier: &mut LanguageIdentifier,
+    ) -> Result<bool, CliError> {
+        self.add(text, identifier)
+    }
+
+    fn add_whole_line(
+        &self,
+        text: &mut Vec<u8>,
+        whole: &mut LocaleIdentifier,
+    ) -> Result<bool, CliError> {
+        match self.extensions {
+            Some(names) => {
+                if says_more(whole) {
+                    return self.add_whole(text, names, whole);
+                }
+                self.add(text, &whole.locale.id)
+            }
+            None => self.add(text, &whole.locale.id),
+        }
+    }
+}
+
 // The answer to a line that is named: its identifier, or all of it where the tables say what extensions are called.
 pub fn add_name(
     text: &mut Vec<u8>,
@@ -143,68 +175,7 @@ pub fn add_name(
     ensures refused { IfErr result (λ e. e ≡ CliError.Memory) }
     ensures kept { OnErr result (Keeps text.old.items text.new.items) }
 {
-    match syntax {
-        None => add_identifier_name(text, naming, line),
-        Some(syntax) => add_spelled_name(text, naming, syntax, line),
-    }
-}
-
-// The answer to a line that is a locale identifier in a syntax.
-fn add_spelled_name(
-    text: &mut Vec<u8>,
-    naming: &Naming<'_>,
-    syntax: Syntax,
-    line: &[u8],
-) -> Result<bool, CliError>
-    ensures answer { IfOk result (AddsLine
-        (IsSpelledAnswer syntax (IsWholeNamed naming.now) line.now)
-        text.old.items text.new.items) }
-    ensures refused { IfErr result (λ e. e ≡ CliError.Memory) }
-    ensures kept { OnErr result (Keeps text.old.items text.new.items) }
-{
-    match LocaleIdentifier::read(*text.allocator(), syntax, line) {
-        Ok(whole) => add_whole_name(text, naming, &whole),
-        Err(refusal) => add_fault(text, refusal),
-    }
-}
-
-// The answer to a line that is an identifier.
-fn add_identifier_name(
-    text: &mut Vec<u8>,
-    naming: &Naming<'_>,
-    line: &[u8],
-) -> Result<bool, CliError>
-    ensures answer { IfOk result (AddsLine (IsIdentifierAnswer (IsNamed naming.now) line.now)
-        text.old.items text.new.items) }
-    ensures refused { IfErr result (λ e. e ≡ CliError.Memory) }
-    ensures kept { OnErr result (Keeps text.old.items text.new.items) }
-{
-    match LanguageIdentifier::try_from_utf8(*text.allocator(), line) {
-        Ok(identifier) => naming.add(text, &identifier),
-        Err(refusal) => add_fault(text, refusal),
-    }
-}
-
-// The answer to a locale identifier.
-fn add_whole_name(
-    text: &mut Vec<u8>,
-    naming: &Naming<'_>,
-    whole: &LocaleIdentifier,
-) -> Result<bool, CliError>
-    ensures answer { IfOk result (AddsLine (IsWholeNamed naming.now whole.now)
-        text.old.items text.new.items) }
-    ensures refused { IfErr result (λ e. e ≡ CliError.Memory) }
-    ensures kept { OnErr result (Keeps text.old.items text.new.items) }
-{
-    match naming.extensions {
-        Some(names) => {
-            if says_more(whole) {
-                return naming.add_whole(text, names, whole);
-            }
-            naming.add(text, &whole.locale.id)
-        }
-        None => naming.add(text, &whole.locale.id),
-    }
+    add_read(text, naming, syntax, line)
 }
 
 // The line of a name: its text, and whether a raw subtag was written.
