@@ -17,8 +17,6 @@ use Rattle.icu_locale.specs.LikelySubtags.{AreSettled}
 use Rattle.icu_locale.specs.declared.negotiator.available.Available.{Available}
 use Rattle.icu_locale_lines.specs.Lists.{listed, IsAvailable, IsListedAnswer, IsNegotiatedLine}
 use Rattle.icu_locale_lines.specs.Serving.{IsWishAnswer}
-use Rattle.icu_locale_lines.specs.Wholes.{rules_of}
-use Rattle.icu_locale_lines.specs.declared.work.canonicalizing.Canonicalizing.{Canonicalizing}
 use Rattle.icu_locale_values.specs.Whole.{WholeRules}
 use Rattle.icu_locale_lines.specs.Commands.{IsWorkOf, AreToolsOf, text_answered, text_left}
 use Rattle.icu_locale_lines.specs.Lines.{after_first_line}
@@ -35,81 +33,33 @@ use Rattle.icu_locale_lines.specs.declared.command.Task.{Task}
 use Rattle.icu_locale_lines.specs.declared.command.Task.TheVariants as task
 use Rattle.icu_locale_lines.specs.declared.work.Tools.TheVariants as tools
 use Rattle.icu_locale_extensions.specs.declared.syntax.Syntax.{Syntax}
-
-pub line_over_rules : {E : Type 0} (t : Tables) (e : LocaleExpander) (read : ReadRules) (table : Aliases) (asked : LineCommand) (line whole : List ℕ)
-    (by : WholeRules) → IsExpanderOf t e → t.aliases ≡ Some table → AreRules table (rules_over read table) → asked.task ≡ task.Canonicalize
-    → by ≡ record { likely = likely e; rules = rules_over read table; keywords = t.supplement.keywords; fields = t.supplement.fields }
-    → (r : Result Bool E) → IfOk r (IsCanonicalAnswer asked.syntax by line whole)
-    → IfOk r (IsLineOf (without_list t) asked line whole)
-line_over_rules t e read table asked line whole by over has rules is same (Ok a) answer =
-    let k : Canonicalizing = record {
-      canonicalizer = record { rules = rules_over read table; expander = e };
-      values = record {
-        keywords = record { ref_ptr = (0, 0); now = t.supplement.keywords };
-        fields = record { ref_ptr = (0, 0); now = t.supplement.fields };
-      };
-    } in
-    record {
-      work = record { syntax = asked.syntax; tools = tools.Canonicalize k };
-      work_of = record {
-        syntax = refl;
-        tools = subst (λ j. AreToolsOver asked.syntax j (without_list t) (tools.Canonicalize k)) (sym is)
-            (over, subst (λ (o : Option Aliases). IsSomeAnd o (λ x. AreRules x (rules_over read table))) (sym has) rules, refl, refl);
-      };
-      answer = canonical_answer asked.syntax k line whole a (subst (λ b. IsCanonicalAnswer asked.syntax b line whole a) same answer);
-    }
-  where
-    canonical_answer : (syntax : Option Syntax) (k : Canonicalizing) (line whole : List ℕ) (a : Bool)
-        → IsCanonicalAnswer syntax (rules_of k) line whole a → IsAnswer (record { syntax = syntax; tools = tools.Canonicalize k }) line whole a
-    canonical_answer syntax k line whole a answer = answer
-line_over_rules t e read table asked line whole by over has rules is same (Err f) answer = tt
-
--- a line of wishes over a server of what is held
-pub line_over_server : {E : Type 0} (t : Tables) (e : LocaleExpander) (read : ReadRules) (table : Aliases) (m : LanguageMatching) (a : Available)
-    (o : Offered) (wishes : Wishes) (asked : LineCommand) (line whole : List ℕ) (s : Service)
-    → IsExpanderOf t e → t.aliases ≡ Some table → AreRules table (rules_over read table) → t.supplement.matching ≡ Some m
-    → asked.task ≡ task.Serve wishes → s.expander ≡ e → s.rules ≡ rules_over read table → s.matching ≡ m
-    → s.limits ≡ record { threshold = 50; demotion = 5 } → s.available ≡ identifiers_of a
-    → (r : Result Bool E) → IfOk r (IsWishAnswer asked.syntax wishes s o.wholes.items line whole)
-    → IfOk r (IsLineOf (with_list t (identifiers_of a) o.wholes.items) asked line whole)
-line_over_server t e read table m a o wishes asked line whole s over has rules matching is se sr sm sl sa (Ok b) answer = record {
-  work = record { syntax = asked.syntax; tools = tools.Serve wishes s o };
-  work_of = record {
-    syntax = refl;
-    tools = subst (λ k. AreToolsOver asked.syntax k (with_list t (identifiers_of a) o.wholes.items) (tools.Serve wishes s o)) (sym is) (
-      refl,
-      record {
-        tables = record {
-          expander = subst (IsExpanderOf t) (sym se) over;
-          rules = subst (λ r. IsSomeAnd t.aliases (λ x. AreRules x r)) (sym sr)
-              (subst (λ (o : Option Aliases). IsSomeAnd o (λ x. AreRules x (rules_over read table))) (sym has) rules);
-          matching = matching ∙ ap (λ x. Some x) (sym sm);
-          limits = sl;
-        };
-        available = ap (λ x. Some x) (sym sa);
-      },
-      refl,
-    );
-  };
-  answer = served_answer asked.syntax wishes s line whole b answer;
-}
-  where
-    served_answer : (syntax : Option Syntax) (wishes : Wishes) (s : Service) (line whole : List ℕ) (b : Bool)
-        → IsWishAnswer syntax wishes s o.wholes.items line whole b
-        → IsAnswer (record { syntax = syntax; tools = tools.Serve wishes s o }) line whole b
-    served_answer syntax wishes s line whole b answer = answer
-line_over_server t e read table m a o wishes asked line whole s over has rules matching is se sr sm sl sa (Err f) answer = tt
+use Rattle.std.proofs.Common.{◌⊎◌, inl, inr, IfErr, false, true, is_some}
+use Rattle.std.proofs.lemmas.Bool.{false≢true}
+use Rattle.std.proofs.lemmas.Result.{IfOk-weaker, IfErr-weaker}
+use Rattle.icu_locale_lines.specs.Commands.{IsListing, ListsBy, has_tables}
+use Rattle.icu_locale_lines.specs.Loads.{not_found}
+use Rattle.icu_locale_lines.specs.WholeRuns.{IsUnloaded}
+use Rattle.icu_locale_lines.specs.declared.command.Command.TheVariants.{Lines}
+use Rattle.icu_locale_lines.specs.declared.error.CliError.{CliError}
+use Rattle.icu_locale_lines.specs.declared.error.CliError.TheVariants.{Data, NotSettled}
+use Rattle.icu_locale_lines.specs.declared.work.listing.Listing.{Listing}
+use Rattle.icu_locale_core.specs.declared.langid.LanguageIdentifier.{LanguageIdentifier}
+use Rattle.icu_locale_c.specs.Asked.{HasAsked, IsRefusedLine, asks_list}
+use Rattle.icu_locale_c.specs.Negotiations.{IsRefusedNegotiation, IsRefusedRequests}
+use Rattle.icu_locale_c.specs.declared.refusal.Refusal.{Refusal}
+use Rattle.icu_locale_c.specs.declared.refusal.Refusal.TheVariants as refusal
 
 -- the work of a command that lists nothing asks for no list
-pub work_without_list : (asked : LineCommand) (t : Tables) (w : Work) → ((input : List ℕ) → IsWorkOf asked t input w
-    × (text_answered asked input ≡ input)) → IsWorkOver asked (without_list t) w
-work_without_list asked t w of = record { syntax = (of []).0.syntax; tools = by asked.task (of []).0.tools (λ input. (of input).1) }
+pub work_without_list : (asked : LineCommand) (t : Tables) (list : Option (List LanguageIdentifier)) (ws : List LocaleIdentifier) (w : Work)
+    → ((input : List ℕ) → IsWorkOf asked t input w × (text_answered asked input ≡ input))
+    → IsWorkOver asked (record { tables = t; available = list; wholes = ws }) w
+work_without_list asked t list ws w of = record { syntax = (of []).0.syntax; tools = by asked.task (of []).0.tools (λ input. (of input).1) }
   where
     never : after_first_line (10 ∷ []) ≡ 10 ∷ [] → ⊥
     never same = let none : 0 ≡ 1 = ap length same in omega (arith, none)
 
     by : (k : Task) → AreToolsOf asked.syntax k t [] w.tools → ((input : List ℕ) → text_left k input ≡ input)
-        → AreToolsOver asked.syntax k (without_list t) w.tools
+        → AreToolsOver asked.syntax k (record { tables = t; available = list; wholes = ws }) w.tools
     by (task.Transform form) are same = are
     by task.Canonicalize are same = are
     by task.Direction are same = are
@@ -118,6 +68,64 @@ work_without_list asked t w of = record { syntax = (of []).0.syntax; tools = by 
     by task.Fallback are same = are
     by (task.Serve wishes) are same = absurd (never (same (10 ∷ [])))
     by task.Distance are same = are
+
+-- a task that does not list asks for no list
+pub asks_none : (k : Task) → (k ≡ task.Negotiate → ⊥) → ((w : Wishes) → k ≡ task.Serve w → ⊥) → asks_list k ≡ false
+asks_none (task.Transform form) negotiates serves = refl
+asks_none task.Canonicalize negotiates serves = refl
+asks_none task.Direction negotiates serves = refl
+asks_none task.Negotiate negotiates serves = absurd (negotiates refl)
+asks_none (task.Name chain preferences) negotiates serves = refl
+asks_none task.Fallback negotiates serves = refl
+asks_none (task.Serve w) negotiates serves = absurd (serves w refl)
+asks_none task.Distance negotiates serves = refl
+
+-- the work of such a task, over what is held
+module _ (asked : LineCommand) (t : Tables) (list : Option (List LanguageIdentifier)) (ws : List LocaleIdentifier)
+    (none : asks_list asked.task ≡ false) (r : Result Work Refusal) where
+  pub loaded_work_over : IfOk r (λ w. (input : List ℕ) → IsWorkOf asked t input w × (text_answered asked input ≡ input))
+      → IfOk r (IsWorkOver asked (record { tables = t; available = list; wholes = ws }))
+  loaded_work_over h = IfOk-weaker r _ _ (λ w of. work_without_list asked t list ws w of) h
+
+  pub loaded_asked : IfOk r (λ w. has_tables (Lines asked) t ≡ true) → IfOk r (λ w. HasAsked (record { tables = t; available = list; wholes = ws }) asked)
+  loaded_asked h = IfOk-weaker r _ _ (λ w held. record { list = λ asks. absurd (false≢true (sym none ∙ asks)); tables = held }) h
+
+  pub loaded_refused : IfErr r (λ e. (e ≡ refusal.Table) × (has_tables (Lines asked) t ≡ false))
+      → IfErr r (IsRefusedLine (record { tables = t; available = list; wholes = ws }) asked)
+  loaded_refused h = IfErr-weaker r _ _ (λ e why. subst (IsRefusedLine (record { tables = t; available = list; wholes = ws }) asked) (sym why.0)
+      ((λ asks. absurd (false≢true (sym none ∙ asks))), why.1)) h
+
+-- a task that asks for no list is refused for a table alone
+pub loaded_table : (asked : LineCommand) (t : Tables) (e : CliError) → asks_list asked.task ≡ false → (e ≡ Data not_found) ⊎ (e ≡ NotSettled)
+    → IsUnloaded (Lines asked) t e → has_tables (Lines asked) t ≡ false
+loaded_table asked t e none (inl is) why = (subst (IsUnloaded (Lines asked) t) is why).1
+loaded_table asked t e none (inr is) why =
+    absurd (false≢true (sym none ∙ ap asks_list (subst (IsUnloaded (Lines asked) t) is why).negotiates))
+
+-- it is ready, and waits for no list
+pub never_lists : (asked : LineCommand) (t : Tables) (l : Listing) → asks_list asked.task ≡ false → IsListing asked t l → ⊥
+never_lists asked t l none waits = by asked.task none waits.over
+  where
+    by : (k : Task) → asks_list k ≡ false → ListsBy k t l.over → ⊥
+    by (task.Transform form) none lists = lists
+    by task.Canonicalize none lists = lists
+    by task.Direction none lists = lists
+    by task.Negotiate none lists = false≢true (sym none)
+    by (task.Name chain preferences) none lists = lists
+    by task.Fallback none lists = lists
+    by (task.Serve w) none lists = false≢true (sym none)
+    by task.Distance none lists = lists
+
+-- why a line gives no places is told by the line, where a list is held
+pub refused_requests : {A : Type 0} (syntax : Option Syntax) (h : Held) (line : List ℕ) (r : Result A Refusal) → is_some h.available ≡ true
+    → IfErr r (IsRefusedRequests syntax line) → IfErr r (IsRefusedNegotiation syntax h line)
+refused_requests syntax h line r there why = IfErr-weaker r _ _ by why
+  where
+    by : (e : Refusal) → IsRefusedRequests syntax line e → IsRefusedNegotiation syntax h line e
+    by refusal.Negotiate why = absurd why
+    by refusal.Memory why = (there, why)
+    by refusal.List why = (there, why)
+    by e why = (there, why)
 
 -- a list that was made over one expander of tables was made over each
 pub list_over : (t : Tables) (e f : LocaleExpander) (list : Available) → IsExpanderOf t e → f ≡ e → IsMadeOver (likely f) list → IsListOver t list
@@ -134,27 +142,6 @@ negotiation_over t e n a ws kept over same listed = record {
   expander = subst (IsExpanderOf t) (sym same) over;
   settled = subst (λ (x : LocaleExpander). AreSettled (likely x)) (sym same) (kept.made e over).settled;
   available = ap Some (sym listed);
-}
-
--- the answer to a list is that of the work over it
-list_answered : (syntax : Option Syntax) (n : Negotiation) (o : Offered) (line whole : List ℕ) (accepted : Bool)
-    → IsListedAnswer syntax (IsNegotiatedLine n o.wholes.items) line whole accepted
-    → IsAnswer (record { syntax = syntax; tools = tools.Negotiate n o }) line whole accepted
-list_answered None n o line whole accepted answer = answer
-list_answered (Some s) n o line whole accepted answer = answer
-
-pub line_over_list : (t : Tables) (e : LocaleExpander) (n : Negotiation) (a : Available) (o : Offered) (asked : LineCommand) (line whole : List ℕ)
-    (accepted : Bool) → IsListOver t a → asked.task ≡ task.Negotiate → IsExpanderOf t e → n.expander ≡ e → n.available ≡ identifiers_of a
-    → IsListedAnswer asked.syntax (IsNegotiatedLine n o.wholes.items) line whole accepted
-    → IsLineOf (with_list t (identifiers_of a) o.wholes.items) asked line whole accepted
-line_over_list t e n a o asked line whole accepted kept is over same listed answer = record {
-  work = record { syntax = asked.syntax; tools = tools.Negotiate n o };
-  work_of = record {
-    syntax = refl;
-    tools = subst (λ k. AreToolsOver asked.syntax k (with_list t (identifiers_of a) o.wholes.items) (tools.Negotiate n o)) (sym is)
-        (negotiation_over t e n a o.wholes.items kept over same listed, refl);
-  };
-  answer = list_answered asked.syntax n o line whole accepted answer;
 }
 
 module _ (syntax : Option Syntax) (t : Tables) (a : Available) (ws : List LocaleIdentifier) (line : List ℕ) (kept : IsListOver t a)

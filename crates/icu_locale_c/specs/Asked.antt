@@ -6,7 +6,9 @@ use Rattle.icu_locale_lines.specs.declared.command.Command.TheVariants.{Lines}
 use Rattle.icu_locale_lines.specs.declared.command.LineCommand.{LineCommand}
 use Rattle.icu_locale_lines.specs.declared.command.Task.{Task}
 use Rattle.icu_locale_lines.specs.declared.command.Task.TheVariants.{Negotiate, Serve}
+use Rattle.icu_locale_lines.specs.declared.command.Wishes.{Wishes}
 use Rattle.icu_locale_lines.specs.declared.work.Work.{Work}
+use Rattle.icu_tables.specs.declared.tables.Tables.{Tables}
 use Rattle.icu_locale_c.specs.Held.{Held, IsWorkOver}
 use Rattle.icu_locale_c.specs.declared.refusal.Refusal.{Refusal}
 use Rattle.icu_locale_c.specs.declared.refusal.Refusal.TheVariants as refusal
@@ -27,6 +29,21 @@ asks_list task = false
 -- the list is there that the task asks for, if it asks for one
 abbrev pub HasList : Held → LineCommand → Type 0
 HasList h asked = asks_list asked.task ≡ true → IsSome h.available
+
+-- all that a command asks for is there: its list, if it asks for one, and its tables
+pub record HasAsked (h : Held) (asked : LineCommand) : Type 0 where
+  pub list : HasList h asked
+  pub tables : has_tables (Lines asked) h.tables ≡ true
+
+-- a task serves
+abbrev pub IsServeTask : Task → Type 0
+IsServeTask task = (wishes : Wishes) × (task ≡ Serve wishes)
+
+-- why nothing is made beside the tables: a table is not held, or all are and memory was refused
+abbrev pub IsUnkept : Tables → LineCommand → Refusal → Type 0
+IsUnkept t asked refusal.Memory = has_tables (Lines asked) t ≡ true
+IsUnkept t asked refusal.Table = has_tables (Lines asked) t ≡ false
+IsUnkept t asked e = ⊥
 
 -- why there is none: that a list is lacking comes before all else, and then that a table is
 abbrev pub IsRefusedLine : Held → LineCommand → Refusal → Type 0

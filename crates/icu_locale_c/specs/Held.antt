@@ -7,7 +7,6 @@ use Rattle.icu_locale_extensions.specs.contracts.identifier.LocaleIdentifier.{th
 use Rattle.icu_locale_extensions.specs.declared.identifier.LocaleIdentifier.{LocaleIdentifier}
 use Rattle.icu_locale.specs.Negotiation.{IsMadeOver, Negotiation, identifiers_of}
 use Rattle.icu_locale.specs.RuleSet.{rules_over}
-use Rattle.icu_locale.specs.Rules.{AreRules}
 use Rattle.icu_locale.specs.declared.canonicalizer.rules.ReadRules.{ReadRules}
 use Rattle.icu_locale.specs.LikelyTable.{likely}
 use Rattle.icu_locale.specs.LikelySubtags.{AreSettled}
@@ -20,7 +19,7 @@ use Rattle.icu_provider.specs.declared.aliases.Aliases.{Aliases}
 use Rattle.icu_provider.specs.declared.matching.LanguageMatching.{LanguageMatching}
 use Rattle.icu_tables.specs.contracts.tables.Tables.{the_row as tables_row}
 use Rattle.icu_tables.specs.declared.tables.Tables.{Tables}
-use Rattle.icu_locale_lines.specs.Loads.{IsExpanderOf}
+use Rattle.icu_locale_lines.specs.Loads.{AreRulesOf, IsExpanderOf}
 use Rattle.icu_locale_lines.specs.Commands.{AreToolsOf, IsServerOf}
 use Rattle.icu_locale_lines.specs.declared.command.LineCommand.{LineCommand}
 use Rattle.icu_locale_c.specs.declared.kept.Kept.{Kept}
@@ -57,10 +56,6 @@ held_code = code_by (Tables × (Option (List LanguageIdentifier) × List LocaleI
     (coded× tables_row.coded (coded× (coded_option (coded_list identifier_row.coded))
     (coded_list whole_row.coded))) (λ h. (h.tables, (h.available, h.wholes)))
     (λ p. record { tables = p.0; available = p.1.0; wholes = p.1.1 }) (λ h i. h)
-
--- rules are what can be read of the aliases of the tables, which have some
-abbrev pub AreRulesOf : Tables → ReadRules → Type 0
-AreRulesOf t read = IsSomeAnd t.aliases (λ table. AreRules table (rules_over read table))
 
 -- a list was made over the tables, whatever the expander over them: they have one
 pub record IsListOver (t : Tables) (list : Available) : Type 0 where
@@ -108,9 +103,9 @@ pub record IsServerOver (h : Held) (s : Service) : Type 0 where
 -- list, and write it as it was read
 abbrev pub AreToolsOver : Option Syntax → Task → Held → Tools → Type 0
 AreToolsOver syntax Negotiate h (tools.Negotiate n offered) =
-    IsNegotiationOf h n × (offered.wholes.items ≡ h.wholes)
+    IsNegotiationOf h n × (offered.now.wholes.items ≡ h.wholes)
 AreToolsOver syntax (Serve wishes) h (tools.Serve how s offered) =
-    (how ≡ wishes) × IsServerOver h s × (offered.wholes.items ≡ h.wholes)
+    (how ≡ wishes) × IsServerOver h s × (offered.now.wholes.items ≡ h.wholes)
 AreToolsOver syntax task h w = AreToolsOf syntax task h.tables [] w
 
 -- the work of a command over what is held

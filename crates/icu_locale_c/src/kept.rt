@@ -1,24 +1,19 @@
 //! What a handle keeps beside its tables, once it was asked for.
-ghost use Rattle.std.specs.Prelude.{◌≡◌, [], true, Option, Some, IfOk, IfErr, IfSome, IsOk, IsSome};
-ghost use Rattle.icu_locale.specs.LikelyTable.{likely};
-ghost use Rattle.icu_locale.specs.RuleSet.{lent};
-ghost use Rattle.icu_locale.specs.Rules.{HasNoTexts};
+ghost use Rattle.std.specs.Prelude.{◌≡◌, ◌&&◌, [], true, false, List, Option, Some, IfOk, IfErr, IsOk, IsSome, IsSomeAnd};
+ghost use Rattle.icu_locale.specs.RuleSet.{lent, rules_over};
 ghost use Rattle.icu_locale.specs.declared.negotiator.available.Available.{Available};
-ghost use Rattle.icu_locale_matching.specs.Service.{IsPreparedOver};
-ghost use Rattle.icu_locale_lines.specs.Loads.{has_likely};
-ghost use Rattle.icu_locale_lines.specs.Serving.{IsWishAnswer};
-ghost use Rattle.icu_locale_c.specs.Asked.{IsLineOf, IsRefusedLine};
-ghost use Rattle.icu_locale_c.specs.Held.{AreKept, AreRulesOf, HasKept, StaysKept, with_list};
-ghost use Rattle.icu_locale.specs.Negotiation.{identifiers_of};
-ghost use Rattle.icu_locale_matching.specs.Service as service;
+ghost use Rattle.icu_locale_extensions.specs.declared.identifier.LocaleIdentifier.{LocaleIdentifier};
+ghost use Rattle.icu_locale_lines.specs.Commands.{has_matching, reads_rules};
+ghost use Rattle.icu_locale_lines.specs.Loads.{IsExpanderOf, has_rules};
+ghost use Rattle.icu_locale_c.specs.Asked.{IsRefusedLine, IsServeTask, IsUnkept};
+ghost use Rattle.icu_locale_c.specs.Held.{AreKept, HasKept, IsServerOver, StaysKept, held};
 
 use crate::refusal::Refusal;
-use icu_locale::{Available, CanonicalizerRef, LocaleExpander, ReadRules};
+use icu_locale::{Available, CanonicalizerRef, ReadRules};
 use icu_locale_core::{LanguageIdentifier, ParseError};
-use icu_locale_extensions::Syntax;
-use icu_locale_lines::{LineCommand, Offered, Task, Wishes, answer_wishes, load_expander};
+use icu_locale_lines::{CliError, LineCommand, Task, lend_rules, load_rules};
 use icu_locale_matching::{LocaleServer, MatchLimits, ServedLocales};
-use icu_provider::{Aliases, LanguageMatching};
+use icu_provider::LanguageMatching;
 use icu_tables::Tables;
 use std::alloc::Global;
 
@@ -37,66 +32,84 @@ impl Drop for Kept {
     }
 }
 
-// Reads the rules of aliases, where none are kept.
-pub fn read_rules(
+// Makes what a command asks for beside its tables, where it is not kept.
+pub fn keep(
     alloc: Global,
     tables: &Tables,
-    aliases: &Aliases,
+    list: &Option<Available>,
+    asked: &LineCommand,
     kept: &mut Kept,
 ) -> Result<(), Refusal>
-    requires { tables.now.aliases ≡ Some aliases.now }
+    requires { AreKept tables.now list.now kept.old }
+    ensures kept { AreKept tables.now list.now kept.new }
+    ensures there { IsOk result → HasKept asked.now.task kept.new }
+    ensures stays { StaysKept kept.old kept.new }
+    ensures refused { (wholes : List LocaleIdentifier)
+        → IfErr result (IsRefusedLine (held tables.now list.now wholes) asked.now) }
+{
+    match asked.task {
+        Task::Canonicalize => keep_rules(alloc, tables, asked, kept),
+        Task::Serve(_) => match list {
+            Some(list) => {
+                keep_rules(alloc, tables, asked, kept)?;
+                keep_served(alloc, tables, list, asked, kept)
+            }
+            None => Err(Refusal::Negotiate),
+        },
+        _ => Ok(()),
+    }
+}
+
+// Reads the rules of the aliases, where none are kept.
+fn keep_rules(
+    alloc: Global,
+    tables: &Tables,
+    asked: &LineCommand,
+    kept: &mut Kept,
+) -> Result<(), Refusal>
+    requires { reads_rules asked.now.task ≡ true }
     ensures kept { (list : Option Available) → AreKept tables.now list kept.old
         → AreKept tables.now list kept.new }
-    ensures rules { IfSome kept.old.rules (AreRulesOf tables.now)
-        → IfSome kept.new.rules (AreRulesOf tables.now) }
     ensures there { IsOk result → IsSome kept.new.rules }
     ensures stays { StaysKept kept.old kept.new }
     ensures again { IsSome kept.old.rules → IsOk result }
-    ensures free { HasNoTexts aliases.now → IsOk result }
-    ensures refused { IfErr result (λ e. e ≡ Refusal.Memory) }
+    ensures refused { IfErr result (IsUnkept tables.now asked.now) }
 {
     if kept.rules.is_some() {
         return Ok(());
     }
-    match ReadRules::read(alloc, aliases) {
-        Ok(read) => {
-            kept.rules = Some(read);
+    match load_rules(alloc, asked, tables) {
+        Ok(rules) => {
+            kept.rules = rules;
             Ok(())
         }
-        Err(_) => Err(Refusal::Memory),
+        Err(CliError::Memory) => Err(Refusal::Memory),
+        Err(_) => Err(Refusal::Table),
     }
 }
 
 // Prepares the list to be served, by the rules that are kept, where that is not kept.
-fn prepare(
+fn keep_served(
     alloc: Global,
     tables: &Tables,
-    aliases: &Aliases,
-    matching: &LanguageMatching,
     list: &Available,
+    asked: &LineCommand,
     kept: &mut Kept,
 ) -> Result<(), Refusal>
-    requires aliases { tables.now.aliases ≡ Some aliases.now }
-    requires matching { tables.now.supplement.matching ≡ Some matching.now }
     requires kept { AreKept tables.now (Some list.now) kept.old }
+    requires rules { IsSome kept.old.rules }
+    requires task { IsServeTask asked.now.task }
     ensures kept { AreKept tables.now (Some list.now) kept.new }
-    ensures there { IsOk result → IsSome kept.old.rules → has_likely tables.now ≡ true
-        → IsSome kept.new.served }
+    ensures there { IsOk result → IsSome kept.new.served }
     ensures rules { kept.new.rules ≡ kept.old.rules }
     ensures stays { IsSome kept.old.served → kept.new.served ≡ kept.old.served }
     ensures again { IsSome kept.old.served → IsOk result }
-    ensures refused { IfErr result (λ e. e ≡ Refusal.Memory) }
+    ensures refused { IfErr result (IsUnkept tables.now asked.now) }
 {
-    let Some(read) = &kept.rules else {
-        return Ok(());
-    };
     if kept.served.is_some() {
         return Ok(());
     }
-    let Ok(expander) = load_expander(tables) else {
-        return Ok(());
-    };
-    let rules = CanonicalizerRef::over(read, aliases, expander);
+    let (rules, matching) = lend_service(tables, &kept.rules)?;
     let Ok(identifiers) = copied(alloc, list.identifiers()) else {
         return Err(Refusal::Memory);
     };
@@ -106,6 +119,49 @@ fn prepare(
             Ok(())
         }
         Err(_) => Err(Refusal::Memory),
+    }
+}
+
+// The rules that are kept, and the match rules of the tables: what is served by.
+fn lend_service<'r>(
+    tables: &'r Tables,
+    rules: &'r Option<ReadRules>,
+) -> Result<(CanonicalizerRef<'r>, &'r LanguageMatching), Refusal>
+    requires { IsSome rules.now }
+    ensures expander { IfOk result (λ s. IsExpanderOf tables.now s.0.expander) }
+    ensures rules { IfOk result (λ s. IsSomeAnd rules.now (λ read.
+        IsSomeAnd tables.now.aliases (λ table. lent s.0.rules ≡ rules_over read table))) }
+    ensures matching { IfOk result (λ s. tables.now.supplement.matching ≡ Some s.1.now) }
+    ensures held { IfOk result (λ _. (has_matching tables.now && has_rules tables.now) ≡ true) }
+    ensures refused { IfErr result (λ e. (e ≡ Refusal.Table)
+        × ((has_matching tables.now && has_rules tables.now) ≡ false)) }
+{
+    let Some(matching) = &tables.supplement.matching else {
+        return Err(Refusal::Table);
+    };
+    let Some(read) = rules else { unreachable!() };
+    match lend_rules(tables, read) {
+        Ok(rules) => Ok((rules, matching)),
+        Err(_) => Err(Refusal::Table),
+    }
+}
+
+// The server over what is kept.
+pub fn server_over<'r>(tables: &'r Tables, kept: &'r Kept) -> Result<LocaleServer<'r>, Refusal>
+    requires rules { IsSome kept.now.rules }
+    requires served { IsSome kept.now.served }
+    requires kept { (list : Option Available) × AreKept tables.now list kept.now }
+    ensures over { (list : Option Available) (wholes : List LocaleIdentifier)
+        → AreKept tables.now list kept.now
+        → IfOk result (IsServerOver (held tables.now list wholes)) }
+    ensures held { IfOk result (λ _. (has_matching tables.now && has_rules tables.now) ≡ true) }
+    ensures refused { IfErr result (λ e. (e ≡ Refusal.Table)
+        × ((has_matching tables.now && has_rules tables.now) ≡ false)) }
+{
+    let (rules, matching) = lend_service(tables, &kept.rules)?;
+    match &kept.served {
+        Some(served) => Ok(LocaleServer::over(rules, matching, MatchLimits::default(), served)),
+        None => unreachable!(),
     }
 }
 
@@ -123,85 +179,4 @@ fn copied(
         list.push(identifier.try_clone()?)?;
     }
     Ok(list)
-}
-
-// The program's line for a line of wishes, in the room of an earlier one. What it needs beside the tables is made where
-// it is not kept, and is kept then.
-pub fn wishes_line(
-    alloc: Global,
-    tables: &Tables,
-    list: &Available,
-    offered: &Offered,
-    kept: &mut Kept,
-    wishes: Wishes,
-    asked: &LineCommand,
-    room: &mut Vec<u8>,
-    line: &[u8],
-) -> Result<bool, Refusal>
-    requires kept { AreKept tables.now (Some list.now) kept.old }
-    requires task { asked.now.task ≡ Task.Serve wishes }
-    ensures kept { AreKept tables.now (Some list.now) kept.new }
-    ensures there { IsOk result → HasKept (Task.Serve wishes) kept.new }
-    ensures stays { StaysKept kept.old kept.new }
-    ensures answered { IfOk result (IsLineOf
-        (with_list tables.now (identifiers_of list.now) offered.now.wholes.items)
-        asked.now line.now room.new.items) }
-    ensures refused { IfErr result (IsRefusedLine
-        (with_list tables.now (identifiers_of list.now) offered.now.wholes.items) asked.now) }
-{
-    let Some(matching) = &tables.supplement.matching else {
-        return Err(Refusal::Table);
-    };
-    let Ok(expander) = load_expander(tables) else {
-        return Err(Refusal::Table);
-    };
-    let Some(aliases) = &tables.aliases else {
-        return Err(Refusal::Table);
-    };
-    read_rules(alloc, tables, aliases, kept)?;
-    prepare(alloc, tables, aliases, matching, list, kept)?;
-    match (&kept.rules, &kept.served) {
-        (Some(read), Some(served)) => {
-            let rules = CanonicalizerRef::over(read, aliases, expander);
-            served_line(
-                rules,
-                matching,
-                served,
-                offered,
-                wishes,
-                asked.syntax,
-                room,
-                line,
-            )
-        }
-        _ => Err(Refusal::Memory),
-    }
-}
-
-// The same over what is lent.
-fn served_line(
-    rules: CanonicalizerRef<'_>,
-    matching: &LanguageMatching,
-    served: &ServedLocales,
-    offered: &Offered,
-    wishes: Wishes,
-    syntax: Option<Syntax>,
-    room: &mut Vec<u8>,
-    line: &[u8],
-) -> Result<bool, Refusal>
-    requires { IsPreparedOver (likely rules.expander) (lent rules.rules) matching.now served.now }
-    ensures answered { IfOk result (IsWishAnswer syntax wishes (record {
-      expander = rules.entry.expander;
-      rules = lent rules.entry.rules;
-      matching = matching.now;
-      limits = record { threshold = 50; demotion = 5 };
-      available = service.identifiers_of served.now;
-    }) offered.now.wholes.items line.now room.new.items) }
-    ensures refused { IfErr result (λ e. e ≡ Refusal.Memory) }
-{
-    let server = LocaleServer::over(rules, matching, MatchLimits::default(), served);
-    match answer_wishes(room, &server, offered, wishes, syntax, line) {
-        Ok(accepted) => Ok(accepted),
-        Err(_) => Err(Refusal::Memory),
-    }
 }

@@ -1,24 +1,18 @@
 //! The program's line for a line, over what a handle keeps.
-ghost use Rattle.std.specs.Prelude.{◌≡◌, ◌<◌, ◌-◌, false, take, length, Option, IfOk, IfErr, IfSome, IsOk, IsSome};
-ghost use Rattle.icu_locale.specs.LikelyTable.{likely};
-ghost use Rattle.icu_locale.specs.RuleSet.{lent};
-ghost use Rattle.icu_locale.specs.declared.negotiator.available.Available.{Available};
-ghost use Rattle.icu_locale_lines.specs.Answers.{IsCanonicalAnswer};
-ghost use Rattle.icu_locale_c.specs.Asked.{IsLineOf, IsRefusedLine, asks_list};
+ghost use Rattle.std.specs.Prelude.{◌≡◌, ◌<◌, ◌-◌, true, false, take, length, List, ℕ, IfOk, IfErr, IfSome, IsOk, is_ok};
+ghost use Rattle.icu_locale_lines.specs.Commands.{HasRules, IsWorkOf, has_tables, text_answered};
+ghost use Rattle.icu_locale_lines.specs.Loads.{IsExpanderOf, has_likely};
+ghost use Rattle.icu_locale_lines.specs.declared.command.Command.TheVariants.{Lines};
+ghost use Rattle.icu_locale_c.specs.Asked.{HasAsked, IsLineOf, IsRefusedLine, asks_list};
 ghost use Rattle.icu_locale_c.specs.Calls.{Writes, unended};
-ghost use Rattle.icu_locale_c.specs.Held.{AreKept, AreRulesOf, HasKept, IsListOver, StaysKept, held, without_list};
+ghost use Rattle.icu_locale_c.specs.Held.{AreKept, HasKept, IsListOver, IsWorkOver, StaysKept, held};
 
-use crate::kept::{Kept, read_rules, wishes_line};
-use crate::negotiations::requests_line;
+use crate::kept::{Kept, keep, server_over};
+use crate::negotiations::negotiator_over;
 use crate::refusal::Refusal;
-use icu_locale::{Available, CanonicalizerRef};
-use icu_locale_extensions::Syntax;
-use icu_locale_lines::{
-    CliError, LineCommand, Loaded, Offered, Task, Tools, Transform, Work, answer_locale,
-    load_expander,
-};
-use icu_locale_values::{ValueAliases, WholeCanonicalizer};
-use icu_tables::{Supplement, Tables};
+use icu_locale::{Available, LocaleExpander};
+use icu_locale_lines::{LineCommand, Loaded, Offered, Task, Tools, Work, load_expander};
+use icu_tables::Tables;
 use std::alloc::Global;
 
 // The line of a command, in the room of an earlier one, and whether the line that was read is accepted. What is asked for
@@ -43,133 +37,76 @@ pub fn line_of(
     ensures refused { IfErr result (IsRefusedLine
         (held tables.now list.now offered.now.wholes.items) asked.now) }
 {
-    match asked.task {
-        Task::Negotiate => match list {
-            Some(list) => requests_line(tables, list, offered, asked, room, line),
-            None => Err(Refusal::Negotiate),
-        },
-        Task::Serve(wishes) => match list {
-            Some(list) => wishes_line(
-                alloc, tables, list, offered, kept, wishes, asked, room, line,
-            ),
-            None => Err(Refusal::Negotiate),
-        },
-        Task::Canonicalize => locale_line(alloc, tables, kept, asked, room, line),
-        Task::Transform(form) => form_line(tables, form, asked, room, line),
-        _ => plain_line(alloc, tables, asked, room, line),
-    }
-}
-
-// The line of a form over likely subtags, which a few references make.
-fn form_line(
-    tables: &Tables,
-    form: Transform,
-    asked: &LineCommand,
-    room: &mut Vec<u8>,
-    line: &[u8],
-) -> Result<bool, Refusal>
-    requires { asked.now.task ≡ Task.Transform form }
-    ensures answered { IfOk result (IsLineOf (without_list tables.now) asked.now line.now
-        room.new.items) }
-    ensures refused { IfErr result (IsRefusedLine (without_list tables.now) asked.now) }
-{
-    let Ok(expander) = load_expander(tables) else {
-        return Err(Refusal::Table);
-    };
-    let work = Work {
-        syntax: asked.syntax,
-        tools: Tools::Transform(form, expander),
-    };
+    keep(alloc, tables, list, asked, kept)?;
+    let work = work_over(tables, list, offered, kept, asked)?;
     match work.answer(room, line) {
         Ok(accepted) => Ok(accepted),
         Err(_) => Err(Refusal::Memory),
     }
 }
 
-// The line of a command that keeps nothing.
-fn plain_line(
-    alloc: Global,
-    tables: &Tables,
+// The work of a command over what is held and kept.
+#[inline(always)]
+fn work_over<'r>(
+    tables: &'r Tables,
+    list: &'r Option<Available>,
+    offered: &'r Offered,
+    kept: &'r Kept,
     asked: &LineCommand,
-    room: &mut Vec<u8>,
-    line: &[u8],
-) -> Result<bool, Refusal>
-    requires { asks_list asked.now.task ≡ false }
-    ensures answered { IfOk result (IsLineOf (without_list tables.now) asked.now line.now
-        room.new.items) }
-    ensures refused { IfErr result (IsRefusedLine (without_list tables.now) asked.now) }
+) -> Result<Work<'r>, Refusal>
+    requires kept { AreKept tables.now list.now kept.now }
+    requires there { HasKept asked.now.task kept.now }
+    requires list { IfSome list.now (IsListOver tables.now) }
+    ensures work { IfOk result (IsWorkOver asked.now
+        (held tables.now list.now offered.now.wholes.items)) }
+    ensures asked { IfOk result (λ _. HasAsked
+        (held tables.now list.now offered.now.wholes.items) asked.now) }
+    ensures refused { IfErr result (IsRefusedLine
+        (held tables.now list.now offered.now.wholes.items) asked.now) }
 {
-    match Loaded::load(alloc, asked, tables) {
-        Ok(Loaded::Ready(work)) => match work.answer(room, line) {
-            Ok(accepted) => Ok(accepted),
-            Err(_) => Err(Refusal::Memory),
-        },
-        Ok(Loaded::Listing(_)) => Err(Refusal::Negotiate),
-        Err(CliError::Data(_)) => Err(Refusal::Table),
-        Err(CliError::NotSettled) => Err(Refusal::Negotiate),
-        Err(_) => Err(Refusal::Memory),
+    let tools = match asked.task {
+        // A few references make these, and loading them moves more.
+        Task::Transform(form) => Tools::Transform(form, expander_over(tables)?),
+        Task::Negotiate => Tools::Negotiate(negotiator_over(tables, list)?, offered),
+        Task::Serve(wishes) => Tools::Serve(wishes, server_over(tables, kept)?, offered),
+        _ => return loaded_work(tables, kept, asked),
+    };
+    Ok(Work {
+        syntax: asked.syntax,
+        tools,
+    })
+}
+
+// The expander over the tables.
+fn expander_over(tables: &Tables) -> Result<LocaleExpander<'_>, Refusal>
+    ensures made { IfOk result (IsExpanderOf tables.entry.now) }
+    ensures loaded { is_ok result ≡ has_likely tables.entry.now }
+    ensures refused { IfErr result (λ e. e ≡ Refusal.Table) }
+{
+    match load_expander(tables) {
+        Ok(expander) => Ok(expander),
+        Err(_) => Err(Refusal::Table),
     }
 }
 
-// The line of a locale's canonical form.
-fn locale_line(
-    alloc: Global,
-    tables: &Tables,
-    kept: &mut Kept,
+// The work of a command that asks for no list.
+fn loaded_work<'r>(
+    tables: &'r Tables,
+    kept: &'r Kept,
     asked: &LineCommand,
-    room: &mut Vec<u8>,
-    line: &[u8],
-) -> Result<bool, Refusal>
-    requires rules { IfSome kept.old.rules (AreRulesOf tables.now) }
-    requires task { asked.now.task ≡ Task.Canonicalize }
-    ensures kept { (list : Option Available) → AreKept tables.now list kept.old
-        → AreKept tables.now list kept.new }
-    ensures there { IsOk result → IsSome kept.new.rules }
-    ensures stays { StaysKept kept.old kept.new }
-    ensures answered { IfOk result (IsLineOf (without_list tables.now) asked.now line.now
-        room.new.items) }
-    ensures refused { IfErr result (IsRefusedLine (without_list tables.now) asked.now) }
+) -> Result<Work<'r>, Refusal>
+    requires list { asks_list asked.now.task ≡ false }
+    requires rules { HasRules asked.now.task tables.now kept.now.rules }
+    ensures work { IfOk result (λ w. (input : List ℕ)
+        → IsWorkOf asked.now tables.now input w × (text_answered asked.now input ≡ input)) }
+    ensures held { IfOk result (λ _. has_tables (Lines asked.now) tables.now ≡ true) }
+    ensures refused { IfErr result (λ e. (e ≡ Refusal.Table)
+        × (has_tables (Lines asked.now) tables.now ≡ false)) }
 {
-    let Ok(expander) = load_expander(tables) else {
-        return Err(Refusal::Table);
-    };
-    let Some(aliases) = &tables.aliases else {
-        return Err(Refusal::Table);
-    };
-    read_rules(alloc, tables, aliases, kept)?;
-    match &kept.rules {
-        Some(read) => {
-            let rules = CanonicalizerRef::over(read, aliases, expander);
-            line_by(rules, &tables.supplement, asked.syntax, room, line)
-        }
-        None => Err(Refusal::Memory),
-    }
-}
-
-// The same by rules, and the aliases of values of a supplement.
-fn line_by(
-    rules: CanonicalizerRef<'_>,
-    supplement: &Supplement,
-    syntax: Option<Syntax>,
-    room: &mut Vec<u8>,
-    line: &[u8],
-) -> Result<bool, Refusal>
-    ensures answered { IfOk result (IsCanonicalAnswer syntax (record {
-      likely = likely rules.entry.expander;
-      rules = lent rules.entry.rules;
-      keywords = supplement.now.keywords;
-      fields = supplement.now.fields;
-    }) line.now room.new.items) }
-    ensures refused { IfErr result (λ e. e ≡ Refusal.Memory) }
-{
-    let values = ValueAliases {
-        keywords: &supplement.keywords,
-        fields: &supplement.fields,
-    };
-    let canonicalizer = WholeCanonicalizer { rules, values };
-    match answer_locale(room, &canonicalizer, syntax, line) {
-        Ok(accepted) => Ok(accepted),
-        Err(_) => Err(Refusal::Memory),
+    match Loaded::load(asked, tables, &kept.rules) {
+        Ok(Loaded::Ready(work)) => Ok(work),
+        Ok(Loaded::Listing(_)) => unreachable!(),
+        Err(_) => Err(Refusal::Table),
     }
 }
 

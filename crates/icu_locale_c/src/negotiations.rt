@@ -1,19 +1,17 @@
 //! A list of what is available, kept beside the tables over which it was made, and negotiation over it.
-ghost use Rattle.std.specs.Prelude.{◌≡◌, List, IfOk, IfErr};
+ghost use Rattle.std.specs.Prelude.{◌≡◌, true, List, None, IfOk, IfErr, IfSome};
 ghost use Rattle.icu_locale.specs.Negotiation.{identifiers_of};
 ghost use Rattle.icu_locale_extensions.specs.declared.identifier.LocaleIdentifier.{LocaleIdentifier};
 ghost use Rattle.icu_locale_lines.specs.Lists.{listed, IsAvailable};
-ghost use Rattle.icu_locale_c.specs.Asked.{IsLineOf, IsRefusedLine};
-ghost use Rattle.icu_locale_c.specs.Held.{IsListOver, with_list};
+ghost use Rattle.icu_locale_lines.specs.Loads.{has_likely};
+ghost use Rattle.icu_locale_c.specs.Held.{Held, IsListOver, IsNegotiationOf, held};
 ghost use Rattle.icu_locale_c.specs.Negotiations.{IsMet, IsRefusedListing, IsRefusedRequests};
 
 use crate::refusal::Refusal;
 use icu_locale::{Available, NegotiatorRef};
 use icu_locale_core::ParseError;
 use icu_locale_extensions::Syntax;
-use icu_locale_lines::{
-    CliError, LineCommand, Offered, Task, answer_requests, list_available, load_expander, read_list,
-};
+use icu_locale_lines::{CliError, Offered, list_available, load_expander, read_list};
 use icu_tables::Tables;
 use std::alloc::Global;
 
@@ -40,53 +38,40 @@ pub fn read_available(
     }
 }
 
-// The program's line for a line of requests, in the room of an earlier one.
-pub fn requests_line(
-    tables: &Tables,
-    list: &Available,
-    offered: &Offered,
-    asked: &LineCommand,
-    room: &mut Vec<u8>,
-    line: &[u8],
-) -> Result<bool, Refusal>
-    requires list { IsListOver tables.now list.now }
-    requires task { asked.now.task ≡ Task.Negotiate }
-    ensures answered { IfOk result (IsLineOf
-        (with_list tables.now (identifiers_of list.now) offered.now.wholes.items)
-        asked.now line.now room.new.items) }
-    ensures refused { IfErr result (IsRefusedLine
-        (with_list tables.now (identifiers_of list.now) offered.now.wholes.items) asked.now) }
+// The negotiator over a list that is kept.
+pub fn negotiator_over<'r>(
+    tables: &'r Tables,
+    list: &'r Option<Available>,
+) -> Result<NegotiatorRef<'r>, Refusal>
+    requires { IfSome list.now (IsListOver tables.now) }
+    ensures over { (wholes : List LocaleIdentifier)
+        → IfOk result (IsNegotiationOf (held tables.now list.now wholes)) }
+    ensures held { IfOk result (λ _. has_likely tables.now ≡ true) }
+    ensures refused { IfErr result (λ e. (e ≡ Refusal.Negotiate) × (list.now ≡ None)) }
 {
-    let Ok(expander) = load_expander(tables) else {
-        return Err(Refusal::Memory);
+    let Some(list) = list else {
+        return Err(Refusal::Negotiate);
     };
-    let negotiator = NegotiatorRef::over(expander, list);
-    match answer_requests(room, &negotiator, offered, asked.syntax, line) {
-        Ok(accepted) => Ok(accepted),
-        Err(_) => Err(Refusal::Memory),
+    match load_expander(tables) {
+        Ok(expander) => Ok(NegotiatorRef::over(expander, list)),
+        Err(_) => unreachable!(),
     }
 }
 
 // The places of the first request of a line that is met and of what meets it.
 pub fn negotiate(
     alloc: Global,
-    tables: &Tables,
-    list: &Available,
+    negotiator: &NegotiatorRef<'_>,
     syntax: Option<Syntax>,
     line: &[u8],
 ) -> Result<Option<(usize, usize)>, Refusal>
-    requires { IsListOver tables.now list.now }
-    ensures met { (wholes : List LocaleIdentifier) → IfOk result (IsMet syntax
-        (with_list tables.now (identifiers_of list.now) wholes) line.now) }
+    ensures met { (h : Held) → IsNegotiationOf h negotiator.now
+        → IfOk result (IsMet syntax h line.now) }
     ensures refused { IfErr result (IsRefusedRequests syntax line.now) }
 {
-    let requests = match read_list(alloc, syntax, line) {
-        Ok(requests) => requests,
-        Err(ParseError::Memory) => return Err(Refusal::Memory),
-        Err(_) => return Err(Refusal::List),
-    };
-    let Ok(expander) = load_expander(tables) else {
-        return Err(Refusal::Memory);
-    };
-    Ok(NegotiatorRef::over(expander, list).negotiate(&requests))
+    match read_list(alloc, syntax, line) {
+        Ok(requests) => Ok(negotiator.negotiate(&requests)),
+        Err(ParseError::Memory) => Err(Refusal::Memory),
+        Err(_) => Err(Refusal::List),
+    }
 }

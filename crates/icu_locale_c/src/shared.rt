@@ -6,7 +6,7 @@ ghost use Rattle.icu_locale_c.specs.Negotiations.{IsListed, IsMet, IsRefusedList
 
 use crate::kept::Kept;
 use crate::lines::{line_of, put_line};
-use crate::negotiations::{negotiate, read_available};
+use crate::negotiations::{negotiate, negotiator_over, read_available};
 use crate::refusal::Refusal;
 use crate::words::read_command;
 use icu_locale::Available;
@@ -119,10 +119,8 @@ impl Shared {
         ensures met { IfOk result (IsMet syntax self.now line.now) }
         ensures refused { IfErr result (IsRefusedNegotiation syntax self.now line.now) }
     {
-        let Some(list) = &self.available else {
-            return Err(Refusal::Negotiate);
-        };
-        negotiate(alloc, &self.tables, list, syntax, line)
+        let negotiator = negotiator_over(&self.tables, &self.available)?;
+        negotiate(alloc, &negotiator, syntax, line)
     }
 
     pub fn is_settled(&self) -> Result<bool, Refusal>

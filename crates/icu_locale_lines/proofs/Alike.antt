@@ -18,10 +18,10 @@ use Rattle.icu_locale.specs.Canonical.{IsCanonical, answer_of, is_applied, put_o
 use Rattle.icu_locale.specs.Kinds.{next}
 use Rattle.icu_locale_runs.specs.Run.{EndsAt}
 use Rattle.icu_locale_values.specs.Refusals.{IsWholeRefusal}
-use Rattle.icu_locale_values.specs.Whole.{WholeRules, IsWhole, AreMaps}
+use Rattle.icu_locale_values.specs.Whole.{WholeRules, IsWhole, AreMaps, whole_rules}
 use Rattle.icu_locale_values.specs.declared.error.WholeError.{WholeError}
 use Rattle.icu_locale_values.specs.declared.error.WholeError.TheVariants.{Memory, NoFixedPoint, NoSubdivisionFixedPoint, NoValueFixedPoint, NoFieldFixedPoint}
-use Rattle.icu_locale_lines.specs.Wholes.{IsWholeCanonicalized, TellsWholeRefusal, rules_of}
+use Rattle.icu_locale_lines.specs.Wholes.{IsWholeCanonicalized, TellsWholeRefusal}
 use Rattle.icu_locale.specs.LikelySubtags.{LikelySubtags}
 use Rattle.icu_locale.specs.LikelyTable.{likely}
 use Rattle.icu_locale.specs.declared.canonicalizer.rules.Rules.{Rules}
@@ -183,12 +183,12 @@ module _ (facts : SyntaxFacts) (s : Syntax) (line text : List ℕ) (a : Bool) wh
   pub answers_alike : (work : Tools) → HoldsIdentifiers work line → IsAnswerBy (Some s) work line text a ↔ IsAnswerBy None work line text a
   answers_alike (tools.Transform form e) (none, x, is, spells) = each_alike x (is, spells) (IsWholeTransformed form (likely e))
       (IsTransformed form (likely e)) (transformed_alike x (is, spells) form (likely e))
-  answers_alike (tools.Canonicalize c) (none, x, is, spells) = canonical_answers_alike x (is, spells) (rules_of c) none
+  answers_alike (tools.Canonicalize c) (none, x, is, spells) = canonical_answers_alike x (is, spells) (whole_rules c) none
   answers_alike (tools.Direction d) (none, x, is, spells) =
       each_alike x (is, spells) (λ w. IsDirected d w.locale.id) (IsDirected d) (λ h. h, λ h. h)
-  answers_alike (tools.Negotiate n o) (xs, each) = lists_alike (IsNegotiatedLine n o.wholes.items) xs each
+  answers_alike (tools.Negotiate n o) (xs, each) = lists_alike (IsNegotiatedLine n o.now.wholes.items) xs each
   answers_alike (tools.Serve Header t o) holds = (λ h. h, λ h. h)
-  answers_alike (tools.Serve Requests t o) (xs, each) = lists_alike (IsNearestLine t o.wholes.items) xs each
+  answers_alike (tools.Serve Requests t o) (xs, each) = lists_alike (IsNearestLine t o.now.wholes.items) xs each
   answers_alike (tools.Distance d) (xs, each) = lists_alike (IsDistanceLine d.matching.now (likely d.expander)) xs each
   answers_alike (tools.Name n) (none, x, is, spells) = each_alike x (is, spells) (IsWholeNamed n) (IsNamed n) (named_alike x (is, spells) n)
   answers_alike (tools.Fallback f) (none, x, is, spells) =

@@ -1,5 +1,5 @@
 -- A line has one answer at most.
-use Rattle.std.proofs.Common.{◌≡◌, ◌≢◌, ◌↔◌, ◌⊎◌, ℕ, ◌<◌, ◌≤◌, Bool, true, false, List, [], ◌∷◌, ◌++◌, Option, Some, None, Result, Ok, Err, refl}
+use Rattle.std.proofs.Common.{◌≡◌, ◌≢◌, ◌↔◌, ◌⊎◌, ℕ, ◌<◌, ◌≤◌, Bool, false, List, [], ◌∷◌, Option, Some, None, Result, Ok, Err, refl}
 use Rattle.std.proofs.Common.{ap, sym, subst, ◌∙◌, inl, inr, arith}
 use Rattle.std.proofs.lemmas.Option.{same_Some, none-some}
 use Rattle.icu_locale_core.specs.Identifier.{written}
@@ -32,10 +32,10 @@ use Rattle.icu_provider.specs.declared.matching.LanguageMatching.{LanguageMatchi
 use Rattle.icu_locale.specs.Canonical.{answer_of}
 use Rattle.icu_locale_values.specs.Refusals.{IsWholeRefusal, whole_error_name}
 use Rattle.icu_locale_values.specs.Refusals as values
-use Rattle.icu_locale_values.specs.Whole.{WholeRules, IsWhole, AreMaps, is_whole_applied}
+use Rattle.icu_locale_values.specs.Whole.{WholeRules, IsWhole, AreMaps, is_whole_applied, whole_rules}
 use Rattle.icu_locale_values.specs.declared.error.WholeError.{WholeError}
 use Rattle.icu_locale_values.specs.declared.error.WholeError.TheVariants as whole_error
-use Rattle.icu_locale_lines.specs.Wholes.{IsWholeCanonicalized, TellsWholeRefusal, rules_of}
+use Rattle.icu_locale_lines.specs.Wholes.{IsWholeCanonicalized, TellsWholeRefusal}
 use Rattle.icu_locale_lines.specs.Serving.{TellsServed, IsNearestLine, IsDistanceLine, IsWishAnswer}
 use Rattle.icu_locale_lines.specs.declared.command.Wishes.{Wishes}
 use Rattle.icu_locale_lines.specs.declared.command.Wishes.TheVariants.{Header, Requests}
@@ -222,12 +222,12 @@ module _ (spelling : SpellingFacts) (minimal_one : (favor : Favor) (table : Like
   answer_by_one syntax (tools.Transform form e) h k = answer_of_one syntax (IsTransformed form (likely e)) (IsWholeTransformed form (likely e))
       (formed_one one two a b minimal_one (λ x. x) (λ x y. written y) form (likely e))
       (formed_one one two a b minimal_one (λ x. x.locale.id) (λ x y. extended.written (with_id x y)) form (likely e)) h k
-  answer_by_one syntax (tools.Canonicalize c) h k = canonical_answer_one syntax (rules_of c) h k
+  answer_by_one syntax (tools.Canonicalize c) h k = canonical_answer_one syntax (whole_rules c) h k
   answer_by_one syntax (tools.Direction d) h k = answer_of_one syntax (IsDirected d) (λ x. IsDirected d x.locale.id)
       (λ x p q. same p.0 q.0 refl p.1 q.1) (λ x p q. same p.0 q.0 refl p.1 q.1) h k
   answer_by_one syntax (tools.Negotiate n o) h k = read_one (listed_once spelling syntax) one two a b
-      (IsNegotiatedLine n o.wholes.items) (negotiated_line_one n o.wholes.items) line h k
-  answer_by_one syntax (tools.Serve wishes s o) h k = wish_one syntax wishes s o.wholes.items h k
+      (IsNegotiatedLine n o.now.wholes.items) (negotiated_line_one n o.now.wholes.items) line h k
+  answer_by_one syntax (tools.Serve wishes s o) h k = wish_one syntax wishes s o.now.wholes.items h k
   answer_by_one syntax (tools.Distance d) h k = read_one (listed_once spelling syntax) one two a b
       (IsDistanceLine d.matching.now (likely d.expander)) (distance_line_one d.matching.now (likely d.expander)) line h k
   answer_by_one syntax (tools.Name n) h k = answer_of_one syntax (IsNamed n) (IsWholeNamed n)

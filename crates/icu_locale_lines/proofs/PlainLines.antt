@@ -17,14 +17,14 @@ use Rattle.icu_locale_extensions.specs.declared.identifier.LocaleIdentifier.{Loc
 use Rattle.icu_locale_extensions.specs.declared.syntax.Syntax.{Syntax}
 use Rattle.icu_locale_extensions.specs.declared.syntax.Syntax.TheVariants.{Unicode}
 use Rattle.icu_locale.specs.LikelyTable.{likely}
-use Rattle.icu_locale_values.specs.Whole.{WholeRules}
+use Rattle.icu_locale_values.specs.Whole.{WholeRules, whole_rules}
 use Rattle.icu_locale_lines.specs.Answers.{IsAnswerBy, IsCanonicalized, IsIdentifierAnswer, IsLocaleAnswer, IsSpelledAnswer, IsTransformed, IsWholeTransformed}
 use Rattle.icu_locale_lines.specs.Answers.{IsDirected, IsNamed, IsWholeNamed, has_singleton, HasNoSingleton}
 use Rattle.icu_locale_lines.specs.Chains.{IsChained}
 use Rattle.icu_locale_lines.specs.Lists.{IsFault, IsFirstFault, IsListedAnswer, IsNegotiatedLine, SpellsAll, SpellsIn, SpellsWhole, listed}
 use Rattle.icu_locale_lines.specs.Locales.{is_tab, is_readable, identifier_text, value_text, IsLocaleFault, IsValueFault, SpellsSome}
 use Rattle.icu_locale_lines.specs.Serving.{IsNearestLine, IsDistanceLine}
-use Rattle.icu_locale_lines.specs.Wholes.{IsWholeCanonicalized, rules_of}
+use Rattle.icu_locale_lines.specs.Wholes.{IsWholeCanonicalized}
 use Rattle.icu_locale_lines.specs.declared.command.Wishes.TheVariants.{Header, Requests}
 use Rattle.icu_locale_lines.specs.declared.work.Tools.{Tools}
 use Rattle.icu_locale_lines.specs.declared.work.Tools.TheVariants as tools
@@ -166,12 +166,12 @@ module _ (facts : SyntaxFacts) (line text : List ℕ) (a : Bool) where
       → IsAnswerBy (Some Unicode) work line text a ↔ IsAnswerBy None work line text a
   plain_answers_alike (tools.Transform form e) plain = each_plain plain (IsWholeTransformed form (likely e)) (IsTransformed form (likely e))
       (λ x spells. transformed_alike facts Unicode line text a x spells form (likely e))
-  plain_answers_alike (tools.Canonicalize c) (none, plain) = canonical_plain plain none (rules_of c)
+  plain_answers_alike (tools.Canonicalize c) (none, plain) = canonical_plain plain none (whole_rules c)
   plain_answers_alike (tools.Direction d) plain =
       each_plain plain (λ w. IsDirected d w.locale.id) (IsDirected d) (λ x spells. (λ h. h, λ h. h))
-  plain_answers_alike (tools.Negotiate n o) plain = lists_plain plain (IsNegotiatedLine n o.wholes.items)
+  plain_answers_alike (tools.Negotiate n o) plain = lists_plain plain (IsNegotiatedLine n o.now.wholes.items)
   plain_answers_alike (tools.Serve Header t o) plain = (λ h. h, λ h. h)
-  plain_answers_alike (tools.Serve Requests t o) plain = lists_plain plain (IsNearestLine t o.wholes.items)
+  plain_answers_alike (tools.Serve Requests t o) plain = lists_plain plain (IsNearestLine t o.now.wholes.items)
   plain_answers_alike (tools.Distance d) plain = lists_plain plain (IsDistanceLine d.matching.now (likely d.expander))
   plain_answers_alike (tools.Name n) plain = each_plain plain (IsWholeNamed n) (IsNamed n)
       (λ x spells. named_alike facts Unicode line text a x spells n)

@@ -25,8 +25,8 @@ use Rattle.icu_locale_lines.specs.declared.work.Tools.TheVariants as tools
 use Rattle.icu_locale_lines.specs.Chains.{IsChained}
 use Rattle.icu_locale_lines.specs.Lists.{listed, SpellsAll, SpellsIn, SpellsWhole, IsFault, IsListedAnswer, IsNegotiatedLine}
 use Rattle.icu_locale_lines.specs.Serving.{IsWishAnswer, IsDistanceLine}
-use Rattle.icu_locale_lines.specs.Wholes.{IsWholeCanonicalized, rules_of}
-use Rattle.icu_locale_values.specs.Whole.{WholeRules}
+use Rattle.icu_locale_lines.specs.Wholes.{IsWholeCanonicalized}
+use Rattle.icu_locale_values.specs.Whole.{WholeRules, whole_rules}
 use Rattle.icu_locale_lines.specs.declared.command.Wishes.TheVariants.{Header, Requests}
 use Rattle.icu_locale_lines.specs.Locales.{is_tab, SpellsLocale, IsLocaleFault}
 use Rattle.icu_locale_lines.specs.Names.{name_asked, whole_name_asked, IsNamedLine}
@@ -167,17 +167,17 @@ abbrev pub IsAnswerBy : Option Syntax → Tools → List ℕ → List ℕ → Bo
 IsAnswerBy syntax (tools.Transform form e) line text accepted = IsAnswerOf syntax
     (IsTransformed form (likely e)) (IsWholeTransformed form (likely e)) line text accepted
 IsAnswerBy syntax (tools.Canonicalize k) line text accepted =
-    IsCanonicalAnswer syntax (rules_of k) line text accepted
+    IsCanonicalAnswer syntax (whole_rules k) line text accepted
 IsAnswerBy syntax (tools.Direction d) line text accepted =
     IsAnswerOf syntax (IsDirected d) (λ x. IsDirected d x.locale.id) line text accepted
 IsAnswerBy syntax (tools.Negotiate negotiation offered) line text accepted = IsListedAnswer syntax
-    (IsNegotiatedLine negotiation offered.wholes.items) line text accepted
+    (IsNegotiatedLine negotiation offered.now.wholes.items) line text accepted
 IsAnswerBy syntax (tools.Name n) line text accepted =
     IsAnswerOf syntax (IsNamed n) (IsWholeNamed n) line text accepted
 IsAnswerBy syntax (tools.Fallback f) line text accepted =
     IsAnswerOf syntax (IsChained f) (λ x. IsChained f x.locale.id) line text accepted
 IsAnswerBy syntax (tools.Serve wishes s offered) line text accepted =
-    IsWishAnswer syntax wishes s offered.wholes.items line text accepted
+    IsWishAnswer syntax wishes s offered.now.wholes.items line text accepted
 IsAnswerBy syntax (tools.Distance d) line text accepted =
     IsListedAnswer syntax (IsDistanceLine d.matching.now (likely d.expander)) line text accepted
 

@@ -21,13 +21,20 @@ use Rattle.icu_locale.specs.LikelyTable.{likely}
 use Rattle.icu_locale_fallback.specs.declared.fallbacker.LocaleFallbackPriority.TheVariants.{Language}
 use Rattle.icu_locale.specs.Rules.{AreRules}
 use Rattle.icu_locale.specs.LikelySubtags.{AreSettled}
+use Rattle.icu_locale.specs.declared.canonicalizer.rules.ReadRules.{ReadRules}
 use Rattle.icu_locale.specs.declared.expander.LocaleExpander.{LocaleExpander}
+use Rattle.icu_locale_names.specs.declared.name_chain.NameChain.{NameChain}
 use Rattle.icu_tables.specs.declared.tables.Tables.{Tables}
 use Rattle.icu_locale_lines.specs.Lines.{first_line, after_first_line}
 use Rattle.icu_locale_lines.specs.Lists.{listed, IsAvailable}
-use Rattle.icu_locale_lines.specs.Loads.{IsExpanderOf, has_likely}
+use Rattle.icu_locale_lines.specs.Loads.{AreRulesOf, IsCanonicalizerOf, IsExpanderOf, IsWholeOf, has_likely}
 use Rattle.icu_locale_matching.specs.Service.{Service}
+use Rattle.icu_locale_lines.specs.declared.work.listing.Listed.{Listed}
+use Rattle.icu_locale_lines.specs.declared.work.listing.ListedOver.{ListedOver}
+use Rattle.icu_locale_lines.specs.declared.work.listing.ListedOver.TheVariants as owner
 use Rattle.icu_locale_lines.specs.declared.work.listing.Listing.{Listing}
+use Rattle.icu_locale_lines.specs.declared.work.name.Naming.{Naming}
+use Rattle.icu_locale_lines.specs.declared.work.offered.Offered.{Offered}
 use Rattle.icu_locale_lines.specs.declared.work.listing.ListOver.{ListOver}
 use Rattle.icu_locale_lines.specs.declared.work.listing.ListOver.TheVariants as over
 use Rattle.icu_locale_lines.specs.declared.work.load.Loaded.{Loaded}
@@ -146,6 +153,10 @@ reads_rules Canonicalize = true
 reads_rules (Serve wishes) = true
 reads_rules task = false
 
+-- the rules that a task asks for are there, read of the aliases
+abbrev pub HasRules : Task → Tables → Option ReadRules → Type 0
+HasRules task t rules = reads_rules task ≡ true → IsSomeAnd rules (AreRulesOf t)
+
 -- a command does, whose tables are all held
 abbrev pub ReadsRules : Command → Tables → Type 0
 ReadsRules Settled t = ⊥
@@ -184,29 +195,34 @@ pub record IsServerOf (t : Tables) (s : Service) : Type 0 where
   pub matching : t.supplement.matching ≡ Some s.matching
   pub limits : s.limits ≡ record { threshold = 50; demotion = 5 }
 
+-- what gives names by a chain and in the language of preferences, over tables
+pub record IsNamingOf (chain : NameChain) (preferences : DisplayNamesPreferences) (t : Tables)
+    (n : Naming) : Type 0 where
+  pub tables : n.tables.tables.now ≡ t
+  pub names : n.tables.names ≡ t.names
+  pub chain_is : n.chain ≡ chain
+  pub preferences_are : n.preferences ≡ preferences
+  pub extensions : option_copied n.extensions
+      ≡ value_at locale_cmp t.supplement.extension_names preferences.locale
+
 -- the tools of a task over tables; for `negotiate` these are settled. Of `negotiate`, `serve` and
 -- `nearest` the first line of the input lists what is available, each text read as the lines are
 abbrev pub AreToolsOf : Option Syntax → Task → Tables → List ℕ → Tools → Type 0
 AreToolsOf syntax (Transform form) t input (tools.Transform other e) =
     (other ≡ form) × IsExpanderOf t e
-AreToolsOf syntax Canonicalize t input (tools.Canonicalize k) =
-    IsExpanderOf t k.canonicalizer.expander
-    × IsSomeAnd t.aliases (λ table. AreRules table k.canonicalizer.rules)
-    × (k.values.keywords.now ≡ t.supplement.keywords) × (k.values.fields.now ≡ t.supplement.fields)
+AreToolsOf syntax Canonicalize t input (tools.Canonicalize k) = IsWholeOf t k
 AreToolsOf syntax Direction t input (tools.Direction d) =
     IsExpanderOf t d.expander × (t.script_direction ≡ Some d.script_direction.now)
 AreToolsOf syntax Negotiate t input (tools.Negotiate n offered) = IsExpanderOf t n.expander
     × AreSettled (likely n.expander)
-    × IsAvailable syntax (listed (first_line input)) n.available offered.wholes.items
+    × IsAvailable syntax (listed (first_line input)) n.available offered.now.wholes.items
 AreToolsOf syntax (Name chain preferences) t input (tools.Name n) =
-    ((n.tables.tables.now ≡ t) × (n.tables.names ≡ t.names))
-    × (n.chain ≡ chain) × (n.preferences ≡ preferences)
-    × (option_copied n.extensions ≡ value_at locale_cmp t.supplement.extension_names preferences.locale)
+    IsNamingOf chain preferences t n
 AreToolsOf syntax Fallback t input (tools.Fallback f) = IsExpanderOf t f.fallbacker.expander
     × (f.fallbacker.parents.now ≡ t.supplement.parents) × (f.config.priority ≡ Language)
 AreToolsOf syntax (Serve wishes) t input (tools.Serve how s offered) =
     (how ≡ wishes) × IsServerOf t s
-    × IsAvailable syntax (listed (first_line input)) s.available offered.wholes.items
+    × IsAvailable syntax (listed (first_line input)) s.available offered.now.wholes.items
 AreToolsOf syntax Distance t input (tools.Distance d) =
     IsExpanderOf t d.expander × (t.supplement.matching ≡ Some d.matching.now)
 AreToolsOf syntax task t input other = ⊥
@@ -228,14 +244,30 @@ text_answered c input = text_left c.task input
 -- what a task lists its first line over: settled tables, or all that a server asks
 abbrev pub ListsBy : Task → Tables → ListOver → Type 0
 ListsBy Negotiate t (over.Negotiate e) = IsExpanderOf t e × AreSettled (likely e)
-ListsBy (Serve wishes) t (over.Serve how k m) = (how ≡ wishes) × IsExpanderOf t k.expander
-    × IsSomeAnd t.aliases (λ table. AreRules table k.rules) × (t.supplement.matching ≡ Some m.now)
+ListsBy (Serve wishes) t (over.Serve how k m) =
+    (how ≡ wishes) × IsCanonicalizerOf t k × (t.supplement.matching ≡ Some m.now)
 ListsBy task t other = ⊥
 
 -- what waits for the first line of a command
 pub record IsListing (c : LineCommand) (t : Tables) (listing : Listing) : Type 0 where
   pub syntax : listing.syntax ≡ c.syntax
   pub over : ListsBy c.task t listing.over
+
+-- the tools that an owner lends
+abbrev pub LendsTools : ListedOver → Offered → Tools → Type 0
+LendsTools (owner.Negotiate n) o (tools.Negotiate m offered) = (m ≡ n) × (offered.now ≡ o)
+LendsTools (owner.Serve how s) o (tools.Serve who r offered) =
+    (who ≡ how) × (r ≡ s) × (offered.now ≡ o)
+LendsTools over o other = ⊥
+
+-- the work that an owner lends
+pub record LendsWork (l : Listed) (work : Work) : Type 0 where
+  pub syntax : work.syntax ≡ l.syntax
+  pub tools : LendsTools l.over l.offered work.tools
+
+-- what is lent is the work of a command over tables, and of what its first line lists
+abbrev pub IsListedOf : LineCommand → Tables → List ℕ → Listed → Type 0
+IsListedOf c t input l = (work : Work) → LendsWork l work → IsWorkOf c t input work
 
 -- the work of a command that answers every line of any input, or what waits for its first line
 abbrev pub IsLoaded : LineCommand → Tables → Loaded → Type 0

@@ -1,23 +1,12 @@
 -- Whole canonical forms and their lines (UTS #35 Part 1, Annex C).
 use Rattle.std.specs.Prelude.{◌≡◌, ◌⊎◌, ℕ, Bool, true, false, List}
 use Rattle.icu_locale.specs.Canonical.{answer_of}
-use Rattle.icu_locale.specs.LikelyTable.{likely}
 use Rattle.icu_locale_extensions.specs.declared.identifier.LocaleIdentifier.{LocaleIdentifier}
 use Rattle.icu_locale_values.specs.Refusals.{IsWholeRefusal, whole_error_name}
 use Rattle.icu_locale_values.specs.Whole.{WholeRules, IsWhole, AreMaps, is_whole_applied}
 use Rattle.icu_locale_values.specs.declared.error.WholeError.{WholeError}
 use Rattle.icu_locale_values.specs.declared.error.WholeError.TheVariants.{Memory}
 use Rattle.icu_locale_lines.specs.Texts.{whole_line, refused_line}
-use Rattle.icu_locale_lines.specs.declared.work.canonicalizing.Canonicalizing.{Canonicalizing}
-
--- what whole canonical forms are made by
-abbrev pub rules_of : Canonicalizing → WholeRules
-rules_of k = record {
-  likely = likely k.canonicalizer.expander;
-  rules = k.canonicalizer.rules;
-  keywords = k.values.keywords.now;
-  fields = k.values.fields.now;
-}
 
 -- the line of a refusal; want of memory has none
 abbrev pub TellsWholeRefusal : WholeError → List ℕ → Bool → Type 0

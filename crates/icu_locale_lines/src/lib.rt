@@ -22,14 +22,11 @@ pub use runs::stream::{
 };
 pub use runs::whole::{run, run_json};
 pub use sample_tables::{SAMPLE, SAMPLE_SUPPLEMENT, sample, whole_sample};
-pub use work::canonicalizing::Canonicalizing;
 pub use work::form::Transform;
-pub use work::list::{answer_requests, read_list};
-pub use work::listing::{ListOver, Listing, list_available};
-pub use work::load::{Loaded, load_expander};
-pub use work::locale::answer_locale;
+pub use work::list::read_list;
+pub use work::listing::{ListOver, Listed, Listing, list_available};
+pub use work::load::{Loaded, lend_rules, load_expander, load_rules};
 pub use work::name::Naming;
 pub use work::offered::{Offered, read_available};
-pub use work::serve::answer_wishes;
 pub use work::serving::{Distances, Serving};
 pub use work::{Tools, Work};

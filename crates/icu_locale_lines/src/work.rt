@@ -3,7 +3,6 @@ ghost use Rattle.std.specs.Prelude.{◌≡◌, IfOk, IfErr, OnErr};
 ghost use Rattle.icu_locale_lines.specs.Answers.{AddsLine, Keeps, IsAnswer};
 
 pub mod answering;
-pub mod canonicalizing;
 pub mod direction;
 pub mod fallback;
 pub mod form;
@@ -19,7 +18,6 @@ pub mod value;
 
 use crate::command::Wishes;
 use crate::error::CliError;
-use crate::work::canonicalizing::Canonicalizing;
 use crate::work::direction::add_direction;
 use crate::work::fallback::add_chain;
 use crate::work::form::{Transform, add_form};
@@ -28,42 +26,44 @@ use crate::work::locale::add_locale;
 use crate::work::name::{Naming, add_name};
 use crate::work::offered::Offered;
 use crate::work::serve::{add_distance, add_served};
-use crate::work::serving::{Distances, Serving};
-use icu_locale::{LocaleDirectionality, LocaleExpander, Negotiator};
+use crate::work::serving::Distances;
+use icu_locale::{LocaleDirectionality, LocaleExpander, NegotiatorRef};
 use icu_locale_extensions::Syntax;
 use icu_locale_fallback::LocaleFallbackerWithConfig;
+use icu_locale_matching::LocaleServer;
+use icu_locale_values::WholeCanonicalizer;
 
-/// What a command works with: the syntax of its lines, and what it asks of each.
+/// What a command works with: the syntax of its lines, and what it asks of each. It borrows all that it works with.
 #[derive(Debug, Drop)]
-pub struct Work<'d> {
+pub struct Work<'r> {
     /// The syntax of locale identifiers. Without one a line holds identifiers alone.
     pub syntax: Option<Syntax>,
     /// What each line is brought to.
-    pub tools: Tools<'d>,
+    pub tools: Tools<'r>,
 }
 
-/// What a task works with, over tables that it borrows.
+/// What a task works with: tables, rules that were read, and what is available. It borrows them.
 #[derive(Debug, Drop)]
-pub enum Tools<'d> {
+pub enum Tools<'r> {
     /// Each identifier is brought to a form.
-    Transform(Transform, LocaleExpander<'d>),
+    Transform(Transform, LocaleExpander<'r>),
     /// Each locale is brought to its canonical form.
-    Canonicalize(Canonicalizing<'d>),
+    Canonicalize(WholeCanonicalizer<'r>),
     /// The direction of each identifier is told.
-    Direction(LocaleDirectionality<'d>),
+    Direction(LocaleDirectionality<'r>),
     /// Each line lists requests, and has what is available as it is written.
-    Negotiate(Negotiator<'d>, Offered),
+    Negotiate(NegotiatorRef<'r>, &'r Offered),
     /// Each identifier is named.
-    Name(Naming<'d>),
+    Name(Naming<'r>),
     /// The chain of each identifier is written.
-    Fallback(LocaleFallbackerWithConfig<'d>),
+    Fallback(LocaleFallbackerWithConfig<'r>),
     /// Each line says what is wished, and has what is served as it is written.
-    Serve(Wishes, Serving<'d>, Offered),
+    Serve(Wishes, LocaleServer<'r>, &'r Offered),
     /// The distance of two identifiers is told.
-    Distance(Distances<'d>),
+    Distance(Distances<'r>),
 }
 
-impl<'d> Work<'d> {
+impl<'r> Work<'r> {
     /// Appends the answer to one line to the others.
     ///
     /// # Errors
@@ -110,17 +110,15 @@ impl<'d> Work<'d> {
         let syntax = self.syntax;
         match &self.tools {
             Tools::Transform(form, expander) => add_form(text, *form, expander, syntax, line),
-            Tools::Canonicalize(canonicalizing) => {
-                add_locale(text, &canonicalizing.lend(), syntax, line)
-            }
+            Tools::Canonicalize(canonicalizer) => add_locale(text, canonicalizer, syntax, line),
             Tools::Direction(directionality) => add_direction(text, directionality, syntax, line),
             Tools::Negotiate(negotiator, offered) => {
-                add_requests(text, &negotiator.lend(), offered, syntax, line)
+                add_requests(text, negotiator, offered, syntax, line)
             }
             Tools::Name(naming) => add_name(text, naming, syntax, line),
             Tools::Fallback(fallbacker) => add_chain(text, fallbacker, syntax, line),
-            Tools::Serve(wishes, serving, offered) => {
-                add_served(text, &serving.lend(), offered, *wishes, syntax, line)
+            Tools::Serve(wishes, server, offered) => {
+                add_served(text, server, offered, *wishes, syntax, line)
             }
             Tools::Distance(distances) => add_distance(text, distances, syntax, line),
         }

@@ -25,7 +25,7 @@ use crate::runs::whole::{read_tables, write_settled};
 use crate::runs::writing::write_answers;
 use crate::work::Work;
 use crate::work::listing::Listing;
-use crate::work::load::Loaded;
+use crate::work::load::{Loaded, load_rules};
 use icu_tables::{Supplement, TableError, Tables};
 use std::alloc::Global;
 use std::io::{Read, Write};
@@ -256,7 +256,8 @@ pub fn stream_over<R: Read, W: Write>(
     let Command::Lines(command) = command else {
         return write_settled(tables, writer);
     };
-    match Loaded::load(alloc, command, tables)? {
+    let rules = load_rules(alloc, command, tables)?;
+    match Loaded::load(command, tables, &rules)? {
         Loaded::Ready(work) => stream_lines(alloc, &work, longest, before, reader, writer),
         Loaded::Listing(listing) => {
             stream_listed(alloc, listing, longest, before, reader, writer)
@@ -284,7 +285,8 @@ fn stream_listed<R: Read, W: Write>(
         (R.remaining reader.new) (W.contents writer.old) (W.contents writer.new)) }
 {
     let first = read_first_line(alloc, longest, before, reader)?;
-    let work = listing.over(alloc, &first.line)?;
+    let listed = listing.over(alloc, &first.line)?;
+    let work = listed.work();
     if first.has_ended {
         return Ok(Status::Accepted);
     }

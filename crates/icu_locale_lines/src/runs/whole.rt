@@ -6,8 +6,7 @@ ghost use Rattle.icu_tables.specs.Supplement.{no_supplement};
 ghost use Rattle.icu_tables.specs.declared.tables.Tables.{Tables};
 ghost use Rattle.icu_locale_lines.specs.Loads.{not_found};
 ghost use Rattle.icu_locale_lines.specs.Texts.{settled_line};
-ghost use Rattle.icu_locale_lines.specs.Lines.{Stream};
-ghost use Rattle.icu_locale_lines.specs.Commands.{IsLoaded, IsUnsettled, IsWorkOf, has_tables, text_answered};
+ghost use Rattle.icu_locale_lines.specs.Commands.{IsLoaded, IsUnsettled, has_tables};
 ghost use Rattle.icu_locale_lines.specs.declared.command.LineCommand.{LineCommand};
 ghost use Rattle.icu_locale_lines.specs.WholeRuns.{IsRun, IsRefusedRun, WritesSettled, WritesLines, StopsLines, WritesOutput, IsRefusedOutput, IsJsonRun, IsRefusedJsonRun};
 ghost use Rattle.icu_locale_lines.specs.Refusals.{IsRefusedReading};
@@ -18,8 +17,7 @@ use crate::runs::Status;
 use crate::runs::cut::cut;
 use crate::runs::input::{MOST_READS, read_all};
 use crate::runs::writing::{write_answers, write_bytes};
-use crate::work::Work;
-use crate::work::load::{Loaded, load_expander};
+use crate::work::load::{Loaded, load_expander, load_rules};
 use icu_tables::{TableError, Tables};
 use std::alloc::Global;
 use std::io::{Read, Write};
@@ -56,7 +54,8 @@ pub fn run<R: Read, W: Write>(
     let Command::Lines(command) = command else {
         return write_settled(tables, writer);
     };
-    let loaded = Loaded::load(alloc, command, tables)?;
+    let rules = load_rules(alloc, command, tables)?;
+    let loaded = Loaded::load(command, tables, &rules)?;
     let input = read_all(alloc, reader, MOST_READS)?;
     loaded.write(alloc, &input, writer)
 }
@@ -88,24 +87,7 @@ pub fn run_json<R: Read, W: Write>(
     write_output(alloc, command, &tables, rest, writer)
 }
 
-impl<'d> Loaded<'d> {
-    // The work on an input, and the text whose lines it answers.
-    fn over<'i>(self, alloc: Global, input: &'i [u8]) -> Result<(Work<'d>, &'i [u8]), CliError>
-        ensures work { (c : LineCommand) (t : Tables) → IsLoaded c t self.entry
-            → IfOk result (λ made. IsWorkOf c t input.now made.0
-            × (text_answered c input.now ≡ made.1.now)) }
-        ensures left { (c : LineCommand) (t : Tables) → IsLoaded c t self.entry
-            → IfErr result (λ e. (wrote : Stream) → StopsLines c t input.now wrote wrote e) }
-    {
-        match self {
-            Loaded::Ready(work) => Ok((work, input)),
-            Loaded::Listing(listing) => {
-                let (first, rest) = cut(input);
-                Ok((listing.over(alloc, first)?, rest))
-            }
-        }
-    }
-
+impl Loaded<'_> {
     /// The answers to the lines of an input. `Negotiate` and `Serve` use the first line for the identifiers that are
     /// available.
     ///
@@ -126,8 +108,15 @@ impl<'d> Loaded<'d> {
             → IfErr result (StopsLines c t input.now (W.contents writer.old)
             (W.contents writer.new)) }
     {
-        let (work, text) = self.over(alloc, input)?;
-        write_answers(&work, &mut Vec::new(alloc), text, writer)
+        let mut text = Vec::new(alloc);
+        match self {
+            Loaded::Ready(work) => write_answers(&work, &mut text, input, writer),
+            Loaded::Listing(listing) => {
+                let (first, rest) = cut(input);
+                let listed = listing.over(alloc, first)?;
+                write_answers(&listed.work(), &mut text, rest, writer)
+            }
+        }
     }
 }
 
@@ -160,7 +149,8 @@ fn write_output<W: Write>(
     match command {
         Command::Settled => write_settled(tables, writer),
         Command::Lines(command) => {
-            Loaded::load(alloc, command, tables)?.write(alloc, input, writer)
+            let rules = load_rules(alloc, command, tables)?;
+            Loaded::load(command, tables, &rules)?.write(alloc, input, writer)
         }
     }
 }

@@ -70,27 +70,6 @@ fn identifier_of(whole: LocaleIdentifier) -> LanguageIdentifier
     id
 }
 
-/// The answer to a line that lists requests, in the room of an earlier one, and whether the line was accepted. What is
-/// available is written as it is offered.
-///
-/// # Errors
-///
-/// `Memory` where memory was refused.
-pub fn answer_requests(
-    room: &mut Vec<u8>,
-    negotiator: &NegotiatorRef<'_>,
-    offered: &Offered,
-    syntax: Option<Syntax>,
-    line: &[u8],
-) -> Result<bool, CliError>
-    ensures answer { IfOk result (IsListedAnswer syntax
-        (IsNegotiatedLine negotiator.now offered.now.wholes.items) line.now room.new.items) }
-    ensures refused { IfErr result (λ e. e ≡ CliError.Memory) }
-{
-    room.clear();
-    add_requests(room, negotiator, offered, syntax, line)
-}
-
 // The answer to a line that lists requests.
 pub fn add_requests(
     text: &mut Vec<u8>,

@@ -1,8 +1,9 @@
-//! What waits for the identifiers that are available, which the first line lists.
+//! What waits for the identifiers that are available, which the first line lists, and what they give.
 ghost use Rattle.std.specs.Prelude.{◌≡◌, IfOk, IfErr, List, ℕ};
 ghost use Rattle.icu_locale.specs.LikelyTable.{likely};
+ghost use Rattle.icu_locale.specs.RuleSet.{lent};
 ghost use Rattle.icu_tables.specs.declared.tables.Tables.{Tables};
-ghost use Rattle.icu_locale_lines.specs.Commands.{IsListing, IsWorkOf};
+ghost use Rattle.icu_locale_lines.specs.Commands.{IsListedOf, IsListing, LendsTools, LendsWork};
 ghost use Rattle.icu_locale_lines.specs.Lines.{first_line};
 ghost use Rattle.icu_locale_lines.specs.Lists.{listed, IsAvailable};
 ghost use Rattle.icu_locale_lines.specs.Refusals.{IsFaultyList, IsRefusedList};
@@ -14,56 +15,100 @@ use crate::error::CliError;
 use crate::work::offered::{Offered, read_available};
 use crate::work::serving::Serving;
 use crate::work::{Tools, Work};
-use icu_locale::{LocaleCanonicalizer, LocaleExpander, Negotiator, NegotiatorError};
+use icu_locale::{CanonicalizerRef, LocaleExpander, Negotiator, NegotiatorError};
 use icu_locale_core::{LanguageIdentifier, ParseError};
 use icu_locale_extensions::Syntax;
 use icu_provider::LanguageMatching;
 use std::alloc::Global;
 
 /// What waits for the first line, and the syntax of the lines.
-#[derive(Debug, Drop)]
-pub struct Listing<'d> {
+#[derive(Clone, Copy, Debug)]
+pub struct Listing<'r> {
     /// The syntax of locale identifiers. Without one a line holds identifiers alone.
     pub syntax: Option<Syntax>,
     /// What the identifiers are listed over.
-    pub over: ListOver<'d>,
+    pub over: ListOver<'r>,
 }
 
 /// What the available identifiers are listed over.
-#[derive(Debug, Drop)]
-pub enum ListOver<'d> {
+#[derive(Clone, Copy, Debug)]
+pub enum ListOver<'r> {
     /// An expander over settled tables.
-    Negotiate(LocaleExpander<'d>),
+    Negotiate(LocaleExpander<'r>),
     /// Rules and match rules.
-    Serve(Wishes, LocaleCanonicalizer<'d>, &'d LanguageMatching),
+    Serve(Wishes, CanonicalizerRef<'r>, &'r LanguageMatching),
 }
 
-impl<'d> Listing<'d> {
-    /// The work over the identifiers that a line lists.
+/// What is available, which work borrows.
+#[derive(Debug, Drop)]
+pub struct Listed<'r> {
+    /// The syntax of the lines.
+    pub syntax: Option<Syntax>,
+    /// The identifiers, and what is asked of them.
+    pub over: ListedOver<'r>,
+    /// How they are written.
+    pub offered: Offered,
+}
+
+/// The available identifiers, and what is asked of them.
+#[derive(Debug, Drop)]
+pub enum ListedOver<'r> {
+    /// Which of them means what some request means.
+    Negotiate(Negotiator<'r>),
+    /// Which of them is served.
+    Serve(Wishes, Serving<'r>),
+}
+
+impl<'r> Listing<'r> {
+    /// What a line makes available.
     ///
     /// # Errors
     ///
     /// - `Available` where the line has a fault: the first one.
     /// - `Memory` where memory was refused.
-    pub fn over(self, alloc: Global, line: &[u8]) -> Result<Work<'d>, CliError>
+    pub fn over(self, alloc: Global, line: &[u8]) -> Result<Listed<'r>, CliError>
         ensures work { (c : LineCommand) (t : Tables) (input : List ℕ)
             → IsListing c t self.entry → first_line input ≡ line.now
-            → IfOk result (IsWorkOf c t input) }
+            → IfOk result (IsListedOf c t input) }
         ensures left { (c : LineCommand) (t : Tables) → IsListing c t self.entry
             → IfErr result (IsUnlisted c t line.now) }
     {
-        let Listing { syntax, over } = self;
-        let tools = match over {
+        let syntax = self.syntax;
+        let (over, offered) = match self.over {
             ListOver::Negotiate(expander) => {
                 let (negotiator, offered) = list_available(alloc, expander, syntax, line)?;
-                Tools::Negotiate(negotiator, offered)
+                (ListedOver::Negotiate(negotiator), offered)
             }
-            ListOver::Serve(wishes, canonicalizer, matching) => {
-                let (serving, offered) = list_served(alloc, canonicalizer, matching, syntax, line)?;
-                Tools::Serve(wishes, serving, offered)
+            ListOver::Serve(wishes, rules, matching) => {
+                let (serving, offered) = list_served(alloc, rules, matching, syntax, line)?;
+                (ListedOver::Serve(wishes, serving), offered)
             }
         };
-        Ok(Work { syntax, tools })
+        Ok(Listed {
+            syntax,
+            over,
+            offered,
+        })
+    }
+}
+
+impl<'r> Listed<'r> {
+    /// The work over what is available. It takes no memory.
+    pub fn work(&self) -> Work<'_>
+        ensures { LendsWork self.now result }
+    {
+        let tools = match &self.over {
+            ListedOver::Negotiate(negotiator) => {
+                Tools::Negotiate(negotiator.lend(), &self.offered)
+            }
+            ListedOver::Serve(wishes, serving) => {
+                Tools::Serve(*wishes, serving.lend(), &self.offered)
+            }
+        };
+        Work {
+            syntax: self.syntax,
+            tools,
+        }
     }
 }
 
@@ -74,12 +119,12 @@ impl<'d> Listing<'d> {
 /// - `Available` where the line has a fault: the first one.
 /// - `NotSettled` where the likely tables are not settled. The line is read first.
 /// - `Memory` where memory was refused.
-pub fn list_available<'d>(
+pub fn list_available<'r>(
     alloc: Global,
-    expander: LocaleExpander<'d>,
+    expander: LocaleExpander<'r>,
     syntax: Option<Syntax>,
     line: &[u8],
-) -> Result<(Negotiator<'d>, Offered), CliError>
+) -> Result<(Negotiator<'r>, Offered), CliError>
     ensures expander { IfOk result (λ n. n.0.expander ≡ expander.entry) }
     ensures available { IfOk result (λ n.
         IsAvailable syntax (listed line.now) n.0.available n.1.wholes.items) }
@@ -94,15 +139,15 @@ pub fn list_available<'d>(
 }
 
 // What serves the identifiers that a line lists, and how these are written.
-fn list_served<'d>(
+fn list_served<'r>(
     alloc: Global,
-    canonicalizer: LocaleCanonicalizer<'d>,
-    matching: &'d LanguageMatching,
+    rules: CanonicalizerRef<'r>,
+    matching: &'r LanguageMatching,
     syntax: Option<Syntax>,
     line: &[u8],
-) -> Result<(Serving<'d>, Offered), CliError>
-    ensures expander { IfOk result (λ s. s.0.expander ≡ canonicalizer.entry.expander) }
-    ensures rules { IfOk result (λ s. s.0.rules ≡ canonicalizer.entry.rules) }
+) -> Result<(Serving<'r>, Offered), CliError>
+    ensures expander { IfOk result (λ s. s.0.expander ≡ rules.entry.expander) }
+    ensures rules { IfOk result (λ s. s.0.rules ≡ lent rules.entry.rules) }
     ensures matching { IfOk result (λ s. s.0.matching ≡ matching.now) }
     ensures limits { IfOk result (λ s. s.0.limits ≡ record { threshold = 50; demotion = 5 }) }
     ensures available { IfOk result (λ s.
@@ -110,7 +155,7 @@ fn list_served<'d>(
     ensures refused { IfErr result (IsFaultyList syntax line.now) }
 {
     let (available, offered) = listed_in(alloc, syntax, line)?;
-    match Serving::try_new(alloc, canonicalizer, matching, available) {
+    match Serving::try_new(alloc, rules, matching, available) {
         Ok(serving) => Ok((serving, offered)),
         Err(_) => Err(CliError::Memory),
     }

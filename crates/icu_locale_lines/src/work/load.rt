@@ -1,110 +1,124 @@
-//! The tables that a command needs, before the input is read.
-ghost use Rattle.std.specs.Prelude.{◌≡◌, ◌↔◌, ◌&&◌, Some, Err, IfOk, IfErr, IsSomeAnd, is_ok, is_some, false};
-ghost use Rattle.icu_locale.specs.Rules.{AreRules};
-ghost use Rattle.icu_locale_lines.specs.Loads.{IsExpanderOf, IsRefusedRules, has_likely, not_found};
+//! The tables and the rules that a command needs, before the input is read.
+ghost use Rattle.std.specs.Prelude.{◌≡◌, ◌↔◌, ◌⊎◌, ◌&&◌, Some, Err, IfOk, IfErr, IsSomeAnd, is_ok, is_some, false, true};
+ghost use Rattle.icu_locale.specs.RuleSet.{lent, rules_over};
+ghost use Rattle.icu_locale_lines.specs.Loads.{AreRulesOf, IsCanonicalizerOf, IsExpanderOf, IsRefusedRules, IsWholeOf, has_likely, has_rules, not_found};
 ghost use Rattle.icu_locale_lines.specs.WholeRuns.{IsUnloaded};
-ghost use Rattle.icu_locale_lines.specs.Commands.{IsUnsettled, IsLoaded, has_matching, has_tables};
+ghost use Rattle.icu_locale_lines.specs.Commands.{HasRules, IsLoaded, IsNamingOf, IsUnsettled, has_matching, has_tables, reads_rules};
 ghost use Rattle.icu_locale_fallback.specs.declared.fallbacker.LocaleFallbackPriority.TheVariants.{Language};
 
 use crate::command::{Command, LineCommand, Task};
 use crate::error::CliError;
-use crate::work::canonicalizing::Canonicalizing;
 use crate::work::listing::{ListOver, Listing};
 use crate::work::name::Naming;
 use crate::work::serving::Distances;
 use crate::work::{Tools, Work};
-use icu_locale::{LocaleCanonicalizer, LocaleDirectionality, LocaleExpander};
+use icu_locale::{CanonicalizerRef, LocaleDirectionality, LocaleExpander, ReadRules};
 use icu_locale_fallback::{
     LocaleFallbackConfig, LocaleFallbackPriority, LocaleFallbacker, LocaleFallbackerWithConfig,
 };
-use icu_locale_values::ValueAliases;
+use icu_locale_names::{DisplayNamesPreferences, NameChain};
+use icu_locale_values::{ValueAliases, WholeCanonicalizer};
 use icu_provider::{DataError, DataErrorKind, DataProvider, LanguageMatching};
 use icu_tables::{LocaleTables, Tables};
 use std::alloc::Global;
 
-/// What a command has before its input is read.
-#[derive(Debug, Drop)]
-pub enum Loaded<'d> {
-    /// What it works with.
-    Ready(Work<'d>),
-    /// What waits for the identifiers that are available.
-    Listing(Listing<'d>),
+/// The rules that a command asks for, read of the aliases, or nothing where it asks for none. It takes memory for them.
+///
+/// # Errors
+///
+/// - `Data` exactly where the command asks for rules and a table that it needs is not held.
+/// - `Memory` where the rules found no room.
+pub fn load_rules(
+    alloc: Global,
+    command: &LineCommand,
+    tables: &Tables,
+) -> Result<Option<ReadRules>, CliError>
+    ensures read { IfOk result (HasRules command.now.task tables.now) }
+    ensures held { IfOk result (λ _. reads_rules command.now.task ≡ true
+        → has_tables (Command.Lines command.now) tables.now ≡ true) }
+    ensures which { IfErr result
+        (λ e. (e ≡ CliError.Data not_found) ⊎ (e ≡ CliError.Memory)) }
+    ensures refused { IfErr result (IsUnloaded (Command.Lines command.now) tables.now) }
+{
+    match command.task {
+        Task::Canonicalize => Ok(Some(read_rules(alloc, tables)?)),
+        Task::Serve(_) => {
+            load_matching(tables)?;
+            Ok(Some(read_rules(alloc, tables)?))
+        }
+        _ => Ok(None),
+    }
 }
 
-impl<'d> Loaded<'d> {
-    /// What a command needs: its tables are loaded in their order, and then asked whether they are settled.
+// The rules that are read of the aliases. Likely tables are asked for before aliases.
+fn read_rules(alloc: Global, tables: &Tables) -> Result<ReadRules, CliError>
+    ensures read { IfOk result (AreRulesOf tables.now) }
+    ensures held { IfOk result (λ _. has_rules tables.now ≡ true) }
+    ensures refused { IfErr result (IsRefusedRules tables.now) }
+{
+    load_expander(tables)?;
+    let aliases = tables.load_aliases()?;
+    match ReadRules::read(alloc, aliases) {
+        Ok(rules) => Ok(rules),
+        Err(_) => Err(CliError::Memory),
+    }
+}
+
+/// What a command has before its input is read.
+#[derive(Debug, Drop)]
+pub enum Loaded<'r> {
+    /// What it works with.
+    Ready(Work<'r>),
+    /// What waits for the identifiers that are available.
+    Listing(Listing<'r>),
+}
+
+impl<'r> Loaded<'r> {
+    /// What a command needs, over tables and what `load_rules` gives: its tables are loaded in their order, and then asked
+    /// whether they are settled. It takes no memory.
     ///
     /// # Errors
     ///
     /// - `Data` exactly where a needed table is not held.
     /// - `NotSettled` exactly where `Negotiate` finds likely tables that are not settled.
-    /// - `Memory` where the rules of `Canonicalize` or `Serve` found no room. Other tasks never answer it.
-    pub fn load(alloc: Global, command: &LineCommand, tables: &'d Tables) -> Result<Self, CliError>
+    pub fn load(
+        command: &LineCommand,
+        tables: &'r Tables,
+        rules: &'r Option<ReadRules>,
+    ) -> Result<Self, CliError>
+        requires { HasRules command.now.task tables.now rules.now }
         ensures loaded { IfOk result (IsLoaded command.now tables.now) }
         ensures data { (result ≡ Err (CliError.Data not_found))
             ↔ (has_tables (Command.Lines command.now) tables.now ≡ false) }
         ensures unsettled { (result ≡ Err CliError.NotSettled)
             ↔ IsUnsettled (Command.Lines command.now) tables.now }
+        ensures which { IfErr result
+            (λ e. (e ≡ CliError.Data not_found) ⊎ (e ≡ CliError.NotSettled)) }
         ensures refused { IfErr result (IsUnloaded (Command.Lines command.now) tables.now) }
     {
         let syntax = command.syntax;
-        match command.task {
-            Task::Transform(form) => {
-                let tools = Tools::Transform(form, load_expander(tables)?);
-                Ok(Loaded::Ready(Work { syntax, tools }))
-            }
-            Task::Canonicalize => {
-                let tools = Tools::Canonicalize(Canonicalizing {
-                    canonicalizer: load_canonicalizer(alloc, tables)?,
-                    values: ValueAliases {
-                        keywords: &tables.supplement.keywords,
-                        fields: &tables.supplement.fields,
-                    },
-                });
-                Ok(Loaded::Ready(Work { syntax, tools }))
-            }
-            Task::Direction => {
-                let tools = Tools::Direction(load_directionality(tables)?);
-                Ok(Loaded::Ready(Work { syntax, tools }))
-            }
+        let tools = match command.task {
+            Task::Transform(form) => Tools::Transform(form, load_expander(tables)?),
+            Task::Canonicalize => Tools::Canonicalize(load_whole_canonicalizer(tables, rules)?),
+            Task::Direction => Tools::Direction(load_directionality(tables)?),
+            Task::Name(chain, preferences) => Tools::Name(load_naming(tables, chain, preferences)),
+            Task::Fallback => Tools::Fallback(load_fallbacker(tables)?),
+            Task::Distance => Tools::Distance(load_distances(tables)?),
             Task::Negotiate => {
                 let expander = load_expander(tables)?;
                 if !expander.is_settled() {
                     return Err(CliError::NotSettled);
                 }
-                Ok(Loaded::Listing(Listing {
-                    syntax,
-                    over: ListOver::Negotiate(expander),
-                }))
-            }
-            Task::Name(chain, preferences) => {
-                let tools = Tools::Name(Naming {
-                    tables: LocaleTables::new(tables, preferences.locale),
-                    chain,
-                    preferences,
-                    extensions: tables.supplement.extension_names.get(&preferences.locale),
-                });
-                Ok(Loaded::Ready(Work { syntax, tools }))
-            }
-            Task::Fallback => {
-                let tools = Tools::Fallback(load_fallbacker(tables)?);
-                Ok(Loaded::Ready(Work { syntax, tools }))
+                let over = ListOver::Negotiate(expander);
+                return Ok(Loaded::Listing(Listing { syntax, over }));
             }
             Task::Serve(wishes) => {
                 let matching = load_matching(tables)?;
-                let canonicalizer = load_canonicalizer(alloc, tables)?;
-                Ok(Loaded::Listing(Listing {
-                    syntax,
-                    over: ListOver::Serve(wishes, canonicalizer, matching),
-                }))
+                let over = ListOver::Serve(wishes, load_canonicalizer(tables, rules)?, matching);
+                return Ok(Loaded::Listing(Listing { syntax, over }));
             }
-            Task::Distance => {
-                let matching = load_matching(tables)?;
-                let expander = load_expander(tables)?;
-                let tools = Tools::Distance(Distances { expander, matching });
-                Ok(Loaded::Ready(Work { syntax, tools }))
-            }
-        }
+        };
+        Ok(Loaded::Ready(Work { syntax, tools }))
     }
 }
 
@@ -125,21 +139,58 @@ pub fn load_expander(tables: &Tables) -> Result<LocaleExpander<'_>, CliError>
     }
 }
 
-// The canonicalizer over the tables: likely tables are asked for before aliases.
-fn load_canonicalizer(alloc: Global, tables: &Tables) -> Result<LocaleCanonicalizer<'_>, CliError>
-    ensures expander { IfOk result (λ c. IsExpanderOf tables.entry.now c.expander) }
-    ensures rules { IfOk result (λ c. IsSomeAnd tables.entry.now.aliases
-        (λ table. AreRules table c.rules)) }
-    ensures data { (result ≡ Err (CliError.Data not_found))
-        ↔ (has_likely tables.entry.now && is_some tables.entry.now.aliases ≡ false) }
-    ensures refused { IfErr result (IsRefusedRules tables.entry.now) }
+/// Rules that were read, over the tables and their expander. It takes no memory.
+///
+/// # Errors
+///
+/// `Data` exactly where a common likely table or the aliases are not held.
+pub fn lend_rules<'r>(
+    tables: &'r Tables,
+    read: &'r ReadRules,
+) -> Result<CanonicalizerRef<'r>, CliError>
+    ensures expander { IfOk result (λ c. IsExpanderOf tables.now c.expander) }
+    ensures rules { IfOk result (λ c. IsSomeAnd tables.now.aliases
+        (λ table. lent c.rules ≡ rules_over read.now table)) }
+    ensures loaded { is_ok result ≡ has_rules tables.now }
+    ensures refused { IfErr result (λ e. e ≡ CliError.Data not_found) }
 {
     let expander = load_expander(tables)?;
     let aliases = tables.load_aliases()?;
-    match LocaleCanonicalizer::new_with_expander(alloc, aliases, expander) {
-        Ok(canonicalizer) => Ok(canonicalizer),
-        Err(_) => Err(CliError::Memory),
+    Ok(CanonicalizerRef::over(read, aliases, expander))
+}
+
+// The rules that a task asks for, over the tables.
+fn load_canonicalizer<'r>(
+    tables: &'r Tables,
+    rules: &'r Option<ReadRules>,
+) -> Result<CanonicalizerRef<'r>, CliError>
+    requires { IsSomeAnd rules.now (AreRulesOf tables.now) }
+    ensures made { IfOk result (IsCanonicalizerOf tables.now) }
+    ensures loaded { is_ok result ≡ has_rules tables.now }
+    ensures refused { IfErr result (λ e. e ≡ CliError.Data not_found) }
+{
+    match rules {
+        Some(read) => lend_rules(tables, read),
+        None => unreachable!(),
     }
+}
+
+// The same, with the aliases of values of the supplement.
+fn load_whole_canonicalizer<'r>(
+    tables: &'r Tables,
+    rules: &'r Option<ReadRules>,
+) -> Result<WholeCanonicalizer<'r>, CliError>
+    requires { IsSomeAnd rules.now (AreRulesOf tables.now) }
+    ensures made { IfOk result (IsWholeOf tables.now) }
+    ensures loaded { is_ok result ≡ has_rules tables.now }
+    ensures refused { IfErr result (λ e. e ≡ CliError.Data not_found) }
+{
+    let rules = load_canonicalizer(tables, rules)?;
+    let values = ValueAliases {
+        keywords: &tables.supplement.keywords,
+        fields: &tables.supplement.fields,
+    };
+    Ok(WholeCanonicalizer { rules, values })
 }
 
 // The direction of scripts over the tables: likely tables are asked for before it.
@@ -155,6 +206,22 @@ fn load_directionality(tables: &Tables) -> Result<LocaleDirectionality<'_>, CliE
     Ok(LocaleDirectionality::try_new_with_expander_unstable(tables, expander)?)
 }
 
+// What gives names by a chain and in the language of preferences.
+fn load_naming(
+    tables: &Tables,
+    chain: NameChain,
+    preferences: DisplayNamesPreferences,
+) -> Naming<'_>
+    ensures { IsNamingOf chain preferences tables.entry.now result }
+{
+    Naming {
+        tables: LocaleTables::new(tables, preferences.locale),
+        chain,
+        preferences,
+        extensions: tables.supplement.extension_names.get(&preferences.locale),
+    }
+}
+
 // The match rules of the supplement.
 fn load_matching(tables: &Tables) -> Result<&LanguageMatching, CliError>
     ensures held { IfOk result (λ m. tables.entry.now.supplement.matching ≡ Some m.now) }
@@ -167,6 +234,19 @@ fn load_matching(tables: &Tables) -> Result<&LanguageMatching, CliError>
             kind: DataErrorKind::IdentifierNotFound,
         })),
     }
+}
+
+// What tells distances: match rules are asked for before likely tables.
+fn load_distances(tables: &Tables) -> Result<Distances<'_>, CliError>
+    ensures expander { IfOk result (λ d. IsExpanderOf tables.entry.now d.expander) }
+    ensures matching { IfOk result (λ d. tables.entry.now.supplement.matching
+        ≡ Some d.matching.now) }
+    ensures loaded { is_ok result ≡ has_matching tables.entry.now && has_likely tables.entry.now }
+    ensures refused { IfErr result (λ e. e ≡ CliError.Data not_found) }
+{
+    let matching = load_matching(tables)?;
+    let expander = load_expander(tables)?;
+    Ok(Distances { expander, matching })
 }
 
 // What gives chains by language, over likely tables and the parents of the supplement.

@@ -21,26 +21,6 @@ use icu_locale_core::LanguageIdentifier;
 use icu_locale_extensions::{LocaleIdentifier, Syntax};
 use icu_locale_values::{WholeCanonicalizer, WholeError};
 
-/// The answer to a line that is a locale, in the room of an earlier one: the line of its canonical form, and whether the
-/// line was accepted.
-///
-/// # Errors
-///
-/// `Memory` where memory was refused.
-pub fn answer_locale(
-    room: &mut Vec<u8>,
-    canonicalizer: &WholeCanonicalizer<'_>,
-    syntax: Option<Syntax>,
-    line: &[u8],
-) -> Result<bool, CliError>
-    ensures answer { IfOk result (IsCanonicalAnswer syntax (whole_rules canonicalizer.now) line.now
-        room.new.items) }
-    ensures refused { IfErr result (λ e. e ≡ CliError.Memory) }
-{
-    room.clear();
-    add_locale(room, canonicalizer, syntax, line)
-}
-
 // The answer to a line that is brought to its canonical form.
 #[inline(always)]
 pub fn add_locale(

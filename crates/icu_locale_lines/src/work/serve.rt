@@ -17,28 +17,6 @@ use icu_locale_extensions::Syntax;
 use icu_locale_matching::laws::what_is_served_is_available;
 use icu_locale_matching::{LocaleServer, Match, distance_of};
 
-/// The answer to a line of wishes, in the room of an earlier one, and whether the line was accepted. What is available is
-/// written as it is offered.
-///
-/// # Errors
-///
-/// `Memory` where memory was refused.
-pub fn answer_wishes(
-    room: &mut Vec<u8>,
-    server: &LocaleServer<'_>,
-    offered: &Offered,
-    wishes: Wishes,
-    syntax: Option<Syntax>,
-    line: &[u8],
-) -> Result<bool, CliError>
-    ensures answer { IfOk result (IsWishAnswer syntax wishes server.now offered.now.wholes.items
-        line.now room.new.items) }
-    ensures refused { IfErr result (λ e. e ≡ CliError.Memory) }
-{
-    room.clear();
-    add_served(room, server, offered, wishes, syntax, line)
-}
-
 // The answer to a line of wishes.
 pub fn add_served(
     text: &mut Vec<u8>,

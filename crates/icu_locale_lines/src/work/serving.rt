@@ -3,9 +3,10 @@ ghost use Rattle.std.specs.Prelude.{◌≡◌, IfOk};
 ghost use Rattle.std.specs.Coded.{codes};
 ghost use Rattle.icu_locale_core.specs.TextSet.{text_set_code};
 ghost use Rattle.icu_locale.specs.LikelyTable.{likely};
+ghost use Rattle.icu_locale.specs.RuleSet.{lent};
 ghost use Rattle.icu_locale_matching.specs.Service.{Service, IsPreparedOver, identifiers_of};
 
-use icu_locale::{LocaleCanonicalizer, LocaleExpander};
+use icu_locale::{CanonicalizerRef, LocaleExpander};
 use icu_locale_core::LanguageIdentifier;
 use icu_locale_matching::{LocaleServer, MatchLimits, ServedLocales};
 use icu_provider::LanguageMatching;
@@ -14,30 +15,30 @@ use std::marker::Model;
 
 /// What is available, and the tables over which it is served. Contracts see it as a `LocaleServer`.
 #[derive(Debug, Drop)]
-pub struct Serving<'d> {
-    canonicalizer: LocaleCanonicalizer<'d>,
-    matching: &'d LanguageMatching,
+pub struct Serving<'r> {
+    rules: CanonicalizerRef<'r>,
+    matching: &'r LanguageMatching,
     served: ServedLocales,
 }
 
-impl<'d> Model for Serving<'d> {
+impl<'r> Model for Serving<'r> {
     ghost Value = { Service };
 
     ghost coded = { Prim.hlevel (codes, text_set_code) };
 
     ghost view = { λ s. record {
-      expander = s.canonicalizer.expander;
-      rules = s.canonicalizer.rules;
+      expander = s.rules.expander;
+      rules = lent s.rules.rules;
       matching = s.matching.now;
       limits = record { threshold = 50; demotion = 5 };
       available = identifiers_of s.served;
     } };
 
-    ghost invariant = { λ s. IsPreparedOver (likely s.canonicalizer.expander) s.canonicalizer.rules
+    ghost invariant = { λ s. IsPreparedOver (likely s.rules.expander) (lent s.rules.rules)
         s.matching.now s.served };
 }
 
-impl<'d> Serving<'d> {
+impl<'r> Serving<'r> {
     /// Over rules, match rules and what is available, within the limits of ICU.
     ///
     /// # Errors
@@ -45,19 +46,19 @@ impl<'d> Serving<'d> {
     /// `AllocError` where memory was refused.
     pub fn try_new(
         alloc: Global,
-        canonicalizer: LocaleCanonicalizer<'d>,
-        matching: &'d LanguageMatching,
+        rules: CanonicalizerRef<'r>,
+        matching: &'r LanguageMatching,
         available: Vec<LanguageIdentifier>,
     ) -> Result<Self, AllocError>
-        ensures expander { IfOk result (λ s. s.expander ≡ canonicalizer.entry.expander) }
-        ensures rules { IfOk result (λ s. s.rules ≡ canonicalizer.entry.rules) }
+        ensures expander { IfOk result (λ s. s.expander ≡ rules.entry.expander) }
+        ensures rules { IfOk result (λ s. s.rules ≡ lent rules.entry.rules) }
         ensures matching { IfOk result (λ s. s.matching ≡ matching.now) }
         ensures limits { IfOk result (λ s. s.limits ≡ record { threshold = 50; demotion = 5 }) }
         ensures available { IfOk result (λ s. s.available ≡ available.items) }
     {
-        let served = ServedLocales::try_new(alloc, &canonicalizer.lend(), matching, available)?;
+        let served = ServedLocales::try_new(alloc, &rules, matching, available)?;
         Ok(Serving {
-            canonicalizer,
+            rules,
             matching,
             served,
         })
@@ -68,7 +69,7 @@ impl<'d> Serving<'d> {
         ensures { result ≡ self.now }
     {
         LocaleServer::over(
-            self.canonicalizer.lend(),
+            self.rules,
             self.matching,
             MatchLimits::default(),
             &self.served,
@@ -78,9 +79,9 @@ impl<'d> Serving<'d> {
 
 /// What tells distances: likely tables and match rules.
 #[derive(Clone, Copy, Debug)]
-pub struct Distances<'d> {
+pub struct Distances<'r> {
     /// The likely tables.
-    pub expander: LocaleExpander<'d>,
+    pub expander: LocaleExpander<'r>,
     /// The match rules.
-    pub matching: &'d LanguageMatching,
+    pub matching: &'r LanguageMatching,
 }

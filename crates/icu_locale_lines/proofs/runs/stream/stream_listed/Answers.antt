@@ -13,21 +13,21 @@ pub returns-then-first-clause-output : goal.returns-then-first-clause-output
 returns-then-first-clause-output g c = λ k t listing.
     let first = c.in_ok-first.first in
     let reads = c.in_ok-first.ensures.line in
-    let work_of = subst (λ l. (input : List ℕ) → first_line input ≡ l → IsWorkOf k t input c.in_ok-work.work) c.deref.ensures.value
-    (λ input same. c.in_ok-work.ensures.work k t input listing same) in
+    let work_of = subst (λ l. (input : List ℕ) → first_line input ≡ l → IsWorkOf k t input c.work-work.result) c.deref.ensures.value
+    (λ input same. c.in_ok-listed.ensures.work k t input listing same c.work-work.result c.work-work.ensures) in
     let start = prepend_known c.args.before.now (g.R.Read.remaining c.args.reader.now) in
     let read = g.R.Read.remaining c.read_first_line.new.reader in
     let all = subst (λ ends. Consumes start (prepend_known first.rest.items read) (first.line.items ++ line_end ends)) c.if-first.true reads.consumed in
-    ended_run k t c.args.listing listing first.line.items reads.alone c.in_ok-work.work work_of
+    ended_run k t c.args.listing listing first.line.items reads.alone c.work-work.result work_of
     c.args.longest reads.within start read (g.W.Write.contents c.args.writer.now) first.rest.items (reads.at_end c.if-first.true) all (g.R.Read.remaining c.args.reader.now)
 
 pub returns-clause-output : goal.returns-clause-output
 returns-clause-output g c = λ k t listing.
     let first = c.in_ok-first.first in
     let reads = c.in_ok-first.ensures.line in
-    let w = c.in_ok-work.work in
+    let w = c.work-work.result in
     let work_of = subst (λ l. (input : List ℕ) → first_line input ≡ l → IsWorkOf k t input w) c.deref.ensures.value
-    (λ input same. c.in_ok-work.ensures.work k t input listing same) in
+    (λ input same. c.in_ok-listed.ensures.work k t input listing same w c.work-work.ensures) in
     let start = prepend_known c.args.before.now (g.R.Read.remaining c.args.reader.now) in
     let mid = prepend_known first.rest.items (g.R.Read.remaining c.read_first_line.new.reader) in
     let head = subst (λ ends. Consumes start mid (first.line.items ++ line_end ends)) c.if-first.false reads.consumed in
@@ -46,9 +46,9 @@ pub returns-clause-refused : goal.returns-clause-refused
 returns-clause-refused g c = λ k t listing.
     let first = c.in_ok-first.first in
     let reads = c.in_ok-first.ensures.line in
-    let w = c.in_ok-work.work in
+    let w = c.work-work.result in
     let work_of = subst (λ l. (input : List ℕ) → first_line input ≡ l → IsWorkOf k t input w) c.deref.ensures.value
-    (λ input same. c.in_ok-work.ensures.work k t input listing same) in
+    (λ input same. c.in_ok-listed.ensures.work k t input listing same w c.work-work.ensures) in
     let start = prepend_known c.args.before.now (g.R.Read.remaining c.args.reader.now) in
     let mid = prepend_known first.rest.items (g.R.Read.remaining c.read_first_line.new.reader) in
     let head = subst (λ ends. Consumes start mid (first.line.items ++ line_end ends)) c.if-first.false reads.consumed in

@@ -35,8 +35,8 @@ returns-in-Ready-clause-refused g c =
     (wrote c.stream_lines.new.writer) c.stream_lines.result c.stream_lines.ensures.refused))
 
 -- all was loaded, so nothing is refused for a table
-pub returns-in-Listing-clause-data : goal.returns-in-Listing-clause-data
-returns-in-Listing-clause-data g c =
+pub returns-clause-data : goal.returns-clause-data
+returns-clause-data g c =
     let read = g.R.Read.remaining in
     let wrote = g.W.Write.contents in
     let start = prepend_known c.args.before.now (read c.args.reader.now) in
@@ -47,8 +47,8 @@ returns-in-Listing-clause-data g c =
       λ h. let refused = c.load.ensures.data.1 (subst (λ k. has_tables k c.args.tables.now ≡ false) c.in-Lines.is h) in search rules,
     )
 
-pub returns-in-Listing-clause-unsettled : goal.returns-in-Listing-clause-unsettled
-returns-in-Listing-clause-unsettled g c =
+pub returns-clause-unsettled : goal.returns-clause-unsettled
+returns-clause-unsettled g c =
     let read = g.R.Read.remaining in
     let wrote = g.W.Write.contents in
     let start = prepend_known c.args.before.now (read c.args.reader.now) in
@@ -60,14 +60,14 @@ returns-in-Listing-clause-unsettled g c =
       λ h. let refused = c.load.ensures.unsettled.1 (subst (λ k. IsUnsettled k c.args.tables.now) c.in-Lines.is h) in search rules,
     )
 
-pub returns-in-Listing-clause-output : goal.returns-in-Listing-clause-output
-returns-in-Listing-clause-output g c =
+pub returns-clause-output : goal.returns-clause-output
+returns-clause-output g c =
     let k = c.in-Lines.command in
     let loaded = subst (IsLoaded k c.args.tables.now) c.in-Listing.is c.in_ok-work.ensures.loaded in
     rw c.in-Lines.is (c.stream_listed.ensures.output k c.args.tables.now loaded)
 
-pub returns-in-Listing-clause-refused : goal.returns-in-Listing-clause-refused
-returns-in-Listing-clause-refused g c =
+pub returns-clause-refused : goal.returns-clause-refused
+returns-clause-refused g c =
     let read = g.R.Read.remaining in
     let wrote = g.W.Write.contents in
     let start = prepend_known c.args.before.now (read c.args.reader.now) in

@@ -1,4 +1,4 @@
-use Rattle.std.proofs.Common.{◌≡◌, inl, inr, sym, subst}
+use Rattle.std.proofs.Common.{inl, inr, sym, subst}
 use Rattle.icu_locale_lines.specs.Answers.{IsAnswerOf}
 use Rattle.icu_locale_lines.specs.Lists.{IsFault}
 use Rattle.icu_locale_lines.proofs.LineAnswers.{if_adds, if_fault}
