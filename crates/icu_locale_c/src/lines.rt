@@ -65,7 +65,7 @@ fn work_over<'r>(
         (held tables.now list.now offered.now.wholes.items) asked.now) }
 {
     let tools = match asked.task {
-        // A few references make these, and loading them moves more.
+        // Most lines ask for a form, which two references bring about: `Loaded::load` would move more.
         Task::Transform(form) => Tools::Transform(form, expander_over(tables)?),
         Task::Negotiate => Tools::Negotiate(negotiator_over(tables, list)?, offered),
         Task::Serve(wishes) => Tools::Serve(wishes, server_over(tables, kept)?, offered),

@@ -9,13 +9,13 @@ use crate::error::CliError;
 use icu_locale_core::LanguageIdentifier;
 use icu_locale_extensions::{LocaleIdentifier, Syntax};
 
-// What has a line for each identifier, and for each locale identifier.
+// What a line is asked for: it has a line for each identifier, and for each locale identifier.
 pub trait Answering {
     ghost is_line: { Self → LanguageIdentifier → List ℕ → Bool → Type 0 };
 
     ghost is_whole_line: { Self → LocaleIdentifier → List ℕ → Bool → Type 0 };
 
-    // The line of an identifier, which is at hand for it, is appended to the others.
+    // The line of an identifier, which may be changed for it, is appended to the others.
     fn add_line(
         &self,
         text: &mut Vec<u8>,

@@ -63,6 +63,7 @@ impl<'a, 'd> Answering for Forming<'a, 'd> {
         add_changed(text, identifier, changed)
     }
 
+    #[inline(always)]
     fn add_whole_line(
         &self,
         text: &mut Vec<u8>,
