@@ -18,6 +18,7 @@ use Rattle.icu_locale_lines.specs.declared.asked.Source.TheVariants as source
 use Rattle.icu_locale_lines.specs.declared.command.Command.{Command}
 use Rattle.icu_locale_lines.specs.declared.command.Command.TheVariants.{Lines, Settled}
 use Rattle.icu_locale_lines.specs.declared.error.CliError.{CliError}
+use Rattle.icu_locale_lines.specs.inner.Words.{first_of}
 use Rattle.icu_locale_lines.specs.laws.Commands.{longest_apart, supplement_apart, no_stream_words}
 use Rattle.icu_locale_lines.proofs.CommandWords.{never_last, ends}
 
@@ -78,10 +79,6 @@ without_supplement words none c source.JsonAndSupplement (front, are, is) = absu
 abbrev third : List ℕ → ℕ
 third (a ∷ b ∷ c ∷ cs) = c
 third cs = 0
-
-abbrev first_of : List (List ℕ) → List ℕ
-first_of [] = []
-first_of (w ∷ ws) = w
 
 never_command : (rest : List (List ℕ)) (c : Command) → AreCommandWords (codes "longest" ∷ rest) c → ⊥
 never_command rest Settled are = let h : 110 ≡ 116 = ap (λ ws. third (first_of ws)) are in omega (arith, h)

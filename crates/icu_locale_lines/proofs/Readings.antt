@@ -21,6 +21,7 @@ use Rattle.icu_locale_lines.specs.Lists.{listed, SpellsAll, SpellsIn, SpellsWhol
 use Rattle.icu_locale_lines.specs.Locales.{SpellsLocale, SpellsSome, IsLocaleFault, IsValueFault, identifier_text, value_text}
 use Rattle.icu_locale_lines.specs.Readings.{IsReadAnswer}
 use Rattle.icu_locale_lines.specs.Texts.{refused_line}
+use Rattle.icu_locale_lines.specs.inner.Words.{first_of, others_of}
 
 -- two answers are the same
 pub record SameAnswer (one two : List ℕ) (a b : Bool) : Type 0 where
@@ -36,15 +37,6 @@ pub record ReadsOnce {A : Type 0} (Reads : List ℕ → A → Type 0) (Faults : 
   pub one : (t : List ℕ) (x y : A) → Reads t x → Reads t y → x ≡ y
   pub apart : (t : List ℕ) (x : A) (e : ParseError) → Reads t x → Faults t e → ⊥
   pub fault : (t : List ℕ) (e f : ParseError) → Faults t e → Faults t f → e ≡ f
-
--- the first of some texts
-abbrev first_of : List (List ℕ) → List ℕ
-first_of [] = []
-first_of (p ∷ ps) = p
-
-abbrev others_of : List (List ℕ) → List (List ℕ)
-others_of [] = []
-others_of (p ∷ ps) = ps
 
 module _ {A : Type 0} {Reads : List ℕ → A → Type 0} {Faults : List ℕ → ParseError → Type 0} (once : ReadsOnce Reads Faults) where
   -- the answer to a line is one where its line is

@@ -1,2 +1,3 @@
 -- What private functions alone cite.
 pub mod Parts
+pub mod Words

@@ -28,7 +28,7 @@ supplement the second their supplement; without json both are a small sample.
   direction                which way the likely script runs: ltr, rtl or none
   negotiate                what is served for each line of requests; the first line lists what is available
   name CHAIN PREFERENCES   what each identifier is called, as in: name light en
-  fallback                 the chain of identifiers that are asked behind each one, up to und
+  fallback                 the chain of identifiers that are asked after each one, up to und
   serve                    what is served for each header Accept-Language; the first line lists what is available
   nearest                  the nearest available identifier for each line of requests; the first line lists them
   distance                 how far the second identifier of a line is from the first

@@ -15,6 +15,7 @@ use Rattle.icu_locale_lines.specs.declared.command.Task.{Task}
 use Rattle.icu_locale_lines.specs.declared.command.Task.TheVariants.{Transform, Canonicalize, Direction, Negotiate, Name, Fallback, Serve, Distance}
 use Rattle.icu_locale_lines.specs.declared.command.Wishes.TheVariants.{Header, Requests}
 use Rattle.icu_locale_lines.specs.declared.work.form.Transform.TheVariants.{Maximize, Minimize, MinimizeScript}
+use Rattle.icu_locale_lines.specs.inner.Words.{first_of, others_of}
 
 -- a task is `name`, and these are its arguments
 pub record IsNameOf (task : Task) (arguments : List (List ℕ)) : Type 0 where
@@ -138,14 +139,6 @@ one_syntax Posix Bcp47 e = let h : 112 ≡ 98 = ap letter e in absurd (omega (ar
 one_syntax Posix Posix e = refl
 
 -- ---- the word of a syntax before others
-
-abbrev first_of : List (List ℕ) → List ℕ
-first_of [] = []
-first_of (w ∷ ws) = w
-
-abbrev others_of : List (List ℕ) → List (List ℕ)
-others_of [] = []
-others_of (w ∷ ws) = ws
 
 -- a list with one more is not empty
 pub not_nil : {X : Type 0} (xs : List X) (x : X) → xs ++ x ∷ [] ≡ [] → ⊥
