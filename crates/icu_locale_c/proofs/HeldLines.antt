@@ -1,37 +1,26 @@
 -- Lines, lists and canonical forms over what is held.
-use Rattle.std.proofs.Common.{◌≡◌, ℕ, Bool, List, Option, None, Some, Result, Ok, Err, IfOk, sym, subst, [], ◌∷◌, length, refl, ap, ◌∙◌, arith}
-use Rattle.std.specs.Prelude.{IsSomeAnd}
-use Rattle.icu_locale.specs.Rules.{AreRules}
-use Rattle.icu_locale.specs.RuleSet.{rules_over}
-use Rattle.icu_locale.specs.declared.canonicalizer.rules.ReadRules.{ReadRules}
+use Rattle.std.proofs.Common.{◌≡◌, ℕ, Bool, List, Option, Some, Result, Ok, Err, IfOk, sym, subst, [], ◌∷◌, length, refl, ap, ◌∙◌, arith}
 use Rattle.icu_locale.specs.declared.expander.LocaleExpander.{LocaleExpander}
-use Rattle.icu_provider.specs.declared.aliases.Aliases.{Aliases}
 use Rattle.icu_tables.specs.declared.tables.Tables.{Tables}
-use Rattle.icu_locale_lines.specs.Answers.{IsAnswer, IsCanonicalAnswer}
+use Rattle.icu_locale_lines.specs.Answers.{IsAnswer}
 use Rattle.icu_locale_lines.specs.Loads.{IsExpanderOf}
 use Rattle.icu_locale_c.specs.Asked.{IsLineOf}
-use Rattle.icu_locale_c.specs.Held.{without_list, Held, IsListOver, IsNegotiationOf, IsWorkOver, AreToolsOver, with_list}
+use Rattle.icu_locale_c.specs.Held.{Held, IsListOver, IsNegotiationOf, IsWorkOver, AreToolsOver, with_list}
 use Rattle.icu_locale.specs.Negotiation.{IsMadeOver, identifiers_of, Negotiation}
 use Rattle.icu_locale.specs.LikelyTable.{likely}
 use Rattle.icu_locale.specs.LikelySubtags.{AreSettled}
 use Rattle.icu_locale.specs.declared.negotiator.available.Available.{Available}
-use Rattle.icu_locale_lines.specs.Lists.{listed, IsAvailable, IsListedAnswer, IsNegotiatedLine}
-use Rattle.icu_locale_lines.specs.Serving.{IsWishAnswer}
-use Rattle.icu_locale_values.specs.Whole.{WholeRules}
+use Rattle.icu_locale_lines.specs.Lists.{listed, IsAvailable}
 use Rattle.icu_locale_lines.specs.Commands.{IsWorkOf, AreToolsOf, text_answered, text_left}
 use Rattle.icu_locale_lines.specs.Lines.{after_first_line}
 use Rattle.icu_locale_lines.specs.declared.command.LineCommand.{LineCommand}
 use Rattle.icu_locale_lines.specs.declared.command.Wishes.{Wishes}
-use Rattle.icu_locale_matching.specs.Service.{Service}
-use Rattle.icu_provider.specs.declared.matching.LanguageMatching.{LanguageMatching}
 use Rattle.icu_locale_lines.specs.declared.work.Work.{Work}
-use Rattle.icu_locale_lines.specs.declared.work.offered.Offered.{Offered}
 use Rattle.icu_locale_extensions.specs.declared.identifier.LocaleIdentifier.{LocaleIdentifier}
 use Rattle.icu_locale_lines.specs.laws.Expanders.{same_likely}
 use Rattle.icu_locale_c.specs.Negotiations.{IsListed}
 use Rattle.icu_locale_lines.specs.declared.command.Task.{Task}
 use Rattle.icu_locale_lines.specs.declared.command.Task.TheVariants as task
-use Rattle.icu_locale_lines.specs.declared.work.Tools.TheVariants as tools
 use Rattle.icu_locale_extensions.specs.declared.syntax.Syntax.{Syntax}
 use Rattle.std.proofs.Common.{◌⊎◌, inl, inr, IfErr, false, true, is_some}
 use Rattle.std.proofs.lemmas.Bool.{false≢true}
@@ -44,7 +33,9 @@ use Rattle.icu_locale_lines.specs.declared.error.CliError.{CliError}
 use Rattle.icu_locale_lines.specs.declared.error.CliError.TheVariants.{Data, NotSettled}
 use Rattle.icu_locale_lines.specs.declared.work.listing.Listing.{Listing}
 use Rattle.icu_locale_core.specs.declared.langid.LanguageIdentifier.{LanguageIdentifier}
-use Rattle.icu_locale_c.specs.Asked.{HasAsked, IsRefusedLine, asks_list}
+use Rattle.icu_locale_lines.specs.Answers.{IsAnswer}
+use Rattle.icu_locale_lines.specs.declared.work.Tools.{Tools}
+use Rattle.icu_locale_c.specs.Asked.{HasList, IsLineOf, IsRefusedLine, asks_list}
 use Rattle.icu_locale_c.specs.Negotiations.{IsRefusedNegotiation, IsRefusedRequests}
 use Rattle.icu_locale_c.specs.declared.refusal.Refusal.{Refusal}
 use Rattle.icu_locale_c.specs.declared.refusal.Refusal.TheVariants as refusal
@@ -69,6 +60,21 @@ work_without_list asked t list ws w of = record { syntax = (of []).0.syntax; too
     by (task.Serve wishes) are same = absurd (never (same (10 ∷ [])))
     by task.Distance are same = are
 
+-- the line of a work over what is held
+module _ (h : Held) (asked : LineCommand) (w : Work) (line whole : List ℕ) (r : Result Bool Refusal) where
+  pub line_over : IsWorkOver asked h w → IfOk r (IsAnswer w line whole) → IfOk r (IsLineOf h asked line whole)
+  line_over of answer = IfOk-weaker r _ _ (λ a is. record { work = w; work_of = of; answer = is }) answer
+
+  pub line_refused : HasList h asked → has_tables (Lines asked) h.tables ≡ true → IfErr r (λ e. e ≡ refusal.Memory) → IfErr r (IsRefusedLine h asked)
+  line_refused list tables which = IfErr-weaker r _ _ (λ e is. subst (IsRefusedLine h asked) (sym is) (list, tables)) which
+
+pub work_over : (h : Held) (asked : LineCommand) (k : Task) (w : Tools) → asked.task ≡ k → AreToolsOver asked.syntax k h w
+    → IsWorkOver asked h (record { syntax = asked.syntax; tools = w })
+work_over h asked k w task are = record { syntax = refl; tools = subst (λ j. AreToolsOver asked.syntax j h w) (sym task) are }
+
+pub no_list : (h : Held) (asked : LineCommand) (k : Task) → asked.task ≡ k → asks_list k ≡ false → HasList h asked
+no_list h asked k task none asks = absurd (false≢true (sym none ∙ (sym (ap asks_list task) ∙ asks)))
+
 -- a task that does not list asks for no list
 pub asks_none : (k : Task) → (k ≡ task.Negotiate → ⊥) → ((w : Wishes) → k ≡ task.Serve w → ⊥) → asks_list k ≡ false
 asks_none (task.Transform form) negotiates serves = refl
@@ -79,21 +85,6 @@ asks_none (task.Name chain preferences) negotiates serves = refl
 asks_none task.Fallback negotiates serves = refl
 asks_none (task.Serve w) negotiates serves = absurd (serves w refl)
 asks_none task.Distance negotiates serves = refl
-
--- the work of such a task, over what is held
-module _ (asked : LineCommand) (t : Tables) (list : Option (List LanguageIdentifier)) (ws : List LocaleIdentifier)
-    (none : asks_list asked.task ≡ false) (r : Result Work Refusal) where
-  pub loaded_work_over : IfOk r (λ w. (input : List ℕ) → IsWorkOf asked t input w × (text_answered asked input ≡ input))
-      → IfOk r (IsWorkOver asked (record { tables = t; available = list; wholes = ws }))
-  loaded_work_over h = IfOk-weaker r _ _ (λ w of. work_without_list asked t list ws w of) h
-
-  pub loaded_asked : IfOk r (λ w. has_tables (Lines asked) t ≡ true) → IfOk r (λ w. HasAsked (record { tables = t; available = list; wholes = ws }) asked)
-  loaded_asked h = IfOk-weaker r _ _ (λ w held. record { list = λ asks. absurd (false≢true (sym none ∙ asks)); tables = held }) h
-
-  pub loaded_refused : IfErr r (λ e. (e ≡ refusal.Table) × (has_tables (Lines asked) t ≡ false))
-      → IfErr r (IsRefusedLine (record { tables = t; available = list; wholes = ws }) asked)
-  loaded_refused h = IfErr-weaker r _ _ (λ e why. subst (IsRefusedLine (record { tables = t; available = list; wholes = ws }) asked) (sym why.0)
-      ((λ asks. absurd (false≢true (sym none ∙ asks))), why.1)) h
 
 -- a task that asks for no list is refused for a table alone
 pub loaded_table : (asked : LineCommand) (t : Tables) (e : CliError) → asks_list asked.task ≡ false → (e ≡ Data not_found) ⊎ (e ≡ NotSettled)

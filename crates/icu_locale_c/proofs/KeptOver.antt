@@ -17,7 +17,7 @@ use Rattle.icu_locale_matching.specs.declared.server.ServedLocales.{ServedLocale
 use Rattle.icu_provider.specs.declared.aliases.Aliases.{Aliases}
 use Rattle.icu_provider.specs.declared.matching.LanguageMatching.{LanguageMatching}
 use Rattle.icu_tables.specs.declared.tables.Tables.{Tables}
-use Rattle.icu_locale_lines.specs.Loads.{AreRulesOf, IsExpanderOf}
+use Rattle.icu_locale_lines.specs.Loads.{AreRulesOf, IsCanonicalizerOf, IsExpanderOf}
 use Rattle.icu_locale_lines.specs.laws.Expanders.{same_likely}
 use Rattle.icu_locale_lines.specs.declared.command.Task.{Task}
 use Rattle.icu_locale_lines.specs.declared.command.Task.TheVariants.{Transform, Canonicalize, Direction, Negotiate, Name, Fallback, Serve, Distance}
@@ -117,6 +117,19 @@ module _ (t : Tables) (list : Option Available) (ws : List LocaleIdentifier) (k 
     };
     available = of_list list (kept_served t list k read s kept rules served) available;
   }
+
+-- rules that are kept, lent over the tables
+pub lent_of_kept : (t : Tables) (list : Option Available) (k : Kept) (read : ReadRules) (c : CanonicalizerRef) → AreKept t list k → k.rules ≡ Some read
+    → IsExpanderOf t c.expander → Lends t read c → IsCanonicalizerOf t c
+lent_of_kept t list k read c kept rules over lends = record {
+  expander = over;
+  rules = by t.aliases lends (subst (λ (o : Option ReadRules). IfSome o (AreRulesOf t)) rules kept.rules);
+}
+  where
+    by : (o : Option Aliases) → IsSomeAnd o (λ table. lent c.rules ≡ rules_over read table) → IsSomeAnd o (λ table. AreRules table (rules_over read table))
+        → IsSomeAnd o (λ table. AreRules table (lent c.rules))
+    by None lends are = absurd lends
+    by (Some table) lends are = subst (AreRules table) (sym lends) are
 
 -- a task that asks for nothing beside the tables has what it asks for
 pub nothing_kept : (task : Task) (kept : Kept) → (task ≡ Canonicalize → ⊥) → ((w : Wishes) → task ≡ Serve w → ⊥) → HasKept task kept

@@ -30,11 +30,6 @@ asks_list task = false
 abbrev pub HasList : Held → LineCommand → Type 0
 HasList h asked = asks_list asked.task ≡ true → IsSome h.available
 
--- all that a command asks for is there: its list, if it asks for one, and its tables
-pub record HasAsked (h : Held) (asked : LineCommand) : Type 0 where
-  pub list : HasList h asked
-  pub tables : has_tables (Lines asked) h.tables ≡ true
-
 -- a task serves
 abbrev pub IsServeTask : Task → Type 0
 IsServeTask task = (wishes : Wishes) × (task ≡ Serve wishes)

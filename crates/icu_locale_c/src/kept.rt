@@ -4,7 +4,7 @@ ghost use Rattle.icu_locale.specs.RuleSet.{lent, rules_over};
 ghost use Rattle.icu_locale.specs.declared.negotiator.available.Available.{Available};
 ghost use Rattle.icu_locale_extensions.specs.declared.identifier.LocaleIdentifier.{LocaleIdentifier};
 ghost use Rattle.icu_locale_lines.specs.Commands.{has_matching, reads_rules};
-ghost use Rattle.icu_locale_lines.specs.Loads.{IsExpanderOf, has_rules};
+ghost use Rattle.icu_locale_lines.specs.Loads.{IsExpanderOf, IsWholeOf, has_rules};
 ghost use Rattle.icu_locale_c.specs.Asked.{IsRefusedLine, IsServeTask, IsUnkept};
 ghost use Rattle.icu_locale_c.specs.Held.{AreKept, HasKept, IsServerOver, StaysKept, held};
 
@@ -13,6 +13,7 @@ use icu_locale::{Available, CanonicalizerRef, ReadRules};
 use icu_locale_core::{LanguageIdentifier, ParseError};
 use icu_locale_lines::{CliError, LineCommand, Task, lend_rules, load_rules};
 use icu_locale_matching::{LocaleServer, MatchLimits, ServedLocales};
+use icu_locale_values::{ValueAliases, WholeCanonicalizer};
 use icu_provider::LanguageMatching;
 use icu_tables::Tables;
 use std::alloc::Global;
@@ -120,6 +121,31 @@ fn keep_served(
         }
         Err(_) => Err(Refusal::Memory),
     }
+}
+
+// What brings lines to their canonical form, by the rules that are kept.
+#[inline(always)]
+pub fn canonicalizer_over<'r>(
+    tables: &'r Tables,
+    kept: &'r Kept,
+) -> Result<WholeCanonicalizer<'r>, Refusal>
+    requires rules { IsSome kept.now.rules }
+    ensures over { (list : Option Available) → AreKept tables.now list kept.now
+        → IfOk result (IsWholeOf tables.now) }
+    ensures held { IfOk result (λ _. has_rules tables.now ≡ true) }
+    ensures refused { IfErr result (λ e. (e ≡ Refusal.Table) × (has_rules tables.now ≡ false)) }
+{
+    let Some(read) = &kept.rules else {
+        unreachable!()
+    };
+    let Ok(rules) = lend_rules(tables, read) else {
+        return Err(Refusal::Table);
+    };
+    let values = ValueAliases {
+        keywords: &tables.supplement.keywords,
+        fields: &tables.supplement.fields,
+    };
+    Ok(WholeCanonicalizer { rules, values })
 }
 
 // The rules that are kept, and the match rules of the tables: what is served by.

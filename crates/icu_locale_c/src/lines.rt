@@ -1,13 +1,14 @@
 //! The program's line for a line, over what a handle keeps.
 ghost use Rattle.std.specs.Prelude.{◌≡◌, ◌<◌, ◌-◌, true, false, take, length, List, ℕ, IfOk, IfErr, IfSome, IsOk, is_ok};
+ghost use Rattle.icu_locale_lines.specs.Answers.{IsAnswer};
 ghost use Rattle.icu_locale_lines.specs.Commands.{HasRules, IsWorkOf, has_tables, text_answered};
 ghost use Rattle.icu_locale_lines.specs.Loads.{IsExpanderOf, has_likely};
 ghost use Rattle.icu_locale_lines.specs.declared.command.Command.TheVariants.{Lines};
-ghost use Rattle.icu_locale_c.specs.Asked.{HasAsked, IsLineOf, IsRefusedLine, asks_list};
+ghost use Rattle.icu_locale_c.specs.Asked.{IsLineOf, IsRefusedLine, asks_list};
 ghost use Rattle.icu_locale_c.specs.Calls.{Writes, unended};
-ghost use Rattle.icu_locale_c.specs.Held.{AreKept, HasKept, IsListOver, IsWorkOver, StaysKept, held};
+ghost use Rattle.icu_locale_c.specs.Held.{AreKept, HasKept, IsListOver, StaysKept, held};
 
-use crate::kept::{Kept, keep, server_over};
+use crate::kept::{Kept, canonicalizer_over, keep, server_over};
 use crate::negotiations::negotiator_over;
 use crate::refusal::Refusal;
 use icu_locale::{Available, LocaleExpander};
@@ -38,43 +39,112 @@ pub fn line_of(
         (held tables.now list.now offered.now.wholes.items) asked.now) }
 {
     keep(alloc, tables, list, asked, kept)?;
-    let work = work_over(tables, list, offered, kept, asked)?;
-    match work.answer(room, line) {
-        Ok(accepted) => Ok(accepted),
-        Err(_) => Err(Refusal::Memory),
-    }
+    kept_line(tables, list, offered, kept, asked, room, line)
 }
 
-// The work of a command over what is held and kept.
+// The same over what is kept. A work has room for the largest of its tools, so what most lines ask for is apart.
 #[inline(always)]
-fn work_over<'r>(
+fn kept_line<'r>(
     tables: &'r Tables,
     list: &'r Option<Available>,
     offered: &'r Offered,
     kept: &'r Kept,
     asked: &LineCommand,
-) -> Result<Work<'r>, Refusal>
+    room: &mut Vec<u8>,
+    line: &[u8],
+) -> Result<bool, Refusal>
     requires kept { AreKept tables.now list.now kept.now }
     requires there { HasKept asked.now.task kept.now }
     requires list { IfSome list.now (IsListOver tables.now) }
-    ensures work { IfOk result (IsWorkOver asked.now
-        (held tables.now list.now offered.now.wholes.items)) }
-    ensures asked { IfOk result (λ _. HasAsked
-        (held tables.now list.now offered.now.wholes.items) asked.now) }
+    ensures answered { IfOk result (IsLineOf
+        (held tables.now list.now offered.now.wholes.items) asked.now line.now room.new.items) }
     ensures refused { IfErr result (IsRefusedLine
         (held tables.now list.now offered.now.wholes.items) asked.now) }
 {
-    let tools = match asked.task {
-        // Most lines ask for a form, which two references bring about: `Loaded::load` would move more.
-        Task::Transform(form) => Tools::Transform(form, expander_over(tables)?),
-        Task::Negotiate => Tools::Negotiate(negotiator_over(tables, list)?, offered),
-        Task::Serve(wishes) => Tools::Serve(wishes, server_over(tables, kept)?, offered),
-        _ => return loaded_work(tables, kept, asked),
-    };
-    Ok(Work {
+    match asked.task {
+        Task::Transform(form) => {
+            let expander = expander_over(tables)?;
+            let work = Work {
+                syntax: asked.syntax,
+                tools: Tools::Transform(form, expander),
+            };
+            answer(&work, room, line)
+        }
+        Task::Canonicalize => canonical_line(tables, list, offered, kept, asked, room, line),
+        _ => further_line(tables, list, offered, kept, asked, room, line),
+    }
+}
+
+// The line of a canonical form.
+#[inline(never)]
+fn canonical_line<'r>(
+    tables: &'r Tables,
+    list: &'r Option<Available>,
+    offered: &'r Offered,
+    kept: &'r Kept,
+    asked: &LineCommand,
+    room: &mut Vec<u8>,
+    line: &[u8],
+) -> Result<bool, Refusal>
+    requires kept { AreKept tables.now list.now kept.now }
+    requires there { HasKept asked.now.task kept.now }
+    requires task { asked.now.task ≡ Task.Canonicalize }
+    ensures answered { IfOk result (IsLineOf
+        (held tables.now list.now offered.now.wholes.items) asked.now line.now room.new.items) }
+    ensures refused { IfErr result (IsRefusedLine
+        (held tables.now list.now offered.now.wholes.items) asked.now) }
+{
+    let canonicalizer = canonicalizer_over(tables, kept)?;
+    let work = Work {
         syntax: asked.syntax,
-        tools,
-    })
+        tools: Tools::Canonicalize(canonicalizer),
+    };
+    answer(&work, room, line)
+}
+
+// The line of any other task.
+#[inline(never)]
+fn further_line<'r>(
+    tables: &'r Tables,
+    list: &'r Option<Available>,
+    offered: &'r Offered,
+    kept: &'r Kept,
+    asked: &LineCommand,
+    room: &mut Vec<u8>,
+    line: &[u8],
+) -> Result<bool, Refusal>
+    requires kept { AreKept tables.now list.now kept.now }
+    requires there { HasKept asked.now.task kept.now }
+    requires list { IfSome list.now (IsListOver tables.now) }
+    ensures answered { IfOk result (IsLineOf
+        (held tables.now list.now offered.now.wholes.items) asked.now line.now room.new.items) }
+    ensures refused { IfErr result (IsRefusedLine
+        (held tables.now list.now offered.now.wholes.items) asked.now) }
+{
+    let syntax = asked.syntax;
+    match asked.task {
+        Task::Negotiate => {
+            let tools = Tools::Negotiate(negotiator_over(tables, list)?, offered);
+            answer(&Work { syntax, tools }, room, line)
+        }
+        Task::Serve(wishes) => {
+            let tools = Tools::Serve(wishes, server_over(tables, kept)?, offered);
+            answer(&Work { syntax, tools }, room, line)
+        }
+        _ => answer(&loaded_work(tables, kept, asked)?, room, line),
+    }
+}
+
+// The answer to a line, in the room of an earlier one.
+#[inline(always)]
+fn answer(work: &Work<'_>, room: &mut Vec<u8>, line: &[u8]) -> Result<bool, Refusal>
+    ensures answered { IfOk result (IsAnswer work.now line.now room.new.items) }
+    ensures refused { IfErr result (λ e. e ≡ Refusal.Memory) }
+{
+    match work.answer(room, line) {
+        Ok(accepted) => Ok(accepted),
+        Err(_) => Err(Refusal::Memory),
+    }
 }
 
 // The expander over the tables.

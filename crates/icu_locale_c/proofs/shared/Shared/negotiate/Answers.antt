@@ -1,4 +1,4 @@
-use Rattle.std.proofs.Common.{ap, is_some, sym, subst}
+use Rattle.std.proofs.Common.{ap, is_some, subst}
 use Rattle.icu_locale_c.specs.Held.{IsNegotiationOf, held}
 use Rattle.icu_locale_c.proofs.HeldLines.{refused_requests}
 use Rattle.icu_locale_c.proofs.shared.Shared.negotiate.Goals as goal
