@@ -34,7 +34,8 @@ pub fn written_once()
 /// A text spells at most one locale identifier.
 pub fn spelled_once()
     ensures { (t : List ℕ) (x y : LocaleIdentifier)
-        → IsLocaleIdentifier x → IsLocaleIdentifier y → Spells t x → Spells t y → x ≡ y }
+        → IsLocaleIdentifier x → IsLocaleIdentifier y → Spells t x → Spells t y
+        → x ≡ y }
 {
     icu_locale_core::laws::spelled_once();
 }
@@ -65,7 +66,8 @@ pub fn strict_texts_read_alike()
 /// A text spells at most one locale identifier in each syntax.
 pub fn spelled_once_by()
     ensures { (s : Syntax) (t : List ℕ) (x y : LocaleIdentifier)
-        → IsLocaleIdentifier x → IsLocaleIdentifier y → SpellsBy s t x → SpellsBy s t y → x ≡ y }
+        → IsLocaleIdentifier x → IsLocaleIdentifier y → SpellsBy s t x → SpellsBy s t y
+        → x ≡ y }
 {
     spelled_once();
 }

@@ -274,11 +274,11 @@ fn take_fields(alloc: Global, pieces: &mut Pieces<'_>) -> Result<Fields, ParseEr
     requires { front (other_than (is_piece 3)) pieces.old ≡ [] }
     ensures read { IfOk result (λ rows. HaveFirstOf rows
         (map lower_block (blocks is_tkey (front (other_than is_of_fields) pieces.old)))) }
-    ensures full { IsOk result
-        → list_all is_tfield (blocks is_tkey (front (other_than is_of_fields) pieces.old)) ≡ true }
+    ensures full { IsOk result → list_all is_tfield
+        (blocks is_tkey (front (other_than is_of_fields) pieces.old)) ≡ true }
     ensures rest { OnOk result (pieces.new ≡ from (other_than is_of_fields) pieces.old) }
-    ensures refused { result ≡ Err ParseError.InvalidSubtag
-        → list_all is_tfield (blocks is_tkey (front (other_than is_of_fields) pieces.old)) ≡ false }
+    ensures refused { result ≡ Err ParseError.InvalidSubtag → list_all is_tfield
+        (blocks is_tkey (front (other_than is_of_fields) pieces.old)) ≡ false }
     ensures language { ¬ (result ≡ Err ParseError.InvalidLanguage) }
     ensures memory { result ≡ Err ParseError.Memory
         → any_piece (front (other_than is_of_fields) pieces.old) ≡ true }

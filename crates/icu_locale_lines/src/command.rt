@@ -164,7 +164,8 @@ impl Command {
         ensures named { IfOk result (AreCommandWords
             (codes "name" ∷ chain.now ∷ text.now ∷ [])) }
         ensures only { (c : Command)
-            → AreCommandWords (codes "name" ∷ chain.now ∷ text.now ∷ []) c → result ≡ Ok c }
+            → AreCommandWords (codes "name" ∷ chain.now ∷ text.now ∷ []) c
+            → result ≡ Ok c }
         ensures refused { IfErr result (λ e. e ≡ CliError.Usage) }
     {
         let Some(chain) = NameChain::from_word(chain) else {

@@ -41,7 +41,8 @@ pub fn a_line_has_one_answer()
 pub fn syntaxes_answer_alike()
     ensures alike { (tools : Tools) (s : Syntax) (line text : List ℕ) (accepted : Bool)
         → HoldsIdentifiers tools line
-        → IsAnswerBy (Some s) tools line text accepted ↔ IsAnswerBy None tools line text accepted }
+        → IsAnswerBy (Some s) tools line text accepted
+        ↔ IsAnswerBy None tools line text accepted }
     ensures plain { (tools : Tools) (line text : List ℕ) (accepted : Bool)
         → HasNoSingleton tools line
         → IsAnswerBy (Some Unicode) tools line text accepted

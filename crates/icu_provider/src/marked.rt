@@ -30,8 +30,8 @@ pub trait Marked: Ord {
     fn find<'m, V>(map: &'m SortedMap<Self, V>, key: &Self) -> Option<&'m V>
         ensures { option_copied result ≡ value_at Self.cmp map.now key.now };
 
-    ghost shared: { (x y : Self) (m n : ℕ) → Self.cmp x y ≡ Equal → IsMark x m → IsMark y n
-        → m ≡ n };
+    ghost shared: { (x y : Self) (m n : ℕ) → Self.cmp x y ≡ Equal
+        → IsMark x m → IsMark y n → m ≡ n };
 }
 
 impl Marked for Language {

@@ -42,7 +42,8 @@ pub trait DataProvider {
 
     ghost name: { Self → NameMarker → DataLocale → NameKey → Result (List ℕ) DataError };
 
-    ghost menu: { Self → MenuMarker → DataLocale → List ℕ → Result MenuNameParts DataError };
+    ghost menu: { Self → MenuMarker → DataLocale → List ℕ
+        → Result MenuNameParts DataError };
 
     ghost essentials: { Self → DataLocale → Result LocaleNamesEssentials DataError };
 

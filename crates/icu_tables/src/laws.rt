@@ -36,8 +36,8 @@ pub fn requests_find_their_members()
         → IsFile text value rows → FindsByKey name_cmp name_markers name_key a_text
         (codes "names") value rows.names }
     ensures menus { (text : List ℕ) (value : Data) (rows : FileRows)
-        → IsFile text value rows → FindsByKey menu_cmp menu_markers (λ _. language_key) menu_name
-        (codes "menus") value rows.menus }
+        → IsFile text value rows → FindsByKey menu_cmp menu_markers
+        (λ _. language_key) menu_name (codes "menus") value rows.menus }
     ensures essentials { (text : List ℕ) (value : Data) (rows : FileRows)
         → IsFile text value rows → FindsAt locale_cmp locale_key name_patterns
         (codes "essentials" ∷ []) value rows.essentials }

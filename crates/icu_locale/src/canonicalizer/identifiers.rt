@@ -77,7 +77,8 @@ fn following(
     ensures refused { IfErr result (λ e. e ≡ CanonicalizeError.Memory) }
     ensures counted { turns.new ≡ turns.old + 1 }
     ensures free { IfSome (next_of (likely canonicalizer.now.expander)
-        (lent canonicalizer.now.rules) transform id.now) (λ z. z.variants ≡ empty) → IsOk result }
+        (lent canonicalizer.now.rules) transform id.now) (λ z. z.variants ≡ empty)
+        → IsOk result }
 {
     match matching(canonicalizer, id, transform, turns) {
         Some(rewrite) => Ok(Some(rewritten(&canonicalizer.rules, id, &rewrite)?)),

@@ -64,7 +64,8 @@ pub fn find_rewrite<'r>(
 // Whether there are no variants, and no rule asks for the subtags. Most identifiers are so, and no kind matches them.
 #[inline(always)]
 fn is_plain(rules: &RulesRef<'_>, x: &LanguageIdentifier) -> bool
-    ensures { IsTrue result → (likely : LikelySubtags) → next likely (lent rules.now) x.now ≡ None }
+    ensures { IsTrue result → (likely : LikelySubtags)
+        → next likely (lent rules.now) x.now ≡ None }
 {
     x.variants.len() == 0
         && rules.read.language.as_slice().is_empty()

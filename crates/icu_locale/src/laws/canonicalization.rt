@@ -83,7 +83,8 @@ pub fn nothing_to_copy()
 /// an identifier and for a value.
 pub fn canonical_form_is_one()
     ensures one { (likely : LikelySubtags) (rules : Rules) (old new other : Locale)
-        → IsCanonical likely rules old new → IsCanonical likely rules old other → new ≡ other }
+        → IsCanonical likely rules old new → IsCanonical likely rules old other
+        → new ≡ other }
     ensures refused { (likely : LikelySubtags) (rules : Rules) (old new : Locale)
         (e : CanonicalizeError) → IsCanonical likely rules old new
         → IsRefusal likely rules old e → IsMemory e }

@@ -45,10 +45,12 @@ fn write_lines<W: Write>(
 ) -> Result<Status, CliError>
     ensures whole { (input : List ℕ) → left.old ≡ lines input → IfOk result
         (WritesAll work.now input (W.contents writer.old) (W.contents writer.new)) }
-    ensures memory { (input : List ℕ) → left.old ≡ lines input → result ≡ Err CliError.Memory
+    ensures memory { (input : List ℕ) → left.old ≡ lines input
+        → result ≡ Err CliError.Memory
         → (line : List ℕ) × WritesUpTo work.now input (W.contents writer.old)
         (W.contents writer.new) [] (line ∷ left.new) }
-    ensures write { (input : List ℕ) → left.old ≡ lines input → result ≡ Err CliError.Write
+    ensures write { (input : List ℕ) → left.old ≡ lines input
+        → result ≡ Err CliError.Write
         → WritesPart work.now input (W.contents writer.old) (W.contents writer.new) }
     ensures refused { IfErr result (λ e. (e ≡ CliError.Memory) ⊎ (e ≡ CliError.Write)) }
 {

@@ -107,7 +107,8 @@ pub fn add_refusal(text: &mut Vec<u8>, refusal: WholeError) -> Result<bool, CliE
 
 // A refusal of a locale, as one of a locale identifier.
 pub fn of_rules(refusal: CanonicalizeError) -> WholeError
-    ensures { (t : List ℕ) (a : Bool) → TellsWholeRefusal result t a → TellsRefusal refusal t a }
+    ensures { (t : List ℕ) (a : Bool) → TellsWholeRefusal result t a
+        → TellsRefusal refusal t a }
 {
     match refusal {
         CanonicalizeError::Memory => WholeError::Memory,
