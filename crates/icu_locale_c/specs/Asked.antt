@@ -34,6 +34,10 @@ HasList h asked = asks_list asked.task ≡ true → IsSome h.available
 abbrev pub IsServeTask : Task → Type 0
 IsServeTask task = (wishes : Wishes) × (task ≡ Serve wishes)
 
+-- why nothing is lent of the tables: what is asked for is not held
+abbrev pub IsNotHeld : Bool → Refusal → Type 0
+IsNotHeld there e = (e ≡ refusal.Table) × (there ≡ false)
+
 -- why nothing is made beside the tables: a table is not held, or all are and memory was refused
 abbrev pub IsUnkept : Tables → LineCommand → Refusal → Type 0
 IsUnkept t asked refusal.Memory = has_tables (Lines asked) t ≡ true

@@ -1,11 +1,13 @@
 //! What a handle keeps beside its tables, once it was asked for.
 ghost use Rattle.std.specs.Prelude.{◌≡◌, ◌&&◌, [], true, false, List, Option, Some, IfOk, IfErr, IsOk, IsSome, IsSomeAnd};
 ghost use Rattle.icu_locale.specs.RuleSet.{lent, rules_over};
+ghost use Rattle.icu_locale.specs.Rules.{HasNoTexts};
 ghost use Rattle.icu_locale.specs.declared.negotiator.available.Available.{Available};
 ghost use Rattle.icu_locale_extensions.specs.declared.identifier.LocaleIdentifier.{LocaleIdentifier};
-ghost use Rattle.icu_locale_lines.specs.Commands.{has_matching, reads_rules};
+ghost use Rattle.icu_locale_lines.specs.Commands.{has_matching, has_tables, reads_rules};
+ghost use Rattle.icu_locale_lines.specs.declared.command.Command.TheVariants.{Lines};
 ghost use Rattle.icu_locale_lines.specs.Loads.{IsExpanderOf, IsWholeOf, has_rules};
-ghost use Rattle.icu_locale_c.specs.Asked.{IsRefusedLine, IsServeTask, IsUnkept};
+ghost use Rattle.icu_locale_c.specs.Asked.{IsNotHeld, IsRefusedLine, IsServeTask, IsUnkept};
 ghost use Rattle.icu_locale_c.specs.Held.{AreKept, HasKept, IsServerOver, StaysKept, held};
 
 use crate::refusal::Refusal;
@@ -45,6 +47,10 @@ pub fn keep(
     ensures kept { AreKept tables.now list.now kept.new }
     ensures there { IsOk result → HasKept asked.now.task kept.new }
     ensures stays { StaysKept kept.old kept.new }
+    ensures none { reads_rules asked.now.task ≡ false → IsOk result }
+    ensures free { asked.now.task ≡ Task.Canonicalize
+        → has_tables (Lines asked.now) tables.now ≡ true
+        → IfSome tables.now.aliases HasNoTexts → IsOk result }
     ensures refused { (wholes : List LocaleIdentifier)
         → IfErr result (IsRefusedLine (held tables.now list.now wholes) asked.now) }
 {
@@ -74,6 +80,8 @@ fn keep_rules(
     ensures there { IsOk result → IsSome kept.new.rules }
     ensures stays { StaysKept kept.old kept.new }
     ensures again { IsSome kept.old.rules → IsOk result }
+    ensures free { has_tables (Lines asked.now) tables.now ≡ true
+        → IfSome tables.now.aliases HasNoTexts → IsOk result }
     ensures refused { IfErr result (IsUnkept tables.now asked.now) }
 {
     if kept.rules.is_some() {
@@ -133,7 +141,7 @@ pub fn canonicalizer_over<'r>(
     ensures over { (list : Option Available) → AreKept tables.now list kept.now
         → IfOk result (IsWholeOf tables.now) }
     ensures held { IfOk result (λ _. has_rules tables.now ≡ true) }
-    ensures refused { IfErr result (λ e. (e ≡ Refusal.Table) × (has_rules tables.now ≡ false)) }
+    ensures refused { IfErr result (IsNotHeld (has_rules tables.now)) }
 {
     let Some(read) = &kept.rules else {
         unreachable!()
@@ -159,8 +167,7 @@ fn lend_service<'r>(
         IsSomeAnd tables.now.aliases (λ table. lent s.0.rules ≡ rules_over read table))) }
     ensures matching { IfOk result (λ s. tables.now.supplement.matching ≡ Some s.1.now) }
     ensures held { IfOk result (λ _. (has_matching tables.now && has_rules tables.now) ≡ true) }
-    ensures refused { IfErr result (λ e. (e ≡ Refusal.Table)
-        × ((has_matching tables.now && has_rules tables.now) ≡ false)) }
+    ensures refused { IfErr result (IsNotHeld (has_matching tables.now && has_rules tables.now)) }
 {
     let Some(matching) = &tables.supplement.matching else {
         return Err(Refusal::Table);
@@ -181,8 +188,7 @@ pub fn server_over<'r>(tables: &'r Tables, kept: &'r Kept) -> Result<LocaleServe
         → AreKept tables.now list kept.now
         → IfOk result (IsServerOver (held tables.now list wholes)) }
     ensures held { IfOk result (λ _. (has_matching tables.now && has_rules tables.now) ≡ true) }
-    ensures refused { IfErr result (λ e. (e ≡ Refusal.Table)
-        × ((has_matching tables.now && has_rules tables.now) ≡ false)) }
+    ensures refused { IfErr result (IsNotHeld (has_matching tables.now && has_rules tables.now)) }
 {
     let (rules, matching) = lend_service(tables, &kept.rules)?;
     match &kept.served {

@@ -4,7 +4,7 @@ ghost use Rattle.icu_locale_lines.specs.Answers.{IsAnswer};
 ghost use Rattle.icu_locale_lines.specs.Commands.{HasRules, IsWorkOf, has_tables, text_answered};
 ghost use Rattle.icu_locale_lines.specs.Loads.{IsExpanderOf, has_likely};
 ghost use Rattle.icu_locale_lines.specs.declared.command.Command.TheVariants.{Lines};
-ghost use Rattle.icu_locale_c.specs.Asked.{IsLineOf, IsRefusedLine, asks_list};
+ghost use Rattle.icu_locale_c.specs.Asked.{IsLineOf, IsNotHeld, IsRefusedLine, asks_list};
 ghost use Rattle.icu_locale_c.specs.Calls.{Writes, unended};
 ghost use Rattle.icu_locale_c.specs.Held.{AreKept, HasKept, IsListOver, StaysKept, held};
 
@@ -42,7 +42,8 @@ pub fn line_of(
     kept_line(tables, list, offered, kept, asked, room, line)
 }
 
-// The same over what is kept. A work has room for the largest of its tools, so what most lines ask for is apart.
+// The same over what is kept. What most lines ask for makes no work, as all is inlined; the others are apart, where a work
+// has room for the largest of its tools.
 #[inline(always)]
 fn kept_line<'r>(
     tables: &'r Tables,
@@ -61,45 +62,18 @@ fn kept_line<'r>(
     ensures refused { IfErr result (IsRefusedLine
         (held tables.now list.now offered.now.wholes.items) asked.now) }
 {
+    let syntax = asked.syntax;
     match asked.task {
         Task::Transform(form) => {
-            let expander = expander_over(tables)?;
-            let work = Work {
-                syntax: asked.syntax,
-                tools: Tools::Transform(form, expander),
-            };
-            answer(&work, room, line)
+            let tools = Tools::Transform(form, expander_over(tables)?);
+            answer(&Work { syntax, tools }, room, line)
         }
-        Task::Canonicalize => canonical_line(tables, list, offered, kept, asked, room, line),
+        Task::Canonicalize => {
+            let tools = Tools::Canonicalize(canonicalizer_over(tables, kept)?);
+            answer(&Work { syntax, tools }, room, line)
+        }
         _ => further_line(tables, list, offered, kept, asked, room, line),
     }
-}
-
-// The line of a canonical form.
-#[inline(never)]
-fn canonical_line<'r>(
-    tables: &'r Tables,
-    list: &'r Option<Available>,
-    offered: &'r Offered,
-    kept: &'r Kept,
-    asked: &LineCommand,
-    room: &mut Vec<u8>,
-    line: &[u8],
-) -> Result<bool, Refusal>
-    requires kept { AreKept tables.now list.now kept.now }
-    requires there { HasKept asked.now.task kept.now }
-    requires task { asked.now.task ≡ Task.Canonicalize }
-    ensures answered { IfOk result (IsLineOf
-        (held tables.now list.now offered.now.wholes.items) asked.now line.now room.new.items) }
-    ensures refused { IfErr result (IsRefusedLine
-        (held tables.now list.now offered.now.wholes.items) asked.now) }
-{
-    let canonicalizer = canonicalizer_over(tables, kept)?;
-    let work = Work {
-        syntax: asked.syntax,
-        tools: Tools::Canonicalize(canonicalizer),
-    };
-    answer(&work, room, line)
 }
 
 // The line of any other task.
@@ -170,8 +144,7 @@ fn loaded_work<'r>(
     ensures work { IfOk result (λ w. (input : List ℕ)
         → IsWorkOf asked.now tables.now input w × (text_answered asked.now input ≡ input)) }
     ensures held { IfOk result (λ _. has_tables (Lines asked.now) tables.now ≡ true) }
-    ensures refused { IfErr result (λ e. (e ≡ Refusal.Table)
-        × (has_tables (Lines asked.now) tables.now ≡ false)) }
+    ensures refused { IfErr result (IsNotHeld (has_tables (Lines asked.now) tables.now)) }
 {
     match Loaded::load(asked, tables, &kept.rules) {
         Ok(Loaded::Ready(work)) => Ok(work),

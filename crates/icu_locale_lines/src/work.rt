@@ -91,6 +91,7 @@ impl<'r> Work<'r> {
     /// # Errors
     ///
     /// `Memory` where memory was refused.
+    #[inline(always)]
     pub fn answer(&self, room: &mut Vec<u8>, line: &[u8]) -> Result<bool, CliError>
         ensures answer { IfOk result (IsAnswer self.now line.now room.new.items) }
         ensures refused { IfErr result (λ e. e ≡ CliError.Memory) }
@@ -99,7 +100,8 @@ impl<'r> Work<'r> {
         self.add(room, line)
     }
 
-    // Appends the answer to the others, or a part of it where memory is refused.
+    // Appends the answer to the others, or a part of it where memory is refused. What most lines ask for goes by value, so
+    // that a work which is made for one line alone needs no room.
     #[inline(always)]
     fn add(&self, text: &mut Vec<u8>, line: &[u8]) -> Result<bool, CliError>
         ensures answer { IfOk result (AddsLine (IsAnswer self.now line.now)
@@ -109,8 +111,8 @@ impl<'r> Work<'r> {
     {
         let syntax = self.syntax;
         match &self.tools {
-            Tools::Transform(form, expander) => add_form(text, *form, expander, syntax, line),
-            Tools::Canonicalize(canonicalizer) => add_locale(text, canonicalizer, syntax, line),
+            Tools::Transform(form, expander) => add_form(text, *form, *expander, syntax, line),
+            Tools::Canonicalize(canonicalizer) => add_locale(text, *canonicalizer, syntax, line),
             Tools::Direction(directionality) => add_direction(text, directionality, syntax, line),
             Tools::Negotiate(negotiator, offered) => {
                 add_requests(text, negotiator, offered, syntax, line)

@@ -43,15 +43,15 @@ impl Transform {
 
 // A form, and what brings identifiers to it.
 #[derive(Clone, Copy)]
-struct Forming<'a, 'd> {
+struct Forming<'d> {
     form: Transform,
-    expander: &'a LocaleExpander<'d>,
+    expander: LocaleExpander<'d>,
 }
 
-impl<'a, 'd> Answering for Forming<'a, 'd> {
-    ghost is_line = { λ f x. IsTransformed f.form (likely f.expander.now) x };
+impl<'d> Answering for Forming<'d> {
+    ghost is_line = { λ f x. IsTransformed f.form (likely f.expander) x };
 
-    ghost is_whole_line = { λ f x. IsWholeTransformed f.form (likely f.expander.now) x };
+    ghost is_whole_line = { λ f x. IsWholeTransformed f.form (likely f.expander) x };
 
     #[inline(always)]
     fn add_line(
@@ -59,7 +59,7 @@ impl<'a, 'd> Answering for Forming<'a, 'd> {
         text: &mut Vec<u8>,
         identifier: &mut LanguageIdentifier,
     ) -> Result<bool, CliError> {
-        let changed = self.form.apply(self.expander, identifier);
+        let changed = self.form.apply(&self.expander, identifier);
         add_changed(text, identifier, changed)
     }
 
@@ -69,7 +69,7 @@ impl<'a, 'd> Answering for Forming<'a, 'd> {
         text: &mut Vec<u8>,
         whole: &mut LocaleIdentifier,
     ) -> Result<bool, CliError> {
-        let changed = self.form.apply(self.expander, &mut whole.locale.id);
+        let changed = self.form.apply(&self.expander, &mut whole.locale.id);
         add_changed(text, whole, changed)
     }
 }
@@ -79,13 +79,14 @@ impl<'a, 'd> Answering for Forming<'a, 'd> {
 pub fn add_form(
     text: &mut Vec<u8>,
     form: Transform,
-    expander: &LocaleExpander<'_>,
+    expander: LocaleExpander<'_>,
     syntax: Option<Syntax>,
     line: &[u8],
 ) -> Result<bool, CliError>
     ensures answer { IfOk result (AddsLine (IsAnswerOf syntax
-        (IsTransformed form (likely expander.now)) (IsWholeTransformed form (likely expander.now))
-        line.now) text.old.items text.new.items) }
+        (IsTransformed form (likely expander.entry))
+        (IsWholeTransformed form (likely expander.entry)) line.now)
+        text.old.items text.new.items) }
     ensures refused { IfErr result (λ e. e ≡ CliError.Memory) }
     ensures kept { OnErr result (Keeps text.old.items text.new.items) }
 {

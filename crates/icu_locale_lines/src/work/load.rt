@@ -1,6 +1,7 @@
 //! The tables and the rules that a command needs, before the input is read.
-ghost use Rattle.std.specs.Prelude.{◌≡◌, ◌↔◌, ◌⊎◌, ◌&&◌, Some, Err, IfOk, IfErr, IsSomeAnd, is_ok, is_some, false, true};
+ghost use Rattle.std.specs.Prelude.{◌≡◌, ◌↔◌, ◌⊎◌, ◌&&◌, Some, None, Ok, Err, IfOk, IfErr, IfSome, IsSomeAnd, IsOk, is_ok, is_some, false, true};
 ghost use Rattle.icu_locale.specs.RuleSet.{lent, rules_over};
+ghost use Rattle.icu_locale.specs.Rules.{HasNoTexts};
 ghost use Rattle.icu_locale_lines.specs.Loads.{AreRulesOf, IsCanonicalizerOf, IsExpanderOf, IsRefusedRules, IsWholeOf, has_likely, has_rules, not_found};
 ghost use Rattle.icu_locale_lines.specs.WholeRuns.{IsUnloaded};
 ghost use Rattle.icu_locale_lines.specs.Commands.{HasRules, IsLoaded, IsNamingOf, IsUnsettled, has_matching, has_tables, reads_rules};
@@ -27,7 +28,7 @@ use std::alloc::Global;
 /// # Errors
 ///
 /// - `Data` exactly where the command asks for rules and a table that it needs is not held.
-/// - `Memory` where the rules found no room.
+/// - `Memory` where the rules found no room: never where the aliases have no texts.
 pub fn load_rules(
     alloc: Global,
     command: &LineCommand,
@@ -39,6 +40,9 @@ pub fn load_rules(
     ensures which { IfErr result
         (λ e. (e ≡ CliError.Data not_found) ⊎ (e ≡ CliError.Memory)) }
     ensures refused { IfErr result (IsUnloaded (Command.Lines command.now) tables.now) }
+    ensures none { reads_rules command.now.task ≡ false → result ≡ Ok None }
+    ensures free { has_tables (Command.Lines command.now) tables.now ≡ true
+        → IfSome tables.now.aliases HasNoTexts → IsOk result }
 {
     match command.task {
         Task::Canonicalize => Ok(Some(read_rules(alloc, tables)?)),
@@ -55,6 +59,8 @@ fn read_rules(alloc: Global, tables: &Tables) -> Result<ReadRules, CliError>
     ensures read { IfOk result (AreRulesOf tables.now) }
     ensures held { IfOk result (λ _. has_rules tables.now ≡ true) }
     ensures refused { IfErr result (IsRefusedRules tables.now) }
+    ensures free { has_rules tables.now ≡ true → IfSome tables.now.aliases HasNoTexts
+        → IsOk result }
 {
     load_expander(tables)?;
     let aliases = tables.load_aliases()?;

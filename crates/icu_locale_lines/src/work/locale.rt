@@ -25,12 +25,12 @@ use icu_locale_values::{WholeCanonicalizer, WholeError};
 #[inline(always)]
 pub fn add_locale(
     text: &mut Vec<u8>,
-    canonicalizer: &WholeCanonicalizer<'_>,
+    canonicalizer: WholeCanonicalizer<'_>,
     syntax: Option<Syntax>,
     line: &[u8],
 ) -> Result<bool, CliError>
     ensures answer { IfOk result (AddsLine (IsCanonicalAnswer syntax
-        (whole_rules canonicalizer.now) line.now)
+        (whole_rules canonicalizer.entry) line.now)
         text.old.items text.new.items) }
     ensures refused { IfErr result (λ e. e ≡ CliError.Memory) }
     ensures kept { OnErr result (Keeps text.old.items text.new.items) }
@@ -38,7 +38,7 @@ pub fn add_locale(
     if has_value(syntax, line) {
         return add_identifier_and_value(text, &canonicalizer.rules, line);
     }
-    add_read(text, canonicalizer, syntax, line)
+    add_read(text, &canonicalizer, syntax, line)
 }
 
 // Whether a line is read as an identifier and a value: without a syntax, where it has a tab.
