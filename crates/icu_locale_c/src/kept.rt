@@ -1,5 +1,5 @@
 //! What a handle keeps beside its tables, once it was asked for.
-ghost use Rattle.std.specs.Prelude.{◌≡◌, ◌&&◌, [], true, false, List, Option, Some, IfOk, IfErr, IsOk, IsSome, IsSomeAnd};
+ghost use Rattle.std.specs.Prelude.{◌≡◌, ◌&&◌, [], true, false, List, Option, Some, IfOk, IfErr, IfSome, IsOk, IsSome, IsSomeAnd};
 ghost use Rattle.icu_locale.specs.RuleSet.{lent, rules_over};
 ghost use Rattle.icu_locale.specs.Rules.{HasNoTexts};
 ghost use Rattle.icu_locale.specs.declared.negotiator.available.Available.{Available};
