@@ -134,6 +134,15 @@ zero_by levels d s apart = (
 pub distance_zero : (t : LanguageMatching) (d s : DataLocale) → TellsApart t → (distance t d s ≡ 0) ↔ (d ≡ s)
 distance_zero t d s tells = zero_by (levels_of t (value_at text_cmp t.rules d.language)) d s (apart_at t d.language tells)
 
+-- a form is at no distance from itself, over every table
+pub distance_itself : (t : LanguageMatching) (d : DataLocale) → distance t d d ≡ 0
+distance_itself t d =
+    let levels = levels_of t (value_at text_cmp t.rules d.language) in
+    let language = no_part _ (level_distance levels.language d d) ((texts_tell d.language d.language).1 refl) in
+    let script = no_part _ (level_distance levels.script d d) ((subtags_tell d.script d.script).1 refl) in
+    let region = no_part _ (region_distance levels d d) ((subtags_tell d.region d.region).1 refl) in
+    λ i. language i + script i + region i
+
 -- ---- what it depends on
 
 levels_agree : (t u : LanguageMatching) (found : Option MatchRules) (l : List ℕ) → AgreeAt l t u → levels_of t found ≡ levels_of u found

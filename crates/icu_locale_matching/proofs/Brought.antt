@@ -14,7 +14,7 @@ use Rattle.icu_locale.specs.declared.canonicalizer.rules.Rules.{Rules}
 use Rattle.icu_locale.specs.declared.canonicalizer.CanonicalizeError.{CanonicalizeError}
 use Rattle.icu_locale.specs.declared.expander.TransformResult.{TransformResult}
 use Rattle.icu_locale_matching.specs.Header.{Wish, shown}
-use Rattle.icu_locale_matching.specs.Requests.{IsOnly, IsRequest, AreRequests, IsBrought, IsCanonicalOf, AreCanonical}
+use Rattle.icu_locale_matching.specs.Requests.{IsOnly, AreAsked, IsBrought, IsCanonicalOf, AreCanonical}
 use Rattle.icu_locale_matching.specs.declared.header.LentWish.{LentWish}
 
 -- one element more of the front of a list
@@ -58,28 +58,29 @@ module _ (likely : LikelySubtags) (rules : Rules) where
   canonical_more (w ∷ ws) ys x y are is =
       (are.0, are.1 ++ y ∷ [], are.2, canonical_more ws are.1 x y are.3 is, ap (λ zs. zs ++ y ∷ []) are.4)
 
-  -- ---- one more request
+-- ---- one more request
 
-  cons_append : (o : Option LanguageIdentifier) (xs ys : List LanguageIdentifier) → cons_option o xs ++ ys ≡ cons_option o (xs ++ ys)
-  cons_append None xs ys = refl
-  cons_append (Some x) xs ys = refl
+cons_append : (o : Option LanguageIdentifier) (xs ys : List LanguageIdentifier) → cons_option o xs ++ ys ≡ cons_option o (xs ++ ys)
+cons_append None xs ys = refl
+cons_append (Some x) xs ys = refl
 
-  requests_more : (ws : List Wish) (ys : List LanguageIdentifier) (w : Wish) (o : Option LanguageIdentifier) → AreRequests likely rules ws ys
-      → IsOnly (IsRequest likely rules w.0) o → AreRequests likely rules (ws ++ w ∷ []) (ys ++ cons_option o [])
-  requests_more [] ys w o are only = (o, [], only, refl, ap (λ zs. zs ++ cons_option o []) are)
-  requests_more (v ∷ ws) ys w o are only = (
+module _ (P : List ℕ → LanguageIdentifier → Type 0) where
+  asked_more : (ws : List Wish) (ys : List LanguageIdentifier) (w : Wish) (o : Option LanguageIdentifier) → AreAsked P ws ys
+      → IsOnly (P w.0) o → AreAsked P (ws ++ w ∷ []) (ys ++ cons_option o [])
+  asked_more [] ys w o are only = (o, [], only, refl, ap (λ zs. zs ++ cons_option o []) are)
+  asked_more (v ∷ ws) ys w o are only = (
     are.0,
     are.1 ++ cons_option o [],
     are.2,
-    requests_more ws are.1 w o are.3 only,
+    asked_more ws are.1 w o are.3 only,
     ap (λ zs. zs ++ cons_option o []) are.4 ∙ cons_append are.0 are.1 (cons_option o []),
   )
 
-  pub requests_next : (ws : List LentWish) (i : ℕ) (d : LentWish) (ys : List LanguageIdentifier) (o : Option LanguageIdentifier)
-      → i < length ws → AreRequests likely rules (map shown (take i ws)) ys
-      → IsOnly (IsRequest likely rules (get_or ws i d).range.now) o → AreRequests likely rules (map shown (take (i + 1) ws)) (ys ++ cons_option o [])
-  requests_next ws i d ys o within are only =
+  pub asked_next : (ws : List LentWish) (i : ℕ) (d : LentWish) (ys : List LanguageIdentifier) (o : Option LanguageIdentifier)
+      → i < length ws → AreAsked P (map shown (take i ws)) ys
+      → IsOnly (P (get_or ws i d).range.now) o → AreAsked P (map shown (take (i + 1) ws)) (ys ++ cons_option o [])
+  asked_next ws i d ys o within are only =
       let step : map shown (take (i + 1) ws) ≡ map shown (take i ws) ++ shown (get_or ws i d) ∷ [] =
       ap (map shown) (take_more ws i d within) ∙ map-append shown (take i ws) (get_or ws i d ∷ []) in
-      subst (λ vs. AreRequests likely rules vs (ys ++ cons_option o [])) (sym step)
-      (requests_more (map shown (take i ws)) ys (shown (get_or ws i d)) o are only)
+      subst (λ vs. AreAsked P vs (ys ++ cons_option o [])) (sym step)
+      (asked_more (map shown (take i ws)) ys (shown (get_or ws i d)) o are only)

@@ -41,11 +41,11 @@ chosen_may m requests may any place choice = chosen_by m requests may any place 
 
 -- ---- where nothing is refused
 
-all_allowed : (xs : List LanguageIdentifier) (j : ℕ) (x : LanguageIdentifier) → slice_get xs j ≡ Some x → may_of (allowed [] xs) j ≡ true
-all_allowed xs j x stands = ap is_true (slice_get-map (is_allowed []) xs j ∙ ap (option_map (is_allowed [])) stands)
+all_allowed : (requests xs : List LanguageIdentifier) (j : ℕ) (x : LanguageIdentifier) → slice_get xs j ≡ Some x → may_of (allowed requests [] false xs) j ≡ true
+all_allowed requests xs j x stands = ap is_true (slice_get-map (is_allowed requests [] false) xs j ∙ ap (option_map (is_allowed requests [] false)) stands)
 
 module _ (m : Matching) (requests : List LanguageIdentifier) where
-  to_allowed : (s : Rank) → IsOffer (question m requests all_may) s → IsOffer (question m requests (may_of (allowed [] m.available))) s
+  to_allowed : (s : Rank) → IsOffer (question m requests all_may) s → IsOffer (question m requests (may_of (allowed requests [] false m.available))) s
   to_allowed s o = record {
     request = o.request;
     identifier = o.identifier;
@@ -53,10 +53,10 @@ module _ (m : Matching) (requests : List LanguageIdentifier) where
     offered = o.offered;
     is = o.is;
     below = o.below;
-    may = all_allowed m.available s.available o.identifier o.offered;
+    may = all_allowed requests m.available s.available o.identifier o.offered;
   }
 
-  from_allowed : (s : Rank) → IsOffer (question m requests (may_of (allowed [] m.available))) s → IsOffer (question m requests all_may) s
+  from_allowed : (s : Rank) → IsOffer (question m requests (may_of (allowed requests [] false m.available))) s → IsOffer (question m requests all_may) s
   from_allowed s o = record {
     request = o.request;
     identifier = o.identifier;
@@ -68,7 +68,7 @@ module _ (m : Matching) (requests : List LanguageIdentifier) where
   }
 
   pub nearest_of_all : (found : Option Match) → IsNearest (question m requests all_may) found
-      → IsNearest (question m requests (may_of (allowed [] m.available))) found
+      → IsNearest (question m requests (may_of (allowed requests [] false m.available))) found
   nearest_of_all found nearest = record {
     best = nearest.best;
     least = IsLeastOf-same nearest.best to_allowed from_allowed nearest.least;
@@ -82,7 +82,7 @@ if_ok (Err e) more here = tt
 first_inside : (n : ℕ) → nat_lt 0 (suc n) ≡ true
 first_inside n = grind (arith, nat_tests)
 
-pub first_of_all : (any : Bool) (xs : List LanguageIdentifier) → any ≡ true → (length xs == 0) ≡ false → Some 0 ≡ first_allowed any (allowed [] xs)
-first_of_all any [] is some = absurd (false≢true (sym some))
-first_of_all true (x ∷ xs) is some = sym (ap (λ b. cond b (Some 0) None) (first_inside (length (allowed [] xs))))
-first_of_all false (x ∷ xs) is some = absurd (false≢true is)
+pub first_of_all : (requests : List LanguageIdentifier) (any : Bool) (xs : List LanguageIdentifier) → any ≡ true → (length xs == 0) ≡ false → Some 0 ≡ first_allowed any (allowed requests [] false xs)
+first_of_all requests any [] is some = absurd (false≢true (sym some))
+first_of_all requests true (x ∷ xs) is some = sym (ap (λ b. cond b (Some 0) None) (first_inside (length (allowed requests [] false xs))))
+first_of_all requests false (x ∷ xs) is some = absurd (false≢true is)

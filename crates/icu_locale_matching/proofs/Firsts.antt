@@ -1,13 +1,14 @@
 -- The first rule that fits, rule by rule, and what is known of the first rules.
-use Rattle.std.proofs.Common.{◌≡◌, ℕ, zero, suc, ◌+◌, ◌≤◌, Bool, true, false, List, [], ◌∷◌, length, drop, Some, refl, ap, sym, ◌∙◌, arith, add-one, if◌then◌else◌}
+use Rattle.std.proofs.Common.{◌≡◌, ℕ, zero, suc, ◌+◌, ◌≤◌, Bool, true, false, ◌&&◌, List, [], ◌∷◌, length, drop, Option, None, IfSome, Some, refl, ap, sym, ◌∙◌, arith, add-one, if◌then◌else◌}
 use Rattle.std.specs.List.{find, slice_get}
 use Rattle.std.specs.Option.{option_map_or}
+use Rattle.std.specs.Str.{bytes_eq}
 use Rattle.std.proofs.Math.Seq.{drop-cons}
 use Rattle.std.proofs.lemmas.Option.{none-some, same_Some, get_or_from_slice_get, slice_get_within}
 use Rattle.icu_provider.specs.declared.data_locale.DataLocale.{DataLocale}
 use Rattle.icu_provider.specs.declared.matching.MatchRule.{MatchRule}
-use Rattle.icu_locale_matching.specs.Distance.{fits, fits_pattern, Level}
-use Rattle.icu_locale_matching.specs.inner.Known.{AreKnown, fits_at}
+use Rattle.icu_locale_matching.specs.Distance.{fits, fits_pattern, serves_at, serving_of, Level, level_distance}
+use Rattle.icu_locale_matching.specs.inner.Known.{AreKnown, AreServing, fits_at}
 
 -- the distance of the rules from a place on
 abbrev pub distance_from : Level → DataLocale → DataLocale → ℕ → ℕ
@@ -81,3 +82,66 @@ eight_known rules d a b c e f g h i p0 p1 p2 p3 p4 p5 p6 p7 =
 pub known_at : (rules : List MatchRule) (d : DataLocale) (known : List Bool) (k : ℕ) (r : MatchRule) (b : Bool) → AreKnown rules d known
     → slice_get rules k ≡ Some r → slice_get known k ≡ Some b → b ≡ fits_pattern r.desired d
 known_at rules d known k r b are stands is = are k b is ∙ ap (λ o. option_map_or (λ r. fits_pattern r.desired d) o false) stands
+
+-- ---- what serves
+
+-- each of some marks says what f says of the number that many places on
+abbrev pub AreMarksFrom : (ℕ → Bool) → ℕ → List Bool → Type 0
+AreMarksFrom f n marks = (k : ℕ) (b : Bool) → slice_get marks k ≡ Some b → b ≡ f (n + k)
+
+one_mark : (f : ℕ → Bool) (n : ℕ) (marks : List Bool) → AreMarksFrom f (suc n) marks → AreMarksFrom f n (f n ∷ marks)
+one_mark f n marks rest zero b is = let at : n ≡ n + 0 = omega arith in sym (same_Some (f n) b is) ∙ ap f at
+one_mark f n marks rest (suc k) b is = let at : suc n + k ≡ n + suc k = omega arith in rest k b is ∙ ap f at
+
+eight_marks : (f : ℕ → Bool) → AreMarksFrom f 0 (f 0 ∷ f 1 ∷ f 2 ∷ f 3 ∷ f 4 ∷ f 5 ∷ f 6 ∷ f 7 ∷ [])
+eight_marks f =
+    let l7 : List Bool = f 7 ∷ [] in
+    let l6 : List Bool = f 6 ∷ l7 in
+    let l5 : List Bool = f 5 ∷ l6 in
+    let l4 : List Bool = f 4 ∷ l5 in
+    let l3 : List Bool = f 3 ∷ l4 in
+    let l2 : List Bool = f 2 ∷ l3 in
+    let l1 : List Bool = f 1 ∷ l2 in
+    one_mark f 0 l1 (one_mark f 1 l2 (one_mark f 2 l3 (one_mark f 3 l4 (one_mark f 4 l5 (one_mark f 5 l6 (one_mark f 6 l7
+    (one_mark f 7 [] (λ k b is. absurd (none-some b is)))))))))
+
+pub all_serving : (rules : List MatchRule) (s : DataLocale) → AreServing rules s (serving_of rules s)
+all_serving rules s = λ k b is. let at : 0 + k ≡ k = omega arith in eight_marks (serves_at rules s) k b is ∙ ap (serves_at rules s) at
+
+pub none_serving : (rules : List MatchRule) (s : DataLocale) → AreServing rules s []
+none_serving rules s = λ k b is. absurd (none-some b is)
+
+-- what is known of a rule
+pub serving_at : (rules : List MatchRule) (s : DataLocale) (serving : List Bool) (k : ℕ) (r : MatchRule) (b : Bool) → AreServing rules s serving
+    → slice_get rules k ≡ Some r → slice_get serving k ≡ Some b → b ≡ (bytes_eq s.language r.language && fits_pattern r.supported s)
+serving_at rules s serving k r b are stands is =
+    are k b is ∙ ap (λ o. option_map_or (λ r. bytes_eq s.language r.language && fits_pattern r.supported s) o false) stands
+
+-- the same, where it may be known
+pub if_known : (rules : List MatchRule) (d : DataLocale) (known : List Bool) (k : ℕ) (r : MatchRule) (o : Option Bool) → AreKnown rules d known
+    → slice_get rules k ≡ Some r → o ≡ slice_get known k → IfSome o (λ b. b ≡ fits_pattern r.desired d)
+if_known rules d known k r None are stands is = tt
+if_known rules d known k r (Some b) are stands is = known_at rules d known k r b are stands (sym is)
+
+pub if_serving : (rules : List MatchRule) (s : DataLocale) (serving : List Bool) (k : ℕ) (r : MatchRule) (o : Option Bool) → AreServing rules s serving
+    → slice_get rules k ≡ Some r → o ≡ slice_get serving k
+    → IfSome o (λ b. b ≡ (bytes_eq s.language r.language && fits_pattern r.supported s))
+if_serving rules s serving k r None are stands is = tt
+if_serving rules s serving k r (Some b) are stands is = serving_at rules s serving k r b are stands (sym is)
+
+-- ---- what no rule is below
+
+first_upto : (b : Bool) (r : MatchRule) (rest : Option MatchRule) (n other : ℕ) → n ≤ r.distance → n ≤ option_map_or (λ r. r.distance) rest other
+    → n ≤ option_map_or (λ r. r.distance) (if b then Some r else rest) other
+first_upto true r rest n other here later = here
+first_upto false r rest n other here later = later
+
+found_upto : (test : MatchRule → Bool) (rules : List MatchRule) (n other : ℕ) → n ≤ other
+    → ((k : ℕ) (r : MatchRule) → slice_get rules k ≡ Some r → n ≤ r.distance) → n ≤ option_map_or (λ r. r.distance) (find test rules) other
+found_upto test [] n other upto each = upto
+found_upto test (r ∷ rules) n other upto each =
+    first_upto (test r) r (find test rules) n other (each 0 r refl) (found_upto test rules n other upto (λ k x is. each (suc k) x is))
+
+pub level_upto : (level : Level) (n : ℕ) (d s : DataLocale) → n ≤ level.other
+    → ((k : ℕ) (r : MatchRule) → slice_get level.rules k ≡ Some r → n ≤ r.distance) → n ≤ level_distance level d s
+level_upto level n d s upto each = found_upto (fits d s) level.rules n level.other upto each

@@ -1,6 +1,7 @@
 pub mod Apart
 pub mod Brought
 pub mod Choices
+pub mod Fewer
 pub mod Firsts
 pub mod Greatest
 pub mod Groups
@@ -9,5 +10,7 @@ pub mod Near
 pub mod OneService
 mod Ranks
 pub mod Serving
+pub mod Spelled
 pub mod Trims
+pub mod Wished
 pub mod Within

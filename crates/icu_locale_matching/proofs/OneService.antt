@@ -1,8 +1,8 @@
 -- What is served for a header is one, and so is the nearest for requests.
-use Rattle.std.proofs.Common.{◌≡◌, ◌⊎◌, ℕ, zero, suc, ◌+◌, ◌<◌, ◌≤◌, Bool, true, false, cond, ◌==◌, List, [], ◌∷◌, length, get_or, Option, Some, None, refl, sym, ap, ◌∙◌, subst, arith, inl, inr, AllPairs}
+use Rattle.std.proofs.Common.{◌≡◌, ℕ, zero, suc, ◌<◌, ◌≤◌, Bool, true, false, cond, ◌==◌, List, [], ◌∷◌, length, get_or, Option, Some, None, refl, sym, ap, ◌∙◌, subst, arith, inl, inr, AllPairs}
 use Rattle.std.specs.List.{filter, cons_option}
 use Rattle.std.specs.Option.{option_or}
-use Rattle.std.proofs.lemmas.Bool.{cases_order, cases_Bool}
+use Rattle.std.proofs.lemmas.Bool.{cases_order}
 use Rattle.std.proofs.lemmas.Bool.Decides.{nat_tests}
 use Rattle.icu_locale_core.specs.declared.langid.LanguageIdentifier.{LanguageIdentifier}
 use Rattle.icu_locale.specs.Kinds.{next}
@@ -16,9 +16,9 @@ use Rattle.icu_locale_extensions.specs.Syntaxes.{SpellsBy}
 use Rattle.icu_locale_extensions.specs.declared.identifier.LocaleIdentifier.{LocaleIdentifier}
 use Rattle.icu_locale_extensions.specs.declared.syntax.Syntax.{Syntax}
 use Rattle.icu_locale_extensions.specs.declared.syntax.Syntax.TheVariants.{Bcp47}
-use Rattle.icu_locale_matching.specs.Header.{Wish, has_weight, AreByWeight, wanted, refused, wants_any, wishes_of}
+use Rattle.icu_locale_matching.specs.Header.{Wish, has_weight, AreByWeight, wanted, refused, refuses_any, wants_any, wishes_of}
 use Rattle.icu_locale_matching.specs.Nearest.{Matching, question, IsNearest, may_of, all_may}
-use Rattle.icu_locale_matching.specs.Requests.{IsOnly, IsRequest, AreRequests, IsBrought, IsCanonicalOf, AreCanonical}
+use Rattle.icu_locale_matching.specs.Requests.{IsOnly, IsRequest, IsRefusal, AreAsked, IsBrought, IsCanonicalOf, AreCanonical}
 use Rattle.icu_locale_matching.specs.Service.{Service, IsServed, IsServedFor, IsNearestTo, IsChoice, allowed, first_allowed, place_of, matching_of}
 use Rattle.icu_locale_matching.specs.declared.matcher.Match.{Match}
 use Rattle.icu_locale_matching.proofs.Inserts.{filter_none}
@@ -91,13 +91,13 @@ sorted_is_one (x ∷ xs) (y ∷ ys) p q same =
       | inr (inr more) ↦ absurd (some_of_first x xs (same x.1 ∙ none_heavier y ys x.1 q more))
     ]
 
-wishes_one : (ws xs ys : List Wish) → AreByWeight ws xs → AreByWeight ws ys → xs ≡ ys
+pub wishes_one : (ws xs ys : List Wish) → AreByWeight ws xs → AreByWeight ws ys → xs ≡ ys
 wishes_one ws xs ys p q = sorted_is_one xs ys p.falls q.falls (λ n. p.same n ∙ sym (q.same n))
 
 -- ---- canonical forms and what ranges ask for
 
 module _ (likely : LikelySubtags) (rules : Rules) where
-  brought_one : (x y z : LanguageIdentifier) (a b : Bool) → IsBrought likely rules x a y → IsBrought likely rules x b z → y ≡ z
+  pub brought_one : (x y z : LanguageIdentifier) (a b : Bool) → IsBrought likely rules x a y → IsBrought likely rules x b z → y ≡ z
   brought_one x y z true true p q = end_is_unique (next likely rules) x y z p q
   brought_one x y z true false p q = absurd (q.0 y p)
   brought_one x y z false true p q = absurd (p.0 z q)
@@ -111,24 +111,31 @@ module _ (likely : LikelySubtags) (rules : Rules) where
       p.4 ∙ (λ i. first i ∷ later i) ∙ sym q.4
 
   module _ (spelled : (s : Syntax) (t : List ℕ) (x y : LocaleIdentifier) → IsLocaleIdentifier x → IsLocaleIdentifier y → SpellsBy s t x → SpellsBy s t y → x ≡ y) where
-    request_one : (range : List ℕ) (y z : LanguageIdentifier) → IsRequest likely rules range y → IsRequest likely rules range z → y ≡ z
+    pub request_one : (range : List ℕ) (y z : LanguageIdentifier) → IsRequest likely rules range y → IsRequest likely rules range z → y ≡ z
     request_one range y z p q =
         let tags = spelled Bcp47 range p.tag q.tag p.known q.known p.spells q.spells in
         end_is_unique (next likely rules) q.tag.locale.id y z
         (subst (λ (x : LocaleIdentifier). EndsAt (next likely rules) x.locale.id y) tags p.canonical) q.canonical
 
-    only_one : (range : List ℕ) (o u : Option LanguageIdentifier) → IsOnly (IsRequest likely rules range) o → IsOnly (IsRequest likely rules range) u → o ≡ u
-    only_one range None None p q = refl
-    only_one range None (Some z) p q = absurd (p z q)
-    only_one range (Some y) None p q = absurd (q y p)
-    only_one range (Some y) (Some z) p q = ap (λ x. Some x) (request_one range y z p q)
+    pub refusal_one : (range : List ℕ) (y z : LanguageIdentifier) → IsRefusal likely rules range y → IsRefusal likely rules range z → y ≡ z
+    refusal_one range y z p q =
+        let tags = spelled Bcp47 range p.tag q.tag p.known q.known p.spells q.spells in
+        let here = subst (λ (x : LocaleIdentifier). IsCanonicalOf likely rules x.locale.id y) tags p.canonical in
+        brought_one q.tag.locale.id y z here.0 q.canonical.0 here.1 q.canonical.1
 
-    requests_one : (ws : List Wish) (ys zs : List LanguageIdentifier) → AreRequests likely rules ws ys → AreRequests likely rules ws zs → ys ≡ zs
-    requests_one [] ys zs p q = p ∙ sym q
-    requests_one (w ∷ ws) ys zs p q =
-        let first = only_one w.0 p.0 q.0 p.2 q.2 in
-        let later = requests_one ws p.1 q.1 p.3 q.3 in
-        p.4 ∙ (λ i. cons_option (first i) (later i)) ∙ sym q.4
+module _ (P : List ℕ → LanguageIdentifier → Type 0) (one : (range : List ℕ) (y z : LanguageIdentifier) → P range y → P range z → y ≡ z) where
+  only_one : (range : List ℕ) (o u : Option LanguageIdentifier) → IsOnly (P range) o → IsOnly (P range) u → o ≡ u
+  only_one range None None p q = refl
+  only_one range None (Some z) p q = absurd (p z q)
+  only_one range (Some y) None p q = absurd (q y p)
+  only_one range (Some y) (Some z) p q = ap (λ x. Some x) (one range y z p q)
+
+  asked_one : (ws : List Wish) (ys zs : List LanguageIdentifier) → AreAsked P ws ys → AreAsked P ws zs → ys ≡ zs
+  asked_one [] ys zs p q = p ∙ sym q
+  asked_one (w ∷ ws) ys zs p q =
+      let first = only_one w.0 p.0 q.0 p.2 q.2 in
+      let later = asked_one ws p.1 q.1 p.3 q.3 in
+      p.4 ∙ (λ i. cons_option (first i) (later i)) ∙ sym q.4
 
 -- ---- what is served
 
@@ -143,13 +150,14 @@ module _ (spelled : (s : Syntax) (t : List ℕ) (x y : LocaleIdentifier) → IsL
   served_for_one ws a b p q =
       let l = likely s.expander in
       let r = s.rules in
-      let requests = requests_one l r spelled (wanted ws) p.requests q.requests p.requested q.requested in
-      let out = requests_one l r spelled (refused ws) p.out q.out p.taken_out q.taken_out in
+      let requests = asked_one (IsRequest l r) (request_one l r spelled) (wanted ws) p.requests q.requests p.requested q.requested in
+      let out = asked_one (IsRefusal l r) (refusal_one l r spelled) (refused ws) p.out q.out p.taken_out q.taken_out in
       let canonical = canonical_one l r s.available p.canonical q.canonical p.canonicalized q.canonicalized in
-      choice_one (matching_of s q.canonical) q.requests (allowed q.out q.canonical) (wants_any ws) a b
-      (subst (λ (xs : List LanguageIdentifier). IsChoice (matching_of s xs) q.requests (allowed q.out xs) (wants_any ws) a) canonical
-      (subst (λ (xs : List LanguageIdentifier). IsChoice (matching_of s p.canonical) q.requests (allowed xs p.canonical) (wants_any ws) a) out
-      (subst (λ (xs : List LanguageIdentifier). IsChoice (matching_of s p.canonical) xs (allowed p.out p.canonical) (wants_any ws) a) requests p.choice)))
+      let named = refuses_any ws in
+      choice_one (matching_of s q.canonical) q.requests (allowed q.requests q.out named q.canonical) (wants_any ws) a b
+      (subst (λ (xs : List LanguageIdentifier). IsChoice (matching_of s xs) q.requests (allowed q.requests q.out named xs) (wants_any ws) a) canonical
+      (subst (λ (xs : List LanguageIdentifier). IsChoice (matching_of s p.canonical) q.requests (allowed q.requests xs named p.canonical) (wants_any ws) a) out
+      (subst (λ (xs : List LanguageIdentifier). IsChoice (matching_of s p.canonical) xs (allowed xs p.out named p.canonical) (wants_any ws) a) requests p.choice)))
       q.choice
 
   pub served_is_one : (header : List ℕ) (a b : Option ℕ) → IsServed s header a → IsServed s header b → a ≡ b

@@ -26,8 +26,9 @@ pub rank_total : IsTotalOrder rank_cmp
 rank_total = then_total (on_total (λ (r : Rank). r.cost) nat_cmp_total)
     (then_total (on_total (λ (r : Rank). r.request) nat_cmp_total)
     (then_total (on_total (λ (r : Rank). r.spelled_otherwise) bool_cmp_total)
+    (then_total (on_total (λ (r : Rank). r.varied) bool_cmp_total)
     (then_total (on_total (λ (r : Rank). r.unlikeliness) nat_cmp_total)
-    (then_total (on_total (λ (r : Rank). r.off_paradigm) bool_cmp_total) (on_total (λ (r : Rank). r.available) nat_cmp_total)))))
+    (then_total (on_total (λ (r : Rank). r.off_paradigm) bool_cmp_total) (on_total (λ (r : Rank). r.available) nat_cmp_total))))))
 
 le_from_not_gt : (o : Ordering) → is_gt o ≡ false → is_le o ≡ true
 le_from_not_gt Less e = refl

@@ -5,20 +5,21 @@ use Rattle.std.specs.Option.{option_map}
 use Rattle.std.specs.declared.cmp.Ordering.{Ordering}
 use Rattle.std.specs.declared.cmp.Ordering.TheVariants.{Less, Equal, Greater}
 use Rattle.std.specs.Ordering.{is_le, nat_cmp, bool_cmp, ordering_reverse, ordering_then, MatchOrdering}
-use Rattle.std.proofs.lemmas.Cmp.{ranked}
+use Rattle.std.proofs.lemmas.Cmp.{ranked, tied_itself}
 use Rattle.std.proofs.lemmas.Option.{same_Some, none-some}
 use Rattle.icu_locale_core.specs.declared.langid.LanguageIdentifier.{LanguageIdentifier}
+use Rattle.icu_locale_core.specs.laws.Identifiers.{same_parts, same_texts, identifiers_decide, sets_tell}
 use Rattle.icu_locale.specs.LikelySubtags.{maximal_locale, subtags_of}
 use Rattle.icu_locale.specs.Negotiation.{IsMatch}
 use Rattle.icu_locale_core.specs.TextSet.{text_cmp}
 use Rattle.icu_locale_core.specs.Maps.{value_at}
 use Rattle.icu_locale_matching.specs.Distance.{distance, distance_by, levels_for, TellsApart}
-use Rattle.icu_locale_matching.specs.Nearest.{Question, IsOffer, IsLeastOf, form_of, rank_cmp, rank_of, is_among, match_of, IsNearest, ServesFirst, AgreeOn, with_matching, ScriptsAreFar, KeepsScript}
+use Rattle.icu_locale_matching.specs.Nearest.{Question, IsOffer, IsLeastOf, form_of, rank_cmp, rank_of, is_among, match_of, IsNearest, ServesFirst, IsSpelledFirst, IsFormedFirst, unlikeliness, paradigms_of, AgreeOn, with_matching, ScriptsAreFar, KeepsScript}
 use Rattle.icu_provider.specs.declared.matching.LanguageMatching.{LanguageMatching}
 use Rattle.icu_locale_matching.specs.declared.rank.Rank.{Rank}
 use Rattle.icu_locale_matching.specs.declared.matcher.Match.{Match}
 use Rattle.icu_locale_matching.proofs.Ranks.{rank_total, IsLeastOf-same}
-use Rattle.icu_locale_matching.proofs.Apart.{distance_zero, distance_agrees, script_kept, script_other}
+use Rattle.icu_locale_matching.proofs.Apart.{distance_zero, distance_itself, distance_agrees, script_kept, script_other}
 
 -- ---- ranks that tie
 
@@ -46,11 +47,13 @@ ranks_tied r s e =
     let a = both_tied _ _ e in
     let b = both_tied _ _ a.1 in
     let c = both_tied _ _ b.1 in
-    let d = both_tied _ _ c.1 in
+    let v = both_tied _ _ c.1 in
+    let d = both_tied _ _ v.1 in
     let f = both_tied _ _ d.1 in
     let cost = numbers_tied r.cost s.cost a.0 in
     let request = numbers_tied r.request s.request b.0 in
     let spelled = bools_tied r.spelled_otherwise s.spelled_otherwise c.0 in
+    let varied = bools_tied r.varied s.varied v.0 in
     let unlikely = numbers_tied r.unlikeliness s.unlikeliness d.0 in
     let paradigm = bools_tied r.off_paradigm s.off_paradigm f.0 in
     let available = numbers_tied r.available s.available f.1 in
@@ -58,6 +61,7 @@ ranks_tied r s e =
       cost = cost i;
       request = request i;
       spelled_otherwise = spelled i;
+      varied = varied i;
       unlikeliness = unlikely i;
       off_paradigm = paradigm i;
       available = available i;
@@ -141,10 +145,10 @@ rest_no_more m n Less p is same le = absurd (omega (arith, is, same))
 rest_no_more m n Equal p is same le = le
 rest_no_more m n Greater p is same le = absurd (cc)
 
-no_dearer : (r s : Rank) → is_le (rank_cmp r s) ≡ true → r.cost ≤ s.cost
+pub no_dearer : (r s : Rank) → is_le (rank_cmp r s) ≡ true → r.cost ≤ s.cost
 no_dearer r s le = no_more r.cost s.cost _ _ (ranked r.cost s.cost _ refl) le
 
-no_later : (r s : Rank) → is_le (rank_cmp r s) ≡ true → r.cost ≡ s.cost → r.request ≤ s.request
+pub no_later : (r s : Rank) → is_le (rank_cmp r s) ≡ true → r.cost ≡ s.cost → r.request ≤ s.request
 no_later r s le same = no_more r.request s.request _ _ (ranked r.request s.request _ refl)
     (rest_no_more r.cost s.cost _ _ (ranked r.cost s.cost _ refl) same le)
 
@@ -198,6 +202,197 @@ pub first_request_is_served : (q : Question) (j : ℕ) (result : Option Match) �
 first_request_is_served q j result tells room match may nearest =
     subst (λ m. IsSomeAnd m (ServesFirst q)) (sym nearest.is) (serves_by q j tells room match may nearest.best nearest.least)
 
+-- ---- the first request in its own spelling
+
+same_flag_after : (a b : Bool) (p : Ordering) → a ≡ b → is_le (ordering_then (bool_cmp a b) p) ≡ true → is_le p ≡ true
+same_flag_after false false p same le = le
+same_flag_after true true p same le = le
+same_flag_after false true p same le = absurd (cc)
+same_flag_after true false p same le = absurd (cc)
+
+no_flag_after : (a b : Bool) (p : Ordering) → b ≡ false → is_le (ordering_then (bool_cmp a b) p) ≡ true → a ≡ false
+no_flag_after false b p none le = refl
+no_flag_after true false p none le = absurd (cc)
+no_flag_after true true p none le = absurd (cc)
+
+unflagged : (b : Bool) → not b ≡ false → b ≡ true
+unflagged true e = refl
+unflagged false e = absurd (cc)
+
+upto_number : (m n : ℕ) (o : Ordering) → MatchOrdering o (m < n) (m ≡ n) (n < m) → is_le o ≡ true → m ≤ n
+upto_number m n Less is le = omega (arith, is)
+upto_number m n Equal is le = omega (arith, is)
+upto_number m n Greater is le = absurd (cc)
+
+module _ (q : Question) (j : ℕ) (room : 0 < q.limits.threshold) (spelled : IsSpelledFirst q j) where
+  own : Rank
+  own = rank_of q 0 spelled.request j spelled.request
+
+  own_costs_nothing : (rank_of q 0 spelled.request j spelled.request).cost ≡ 0
+  own_costs_nothing = omega (arith, distance_itself q.matching (form_of q.likely spelled.request))
+
+  own_spelling : (rank_of q 0 spelled.request j spelled.request).spelled_otherwise ≡ false
+  own_spelling = ap not ((identifiers_decide spelled.request spelled.request).1 refl)
+
+  own_offer : IsOffer q (rank_of q 0 spelled.request j spelled.request)
+  own_offer = record {
+    request = spelled.request;
+    identifier = spelled.request;
+    requested = spelled.requested;
+    offered = spelled.offered;
+    is = refl;
+    below = omega (arith, own_costs_nothing, room);
+    may = spelled.may;
+  }
+
+  own_least : (r : Rank) → IsOffer q r → is_le (rank_cmp r (rank_of q 0 spelled.request j spelled.request)) ≡ true
+      → r ≡ rank_of q 0 spelled.request j spelled.request
+  own_least r o le =
+      let s = rank_of q 0 spelled.request j spelled.request in
+      let none : r.cost ≡ 0 = omega (arith, no_dearer r _ le, own_costs_nothing) in
+      let cost : r.cost ≡ s.cost = none ∙ sym own_costs_nothing in
+      let first : r.request ≡ 0 = omega (arith, no_later r _ le cost) in
+      let a = rest_no_more r.cost s.cost _ _ (ranked r.cost s.cost _ refl) cost le in
+      let b = rest_no_more r.request s.request _ _ (ranked r.request s.request _ refl) first a in
+      let flag = no_flag_after r.spelled_otherwise s.spelled_otherwise _ own_spelling b in
+      let c = same_flag_after r.spelled_otherwise s.spelled_otherwise _ (flag ∙ sym own_spelling) b in
+      let asked : o.request ≡ spelled.request = same_Some o.request spelled.request
+      (sym o.requested ∙ ap (slice_get q.requests) first ∙ spelled.requested) in
+      let alike : not (same_parts o.request o.identifier) ≡ false = sym (ap (λ (x : Rank). x.spelled_otherwise) o.is) ∙ flag in
+      let same : o.request ≡ o.identifier = (identifiers_decide o.request o.identifier).0 (unflagged _ alike) in
+      let served : o.identifier ≡ spelled.request = sym same ∙ asked in
+      let varied : r.varied ≡ s.varied = ap (λ (x : Rank). x.varied) o.is
+      ∙ ap (λ (x : LanguageIdentifier). not (same_texts x.variants o.identifier.variants)) asked
+      ∙ ap (λ (x : LanguageIdentifier). not (same_texts spelled.request.variants x.variants)) served in
+      let unlikely : r.unlikeliness ≡ s.unlikeliness = ap (λ (x : Rank). x.unlikeliness) o.is
+      ∙ ap (λ (x : LanguageIdentifier). (rank_of q r.request o.request r.available x).unlikeliness) served in
+      let paradigm : r.off_paradigm ≡ s.off_paradigm = ap (λ (x : Rank). x.off_paradigm) o.is
+      ∙ ap (λ (x : LanguageIdentifier). (rank_of q r.request o.request r.available x).off_paradigm) served in
+      let v = same_flag_after r.varied s.varied _ varied c in
+      let d = rest_no_more r.unlikeliness s.unlikeliness _ _ (ranked r.unlikeliness s.unlikeliness _ refl) unlikely v in
+      let e = same_flag_after r.off_paradigm s.off_paradigm _ paradigm d in
+      let before : r.available ≤ j = upto_number r.available j _ (ranked r.available j _ refl) e in
+      let behind : j ≤ r.available = spelled.first r.available (o.offered ∙ ap Some served) o.may in
+      let place : r.available ≡ j = omega (arith, before, behind) in
+      λ i. record {
+        cost = cost i;
+        request = first i;
+        spelled_otherwise = (flag ∙ sym own_spelling) i;
+        varied = varied i;
+        unlikeliness = unlikely i;
+        off_paradigm = paradigm i;
+        available = place i;
+      }
+
+  own_match : match_of (rank_of q 0 spelled.request j spelled.request) ≡ record { request = 0; available = j; distance = 0 }
+  own_match = λ i. record { request = 0; available = j; distance = own_costs_nothing i }
+
+  own_same : (s : Rank) → s ≡ rank_of q 0 spelled.request j spelled.request → is_le (rank_cmp (rank_of q 0 spelled.request j spelled.request) s) ≡ true
+  own_same s same = ap is_le (ap (rank_cmp (rank_of q 0 spelled.request j spelled.request)) same
+      ∙ tied_itself rank_total (rank_of q 0 spelled.request j spelled.request))
+
+  -- it is no greater than another, by which of the two is
+  own_upto : (s : Rank) → IsOffer q s → (o : Ordering) → rank_cmp s (rank_of q 0 spelled.request j spelled.request) ≡ o
+      → rank_cmp (rank_of q 0 spelled.request j spelled.request) s ≡ ordering_reverse o
+      → is_le (rank_cmp (rank_of q 0 spelled.request j spelled.request) s) ≡ true
+  own_upto s offer Less is back = own_same s (own_least s offer (ap is_le is))
+  own_upto s offer Equal is back = own_same s (own_least s offer (ap is_le is))
+  own_upto s offer Greater is back = ap is_le back
+
+  own_by : (best : Option Rank) → IsLeastOf (IsOffer q) best → option_map match_of best ≡ Some (record { request = 0; available = j; distance = 0 })
+  own_by None least = absurd (least _ own_offer)
+  own_by (Some r) least = ap Some (ap match_of (own_least r least.0 (least.1 _ own_offer)) ∙ own_match)
+
+  own_is_least : IsLeastOf (IsOffer q) (Some (rank_of q 0 spelled.request j spelled.request))
+  own_is_least = (own_offer, λ s offer. own_upto s offer (rank_cmp s (rank_of q 0 spelled.request j spelled.request)) refl (rank_total.antisymm (rank_of q 0 spelled.request j spelled.request) s))
+
+pub own_spelling_is_served : (q : Question) (j : ℕ) (result : Option Match) → 0 < q.limits.threshold → IsSpelledFirst q j → IsNearest q result
+    → result ≡ Some (record { request = 0; available = j; distance = 0 })
+own_spelling_is_served q j result room spelled nearest = nearest.is ∙ own_by q j room spelled nearest.best nearest.least
+
+-- and it is the nearest
+pub own_spelling_is_nearest : (q : Question) (j : ℕ) → 0 < q.limits.threshold → IsSpelledFirst q j
+    → IsNearest q (Some (record { request = 0; available = j; distance = 0 }))
+own_spelling_is_nearest q j room spelled = record {
+  best = Some (rank_of q 0 spelled.request j spelled.request);
+  least = own_is_least q j room spelled;
+  is = sym (ap Some (own_match q j room spelled));
+}
+
+-- ---- the first request by another spelling
+
+flagged : (b : Bool) → (b ≡ true → ⊥) → not b ≡ true
+flagged true never = absurd (never refl)
+flagged false never = refl
+
+module _ (q : Question) (j : ℕ) (tells : TellsApart q.matching) (room : 0 < q.limits.threshold) (formed : IsFormedFirst q j) where
+  formed_costs_nothing : (rank_of q 0 formed.request j formed.identifier).cost ≡ 0
+  formed_costs_nothing =
+      let none = (distance_zero q.matching (form_of q.likely formed.request) (form_of q.likely formed.identifier) tells).1 (sym formed.form) in
+      omega (arith, none)
+
+  formed_otherwise : (rank_of q 0 formed.request j formed.identifier).spelled_otherwise ≡ true
+  formed_otherwise = flagged (same_parts formed.request formed.identifier)
+      (λ e. formed.unspelled j (formed.offered ∙ ap Some (sym ((identifiers_decide formed.request formed.identifier).0 e))) formed.may)
+
+  formed_varied : (rank_of q 0 formed.request j formed.identifier).varied ≡ false
+  formed_varied = ap not ((sets_tell formed.request.variants formed.identifier.variants).1 (sym formed.variants))
+
+  formed_offer : IsOffer q (rank_of q 0 formed.request j formed.identifier)
+  formed_offer = record {
+    request = formed.request;
+    identifier = formed.identifier;
+    requested = formed.requested;
+    offered = formed.offered;
+    is = refl;
+    below = omega (arith, formed_costs_nothing, room);
+    may = formed.may;
+  }
+
+  formed_least : (r : Rank) → IsOffer q r → is_le (rank_cmp r (rank_of q 0 formed.request j formed.identifier)) ≡ true
+      → match_of r ≡ record { request = 0; available = j; distance = 0 }
+  formed_least r o le =
+      let s = rank_of q 0 formed.request j formed.identifier in
+      let none : r.cost ≡ 0 = omega (arith, no_dearer r _ le, formed_costs_nothing) in
+      let cost : r.cost ≡ s.cost = none ∙ sym formed_costs_nothing in
+      let first : r.request ≡ 0 = omega (arith, no_later r _ le cost) in
+      let a = rest_no_more r.cost s.cost _ _ (ranked r.cost s.cost _ refl) cost le in
+      let b = rest_no_more r.request s.request _ _ (ranked r.request s.request _ refl) first a in
+      let asked : o.request ≡ formed.request = same_Some o.request formed.request
+      (sym o.requested ∙ ap (slice_get q.requests) first ∙ formed.requested) in
+      let sum = ap (λ (x : Rank). x.cost) o.is in
+      let near : distance q.matching (form_of q.likely o.request) (form_of q.likely o.identifier) ≡ 0 = omega (arith, sum, none) in
+      let alike = (distance_zero q.matching (form_of q.likely o.request) (form_of q.likely o.identifier) tells).0 near in
+      let form : form_of q.likely o.identifier ≡ form_of q.likely formed.request = sym alike ∙ ap (form_of q.likely) asked in
+      let forms : form_of q.likely o.identifier ≡ form_of q.likely formed.identifier = form ∙ sym formed.form in
+      let unspelled = flagged (same_parts o.request o.identifier)
+      (λ e. formed.unspelled r.available
+      (o.offered ∙ ap Some (sym ((identifiers_decide o.request o.identifier).0 e) ∙ asked)) o.may) in
+      let other : r.spelled_otherwise ≡ true = ap (λ (x : Rank). x.spelled_otherwise) o.is ∙ unspelled in
+      let c = same_flag_after r.spelled_otherwise s.spelled_otherwise _ (other ∙ sym formed_otherwise) b in
+      let flag = no_flag_after r.varied s.varied _ formed_varied c in
+      let v = same_flag_after r.varied s.varied _ (flag ∙ sym formed_varied) c in
+      let unvaried : not (same_texts o.request.variants o.identifier.variants) ≡ false = sym (ap (λ (x : Rank). x.varied) o.is) ∙ flag in
+      let variants : o.identifier.variants ≡ formed.request.variants =
+      sym ((sets_tell o.request.variants o.identifier.variants).0 (unflagged _ unvaried)) ∙ ap (λ (x : LanguageIdentifier). x.variants) asked in
+      let unlikely : r.unlikeliness ≡ s.unlikeliness = ap (λ (x : Rank). x.unlikeliness) o.is ∙ ap (unlikeliness q.likely) forms in
+      let paradigm : r.off_paradigm ≡ s.off_paradigm = ap (λ (x : Rank). x.off_paradigm) o.is
+      ∙ ap (λ m. not (is_among (paradigms_of q.likely q.matching) m)) forms in
+      let d = rest_no_more r.unlikeliness s.unlikeliness _ _ (ranked r.unlikeliness s.unlikeliness _ refl) unlikely v in
+      let e = same_flag_after r.off_paradigm s.off_paradigm _ paradigm d in
+      let before : r.available ≤ j = upto_number r.available j _ (ranked r.available j _ refl) e in
+      let behind : j ≤ r.available = formed.first r.available o.identifier o.offered o.may form variants in
+      let place : r.available ≡ j = omega (arith, before, behind) in
+      λ i. record { request = first i; available = place i; distance = none i }
+
+  formed_by : (best : Option Rank) → IsLeastOf (IsOffer q) best → option_map match_of best ≡ Some (record { request = 0; available = j; distance = 0 })
+  formed_by None least = absurd (least _ formed_offer)
+  formed_by (Some r) least = ap Some (formed_least r least.0 (least.1 _ formed_offer))
+
+pub own_form_is_served : (q : Question) (j : ℕ) (result : Option Match) → TellsApart q.matching → 0 < q.limits.threshold → IsFormedFirst q j
+    → IsNearest q result → result ≡ Some (record { request = 0; available = j; distance = 0 })
+own_form_is_served q j result tells room formed nearest = nearest.is ∙ formed_by q j tells room formed nearest.best nearest.least
+
 -- ---- what it depends on
 
 module _ (q : Question) (u : LanguageMatching) (agree : AgreeOn q u) where
@@ -211,6 +406,7 @@ module _ (q : Question) (u : LanguageMatching) (agree : AgreeOn q u) where
         cost = far k + q.limits.demotion * i;
         request = i;
         spelled_otherwise = r.spelled_otherwise;
+        varied = r.varied;
         unlikeliness = r.unlikeliness;
         off_paradigm = paradigm k;
         available = j;

@@ -1,5 +1,5 @@
 -- What is served is among what is available.
-use Rattle.std.proofs.Common.{◌≡◌, ℕ, suc, ◌<◌, Bool, true, false, List, [], ◌∷◌, length, Option, Some, None, refl, sym, ap, ◌∙◌, subst}
+use Rattle.std.proofs.Common.{◌≡◌, ℕ, suc, ◌<◌, Bool, true, List, [], ◌∷◌, length, Option, Some, None, refl, sym, ap, ◌∙◌, subst}
 use Rattle.std.specs.List.{slice_get}
 use Rattle.std.specs.Option.{option_map}
 use Rattle.std.proofs.lemmas.Bool.{false≢true}
@@ -9,8 +9,8 @@ use Rattle.icu_locale_core.specs.declared.langid.LanguageIdentifier.{LanguageIde
 use Rattle.icu_locale.specs.LikelySubtags.{LikelySubtags}
 use Rattle.icu_locale.specs.LikelyTable.{likely}
 use Rattle.icu_locale.specs.declared.canonicalizer.rules.Rules.{Rules}
-use Rattle.icu_locale_matching.specs.Header.{wants_any}
-use Rattle.icu_locale_matching.specs.Nearest.{Question, IsOffer, IsLeastOf, IsNearest, match_of, may_of, is_true}
+use Rattle.icu_locale_matching.specs.Header.{refuses_any, wants_any}
+use Rattle.icu_locale_matching.specs.Nearest.{Question, IsOffer, IsLeastOf, match_of, may_of, is_true}
 use Rattle.icu_locale_matching.specs.Requests.{AreCanonical}
 use Rattle.icu_locale_matching.specs.Service.{Service, IsServed, IsNearestTo, allowed, is_allowed, matching_of}
 use Rattle.icu_locale_matching.specs.declared.matcher.Match.{Match}
@@ -41,9 +41,10 @@ may_within may j true_there = by (slice_get may j) refl true_there
 pub served_within : (s : Service) (header : List ℕ) (place : ℕ) → IsServed s header (Some place) → place < length s.available
 served_within s header place is =
     let f = is.served in
-    let may = allowed f.out f.canonical in
+    let named = refuses_any is.wishes in
+    let may = allowed f.requests f.out named f.canonical in
     let inside = may_within may place (chosen_may (matching_of s f.canonical) f.requests may (wants_any is.wishes) place f.choice) in
-    subst (λ n. place < n) (length-map f.canonical (is_allowed f.out) ∙ canonical_long (likely s.expander) s.rules s.available f.canonical f.canonicalized) inside
+    subst (λ n. place < n) (length-map f.canonical (is_allowed f.requests f.out named) ∙ canonical_long (likely s.expander) s.rules s.available f.canonical f.canonicalized) inside
 
 pub nearest_within : (s : Service) (requests : List LanguageIdentifier) (m : Match) → IsNearestTo s requests (Some m) → m.available < length s.available
 nearest_within s requests m is =

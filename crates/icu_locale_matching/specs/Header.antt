@@ -58,9 +58,13 @@ wish_of (r ∷ ps) = if length (trim r) == 0 then None else option_map (λ w. (t
 abbrev pub read_element : List ℕ → Option Wish
 read_element e = wish_of (slice_split (λ b. b == 59) e)
 
--- the wishes of the first hundred elements, apart by `,`, which is 44
+-- the elements, apart by `,`, which is 44
+abbrev pub elements_of : List ℕ → List (List ℕ)
+elements_of header = slice_split (λ b. b == 44) header
+
+-- the wishes of the first hundred elements
 abbrev pub wishes_of : List ℕ → List Wish
-wishes_of header = filter_map read_element (take 100 (slice_split (λ b. b == 44) header))
+wishes_of header = filter_map read_element (take 100 (elements_of header))
 
 -- of a weight
 abbrev pub has_weight : ℕ → Wish → Bool
@@ -82,6 +86,10 @@ refused wishes = filter (has_weight 0) wishes
 -- `*`, which is 42
 abbrev pub is_any : Wish → Bool
 is_any w = bytes_eq w.0 (codes "*")
+
+-- `*` is refused: what is served is to be named
+abbrev pub refuses_any : List Wish → Bool
+refuses_any wishes = list_any is_any (refused wishes)
 
 -- any language is wanted
 abbrev pub wants_any : List Wish → Bool

@@ -8,13 +8,14 @@ use Rattle.icu_locale_core.specs.Maps.{value_at}
 use Rattle.std.specs.Option.{option_eq, option_map}
 use Rattle.std.specs.Ordering.{ordering_then, nat_cmp, bool_cmp, is_le}
 use Rattle.std.specs.declared.cmp.Ordering.{Ordering}
-use Rattle.icu_locale_core.specs.laws.Identifiers.{same_parts}
+use Rattle.icu_locale_core.specs.laws.Identifiers.{same_parts, same_texts}
 use Rattle.icu_locale_core.specs.declared.langid.LanguageIdentifier.{LanguageIdentifier}
 use Rattle.icu_provider.specs.declared.data_locale.DataLocale.{DataLocale}
 use Rattle.icu_locale.specs.LikelySubtags.{LikelySubtags, maximal_locale, subtags_of}
 use Rattle.icu_locale.specs.LikelyTable.{likely}
 use Rattle.icu_locale.specs.declared.expander.LocaleExpander.{LocaleExpander}
-use Rattle.icu_locale_matching.specs.Distance.{distance, is_macro, levels_for, AgreeAt}
+use Rattle.icu_locale_matching.specs.Spelled.{AreSpelled}
+use Rattle.icu_locale_matching.specs.Distance.{distance, is_macro, levels_for, serving_of, AgreeAt}
 use Rattle.icu_provider.specs.declared.matching.LanguageMatching.{LanguageMatching}
 use Rattle.icu_locale_matching.specs.declared.limits.MatchLimits.{MatchLimits}
 use Rattle.icu_locale_matching.specs.declared.candidates.Candidate.{Candidate}
@@ -61,6 +62,7 @@ candidate_of likely t place x = let form = form_of likely x in record {
   is_macro = is_macro t.macros form.region;
   unlikeliness = unlikeliness likely form;
   off_paradigm = not (is_among (paradigms_of likely t) form);
+  serving = serving_of (levels_for t form.language).region.rules form;
 }
 
 -- what it knows of each
@@ -80,11 +82,13 @@ pub record IsGrouped (forms : List Candidate) (n : ℕ) (groups : List (List ℕ
   pub each : (k : ℕ) (c : Candidate) → k < n → slice_get forms k ≡ Some c
       → IsSome (value_at text_cmp groups c.form.language)
 
--- a list was made over a likely table, and the macro regions and paradigm locales of match rules
+-- a list was made over a likely table, and the macro regions and paradigm locales of match rules; it knows where
+-- identifiers are in their own spelling
 pub record IsMadeOver (likely : LikelySubtags) (t : LanguageMatching) (c : Candidates)
     : Type 0 where
   pub forms : c.forms.items ≡ candidates_of likely t c.identifiers.items
   pub grouped : IsGrouped c.forms.items (length c.forms.items) c.groups
+  pub spelled : AreSpelled c.identifiers.items 0 c.spelled
 
 -- the available identifiers, as they were handed in
 abbrev pub identifiers_of : Candidates → List LanguageIdentifier
@@ -131,13 +135,14 @@ question m requests may = record {
 }
 
 -- what decides between a request at i and an available identifier at j: the cost; then the request, a like
--- spelling, how likely the form is, paradigm locales, the place
+-- spelling, like variants, how likely the form is, paradigm locales, the place
 abbrev pub rank_at : Question → ℕ → ℕ → LanguageIdentifier → ℕ → LanguageIdentifier → Rank
 rank_at q cost i request j identifier =
     let c = candidate_of q.likely q.matching j identifier in record {
       cost = cost;
       request = i;
       spelled_otherwise = not (same_parts request identifier);
+      varied = not (same_texts request.variants identifier.variants);
       unlikeliness = c.unlikeliness;
       off_paradigm = c.off_paradigm;
       available = j;
@@ -155,9 +160,10 @@ rank_cmp r s =
     ordering_then (nat_cmp r.cost s.cost)
     (ordering_then (nat_cmp r.request s.request)
     (ordering_then (bool_cmp r.spelled_otherwise s.spelled_otherwise)
+    (ordering_then (bool_cmp r.varied s.varied)
     (ordering_then (nat_cmp r.unlikeliness s.unlikeliness)
     (ordering_then (bool_cmp r.off_paradigm s.off_paradigm)
-    (nat_cmp r.available s.available)))))
+    (nat_cmp r.available s.available))))))
 
 -- r is the rank of a request and an available identifier that may be served, below the threshold
 pub record IsOffer (q : Question) (r : Rank) : Type 0 where
@@ -193,6 +199,51 @@ pub record ServesFirst (q : Question) (m : Match) : Type 0 where
   pub requested : slice_get q.requests 0 ≡ Some request
   pub offered : slice_get q.available m.available ≡ Some identifier
   pub same : form_of q.likely request ≡ form_of q.likely identifier
+
+-- the identifier at a place may be served and is the first request, in its own spelling, and none before it is that and
+-- may
+pub record IsSpelledFirst (q : Question) (j : ℕ) : Type 0 where
+  pub request : LanguageIdentifier
+  pub requested : slice_get q.requests 0 ≡ Some request
+  pub offered : slice_get q.available j ≡ Some request
+  pub may : q.may j ≡ true
+  pub first : (k : ℕ) → slice_get q.available k ≡ Some request → q.may k ≡ true → j ≤ k
+
+-- the identifier at a place may be served and has the maximal form and the variants of the first request; none that may
+-- is that request in its own spelling, and none before it has those
+pub record IsFormedFirst (q : Question) (j : ℕ) : Type 0 where
+  pub request : LanguageIdentifier
+  pub identifier : LanguageIdentifier
+  pub requested : slice_get q.requests 0 ≡ Some request
+  pub offered : slice_get q.available j ≡ Some identifier
+  pub may : q.may j ≡ true
+  pub form : form_of q.likely identifier ≡ form_of q.likely request
+  pub variants : identifier.variants ≡ request.variants
+  pub unspelled : (k : ℕ) → slice_get q.available k ≡ Some request → q.may k ≡ true → ⊥
+  pub first : (k : ℕ) (x : LanguageIdentifier) → slice_get q.available k ≡ Some x
+      → q.may k ≡ true → form_of q.likely x ≡ form_of q.likely request
+      → x.variants ≡ request.variants → j ≤ k
+
+-- what p is asked over is a part of what q is: at k what is at f k there, in the same order, and it may be served there
+-- too
+pub record IsPart (p q : Question) (f : ℕ → ℕ) : Type 0 where
+  pub likely : p.likely ≡ q.likely
+  pub matching : p.matching ≡ q.matching
+  pub limits : p.limits ≡ q.limits
+  pub requests : p.requests ≡ q.requests
+  pub offered : (k : ℕ) (x : LanguageIdentifier) → slice_get p.available k ≡ Some x
+      → slice_get q.available (f k) ≡ Some x
+  pub may : (k : ℕ) → p.may k ≡ true → q.may (f k) ≡ true
+  pub rises : (k l : ℕ) → k < l → f k < f l
+
+-- a match costs less, or the same for an earlier request, or the same for the same
+pub record IsNoFarther (m n : Match) : Type 0 where
+  pub cost : n.distance ≤ m.distance
+  pub request : n.distance ≡ m.distance → n.request ≤ m.request
+
+-- a match at another place
+abbrev pub moved_to : ℕ → Match → Match
+moved_to k m = record { request = m.request; available = k; distance = m.distance }
 
 -- a table agrees with that of a question on what is asked
 pub record AgreeOn (q : Question) (u : LanguageMatching) : Type 0 where

@@ -7,6 +7,7 @@ use Rattle.icu_locale.specs.LikelySubtags.{LikelySubtags}
 use Rattle.icu_locale_runs.specs.Run.{EndsAt}
 use Rattle.icu_locale.specs.declared.canonicalizer.rules.Rules.{Rules}
 use Rattle.icu_locale_extensions.specs.Locales.{IsLocaleIdentifier}
+use Rattle.icu_locale_extensions.specs.Reads.{bare}
 use Rattle.icu_locale_extensions.specs.Syntaxes.{SpellsBy}
 use Rattle.icu_locale_extensions.specs.declared.identifier.LocaleIdentifier.{LocaleIdentifier}
 use Rattle.icu_locale_extensions.specs.declared.syntax.Syntax.TheVariants.{Bcp47}
@@ -28,13 +29,17 @@ IsOnly {X} P o = MatchOption o ((x : X) → P x → ⊥) P
 abbrev pub IsTag : List ℕ → LocaleIdentifier → Type 0
 IsTag range x = IsLocaleIdentifier x × SpellsBy Bcp47 range x
 
--- what wishes ask for, each by its range, in their order; a range that asks for nothing is passed over
-abbrev pub AreRequests : LikelySubtags → Rules → List Wish → List LanguageIdentifier → Type 0
-AreRequests likely rules [] ys = ys ≡ []
-AreRequests likely rules (w ∷ ws) ys =
+-- what the ranges of wishes stand for by P, in their order; a range that stands for nothing is passed over
+abbrev pub AreAsked : (List ℕ → LanguageIdentifier → Type 0) → List Wish → List LanguageIdentifier
+    → Type 0
+AreAsked P [] ys = ys ≡ []
+AreAsked P (w ∷ ws) ys =
     (o : Option LanguageIdentifier) × (rest : List LanguageIdentifier)
-    × IsOnly (IsRequest likely rules w.0) o × AreRequests likely rules ws rest
-    × (ys ≡ cons_option o rest)
+    × IsOnly (P w.0) o × AreAsked P ws rest × (ys ≡ cons_option o rest)
+
+-- what wishes ask for
+abbrev pub AreRequests : LikelySubtags → Rules → List Wish → List LanguageIdentifier → Type 0
+AreRequests likely rules = AreAsked (IsRequest likely rules)
 
 -- y is the canonical form of x, or x as it is, where the rules come to no end
 abbrev pub IsBrought : LikelySubtags → Rules → LanguageIdentifier → Bool → LanguageIdentifier
@@ -54,3 +59,17 @@ AreCanonical likely rules [] ys = ys ≡ []
 AreCanonical likely rules (x ∷ xs) ys =
     (y : LanguageIdentifier) × (rest : List LanguageIdentifier)
     × IsCanonicalOf likely rules x y × AreCanonical likely rules xs rest × (ys ≡ y ∷ rest)
+
+-- a range that is refused is a tag of BCP 47 without extensions and private use, and y the canonical form of its
+-- identifier, or that as it is, where the rules come to no end
+pub record IsRefusal (likely : LikelySubtags) (rules : Rules) (range : List ℕ)
+    (y : LanguageIdentifier) : Type 0 where
+  pub tag : LocaleIdentifier
+  pub known : IsLocaleIdentifier tag
+  pub spells : SpellsBy Bcp47 range tag
+  pub plain : tag ≡ bare tag.locale.id
+  pub canonical : IsCanonicalOf likely rules tag.locale.id y
+
+-- what wishes refuse
+abbrev pub AreRefusals : LikelySubtags → Rules → List Wish → List LanguageIdentifier → Type 0
+AreRefusals likely rules = AreAsked (IsRefusal likely rules)

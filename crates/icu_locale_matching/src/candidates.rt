@@ -7,10 +7,12 @@ ghost use Rattle.icu_locale.specs.LikelySubtags.{maximal_locale, subtags_of};
 ghost use Rattle.icu_provider.specs.SortedMaps.{Holds};
 ghost use Rattle.icu_locale_matching.specs.Nearest.{alone, without_region, same_form, form_of, unlikeliness, paradigms_of, is_among, candidate_of, candidates_of, has_language, identifiers_of, IsGrouped, IsMadeOver};
 
+use crate::distances::levels_for;
 use crate::macros::is_macro;
+use crate::spellings::{Spellings, spellings_of};
 use icu_locale::LocaleExpander;
 use icu_locale_core::{Language, LanguageIdentifier};
-use icu_provider::{DataLocale, LanguageMatching, SortedMap};
+use icu_provider::{DataLocale, LanguageMatching, NotedMap};
 use std::alloc::{AllocError, Global};
 
 // What a match asks of an available identifier.
@@ -23,6 +25,8 @@ pub(crate) struct Candidate {
     pub(crate) is_macro: bool,
     pub(crate) unlikeliness: u8,
     pub(crate) off_paradigm: bool,
+    // Which of the first region rules of its own language fit on its side.
+    pub(crate) serving: [bool; 8],
 }
 
 /// What a `LocaleMatcher` is asked over: the available identifiers, and what a match asks of each, by language. It
@@ -32,7 +36,9 @@ pub(crate) struct Candidate {
 pub struct Candidates {
     pub(crate) identifiers: Vec<LanguageIdentifier>,
     pub(crate) forms: Vec<Candidate>,
-    pub(crate) groups: SortedMap<Language, Vec<Candidate>>,
+    pub(crate) groups: NotedMap<Language, Vec<Candidate>>,
+    // Where each is in its own spelling.
+    pub(crate) spelled: Spellings,
 }
 
 impl Drop for Candidates {
@@ -41,13 +47,15 @@ impl Drop for Candidates {
             identifiers: _,
             forms: _,
             groups: _,
+            spelled: _,
         } = self;
     }
 }
 
 impl Candidates {
     /// Over likely subtags, match rules, for their macro regions and paradigm locales, and the identifiers that are
-    /// available. It takes memory for two entries an identifier, and one list a language.
+    /// available. It takes memory for two entries an identifier, one list a language, and
+    /// notes of the identifiers' spellings.
     ///
     /// # Errors
     ///
@@ -64,10 +72,12 @@ impl Candidates {
         let paradigms = paradigms_of(alloc, expander, matching)?;
         let forms = forms_of(alloc, expander, matching, &paradigms, &identifiers)?;
         let groups = groups_of(alloc, &forms)?;
+        let spelled = spellings_of(alloc, &identifiers)?;
         Ok(Candidates {
             identifiers,
             forms,
             groups,
+            spelled,
         })
     }
 
@@ -84,7 +94,7 @@ impl Candidates {
         requires { IsGrouped self.now.forms.items (length self.now.forms.items) self.now.groups }
         ensures { result.now ≡ filter (has_language language.now) self.now.forms.items }
     {
-        match self.groups.get_numbered(language) {
+        match self.groups.get(language) {
             Some(group) => group,
             None => &[],
         }
@@ -95,10 +105,10 @@ impl Candidates {
 fn groups_of(
     alloc: Global,
     forms: &[Candidate],
-) -> Result<SortedMap<Language, Vec<Candidate>>, AllocError>
+) -> Result<NotedMap<Language, Vec<Candidate>>, AllocError>
     ensures { IfOk result (IsGrouped forms.now (length forms.now)) }
 {
-    let mut groups = SortedMap::new(alloc);
+    let mut groups = NotedMap::new(alloc);
     for candidate in forms {
         let language = candidate.form.language;
         if !groups.contains_key(&language) {
@@ -106,12 +116,15 @@ fn groups_of(
             put(&mut groups, language, group)?;
         }
     }
-    Ok(groups)
+    match groups.note(alloc) {
+        Ok(()) => Ok(groups),
+        Err(_) => Err(AllocError),
+    }
 }
 
 // Puts a group to its language.
 fn put(
-    groups: &mut SortedMap<Language, Vec<Candidate>>,
+    groups: &mut NotedMap<Language, Vec<Candidate>>,
     language: Language,
     group: Vec<Candidate>,
 ) -> Result<(), AllocError>
@@ -175,6 +188,7 @@ fn candidate_of(
         is_macro: is_macro(&matching.macros, &form.region),
         unlikeliness: unlikeliness_of(expander, &form),
         off_paradigm: !is_among(paradigms, &form),
+        serving: levels_for(matching, &form.language).region.serving(&form),
     }
 }
 

@@ -1,17 +1,18 @@
 //! The distance of a supported form from a desired one (UTS #35 Part 1, section 4.4).
-ghost use Rattle.std.specs.Prelude.{◌≡◌, ◌<◌, ◌^◌, ◌||◌, if◌then◌else◌, option_copied, map, max, Some};
+ghost use Rattle.std.specs.Prelude.{◌≡◌, ◌≤◌, IsTrue, ◌<◌, ◌^◌, ◌||◌, if◌then◌else◌, option_copied, map, max, Some};
+ghost use Rattle.icu_provider.specs.declared.data_locale.DataLocale.{DataLocale as TheLocale};
 ghost use Rattle.std.specs.Option.{option_eq};
 ghost use Rattle.std.specs.Str.{bytes_eq};
-ghost use Rattle.std.specs.List.{find};
+ghost use Rattle.std.specs.List.{find, slice_get};
 ghost use Rattle.icu_locale.specs.LikelyTable.{likely};
 ghost use Rattle.icu_locale_matching.specs.Nearest.{form_of};
-ghost use Rattle.icu_locale_matching.specs.Distance.{fits, level_distance, distance_by, distance, levels_over, levels_for, is_macro, with_region, greatest, greatest_to, region_distance};
-ghost use Rattle.icu_locale_matching.specs.inner.Known.{AreKnown, fits_at};
+ghost use Rattle.icu_locale_matching.specs.Distance.{fits, serves_at, serving_of, level_distance, distance_by, distance, levels_over, levels_for, is_macro, with_region, greatest, greatest_to, region_distance};
+ghost use Rattle.icu_locale_matching.specs.inner.Known.{AreKnown, AreServing, fits_at};
 ghost use Rattle.icu_locale_matching.specs.inner.Levels.{shown_level, shown, IsBelow};
 
 use crate::candidates::form_of;
 use crate::macros::{Macros, is_macro, row_of};
-use crate::patterns::{fits, fits_known, fits_pattern};
+use crate::patterns::{fits, fits_known, fits_pattern, serves};
 use icu_locale::LocaleExpander;
 use icu_locale_core::{Language, LanguageIdentifier, Region};
 use icu_provider::{DataLocale, LanguageMatching, MatchRule};
@@ -117,6 +118,17 @@ impl<'d> LentLevel<'d> {
         }
     }
 
+    // No distance of the level is less.
+    pub(crate) fn least(&self) -> u16
+        ensures { (d s : TheLocale) → result ≤ level_distance (shown_level self.now) d s }
+    {
+        let mut least = self.other;
+        for rule in self.rules {
+            least = smaller(least, rule.distance);
+        }
+        least
+    }
+
     // Whether the desired pattern of each of the first rules fits.
     pub(crate) fn known(&self, desired: &DataLocale) -> [bool; 8]
         ensures { AreKnown self.now.rules.now desired.now result }
@@ -143,14 +155,54 @@ impl<'d> LentLevel<'d> {
         }
     }
 
-    // The distance of the first rule that fits, where this is known of desired patterns.
-    fn distance_known(&self, known: &[bool], desired: &DataLocale, supported: &DataLocale) -> u16
-        requires { AreKnown self.now.rules.now desired.now known.now }
+    // Whether each of the first rules is for the language of a supported form, and fits it.
+    pub(crate) fn serving(&self, supported: &DataLocale) -> [bool; 8]
+        ensures { result ≡ serving_of self.now.rules.now supported.now }
+    {
+        [
+            self.serves_at(supported, 0),
+            self.serves_at(supported, 1),
+            self.serves_at(supported, 2),
+            self.serves_at(supported, 3),
+            self.serves_at(supported, 4),
+            self.serves_at(supported, 5),
+            self.serves_at(supported, 6),
+            self.serves_at(supported, 7),
+        ]
+    }
+
+    // The same of the rule at a place.
+    fn serves_at(&self, supported: &DataLocale, place: usize) -> bool
+        ensures { result ≡ serves_at self.now.rules.now supported.now place }
+    {
+        match self.rules.get(place) {
+            Some(rule) => serves(rule, supported),
+            None => false,
+        }
+    }
+
+    // The distance of the first rule that fits, where this is known of desired patterns, and of supported ones.
+    fn distance_known(
+        &self,
+        known: &[bool],
+        serving: &[bool],
+        desired: &DataLocale,
+        supported: &DataLocale,
+    ) -> u16
+        requires known { AreKnown self.now.rules.now desired.now known.now }
+        requires serving { AreServing self.now.rules.now supported.now serving.now }
         ensures { result ≡ level_distance (shown_level self.now) desired.now supported.now }
     {
         for place in 0..self.rules.len() {
             let rule = &self.rules[place];
-            if fits_known(known.get(place), rule, desired, supported) {
+            let fits = fits_known(
+                mark_at(known, place),
+                mark_at(serving, place),
+                rule,
+                desired,
+                supported,
+            );
+            if fits {
                 return rule.distance;
             }
         }
@@ -183,7 +235,7 @@ impl<'d> LentLevels<'d> {
             || is_macro(self.macros, &supported.region);
         self.language.part(same_language, desired, supported)
             + self.script.part(same_script, desired, supported)
-            + self.region_part(any_macro, &[], desired, supported)
+            + self.region_part(any_macro, &[], &[], desired, supported)
     }
 
     // The distance, if it is below a limit.
@@ -191,6 +243,8 @@ impl<'d> LentLevels<'d> {
         &self,
         any_macro: bool,
         known: &[bool],
+        serving: &[bool],
+        least: u16,
         desired: &DataLocale,
         supported: &DataLocale,
         limit: u32,
@@ -198,6 +252,9 @@ impl<'d> LentLevels<'d> {
         requires macros { any_macro ≡ (is_macro self.now.macros.now desired.now.region
             || is_macro self.now.macros.now supported.now.region) }
         requires known { AreKnown self.now.region.rules.now desired.now known.now }
+        requires serving { AreServing self.now.region.rules.now supported.now serving.now }
+        requires least { (d s : TheLocale)
+            → least ≤ level_distance (shown_level self.now.region) d s }
         ensures { IsBelow limit (distance_by (shown self.now) desired.now supported.now) result }
     {
         let same_language = desired.language == supported.language;
@@ -210,7 +267,10 @@ impl<'d> LentLevels<'d> {
         if to_script >= limit {
             return None;
         }
-        let to_region = to_script + self.region_part(any_macro, known, desired, supported);
+        if self.is_far(any_macro, least, limit - to_script, desired, supported) {
+            return None;
+        }
+        let to_region = to_script + self.region_part(any_macro, known, serving, desired, supported);
         if to_region < limit {
             Some(to_region)
         } else {
@@ -218,17 +278,45 @@ impl<'d> LentLevels<'d> {
         }
     }
 
+    // Whether the regions are known to be as far as a limit: no distance of their level is less.
+    fn is_far(
+        &self,
+        any_macro: bool,
+        least: u16,
+        limit: u32,
+        desired: &DataLocale,
+        supported: &DataLocale,
+    ) -> bool
+        requires macros { any_macro ≡ (is_macro self.now.macros.now desired.now.region
+            || is_macro self.now.macros.now supported.now.region) }
+        requires least { (d s : TheLocale)
+            → least ≤ level_distance (shown_level self.now.region) d s }
+        ensures { IsTrue result
+            → limit ≤ (if option_eq bytes_eq desired.now.region supported.now.region then 0
+            else region_distance (shown self.now) desired.now supported.now) }
+    {
+        if any_macro {
+            return false;
+        }
+        if desired.region == supported.region {
+            return false;
+        }
+        u32::from(least) >= limit
+    }
+
     // Nothing where the regions are the same.
     fn region_part(
         &self,
         any_macro: bool,
         known: &[bool],
+        serving: &[bool],
         desired: &DataLocale,
         supported: &DataLocale,
     ) -> u32
         requires macros { any_macro ≡ (is_macro self.now.macros.now desired.now.region
             || is_macro self.now.macros.now supported.now.region) }
         requires known { AreKnown self.now.region.rules.now desired.now known.now }
+        requires serving { AreServing self.now.region.rules.now supported.now serving.now }
         ensures value { result
             ≡ (if option_eq bytes_eq desired.now.region supported.now.region then 0
             else region_distance (shown self.now) desired.now supported.now) }
@@ -240,7 +328,10 @@ impl<'d> LentLevels<'d> {
         if any_macro {
             u32::from(self.greatest(desired, supported))
         } else {
-            u32::from(self.region.distance_known(known, desired, supported))
+            u32::from(
+                self.region
+                    .distance_known(known, serving, desired, supported),
+            )
         }
     }
 
@@ -289,6 +380,24 @@ impl<'d> LentLevels<'d> {
         }
         most
     }
+}
+
+// The mark at a place, if it is there.
+fn mark_at(marks: &[bool], place: usize) -> Option<bool>
+    ensures { result ≡ slice_get marks.now place }
+{
+    match marks.get(place) {
+        Some(mark) => Some(*mark),
+        None => None,
+    }
+}
+
+// The smaller of two numbers.
+fn smaller(one: u16, other: u16) -> u16
+    ensures one { result ≤ one }
+    ensures other { result ≤ other }
+{
+    if one < other { one } else { other }
 }
 
 // The greater of two numbers.

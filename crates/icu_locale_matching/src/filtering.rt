@@ -2,7 +2,7 @@
 ghost use Rattle.std.specs.Prelude.{◌≡◌, ◌++◌, ◌∷◌, ◌&&◌, List, ℕ, not, map, IfOk};
 ghost use Rattle.std.specs.List.{list_any};
 ghost use Rattle.std.specs.Option.{option_to_list};
-ghost use Rattle.icu_locale_matching.specs.Service.{subtags_of, begins, refuses, is_allowed, allowed};
+ghost use Rattle.icu_locale_matching.specs.Service.{subtags_of, begins, refuses, is_begun, is_allowed, allowed};
 
 use icu_locale_core::{Language, LanguageIdentifier, Region, Script, VariantsIter};
 use std::alloc::{AllocError, Global};
@@ -27,26 +27,34 @@ impl<'x> Model for Subtags<'x> {
 // Which identifiers may be served.
 pub(crate) fn allowed(
     alloc: Global,
-    ranges: &[LanguageIdentifier],
+    requests: &[LanguageIdentifier],
+    out: &[LanguageIdentifier],
+    named: bool,
     identifiers: &[LanguageIdentifier],
 ) -> Result<Vec<bool>, AllocError>
-    ensures { IfOk result (λ may. may.items ≡ allowed ranges.now identifiers.now) }
+    ensures { IfOk result
+        (λ may. may.items ≡ allowed requests.now out.now named identifiers.now) }
 {
     identifiers
         .iter()
-        .map(|id| is_allowed(ranges, id))
+        .map(|id| is_allowed(requests, out, named, id))
         .collect(alloc)
 }
 
-// Whether no refused range begins an identifier.
-fn is_allowed(ranges: &[LanguageIdentifier], id: &LanguageIdentifier) -> bool
-    ensures { result ≡ is_allowed ranges.now id.now }
+// Whether no refused range begins an identifier, and a wanted one, where it is to be named.
+fn is_allowed(
+    requests: &[LanguageIdentifier],
+    out: &[LanguageIdentifier],
+    named: bool,
+    id: &LanguageIdentifier,
+) -> bool
+    ensures { result ≡ is_allowed requests.now out.now named id.now }
 {
-    !is_refused(ranges, id)
+    !is_begun(out, id) && (!named || is_begun(requests, id))
 }
 
-fn is_refused(ranges: &[LanguageIdentifier], id: &LanguageIdentifier) -> bool
-    ensures { result ≡ list_any (λ range. refuses range id.now) ranges.now }
+fn is_begun(ranges: &[LanguageIdentifier], id: &LanguageIdentifier) -> bool
+    ensures { result ≡ is_begun ranges.now id.now }
 {
     ranges.iter().any(|range| refuses(range, id))
 }

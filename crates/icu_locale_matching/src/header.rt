@@ -1,7 +1,7 @@
 //! Reading the header.
 ghost use Rattle.std.specs.Prelude.{◌≡◌, ◌==◌, ◌++◌, ◌∷◌, [], ◌≤◌, List, length, map, nat_lt, filter, AllPairs, None, IfOk, IsOk, OnOk};
 ghost use Rattle.std.specs.List.{cons_option, position, position_or_len, list_any};
-ghost use Rattle.icu_locale_matching.specs.Header.{AreByWeight, Wish, shown, wanted, refused, is_any, wants_any, has_weight, is_weight, weight, read_element, wishes_of};
+ghost use Rattle.icu_locale_matching.specs.Header.{AreByWeight, Wish, shown, wanted, refused, is_any, refuses_any, wants_any, has_weight, is_weight, weight, read_element, wishes_of};
 ghost use Rattle.icu_locale_matching.specs.inner.Parts.{parts_if_any, shown_if_any};
 
 use crate::parts::{cut, halves, trimmed};
@@ -69,6 +69,13 @@ impl<'h> AcceptLanguage<'h> {
     {
         let (_, refused) = wanted_and_refused(&self.wishes);
         refused
+    }
+
+    /// Whether `*` is refused: what is served is to be named. It takes no memory.
+    pub fn refuses_any(&self) -> bool
+        ensures { result ≡ refuses_any self.now }
+    {
+        some_any(self.refused())
     }
 
     /// Whether any language is wanted, by `*`. It takes no memory.

@@ -1,10 +1,11 @@
 //! Laws of language matching: what follows from the definitions alone, over every table. Their functions do nothing.
-ghost use Rattle.std.specs.Prelude.{◌≡◌, ◌↔◌, ◌<◌, ℕ, Bool, true, List, length, Option, Some, IsSomeAnd};
+ghost use Rattle.std.specs.Prelude.{◌≡◌, ◌↔◌, ◌<◌, ℕ, Bool, true, false, List, codes, length, Option, Some, IsSomeAnd};
+ghost use Rattle.std.specs.List.{slice_get};
 ghost use Rattle.icu_locale.specs.Negotiation.{IsMatch};
 ghost use Rattle.icu_provider.specs.declared.data_locale.DataLocale.{DataLocale};
 ghost use Rattle.icu_locale_matching.specs.Distance.{distance, TellsApart, AgreeAt};
-ghost use Rattle.icu_locale_matching.specs.Nearest.{Matching, may_of, Question, AgreeOn, with_matching, IsNearest, ServesFirst, ScriptsAreFar, KeepsScript};
-ghost use Rattle.icu_locale_matching.specs.Service.{Service, IsChoice, IsServed, IsNearestTo};
+ghost use Rattle.icu_locale_matching.specs.Nearest.{Matching, may_of, Question, AgreeOn, with_matching, IsNearest, ServesFirst, IsSpelledFirst, IsFormedFirst, IsPart, IsNoFarther, moved_to, ScriptsAreFar, KeepsScript};
+ghost use Rattle.icu_locale_matching.specs.Service.{Service, IsChoice, IsServed, IsNearestTo, IsRefusedIn, IsCanonicalAt, IsUnread, refuses, first_place};
 ghost use Rattle.icu_locale_matching.specs.declared.matcher.Match.{Match};
 ghost use Rattle.icu_locale_core.specs.declared.langid.LanguageIdentifier.{LanguageIdentifier};
 ghost use Rattle.icu_provider.specs.declared.matching.LanguageMatching.{LanguageMatching};
@@ -45,6 +46,37 @@ pub fn what_negotiates_is_served()
         → q.may j ≡ true → IsNearest q result → IsSomeAnd result (ServesFirst q) }
 {}
 
+/// Where the first request is available in its own spelling and may be served, its first place is served, at no
+/// distance: over every table.
+pub fn what_is_spelled_as_asked_is_served()
+    ensures { (q : Question) (j : ℕ) (result : Option Match) → 0 < q.limits.threshold
+        → IsSpelledFirst q j → IsNearest q result
+        → result ≡ Some (record { request = 0; available = j; distance = 0 }) }
+{}
+
+/// Where each rule has a distance above 0, and the first request is not available in its own spelling, the first place of
+/// its maximal form with its variants is served, at no distance.
+pub fn what_means_as_asked_is_served()
+    ensures { (q : Question) (j : ℕ) (result : Option Match) → TellsApart q.matching
+        → 0 < q.limits.threshold → IsFormedFirst q j → IsNearest q result
+        → result ≡ Some (record { request = 0; available = j; distance = 0 }) }
+{}
+
+/// What is added to what is available only brings the answer nearer: the distance is no greater, and where it is the
+/// same, the request is no later.
+pub fn what_is_added_is_no_farther()
+    ensures { (p q : Question) (f : ℕ → ℕ) (m : Match) (result : Option Match)
+        → IsPart p q f → IsNearest p (Some m) → IsNearest q result
+        → IsSomeAnd result (IsNoFarther m) }
+{}
+
+/// What is not served may be taken away: the same is served, at its new place.
+pub fn what_is_not_served_may_be_taken_away()
+    ensures { (p q : Question) (f : ℕ → ℕ) (k : ℕ) (x : LanguageIdentifier) (m : Match)
+        → IsPart p q f → slice_get p.available k ≡ Some x → p.may k ≡ true
+        → m.available ≡ f k → IsNearest q (Some m) → IsNearest p (Some (moved_to k m)) }
+{}
+
 /// The answer depends on the rules of the languages that are asked alone, on the paradigm locales, on the macro
 /// regions and on the distances where no rule fits.
 pub fn other_rules_do_not_count()
@@ -69,6 +101,29 @@ pub fn what_is_chosen_may_be()
     ensures { (m : Matching) (requests : List LanguageIdentifier) (may : List Bool) (any : Bool)
         (place : ℕ) → IsChoice m requests may any (Some place) → may_of may place ≡ true }
 {}
+
+/// An element of weight 0 excludes: what its range asks for is not served, nor what that begins.
+pub fn what_is_refused_is_not_served()
+    ensures { (s : Service) (header : List ℕ) (place : ℕ) (range y : LanguageIdentifier)
+        → IsRefusedIn s header range → IsCanonicalAt s place y
+        → IsServed s header (Some place) → refuses range y ≡ false }
+{
+    icu_locale_extensions::laws::spelled_once_by();
+}
+
+/// An element that cannot be read changes nothing.
+pub fn what_cannot_be_read_changes_nothing()
+    ensures { (s : Service) (more fewer : List ℕ) (result : Option ℕ) → IsUnread more fewer
+        → (IsServed s more result) ↔ (IsServed s fewer result) }
+{}
+
+/// `*` alone has the first served, if there is one.
+pub fn any_alone_serves_the_first()
+    ensures { (s : Service) (result : Option ℕ) → IsServed s (codes "*") result
+        → result ≡ first_place s.available }
+{
+    icu_locale_extensions::laws::refusals_are_faults();
+}
 
 /// What is served for a header is one.
 pub fn what_is_served_is_one()

@@ -16,6 +16,7 @@ mod rank;
 mod requests;
 mod search;
 mod server;
+mod spellings;
 mod weights;
 
 pub use candidates::Candidates;

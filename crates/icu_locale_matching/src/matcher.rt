@@ -97,6 +97,8 @@ impl<'r> LocaleMatcher<'r> {
         self.nearest_by(requests, Some(may))
     }
 
+    // Where the first request is there in its own spelling, no search is needed.
+    #[tactic(auto, using(crate::proofs::Serving::own_spelling_is_nearest))]
     fn nearest_by(&self, requests: &[LanguageIdentifier], may: Option<&[bool]>) -> Option<Match>
         ensures { IsNearest (question self.now requests.now (may_shown may.entry)) result }
     {
@@ -107,6 +109,13 @@ impl<'r> LocaleMatcher<'r> {
             self.candidates,
             may,
         );
+        if let Some(place) = search.spelled_first(requests) {
+            return Some(Match {
+                request: 0,
+                available: place,
+                distance: 0,
+            });
+        }
         match_of(search.least(requests))
     }
 }

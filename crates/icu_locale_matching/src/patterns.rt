@@ -1,5 +1,6 @@
 //! Whether a rule fits two forms.
-ghost use Rattle.std.specs.Prelude.{◌≡◌, IfSome, option_copied};
+ghost use Rattle.std.specs.Prelude.{◌≡◌, ◌&&◌, IfSome};
+ghost use Rattle.std.specs.Str.{bytes_eq};
 ghost use Rattle.icu_locale_matching.specs.Distance.{fits_script, is_member, fits_region, fits_pattern, fits};
 
 use icu_locale_core::{Region, Script};
@@ -14,29 +15,52 @@ pub(crate) fn fits(rule: &MatchRule, desired: &DataLocale, supported: &DataLocal
         && fits_pattern(&rule.supported, supported)
 }
 
-// Whether a rule fits, where it may be known whether its desired pattern does.
+// Whether a rule is for the language of a supported form, and fits it.
+pub(crate) fn serves(rule: &MatchRule, supported: &DataLocale) -> bool
+    ensures { result ≡ (bytes_eq supported.now.language rule.now.language
+        && fits_pattern rule.now.supported supported.now) }
+{
+    supported.language == rule.language && fits_pattern(&rule.supported, supported)
+}
+
+// Whether a rule fits, where it may be known whether its desired pattern does, and whether it serves.
 pub(crate) fn fits_known(
-    known: Option<&bool>,
+    known: Option<bool>,
+    serving: Option<bool>,
     rule: &MatchRule,
     desired: &DataLocale,
     supported: &DataLocale,
 ) -> bool
-    requires { IfSome (option_copied known)
+    requires known { IfSome known
         (λ b. b ≡ fits_pattern rule.now.desired desired.now) }
+    requires serving { IfSome serving
+        (λ b. b ≡ (bytes_eq supported.now.language rule.now.language
+        && fits_pattern rule.now.supported supported.now)) }
     ensures { result ≡ fits desired.now supported.now rule.now }
 {
-    fits_desired(known, rule, desired)
-        && supported.language == rule.language
-        && fits_pattern(&rule.supported, supported)
+    fits_desired(known, rule, desired) && fits_supported(serving, rule, supported)
 }
 
-fn fits_desired(known: Option<&bool>, rule: &MatchRule, desired: &DataLocale) -> bool
-    requires { IfSome (option_copied known)
+fn fits_supported(serving: Option<bool>, rule: &MatchRule, supported: &DataLocale) -> bool
+    requires { IfSome serving
+        (λ b. b ≡ (bytes_eq supported.now.language rule.now.language
+        && fits_pattern rule.now.supported supported.now)) }
+    ensures { result ≡ (bytes_eq supported.now.language rule.now.language
+        && fits_pattern rule.now.supported supported.now) }
+{
+    match serving {
+        Some(serves) => serves,
+        None => serves(rule, supported),
+    }
+}
+
+fn fits_desired(known: Option<bool>, rule: &MatchRule, desired: &DataLocale) -> bool
+    requires { IfSome known
         (λ b. b ≡ fits_pattern rule.now.desired desired.now) }
     ensures { result ≡ fits_pattern rule.now.desired desired.now }
 {
     match known {
-        Some(fits) => *fits,
+        Some(fits) => fits,
         None => fits_pattern(&rule.desired, desired),
     }
 }

@@ -1,12 +1,13 @@
 //! Ranges as requests, and canonical forms.
-ghost use Rattle.std.specs.Prelude.{◌≡◌, ◌++◌, ◌∷◌, [], List, map, false, IfOk, OnOk};
+ghost use Rattle.std.specs.Prelude.{◌≡◌, ◌↔◌, IsTrue, ◌++◌, ◌∷◌, [], List, map, false, IfOk, OnOk};
 ghost use Rattle.icu_locale.specs.Kinds.{next};
 ghost use Rattle.icu_locale.specs.LikelyTable.{likely};
 ghost use Rattle.icu_locale.specs.Refusals.{IsMemory};
 ghost use Rattle.icu_locale.specs.RuleSet.{lent};
+ghost use Rattle.icu_locale_extensions.specs.Reads.{bare};
 ghost use Rattle.icu_locale_matching.specs.Header.{Wish, shown};
-ghost use Rattle.icu_locale_matching.specs.Requests.{IsRequest, IsOnly, IsTag, AreRequests, IsBrought, IsCanonicalOf, AreCanonical};
-ghost use Rattle.icu_locale_matching.specs.inner.Added.{IsAdded};
+ghost use Rattle.icu_locale_matching.specs.Requests.{IsRequest, IsRefusal, IsOnly, IsTag, AreRequests, AreRefusals, IsBrought, IsCanonicalOf, AreCanonical};
+ghost use Rattle.icu_locale_matching.specs.inner.Added.{IsAdded, IsIdentifierOf};
 
 use crate::header::LentWish;
 use icu_locale::{CanonicalizeError, CanonicalizerRef};
@@ -37,8 +38,8 @@ fn add_request(
     list: &mut Vec<LanguageIdentifier>,
     wish: &LentWish<'_>,
 ) -> Result<(), AllocError>
-    ensures { OnOk result (IsAdded (likely rules.now.expander) (lent rules.now.rules)
-        wish.now.range.now list.old.items list.new.items) }
+    ensures { OnOk result (IsAdded (IsRequest (likely rules.now.expander) (lent rules.now.rules)
+        wish.now.range.now) list.old.items list.new.items) }
 {
     match request_of(alloc, rules, wish.range) {
         Ok(Some(id)) => Ok(list.push(id)?),
@@ -58,17 +59,122 @@ fn request_of(
 {
     // a law for the proof: no code runs
     icu_locale_extensions::laws::spelled_once_by();
-    let tag = match read_tag(alloc, range) {
-        Ok(Some(tag)) => tag,
+    let mut id = match identifier_in(alloc, range) {
+        Ok(Some(id)) => id,
         Ok(None) => return Ok(None),
         Err(error) => return Err(error),
     };
-    let mut id = identifier_of(tag);
     match bring(rules, &mut id) {
         Ok(true) => Ok(Some(id)),
         Ok(false) => Ok(None),
         Err(error) => Err(error),
     }
+}
+
+// The identifier of the tag that a range is, if it is one. Most are identifiers alone, and are read as such.
+fn identifier_in(alloc: Global, range: &[u8]) -> Result<Option<LanguageIdentifier>, AllocError>
+    ensures { IfOk result (IsOnly (IsIdentifierOf range.now)) }
+{
+    // a law for the proof: no code runs
+    icu_locale_extensions::laws::identifiers_read_alike();
+    match LanguageIdentifier::try_from_utf8(alloc, range) {
+        Ok(id) => Ok(Some(id)),
+        Err(ParseError::Memory) => Err(AllocError),
+        Err(_) => identifier_of_tag(alloc, range),
+    }
+}
+
+// The same of any tag.
+fn identifier_of_tag(alloc: Global, range: &[u8]) -> Result<Option<LanguageIdentifier>, AllocError>
+    ensures { IfOk result (IsOnly (IsIdentifierOf range.now)) }
+{
+    match read_tag(alloc, range) {
+        Ok(Some(tag)) => Ok(Some(identifier_of(tag))),
+        Ok(None) => Ok(None),
+        Err(error) => Err(error),
+    }
+}
+
+// What wishes refuse, each by its range.
+pub(crate) fn refusals_of(
+    alloc: Global,
+    rules: &CanonicalizerRef<'_>,
+    wishes: &[LentWish<'_>],
+) -> Result<Vec<LanguageIdentifier>, AllocError>
+    ensures { IfOk result (λ list. AreRefusals (likely rules.now.expander) (lent rules.now.rules)
+        (map shown wishes.now) list.items) }
+{
+    let mut list = Vec::new(alloc);
+    for wish in wishes {
+        add_refusal(alloc, rules, &mut list, wish)?;
+    }
+    Ok(list)
+}
+
+// Appends what a wish refuses, if anything, to a list.
+fn add_refusal(
+    alloc: Global,
+    rules: &CanonicalizerRef<'_>,
+    list: &mut Vec<LanguageIdentifier>,
+    wish: &LentWish<'_>,
+) -> Result<(), AllocError>
+    ensures { OnOk result (IsAdded (IsRefusal (likely rules.now.expander) (lent rules.now.rules)
+        wish.now.range.now) list.old.items list.new.items) }
+{
+    match refusal_of(alloc, rules, wish.range) {
+        Ok(Some(id)) => Ok(list.push(id)?),
+        Ok(None) => Ok(()),
+        Err(error) => Err(error),
+    }
+}
+
+// What a range refuses: its canonical form, or itself where it has none, if it is a tag of BCP 47 without extensions. One
+// with extensions begins no identifier.
+fn refusal_of(
+    alloc: Global,
+    rules: &CanonicalizerRef<'_>,
+    range: &[u8],
+) -> Result<Option<LanguageIdentifier>, AllocError>
+    ensures { IfOk result (IsOnly (IsRefusal (likely rules.now.expander) (lent rules.now.rules)
+        range.now)) }
+{
+    // a law for the proof: no code runs
+    icu_locale_extensions::laws::spelled_once_by();
+    let tag = match read_tag(alloc, range) {
+        Ok(Some(tag)) => tag,
+        Ok(None) => return Ok(None),
+        Err(error) => return Err(error),
+    };
+    if !is_plain(&tag) {
+        return Ok(None);
+    }
+    let mut id = identifier_of(tag);
+    match bring(rules, &mut id) {
+        Ok(_) => Ok(Some(id)),
+        Err(error) => Err(error),
+    }
+}
+
+// Whether a locale identifier has no extensions and no private use.
+fn is_plain(tag: &LocaleIdentifier) -> bool
+    ensures { IsTrue result ↔ (tag.now ≡ bare tag.now.locale.id) }
+{
+    if !tag.locale.extensions.unicode.keywords.is_empty() {
+        return false;
+    }
+    if tag.locale.extensions.transform.lang.is_some() {
+        return false;
+    }
+    if !tag.attributes.is_empty() {
+        return false;
+    }
+    if !tag.fields.is_empty() {
+        return false;
+    }
+    if !tag.others.is_empty() {
+        return false;
+    }
+    tag.private_use.is_none()
 }
 
 fn identifier_of(tag: LocaleIdentifier) -> LanguageIdentifier

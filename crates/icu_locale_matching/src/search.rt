@@ -1,10 +1,13 @@
 //! The search for the nearest available locale.
-ghost use Rattle.std.specs.Prelude.{◌≡◌, ◌+◌, ◌<◌, ◌*◌, ◌^◌, ℕ, Some, length, option_copied};
+ghost use Rattle.std.specs.Prelude.{◌≡◌, ◌+◌, ◌<◌, ◌*◌, ◌^◌, ℕ, Some, IfSome, true, length, option_copied};
 ghost use Rattle.std.specs.List.{All, filter, slice_get};
-ghost use Rattle.icu_locale_core.specs.laws.Identifiers.{same_parts};
+ghost use Rattle.icu_locale_core.specs.laws.Identifiers.{same_parts, same_texts};
 ghost use Rattle.icu_locale.specs.LikelyTable.{likely};
-ghost use Rattle.icu_locale_matching.specs.Nearest.{is_true, has_language, IsMadeOver, IsLeastOf, IsOffer};
+ghost use Rattle.icu_locale_matching.specs.Nearest.{is_true, has_language, IsMadeOver, IsLeastOf, IsOffer, IsSpelledFirst};
 ghost use Rattle.icu_locale_matching.specs.inner.Asked.{may_shown, asked_of, IsOfferBefore, IsOfferAt, Beats, BeatsEach, Improves, IsRowOf, IsWithin, IsAsked, IsRankAt, later_limit, limit, lesser};
+ghost use Rattle.icu_locale_matching.specs.Distance.{levels_for, serving_of};
+ghost use Rattle.icu_locale_matching.specs.inner.Known.{AreServing};
+ghost use Rattle.icu_provider.specs.declared.matching.LanguageMatching.{LanguageMatching as TheMatching};
 ghost use Rattle.icu_provider.specs.declared.matching.MatchRule.{MatchRule};
 ghost use Rattle.icu_locale_matching.specs.declared.rank.Rank.{Rank as TheRank};
 
@@ -13,6 +16,7 @@ use crate::distances::{LentLevels, levels_for};
 use crate::limits::MatchLimits;
 use crate::macros::is_macro;
 use crate::rank::Rank;
+use crate::spellings::place_spelled;
 use icu_locale::LocaleExpander;
 use icu_locale_core::LanguageIdentifier;
 use icu_provider::{DataLocale, LanguageMatching};
@@ -43,6 +47,8 @@ pub(crate) struct Asked<'q, 'd> {
     levels: LentLevels<'d>,
     // Which of the first region rules have a desired pattern that fits.
     known: [bool; 8],
+    // No distance of two regions is less.
+    least: u16,
     demoted: u32,
 }
 
@@ -69,6 +75,36 @@ impl<'r> Search<'r> {
             limits,
             candidates,
             may,
+        }
+    }
+
+    // The place of the first request in its own spelling, where that is known and may be served.
+    pub(crate) fn spelled_first(&self, requests: &[LanguageIdentifier]) -> Option<usize>
+        requires { IsMadeOver (likely self.now.expander) self.now.matching.now
+            self.now.candidates.now }
+        ensures room { IfSome result (λ j. 0 < self.now.limits.threshold) }
+        ensures first { IfSome result (IsSpelledFirst (asked_of self.now requests.now)) }
+    {
+        if self.limits.threshold == 0 {
+            return None;
+        }
+        let [request, ..] = requests else {
+            return None;
+        };
+        match place_spelled(&self.candidates.spelled, request) {
+            Some(place) => self.served_at(place),
+            None => None,
+        }
+    }
+
+    // A place, if it may be served.
+    fn served_at(&self, place: usize) -> Option<usize>
+        ensures { IfSome result (λ j. (j ≡ place) × (may_shown self.now.may place ≡ true)) }
+    {
+        if self.may_serve(place) {
+            Some(place)
+        } else {
+            None
         }
     }
 
@@ -110,6 +146,7 @@ impl<'r> Search<'r> {
         let is_macro = is_macro(&self.matching.macros, &form.region);
         let levels = levels_for(self.matching, &form.language);
         let known = levels.region.known(&form);
+        let least = levels.region.least();
         let asked = Asked {
             requests,
             place,
@@ -118,6 +155,7 @@ impl<'r> Search<'r> {
             is_macro,
             levels,
             known,
+            least,
             demoted,
         };
         self.best_for(&asked, best)
@@ -215,9 +253,12 @@ impl<'r> Search<'r> {
         }
         let limit = self.limit(&best).saturating_sub(asked.demoted);
         let any_macro = asked.is_macro || candidate.is_macro;
+        let serving = serving_for(&asked.form, candidate);
         match asked.levels.distance_below(
             any_macro,
             &asked.known,
+            serving,
+            asked.least,
             &asked.form,
             &candidate.form,
             limit,
@@ -249,6 +290,7 @@ impl<'r> Search<'r> {
             cost: distance + asked.demoted,
             request: asked.place,
             spelled_otherwise: !is_same(asked.request, identifier),
+            varied: !has_same_variants(asked.request, identifier),
             unlikeliness: candidate.unlikeliness,
             off_paradigm: candidate.off_paradigm,
             available: candidate.place,
@@ -289,6 +331,21 @@ impl<'r> Search<'r> {
     }
 }
 
+// Which region rules of the language of a request are known to fit a candidate: those of its own language.
+fn serving_for<'c>(form: &DataLocale, candidate: &'c Candidate) -> &'c [bool]
+    ensures { (t : TheMatching)
+        → candidate.now.serving ≡ serving_of
+        (levels_for t candidate.now.form.language).region.rules candidate.now.form
+        → AreServing (levels_for t form.now.language).region.rules candidate.now.form
+        result.now }
+{
+    if candidate.form.language == form.language {
+        &candidate.serving
+    } else {
+        &[]
+    }
+}
+
 // Whether true is there.
 fn is_true(given: Option<&bool>) -> bool
     ensures { result ≡ is_true (option_copied given.entry) }
@@ -307,6 +364,13 @@ fn lesser(best: Option<Rank>, rank: Rank) -> Rank
         Some(best) => { if rank < best { rank } else { best } }
         None => rank,
     }
+}
+
+// Whether two identifiers have equal variants.
+fn has_same_variants(one: &LanguageIdentifier, other: &LanguageIdentifier) -> bool
+    ensures { result ≡ same_texts one.now.variants other.now.variants }
+{
+    one.variants == other.variants
 }
 
 // Whether two identifiers are equal.

@@ -1,5 +1,5 @@
 //! From the bytes of a header to the place of what is served.
-ghost use Rattle.std.specs.Prelude.{◌≡◌, [], IfOk, IsOk};
+ghost use Rattle.std.specs.Prelude.{◌≡◌, [], false, IfOk, IsOk};
 ghost use Rattle.std.specs.Coded.{codes};
 ghost use Rattle.std.specs.List.{position};
 ghost use Rattle.std.specs.Option.{option_or};
@@ -15,7 +15,7 @@ use crate::filtering::allowed;
 use crate::header::AcceptLanguage;
 use crate::limits::MatchLimits;
 use crate::matcher::{LocaleMatcher, Match};
-use crate::requests::{canonical_forms, requests_of};
+use crate::requests::{canonical_forms, refusals_of, requests_of};
 use icu_locale::CanonicalizerRef;
 use icu_locale_core::LanguageIdentifier;
 use icu_provider::LanguageMatching;
@@ -135,9 +135,10 @@ impl<'r> LocaleServer<'r> {
 
     /// The place of what is served for the header Accept-Language, in its bytes. Each range is read as a tag of BCP 47,
     /// brought to its canonical form, and asks for that without extensions; one that has none is passed over. What a
-    /// refused range is or begins is taken out. Of the rest the nearest is served, else the first where `*` is wanted,
-    /// else none. It takes memory for the wishes, for what they ask for, and, where a range is refused, for a mark an
-    /// available identifier.
+    /// refused range is or begins is taken out, and where `*` is refused, what no wanted range is or begins; one with
+    /// extensions refuses nothing. Of the rest the nearest is served, else the first where `*` is wanted, else none. It
+    /// takes memory for the wishes, for what they ask for, and, where a range is refused, for a mark an available
+    /// identifier.
     ///
     /// # Errors
     ///
@@ -251,9 +252,16 @@ fn place_for(
     }) header.now) }
 {
     let requests = requests_of(alloc, rules, header.wanted())?;
-    let out = requests_of(alloc, rules, header.refused())?;
+    let out = refusals_of(alloc, rules, header.refused())?;
     let matcher = LocaleMatcher::over(rules.expander, matching, limits, &served.candidates);
-    choice_without(alloc, &matcher, &requests, &out, header.wants_any())
+    choice_without(
+        alloc,
+        &matcher,
+        &requests,
+        &out,
+        header.refuses_any(),
+        header.wants_any(),
+    )
 }
 
 // The choice among what no refused range begins.
@@ -262,15 +270,16 @@ fn choice_without(
     matcher: &LocaleMatcher<'_>,
     requests: &[LanguageIdentifier],
     out: &[LanguageIdentifier],
+    named: bool,
     any: bool,
 ) -> Result<Option<usize>, AllocError>
-    ensures { IfOk result (IsChoice matcher.now requests.now (allowed out.now matcher.now.available)
-        any) }
+    ensures { IfOk result (IsChoice matcher.now requests.now
+        (allowed requests.now out.now named matcher.now.available) any) }
 {
-    if out.is_empty() {
+    if out.is_empty() && !named {
         return Ok(choice_of_all(matcher, requests, any));
     }
-    let may = allowed(alloc, out, matcher.available())?;
+    let may = allowed(alloc, requests, out, named, matcher.available())?;
     Ok(choice(matcher, requests, &may, any))
 }
 
@@ -281,18 +290,24 @@ fn choice_of_all(
     requests: &[LanguageIdentifier],
     any: bool,
 ) -> Option<usize>
-    ensures { IsChoice matcher.now requests.now (allowed [] matcher.now.available) any result }
+    ensures { IsChoice matcher.now requests.now
+        (allowed requests.now [] false matcher.now.available) any result }
 {
     match place_of(matcher.nearest(requests)) {
         Some(place) => Some(place),
-        None => first_of(any, matcher.available()),
+        None => first_of(requests, any, matcher.available()),
     }
 }
 
 // The first identifier, where any is wanted.
-fn first_of(any: bool, identifiers: &[LanguageIdentifier]) -> Option<usize>
-    ensures { result ≡ first_allowed any (allowed [] identifiers.now) }
+fn first_of(
+    requests: &[LanguageIdentifier],
+    any: bool,
+    identifiers: &[LanguageIdentifier],
+) -> Option<usize>
+    ensures { result ≡ first_allowed any (allowed requests.now [] false identifiers.now) }
 {
+    let _ = requests;
     if any && !identifiers.is_empty() {
         Some(0)
     } else {

@@ -1,14 +1,19 @@
 -- What is added to a list of requests.
 use Rattle.std.specs.Prelude.{◌≡◌, ℕ, List, [], ◌++◌, Option}
 use Rattle.std.specs.List.{cons_option}
+use Rattle.icu_locale_extensions.specs.declared.identifier.LocaleIdentifier.{LocaleIdentifier}
 use Rattle.icu_locale_core.specs.declared.langid.LanguageIdentifier.{LanguageIdentifier}
-use Rattle.icu_locale.specs.LikelySubtags.{LikelySubtags}
-use Rattle.icu_locale.specs.declared.canonicalizer.rules.Rules.{Rules}
-use Rattle.icu_locale_matching.specs.Requests.{IsOnly, IsRequest}
+use Rattle.icu_locale_matching.specs.Requests.{IsOnly, IsTag}
 
--- what a range asks for, if anything, is appended to a list
-pub record IsAdded (likely : LikelySubtags) (rules : Rules) (range : List ℕ)
-    (old new : List LanguageIdentifier) : Type 0 where
+-- what stands for a range by P, if anything, is appended to a list
+pub record IsAdded (P : LanguageIdentifier → Type 0) (old new : List LanguageIdentifier)
+    : Type 0 where
   pub asked : Option LanguageIdentifier
-  pub only : IsOnly (IsRequest likely rules range) asked
+  pub only : IsOnly P asked
   pub is : new ≡ old ++ cons_option asked []
+
+-- the identifier of a tag that the range spells
+pub record IsIdentifierOf (range : List ℕ) (y : LanguageIdentifier) : Type 0 where
+  pub tag : LocaleIdentifier
+  pub is : IsTag range tag
+  pub at : tag.locale.id ≡ y

@@ -1,15 +1,16 @@
 -- How the nearest is found: request by request, and group by group.
-use Rattle.std.specs.Prelude.{◌≡◌, ◌⊎◌, ℕ, ◌+◌, ◌*◌, ◌<◌, Bool, true, Option, Some, None, List, length, IfSome, if◌then◌else◌}
+use Rattle.std.specs.Prelude.{◌≡◌, ◌⊎◌, ℕ, ◌+◌, ◌*◌, ◌<◌, ◌≤◌, Bool, true, Option, Some, None, List, length, IfSome, if◌then◌else◌}
 use Rattle.std.specs.List.{slice_get}
 use Rattle.std.specs.Ordering.{is_lt, is_le}
 use Rattle.icu_locale_core.specs.declared.langid.LanguageIdentifier.{LanguageIdentifier}
 use Rattle.icu_locale.specs.LikelySubtags.{LikelySubtags}
 use Rattle.icu_locale.specs.LikelyTable.{likely}
+use Rattle.icu_provider.specs.declared.data_locale.DataLocale.{DataLocale}
 use Rattle.icu_provider.specs.declared.matching.LanguageMatching.{LanguageMatching}
-use Rattle.icu_locale_matching.specs.Distance.{levels_for, is_macro}
+use Rattle.icu_locale_matching.specs.Distance.{levels_for, level_distance, is_macro}
 use Rattle.icu_locale_matching.specs.Nearest.{Question, all_may, may_of, IsOffer, candidate_of, form_of, rank_cmp, rank_at}
 use Rattle.icu_locale_matching.specs.inner.Known.{AreKnown}
-use Rattle.icu_locale_matching.specs.inner.Levels.{shown}
+use Rattle.icu_locale_matching.specs.inner.Levels.{shown, shown_level}
 use Rattle.icu_locale_matching.specs.declared.candidates.Candidate.{Candidate}
 use Rattle.icu_locale_matching.specs.declared.rank.Rank.{Rank}
 use Rattle.icu_locale_matching.specs.declared.search.Asked.{Asked}
@@ -79,6 +80,8 @@ pub record IsAsked (m : Search) (a : Asked) : Type 0 where
   pub is_macro : a.is_macro ≡ is_macro m.matching.now.macros a.form.region
   pub levels : shown a.levels ≡ levels_for m.matching.now a.form.language
   pub known : AreKnown a.levels.region.rules.now a.form a.known
+  pub least : (d s : DataLocale)
+      → a.least ≤ level_distance (shown_level a.levels.region) d s
   pub demoted : a.demoted ≡ m.limits.demotion * a.place
 
 -- what a rank of a later request has to cost less than, to be less

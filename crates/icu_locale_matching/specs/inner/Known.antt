@@ -4,7 +4,7 @@ use Rattle.std.specs.List.{slice_get}
 use Rattle.std.specs.Option.{option_map_or}
 use Rattle.icu_provider.specs.declared.data_locale.DataLocale.{DataLocale}
 use Rattle.icu_provider.specs.declared.matching.MatchRule.{MatchRule}
-use Rattle.icu_locale_matching.specs.Distance.{fits_pattern}
+use Rattle.icu_locale_matching.specs.Distance.{fits_pattern, serves_at}
 
 -- the desired pattern of the rule at a place fits; false past the end
 abbrev pub fits_at : List MatchRule → DataLocale → ℕ → Bool
@@ -13,3 +13,8 @@ fits_at rules d k = option_map_or (λ r. fits_pattern r.desired d) (slice_get ru
 -- for the first rules it is known whether the desired pattern fits
 abbrev pub AreKnown : List MatchRule → DataLocale → List Bool → Type 0
 AreKnown rules d known = (k : ℕ) (b : Bool) → slice_get known k ≡ Some b → b ≡ fits_at rules d k
+
+-- for the first rules it is known whether they are for the language of a supported form, and fit it
+abbrev pub AreServing : List MatchRule → DataLocale → List Bool → Type 0
+AreServing rules s serving =
+    (k : ℕ) (b : Bool) → slice_get serving k ≡ Some b → b ≡ serves_at rules s k

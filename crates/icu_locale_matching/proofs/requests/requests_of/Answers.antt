@@ -2,8 +2,8 @@ use Rattle.std.proofs.Common.{[], sym, subst, map, take, ◌+◌}
 use Rattle.icu_locale.specs.LikelyTable.{likely}
 use Rattle.icu_locale.specs.RuleSet.{lent}
 use Rattle.icu_locale_matching.specs.Header.{shown}
-use Rattle.icu_locale_matching.specs.Requests.{AreRequests}
-use Rattle.icu_locale_matching.proofs.Brought.{requests_next}
+use Rattle.icu_locale_matching.specs.Requests.{IsRequest, AreRequests}
+use Rattle.icu_locale_matching.proofs.Brought.{asked_next}
 use Rattle.icu_locale_matching.proofs.requests.requests_of.Goals as goal
 
 pub loop-wish-preserved : goal.loop-wish-preserved
@@ -14,5 +14,5 @@ loop-wish-preserved c =
     let i = c.loop-wish.wish-index in
     let added = c.in_ok-add_request.ensures in
     subst (AreRequests l r (map shown (take (i + 1) ws))) (sym added.is)
-    (requests_next l r ws i (record { range = record { ref_ptr = (0, 0); now = [] }; weight = 0 }) c.loop-wish.list.items added.asked c.loop-wish-test.true
+    (asked_next (IsRequest l r) ws i (record { range = record { ref_ptr = (0, 0); now = [] }; weight = 0 }) c.loop-wish.list.items added.asked c.loop-wish-test.true
     c.loop-wish.invariant added.only)

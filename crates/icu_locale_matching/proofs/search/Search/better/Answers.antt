@@ -1,8 +1,12 @@
-use Rattle.std.proofs.Common.{◌≡◌, ◌+◌, ◌<◌, ◌≤◌, Some, sym, ap, ◌∙◌, subst, arith}
+use Rattle.std.proofs.Common.{List, ◌≡◌, ◌+◌, ◌<◌, ◌≤◌, Some, sym, ap, ◌∙◌, subst, arith}
 use Rattle.icu_locale_matching.specs.declared.candidates.Candidate.{Candidate}
 use Rattle.std.proofs.lemmas.Bool.{false≢true}
 use Rattle.std.proofs.lemmas.Option.{same_Some}
 use Rattle.icu_locale.specs.LikelyTable.{likely}
+use Rattle.icu_provider.specs.declared.data_locale.DataLocale.{DataLocale}
+use Rattle.icu_provider.specs.declared.matching.MatchRule.{MatchRule}
+use Rattle.icu_locale_matching.specs.Distance.{Levels, levels_for, serving_of}
+use Rattle.icu_locale_matching.specs.inner.Known.{AreServing}
 use Rattle.icu_locale_matching.specs.Nearest.{form_of, rank_at, rank_of}
 use Rattle.icu_locale_matching.specs.inner.Asked.{asked_of, limit, lesser, Improves, Beats}
 use Rattle.icu_locale_matching.proofs.Ranks.{limit_within, asked_distance, improves_itself, pair_beaten, lesser_improves, lesser_beats}
@@ -61,3 +65,17 @@ returns-in-Some c =
       beats = λ s o at. subst (λ t. Beats (Some t) s) (sym all)
           (lesser_beats q a.place d.place a.request.now y c.requires.asked.stands r.offered may c.args.best s o at);
     }
+
+-- what serves is that of its own language
+pub distance_below-requires-clause-serving : goal.distance_below-requires-clause-serving
+distance_below-requires-clause-serving c =
+    let m = c.args.self.now in
+    let a = c.args.asked.now in
+    let d = c.args.candidate.now in
+    let t = m.matching.now in
+    let form = ap (λ (e : Candidate). e.form) c.requires.row.is in
+    let marked : d.serving ≡ serving_of (levels_for t d.form.language).region.rules d.form =
+    ap (λ (e : Candidate). e.serving) c.requires.row.is
+    ∙ ap (λ (x : DataLocale). serving_of (levels_for t x.language).region.rules x) (sym form) in
+    let rules : a.levels.region.rules.now ≡ (levels_for t a.form.language).region.rules = ap (λ (l : Levels). l.region.rules) c.requires.asked.levels in
+    subst (λ (rs : List MatchRule). AreServing rs d.form c.serving_for-serving.result.now) (sym rules) (c.serving_for-serving.ensures t marked)

@@ -1,0 +1,94 @@
+-- One more place of an identifier in its own spelling.
+use Rattle.std.proofs.Common.{◌≡◌, ◌≢◌, ◌⊎◌, ℕ, ◌+◌, ◌≤◌, List, Option, Some, None, IfSome, true, refl, ap, sym, ◌∙◌, inl, inr, ⊎_elim, arith}
+use Rattle.std.specs.List.{slice_get}
+use Rattle.std.specs.declared.cmp.Ordering.{Ordering}
+use Rattle.std.specs.declared.cmp.Ordering.TheVariants.{Less, Equal, Greater}
+use Rattle.std.proofs.lemmas.Bool.{cases_lt}
+use Rattle.std.proofs.lemmas.Option.{same_Some}
+use Rattle.icu_locale_core.specs.TextSet.{empty}
+use Rattle.icu_locale_core.specs.declared.langid.LanguageIdentifier.{LanguageIdentifier}
+use Rattle.icu_provider.specs.SortedMaps.{Holds}
+use Rattle.icu_provider.specs.Requests.{key_order}
+use Rattle.icu_provider.specs.laws.Requests.{same_key, key_itself}
+use Rattle.icu_provider.specs.contracts.names.NameKeyOrd.TheImpl as name_key
+use Rattle.icu_provider.specs.declared.names.NameKey.{NameKey}
+use Rattle.icu_locale_matching.specs.Nearest.{Question, IsSpelledFirst}
+use Rattle.icu_locale_matching.specs.Spelled.{key_of, place_at, AreSpelled}
+
+tie_or_not : (o : Ordering) → (o ≡ Equal) ⊎ (o ≢ Equal)
+tie_or_not Less = inr (λ e. absurd (cc))
+tie_or_not Equal = inl refl
+tie_or_not Greater = inr (λ e. absurd (cc))
+
+at_or_after : (n k : ℕ) → n ≤ k → (k ≡ n) ⊎ (n + 1 ≤ k)
+at_or_after n k le = ⊎_elim (λ later. inr (omega arith)) (λ upto. inl (omega arith)) (cases_lt n k)
+
+-- identifiers without variants are told by their keys
+same_spelled : (x y : LanguageIdentifier) → x.variants ≡ empty → y.variants ≡ empty → key_of x ≡ key_of y → x ≡ y
+same_spelled x y plain other same =
+    let language : x.language ≡ y.language = cc in
+    let script : x.script ≡ y.script = cc in
+    let region : x.region ≡ y.region = cc in
+    λ i. record {
+      language = language i;
+      script = script i;
+      region = region i;
+      variants = (plain ∙ sym other) i;
+    }
+
+tied_same : (y x : LanguageIdentifier) → y ≡ x → ((a b : NameKey) → name_key.ghosts.cmp a b ≡ key_order a b)
+    → name_key.ghosts.cmp (key_of y) (key_of x) ≡ Equal
+tied_same y x same ordered = ordered (key_of y) (key_of x) ∙ ap (key_order (key_of y)) (ap key_of (sym same)) ∙ key_itself (key_of y)
+
+module _ (xs : List LanguageIdentifier) (n : ℕ) (y : LanguageIdentifier) (stands : slice_get xs n ≡ Some y) where
+  -- one that has variants is nowhere noted
+  pub passed_over : (rows : List (NameKey × ℕ)) → (y.variants ≡ empty → ⊥) → AreSpelled xs (n + 1) rows → AreSpelled xs n rows
+  passed_over rows varied known = record {
+    each = λ x j plain noted.
+        let later = known.each x j plain noted in record {
+          from = omega (arith, later.from);
+          at = later.at;
+          first = λ k from is. ⊎_elim
+              (λ here. absurd (varied (ap (λ (z : LanguageIdentifier). z.variants) (same_Some y x (sym stands ∙ ap (slice_get xs) (sym here) ∙ is)) ∙ plain)))
+              (λ after. later.first k after is)
+              (at_or_after n k from);
+        };
+  }
+
+  pub more_spelled : (old new : List (NameKey × ℕ)) → ((a b : NameKey) → name_key.ghosts.cmp a b ≡ key_order a b)
+      → y.variants ≡ empty → Holds name_key.ghosts.cmp old new (key_of y) n → AreSpelled xs (n + 1) old → AreSpelled xs n new
+  more_spelled old new ordered bare holds known = record {
+    each = λ x j plain noted. ⊎_elim
+        (λ tied.
+        let same : y ≡ x = same_spelled y x bare plain (same_key (key_of y) (key_of x) (sym (ordered (key_of y) (key_of x)) ∙ tied)) in
+        let place : j ≡ n = same_Some j n (sym noted ∙ ap (place_at new) (sym same) ∙ holds.found) in
+        record {
+          from = omega (arith, place);
+          at = ap (slice_get xs) place ∙ stands ∙ ap Some same;
+          first = λ k from is. omega (arith, place, from);
+        })
+        (λ other.
+        let later = known.each x j plain (sym (holds.others (key_of x) other) ∙ noted) in record {
+          from = omega (arith, later.from);
+          at = later.at;
+          first = λ k from is. ⊎_elim
+              (λ here. absurd (other (tied_same y x (same_Some y x (sym stands ∙ ap (slice_get xs) (sym here) ∙ is)) ordered)))
+              (λ after. later.first k after is)
+              (at_or_after n k from);
+        })
+        (tie_or_not (name_key.ghosts.cmp (key_of y) (key_of x)));
+  }
+
+-- the place that is noted for the first request, if it may be served
+pub spelled_at : (q : Question) (x : LanguageIdentifier) (j : ℕ) (rows : List (NameKey × ℕ)) (o : Option ℕ) → slice_get q.requests 0 ≡ Some x
+    → AreSpelled q.available 0 rows → x.variants ≡ empty → place_at rows x ≡ Some j → IfSome o (λ k. (k ≡ j) × (q.may j ≡ true))
+    → IfSome o (IsSpelledFirst q)
+spelled_at q x j rows None stands known plain noted served = tt
+spelled_at q x j rows (Some k) stands known plain noted served =
+    let place = known.each x j plain noted in record {
+      request = x;
+      requested = stands;
+      offered = ap (slice_get q.available) served.0 ∙ place.at;
+      may = ap q.may served.0 ∙ served.1;
+      first = λ l is may. let upto = place.first l (omega arith) is in omega (arith, upto, served.0);
+    }
