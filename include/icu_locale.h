@@ -22,11 +22,17 @@
  * - One call at a time is made on a handle. Other threads may use other handles at the same time, also those to the
  *   same tables. A handle may go to another thread, by what orders the two: a thread's start or join, or a lock.
  * - A pointer and the length after it are a slice: as many bytes can be read there, at `out` as many can be written.
- *   No pointer is null, not even where the length is 0. Lengths are at most PTRDIFF_MAX.
- * - `out`, `written`, `request`, `available`, a handle and the slices that are read share no byte with each other. The
- *   two handles of icu_locale_share are two, and so are those of icu_locale_available and icu_locale_available_in.
+ *   No pointer is null, not even where the length is 0. Lengths are at most PTRDIFF_MAX. What is read does not change
+ *   during the call, by no other thread and by no file that is mapped there.
+ * - `written`, `request`, `available` and a handle are whole, and aligned as their types want.
+ * - `out`, `written`, `request`, `available` and a handle share no byte with each other, nor with a slice that is read.
+ *   Slices that are read may overlap. The two handles of icu_locale_share are two, and so are those of
+ *   icu_locale_available and icu_locale_available_in.
  * - malloc, realloc and free are those of one allocator, and align as the C standard says. No call is made in a signal
  *   handler, nor in the child of a fork in a process that has threads.
+ *
+ * An answer has the bytes of the tables, a NUL or a line feed among them where a name has one, and is ended by neither:
+ * `written` is its length.
  *
  * What holds whatever the bytes say: no call reads or writes outside of what it was given, each call returns, and a
  * handle that was never opened, was closed, or is opened or closed again has an answer and no fault.
@@ -40,6 +46,9 @@
 #ifdef __cplusplus
 extern "C" {
 #endif
+
+/* The version of this header, and of the library that was built with it. */
+#define ICU_LOCALE_VERSION "0.4.0"
 
 /* A handle to tables, and to a list of what is available where icu_locale_available or icu_locale_available_in has made it.
    Null says that it is closed. What it points to is the library's. */
@@ -87,7 +96,7 @@ enum {
     /* icu_locale_open and icu_locale_supplement: the JSON has not the shape of tables, or of a supplement. */
     ICU_LOCALE_SHAPE = 6,
 
-    /* icu_locale_answer: the words are those of no command that answers lines. icu_locale_available_in and
+    /* icu_locale_answer: no command has these words. icu_locale_available_in and
        icu_locale_negotiate_in: the word is that of no syntax. */
     ICU_LOCALE_COMMAND = 7,
 
@@ -125,7 +134,8 @@ int32_t icu_locale_open(const uint8_t *json, size_t json_length, struct icu_loca
  * Nothing of the text is kept. docs/supplement.schema.json says what it looks like.
  *
  * ICU_LOCALE_DONE: the tables have this supplement. What the handle holds besides is as it was.
- * ICU_LOCALE_CLOSED, ICU_LOCALE_JSON, ICU_LOCALE_SHAPE, ICU_LOCALE_SHARED, ICU_LOCALE_MEMORY: all is as it was.
+ * ICU_LOCALE_CLOSED, ICU_LOCALE_JSON, ICU_LOCALE_SHAPE, ICU_LOCALE_SHARED, ICU_LOCALE_MEMORY: all is as it was. A closed
+ * handle is told before the text is read, and that other handles have the tables after it.
  */
 int32_t icu_locale_supplement(struct icu_locale *handle, const uint8_t *json, size_t json_length);
 
@@ -140,8 +150,8 @@ int32_t icu_locale_share(struct icu_locale *from, struct icu_locale *to);
 
 /*
  * Answers one line. `command` is the program's words, one space between two: `maximize`, `minimize`, `minimize-script`,
- * `canonicalize`, `direction`, `fallback`, `distance`, `name CHAIN PREFERENCES` as in `name light en`, or `negotiate`,
- * `serve` or `nearest` where the handle holds a list of what is available. `line` is one line of the program's input
+ * `canonicalize`, `direction`, `fallback`, `distance`, `parts`, `name CHAIN PREFERENCES` as in `name light en`, or
+ * `negotiate`, `serve` or `nearest` where the handle holds a list of what is available. `line` is one line of the program's input
  * without its line feed: an identifier, or at `canonicalize` an identifier, or an identifier, a tab and a value; at
  * `distance` two identifiers, at `negotiate` and `nearest` the requests of one reader, and at `serve` a header
  * Accept-Language. `serve`, `nearest` and `distance` ask the rules of language matching of the tables' supplement.
@@ -196,6 +206,7 @@ int32_t icu_locale_available(struct icu_locale *from, const uint8_t *list, size_
  *
  * ICU_LOCALE_MET: `request` and `available` are the places.
  * ICU_LOCALE_NOT_MET, ICU_LOCALE_CLOSED, ICU_LOCALE_NEGOTIATE, ICU_LOCALE_LIST, ICU_LOCALE_MEMORY: both are as they were.
+ * A closed handle is told first, then a list that is not there, then requests that are none.
  *
  * The list and the tables stay. Memory is taken for the list of requests and for their variants alone.
  */

@@ -59,6 +59,7 @@ work_without_list asked t list ws w of = record { syntax = (of []).0.syntax; too
     by task.Fallback are same = are
     by (task.Serve wishes) are same = absurd (never (same (10 ∷ [])))
     by task.Distance are same = are
+    by task.Parts are same = are
 
 -- the line of a work over what is held
 module _ (h : Held) (asked : LineCommand) (w : Work) (line whole : List ℕ) (r : Result Bool Refusal) where
@@ -85,6 +86,7 @@ asks_none (task.Name chain preferences) negotiates serves = refl
 asks_none task.Fallback negotiates serves = refl
 asks_none (task.Serve w) negotiates serves = absurd (serves w refl)
 asks_none task.Distance negotiates serves = refl
+asks_none task.Parts negotiates serves = refl
 
 -- a task that asks for no list is refused for a table alone
 pub loaded_table : (asked : LineCommand) (t : Tables) (e : CliError) → asks_list asked.task ≡ false → (e ≡ Data not_found) ⊎ (e ≡ NotSettled)
@@ -106,6 +108,7 @@ never_lists asked t l none waits = by asked.task none waits.over
     by task.Fallback none lists = lists
     by (task.Serve w) none lists = false≢true (sym none)
     by task.Distance none lists = lists
+    by task.Parts none lists = lists
 
 -- why a line gives no places is told by the line, where a list is held
 pub refused_requests : {A : Type 0} (syntax : Option Syntax) (h : Held) (line : List ℕ) (r : Result A Refusal) → is_some h.available ≡ true

@@ -20,7 +20,7 @@ use Rattle.icu_tables.specs.declared.tables.Tables.{Tables}
 use Rattle.icu_locale_lines.specs.Loads.{AreRulesOf, IsCanonicalizerOf, IsExpanderOf}
 use Rattle.icu_locale_lines.specs.laws.Expanders.{same_likely}
 use Rattle.icu_locale_lines.specs.declared.command.Task.{Task}
-use Rattle.icu_locale_lines.specs.declared.command.Task.TheVariants.{Transform, Canonicalize, Direction, Negotiate, Name, Fallback, Serve, Distance}
+use Rattle.icu_locale_lines.specs.declared.command.Task.TheVariants.{Transform, Canonicalize, Direction, Negotiate, Name, Fallback, Serve, Distance, Parts}
 use Rattle.icu_locale_lines.specs.declared.command.Wishes.{Wishes}
 use Rattle.icu_locale_c.specs.Held.{AreKept, HasKept, IsServedOver, IsServerOver, held}
 use Rattle.icu_locale_c.specs.declared.kept.Kept.{Kept}
@@ -141,3 +141,4 @@ nothing_kept (Name chain preferences) kept rules served = tt
 nothing_kept Fallback kept rules served = tt
 nothing_kept (Serve w) kept rules served = absurd (served w refl)
 nothing_kept Distance kept rules served = tt
+nothing_kept Parts kept rules served = tt

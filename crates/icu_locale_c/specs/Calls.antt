@@ -9,10 +9,13 @@ use Rattle.icu_tables.specs.Supplement as further
 use Rattle.icu_tables.specs.declared.error.TableError.TheVariants as table
 use Rattle.icu_tables.specs.declared.supplement.Supplement.{Supplement}
 use Rattle.icu_locale_lines.specs.Answers.{IsAnswer}
-use Rattle.icu_locale_lines.specs.Commands.{AreStreamWords, has_tables}
+use Rattle.icu_locale_lines.specs.Commands.{has_tables}
+use Rattle.icu_locale_lines.specs.Grammar.{parse}
 use Rattle.icu_locale_lines.specs.Lists.{is_space}
 use Rattle.icu_locale_lines.specs.WholeRuns.{TellsSettled}
 use Rattle.icu_locale_lines.specs.declared.command.Command.TheVariants.{Settled, Lines}
+use Rattle.icu_locale_lines.specs.declared.asked.Asked.{Asked}
+use Rattle.icu_locale_lines.specs.declared.asked.Source.TheVariants.{Sample}
 use Rattle.icu_locale_lines.specs.declared.command.LineCommand.{LineCommand}
 use Rattle.icu_locale_lines.specs.declared.work.Work.{Work}
 use Rattle.icu_locale_c.specs.Asked.{HasList, asks_list}
@@ -20,17 +23,17 @@ use Rattle.icu_locale_c.specs.Held.{Held, IsWorkOver, without_list}
 use Rattle.icu_locale_c.specs.declared.refusal.Refusal.{Refusal}
 use Rattle.icu_locale_c.specs.declared.refusal.Refusal.TheVariants as refusal
 
+-- a command is asked for, without a bound and over the tables that are held
+abbrev pub plainly : LineCommand → Asked
+plainly c = record { longest = None; command = Lines c; source = Sample }
+
 -- a text names a command of a stream: its words are between single spaces
 abbrev pub Names : List ℕ → LineCommand → Type 0
-Names command c = AreStreamWords (slice_split is_space command) (Lines c) false
-
--- the words are those of no command that answers lines
-abbrev pub AreNoCommand : List (List ℕ) → Type 0
-AreNoCommand words = (c : LineCommand) → ¬ (AreStreamWords words (Lines c) false)
+Names command c = parse (slice_split is_space command) ≡ Some (plainly c)
 
 -- a text in UTF-8 that names none
 abbrev pub NamesNone : List ℕ → Type 0
-NamesNone command = IsUtf8 command → AreNoCommand (slice_split is_space command)
+NamesNone command = IsUtf8 command → (c : LineCommand) → ¬ (Names command c)
 
 -- a line of the program without its last byte, which is its line feed
 abbrev pub unended : List ℕ → List ℕ

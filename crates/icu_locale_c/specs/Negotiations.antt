@@ -8,7 +8,8 @@ use Rattle.icu_locale.specs.Negotiation.{Negotiation, IsNegotiated}
 use Rattle.icu_tables.specs.declared.tables.Tables.{Tables}
 use Rattle.icu_locale_lines.specs.Lists.{listed, SpellsAll, IsAvailable, IsFirstFault}
 use Rattle.icu_locale_lines.specs.Loads.{has_likely}
-use Rattle.icu_locale_lines.specs.Commands.{IsUnsettled, plain, syntax_word}
+use Rattle.icu_locale_lines.specs.Commands.{IsUnsettled, plain}
+use Rattle.icu_locale_lines.specs.Grammar.{syntax_at}
 use Rattle.icu_locale_lines.specs.declared.command.Command.TheVariants.{Lines}
 use Rattle.icu_locale_lines.specs.declared.command.Task.TheVariants.{Negotiate}
 use Rattle.icu_locale_c.specs.Held.{Held, IsNegotiationOf}
@@ -88,7 +89,7 @@ IsNegotiatedCall syntax held line old new (Err e) =
 -- a word names a syntax, and no word names none
 abbrev pub NamesSyntax : List ℕ → Option Syntax → Type 0
 NamesSyntax word None = word ≡ []
-NamesSyntax word (Some syntax) = word ≡ syntax_word syntax
+NamesSyntax word (Some syntax) = syntax_at word ≡ Some syntax
 
 -- a word is that of no syntax, which is asked before all else
 abbrev pub IsNoSyntax : List ℕ → Refusal → Type 0

@@ -17,6 +17,7 @@ use Rattle.icu_locale_extensions.specs.declared.syntax.Syntax.{Syntax}
 use Rattle.icu_locale.specs.Canonical.{IsCanonical, answer_of, is_applied, put_optional, rg, sd, without_extensions}
 use Rattle.icu_locale.specs.Kinds.{next}
 use Rattle.icu_locale_runs.specs.Run.{EndsAt}
+use Rattle.icu_locale_parts.specs.Parts.{identifier_parts, identifier_parts_text, parts_text, tabbed}
 use Rattle.icu_locale_values.specs.Refusals.{IsWholeRefusal}
 use Rattle.icu_locale_values.specs.Whole.{WholeRules, IsWhole, AreMaps, whole_rules}
 use Rattle.icu_locale_values.specs.declared.error.WholeError.{WholeError}
@@ -26,7 +27,7 @@ use Rattle.icu_locale.specs.LikelySubtags.{LikelySubtags}
 use Rattle.icu_locale.specs.LikelyTable.{likely}
 use Rattle.icu_locale.specs.declared.canonicalizer.rules.Rules.{Rules}
 use Rattle.icu_locale.specs.declared.expander.TransformResult.{TransformResult}
-use Rattle.icu_locale_lines.specs.Answers.{IsAnswerBy, IsIdentifierAnswer, IsLocaleAnswer, IsSpelledAnswer, IsCanonicalized}
+use Rattle.icu_locale_lines.specs.Answers.{IsAnswerBy, IsIdentifierAnswer, IsLocaleAnswer, IsSpelledAnswer, IsCanonicalized, IsParted, IsWholeParted}
 use Rattle.icu_locale_lines.specs.Answers.{IsDirected, IsNamed, IsWholeNamed, IsTransformed, IsWholeTransformed}
 use Rattle.icu_locale_lines.specs.Answers.{HoldsIdentifiers}
 use Rattle.icu_locale_lines.specs.Names.{answers_in, name_asked, name_asked_with, IsNamedLine}
@@ -57,6 +58,9 @@ written_bare y = ap (λ ps. join_by (λ p. p) (codes "-") ps) (append-nil (subta
 
 pub line_bare : (y : LanguageIdentifier) (m : TransformResult) → whole_line (bare y) m ≡ transformed_line y m
 line_bare y m = ap (λ t. t ++ (codes "\t" ++ (mark m ++ codes "\n"))) (written_bare y)
+
+parts_bare : (y : LanguageIdentifier) → parts_text (bare y) ++ codes "\n" ≡ identifier_parts_text y ++ codes "\n"
+parts_bare y = ap (λ t. (t ++ (tabbed (identifier_parts y) ++ codes "\t\t\t\t\t\t")) ++ codes "\n") (written_bare y)
 
 -- ---- the canonical form of an identifier has no extensions
 
@@ -160,6 +164,9 @@ module _ (facts : SyntaxFacts) (s : Syntax) (line text : List ℕ) (a : Bool) wh
         let same = asked_alike facts n n.extensions x in
         (subst (λ name. IsNamedLine name text a) same, subst (λ name. IsNamedLine name text a) (sym same))
 
+    pub parted_alike : IsWholeParted (bare x) text a ↔ IsParted x text a
+    parted_alike = (λ h. (h.0 ∙ parts_bare x, h.1), λ h. (h.0 ∙ sym (parts_bare x), h.1))
+
     pub canonical_answers_alike : (by : WholeRules) → position is_tab line ≡ None
         → IsSpelledAnswer s (IsWholeCanonicalized by) line text a ↔ IsLocaleAnswer by.likely by.rules line text a
     canonical_answers_alike by none =
@@ -193,3 +200,4 @@ module _ (facts : SyntaxFacts) (s : Syntax) (line text : List ℕ) (a : Bool) wh
   answers_alike (tools.Name n) (none, x, is, spells) = each_alike x (is, spells) (IsWholeNamed n) (IsNamed n) (named_alike x (is, spells) n)
   answers_alike (tools.Fallback f) (none, x, is, spells) =
       each_alike x (is, spells) (λ w. IsChained f w.locale.id) (IsChained f) (λ h. h, λ h. h)
+  answers_alike tools.Parts (none, x, is, spells) = each_alike x (is, spells) IsWholeParted IsParted (parted_alike x (is, spells))

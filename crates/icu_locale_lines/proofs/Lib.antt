@@ -1,11 +1,10 @@
 mod Alike
-mod AskedWords
 mod Bounds
 mod Chains
-mod CommandWords
 mod FirstLines
 mod FirstReads
 mod FullNames
+mod Grammar
 mod LineAnswers
 mod Listings
 mod LineCuts

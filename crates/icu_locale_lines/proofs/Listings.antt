@@ -17,7 +17,7 @@ use Rattle.icu_locale_lines.specs.Loads.{IsExpanderOf}
 use Rattle.icu_locale_lines.specs.Refusals.{IsRefusedList, IsFaultyList}
 use Rattle.icu_locale_lines.specs.declared.command.LineCommand.{LineCommand}
 use Rattle.icu_locale_lines.specs.declared.command.Task.{Task}
-use Rattle.icu_locale_lines.specs.declared.command.Task.TheVariants.{Transform, Canonicalize, Direction, Negotiate, Name, Fallback, Serve, Distance}
+use Rattle.icu_locale_lines.specs.declared.command.Task.TheVariants.{Transform, Canonicalize, Direction, Negotiate, Name, Fallback, Serve, Distance, Parts}
 use Rattle.icu_locale_lines.specs.declared.error.CliError.{CliError}
 use Rattle.icu_locale_lines.specs.declared.error.CliError.TheVariants as error
 use Rattle.icu_locale_lines.specs.declared.work.listing.ListedOver.TheVariants as owner
@@ -38,6 +38,7 @@ left_behind (Name chain preferences) t o h input = absurd h
 left_behind Fallback t o h input = absurd h
 left_behind (Serve wishes) t o h input = refl
 left_behind Distance t o h input = absurd h
+left_behind Parts t o h input = absurd h
 
 pub listing_left : (c : LineCommand) (t : Tables) (listing : Listing) → IsListing c t listing → (input : List ℕ)
     → text_answered c input ≡ after_first_line input
@@ -65,6 +66,7 @@ lists_by (Serve wishes) t (over.Serve how k m) h =
     let matching = ap is_some h.2 in
     λ i. matching i && ((language i && script_region i) && aliases i)
 lists_by Distance t o h = absurd h
+lists_by Parts t o h = absurd h
 
 pub lists_over : (c : LineCommand) (t : Tables) (listing : Listing) → IsListing c t listing → ListsOver c.task t
 lists_over c t listing is = lists_by c.task t listing.over is.over
@@ -84,6 +86,7 @@ module _ (syntax : Option Syntax) (t : Tables) (input : List ℕ) where
   negotiate_tools Fallback e n offered h same spelled = absurd h
   negotiate_tools (Serve wishes) e n offered h same spelled = absurd h
   negotiate_tools Distance e n offered h same spelled = absurd h
+  negotiate_tools Parts e n offered h same spelled = absurd h
 
   serve_tools : (task : Task) (how : _) (k : _) (m : _) (s : Service) (offered : Bor Offered) → ListsBy task t (over.Serve how k m)
       → s.expander ≡ k.expander → s.rules ≡ lent k.rules → s.matching ≡ m.now → s.limits ≡ record { threshold = 50; demotion = 5 }
@@ -106,6 +109,7 @@ module _ (syntax : Option Syntax) (t : Tables) (input : List ℕ) where
     spelled,
   )
   serve_tools Distance how k m s offered h expander rules matching limits spelled = absurd h
+  serve_tools Parts how k m s offered h expander rules matching limits spelled = absurd h
 
 module _ (c : LineCommand) (t : Tables) (input : List ℕ) (o : Offered) where
   -- what an owner lends is written as it is offered
@@ -132,6 +136,7 @@ module _ (c : LineCommand) (t : Tables) (input : List ℕ) (o : Offered) where
       by (tools.Fallback f) lends = absurd lends
       by (tools.Serve who s offered) lends = absurd lends
       by (tools.Distance d) lends = absurd lends
+      by tools.Parts lends = absurd lends
 
   pub listed_service : (how : _) (k : _) (m : _) (s : Service) → ListsBy c.task t (over.Serve how k m) → s.expander ≡ k.expander
       → s.rules ≡ lent k.rules → s.matching ≡ m.now → s.limits ≡ record { threshold = 50; demotion = 5 }
@@ -153,6 +158,7 @@ module _ (c : LineCommand) (t : Tables) (input : List ℕ) (o : Offered) where
           (ap (λ (x : Service). x.limits) lends.1 ∙ limits)
           (spelled_lent (λ (x : Service). x.available) s r offered lends.1 lends.2 spelled))
       by (tools.Distance d) lends = absurd lends
+      by tools.Parts lends = absurd lends
 
 -- a list is refused over settled tables for a fault or for memory
 settled_by : (task : Task) (t : Tables) (e : _) → ListsBy task t (over.Negotiate e) → AreSettled (likely e)
@@ -164,6 +170,7 @@ settled_by (Name chain preferences) t e h = absurd h
 settled_by Fallback t e h = absurd h
 settled_by (Serve wishes) t e h = absurd h
 settled_by Distance t e h = absurd h
+settled_by Parts t e h = absurd h
 
 faulty : (syntax : Option Syntax) (table : LikelySubtags) (line : List ℕ) (e : CliError) → AreSettled table
     → IsRefusedList syntax table line e → IsFaultyList syntax line e

@@ -42,7 +42,7 @@ use Rattle.icu_locale_lines.specs.declared.command.Wishes.TheVariants.{Header, R
 use Rattle.icu_locale_lines.specs.Lists.{IsNegotiatedLine, TellsMatch, shown_at}
 use Rattle.icu_locale_lines.specs.declared.work.form.Transform.{Transform}
 use Rattle.icu_locale_lines.specs.declared.work.form.Transform.TheVariants.{Maximize, Minimize, MinimizeScript}
-use Rattle.icu_locale_lines.specs.Answers.{IsAnswer, IsAnswerBy, IsAnswerOf, IsCanonicalAnswer, IsForm, IsFormedLine, IsTransformed, IsDirected, IsNamed}
+use Rattle.icu_locale_lines.specs.Answers.{IsAnswer, IsAnswerBy, IsAnswerOf, IsCanonicalAnswer, IsForm, IsFormedLine, IsTransformed, IsDirected, IsNamed, IsParted, IsWholeParted}
 use Rattle.icu_locale_lines.specs.Answers.{IsCanonicalized, IsCanonicalizedTo, IsWholeNamed, IsWholeTransformed, with_id}
 use Rattle.icu_locale_lines.specs.Chains.{IsChained}
 use Rattle.icu_locale_lines.specs.Names.{IsNamedLine, name_asked, whole_name_asked}
@@ -234,6 +234,8 @@ module _ (spelling : SpellingFacts) (minimal_one : (favor : Favor) (table : Like
       (λ x p q. named_one one two a b (name_asked n x) p q) (λ x p q. named_one one two a b (whole_name_asked n x) p q) h k
   answer_by_one syntax (tools.Fallback f) h k = answer_of_one syntax (IsChained f) (λ x. IsChained f x.locale.id)
       (same_chain f) (λ x p q. same_chain f x.locale.id p q) h k
+  answer_by_one syntax tools.Parts h k = answer_of_one syntax IsParted IsWholeParted
+      (λ x p q. same p.0 q.0 refl p.1 q.1) (λ x p q. same p.0 q.0 refl p.1 q.1) h k
 
   pub answer_one : (work : Work) → IsAnswer work line one a → IsAnswer work line two b → SameAnswer one two a b
   answer_one work h k = answer_by_one work.syntax work.tools h k

@@ -18,7 +18,7 @@ use Rattle.icu_locale_extensions.specs.declared.syntax.Syntax.{Syntax}
 use Rattle.icu_locale_extensions.specs.declared.syntax.Syntax.TheVariants.{Unicode}
 use Rattle.icu_locale.specs.LikelyTable.{likely}
 use Rattle.icu_locale_values.specs.Whole.{WholeRules, whole_rules}
-use Rattle.icu_locale_lines.specs.Answers.{IsAnswerBy, IsCanonicalized, IsIdentifierAnswer, IsLocaleAnswer, IsSpelledAnswer, IsTransformed, IsWholeTransformed}
+use Rattle.icu_locale_lines.specs.Answers.{IsAnswerBy, IsCanonicalized, IsIdentifierAnswer, IsLocaleAnswer, IsSpelledAnswer, IsTransformed, IsWholeTransformed, IsParted, IsWholeParted}
 use Rattle.icu_locale_lines.specs.Answers.{IsDirected, IsNamed, IsWholeNamed, has_singleton, HasNoSingleton}
 use Rattle.icu_locale_lines.specs.Chains.{IsChained}
 use Rattle.icu_locale_lines.specs.Lists.{IsFault, IsFirstFault, IsListedAnswer, IsNegotiatedLine, SpellsAll, SpellsIn, SpellsWhole, listed}
@@ -28,7 +28,7 @@ use Rattle.icu_locale_lines.specs.Wholes.{IsWholeCanonicalized}
 use Rattle.icu_locale_lines.specs.declared.command.Wishes.TheVariants.{Header, Requests}
 use Rattle.icu_locale_lines.specs.declared.work.Tools.{Tools}
 use Rattle.icu_locale_lines.specs.declared.work.Tools.TheVariants as tools
-use Rattle.icu_locale_lines.proofs.Alike.{SyntaxFacts, each_alike, transformed_alike, named_alike, canonical_answers_alike, in_syntax, lists_alike}
+use Rattle.icu_locale_lines.proofs.Alike.{SyntaxFacts, each_alike, transformed_alike, named_alike, canonical_answers_alike, in_syntax, lists_alike, parted_alike}
 use Rattle.icu_locale_lines.proofs.LineAnswers.{locale_fault}
 use Rattle.icu_locale_lines.proofs.LineCuts.{before_first-no_position}
 use Rattle.icu_locale_lines.proofs.LocaleLines.{value_text-no_position}
@@ -177,3 +177,5 @@ module _ (facts : SyntaxFacts) (line text : List ℕ) (a : Bool) where
       (λ x spells. named_alike facts Unicode line text a x spells n)
   plain_answers_alike (tools.Fallback f) plain =
       each_plain plain (λ w. IsChained f w.locale.id) (IsChained f) (λ x spells. (λ h. h, λ h. h))
+  plain_answers_alike tools.Parts plain =
+      each_plain plain IsWholeParted IsParted (λ x spells. parted_alike facts Unicode line text a x spells)

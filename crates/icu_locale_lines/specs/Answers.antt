@@ -37,6 +37,7 @@ use Rattle.icu_locale_extensions.specs.Locales as extended
 use Rattle.icu_locale_extensions.specs.Syntaxes.{IsFaultBy}
 use Rattle.icu_locale_extensions.specs.declared.identifier.LocaleIdentifier.{LocaleIdentifier}
 use Rattle.icu_locale_extensions.specs.declared.syntax.Syntax.{Syntax}
+use Rattle.icu_locale_parts.specs.Parts.{identifier_parts_text, parts_text}
 
 -- a line is appended to what stood before, and it is such a line
 pub record AddsLine (IsLine : List ℕ → Bool → Type 0) (old new : List ℕ) (accepted : Bool)
@@ -85,6 +86,13 @@ IsNamed n x text accepted = IsNamedLine (name_asked n x) text accepted
 -- the line of a locale identifier that is named
 abbrev pub IsWholeNamed : Naming → LocaleIdentifier → List ℕ → Bool → Type 0
 IsWholeNamed n x text accepted = IsNamedLine (whole_name_asked n x) text accepted
+
+-- the line of an identifier whose parts are told, and that of a locale identifier
+abbrev pub IsParted : LanguageIdentifier → List ℕ → Bool → Type 0
+IsParted x text accepted = (text ≡ identifier_parts_text x ++ codes "\n") × (accepted ≡ true)
+
+abbrev pub IsWholeParted : LocaleIdentifier → List ℕ → Bool → Type 0
+IsWholeParted x text accepted = (text ≡ parts_text x ++ codes "\n") × (accepted ≡ true)
 
 -- the rules come to no end, and that is refused by name
 abbrev pub IsEndless : LikelySubtags → Rules → Locale → List ℕ → Bool → Type 0
@@ -180,6 +188,8 @@ IsAnswerBy syntax (tools.Serve wishes s offered) line text accepted =
     IsWishAnswer syntax wishes s offered.now.wholes.items line text accepted
 IsAnswerBy syntax (tools.Distance d) line text accepted =
     IsListedAnswer syntax (IsDistanceLine d.matching.now (likely d.expander)) line text accepted
+IsAnswerBy syntax tools.Parts line text accepted =
+    IsAnswerOf syntax IsParted IsWholeParted line text accepted
 
 -- the answer to a line
 abbrev pub IsAnswer : Work → List ℕ → List ℕ → Bool → Type 0

@@ -1,22 +1,15 @@
 -- The commands: by their words, by the tables that each needs, and by what each works with.
-use Rattle.std.specs.Prelude.{◌≡◌, ◌⊎◌, ℕ, Bool, true, false, List, [], ◌∷◌, ◌++◌, codes, ◌&&◌, Option, None, Some, is_some, IsSomeAnd}
+use Rattle.std.specs.Prelude.{◌≡◌, ℕ, Bool, true, false, List, ◌&&◌, Option, None, Some, is_some, IsSomeAnd}
 use Rattle.std.specs.Option.{option_copied}
-use Rattle.icu_locale_core.specs.Identifier.{IsIdentifier, Spells}
 use Rattle.icu_locale_core.specs.Maps.{value_at}
 use Rattle.icu_provider.specs.Requests.{locale_cmp}
-use Rattle.icu_locale_core.specs.TextSet.{empty}
-use Rattle.icu_locale_core.specs.declared.langid.LanguageIdentifier.{LanguageIdentifier}
 use Rattle.icu_locale_names.specs.declared.options.DisplayNamesPreferences.{DisplayNamesPreferences}
 use Rattle.icu_locale_lines.specs.declared.command.Command.{Command}
 use Rattle.icu_locale_lines.specs.declared.command.Command.TheVariants.{Settled, Lines}
 use Rattle.icu_locale_lines.specs.declared.command.LineCommand.{LineCommand}
 use Rattle.icu_locale_lines.specs.declared.command.Task.{Task}
-use Rattle.icu_locale_lines.specs.declared.command.Task.TheVariants.{Transform, Canonicalize, Direction, Negotiate, Name, Fallback, Serve, Distance}
-use Rattle.icu_locale_lines.specs.declared.command.Wishes.TheVariants.{Header, Requests}
+use Rattle.icu_locale_lines.specs.declared.command.Task.TheVariants.{Transform, Canonicalize, Direction, Negotiate, Name, Fallback, Serve, Distance, Parts}
 use Rattle.icu_locale_extensions.specs.declared.syntax.Syntax.{Syntax}
-use Rattle.icu_locale_extensions.specs.declared.syntax.Syntax.TheVariants.{Unicode, Bcp47, Posix}
-use Rattle.icu_locale_lines.specs.declared.work.form.Transform.TheVariants.{Maximize, Minimize, MinimizeScript}
-use Rattle.icu_locale_names.specs.LanguageChains.{chain_word}
 use Rattle.icu_locale.specs.LikelyTable.{likely}
 use Rattle.icu_locale_fallback.specs.declared.fallbacker.LocaleFallbackPriority.TheVariants.{Language}
 use Rattle.icu_locale.specs.Rules.{AreRules}
@@ -43,103 +36,22 @@ use Rattle.icu_locale_lines.specs.declared.work.load.Loaded.TheVariants as loade
 use Rattle.icu_locale_lines.specs.declared.work.Tools.{Tools}
 use Rattle.icu_locale_lines.specs.declared.work.Tools.TheVariants as tools
 
--- the word of each task
-abbrev pub task_word : Task → List ℕ
-task_word (Transform Maximize) = codes "maximize"
-task_word (Transform Minimize) = codes "minimize"
-task_word (Transform MinimizeScript) = codes "minimize-script"
-task_word Canonicalize = codes "canonicalize"
-task_word Direction = codes "direction"
-task_word Negotiate = codes "negotiate"
-task_word (Name chain preferences) = codes "name"
-task_word Fallback = codes "fallback"
-task_word (Serve Header) = codes "serve"
-task_word (Serve Requests) = codes "nearest"
-task_word Distance = codes "distance"
-
--- the word of each syntax
-abbrev pub syntax_word : Syntax → List ℕ
-syntax_word Unicode = codes "locales"
-syntax_word Bcp47 = codes "bcp47"
-syntax_word Posix = codes "posix"
-
 -- a task on lines that are identifiers alone
 abbrev pub plain : Task → LineCommand
 plain task = record { syntax = None; task = task }
-
--- a text that spells an identifier without variants names the preferences of its subtags
-abbrev pub SpellsPreferences : List ℕ → DisplayNamesPreferences → Type 0
-SpellsPreferences text preferences = (x : LanguageIdentifier) × IsIdentifier x × Spells text x
-    × (x.variants ≡ empty) × (preferences ≡ record {
-      locale = record {
-        language = x.language;
-        script = x.script;
-        region = x.region;
-      };
-    })
-
--- a task is for streams alone
-abbrev pub is_streamed_task : Task → Bool
-is_streamed_task Fallback = true
-is_streamed_task (Serve wishes) = true
-is_streamed_task Distance = true
-is_streamed_task task = false
-
--- the words after that of a task: for `name` a chain and preferences
-abbrev pub AreArguments : Task → List (List ℕ) → Type 0
-AreArguments (Name chain preferences) words = (text : List ℕ)
-    × (words ≡ chain_word chain ∷ text ∷ []) × SpellsPreferences text preferences
-AreArguments task words = words ≡ []
-
--- the words of a task: its own, and its arguments
-abbrev pub AreTaskWords : List (List ℕ) → Task → Type 0
-AreTaskWords words task = (arguments : List (List ℕ)) × AreArguments task arguments
-    × (words ≡ task_word task ∷ arguments)
-
--- the words of a command: `settled`, or those of a task
-abbrev pub AreCommandWords : List (List ℕ) → Command → Type 0
-AreCommandWords words Settled = words ≡ codes "settled" ∷ []
-AreCommandWords words (Lines c) = (c.syntax ≡ None) × AreTaskWords words c.task
-
--- the words of a command, with `json` after them for tables as JSON
-abbrev pub AreWords : List (List ℕ) → Command → Bool → Type 0
-AreWords words c false = AreCommandWords words c
-AreWords words c true = (front : List (List ℕ)) × AreCommandWords front c
-    × (words ≡ front ++ codes "json" ∷ [])
-
--- a command is for streams alone
-abbrev pub is_streamed : Command → Bool
-is_streamed (Lines c) = is_streamed_task c.task
-is_streamed Settled = false
-
--- the words of a command of a run, with `json` after them for tables as JSON
-abbrev pub AreRunWords : List (List ℕ) → Command → Bool → Type 0
-AreRunWords words c json = AreWords words c json × (is_streamed c ≡ false)
-
--- the word of a syntax, and then the words of a task
-pub record AreSyntaxWords (words : List (List ℕ)) (c : Command) (json : Bool) : Type 0 where
-  pub syntax : Syntax
-  pub task : Task
-  pub front : List (List ℕ)
-  pub is : c ≡ Lines (record { syntax = Some syntax; task = task })
-  pub of_task : AreWords front (Lines (plain task)) json
-  pub parted : words ≡ syntax_word syntax ∷ front
-
--- the words of a command, with that of a syntax before them where lines are locale identifiers
-abbrev pub AreStreamWords : List (List ℕ) → Command → Bool → Type 0
-AreStreamWords words c json = AreWords words c json ⊎ AreSyntaxWords words c json
 
 -- the match rules of a supplement are held
 abbrev pub has_matching : Tables → Bool
 has_matching t = is_some t.supplement.matching
 
--- the tables that a task needs are held; `name` needs none
+-- the tables that a task needs are held; `name` and `parts` need none
 abbrev pub holds_for : Task → Tables → Bool
 holds_for Canonicalize t = has_likely t && is_some t.aliases
 holds_for Direction t = has_likely t && is_some t.script_direction
 holds_for (Name chain preferences) t = true
 holds_for (Serve wishes) t = has_matching t && (has_likely t && is_some t.aliases)
 holds_for Distance t = has_matching t && has_likely t
+holds_for Parts t = true
 holds_for task t = has_likely t
 
 -- the tables that a command needs are held
@@ -225,6 +137,7 @@ AreToolsOf syntax (Serve wishes) t input (tools.Serve how s offered) =
     × IsAvailable syntax (listed (first_line input)) s.available offered.now.wholes.items
 AreToolsOf syntax Distance t input (tools.Distance d) =
     IsExpanderOf t d.expander × (t.supplement.matching ≡ Some d.matching.now)
+AreToolsOf syntax Parts t input tools.Parts = Unit {0}
 AreToolsOf syntax task t input other = ⊥
 
 -- the work of a command over tables

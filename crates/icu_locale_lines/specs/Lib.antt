@@ -1,6 +1,7 @@
 pub mod Answers
 pub mod Chains
 pub mod Commands
+pub mod Grammar
 pub mod Lines
 pub mod Lists
 pub mod Loads

@@ -1,6 +1,5 @@
 -- What is done that words ask for.
-use Rattle.std.specs.Prelude.{◌≡◌, ◌⊎◌, ◌<◌, ◌^◌, ℕ, Bool, true, false, List, [], ◌∷◌, ◌++◌, Option, None, Some, Ok, codes}
-use Rattle.std.specs.Str.Parse.{IsNumeral, digits_value, without_leading_plus}
+use Rattle.std.specs.Prelude.{◌≡◌, ◌⊎◌, ℕ, Bool, true, false, List, Option, Some, Ok}
 use Rattle.icu_tables.specs.Rows.{rows_of}
 use Rattle.icu_tables.specs.File.{rows_in}
 use Rattle.icu_tables.specs.Supplement.{no_supplement}
@@ -15,7 +14,7 @@ use Rattle.icu_locale_lines.specs.declared.error.CliError.{CliError}
 use Rattle.icu_locale_lines.specs.declared.error.CliError.TheVariants as error
 use Rattle.icu_locale_lines.specs.declared.runs.Status.{Status}
 use Rattle.icu_locale_lines.specs.declared.sample_tables.TheConstants.{SAMPLE, SAMPLE_SUPPLEMENT}
-use Rattle.icu_locale_lines.specs.Commands.{AreRunWords, AreStreamWords}
+use Rattle.icu_locale_lines.specs.Grammar.{parse, parse_run}
 use Rattle.icu_locale_lines.specs.Lines.{Stream}
 use Rattle.icu_locale_lines.specs.Streams.{IsRunWithin, IsRefusedStream, IsJsonStream, IsRefusedJsonStream, IsSupplementStream, IsRefusedSupplementStream}
 use Rattle.icu_locale_lines.specs.WholeRuns.{IsRun, IsRefusedRun, IsJsonRun, IsRefusedJsonRun}
@@ -54,42 +53,16 @@ IsRefusedRunBy c false read read' wrote wrote' e =
 -- the run of the command that words name
 abbrev pub IsWordsRun : List (List ℕ) → Stream → Stream → Stream → Stream → Status → Type 0
 IsWordsRun words read read' wrote wrote' status = (c : Command) × (json : Bool)
-    × AreRunWords words c json × IsRunBy c json read read' wrote wrote' status
+    × (parse_run words ≡ Some (c, json)) × IsRunBy c json read read' wrote wrote' status
 
 -- what is left where words name no command, or its run is refused
 abbrev pub IsRefusedWordsRun : List (List ℕ) → Stream → Stream → Stream → Stream → CliError → Type 0
 IsRefusedWordsRun words read read' wrote wrote' e =
     ((e ≡ error.Usage) × LeavesAll read read' wrote wrote')
-    ⊎ ((c : Command) × (json : Bool) × AreRunWords words c json
+    ⊎ ((c : Command) × (json : Bool) × (parse_run words ≡ Some (c, json))
     × IsRefusedRunBy c json read read' wrote wrote' e)
 
 -- ---- streams
-
--- a text is a number of bytes, in decimal digits, before which a plus may stand
-abbrev pub IsBound : List ℕ → ℕ → Type 0
-IsBound text n = IsNumeral 10 (without_leading_plus text)
-    × (n ≡ digits_value 10 (without_leading_plus text)) × (n < 2 ^ 64)
-
--- the words of a bound: `longest` and a number, or none
-abbrev pub AreBoundWords : Option ℕ → List (List ℕ) → Type 0
-AreBoundWords None words = words ≡ []
-AreBoundWords (Some n) words =
-    (text : List ℕ) × IsBound text n × (words ≡ codes "longest" ∷ text ∷ [])
-
--- the words of a command and of where its tables come from: `supplement` may follow `json`
-abbrev pub AreSourceWords : List (List ℕ) → Command → Source → Type 0
-AreSourceWords words c source.Sample = AreStreamWords words c false
-AreSourceWords words c source.Json = AreStreamWords words c true
-AreSourceWords words c source.JsonAndSupplement = (front : List (List ℕ))
-    × AreStreamWords front c true × (words ≡ front ++ codes "supplement" ∷ [])
-
--- the words of a stream: a bound may come first
-pub record AreAsked (words : List (List ℕ)) (asked : Asked) : Type 0 where
-  pub first : List (List ℕ)
-  pub rest : List (List ℕ)
-  pub bound : AreBoundWords asked.longest first
-  pub source : AreSourceWords rest asked.command asked.source
-  pub parted : words ≡ first ++ rest
 
 -- a stream of a command over tables that come from a source
 abbrev pub IsStreamFrom : Source → Option ℕ → Command → Stream → Stream → Stream → Stream → Status
@@ -115,7 +88,7 @@ IsRefusedStreamFrom source.JsonAndSupplement longest c read read' wrote wrote' e
 
 -- the stream that words ask for
 abbrev pub IsWordsStream : List (List ℕ) → Stream → Stream → Stream → Stream → Status → Type 0
-IsWordsStream words read read' wrote wrote' status = (asked : Asked) × AreAsked words asked
+IsWordsStream words read read' wrote wrote' status = (asked : Asked) × (parse words ≡ Some asked)
     × IsStreamFrom asked.source asked.longest asked.command read read' wrote wrote' status
 
 -- what is left where words ask for none, or it is refused
@@ -123,5 +96,5 @@ abbrev pub IsRefusedWordsStream : List (List ℕ) → Stream → Stream → Stre
     → Type 0
 IsRefusedWordsStream words read read' wrote wrote' e =
     ((e ≡ error.Usage) × LeavesAll read read' wrote wrote')
-    ⊎ ((asked : Asked) × AreAsked words asked
+    ⊎ ((asked : Asked) × (parse words ≡ Some asked)
     × IsRefusedStreamFrom asked.source asked.longest asked.command read read' wrote wrote' e)

@@ -1,4 +1,4 @@
 -- Facts about the definitions, with their proofs.
-pub mod Commands
 pub mod Expanders
+pub mod Grammar
 pub mod Parts

@@ -1,10 +1,12 @@
 //! What the words of a stream ask for.
-ghost use Rattle.std.specs.Prelude.{◌≡◌, Ok, IfOk, IfErr, map, ℕ};
-ghost use Rattle.std.specs.String.{string_bytes};
-ghost use Rattle.icu_locale_lines.specs.WordRuns.{AreAsked, AreSourceWords, IsBound};
+ghost use Rattle.std.specs.Prelude.{◌≡◌, ◌∷◌};
+ghost use Rattle.icu_locale_lines.specs.Grammar.{asked_for, bound_at, chain_at, parse, parse_behind, parse_command, parse_lines, parse_name, parse_source, parse_supplement, parse_word};
 
-use crate::command::Command;
-use crate::error::CliError;
+use crate::command::{Command, LineCommand, Task, is_word, syntax_of, task_of};
+use crate::cursor::Words;
+use crate::work::name::read_preferences;
+use icu_locale_extensions::Syntax;
+use icu_locale_names::NameChain;
 use std::alloc::Global;
 
 /// What the words of a stream ask for.
@@ -30,73 +32,129 @@ pub enum Source {
 }
 
 impl Asked {
-    /// What words ask for: those of `Command::from_stream_words`, before which `longest` and a number may stand, and
-    /// `supplement` after `json`.
-    ///
-    /// # Errors
-    ///
-    /// `Usage` exactly where the words are not those.
-    pub fn from_words(alloc: Global, words: &[String]) -> Result<Asked, CliError>
-        ensures named { IfOk result (AreAsked (map string_bytes words.now)) }
-        ensures only { (asked : Asked) → AreAsked (map string_bytes words.now) asked
-            → result ≡ Ok asked }
-        ensures refused { IfErr result (λ e. e ≡ CliError.Usage) }
+    /// What the words of a stream ask for, if they are those of one: `longest` and a number may come first, then the word
+    /// of a syntax, `locales`, `bcp47` or `posix`, and at the end `json` or `json supplement`. What is answered does not
+    /// depend on memory: only preferences with variants take some, and these are refused either way.
+    pub fn from_words(alloc: Global, mut words: Words<'_>) -> Option<Asked>
+        ensures { result ≡ parse words.entry }
     {
-        let Some((word, rest)) = words.split_first() else {
-            return Err(CliError::Usage);
-        };
-        if word.as_str() == "longest" {
-            let Some((number, rest)) = rest.split_first() else {
-                return Err(CliError::Usage);
-            };
-            let longest = read_bound(number.as_str())?;
-            return Asked::within(alloc, Some(longest), rest);
+        let word = words.take()?;
+        if is_word(word.as_bytes(), "longest") {
+            let longest = bound_of(words.take()?)?;
+            let word = words.take()?;
+            return lines(alloc, Some(longest), word, words);
         }
-        Asked::within(alloc, None, words)
+        lines(alloc, None, word, words)
     }
+}
 
-    // What words without a bound ask for, within one.
-    fn within(alloc: Global, longest: Option<usize>, words: &[String]) -> Result<Asked, CliError>
-        ensures longest { IfOk result (λ asked. asked.longest ≡ longest) }
-        ensures named { IfOk result (λ asked. AreSourceWords (map string_bytes words.now)
-            asked.command asked.source) }
-        ensures only { (asked : Asked) → asked.longest ≡ longest
-            → AreSourceWords (map string_bytes words.now) asked.command asked.source
-            → result ≡ Ok asked }
-        ensures refused { IfErr result (λ e. e ≡ CliError.Usage) }
-    {
-        if let Some((last, front)) = words.split_last() {
-            if last.as_str() == "supplement" {
-                let (command, json) = Command::from_stream_words(alloc, front)?;
-                if json {
-                    let source = Source::JsonAndSupplement;
-                    return Ok(Asked {
-                        longest,
-                        command,
-                        source,
-                    });
-                }
-                return Err(CliError::Usage);
-            }
+// A command after the word of a syntax, or without one.
+fn lines(alloc: Global, longest: Option<usize>, word: &str, mut words: Words<'_>) -> Option<Asked>
+    ensures { result ≡ parse_lines longest (word.now ∷ words.entry) }
+{
+    match syntax_of(word.as_bytes()) {
+        Some(syntax) => {
+            let word = words.take()?;
+            command(alloc, longest, Some(syntax), word, words)
         }
-        let (command, json) = Command::from_stream_words(alloc, words)?;
-        let source = if json { Source::Json } else { Source::Sample };
-        Ok(Asked {
-            longest,
-            command,
-            source,
-        })
+        None => command(alloc, longest, None, word, words),
+    }
+}
+
+// A command, and where its tables come from.
+fn command(
+    alloc: Global,
+    longest: Option<usize>,
+    syntax: Option<Syntax>,
+    word: &str,
+    words: Words<'_>,
+) -> Option<Asked>
+    ensures { result ≡ parse_command longest syntax word.now words.entry }
+{
+    if is_word(word.as_bytes(), "name") {
+        return name(alloc, longest, syntax, words);
+    }
+    let command = command_of(syntax, word)?;
+    let source = source_of(words)?;
+    Some(Asked {
+        longest,
+        command,
+        source,
+    })
+}
+
+// `name` by its arguments.
+fn name(
+    alloc: Global,
+    longest: Option<usize>,
+    syntax: Option<Syntax>,
+    mut words: Words<'_>,
+) -> Option<Asked>
+    ensures { result ≡ parse_name longest syntax words.entry }
+{
+    let chain = words.take()?;
+    let text = words.take()?;
+    let chain = chain_of(chain)?;
+    let preferences = read_preferences(alloc, text)?;
+    let task = Task::Name(chain, preferences);
+    let command = Command::Lines(LineCommand { syntax, task });
+    let source = source_of(words)?;
+    Some(Asked {
+        longest,
+        command,
+        source,
+    })
+}
+
+// The command of a word. `settled` has no syntax.
+fn command_of(syntax: Option<Syntax>, word: &str) -> Option<Command>
+    ensures { result ≡ parse_word syntax word.now }
+{
+    if is_word(word.as_bytes(), "settled") {
+        return if syntax.is_some() {
+            None
+        } else {
+            Some(Command::Settled)
+        };
+    }
+    let task = task_of(word.as_bytes())?;
+    Some(Command::Lines(LineCommand { syntax, task }))
+}
+
+// The chain that a word names.
+fn chain_of(word: &str) -> Option<NameChain>
+    ensures { result ≡ chain_at word.now }
+{
+    NameChain::from_word(word)
+}
+
+// Where the tables come from.
+fn source_of(mut words: Words<'_>) -> Option<Source>
+    ensures { result ≡ parse_source words.entry }
+{
+    match words.take() {
+        None => Some(Source::Sample),
+        Some(word) if is_word(word.as_bytes(), "json") => supplement(words),
+        Some(_) => None,
+    }
+}
+
+// What follows `json`.
+fn supplement(mut words: Words<'_>) -> Option<Source>
+    ensures { result ≡ parse_supplement words.entry }
+{
+    match words.take() {
+        None => Some(Source::Json),
+        Some(word) if is_word(word.as_bytes(), "supplement") && words.take().is_none() => {
+            Some(Source::JsonAndSupplement)
+        }
+        Some(_) => None,
     }
 }
 
 // The number of bytes that a text says.
-fn read_bound(text: &str) -> Result<usize, CliError>
-    ensures read { IfOk result (IsBound text.now) }
-    ensures only { (n : ℕ) → IsBound text.now n → result ≡ Ok n }
-    ensures refused { IfErr result (λ e. e ≡ CliError.Usage) }
+fn bound_of(text: &str) -> Option<usize>
+    ensures { result ≡ bound_at text.now }
 {
-    match text.parse() {
-        Ok(longest) => Ok(longest),
-        Err(_) => Err(CliError::Usage),
-    }
+    text.parse().ok()
 }

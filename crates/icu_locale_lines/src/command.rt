@@ -1,15 +1,15 @@
 //! What the program is asked to do.
-ghost use Rattle.std.specs.Prelude.{◌≡◌, ◌∷◌, [], Bool, None, Ok, Some, IfOk, IfErr, IfSome, map, codes};
-ghost use Rattle.std.specs.Bool.{Decides};
+ghost use Rattle.std.specs.Prelude.{◌≡◌, map};
+ghost use Rattle.std.specs.Option.{ok_or};
+ghost use Rattle.std.specs.Str.{bytes_eq};
 ghost use Rattle.std.specs.String.{string_bytes};
-ghost use Rattle.icu_locale_lines.specs.Commands.{AreArguments, AreCommandWords, AreRunWords, AreStreamWords, AreWords, is_streamed, is_streamed_task, plain, syntax_word, task_word};
-ghost use Rattle.icu_locale_lines.specs.declared.command.Command.TheVariants.{Lines};
-ghost use Rattle.icu_locale_lines.specs.declared.command.Task.{Task};
-ghost use Rattle.icu_locale_extensions.specs.declared.syntax.Syntax.{Syntax};
+ghost use Rattle.icu_locale_lines.specs.Commands.{plain};
+ghost use Rattle.icu_locale_lines.specs.Grammar.{is_for_runs, is_streamed_task, parse_run, run_of, syntax_at, task_at};
 
+use crate::asked::{Asked, Source};
+use crate::cursor::Words;
 use crate::error::CliError;
 use crate::work::form::Transform;
-use crate::work::name::read_preferences;
 use icu_locale_extensions::Syntax;
 use icu_locale_names::{DisplayNamesPreferences, NameChain};
 use std::alloc::Global;
@@ -53,6 +53,8 @@ pub enum Task {
     Serve(Wishes),
     /// How far the second identifier of a line is from the first. Streams alone have it.
     Distance,
+    /// The parts of each locale, each in a place of its own. It asks no table. Streams alone have it.
+    Parts,
 }
 
 /// How a line says what it wishes.
@@ -74,134 +76,47 @@ impl LineCommand {
 }
 
 impl Command {
-    /// The command that the words name, and whether the tables come as JSON. Its lines hold identifiers alone. What is
-    /// answered does not depend on memory: only preferences with variants take some, and these are refused either way.
+    /// The command of a run that the words are, and whether the tables come as JSON: those of a stream without a bound,
+    /// the word of a syntax, `supplement` and the tasks for streams alone. What is answered does not depend on memory: only
+    /// preferences with variants take some, and these are refused either way.
     ///
     /// # Errors
     ///
-    /// `Usage` exactly where the words are not those of a command of a run, and then `json` or nothing.
+    /// `Usage` exactly where the words are not those of a command of a run.
     pub fn from_words(alloc: Global, words: &[String]) -> Result<(Command, bool), CliError>
-        ensures named { IfOk result (λ c. AreRunWords (map string_bytes words.now) c.0 c.1) }
-        ensures only { (c : Command × Bool)
-            → AreRunWords (map string_bytes words.now) c.0 c.1 → result ≡ Ok c }
-        ensures refused { IfErr result (λ e. e ≡ CliError.Usage) }
+        ensures { result ≡ ok_or (parse_run (map string_bytes words.now)) CliError.Usage }
     {
-        let (command, json) = Command::from_plain_words(alloc, words)?;
-        if is_streamed(&command) {
-            return Err(CliError::Usage);
-        }
-        Ok((command, json))
-    }
-
-    // The command that the words name, of a run or of a stream, and whether the tables come as JSON.
-    fn from_plain_words(alloc: Global, words: &[String]) -> Result<(Command, bool), CliError>
-        ensures named { IfOk result (λ c. AreWords (map string_bytes words.now) c.0 c.1) }
-        ensures only { (c : Command × Bool)
-            → AreWords (map string_bytes words.now) c.0 c.1 → result ≡ Ok c }
-        ensures refused { IfErr result (λ e. e ≡ CliError.Usage) }
-    {
-        match words.split_last() {
-            Some((json, front)) if json.as_str() == "json" => {
-                Ok((Command::from_front(alloc, front)?, true))
-            }
-            _ => Ok((Command::from_front(alloc, words)?, false)),
-        }
-    }
-
-    /// The command of a stream: the same, but each task may be named, with the word of a syntax before those of a task or
-    /// without one: `locales`, `bcp47` or `posix`.
-    ///
-    /// # Errors
-    ///
-    /// `Usage` exactly where the words are not those.
-    pub fn from_stream_words(alloc: Global, words: &[String]) -> Result<(Command, bool), CliError>
-        ensures named { IfOk result (λ c. AreStreamWords (map string_bytes words.now) c.0 c.1) }
-        ensures only { (c : Command × Bool)
-            → AreStreamWords (map string_bytes words.now) c.0 c.1 → result ≡ Ok c }
-        ensures refused { IfErr result (λ e. e ≡ CliError.Usage) }
-    {
-        let Some((word, rest)) = words.split_first() else {
+        let Some(asked) = Asked::from_words(alloc, Words::new(words)) else {
             return Err(CliError::Usage);
         };
-        let Some(syntax) = syntax_of(word.as_str()) else {
-            return Command::from_plain_words(alloc, words);
-        };
-        let (command, json) = Command::from_plain_words(alloc, rest)?;
-        match command {
-            Command::Lines(plain) => {
-                let asked = LineCommand {
-                    syntax: Some(syntax),
-                    task: plain.task,
-                };
-                Ok((Command::Lines(asked), json))
-            }
-            Command::Settled => Err(CliError::Usage),
-        }
-    }
-
-    // The command that the words name, without what may follow them.
-    fn from_front(alloc: Global, words: &[String]) -> Result<Command, CliError>
-        ensures named { IfOk result (AreCommandWords (map string_bytes words.now)) }
-        ensures only { (c : Command) → AreCommandWords (map string_bytes words.now) c
-            → result ≡ Ok c }
-        ensures refused { IfErr result (λ e. e ≡ CliError.Usage) }
-    {
-        match words {
-            [word] => Command::from_word(word.as_str()),
-            [word, chain, text] if word.as_str() == "name" => {
-                Command::name(alloc, chain.as_str(), text.as_str())
-            }
-            _ => Err(CliError::Usage),
-        }
-    }
-
-    /// The command `name` of a chain and of preferences.
-    ///
-    /// # Errors
-    ///
-    /// `Usage` exactly where one of the two texts is none.
-    pub fn name(alloc: Global, chain: &str, text: &str) -> Result<Command, CliError>
-        ensures named { IfOk result (AreCommandWords
-            (codes "name" ∷ chain.now ∷ text.now ∷ [])) }
-        ensures only { (c : Command)
-            → AreCommandWords (codes "name" ∷ chain.now ∷ text.now ∷ []) c
-            → result ≡ Ok c }
-        ensures refused { IfErr result (λ e. e ≡ CliError.Usage) }
-    {
-        let Some(chain) = NameChain::from_word(chain) else {
-            return Err(CliError::Usage);
-        };
-        let preferences = read_preferences(alloc, text)?;
-        Ok(Command::Lines(LineCommand::plain(Task::Name(chain, preferences))))
-    }
-
-    /// The command of a word alone.
-    ///
-    /// # Errors
-    ///
-    /// `Usage` exactly where the word is that of no such command.
-    pub fn from_word(word: &str) -> Result<Command, CliError>
-        ensures named { IfOk result (AreCommandWords (word.now ∷ [])) }
-        ensures only { (c : Command) → AreCommandWords (word.now ∷ []) c → result ≡ Ok c }
-        ensures refused { IfErr result (λ e. e ≡ CliError.Usage) }
-    {
-        if word == "settled" {
-            return Ok(Command::Settled);
-        }
-        match task_of(word.as_bytes()) {
-            Some(task) => Ok(Command::Lines(LineCommand::plain(task))),
+        match run_of(&asked) {
+            Some(run) => Ok(run),
             None => Err(CliError::Usage),
         }
     }
 }
 
-// Whether a command is for streams alone.
-fn is_streamed(command: &Command) -> bool
-    ensures { result ≡ is_streamed command.now }
+// What a run is asked for, if a run may be.
+fn run_of(asked: &Asked) -> Option<(Command, bool)>
+    ensures { result ≡ run_of asked.now }
+{
+    if !is_for_runs(&asked.command) || asked.longest.is_some() {
+        return None;
+    }
+    match asked.source {
+        Source::Sample => Some((asked.command, false)),
+        Source::Json => Some((asked.command, true)),
+        Source::JsonAndSupplement => None,
+    }
+}
+
+// Whether a run has a command.
+fn is_for_runs(command: &Command) -> bool
+    ensures { result ≡ is_for_runs command.now }
 {
     match command {
-        Command::Lines(lines) => is_streamed_task(lines.task),
-        Command::Settled => false,
+        Command::Lines(lines) => lines.syntax.is_none() && !is_streamed_task(lines.task),
+        Command::Settled => true,
     }
 }
 
@@ -213,15 +128,14 @@ fn is_streamed_task(task: Task) -> bool
         Task::Fallback => true,
         Task::Serve(_) => true,
         Task::Distance => true,
+        Task::Parts => true,
         _ => false,
     }
 }
 
 /// The task of a word alone.
 pub fn task_of(word: &[u8]) -> Option<Task>
-    ensures named { IfSome result (λ t. (word.now ≡ task_word t) × AreArguments t []) }
-    ensures only { (t : Task) → word.now ≡ task_word t → AreArguments t []
-        → result ≡ Some t }
+    ensures { result ≡ task_at word.now }
 {
     if is_word(word, "maximize") {
         Some(Task::Transform(Transform::Maximize))
@@ -243,28 +157,32 @@ pub fn task_of(word: &[u8]) -> Option<Task>
         Some(Task::Serve(Wishes::Requests))
     } else if is_word(word, "distance") {
         Some(Task::Distance)
+    } else if is_word(word, "parts") {
+        Some(Task::Parts)
     } else {
         None
     }
 }
 
-// Whether bytes are those of a word.
+// Whether a word is another.
 #[inline(always)]
-fn is_word(bytes: &[u8], word: &str) -> bool
-    ensures told { Decides result (bytes.now ≡ word.now) }
+pub fn is_word(word: &[u8], other: &str) -> bool
+    ensures { result ≡ bytes_eq word.now other.now }
 {
-    bytes == word.as_bytes()
+    word == other.as_bytes()
 }
 
 /// The syntax of a word.
-pub fn syntax_of(word: &str) -> Option<Syntax>
-    ensures named { IfSome result (λ s. word.now ≡ syntax_word s) }
-    ensures only { (s : Syntax) → word.now ≡ syntax_word s → result ≡ Some s }
+pub fn syntax_of(word: &[u8]) -> Option<Syntax>
+    ensures { result ≡ syntax_at word.now }
 {
-    match word {
-        "locales" => Some(Syntax::Unicode),
-        "bcp47" => Some(Syntax::Bcp47),
-        "posix" => Some(Syntax::Posix),
-        _ => None,
+    if is_word(word, "locales") {
+        Some(Syntax::Unicode)
+    } else if is_word(word, "bcp47") {
+        Some(Syntax::Bcp47)
+    } else if is_word(word, "posix") {
+        Some(Syntax::Posix)
+    } else {
+        None
     }
 }

@@ -17,8 +17,6 @@ pub enum CliError {
     Usage,
     /// The first line gives no tables. Nothing was written.
     Tables(TableError),
-    /// The second line gives no supplement of the tables. Nothing was written.
-    Supplement(TableError),
     /// A table that the command needs cannot be loaded. Nothing was written.
     Data(DataError),
     /// A read failed, or the input did not end. A run has written nothing; a stream has answered each line that had come
@@ -33,6 +31,8 @@ pub enum CliError {
     Available(ParseError),
     /// The likely tables that `negotiate` needs are not settled. Nothing was written.
     NotSettled,
+    /// The second line gives no supplement of the tables. Nothing was written.
+    Supplement(TableError),
 }
 
 impl fmt::Display for CliError {

@@ -1,13 +1,16 @@
 //! Laws of lines. Each function here takes nothing, answers nothing and carries a proved fact.
 ghost use Rattle.std.specs.Prelude.{◌≡◌, ◌↔◌, ◌++◌, ◌∷◌, [], None, Some, ℕ, Bool, List};
+ghost use Rattle.icu_locale_lines.specs.declared.asked.Asked.{Asked};
 ghost use Rattle.icu_locale_lines.specs.declared.runs.Status.{Status};
 ghost use Rattle.icu_locale_lines.specs.declared.work.Tools.{Tools};
 ghost use Rattle.icu_locale_lines.specs.declared.work.Work.{Work};
 ghost use Rattle.icu_locale_extensions.specs.declared.syntax.Syntax.{Syntax};
 ghost use Rattle.icu_locale_extensions.specs.declared.syntax.Syntax.TheVariants.{Unicode};
 ghost use Rattle.icu_locale_lines.specs.Answers.{HasNoSingleton, HoldsIdentifiers, IsAnswer, IsAnswerBy};
+ghost use Rattle.icu_locale_lines.specs.Grammar.{parse};
 ghost use Rattle.icu_locale_lines.specs.Lists.{IsAvailable, listed, shown_at};
 ghost use Rattle.icu_locale_lines.specs.Runs.{WritesAll};
+ghost use Rattle.icu_locale_lines.specs.laws.Grammar.{AreWordsOf};
 ghost use Rattle.icu_locale_core.specs.declared.langid.LanguageIdentifier.{LanguageIdentifier};
 ghost use Rattle.icu_locale_extensions.specs.declared.identifier.LocaleIdentifier.{LocaleIdentifier};
 
@@ -71,3 +74,12 @@ pub fn parts_make_the_whole()
 {
     a_line_has_one_answer();
 }
+
+/// Words are parsed as what they have the form of, and no others are: `longest` and a number, the word of a syntax, those of a command, and
+/// where its tables come from.
+pub fn words_are_parsed()
+    ensures parsed { (asked : Asked) (words : List (List ℕ)) → AreWordsOf asked words
+        → parse words ≡ Some asked }
+    ensures told { (asked : Asked) (words : List (List ℕ)) → parse words ≡ Some asked
+        → AreWordsOf asked words }
+{}

@@ -4,6 +4,7 @@
 mod answer;
 mod asked;
 mod command;
+mod cursor;
 mod error;
 pub mod laws;
 mod program;
@@ -13,13 +14,12 @@ mod work;
 
 pub use asked::{Asked, Source};
 pub use command::{Command, LineCommand, Task, Wishes, syntax_of, task_of};
+pub use cursor::Words;
 pub use error::CliError;
-pub use program::{program_words, run_by, run_words, stream_words};
+pub use program::{program_words, run_by, run_words, stream_asked, stream_words};
 pub use runs::Status;
 pub use runs::input::read_all;
-pub use runs::stream::{
-    stream, stream_json, stream_json_within, stream_supplement_within, stream_within,
-};
+pub use runs::stream::stream;
 pub use runs::whole::{run, run_json};
 pub use sample_tables::{SAMPLE, SAMPLE_SUPPLEMENT, sample, whole_sample};
 pub use work::form::Transform;

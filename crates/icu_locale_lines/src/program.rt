@@ -1,13 +1,12 @@
 //! Runs and streams by the words of a command.
-ghost use Rattle.std.specs.Prelude.{◌≡◌, ◌↔◌, Bool, Err, IfOk, IfErr, Option, ℕ, map};
+ghost use Rattle.std.specs.Prelude.{◌≡◌, ◌↔◌, None, Err, IfOk, IfErr, map};
 ghost use Rattle.std.specs.String.{string_bytes};
-ghost use Rattle.icu_locale_lines.specs.Commands.{AreRunWords};
-ghost use Rattle.icu_locale_lines.specs.WordRuns.{IsRunBy, IsRefusedRunBy, IsWordsRun, IsRefusedWordsRun, AreAsked, IsStreamFrom, IsRefusedStreamFrom, IsWordsStream, IsRefusedWordsStream};
-ghost use Rattle.icu_locale_lines.specs.declared.asked.Asked.{Asked};
-ghost use Rattle.icu_locale_lines.specs.declared.command.Command.{Command};
+ghost use Rattle.icu_locale_lines.specs.Grammar.{parse, parse_run};
+ghost use Rattle.icu_locale_lines.specs.WordRuns.{IsRunBy, IsRefusedRunBy, IsWordsRun, IsRefusedWordsRun, IsStreamFrom, IsRefusedStreamFrom, IsWordsStream, IsRefusedWordsStream};
 
 use crate::asked::{Asked, Source};
 use crate::command::Command;
+use crate::cursor::Words;
 use crate::error::CliError;
 use crate::runs::Status;
 use crate::runs::stream::{stream_json_over, stream_over, stream_supplement_over};
@@ -32,8 +31,8 @@ pub fn run_words<R: Read, W: Write>(
     ensures output { IfOk result (IsWordsRun (map string_bytes words.now)
         (R.remaining reader.old) (R.remaining reader.new) (W.contents writer.old)
         (W.contents writer.new)) }
-    ensures usage { (result ≡ Err CliError.Usage) ↔ ((c : Command) (json : Bool)
-        → ¬ (AreRunWords (map string_bytes words.now) c json)) }
+    ensures usage { (result ≡ Err CliError.Usage)
+        ↔ (parse_run (map string_bytes words.now) ≡ None) }
     ensures refused { IfErr result (IsRefusedWordsRun (map string_bytes words.now)
         (R.remaining reader.old) (R.remaining reader.new) (W.contents writer.old)
         (W.contents writer.new)) }
@@ -66,14 +65,12 @@ pub fn run_by<R: Read, W: Write>(
     run(alloc, command, &tables, reader, writer)
 }
 
-/// Asks the words, as `Asked::from_words` does, and then streams the command over the tables that they say: the sample
-/// with its supplement, those of the first line, or those and the supplement of the second.
+/// Asks the words, as `Asked::from_words` does, and then does as `stream_asked`.
 ///
 /// # Errors
 ///
 /// - `Usage` exactly where the words ask for no stream: nothing was read or written.
-/// - The others as `stream_within`, `stream_json_within` and `stream_supplement_within` answer them, or `stream` and
-///   `stream_json` where no bound is asked for; `Memory` also where none was found for the sample.
+/// - The others as `stream_asked` answers them.
 pub fn stream_words<R: Read, W: Write>(
     alloc: Global,
     words: &[String],
@@ -83,18 +80,28 @@ pub fn stream_words<R: Read, W: Write>(
     ensures output { IfOk result (IsWordsStream (map string_bytes words.now)
         (R.remaining reader.old) (R.remaining reader.new) (W.contents writer.old)
         (W.contents writer.new)) }
-    ensures usage { (result ≡ Err CliError.Usage) ↔ ((asked : Asked)
-        → ¬ (AreAsked (map string_bytes words.now) asked)) }
+    ensures usage { (result ≡ Err CliError.Usage)
+        ↔ (parse (map string_bytes words.now) ≡ None) }
     ensures refused { IfErr result (IsRefusedWordsStream (map string_bytes words.now)
         (R.remaining reader.old) (R.remaining reader.new) (W.contents writer.old)
         (W.contents writer.new)) }
 {
-    let asked = Asked::from_words(alloc, words)?;
+    let Some(asked) = Asked::from_words(alloc, Words::new(words)) else {
+        return Err(CliError::Usage);
+    };
     stream_asked(alloc, &asked, reader, writer)
 }
 
-// The stream that is asked for.
-fn stream_asked<R: Read, W: Write>(
+/// Streams what is asked for, over the tables that are asked for: the sample with its supplement, those of the first line,
+/// or those and the supplement of the second.
+///
+/// # Errors
+///
+/// - `Tables` where the first line gives no tables, and `Supplement` where the second gives no supplement: nothing was
+///   written.
+/// - `Memory` where none was found for the sample, and `Read` and `Memory` while such lines are read: nothing was written.
+/// - The others as `stream` answers them over what follows.
+pub fn stream_asked<R: Read, W: Write>(
     alloc: Global,
     asked: &Asked,
     reader: &mut R,

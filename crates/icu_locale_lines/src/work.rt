@@ -12,6 +12,7 @@ pub mod load;
 pub mod locale;
 pub mod name;
 pub mod offered;
+pub mod parts;
 pub mod serve;
 pub mod serving;
 pub mod value;
@@ -25,6 +26,7 @@ use crate::work::list::add_requests;
 use crate::work::locale::add_locale;
 use crate::work::name::{Naming, add_name};
 use crate::work::offered::Offered;
+use crate::work::parts::add_parts;
 use crate::work::serve::{add_distance, add_served};
 use crate::work::serving::Distances;
 use icu_locale::{LocaleDirectionality, LocaleExpander, NegotiatorRef};
@@ -61,6 +63,8 @@ pub enum Tools<'r> {
     Serve(Wishes, LocaleServer<'r>, &'r Offered),
     /// The distance of two identifiers is told.
     Distance(Distances<'r>),
+    /// The parts of each locale are told.
+    Parts,
 }
 
 impl<'r> Work<'r> {
@@ -123,6 +127,7 @@ impl<'r> Work<'r> {
                 add_served(text, server, offered, *wishes, syntax, line)
             }
             Tools::Distance(distances) => add_distance(text, distances, syntax, line),
+            Tools::Parts => add_parts(text, syntax, line),
         }
     }
 }

@@ -1,7 +1,7 @@
 //! Locale identifiers as they come: each line of the input is answered before more is read.
 #![tactic(auto)]
 
-use icu_locale_lines::{Asked, CliError, Source, Status, program_words, stream_words};
+use icu_locale_lines::{Asked, CliError, Source, Status, Words, program_words, stream_asked};
 use std::alloc::Global;
 use std::cell::Cell;
 use std::io;
@@ -32,6 +32,7 @@ supplement the second their supplement; without json both are a small sample.
   serve                    what is served for each header Accept-Language; the first line lists what is available
   nearest                  the nearest available identifier for each line of requests; the first line lists them
   distance                 how far the second identifier of a line is from the first
+  parts                    each part of a locale in a place of its own, a tab between two places
   settled                  whether the tables are settled: yes or no
 
 CHAIN is tiny, light, short-light, long-light, menu-light, short-menu-light, heavy, short-heavy, long-heavy, menu-heavy
@@ -79,6 +80,8 @@ struct Noting<'a, W> {
 }
 
 impl<W: Write> Write for Noting<'_, W> {
+    ghost contents = { λ n. W.contents n.writer };
+
     fn write(&mut self, bytes: &[u8]) -> io::Result<usize> {
         let written = self.writer.write(bytes);
         if let Err(refusal) = &written {
@@ -102,23 +105,18 @@ fn start(rt: &HostRuntime, is_closed: &Cell<bool>) -> Result<Status, CliError> {
             Err(_) => Err(CliError::Write),
         },
         None => {
-            if is_over_sample(rt.alloc(), &words) && rt.stderr().is_terminal() {
+            let Some(asked) = Asked::from_words(rt.alloc(), Words::new(&words)) else {
+                return Err(CliError::Usage);
+            };
+            if asked.source == Source::Sample && rt.stderr().is_terminal() {
                 let _ = rt.eprintln(OVER_SAMPLE);
             }
             let mut writer = Noting {
                 writer: io::writer(rt),
                 is_closed,
             };
-            stream_words(rt.alloc(), &words, &mut rt.reader(), &mut writer)
+            stream_asked(rt.alloc(), &asked, &mut rt.reader(), &mut writer)
         }
-    }
-}
-
-// Whether the words ask for a stream over the sample.
-fn is_over_sample(alloc: Global, words: &[String]) -> bool {
-    match Asked::from_words(alloc, words) {
-        Ok(asked) => asked.source == Source::Sample,
-        Err(_) => false,
     }
 }
 

@@ -1,5 +1,8 @@
--- The first of some texts, and the others.
-use Rattle.std.specs.Prelude.{ℕ, List, [], ◌∷◌}
+-- The first of some texts, and the others; the words of a text.
+use Rattle.std.specs.Prelude.{ℕ, List, [], ◌∷◌, Option, Some, None}
+use Rattle.std.specs.List.{slice_split}
+use Rattle.icu_locale_lines.specs.Lists.{is_space}
+use denote.Ref.{Bor}
 
 -- the first text, or nothing
 abbrev pub first_of : List (List ℕ) → List ℕ
@@ -10,3 +13,8 @@ first_of (w ∷ ws) = w
 abbrev pub others_of : List (List ℕ) → List (List ℕ)
 others_of [] = []
 others_of (w ∷ ws) = ws
+
+-- those of a text, if one is left
+abbrev pub words_of : Option (Bor (List ℕ)) → List (List ℕ)
+words_of None = []
+words_of (Some text) = slice_split is_space text.now

@@ -8,7 +8,6 @@ ghost use Rattle.icu_locale_lines.specs.Loads.{not_found};
 ghost use Rattle.icu_locale_lines.specs.Streams.{part_size, IsRunWithin, IsRefusedStream, IsJsonStream, IsRefusedJsonStream, IsSupplementStream, IsRefusedSupplementStream};
 ghost use Rattle.icu_locale_lines.specs.Streams.{IsUnended, StopsLoaded, EndsLines, AnswersEnded, StopsStream};
 ghost use Rattle.icu_locale_lines.specs.inner.Parts.{StopsPart};
-ghost use Rattle.icu_locale_lines.specs.WholeRuns.{IsRun};
 ghost use Rattle.icu_locale_lines.specs.Commands.{IsListing, IsUnsettled, has_tables};
 ghost use Rattle.icu_locale_lines.specs.declared.command.Command.TheVariants.{Lines};
 ghost use Rattle.icu_locale_lines.specs.declared.command.LineCommand.{LineCommand};
@@ -34,10 +33,15 @@ use std::io::{Read, Write};
 /// is read. What follows the last line feed is answered at the end. It takes memory for the line in hand, its answer, and
 /// what `Negotiate` has available.
 ///
+/// Where a bound is given, a line longer than so many bytes counts as a failed read, its line feed not counted and however
+/// the input comes by parts: the lines before it are answered, and no more is read. So does a first line that lists what
+/// is available. An input without line feeds does not fill memory then.
+///
 /// # Errors
 ///
 /// - `Data`, `NotSettled` and `Available` as `run` answers them: nothing was written.
-/// - `Read` where a read failed or the input did not end: each line that had come whole was answered.
+/// - `Read` where a read failed, the input did not end or a line is longer than the bound: each line that had come whole
+///   before was answered.
 /// - `Write` where a write or a flush failed, or a write took no byte: the earlier lines were answered, and a beginning of
 ///   the answer in hand.
 /// - `Memory` where memory was refused: each line that had ended before the last 16,384 bytes that were read was answered,
@@ -46,97 +50,26 @@ pub fn stream<R: Read, W: Write>(
     alloc: Global,
     command: &Command,
     tables: &Tables,
+    longest: Option<usize>,
     reader: &mut R,
     writer: &mut W,
 ) -> Result<Status, CliError>
-    ensures output { IfOk result (IsRun command.now tables.now (R.remaining reader.old)
-        (R.remaining reader.new) (W.contents writer.old) (W.contents writer.new)) }
-    ensures data { (result ≡ Err (CliError.Data not_found))
-        ↔ (has_tables command.now tables.now ≡ false) }
-    ensures unsettled { (result ≡ Err CliError.NotSettled)
-        ↔ IsUnsettled command.now tables.now }
-    ensures refused { IfErr result (IsRefusedStream None command.now tables.now
-        (R.remaining reader.old) (R.remaining reader.old) (R.remaining reader.new)
-        (W.contents writer.old) (W.contents writer.new)) }
-{
-    stream_over(alloc, command, tables, None, &[], reader, writer)
-}
-
-/// Does as `stream`, but a line longer than so many bytes counts as a failed read, its line feed not counted and however
-/// the input comes by parts: the lines before it are answered, and no more is read. So does a first line that lists what
-/// is available. An input without line feeds does not fill memory then.
-///
-/// # Errors
-///
-/// Those of `stream`; `Read` also where a line is longer than that.
-pub fn stream_within<R: Read, W: Write>(
-    alloc: Global,
-    command: &Command,
-    tables: &Tables,
-    longest: usize,
-    reader: &mut R,
-    writer: &mut W,
-) -> Result<Status, CliError>
-    ensures output { IfOk result (IsRunWithin (Some longest) command.now tables.now
+    ensures output { IfOk result (IsRunWithin longest command.now tables.now
         (R.remaining reader.old) (R.remaining reader.old) (R.remaining reader.new)
         (W.contents writer.old) (W.contents writer.new)) }
     ensures data { (result ≡ Err (CliError.Data not_found))
         ↔ (has_tables command.now tables.now ≡ false) }
     ensures unsettled { (result ≡ Err CliError.NotSettled)
         ↔ IsUnsettled command.now tables.now }
-    ensures refused { IfErr result (IsRefusedStream (Some longest) command.now tables.now
+    ensures refused { IfErr result (IsRefusedStream longest command.now tables.now
         (R.remaining reader.old) (R.remaining reader.old) (R.remaining reader.new)
         (W.contents writer.old) (W.contents writer.new)) }
 {
-    stream_over(alloc, command, tables, Some(longest), &[], reader, writer)
+    stream_over(alloc, command, tables, longest, &[], reader, writer)
 }
 
-/// Takes the tables of the first line as JSON, as soon as it has come, and does as `stream` with what follows. `Settled`
-/// reads no further. It takes memory for the first line and the tables too.
-///
-/// # Errors
-///
-/// - `Tables` where the first line gives no tables: nothing was written.
-/// - The others as `stream` answers them over what follows the first line; `Read` and `Memory` also while that is read:
-///   nothing was written then.
-pub fn stream_json<R: Read, W: Write>(
-    alloc: Global,
-    command: &Command,
-    reader: &mut R,
-    writer: &mut W,
-) -> Result<Status, CliError>
-    ensures output { IfOk result (IsJsonStream None command.now (R.remaining reader.old)
-        (R.remaining reader.new) (W.contents writer.old) (W.contents writer.new)) }
-    ensures refused { IfErr result (IsRefusedJsonStream None command.now (R.remaining reader.old)
-        (R.remaining reader.new) (W.contents writer.old) (W.contents writer.new)) }
-{
-    stream_json_over(alloc, command, None, reader, writer)
-}
-
-/// Takes the tables of the first line and does as `stream_within` with what follows. The line of the tables may be of any
-/// length: it comes from who runs this.
-///
-/// # Errors
-///
-/// Those of `stream_json`; `Read` also where a line that follows is longer than so many bytes.
-pub fn stream_json_within<R: Read, W: Write>(
-    alloc: Global,
-    command: &Command,
-    longest: usize,
-    reader: &mut R,
-    writer: &mut W,
-) -> Result<Status, CliError>
-    ensures output { IfOk result (IsJsonStream (Some longest) command.now
-        (R.remaining reader.old) (R.remaining reader.new) (W.contents writer.old)
-        (W.contents writer.new)) }
-    ensures refused { IfErr result (IsRefusedJsonStream (Some longest) command.now
-        (R.remaining reader.old) (R.remaining reader.new) (W.contents writer.old)
-        (W.contents writer.new)) }
-{
-    stream_json_over(alloc, command, Some(longest), reader, writer)
-}
-
-// Takes the tables of the first line, and answers what follows.
+// Takes the tables of the first line, which may be of any length since it comes from who runs this, and answers what
+// follows.
 pub fn stream_json_over<R: Read, W: Write>(
     alloc: Global,
     command: &Command,
@@ -161,32 +94,6 @@ pub fn stream_json_over<R: Read, W: Write>(
         reader,
         writer,
     )
-}
-
-/// Takes the tables of the first line and their supplement of the second, and does as `stream_within` with what follows.
-/// Both lines may be of any length: they come from who runs this. It takes memory for them and what they give too.
-///
-/// # Errors
-///
-/// - `Tables` where the first line gives no tables, and `Supplement` where the second gives no supplement: nothing was
-///   written.
-/// - The others as `stream_within` answers them over what follows; `Read` and `Memory` also while both lines are read:
-///   nothing was written then.
-pub fn stream_supplement_within<R: Read, W: Write>(
-    alloc: Global,
-    command: &Command,
-    longest: usize,
-    reader: &mut R,
-    writer: &mut W,
-) -> Result<Status, CliError>
-    ensures output { IfOk result (IsSupplementStream (Some longest) command.now
-        (R.remaining reader.old) (R.remaining reader.new) (W.contents writer.old)
-        (W.contents writer.new)) }
-    ensures refused { IfErr result (IsRefusedSupplementStream (Some longest) command.now
-        (R.remaining reader.old) (R.remaining reader.new) (W.contents writer.old)
-        (W.contents writer.new)) }
-{
-    stream_supplement_over(alloc, command, Some(longest), reader, writer)
 }
 
 // Takes the tables of the first line and their supplement of the second, and answers what follows.

@@ -110,6 +110,7 @@ impl<'r> Loaded<'r> {
             Task::Name(chain, preferences) => Tools::Name(load_naming(tables, chain, preferences)),
             Task::Fallback => Tools::Fallback(load_fallbacker(tables)?),
             Task::Distance => Tools::Distance(load_distances(tables)?),
+            Task::Parts => Tools::Parts,
             Task::Negotiate => {
                 let expander = load_expander(tables)?;
                 if !expander.is_settled() {

@@ -4,11 +4,10 @@ ghost use Rattle.icu_provider.specs.Provider.{kind_name};
 ghost use Rattle.icu_locale_names.specs.LanguageChains.{chain_of};
 ghost use Rattle.icu_locale_names.specs.LanguageNames.{GivesName};
 ghost use Rattle.icu_locale_names.specs.declared.options.LanguageDisplay.TheVariants.{Dialect};
-ghost use Rattle.icu_locale_names.specs.declared.options.DisplayNamesPreferences.{DisplayNamesPreferences};
 ghost use Rattle.icu_locale_names.specs.Pieces.{Piece};
 ghost use Rattle.icu_locale_full_names.specs.FullNames.{GivesFullName, written};
 ghost use Rattle.icu_locale_lines.specs.Answers.{AddsLine, Keeps, IsAnswerOf, IsNamed, IsWholeNamed};
-ghost use Rattle.icu_locale_lines.specs.Commands.{SpellsPreferences};
+ghost use Rattle.icu_locale_lines.specs.Grammar.{preferences_at};
 ghost use Rattle.icu_locale_lines.specs.Names.{answers_in, name_asked, full_name_asked, IsNamedLine};
 ghost use Rattle.icu_locale_lines.specs.Texts.{named_line, raw_mark, refused_line};
 
@@ -28,18 +27,20 @@ use icu_tables::LocaleTables;
 use std::alloc::Global;
 
 // The preferences that a text names: an identifier without variants. Where memory for variants is refused there are some.
-pub fn read_preferences(alloc: Global, text: &str) -> Result<DisplayNamesPreferences, CliError>
-    ensures named { IfOk result (SpellsPreferences text.now) }
-    ensures only { (p : DisplayNamesPreferences) → SpellsPreferences text.now p
-        → result ≡ Ok p }
-    ensures refused { IfErr result (λ e. e ≡ CliError.Usage) }
+pub fn read_preferences(alloc: Global, text: &str) -> Option<DisplayNamesPreferences>
+    ensures { result ≡ preferences_at text.now }
 {
     laws::spelled_without_variants();
+    laws::pieces_are_read();
     match LanguageIdentifier::try_from_str(alloc, text) {
-        Ok(x) if x.variants.is_empty() => {
-            Ok(DisplayNamesPreferences::new(x.language, x.script, x.region))
+        Ok(x) => {
+            if x.variants.is_empty() {
+                Some(DisplayNamesPreferences::new(x.language, x.script, x.region))
+            } else {
+                None
+            }
         }
-        _ => Err(CliError::Usage),
+        Err(_) => None,
     }
 }
 
