@@ -14,7 +14,7 @@ use icu_provider::DataLocale;
 use std::alloc::Global;
 
 /// A place in the chain of an identifier. It holds one identifier, and borrows the tables.
-#[derive(Drop)]
+#[derive(Debug, Drop)]
 pub struct IdentifierFallbackIterator<'d> {
     pub(crate) fallbacker: LocaleFallbacker<'d>,
     pub(crate) config: LocaleFallbackConfig,

@@ -1,5 +1,5 @@
 -- Names that are lent: their parts, and their pieces.
-use Rattle.std.specs.Prelude.{ℕ, List, ◌++◌, map}
+use Rattle.std.specs.Prelude.{ℕ, List, ◌++◌, ◌∷◌, [], map}
 use Rattle.icu_provider.specs.Names.{part_of}
 use Rattle.icu_provider.specs.declared.essentials.PatternItem.{PatternItem}
 use Rattle.icu_locale_names.specs.LanguageNames.{Head, NameParts, pieces_by_parts}
@@ -7,6 +7,8 @@ use Rattle.icu_locale_names.specs.Pieces.{Piece}
 use Rattle.icu_locale_names.specs.Shown.{piece_of, shown_pieces, text_pieces}
 use Rattle.icu_locale_names.specs.declared.language.borrowed.LanguageIdentifierDisplayNameBorrowed.{LanguageIdentifierDisplayNameBorrowed}
 use Rattle.icu_locale_names.specs.declared.language.parts.Parts.{Parts}
+use Rattle.icu_locale_names.specs.declared.language.variants.VariantNames.{VariantNames}
+use Rattle.icu_locale_names.specs.declared.language.variants.VariantNames.TheVariants as variants
 use Rattle.icu_locale_names.specs.declared.shown.Shown.{Shown}
 pub use Rattle.icu_locale_names.specs.Shown.{lent_piece}
 
@@ -16,6 +18,12 @@ shown_head p = record {
   base = piece_of p.base;
   qualifiers = text_pieces p.extension ++ (shown_pieces p.script ++ shown_pieces p.region);
 }
+
+-- the names of variants
+abbrev pub variant_list : VariantNames → List (Shown (List ℕ))
+variant_list variants.None = []
+variant_list (variants.One name) = name ∷ []
+variant_list (variants.Many names) = names.items
 
 -- the parts of a name: with the names of variants, a pattern and a separator
 abbrev pub parts_by : Parts → List (Shown (List ℕ)) → List PatternItem → List ℕ → NameParts

@@ -14,7 +14,7 @@ enum Tally {
     OneMore(Snapshot<Tally>),
 }
 
-/// How many searches were made. It takes no bytes, and only a search adds to it.
+/// How many searches were made. It takes no bytes. Whoever writes the steps of a run counts them here, one a search.
 #[derive(Drop)]
 pub struct Turns {
     tally: Snapshot<Tally>,

@@ -15,8 +15,7 @@ use Rattle.icu_locale_names.specs.Pieces.{Piece, plain, raw_subtag}
 use Rattle.icu_locale_names.specs.declared.language.base.Base as code
 use Rattle.icu_locale_names.specs.declared.name_chain.Chains.{Chains}
 use Rattle.icu_locale_names.specs.declared.language.variants.VariantNames.{VariantNames}
-use Rattle.icu_locale_names.specs.declared.language.variants.VariantNames.TheVariants as variants
-use Rattle.icu_locale_names.specs.declared.shown.Shown.{Shown}
+use Rattle.icu_locale_names.specs.LentNames.{variant_list}
 use Rattle.icu_locale_names.specs.Shown.{piece_of, text_pieces}
 
 -- the chains that a constant lends
@@ -68,13 +67,7 @@ base_asked name menu locale chain x keys =
     (or_next (made_of (menu_base x) (menu_by menu locale x.language chain.menu))
     (keys_asked name locale chain.text x keys))
 
--- the names of variants
-abbrev pub variant_list : VariantNames → List (Shown (List ℕ))
-variant_list variants.None = []
-variant_list (variants.One name) = name ∷ []
-variant_list (variants.Many names) = names.items
-
--- as pieces
+-- the names of variants as pieces
 abbrev pub variant_pieces : VariantNames → List Piece
 variant_pieces names = map piece_of (variant_list names)
 

@@ -27,8 +27,7 @@ pub struct LanguageNameParts<'d> {
 
 impl<'d> Model for LanguageNameParts<'d> {
     ghost use Rattle.icu_locale_names.specs.LanguageNames.{NameParts};
-    ghost use Rattle.icu_locale_names.specs.LentNames.{parts_by};
-    ghost use Rattle.icu_locale_names.specs.inner.LanguageParts.{variant_list};
+    ghost use Rattle.icu_locale_names.specs.LentNames.{parts_by, variant_list};
 
     ghost Value = { NameParts };
 

@@ -4,7 +4,8 @@ ghost use Rattle.icu_locale_core.specs.TextSet.{rising};
 ghost use Rattle.icu_provider.specs.declared.names.NameKey.{NameKey};
 ghost use Rattle.icu_locale_names.specs.Chains.{variant_heavy, made_of};
 ghost use Rattle.icu_locale_names.specs.LanguageNames.{qualifier, variants_of};
-ghost use Rattle.icu_locale_names.specs.inner.LanguageParts.{variant_list, variant_pieces, IsMemory, IsThisOrMemory};
+ghost use Rattle.icu_locale_names.specs.LentNames.{variant_list};
+ghost use Rattle.icu_locale_names.specs.inner.LanguageParts.{variant_pieces, IsMemory, IsThisOrMemory};
 ghost use Rattle.icu_locale_names.specs.Shown.{piece_of};
 
 use crate::language::named::name_or_raw;
