@@ -3,7 +3,7 @@ use crate::fault::Fault;
 use crate::likely::{self, Likely};
 use crate::texts::{self, Kind, four_words, written};
 use crate::world::World;
-use crate::{canonical, chains, language_names, menus, names, negotiation};
+use crate::{canonical, chains, language_names, menus, names, negotiation, runs};
 use icu_locale_extensions::Syntax;
 use icu_tables::{TableError, Tables};
 use std::alloc::Global;
@@ -57,13 +57,17 @@ pub enum Call {
     Chain,
     /// Reads a supplement, and counts what it holds.
     Supplement,
+    /// Runs a command over lines.
+    Run,
+    /// Streams lines.
+    Stream,
     /// Reads tables, and names what they hold.
     Json,
     /// Reads each beginning of a JSON text that is not the whole.
     JsonCuts,
 }
 
-const CALLS: [(&str, Call); 41] = [
+const CALLS: [(&str, Call); 43] = [
     ("read", Call::Read(Kind::Identifier)),
     ("language", Call::Read(Kind::Language)),
     ("script", Call::Read(Kind::Script)),
@@ -103,6 +107,8 @@ const CALLS: [(&str, Call); 41] = [
     ("essentials", Call::Essentials),
     ("chain", Call::Chain),
     ("json-supplement", Call::Supplement),
+    ("run", Call::Run),
+    ("stream", Call::Stream),
     ("json", Call::Json),
     ("json-cuts", Call::JsonCuts),
 ];
@@ -123,6 +129,8 @@ pub fn answer(alloc: Global, world: &World, call: Call, input: &[u8]) -> Result<
         Call::Read(kind) => texts::read(alloc, kind, input),
         Call::Likely(call) => likely::answer(alloc, world, call, input),
         Call::Supplement => chains::held(alloc, input),
+        Call::Run => runs::run_of(alloc, world, input),
+        Call::Stream => runs::stream_of(alloc, input),
         Call::Json => held(alloc, input),
         Call::JsonCuts => cuts(alloc, input),
         _ => match str::from_utf8(input) {

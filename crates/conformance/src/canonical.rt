@@ -26,12 +26,9 @@ fn extend(alloc: Global, locale: &mut Locale, word: &str) -> Result<(), Fault> {
         let lang = LanguageIdentifier::try_from_str(alloc, text)?;
         locale.extensions.transform.lang = Some(lang);
     } else {
+        let key = Key::try_from_str(key)?;
         let value = Value::try_from_str(alloc, text)?;
-        let _ = locale
-            .extensions
-            .unicode
-            .keywords
-            .set(Key::try_from_str(key)?, value)?;
+        let _ = locale.extensions.unicode.keywords.set(key, value)?;
     }
     Ok(())
 }
@@ -70,10 +67,20 @@ fn canonicalized(
 ) -> Result<String, Fault> {
     let mut after = before.try_clone()?;
     let answer = canonicalizer.canonicalize(&mut after);
-    if !counts_alike(canonicalizer, before, &after, answer.is_ok())? {
+    compared(alloc, canonicalizer, (before, &after), &answer)
+}
+
+// (What owns the locale and the answer has one exit, since each exit is a proof of both drops.)
+fn compared(
+    alloc: Global,
+    canonicalizer: &LocaleCanonicalizer<'_>,
+    (before, after): (&Locale, &Locale),
+    answer: &Result<TransformResult, CanonicalizeError>,
+) -> Result<String, Fault> {
+    if !counts_alike(canonicalizer, before, after, answer.is_ok())? {
         return written(alloc, &"the counted call differs");
     }
-    told(alloc, &answer, before, &after)
+    told(alloc, answer, before, after)
 }
 
 // Whether the counted call makes of a locale what the other has made of it, and succeeds where that did.
@@ -84,8 +91,10 @@ fn counts_alike(
     is_ok: bool,
 ) -> Result<bool, Fault> {
     let mut counted = before.try_clone()?;
-    let again = canonicalizer.canonicalize_counted(&mut counted, &mut Turns::new());
-    Ok(counted == *after && again.is_ok() == is_ok)
+    let again = canonicalizer
+        .canonicalize_counted(&mut counted, &mut Turns::new())
+        .is_ok();
+    Ok(counted == *after && again == is_ok)
 }
 
 fn told(

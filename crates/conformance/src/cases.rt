@@ -2,7 +2,8 @@
 //!
 //! A row is `CALL INPUT -> ANSWER`. Empty lines and lines that begin with `#` say nothing to the program. A line
 //! `sample JSON` sets the sample tables, and `tables JSON` the tables of the rows that follow: what they do not hold is
-//! the sample's. A line `supplement JSON` sets their supplement. In the input of a row `\xHH` is a byte.
+//! the sample's. A line `supplement JSON` sets their supplement. In the input of a row `\xHH` is a byte, `\n` a line
+//! feed, and `\t` a tab.
 use crate::calls::{answer, named};
 use crate::fault::Fault;
 use crate::world::World;
@@ -134,13 +135,26 @@ fn unescaped(alloc: Global, input: &str) -> Result<Vec<u8>, Fault> {
 
 // What follows a backslash.
 fn unescape(bytes: &mut Vec<u8>, part: &str) -> Result<(), Fault> {
+    if let Some(rest) = part.strip_prefix('n') {
+        return put(bytes, b'\n', rest);
+    }
+    if let Some(rest) = part.strip_prefix('t') {
+        return put(bytes, b'\t', rest);
+    }
     let Some((byte, rest)) = part.split_at_checked(3) else {
         return Err(Fault::Row);
     };
     let Some(digits) = byte.strip_prefix('x') else {
         return Err(Fault::Row);
     };
-    bytes.push(u8::from_str_radix(digits, 16).ok().ok_or(Fault::Row)?)?;
-    bytes.extend_from_slice(rest.as_bytes())?;
-    Ok(())
+    put(
+        bytes,
+        u8::from_str_radix(digits, 16).ok().ok_or(Fault::Row)?,
+        rest,
+    )
+}
+
+fn put(bytes: &mut Vec<u8>, byte: u8, rest: &str) -> Result<(), Fault> {
+    bytes.push(byte)?;
+    Ok(bytes.extend_from_slice(rest.as_bytes())?)
 }

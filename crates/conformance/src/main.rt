@@ -13,6 +13,7 @@ mod likely;
 mod menus;
 mod names;
 mod negotiation;
+mod runs;
 mod texts;
 mod world;
 

@@ -11,7 +11,7 @@ use crate::steps::compare_steps;
 use crate::subtags::Subtags;
 use crate::values::{PlainValue, ValueRow, next_value};
 use icu_locale::{CanonicalizeError, LocaleCanonicalizer, TransformResult, Turns};
-use icu_locale_core::{Key, Locale, Value};
+use icu_locale_core::{Key, LanguageIdentifier, Locale, Value};
 use std::alloc::Global;
 
 /// The rules of one world, and the rows of its likely subtags.
@@ -85,9 +85,10 @@ fn put(
     value: Option<PlainValue>,
 ) -> Result<(), Fault> {
     if let Some(value) = value {
+        let key = Key::try_from_str(key)?;
         let value = Value::try_from_str(alloc, value.text())?;
         let keywords = &mut locale.extensions.unicode.keywords;
-        let _ = keywords.set(Key::try_from_str(key)?, value)?;
+        let _ = keywords.set(key, value)?;
     }
     Ok(())
 }
@@ -104,7 +105,7 @@ enum Outcome {
 }
 
 // The identifier's run is asked first, then the transform language's, then the values'.
-fn wanted(alloc: Global, world: World<'_>, old: &PlainLocale) -> Result<Outcome, Fault> {
+fn outcome_of(alloc: Global, world: World<'_>, old: &PlainLocale) -> Result<Outcome, Fault> {
     let id = match walk(alloc, &ByAll(world), old.id)? {
         Run::Ends(id) => id,
         Run::Repeats(again) => return Ok(Outcome::Repeats(Some(again))),
@@ -159,12 +160,13 @@ fn agrees(
     old: &PlainLocale,
     (answer, left): (&Answer, &Locale),
 ) -> Result<bool, Fault> {
-    let (is_so, new) = match wanted(alloc, world, old)? {
+    let (is_so, new) = match outcome_of(alloc, world, old)? {
         Outcome::Canonical(new) => (tells_applied(answer, is_applied(world, old)), new),
         Outcome::Repeats(again) => (names(answer, &again, world.subtags), *old),
         Outcome::ValueRepeats(again) => (names_value(alloc, answer, &again)?, *old),
     };
-    Ok(is_so && *left == new.held(alloc, world.subtags)?)
+    let wanted = new.held(alloc, world.subtags)?;
+    Ok(is_so && *left == wanted)
 }
 
 fn tells_applied(answer: &Answer, applied: bool) -> bool {
@@ -191,6 +193,25 @@ struct Asked {
     is_counted: bool,
 }
 
+const CALLS: [Asked; 4] = [
+    Asked {
+        is_lent: false,
+        is_counted: false,
+    },
+    Asked {
+        is_lent: false,
+        is_counted: true,
+    },
+    Asked {
+        is_lent: true,
+        is_counted: false,
+    },
+    Asked {
+        is_lent: true,
+        is_counted: true,
+    },
+];
+
 fn ask(canonicalizer: &LocaleCanonicalizer<'_>, locale: &mut Locale, asked: Asked) -> Answer {
     let turns = &mut Turns::new();
     match (asked.is_lent, asked.is_counted) {
@@ -198,6 +219,23 @@ fn ask(canonicalizer: &LocaleCanonicalizer<'_>, locale: &mut Locale, asked: Aske
         (false, true) => canonicalizer.canonicalize_counted(locale, turns),
         (true, false) => canonicalizer.lend().canonicalize(locale),
         (true, true) => canonicalizer.lend().canonicalize_counted(locale, turns),
+    }
+}
+
+// The same of an identifier alone.
+fn ask_identifier(
+    canonicalizer: &LocaleCanonicalizer<'_>,
+    id: &mut LanguageIdentifier,
+    asked: Asked,
+) -> Answer {
+    let turns = &mut Turns::new();
+    match (asked.is_lent, asked.is_counted) {
+        (false, false) => canonicalizer.canonicalize_identifier(id),
+        (false, true) => canonicalizer.canonicalize_identifier_counted(id, turns),
+        (true, false) => canonicalizer.lend().canonicalize_identifier(id),
+        (true, true) => canonicalizer
+            .lend()
+            .canonicalize_identifier_counted(id, turns),
     }
 }
 
@@ -211,59 +249,73 @@ fn compare_call(
 ) -> Result<bool, Fault> {
     let mut left = old.held(alloc, world.subtags)?;
     let answer = ask(canonicalizer, &mut left, asked);
-    report.meet(kind(&answer)?);
-    agrees(alloc, world, old, (&answer, &left))
+    meet_and_agree(alloc, report, world, old, (&answer, &left))
 }
 
-// Whether the call for an identifier alone agrees, by the canonicalizer or by what it lends.
-fn compare_identifier(
+// (What owns the locale and the answer has one exit, since each exit is a proof of both drops.)
+fn meet_and_agree(
     alloc: Global,
-    canonicalizer: &LocaleCanonicalizer<'_>,
+    report: &mut Report,
     world: World<'_>,
-    (id, is_lent): (Plain, bool),
+    old: &PlainLocale,
+    (answer, left): (&Answer, &Locale),
 ) -> Result<bool, Fault> {
-    let mut left = id.held(alloc, world.subtags)?;
-    let answer = if is_lent {
-        canonicalizer.lend().canonicalize_identifier(&mut left)
-    } else {
-        canonicalizer.canonicalize_identifier(&mut left)
-    };
-    let old = PlainLocale {
-        id,
-        lang: None,
-        rg: None,
-        sd: None,
-    };
-    agrees(alloc, world, &old, (&answer, &Locale::new(alloc, left)))
+    report.meet(kind(answer)?);
+    agrees(alloc, world, old, (answer, left))
 }
 
-// The worlds take turns at the calls of the canonicalizer and of what it lends.
-fn compare_everyone(
+// Whether one of the calls for an identifier alone agrees.
+fn compare_identifier(
     alloc: Global,
     report: &mut Report,
     canonicalizer: &LocaleCanonicalizer<'_>,
     world: World<'_>,
-    (numbers, variants): (&mut Numbers, u8),
+    (old, asked): (&PlainLocale, Asked),
+) -> Result<bool, Fault> {
+    let mut left = old.id.held(alloc, world.subtags)?;
+    let answer = ask_identifier(canonicalizer, &mut left, asked);
+    let left = Locale::new(alloc, left);
+    meet_and_agree(alloc, report, world, old, (&answer, &left))
+}
+
+// Every world asks the canonicalizer, and every second one what it lends too.
+fn compare_one(
+    alloc: Global,
+    report: &mut Report,
+    canonicalizer: &LocaleCanonicalizer<'_>,
+    world: World<'_>,
+    old: &PlainLocale,
+) -> Result<(), Fault> {
+    let alone = PlainLocale {
+        id: old.id,
+        lang: None,
+        rg: None,
+        sd: None,
+    };
+    compare_calls(alloc, report, canonicalizer, world, (old, false))?;
+    compare_calls(alloc, report, canonicalizer, world, (&alone, true))?;
+    compare_steps(alloc, report, canonicalizer, world, &old.id)
+}
+
+// The calls for a locale, or those for an identifier alone.
+fn compare_calls(
+    alloc: Global,
+    report: &mut Report,
+    canonicalizer: &LocaleCanonicalizer<'_>,
+    world: World<'_>,
+    (old, is_alone): (&PlainLocale, bool),
 ) -> Result<(), Fault> {
     let is_lent = report.world % 2 == 1;
-    for id in everyone(world.subtags, variants) {
-        let old = PlainLocale {
-            id,
-            lang: Drawn::draw(numbers, world.subtags),
-            rg: Drawn::draw(numbers, world.subtags),
-            sd: Drawn::draw(numbers, world.subtags),
-        };
-        for is_counted in [false, true] {
-            let asked = Asked {
-                is_lent,
-                is_counted,
+    for asked in CALLS {
+        if is_lent || !asked.is_lent {
+            let one = (old, asked);
+            let is_so = if is_alone {
+                compare_identifier(alloc, report, canonicalizer, world, one)?
+            } else {
+                compare_call(alloc, report, canonicalizer, world, one)?
             };
-            let is_so = compare_call(alloc, report, canonicalizer, world, (&old, asked))?;
-            report.see(is_so, "canonicalize", &id);
+            report.see(is_so, "canonicalize", &old.id);
         }
-        let is_so = compare_identifier(alloc, canonicalizer, world, (id, is_lent))?;
-        report.see(is_so, "canonicalize_identifier", &id);
-        compare_steps(alloc, report, canonicalizer, world, &id)?;
     }
     Ok(())
 }
@@ -277,7 +329,15 @@ pub fn compare_canonical(
     numbers: &mut Numbers,
 ) -> Result<(), Fault> {
     for variants in 0..8 {
-        compare_everyone(alloc, report, canonicalizer, world, (numbers, variants))?;
+        for id in everyone(world.subtags, variants) {
+            let old = PlainLocale {
+                id,
+                lang: Drawn::draw(numbers, world.subtags),
+                rg: Drawn::draw(numbers, world.subtags),
+                sd: Drawn::draw(numbers, world.subtags),
+            };
+            compare_one(alloc, report, canonicalizer, world, &old)?;
+        }
     }
     Ok(())
 }

@@ -8,6 +8,9 @@ use thiserror::Error;
 /// Why the worlds are not compared to their end.
 #[derive(Debug, Drop, Error)]
 pub enum Fault {
+    /// The words say no number of worlds.
+    #[error("usage: small_worlds [NUMBER]")]
+    Usage,
     /// Memory was asked for and refused.
     #[error("memory was refused")]
     Memory(#[from(alloc)] AllocError),
@@ -26,4 +29,14 @@ pub enum Fault {
     /// The report could not be written.
     #[error("the report could not be written")]
     Stream(#[from] io::Error),
+}
+
+impl Fault {
+    /// 2 where the words are wrong, else 1.
+    pub fn status(&self) -> u8 {
+        match self {
+            Fault::Usage => 2,
+            _ => 1,
+        }
+    }
 }

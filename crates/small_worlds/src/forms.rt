@@ -148,6 +148,8 @@ fn compare_script(
 ) -> Result<(), Fault> {
     let script = expander.get_likely_script(&pair.x.held(alloc, subtags)?);
     report.see(script == pair.form.script, "get_likely_script", &pair.x);
+    let form = expander.maximal_locale(pair.x.locale());
+    report.see(form == pair.form.locale(), "maximal_locale", &pair.x);
     Ok(())
 }
 

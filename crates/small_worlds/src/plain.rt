@@ -3,6 +3,7 @@ use crate::fault::Fault;
 use crate::numbers::{Drawn, Numbers};
 use crate::subtags::Subtags;
 use icu_locale_core::{Language, LanguageIdentifier, Region, Script, Variants};
+use icu_provider::DataLocale;
 use std::alloc::Global;
 
 /// The sets of one variant each.
@@ -52,6 +53,15 @@ impl Plain {
             region: self.region,
             variants: Variants::try_from_list(list)?,
         })
+    }
+
+    /// As the crates hold it without its variants.
+    pub fn locale(&self) -> DataLocale {
+        DataLocale {
+            language: self.language,
+            script: self.script,
+            region: self.region,
+        }
     }
 
     /// Whether the crates hold the same.

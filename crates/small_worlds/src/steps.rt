@@ -73,27 +73,20 @@ pub fn compare_steps(
     compare_own_rules(alloc, report, world, (x, &id))
 }
 
-// The worlds take turns at the three lists of rules: those without variants, those with some, and aliases of languages.
+// The rules without variants, and by turns those with some or the aliases of languages.
 fn compare_own_rules(
     alloc: Global,
     report: &mut Report,
     world: World<'_>,
     x: (&Plain, &LanguageIdentifier),
 ) -> Result<(), Fault> {
-    match report.world % 3 {
-        0 => compare_rules(alloc, report, world.subtags, &world.rules.language, x),
-        1 => compare_rules(
-            alloc,
-            report,
-            world.subtags,
-            &world.rules.language_variants,
-            x,
-        ),
-        _ => {
-            compare_aliases(alloc, report, world.subtags, &world.rules.language_len2, x)?;
-            compare_aliases(alloc, report, world.subtags, &world.rules.language_len3, x)
-        }
+    let (rules, subtags) = (world.rules, world.subtags);
+    compare_rules(alloc, report, subtags, &rules.language, x)?;
+    if report.world % 2 == 1 {
+        return compare_rules(alloc, report, subtags, &rules.language_variants, x);
     }
+    compare_aliases(alloc, report, subtags, &rules.language_len2, x)?;
+    compare_aliases(alloc, report, subtags, &rules.language_len3, x)
 }
 
 fn compare_rules(

@@ -18,13 +18,24 @@ use icu_tables::Tables;
 use std::alloc::Global;
 
 // What one world is made of, plainly.
-#[derive(Drop)]
 struct Parts {
     likely: Likely,
     rules: Rules,
     values: [ValueRow; 4],
     ways: Ways,
     exemplars: [Exemplars; 5],
+}
+
+impl Drop for Parts {
+    fn drop(self) {
+        let Parts {
+            likely: _,
+            rules: _,
+            values: _,
+            ways: _,
+            exemplars: _,
+        } = self;
+    }
 }
 
 impl Drawn for Parts {
@@ -47,19 +58,21 @@ impl Parts {
         Ok(aliases)
     }
 
-    // The same as the crates hold it.
-    fn tables(&self, alloc: Global, subtags: &Subtags) -> Result<Tables, Fault> {
+    // Puts the rows of likely subtags into tables.
+    fn put_likely(&self, alloc: Global, tables: &mut Tables) -> Result<(), Fault> {
         let (language, script_region) = self.likely.common(alloc)?;
-        let extended = self.likely.extended(alloc)?;
-        let directions = self.ways.held(alloc, subtags)?;
-        let aliases = self.aliases(alloc, subtags)?;
-        let mut tables = Tables::new(alloc);
         tables.set_likely_language(language);
         tables.set_likely_script_region(script_region);
-        tables.set_likely_extended(extended);
-        tables.set_script_direction(directions);
-        tables.set_aliases(aliases);
-        Ok(tables)
+        tables.set_likely_extended(self.likely.extended(alloc)?);
+        Ok(())
+    }
+
+    // Puts all as the crates hold it into tables.
+    fn put(&self, alloc: Global, subtags: &Subtags, tables: &mut Tables) -> Result<(), Fault> {
+        self.put_likely(alloc, tables)?;
+        tables.set_script_direction(self.ways.held(alloc, subtags)?);
+        tables.set_aliases(self.aliases(alloc, subtags)?);
+        Ok(())
     }
 }
 
@@ -117,7 +130,8 @@ fn compare_next(
     numbers: &mut Numbers,
 ) -> Result<(), Fault> {
     let parts = Parts::draw(numbers, subtags);
-    let tables = parts.tables(alloc, subtags)?;
+    let mut tables = Tables::new(alloc);
+    parts.put(alloc, subtags, &mut tables)?;
     compare_parts(alloc, report, &parts, &tables, subtags, numbers)
 }
 

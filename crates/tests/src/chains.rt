@@ -1,131 +1,180 @@
-//! The constructors of names of identifiers, and the chains that they name by.
-use crate::known::{english, identifier, sample, text};
-use crate::languages::named;
+//! Chains of fallback.
+use crate::faults::is_named;
+use icu_locale::LocaleExpander;
 use icu_locale_core::LanguageIdentifier;
-use icu_locale_names::{LanguageIdentifierDisplayName, NameChain};
+use icu_locale_fallback::{
+    FallbackError, LocaleFallbackConfig, LocaleFallbackPriority, LocaleFallbacker,
+};
+use icu_provider::{DataLocale, SortedMap};
 use icu_tables::Tables;
 use std::alloc::Global;
 use std::process::Abort;
+use tests_shared::known::{identifier, language, sample, text};
 
-// Whether a name has the text that a chain gives.
-fn is_by(
+// The letter at a place below 26.
+fn letter(place: usize) -> u8 {
+    match u8::try_from(place) {
+        Ok(place) => b'a'.saturating_add(place),
+        Err(_) => b'z',
+    }
+}
+
+// The language of three letters at a place: `aaa`, `aab` and so on.
+fn numbered(rt: &impl Abort, place: usize) -> DataLocale {
+    let letters = [
+        letter(place / 400),
+        letter(place / 20 % 20),
+        letter(place % 20),
+    ];
+    let text = str::from_utf8(&letters).expect(rt, "letters");
+    DataLocale {
+        language: language(text).expect(rt, "language"),
+        script: None,
+        region: None,
+    }
+}
+
+// Parents from each place to the next, of so many languages.
+fn long_parents(rt: &impl Abort, alloc: Global, count: usize) -> SortedMap<DataLocale, DataLocale> {
+    let mut parents = SortedMap::new(alloc);
+    for place in 0..count {
+        let next = numbered(rt, place.saturating_add(1));
+        let inserted = parents.insert(numbered(rt, place), next);
+        inserted.expect(rt, "memory");
+    }
+    parents
+}
+
+const BY_LANGUAGE: LocaleFallbackConfig = LocaleFallbackConfig {
+    priority: LocaleFallbackPriority::Language,
+};
+
+fn expander<'t>(rt: &impl Abort, tables: &'t Tables) -> LocaleExpander<'t> {
+    LocaleExpander::try_new_common_unstable(tables).expect(rt, "tables")
+}
+
+// A chain of 4,000 parents is listed and written.
+fn long_chain(
     rt: &impl Abort,
     alloc: Global,
     tables: &Tables,
-    subject: &LanguageIdentifier,
-    chain: NameChain,
-    name: LanguageIdentifierDisplayName<'_>,
-) -> bool {
-    let wanted = named(alloc, tables, english(rt), subject, chain).expect(rt, "a name");
-    text(rt, alloc, &name.as_borrowed()) == text(rt, alloc, &wanted.as_borrowed())
+    parents: &SortedMap<DataLocale, DataLocale>,
+) {
+    let fallbacker = LocaleFallbacker {
+        expander: expander(rt, tables),
+        parents,
+    };
+    let chains = fallbacker.for_config(BY_LANGUAGE);
+    let chain = chains.fallback_for(numbered(rt, 0));
+    let list = chain.to_list(alloc).expect(rt, "a chain");
+    assert!(rt; list.len() == 4_002);
+    assert!(rt; list.get(4_000) == Some(&numbered(rt, 4_000)));
+    let mut text = Vec::new(alloc);
+    let id = identifier(alloc, "aaa-fonipa").expect(rt, "identifier");
+    assert!(rt; chains.append_chain(alloc, id, &mut text) == Ok(()));
+    assert!(rt; text.len() == 16_018);
 }
 
-fn light_constructors(rt: &impl Abort, alloc: Global, tables: &Tables, x: &LanguageIdentifier) {
-    let tiny = LanguageIdentifierDisplayName::try_new_tiny_unstable(
-        alloc,
-        tables,
-        english(rt),
-        x,
-        Default::default(),
-    ).expect(rt, "a name");
-    assert!(rt; is_by(rt, alloc, tables, x, NameChain::Tiny, tiny));
-    let light = LanguageIdentifierDisplayName::try_new_light_unstable(
-        alloc,
-        tables,
-        english(rt),
-        x,
-        Default::default(),
-    ).expect(rt, "a name");
-    assert!(rt; is_by(rt, alloc, tables, x, NameChain::Light, light));
-    let short = LanguageIdentifierDisplayName::try_new_short_light_unstable(
-        alloc,
-        tables,
-        english(rt),
-        x,
-        Default::default(),
-    ).expect(rt, "a name");
-    assert!(rt; is_by(rt, alloc, tables, x, NameChain::ShortLight, short));
-    let long = LanguageIdentifierDisplayName::try_new_long_light_unstable(
-        alloc,
-        tables,
-        english(rt),
-        x,
-        Default::default(),
-    ).expect(rt, "a name");
-    assert!(rt; is_by(rt, alloc, tables, x, NameChain::LongLight, long));
-    let menu = LanguageIdentifierDisplayName::try_new_menu_light_unstable(
-        alloc,
-        tables,
-        english(rt),
-        x,
-        Default::default(),
-    ).expect(rt, "a name");
-    assert!(rt; is_by(rt, alloc, tables, x, NameChain::MenuLight, menu));
-    let short_menu = LanguageIdentifierDisplayName::try_new_short_menu_light_unstable(
-        alloc,
-        tables,
-        english(rt),
-        x,
-        Default::default(),
-    ).expect(rt, "a name");
-    assert!(rt; is_by(rt, alloc, tables, x, NameChain::ShortMenuLight, short_menu));
-}
-
-fn heavy_constructors(rt: &impl Abort, alloc: Global, tables: &Tables, x: &LanguageIdentifier) {
-    let heavy = LanguageIdentifierDisplayName::try_new_heavy_unstable(
-        alloc,
-        tables,
-        english(rt),
-        x,
-        Default::default(),
-    ).expect(rt, "a name");
-    assert!(rt; is_by(rt, alloc, tables, x, NameChain::Heavy, heavy));
-    let short = LanguageIdentifierDisplayName::try_new_short_heavy_unstable(
-        alloc,
-        tables,
-        english(rt),
-        x,
-        Default::default(),
-    ).expect(rt, "a name");
-    assert!(rt; is_by(rt, alloc, tables, x, NameChain::ShortHeavy, short));
-    let long = LanguageIdentifierDisplayName::try_new_long_heavy_unstable(
-        alloc,
-        tables,
-        english(rt),
-        x,
-        Default::default(),
-    ).expect(rt, "a name");
-    assert!(rt; is_by(rt, alloc, tables, x, NameChain::LongHeavy, long));
-    let menu = LanguageIdentifierDisplayName::try_new_menu_heavy_unstable(
-        alloc,
-        tables,
-        english(rt),
-        x,
-        Default::default(),
-    ).expect(rt, "a name");
-    assert!(rt; is_by(rt, alloc, tables, x, NameChain::MenuHeavy, menu));
-    let short_menu = LanguageIdentifierDisplayName::try_new_short_menu_heavy_unstable(
-        alloc,
-        tables,
-        english(rt),
-        x,
-        Default::default(),
-    ).expect(rt, "a name");
-    assert!(rt; is_by(rt, alloc, tables, x, NameChain::ShortMenuHeavy, short_menu));
+// A chain that leads back to its eighth language.
+fn long_circle(
+    rt: &impl Abort,
+    alloc: Global,
+    tables: &Tables,
+    parents: &SortedMap<DataLocale, DataLocale>,
+) {
+    let fallbacker = LocaleFallbacker {
+        expander: expander(rt, tables),
+        parents,
+    };
+    let chain = fallbacker
+        .for_config(BY_LANGUAGE)
+        .fallback_for(numbered(rt, 0));
+    let refused = chain.to_list(alloc).err();
+    assert!(rt; refused == Some(FallbackError::Circle(numbered(rt, 7))));
 }
 
 #[test]
-fn light_constructors_name_by_their_chains(rt: HostRuntime) {
+fn chains_of_four_thousand(rt: HostRuntime) {
     let alloc = rt.alloc();
-    let tables = sample(&rt, alloc);
-    let subject = identifier(&rt, alloc, "ku-Latn-US");
-    light_constructors(&rt, alloc, &tables, &subject);
+    let tables = sample(alloc).expect(&rt, "sample");
+    let mut parents = long_parents(&rt, alloc, 4_000);
+    long_chain(&rt, alloc, &tables, &parents);
+    let inserted = parents.insert(numbered(&rt, 4_000), numbered(&rt, 7));
+    inserted.expect(&rt, "memory");
+    long_circle(&rt, alloc, &tables, &parents);
 }
 
 #[test]
-fn heavy_constructors_name_by_their_chains(rt: HostRuntime) {
+fn refusals_of_chains(rt: HostRuntime) {
     let alloc = rt.alloc();
-    let tables = sample(&rt, alloc);
-    let subject = identifier(&rt, alloc, "ku-Latn-US");
-    heavy_constructors(&rt, alloc, &tables, &subject);
+    let locale = numbered(&rt, 0);
+    is_named(&rt, alloc, FallbackError::Memory, "Memory");
+    is_named(&rt, alloc, FallbackError::Circle(locale), "Circle");
+}
+
+#[test]
+fn a_chain_step_by_step(rt: HostRuntime) {
+    let alloc = rt.alloc();
+    let tables = sample(alloc).expect(&rt, "sample");
+    let parents = SortedMap::new(alloc);
+    let expander = expander(&rt, &tables);
+    let chains = LocaleFallbacker {
+        expander,
+        parents: &parents,
+    }
+    .for_config(BY_LANGUAGE);
+    let id: LanguageIdentifier = identifier(alloc, "zh-TW-fonipa").expect(&rt, "identifier");
+    let mut chain = chains.fallback_for_identifier(alloc, id);
+    for wanted in [
+        "zh-TW-fonipa",
+        "zh-TW",
+        "zh-Hant-TW",
+        "zh-Hant",
+        "und",
+        "und",
+    ] {
+        assert_eq!(rt;
+            text(alloc, chain.get()).expect(&rt, "text").as_str(),
+            wanted
+        );
+        chain.step();
+    }
+}
+
+// Chains of an identifier with two variants, by the language, the script and the region.
+const LISTS: [(LocaleFallbackPriority, &str); 3] = [
+    (
+        LocaleFallbackPriority::Language,
+        "en-US-fonipa-posix en-US en und ",
+    ),
+    (
+        LocaleFallbackPriority::Script,
+        "en-US-fonipa-posix en-US en und-Latn und ",
+    ),
+    (
+        LocaleFallbackPriority::Region,
+        "en-US-fonipa-posix en-US und-US und ",
+    ),
+];
+
+#[test]
+fn chains_by_each_priority(rt: HostRuntime) {
+    let alloc = rt.alloc();
+    let tables = sample(alloc).expect(&rt, "sample");
+    let parents = SortedMap::new(alloc);
+    for (priority, wanted) in LISTS {
+        let fallbacker = LocaleFallbacker {
+            expander: expander(&rt, &tables),
+            parents: &parents,
+        };
+        let chains = fallbacker.for_config(LocaleFallbackConfig { priority });
+        let id = identifier(alloc, "en-US-fonipa-posix").expect(&rt, "identifier");
+        let chain = chains.fallback_for_identifier(alloc, id);
+        let list = chain.to_list(alloc).expect(&rt, "a chain");
+        let mut text = String::new(alloc);
+        for x in list.iter() {
+            write!(text, "{x} ").expect(&rt, "memory");
+        }
+        assert_eq!(rt; text.as_str(), wanted);
+    }
 }

@@ -1,5 +1,4 @@
 //! Each constructor once, over tables that are held.
-use crate::known::{identifier, sample};
 use icu_locale::{
     AsExpander, CanonicalizerRef, Direction, LocaleCanonicalizer, LocaleDirectionality,
     LocaleExpander, ReadRules, TransformResult,
@@ -9,10 +8,11 @@ use icu_provider::{DataProvider, LikelySubtagsExtended};
 use icu_tables::Tables;
 use std::alloc::Global;
 use std::process::Abort;
+use tests_shared::known::{identifier, sample};
 
 // The sample, with an extended table that holds nothing.
 fn extended_sample(rt: &impl Abort, alloc: Global) -> Tables {
-    let mut tables = sample(rt, alloc);
+    let mut tables = sample(alloc).expect(rt, "sample");
     tables.set_likely_extended(LikelySubtagsExtended::new(alloc));
     tables
 }
@@ -23,10 +23,10 @@ fn canonicalizes<'d, E: AsExpander<'d>>(
     alloc: Global,
     canonicalizer: &LocaleCanonicalizer<'d, E>,
 ) {
-    let mut locale = Locale::new(alloc, identifier(rt, alloc, "sgn-DD"));
+    let mut locale = Locale::new(alloc, identifier(alloc, "sgn-DD").expect(rt, "identifier"));
     let changed = canonicalizer.canonicalize(&mut locale).ok();
     assert!(rt; changed == Some(TransformResult::Modified));
-    let wanted = identifier(rt, alloc, "gsg");
+    let wanted = identifier(alloc, "gsg").expect(rt, "identifier");
     assert!(rt; locale.id == wanted);
 }
 
@@ -69,11 +69,11 @@ fn over_what_was_read(rt: &impl Abort, alloc: Global, tables: &Tables) {
     let expander = LocaleExpander::try_new_common_unstable(tables).expect(rt, "tables");
     let aliases = tables.load_aliases().expect(rt, "aliases");
     let read = ReadRules::read(alloc, aliases).expect(rt, "tables");
-    let mut id = identifier(rt, alloc, "sgn-DD");
+    let mut id = identifier(alloc, "sgn-DD").expect(rt, "identifier");
     let lent = CanonicalizerRef::over(&read, aliases, expander);
     let changed = lent.canonicalize_identifier(&mut id).ok();
     assert!(rt; changed == Some(TransformResult::Modified));
-    let wanted = identifier(rt, alloc, "gsg");
+    let wanted = identifier(alloc, "gsg").expect(rt, "identifier");
     assert!(rt; id == wanted);
     let owned = LocaleCanonicalizer::over(read, aliases, expander);
     canonicalizes(rt, alloc, &owned);
@@ -97,7 +97,7 @@ fn directs<'d, E: AsExpander<'d>>(
     alloc: Global,
     directionality: &LocaleDirectionality<'d, E>,
 ) {
-    let arabic = identifier(rt, alloc, "ar");
+    let arabic = identifier(alloc, "ar").expect(rt, "identifier");
     assert!(rt; directionality.get(&arabic) == Some(Direction::RightToLeft));
     assert!(rt; directionality.is_right_to_left(&arabic));
     assert!(rt; !directionality.is_left_to_right(&arabic));

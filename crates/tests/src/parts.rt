@@ -1,20 +1,20 @@
 //! Each part of a locale identifier is looked at and changed.
-use crate::known::{key, language, subtag, value};
 use icu_locale_extensions::{FieldKey, LocaleIdentifier, Singleton, Subtags};
 use std::alloc::Global;
 use std::process::Abort;
+use tests_shared::known::{key, language, subtag, value};
 
 #[test]
 fn parts_are_looked_at(rt: HostRuntime) {
     let x = whole(&rt, rt.alloc());
-    assert!(rt; x.locale.id.language == language(&rt, "en"));
-    assert!(rt; x.attributes.contains(&subtag(&rt, "attr")));
+    assert!(rt; x.locale.id.language == language("en").expect(&rt, "language"));
+    assert!(rt; x.attributes.contains(&subtag("attr").expect(&rt, "subtag")));
     assert!(rt;
         x.locale
             .extensions
             .unicode
             .keywords
-            .get(key(&rt, "hc"))
+            .get(key("hc").expect(&rt, "key"))
             .is_some()
     );
     assert!(rt; x.locale.extensions.transform.lang.is_some());
@@ -30,15 +30,18 @@ fn parts_are_looked_at(rt: HostRuntime) {
 fn parts_are_changed(rt: HostRuntime) {
     let alloc = rt.alloc();
     let mut x = whole(&rt, alloc);
-    x.locale.id.language = language(&rt, "fr");
-    let _ = x.attributes.remove(&subtag(&rt, "attr"));
+    x.locale.id.language = language("fr").expect(&rt, "language");
+    let _ = x.attributes.remove(&subtag("attr").expect(&rt, "subtag"));
     let _ = x
         .attributes
-        .insert(subtag(&rt, "other"))
+        .insert(subtag("other").expect(&rt, "subtag"))
         .expect(&rt, "memory");
     let keywords = &mut x.locale.extensions.unicode.keywords;
     let _ = keywords
-        .set(key(&rt, "ca"), value(&rt, alloc, "buddhist"))
+        .set(
+            key("ca").expect(&rt, "key"),
+            value(alloc, "buddhist").expect(&rt, "value"),
+        )
         .expect(&rt, "memory");
     x.locale.extensions.transform.lang = None;
     let pieces = Subtags::try_from_str(alloc, "ungegn").expect(&rt, "memory");

@@ -1,6 +1,4 @@
 //! Providers that refuse a load.
-use crate::known::{language, region, sample, script, tables, text, variant};
-use crate::refusing::{KINDS, Refusing, refusal, willing};
 use icu_locale::exemplar_chars::ExemplarCharacters;
 use icu_locale::{LocaleCanonicalizer, LocaleDirectionality, LocaleExpander};
 use icu_locale_core::{Language, Region, Script, Variant};
@@ -11,6 +9,8 @@ use icu_provider::{DataError, DataErrorKind, LikelySubtagsExtended, NameMarker};
 use icu_tables::Tables;
 use std::alloc::Global;
 use std::process::Abort;
+use tests_shared::known::{language, region, sample, script, tables, text, variant};
+use tests_shared::refusing::{KINDS, Refusing, refusal, willing};
 
 // What refuses an expander, a directionality and a canonicalizer over the common tables.
 fn common_refusals(alloc: Global, provider: &Refusing<'_>) -> [Option<DataError>; 3] {
@@ -73,7 +73,7 @@ fn refused_directions(rt: &impl Abort, tables: &Tables, want: Option<DataError>)
 #[test]
 fn each_refusal_at_each_load(rt: HostRuntime) {
     let alloc = rt.alloc();
-    let mut tables = sample(&rt, alloc);
+    let mut tables = sample(alloc).expect(&rt, "sample");
     tables.set_likely_extended(LikelySubtagsExtended::new(alloc));
     for kind in KINDS {
         refused_likely_tables(&rt, alloc, &tables, refusal(kind));
@@ -84,7 +84,7 @@ fn each_refusal_at_each_load(rt: HostRuntime) {
 
 #[test]
 fn the_first_refusal_decides(rt: HostRuntime) {
-    let tables = sample(&rt, rt.alloc());
+    let tables = sample(rt.alloc()).expect(&rt, "sample");
     let mut provider = willing(&tables);
     provider.language = refusal(DataErrorKind::IdentifierNotFound);
     provider.script_region = refusal(DataErrorKind::Custom);
@@ -116,7 +116,7 @@ fn aliases_come_last(rt: &impl Abort, alloc: Global, tables: &Tables) {
 #[test]
 fn the_expander_is_loaded_before_the_aliases(rt: HostRuntime) {
     let alloc = rt.alloc();
-    let tables = sample(&rt, alloc);
+    let tables = sample(alloc).expect(&rt, "sample");
     aliases_come_last(&rt, alloc, &tables);
 }
 
@@ -212,10 +212,10 @@ fn refused_variant(
 #[test]
 fn each_refusal_of_exemplars_and_names(rt: HostRuntime) {
     let tables = Tables::new(rt.alloc());
-    let language = language(&rt, "en");
-    let region = region(&rt, "US");
-    let script = script(&rt, "Latn");
-    let variant = variant(&rt, "fonipa");
+    let language = language("en").expect(&rt, "language");
+    let region = region("US").expect(&rt, "region");
+    let script = script("Latn").expect(&rt, "script");
+    let variant = variant("fonipa").expect(&rt, "variant");
     for kind in KINDS {
         refused_exemplars(&rt, &tables, language, refusal(kind));
         refused_regions(&rt, &tables, language, region, refusal(kind));
@@ -226,7 +226,7 @@ fn each_refusal_of_exemplars_and_names(rt: HostRuntime) {
 
 // A chain stops at a refusal, though a later marker has a name; with fallback the subtag is taken.
 fn refused_at_one_marker(rt: &impl Abort, alloc: Global, region: Region) {
-    let tables = tables(rt, alloc, MEDIUM_TINY);
+    let tables = tables(alloc, MEDIUM_TINY).expect(rt, "tables");
     over_named_tables(rt, alloc, &tables, region);
 }
 
@@ -236,16 +236,16 @@ fn over_named_tables(rt: &impl Abort, alloc: Global, tables: &Tables, region: Re
     let mut provider = willing(tables);
     provider.names = refusal(DataErrorKind::MarkerNotFound);
     provider.names_at = Some(NameMarker::RegionMediumLight);
-    let language = language(rt, "en");
+    let language = language("en").expect(rt, "language");
     let light = RegionDisplayName::try_new_light_unstable(&provider, of(language), region);
     assert!(rt; light.err() == refusal(DataErrorKind::MarkerNotFound));
     let light = RegionDisplayName::new_light_with_fallback(&provider, of(language), region);
-    assert!(rt; text(rt, alloc, &light).as_str() == "DE");
+    assert!(rt; text(alloc, &light).expect(rt, "text").as_str() == "DE");
     let tiny = RegionDisplayName::new_tiny_with_fallback(&provider, of(language), region);
-    assert!(rt; text(rt, alloc, &tiny).as_str() == "X");
+    assert!(rt; text(alloc, &tiny).expect(rt, "text").as_str() == "X");
 }
 
 #[test]
 fn a_chain_stops_at_a_refusal(rt: HostRuntime) {
-    refused_at_one_marker(&rt, rt.alloc(), region(&rt, "DE"));
+    refused_at_one_marker(&rt, rt.alloc(), region("DE").expect(&rt, "region"));
 }

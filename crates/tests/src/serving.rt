@@ -1,5 +1,4 @@
 //! What is served for headers, over the sample tables and match rules that are made here.
-use crate::known::{identifier, language, region, sample, script};
 use icu_locale::{CanonicalizerRef, LocaleExpander, ReadRules};
 use icu_locale_core::{LanguageIdentifier, Region};
 use icu_locale_matching::{LocaleServer, MatchLimits, ServedLocales, distance};
@@ -10,15 +9,7 @@ use icu_provider::{
 use icu_tables::Tables;
 use std::alloc::Global;
 use std::process::Abort;
-
-pub fn identifiers(rt: &impl Abort, alloc: Global, texts: &[&str]) -> Vec<LanguageIdentifier> {
-    let mut list = Vec::new(alloc);
-    for text in texts {
-        let pushed = list.push(identifier(rt, alloc, text));
-        pushed.expect(rt, "memory");
-    }
-    list
-}
+use tests_shared::known::{identifiers, language, region, sample, script};
 
 fn serves(
     rt: &impl Abort,
@@ -54,7 +45,10 @@ fn over_tables(rt: &impl Abort, alloc: Global, tables: &Tables) {
     let read = ReadRules::read(alloc, aliases).expect(rt, "tables");
     let rules = CanonicalizerRef::over(&read, aliases, expander);
     let matching = LanguageMatching::new(alloc, 80, 50, 4);
-    let available = identifiers(rt, alloc, &["en-US", "en-GB", "de", "zh-TW", "yue"]);
+    let available = identifiers(alloc, &["en-US", "en-GB", "de", "zh-TW", "yue"]).expect(
+        rt,
+        "identifiers",
+    );
     let served = ServedLocales::try_new(alloc, &rules, &matching, available);
     let served = served.expect(rt, "memory");
     let server = LocaleServer::over(rules, &matching, MatchLimits::default(), &served);
@@ -64,14 +58,14 @@ fn over_tables(rt: &impl Abort, alloc: Global, tables: &Tables) {
 #[test]
 fn headers(rt: HostRuntime) {
     let alloc = rt.alloc();
-    let tables = sample(&rt, alloc);
+    let tables = sample(alloc).expect(&rt, "sample");
     over_tables(&rt, alloc, &tables);
 }
 
 // A region rule of `de`: 7 to `FR`.
 fn rules_of_german(rt: &impl Abort, alloc: Global) -> MatchRules {
     let mut france = SortedMap::new(alloc);
-    let put = france.insert(region(rt, "FR"), ());
+    let put = france.insert(region("FR").expect(rt, "region"), ());
     put.expect(rt, "memory");
     let any = MatchPattern {
         script: None,
@@ -84,7 +78,7 @@ fn rules_of_german(rt: &impl Abort, alloc: Global) -> MatchRules {
     let mut rules = MatchRules::new(alloc);
     let pushed = rules.region.push(MatchRule {
         desired: any,
-        language: language(rt, "de"),
+        language: language("de").expect(rt, "language"),
         supported: there,
         distance: 7,
     });
@@ -94,17 +88,17 @@ fn rules_of_german(rt: &impl Abort, alloc: Global) -> MatchRules {
 
 fn german(rt: &impl Abort, place: &str) -> DataLocale {
     DataLocale {
-        language: language(rt, "de"),
-        script: Some(script(rt, "Latn")),
-        region: Some(region(rt, place)),
+        language: language("de").expect(rt, "language"),
+        script: Some(script("Latn").expect(rt, "script")),
+        region: Some(region(place).expect(rt, "region")),
     }
 }
 
 fn two_regions(rt: &impl Abort, alloc: Global) -> Vec<Region> {
     let mut list = Vec::new(alloc);
-    let first = list.push(region(rt, "DE"));
+    let first = list.push(region("DE").expect(rt, "region"));
     first.expect(rt, "memory");
-    let second = list.push(region(rt, "FR"));
+    let second = list.push(region("FR").expect(rt, "region"));
     second.expect(rt, "memory");
     list
 }
@@ -113,13 +107,12 @@ fn two_regions(rt: &impl Abort, alloc: Global) -> Vec<Region> {
 fn macro_regions(rt: HostRuntime) {
     let alloc = rt.alloc();
     let mut matching = LanguageMatching::new(alloc, 80, 50, 4);
-    let put = matching
-        .rules
-        .insert(language(&rt, "de"), rules_of_german(&rt, alloc));
+    let put = matching.rules.insert(
+        language("de").expect(&rt, "language"),
+        rules_of_german(&rt, alloc),
+    );
     put.expect(&rt, "memory");
-    let held = matching
-        .macros
-        .insert(region(&rt, "150"), two_regions(&rt, alloc));
+    let held = matching.macros.insert(region("150").expect(&rt, "region"), two_regions(&rt, alloc));
     held.expect(&rt, "memory");
     let de = german(&rt, "DE");
     let at = german(&rt, "AT");

@@ -1,7 +1,4 @@
 //! What `{:?}` writes: something of each value, and never the padding of a subtag.
-use crate::known::{
-    english, identifier, key, language, region, sample, script, subtag, value, variant,
-};
 use icu_locale::exemplar_chars::ExemplarCharacters;
 use icu_locale::{
     CanonicalizeError, Direction, LocaleCanonicalizer, LocaleDirectionality, LocaleExpander,
@@ -22,6 +19,9 @@ use icu_tables::{LocaleTables, TableError, Tables};
 use std::alloc::Global;
 use std::fmt;
 use std::process::Abort;
+use tests_shared::known::{
+    english, identifier, key, language, region, sample, script, subtag, value, variant,
+};
 
 fn shows<T: fmt::Debug>(rt: &impl Abort, alloc: Global, value: &T, word: &str) {
     let text = format!(in alloc; "{value:?}").expect(rt, "memory");
@@ -34,38 +34,42 @@ fn shows<T: fmt::Debug>(rt: &impl Abort, alloc: Global, value: &T, word: &str) {
 #[test]
 fn subtags(rt: HostRuntime) {
     let alloc = rt.alloc();
-    shows(&rt, alloc, &language(&rt, "en"), "en");
-    shows(&rt, alloc, &language(&rt, "yue"), "yue");
-    shows(&rt, alloc, &script(&rt, "latn"), "Latn");
-    shows(&rt, alloc, &region(&rt, "us"), "US");
-    shows(&rt, alloc, &variant(&rt, "1996"), "1996");
-    shows(&rt, alloc, &key(&rt, "nu"), "nu");
-    shows(&rt, alloc, &subtag(&rt, "abc"), "abc");
+    shows(&rt, alloc, &language("en").expect(&rt, "language"), "en");
+    shows(&rt, alloc, &language("yue").expect(&rt, "language"), "yue");
+    shows(&rt, alloc, &script("latn").expect(&rt, "script"), "Latn");
+    shows(&rt, alloc, &region("us").expect(&rt, "region"), "US");
+    shows(&rt, alloc, &variant("1996").expect(&rt, "variant"), "1996");
+    shows(&rt, alloc, &key("nu").expect(&rt, "key"), "nu");
+    shows(&rt, alloc, &subtag("abc").expect(&rt, "subtag"), "abc");
     shows(&rt, alloc, &ParseError::InvalidSubtag, "InvalidSubtag");
 }
 
 #[test]
 fn identifiers_and_values(rt: HostRuntime) {
     let alloc = rt.alloc();
-    let id = identifier(&rt, alloc, "en-Latn-US-1996-fonipa");
+    let id = identifier(alloc, "en-Latn-US-1996-fonipa").expect(&rt, "identifier");
     shows(&rt, alloc, &id, "Latn");
     shows(&rt, alloc, &id.variants, "1996");
     shows(&rt, alloc, &id.variants.iter(), "fonipa");
-    let value = value(&rt, alloc, "thai-abc");
+    let value = value(alloc, "thai-abc").expect(&rt, "value");
     shows(&rt, alloc, &value, "thai-abc");
     let mut keywords = Keywords::new(alloc);
-    let _ = keywords.set(key(&rt, "nu"), value).expect(&rt, "memory");
+    let _ = keywords
+        .set(key("nu").expect(&rt, "key"), value)
+        .expect(&rt, "memory");
     shows(&rt, alloc, &keywords, "thai-abc");
 }
 
 #[test]
 fn locales(rt: HostRuntime) {
     let alloc = rt.alloc();
-    let mut locale = Locale::new(alloc, identifier(&rt, alloc, "en"));
-    let value = value(&rt, alloc, "thai");
+    let mut locale = Locale::new(alloc, identifier(alloc, "en").expect(&rt, "identifier"));
+    let value = value(alloc, "thai").expect(&rt, "value");
     let keywords = &mut locale.extensions.unicode.keywords;
-    let _ = keywords.set(key(&rt, "nu"), value).expect(&rt, "memory");
-    let transform = identifier(&rt, alloc, "ja");
+    let _ = keywords
+        .set(key("nu").expect(&rt, "key"), value)
+        .expect(&rt, "memory");
+    let transform = identifier(alloc, "ja").expect(&rt, "identifier");
     locale.extensions.transform.lang = Some(transform);
     shows(&rt, alloc, &locale, "en");
     shows(&rt, alloc, &locale.extensions, "thai");
@@ -94,7 +98,7 @@ fn tables_of_subtags(rt: &impl Abort, alloc: Global, tables: &Tables) {
 }
 
 fn tables_of_names(rt: &impl Abort, alloc: Global, tables: &Tables) {
-    let locale = english(rt).locale;
+    let locale = english().expect(rt, "english").locale;
     shows(rt, alloc, &locale, "en");
     let set = tables
         .load_exemplars(ExemplarMarker::Main, locale)
@@ -103,7 +107,11 @@ fn tables_of_names(rt: &impl Abort, alloc: Global, tables: &Tables) {
     shows(rt, alloc, &set.ranges, "97");
     shows(rt, alloc, &set.strings, "ng");
     let menu = tables
-        .load_menu(MenuMarker::MediumLight, locale, language(rt, "ku"))
+        .load_menu(
+            MenuMarker::MediumLight,
+            locale,
+            language("ku").expect(rt, "language"),
+        )
         .expect(rt, "a name in a menu");
     shows(rt, alloc, menu, "Kurmanji");
     let patterns = tables.load_essentials(locale).expect(rt, "patterns");
@@ -114,7 +122,7 @@ fn tables_of_names(rt: &impl Abort, alloc: Global, tables: &Tables) {
 #[test]
 fn tables(rt: HostRuntime) {
     let alloc = rt.alloc();
-    let tables = sample(&rt, alloc);
+    let tables = sample(alloc).expect(&rt, "sample");
     tables_of_subtags(&rt, alloc, &tables);
     tables_of_names(&rt, alloc, &tables);
 }
@@ -169,7 +177,10 @@ fn made(rt: &impl Abort, alloc: Global, tables: &Tables) {
     let negotiator = negotiator.expect(rt, "settled tables");
     shows(rt, alloc, &negotiator, "Hans");
     shows(rt, alloc, &negotiator.lend(), "Hans");
-    let set = ExemplarCharacters::try_new_main_unstable(tables, english(rt).locale);
+    let set = ExemplarCharacters::try_new_main_unstable(
+        tables,
+        english().expect(rt, "english").locale,
+    );
     let set = set.expect(rt, "a set");
     shows(rt, alloc, &set, "ng");
     shows(rt, alloc, &set.as_borrowed(), "ng");
@@ -178,7 +189,7 @@ fn made(rt: &impl Abort, alloc: Global, tables: &Tables) {
 #[test]
 fn what_is_made_of_tables(rt: HostRuntime) {
     let alloc = rt.alloc();
-    let tables = sample(&rt, alloc);
+    let tables = sample(alloc).expect(&rt, "sample");
     made(&rt, alloc, &tables);
 }
 
@@ -189,14 +200,14 @@ fn answers_of_identifiers(rt: HostRuntime) {
     shows(&rt, alloc, &Direction::LeftToRight, "LeftToRight");
     shows(&rt, alloc, &Turns::new(), "Turns");
     shows(&rt, alloc, &NegotiatorError::NotSettled, "NotSettled");
-    let again = identifier(&rt, alloc, "en-fonipa");
+    let again = identifier(alloc, "en-fonipa").expect(&rt, "identifier");
     shows(
         &rt,
         alloc,
         &CanonicalizeError::NoFixedPoint(again),
         "fonipa",
     );
-    let again = value(&rt, alloc, "abc");
+    let again = value(alloc, "abc").expect(&rt, "value");
     shows(
         &rt,
         alloc,
@@ -207,29 +218,41 @@ fn answers_of_identifiers(rt: HostRuntime) {
 
 // Names show what was lent, or the subtag.
 fn regions(rt: &impl Abort, alloc: Global, tables: &Tables) {
-    let region = region(rt, "DE");
-    let name = RegionDisplayName::new_light_with_fallback(tables, english(rt), region);
+    let region = region("DE").expect(rt, "region");
+    let name = RegionDisplayName::new_light_with_fallback(
+        tables,
+        english().expect(rt, "english"),
+        region,
+    );
     shows(rt, alloc, &name, "DE");
     shows(rt, alloc, &name.as_borrowed(), "DE");
 }
 
 fn scripts(rt: &impl Abort, alloc: Global, tables: &Tables) {
-    let script = script(rt, "Latn");
-    let name = ScriptDisplayName::new_light_with_fallback(tables, english(rt), script);
+    let script = script("Latn").expect(rt, "script");
+    let name = ScriptDisplayName::new_light_with_fallback(
+        tables,
+        english().expect(rt, "english"),
+        script,
+    );
     shows(rt, alloc, &name, "Latin");
     shows(rt, alloc, &name.as_borrowed(), "Latin");
 }
 
 fn variants(rt: &impl Abort, alloc: Global, tables: &Tables) {
-    let variant = variant(rt, "posix");
-    let name = VariantDisplayName::new_heavy_with_fallback(tables, english(rt), variant);
+    let variant = variant("posix").expect(rt, "variant");
+    let name = VariantDisplayName::new_heavy_with_fallback(
+        tables,
+        english().expect(rt, "english"),
+        variant,
+    );
     shows(rt, alloc, &name, "posix");
     shows(rt, alloc, &name.as_borrowed(), "posix");
 }
 
 // What gives names to lines.
 fn naming(rt: &impl Abort, alloc: Global, tables: &Tables) {
-    let preferences = english(rt);
+    let preferences = english().expect(rt, "english");
     let lent = LocaleTables::new(tables, preferences.locale);
     let naming = Naming {
         tables: lent,
@@ -241,8 +264,8 @@ fn naming(rt: &impl Abort, alloc: Global, tables: &Tables) {
 }
 
 fn names_of_identifiers(rt: &impl Abort, alloc: Global, tables: &Tables) {
-    let preferences = english(rt);
-    let subject = identifier(rt, alloc, "it-Latn-1996-fonipa");
+    let preferences = english().expect(rt, "english");
+    let subject = identifier(alloc, "it-Latn-1996-fonipa").expect(rt, "identifier");
     let options = LanguageIdentifierDisplayNameOptions::default();
     let name = LanguageIdentifierDisplayName::try_new_light_unstable(
         alloc,
@@ -258,7 +281,7 @@ fn names_of_identifiers(rt: &impl Abort, alloc: Global, tables: &Tables) {
 #[test]
 fn names_over_tables(rt: HostRuntime) {
     let alloc = rt.alloc();
-    let tables = sample(&rt, alloc);
+    let tables = sample(alloc).expect(&rt, "sample");
     regions(&rt, alloc, &tables);
     scripts(&rt, alloc, &tables);
     variants(&rt, alloc, &tables);
@@ -269,7 +292,7 @@ fn names_over_tables(rt: HostRuntime) {
 #[test]
 fn choices_and_refusals_of_names(rt: HostRuntime) {
     let alloc = rt.alloc();
-    let of = english(&rt);
+    let of = english().expect(&rt, "english");
     shows(&rt, alloc, &of, "en");
     shows(&rt, alloc, &LanguageDisplay::Standard, "Standard");
     let options = LanguageIdentifierDisplayNameOptions::default();

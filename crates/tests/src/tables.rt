@@ -1,5 +1,4 @@
 //! Tables that rows are put into, and tables of texts.
-use crate::known::{language, region, script, tables as read, text};
 use icu_locale_core::Language;
 use icu_provider::{
     DataError, DataErrorKind, DataLocale, DataProvider, DoublePlaceholderPattern, ExemplarMarker,
@@ -9,6 +8,7 @@ use icu_provider::{
 use icu_tables::Tables;
 use std::alloc::Global;
 use std::process::Abort;
+use tests_shared::known::{language, region, script, tables as read, text};
 
 const NOT_FOUND: DataError = DataError {
     kind: DataErrorKind::IdentifierNotFound,
@@ -16,7 +16,7 @@ const NOT_FOUND: DataError = DataError {
 
 fn english(rt: &impl Abort) -> DataLocale {
     DataLocale {
-        language: language(rt, "en"),
+        language: language("en").expect(rt, "language"),
         script: None,
         region: None,
     }
@@ -24,14 +24,14 @@ fn english(rt: &impl Abort) -> DataLocale {
 
 fn menu_name(rt: &impl Abort, alloc: Global, core: &str, extension: &str) -> MenuNameParts {
     MenuNameParts {
-        core: text(rt, alloc, &core),
-        extension: text(rt, alloc, &extension),
+        core: text(alloc, &core).expect(rt, "text"),
+        extension: text(alloc, &extension).expect(rt, "text"),
     }
 }
 
 // A pattern of one text, and a separator of one placeholder.
 fn patterns(rt: &impl Abort, alloc: Global, literal: &str) -> LocaleNamesEssentials {
-    let literal = PatternItem::Literal(text(rt, alloc, &literal));
+    let literal = PatternItem::Literal(text(alloc, &literal).expect(rt, "text"));
     LocaleNamesEssentials {
         locale_pattern: pattern(rt, alloc, literal),
         locale_separator: pattern(rt, alloc, PatternItem::First),
@@ -48,7 +48,7 @@ fn pattern(rt: &impl Abort, alloc: Global, item: PatternItem) -> DoublePlacehold
 fn a_name_in_a_menu_gives_way_to_a_later_one(rt: HostRuntime) {
     let alloc = rt.alloc();
     let mut tables = Tables::new(alloc);
-    let language = language(&rt, "ku");
+    let language = language("ku").expect(&rt, "language");
     let first = menu_name(&rt, alloc, "Kurdish", "Kurmanji");
     tables
         .insert_menu(MenuMarker::MediumLight, english(&rt), language, first)
@@ -87,7 +87,7 @@ fn patterns_give_way_to_later_ones(rt: HostRuntime) {
 
 #[test]
 fn an_object_without_members_is_no_table(rt: HostRuntime) {
-    let tables = read(&rt, rt.alloc(), "{}");
+    let tables = read(rt.alloc(), "{}").expect(&rt, "read");
     let refusals = [
         tables.load_likely_language().err(),
         tables.load_likely_script_region().err(),
@@ -100,7 +100,7 @@ fn an_object_without_members_is_no_table(rt: HostRuntime) {
 }
 
 fn no_table_of_names(rt: &impl Abort, tables: &Tables) {
-    let language = language(rt, "en");
+    let language = language("en").expect(rt, "language");
     let key = NameKey::Language(language, None, None);
     let refusals = [
         tables
@@ -120,9 +120,9 @@ fn no_table_of_names(rt: &impl Abort, tables: &Tables) {
 #[test]
 fn a_row_whose_key_is_not_as_written_is_skipped(rt: HostRuntime) {
     let text = r#"{"likely_language":{"und":["en","Latn","US"],"language":{"EN":["Latn","US"]}}}"#;
-    let tables = read(&rt, rt.alloc(), text);
+    let tables = read(rt.alloc(), text).expect(&rt, "read");
     let table = tables.load_likely_language().expect(&rt, "likely language");
-    assert!(rt; table.get_language(language(&rt, "en")) == None);
+    assert!(rt; table.get_language(language("en").expect(&rt, "language")) == None);
     assert!(rt; table.iter_language().count() == 0);
 }
 
@@ -132,7 +132,7 @@ fn values_are_read_in_any_case_and_keys_in_their_own(rt: HostRuntime) {
         "und": ["EN", "latn", "us"],
         "language": {"AR": ["Arab", "EG"], "zh": ["HANS", "cn"]}
     }}"#;
-    let tables = read(&rt, rt.alloc(), text);
+    let tables = read(rt.alloc(), text).expect(&rt, "read");
     values_of_languages(
         &rt,
         tables.load_likely_language().expect(&rt, "likely language"),
@@ -143,7 +143,10 @@ fn values_are_read_in_any_case_and_keys_in_their_own(rt: HostRuntime) {
 fn values_of_languages(rt: &impl Abort, table: &LikelySubtagsForLanguage) {
     let und = table.und();
     assert!(rt; [und.0.as_str(), und.1.as_str(), und.2.as_str()] == ["en", "Latn", "US"]);
-    let chinese = (script(rt, "Hans"), region(rt, "CN"));
-    assert!(rt; table.get_language(language(rt, "zh")) == Some(chinese));
-    assert!(rt; table.get_language(language(rt, "ar")) == None);
+    let chinese = (
+        script("Hans").expect(rt, "script"),
+        region("CN").expect(rt, "region"),
+    );
+    assert!(rt; table.get_language(language("zh").expect(rt, "language")) == Some(chinese));
+    assert!(rt; table.get_language(language("ar").expect(rt, "language")) == None);
 }

@@ -1,6 +1,4 @@
 //! Whole canonical forms, by rows of aliases that are made here: those of CLDR and ECMA-402, and such as lead round.
-use crate::known::{identifier, key, sample, tables, text, value};
-use crate::memory::canonicalizers::CIRCLING;
 use icu_locale::{CanonicalizerRef, LocaleExpander, ReadRules, TransformResult};
 use icu_locale_core::{Key, Value};
 use icu_locale_extensions::{FieldKey, LocaleIdentifier, Subtags};
@@ -9,10 +7,8 @@ use icu_provider::{DataProvider, SortedMap};
 use icu_tables::Tables;
 use std::alloc::Global;
 use std::process::Abort;
-
-pub type KeywordTable = SortedMap<Key, SortedMap<Value, Value>>;
-
-pub type FieldTable = SortedMap<FieldKey, SortedMap<Subtags<3>, Subtags<3>>>;
+use tests_shared::known::{identifier, sample, tables, text, value};
+use tests_shared::values::{CIRCLING, field_table, keyword_table, whole_identifier};
 
 // Texts and what becomes of them, or what is refused.
 static FORMS: [(&str, &str); 16] = [
@@ -53,81 +49,6 @@ static BEFORE_RULES: [(&str, &str); 3] = [
     ("aa-u-ca-islamicc", "NoFixedPoint aa"),
 ];
 
-fn field_key(rt: &impl Abort, text: &str) -> FieldKey {
-    FieldKey::try_from_bytes(text.as_bytes()).expect(rt, text)
-}
-
-fn pieces(rt: &impl Abort, alloc: Global, text: &str) -> Subtags<3> {
-    Subtags::try_from_str(alloc, text).expect(rt, text)
-}
-
-pub fn whole_identifier(rt: &impl Abort, alloc: Global, text: &str) -> LocaleIdentifier {
-    LocaleIdentifier::try_from_str(alloc, text).expect(rt, text)
-}
-
-fn put_values(
-    rt: &impl Abort,
-    alloc: Global,
-    table: &mut KeywordTable,
-    at: &str,
-    rows: &[(&str, &str)],
-) {
-    let mut values = SortedMap::new(alloc);
-    for row in rows {
-        let put = values.insert(value(rt, alloc, row.0), value(rt, alloc, row.1));
-        put.expect(rt, "memory");
-    }
-    let put = table.insert(key(rt, at), values);
-    put.expect(rt, "memory");
-}
-
-fn put_pieces(
-    rt: &impl Abort,
-    alloc: Global,
-    table: &mut FieldTable,
-    at: &str,
-    rows: &[(&str, &str)],
-) {
-    let mut values = SortedMap::new(alloc);
-    for row in rows {
-        let put = values.insert(pieces(rt, alloc, row.0), pieces(rt, alloc, row.1));
-        put.expect(rt, "memory");
-    }
-    let put = table.insert(field_key(rt, at), values);
-    put.expect(rt, "memory");
-}
-
-const CIRCLE: &[(&str, &str)] = &[("one", "two"), ("two", "one"), ("zero", "one")];
-
-pub fn keyword_table(rt: &impl Abort, alloc: Global) -> KeywordTable {
-    let mut table = SortedMap::new(alloc);
-    let calendars = [
-        ("islamicc", "islamic-civil"),
-        ("ethiopic-amete-alem", "ethioaa"),
-    ];
-    put_values(rt, alloc, &mut table, "ca", &calendars);
-    put_values(rt, alloc, &mut table, "ms", &[("imperial", "uksystem")]);
-    put_values(rt, alloc, &mut table, "kb", &[("yes", "true")]);
-    put_values(
-        rt,
-        alloc,
-        &mut table,
-        "ka",
-        &[("one", "two"), ("two", "three")],
-    );
-    put_values(rt, alloc, &mut table, "kc", CIRCLE);
-    put_values(rt, alloc, &mut table, "kd", CIRCLE);
-    put_values(rt, alloc, &mut table, "rg", &[("uszzzz", "gbzzzz")]);
-    table
-}
-
-pub fn field_table(rt: &impl Abort, alloc: Global) -> FieldTable {
-    let mut table = SortedMap::new(alloc);
-    put_pieces(rt, alloc, &mut table, "m0", &[("names", "prprname")]);
-    put_pieces(rt, alloc, &mut table, "k0", CIRCLE);
-    table
-}
-
 // What became of a locale identifier, or what comes again.
 fn told(
     rt: &impl Abort,
@@ -136,7 +57,7 @@ fn told(
     locale: &LocaleIdentifier,
 ) -> String {
     match answer {
-        Ok(_) => text(rt, alloc, locale),
+        Ok(_) => text(alloc, locale).expect(rt, "text"),
         Err(WholeError::NoFixedPoint(id)) => {
             format!(in alloc; "NoFixedPoint {id}").expect(rt, "memory")
         }
@@ -146,14 +67,14 @@ fn told(
         Err(WholeError::NoFieldFixedPoint(key, first)) => {
             format!(in alloc; "NoFieldFixedPoint {key} {first}").expect(rt, "memory")
         }
-        Err(refusal) => text(rt, alloc, refusal),
+        Err(refusal) => text(alloc, refusal).expect(rt, "text"),
     }
 }
 
 fn becomes(rt: &impl Abort, alloc: Global, whole: &WholeCanonicalizer<'_>, row: &(&str, &str)) {
     let (from, to) = *row;
-    let before = whole_identifier(rt, alloc, from);
-    let mut locale = whole_identifier(rt, alloc, from);
+    let before = whole_identifier(alloc, from).expect(rt, "whole identifier");
+    let mut locale = whole_identifier(alloc, from).expect(rt, "whole identifier");
     let answer = whole.canonicalize(&mut locale);
     let told = told(rt, alloc, &answer, &locale);
     assert!(rt; told.as_str() == to, "{told} at {from}");
@@ -174,8 +95,8 @@ fn over_rules(
     let expander = LocaleExpander::try_new_common_unstable(sample).expect(rt, "tables");
     let aliases = own.load_aliases().expect(rt, "aliases");
     let read = ReadRules::read(alloc, aliases).expect(rt, "tables");
-    let keywords = keyword_table(rt, alloc);
-    let fields = field_table(rt, alloc);
+    let keywords = keyword_table(alloc).expect(rt, "keyword table");
+    let fields = field_table(alloc).expect(rt, "field table");
     let whole = WholeCanonicalizer {
         rules: CanonicalizerRef::over(&read, aliases, expander),
         values: ValueAliases {
@@ -191,15 +112,15 @@ fn over_rules(
 #[test]
 fn whole_forms(rt: HostRuntime) {
     let alloc = rt.alloc();
-    let sample = sample(&rt, alloc);
+    let sample = sample(alloc).expect(&rt, "sample");
     over_rules(&rt, alloc, &sample, &sample, &FORMS);
 }
 
 #[test]
 fn values_are_asked_before_rules(rt: HostRuntime) {
     let alloc = rt.alloc();
-    let sample = sample(&rt, alloc);
-    let own = tables(&rt, alloc, CIRCLING);
+    let sample = sample(alloc).expect(&rt, "sample");
+    let own = tables(alloc, CIRCLING).expect(&rt, "tables");
     over_rules(&rt, alloc, &sample, &own, &BEFORE_RULES);
 }
 
@@ -207,12 +128,12 @@ fn values_are_asked_before_rules(rt: HostRuntime) {
 #[test]
 fn refusals_are_named(rt: HostRuntime) {
     let alloc = rt.alloc();
-    let one = value(&rt, alloc, "one");
-    let again = identifier(&rt, alloc, "aa");
-    let named = text(&rt, alloc, &WholeError::Memory);
+    let one = value(alloc, "one").expect(&rt, "value");
+    let again = identifier(alloc, "aa").expect(&rt, "identifier");
+    let named = text(alloc, &WholeError::Memory).expect(&rt, "text");
     assert!(&rt; named.as_str() == "Memory");
-    let named = text(&rt, alloc, &WholeError::NoFixedPoint(again));
+    let named = text(alloc, &WholeError::NoFixedPoint(again)).expect(&rt, "text");
     assert!(&rt; named.as_str() == "NoFixedPoint");
-    let named = text(&rt, alloc, &WholeError::NoSubdivisionFixedPoint(one));
+    let named = text(alloc, &WholeError::NoSubdivisionFixedPoint(one)).expect(&rt, "text");
     assert!(&rt; named.as_str() == "NoSubdivisionFixedPoint");
 }

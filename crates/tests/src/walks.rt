@@ -1,11 +1,11 @@
 //! Walks over the tables of the sample.
-use crate::known::{english, language, region, sample, script, subtag, variant};
 use icu_locale_core::Language;
 use icu_provider::{
     Aliases, DataProvider, ExemplarCharactersData, ExemplarMarker, ScriptDirection,
 };
 use icu_tables::Tables;
 use std::process::Abort;
+use tests_shared::known::{english, language, region, sample, script, subtag, variant};
 
 fn lists_of_aliases(rt: &impl Abort, held: &Aliases) {
     let [by_variants] = held.language_variants() else {
@@ -23,21 +23,24 @@ fn lists_of_aliases(rt: &impl Abort, held: &Aliases) {
 }
 
 fn maps_of_aliases(rt: &impl Abort, held: &Aliases) {
-    let germany = region(rt, "DE");
-    let german_sign = language(rt, "gsg");
+    let germany = region("DE").expect(rt, "region");
+    let german_sign = language("gsg").expect(rt, "language");
     assert!(rt; held.get_sgn_region(germany) == Some(german_sign));
-    let former = region(rt, "SU");
-    let parts = [region(rt, "RU"), region(rt, "AM")];
+    let former = region("SU").expect(rt, "region");
+    let parts = [
+        region("RU").expect(rt, "region"),
+        region("AM").expect(rt, "region"),
+    ];
     assert!(rt; held.get_complex_region(former) == Some(parts.as_slice()));
-    let polytoni = variant(rt, "polytoni");
-    let polyton = variant(rt, "polyton");
+    let polytoni = variant("polytoni").expect(rt, "variant");
+    let polyton = variant("polyton").expect(rt, "variant");
     assert!(rt; held.get_variant(polytoni) == Some(polyton));
 }
 
 fn texts_of_aliases(rt: &impl Abort, held: &Aliases) {
-    let serbo_croatian = language(rt, "sh");
+    let serbo_croatian = language("sh").expect(rt, "language");
     assert!(rt; held.get_language_len2(serbo_croatian) == Some("sr-Latn"));
-    let subdivision = subtag(rt, "abcdefg");
+    let subdivision = subtag("abcdefg").expect(rt, "subtag");
     assert!(rt; held.get_subdivision(subdivision) == Some("xyz"));
 }
 
@@ -71,7 +74,7 @@ fn are_aliases_of_the_sample(rt: &impl Abort, held: &Aliases) {
 
 #[test]
 fn aliases_of_the_sample(rt: HostRuntime) {
-    let tables = sample(&rt, rt.alloc());
+    let tables = sample(rt.alloc()).expect(&rt, "sample");
     let held = tables.load_aliases().expect(&rt, "aliases");
     are_aliases_of_the_sample(&rt, held);
 }
@@ -79,14 +82,14 @@ fn aliases_of_the_sample(rt: HostRuntime) {
 // Which scripts run which way: none both ways.
 fn are_directions_of_the_sample(rt: &impl Abort, held: &ScriptDirection) {
     for text in ["Latn", "Hans", "Hant", "Armn"] {
-        let script = script(rt, text);
+        let script = script(text).expect(rt, "script");
         assert!(rt; held.is_ltr(script) && !held.is_rtl(script));
     }
     for text in ["Arab", "Hebr"] {
-        let script = script(rt, text);
+        let script = script(text).expect(rt, "script");
         assert!(rt; held.is_rtl(script) && !held.is_ltr(script));
     }
-    let other = script(rt, "Grek");
+    let other = script("Grek").expect(rt, "script");
     assert!(rt; !held.is_rtl(other) && !held.is_ltr(other));
 }
 
@@ -108,13 +111,16 @@ fn counts_of_names(held: &Tables) -> [usize; 4] {
 
 #[test]
 fn directions_and_exemplars_of_the_sample(rt: HostRuntime) {
-    let tables = sample(&rt, rt.alloc());
+    let tables = sample(rt.alloc()).expect(&rt, "sample");
     let directions = tables
         .load_script_direction()
         .expect(&rt, "script direction");
     are_directions_of_the_sample(&rt, directions);
     let set = tables
-        .load_exemplars(ExemplarMarker::Main, english(&rt).locale)
+        .load_exemplars(
+            ExemplarMarker::Main,
+            english().expect(&rt, "english").locale,
+        )
         .expect(&rt, "a set");
     are_exemplars_of_the_sample(&rt, set);
     assert!(rt; counts_of_names(&tables) == [1, 9, 1, 1]);
