@@ -40,7 +40,7 @@ export async function load(options) {
     loading = undefined;
     throw fault;
   }
-  return { Tables, Negotiator, Switcher, Refused, implementation, load };
+  return { Tables, Locale, Negotiator, Switcher, Refused, implementation, load };
 }
 
 // The lines of a file of data, or null where there is none. A server may have unpacked it.
@@ -72,4 +72,4 @@ function notLoaded() {
 stand({ calls: new Proxy({}, { get: notLoaded }), textsOfCldr: textsFetched });
 
 export const implementation = 'module';
-export { Tables, Negotiator, Switcher, Refused };
+export { Tables, Locale, Negotiator, Switcher, Refused };

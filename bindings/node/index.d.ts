@@ -136,6 +136,45 @@ export class Tables {
   close(): void;
 }
 
+/**
+ * A locale identifier with its parts, which `Intl.Locale` names alike where it has them. It does not change. What is not
+ * there is undefined, and a list without members is empty.
+ */
+export class Locale {
+  /** Reads a text, in a syntax. `InvalidLanguage` and `InvalidSubtag` refuse what is no locale identifier. */
+  constructor(text: Text, options?: Reading);
+  /** `und` where none is known. */
+  readonly language: string;
+  readonly script: string | undefined;
+  readonly region: string | undefined;
+  readonly variants: readonly string[];
+  /** Language, script, region and variants. */
+  readonly baseName: string;
+  /** The attributes of the extension `u`. */
+  readonly attributes: readonly string[];
+  /** The keywords of the extension `u`, by their keys. The value `true` is empty. */
+  readonly keywords: Readonly<Record<string, string>>;
+  /** The calendar that is asked for, as `buddhist`. */
+  readonly calendar: string | undefined;
+  /** The order of texts that is asked for, as `phonebk`. */
+  readonly collation: string | undefined;
+  /** `h11`, `h12`, `h23` or `h24`. */
+  readonly hourCycle: string | undefined;
+  /** The digits that are asked for, as `latn`. */
+  readonly numberingSystem: string | undefined;
+  /** The language that the extension `t` tells. */
+  readonly transformLanguage: string | undefined;
+  /** The fields of the extension `t`, by their keys. */
+  readonly fields: Readonly<Record<string, string>>;
+  /** The other extensions, by their letters. */
+  readonly extensions: Readonly<Record<string, string>>;
+  readonly privateUse: string | undefined;
+  /** The whole, as it is written: two locales are equal exactly if they are written alike. */
+  toString(): string;
+  /** The whole, as it is written. */
+  toJSON(): string;
+}
+
 /** What is available, by `tables.negotiator`. */
 export class Negotiator {
   private constructor();

@@ -7,6 +7,7 @@ const path = require('path');
 const { markAsUncloneable = () => {} } = require('worker_threads');
 const { stand } = require('./asking.js');
 const { textsOfFolder } = require('./data.js');
+const { Locale } = require('./locale.js');
 const { Module, hasWideMemory } = require('./module.js');
 const { Refused } = require('./refused.js');
 const { Negotiator, Switcher } = require('./served.js');
@@ -44,6 +45,6 @@ function chosen() {
 const [implementation, calls] = chosen();
 stand({ calls, textsOfCldr: textsOfFolder, mark: markAsUncloneable });
 
-module.exports = { Tables, Negotiator, Switcher, Refused, implementation };
+module.exports = { Tables, Locale, Negotiator, Switcher, Refused, implementation };
 /** What is loaded already; in a browser the same call loads it. */
 module.exports.load = async () => module.exports;

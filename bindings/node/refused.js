@@ -10,7 +10,7 @@ const NUMBERS = {
   4: ['Memory', 'memory was asked for and refused'],
   5: ['Json', 'the text is no JSON'],
   6: ['Shape', 'the JSON has not the shape of tables, or of a supplement'],
-  7: ['Command', 'the words are those of no command that answers lines'],
+  7: ['Command', 'no command has these words'],
   8: ['Table', 'the tables leave out one that is needed'],
   9: ['Negotiate', 'there is no list of what is available; tables.negotiator takes one'],
   10: ['List', 'the list has what is no identifier'],

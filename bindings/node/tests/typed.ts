@@ -1,5 +1,5 @@
 // Each call with the types that it takes and gives, for tsc --strict.
-import { Headers, Match, MenuRow, Negotiator, Refused, Switcher, Tables, implementation, load } from 'icu_locale';
+import { Headers, Locale, Match, MenuRow, Negotiator, Refused, Switcher, Tables, implementation, load } from 'icu_locale';
 
 const tables: Tables = Tables.fromJson('{}');
 const opened: Tables[] = [Tables.cldr(), Tables.cldr(['en', 'de']), Tables.cldr('all')];
@@ -19,6 +19,8 @@ const always: string[] = [...headers.map((it) => sure.serve(it)), sure.nearest([
 const other: string | number = tables.nearest(['fr'], ['en'], { default: 5 });
 const distance: number = tables.distance('en-AU', new Uint8Array(2), { syntax: 'bcp47' });
 const same: boolean = tables.areSame('sh', 'sr-Latn');
+const locale: Locale = new Locale('zh-Hant-TW', { syntax: 'bcp47' });
+const parts: (string | undefined)[] = [locale.language, locale.script, ...locale.variants, locale.keywords.ca];
 const menu: MenuRow[] = tables.menu(['en', 'de'], 'en', 'light', { fallback: true });
 const by: 'module' | 'addon' = implementation;
 load().then((it) => it.Tables.cldr(['en']));
@@ -41,8 +43,10 @@ tables.serve('yue', ['zh']).length;
 tables.maximize('de', 'posix');
 // @ts-expect-error: no syntax is called so
 tables.negotiator(['de'], { syntax: 'utf8' });
+// @ts-expect-error: a locale does not change
+locale.region = 'HK';
 // @ts-expect-error: tables are made by calls of their own
 new Tables();
 // @ts-expect-error: no refusal is called so
 new Refused('Nothing');
-export { opened, forms, canonical, both, direction, settled, match, extended, served, always, other, distance, same, menu, by };
+export { opened, forms, canonical, both, direction, settled, match, extended, served, always, other, distance, same, parts, menu, by };

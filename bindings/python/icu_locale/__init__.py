@@ -22,6 +22,7 @@ first wanted.
 """
 from ._answers import Canonical, Direction, Syntax
 from ._calls import version
+from ._locale import Locale
 from ._menu import MenuRow
 from ._negotiator import Match, Negotiator
 from ._refusals import (Circle, Closed, InvalidLanguage, InvalidList, InvalidSubtag, LineRefused, MemoryRefused, NameMissing,
@@ -30,7 +31,7 @@ from ._refusals import (Circle, Closed, InvalidLanguage, InvalidList, InvalidSub
 from ._switcher import Headers, Switcher
 from ._tables import Tables
 
-__all__ = ["Tables", "Negotiator", "Switcher", "Match", "MenuRow", "Canonical", "Direction", "Syntax", "Headers", "Text", "Refused",
+__all__ = ["Tables", "Locale", "Negotiator", "Switcher", "Match", "MenuRow", "Canonical", "Direction", "Syntax", "Headers", "Text", "Refused",
            "Closed", "MemoryRefused", "NoJson", "NoTables", "NoCommand", "TableMissing", "NoList", "InvalidList",
            "NotSettled", "TablesShared", "NoCldr", "LineRefused", "InvalidLanguage", "InvalidSubtag", "NoFixedPoint",
            "NoSubdivisionFixedPoint", "NoValueFixedPoint", "NoFieldFixedPoint", "Circle", "NameMissing"]

@@ -142,7 +142,7 @@ class Held(NoCopies):
         >>> tables.answer("maximise", "zh")
         Traceback (most recent call last):
             ...
-        icu_locale.NoCommand: The words are those of no command that answers lines.
+        icu_locale.NoCommand: No command has these words.
         """
         words = command if isinstance(command, bytes) else as_bytes(command)
         text, ask, slot = as_bytes(line), self._calls.answer, self._take()

@@ -1,7 +1,15 @@
 """Why a call gives no answer, and what a text is."""
 from typing import Dict, NoReturn, Type, Union
 
-Text = Union[str, bytes]
+
+
+class Written:
+    """What is written as a text is: a `Locale`."""
+
+    __slots__ = ()
+
+
+Text = Union[str, bytes, Written]
 # What is taken for a text.
 TEXTS = (str, bytes, bytearray, memoryview)
 # How much of a text a message shows.
@@ -39,7 +47,7 @@ class NoTables(Refused, ValueError):
 
 
 class NoCommand(Refused, ValueError):
-    """The words are those of no command that answers lines."""
+    """No command has these words."""
 
     number = 7
 
@@ -171,7 +179,9 @@ def as_bytes(text: Text) -> bytes:
         return text.encode("utf-8", "surrogatepass")
     if isinstance(text, TEXTS):
         return bytes(text)
-    raise TypeError(f"a text is a str or bytes, and no {type(text).__name__}")
+    if isinstance(text, Written):
+        return str(text).encode()
+    raise TypeError(f"a text is a str, bytes or a Locale, and no {type(text).__name__}")
 
 
 def cut(text: str) -> str:

@@ -1,11 +1,12 @@
-"""The examples of README.md, over CLDR's data inside the package: what a line gives is told after it."""
+"""The examples of README.md, here and at the top, over CLDR's data inside the package: what a line gives is told after it."""
 import re
 import unittest
 from pathlib import Path
 
 from icu_locale import NoCldr, Tables
 
-PAGE = Path(__file__).resolve().parents[1] / "README.md"
+HERE = Path(__file__).resolve()
+PAGES = [HERE.parents[1] / "README.md", HERE.parents[3] / "README.md"]
 BLOCK = re.compile(r"^```python\n(.*?)^```$", re.M | re.S)
 # A line that gives something, which may be kept by a name, and what it gives.
 LINE = re.compile(r"^( *)(\w+ = )?(\S.*?) {2,}# (.*)$", re.M)
@@ -40,7 +41,7 @@ class Page(unittest.TestCase):
             return value
 
         names = {"told": told, "print": Printed}
-        for block in BLOCK.findall(PAGE.read_text(encoding="utf-8")):
+        for block in (block for page in PAGES for block in BLOCK.findall(page.read_text(encoding="utf-8"))):
             exec(LINE.sub(lambda it: f"{it[1]}{it[2] or ''}told({it[3]}, {it[4]!r})", block), names)
         self.assertGreater(len(found), 20)
 

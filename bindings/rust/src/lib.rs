@@ -44,6 +44,7 @@ mod answers;
 mod calls;
 mod data;
 mod inflate;
+mod locale;
 mod menu;
 mod negotiator;
 mod pool;
@@ -51,6 +52,7 @@ mod refusal;
 mod switcher;
 mod tables;
 
+pub use locale::Locale;
 pub use menu::MenuRow;
 pub use negotiator::{Match, Negotiator};
 pub use refusal::Refusal;

@@ -11,7 +11,7 @@ pub enum Refusal {
     Json,
     /// The JSON has not the shape of tables.
     Shape,
-    /// The words are those of no command that answers lines.
+    /// No command has these words.
     Command,
     /// The tables leave out one that is needed. Match rules are in their supplement.
     Table,
@@ -87,7 +87,7 @@ impl fmt::Display for Refusal {
             Refusal::Memory => "no memory",
             Refusal::Json => "the text is no JSON",
             Refusal::Shape => "the JSON has not the shape of tables",
-            Refusal::Command => "the words are those of no command that answers lines",
+            Refusal::Command => "no command has these words",
             Refusal::Table => {
                 "the tables leave out a member that is needed: `likely_language`, `likely_script_region`, at `canonicalize` and \
                  `serve` also `aliases`, at `direction` also `direction`, or at `serve` the match rules of their supplement"

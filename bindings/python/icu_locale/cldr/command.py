@@ -86,8 +86,24 @@ def tables_of_locales(common, locales, account):
     return names.tables() | {"essentials": patterns, "exemplars": exemplars}
 
 
+def texts(held):
+    """Each text in tables."""
+    if isinstance(held, str):
+        yield held
+    elif isinstance(held, dict):
+        for key, value in held.items():
+            yield key
+            yield from texts(value)
+    elif isinstance(held, list):
+        for value in held:
+            yield from texts(value)
+
+
 def on_one_line(tables):
-    """The JSON text of tables or of a supplement, as bytes."""
+    """The JSON text of tables or of a supplement, as bytes. A text with a line feed would make two lines of one answer."""
+    for text in texts(tables):
+        if "\n" in text:
+            raise NoCldr(f"{cut(repr(text))} has a line feed, so it would make two lines of one answer")
     return json.dumps(tables, ensure_ascii=False, separators=(",", ":")).encode()
 
 

@@ -1,0 +1,39 @@
+'use strict';
+// A locale as an object. What can be asked of Intl.Locale is compared with it.
+const assert = require('assert');
+const { Locale } = require('icu_locale');
+
+const refuses = (call, code) => assert.throws(call, (error) => error.code === code);
+
+const locale = new Locale('zh_hant_tw-u-nu-hanidec-ca-roc');
+assert.strictEqual(`${locale}`, 'zh-Hant-TW-u-ca-roc-nu-hanidec');
+assert.deepStrictEqual([locale.language, locale.script, locale.region, locale.variants], ['zh', 'Hant', 'TW', []]);
+assert.deepStrictEqual({ ...locale.keywords }, { ca: 'roc', nu: 'hanidec' });
+assert.strictEqual(JSON.stringify({ locale }), '{"locale":"zh-Hant-TW-u-ca-roc-nu-hanidec"}');
+
+const all = new Locale('sl-rozaj-biske-a-foo-t-de-m0-din-u-attr-kn-x-one-two');
+assert.deepStrictEqual(all.variants, ['biske', 'rozaj']);
+assert.deepStrictEqual(all.attributes, ['attr']);
+assert.deepStrictEqual({ ...all.keywords }, { kn: '' });
+assert.strictEqual(all.transformLanguage, 'de');
+assert.deepStrictEqual({ ...all.fields }, { m0: 'din' });
+assert.deepStrictEqual({ ...all.extensions }, { a: 'foo' });
+assert.strictEqual(all.privateUse, 'one-two');
+
+for (const text of ['en', 'und', 'de-Latn-DE-1996', 'ar-EG-u-nu-arab-hc-h23', 'th-TH-u-ca-buddhist', 'de-u-co-phonebk']) {
+  const [here, there] = [new Locale(text), new Intl.Locale(text)];
+  for (const name of ['baseName', 'script', 'region', 'calendar', 'collation', 'hourCycle', 'numberingSystem']) {
+    assert.strictEqual(here[name], there[name], `${name} of ${text}`);
+  }
+  assert.strictEqual(String(here), String(there));
+}
+
+assert.strictEqual(String(new Locale('de_DE.UTF-8', { syntax: 'posix' })), 'de-DE');
+assert.strictEqual(String(new Locale(Buffer.from('fr-ca'))), 'fr-CA');
+refuses(() => new Locale(''), 'InvalidLanguage');
+refuses(() => new Locale('en-u'), 'InvalidSubtag');
+assert.throws(() => new Locale(5), TypeError);
+assert.throws(() => new Locale('en', { syntax: 'utf8' }), RangeError);
+assert.throws(() => { locale.region = 'HK'; }, TypeError);
+assert.throws(() => { locale.keywords.ca = 'roc'; }, TypeError);
+console.log('locale: as it should be');
