@@ -1,6 +1,8 @@
+# `make try` answers two lines with nothing proved, in a minute; `make test` tests with nothing proved, in minutes; `make
+# prove` is the gate: it proves every crate, tries the wrong bodies, and runs every test and program.
 # `make` proves the two programs and what they use, and leaves them here; `make c` proves the calls for C, and
 # leaves their libraries in out/c; `make wasm` leaves the same calls as a module for WebAssembly in out/wasm;
-# `make test` checks every crate; `make install` copies the programs and their manual pages, and what `make c` has left;
+# `make install` copies the programs and their manual pages, and what `make c` has left;
 # `make wheel`, `make npm`, `make crate` and `make deb` leave packages in out/packages;
 # `make compare` measures icu_locale_cli beside others, once it is built; `make clean` takes away what was built, and the
 # next `make` then proves all from nothing.
@@ -9,8 +11,8 @@ PREFIX = /usr/local
 LIBDIR = $(PREFIX)/lib
 C_FILES = libicu_locale.a libicu_locale.so libicu_locale.so.0 pkgconfig/icu_locale.pc
 
-.PHONY: all c wasm wheel npm crate deb test compare install uninstall clean
-.SILENT: test
+.PHONY: all try test prove c wasm wheel npm crate deb compare install uninstall clean
+.SILENT: try test prove
 
 all:
 	tools/build $(PROGRAMS)
@@ -30,15 +32,13 @@ npm: out/c/libicu_locale.a out/wasm/icu_locale.wasm
 deb: $(PROGRAMS) out/c/libicu_locale.a
 	tools/package $@
 
+try:
+	printf 'zh-CN\nund-SA\n' | tools/try maximize
+
 test:
-	.ci/layout/run
-	.ci/callers/run
-	.ci/words/run
-	.ci/manual/run
-	.ci/pages/run
-	.ci/borrows/run
-	.ci/elsewhere/run
-	.ci/examples/run
+	tools/test
+
+prove:
 	rt ci
 
 compare:
