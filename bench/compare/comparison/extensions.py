@@ -1,6 +1,6 @@
 """What it costs to read a text with extensions and to write it again, here and in others.
 
-Ours is what bench/calls has counted, as docs/COMPARISON.md tells it: that script proves the libraries first.
+Ours is what bench/calls has counted, as bench/results/README.md tells it: that script proves the libraries first.
 """
 import re
 import subprocess
@@ -17,9 +17,9 @@ OURS = r"reading and writing `{}` as a locale identifier \| ([0-9,]+)"
 
 def ours(text):
     """What bench/calls has counted for a text."""
-    found = re.search(OURS.format(text), (programs.ROOT / "docs" / "COMPARISON.md").read_text())
+    found = re.search(OURS.format(text), (programs.ROOT / "bench" / "results" / "README.md").read_text())
     if not found:
-        raise programs.Stop(f"docs/COMPARISON.md does not tell what bench/calls counts for {text}")
+        raise programs.Stop(f"bench/results/README.md does not tell what bench/calls counts for {text}")
     return int(found[1].replace(",", ""))
 
 
