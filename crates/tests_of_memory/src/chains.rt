@@ -1,0 +1,83 @@
+//! Chains and supplements.
+use crate::budget::{Answered, Call, stands};
+use icu_locale::LocaleExpander;
+use icu_locale_core::LanguageIdentifier;
+use icu_locale_fallback::{
+    FallbackError, LocaleFallbackConfig, LocaleFallbackPriority, LocaleFallbacker,
+    LocaleFallbackerWithConfig,
+};
+use icu_tables::{Supplement, TableError};
+use std::alloc::Global;
+use tests_shared::known::{identifier, sample};
+
+const SUPPLEMENT: &str = "{\"parents\":{\"en-AU\":\"en-001\",\"en-001\":\"en\"},\
+    \"matching\":{\"others\":[80,50,4],\"paradigms\":[\"en\"],\"rules\":{}}}";
+
+// Reading a supplement.
+#[derive(Drop)]
+struct ReadSupplement;
+
+impl Call for ReadSupplement {
+    fn answer(&self, alloc: Global) -> Answered {
+        match Supplement::from_json(alloc, SUPPLEMENT.as_bytes()) {
+            Ok(held) if held.parents.len() == 2 && held.matching.is_some() => Answered::Whole,
+            Err(TableError::Memory) => Answered::Refused,
+            _ => Answered::Wrong,
+        }
+    }
+}
+
+// Listing the chain of an identifier, whose variants are copied.
+#[derive(Drop)]
+struct ListChain<'d>(LocaleFallbackerWithConfig<'d>, &'d LanguageIdentifier);
+
+impl Call for ListChain<'_> {
+    fn answer(&self, alloc: Global) -> Answered {
+        let Ok(id) = self.1.try_clone() else {
+            return Answered::Refused;
+        };
+        match self.0.fallback_for_identifier(alloc, id).to_list(alloc) {
+            Ok(list) if list.len() == 5 => Answered::Whole,
+            Err(FallbackError::Memory) => Answered::Refused,
+            _ => Answered::Wrong,
+        }
+    }
+}
+
+// Writing the chain of an identifier after a text, which stays as it was where memory was refused.
+#[derive(Drop)]
+struct AppendChain<'d>(LocaleFallbackerWithConfig<'d>, &'d LanguageIdentifier);
+
+impl Call for AppendChain<'_> {
+    fn answer(&self, alloc: Global) -> Answered {
+        let Ok(id) = self.1.try_clone() else {
+            return Answered::Refused;
+        };
+        let wanted = "en-AU-fonipa en-AU en-001 en und";
+        let mut text = Vec::new(alloc);
+        match self.0.append_chain(alloc, id, &mut text) {
+            Ok(()) if text.as_slice() == wanted.as_bytes() => Answered::Whole,
+            Err(FallbackError::Memory) if text.is_empty() => Answered::Refused,
+            _ => Answered::Wrong,
+        }
+    }
+}
+
+#[test]
+fn chains_and_supplements(rt: HostRuntime) {
+    let alloc = rt.alloc();
+    let tables = sample(alloc).expect(&rt, "sample");
+    let supplement = Supplement::from_json(alloc, SUPPLEMENT.as_bytes()).expect(&rt, "memory");
+    let fallbacker = LocaleFallbacker {
+        expander: LocaleExpander::try_new_common_unstable(&tables).expect(&rt, "tables"),
+        parents: &supplement.parents,
+    };
+    let chains = fallbacker.for_config(LocaleFallbackConfig {
+        priority: LocaleFallbackPriority::Language,
+    });
+    let id = identifier(alloc, "en-AU-fonipa").expect(&rt, "identifier");
+    let listed = ListChain(chains, &id);
+    stands(&rt, alloc, &ReadSupplement);
+    stands(&rt, alloc, &listed);
+    stands(&rt, alloc, &AppendChain(chains, &id));
+}

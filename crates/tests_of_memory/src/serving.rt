@@ -1,0 +1,62 @@
+//! What is served, and the nearest.
+use crate::budget::{Answered, Call, stands};
+use icu_locale::{CanonicalizerRef, LocaleExpander, ReadRules};
+use icu_locale_core::LanguageIdentifier;
+use icu_locale_matching::{LocaleServer, MatchLimits, ServedLocales};
+use icu_provider::{DataProvider, LanguageMatching};
+use icu_tables::Tables;
+use std::alloc::Global;
+use std::process::Abort;
+use tests_shared::known::{identifiers, sample};
+
+// Serving a header, of which a range is refused.
+#[derive(Drop)]
+struct Serve<'d>(LocaleServer<'d>);
+
+impl Call for Serve<'_> {
+    fn answer(&self, alloc: Global) -> Answered {
+        let header = "de-1996;q=0.5, en-US;q=0, en-GB-scotland, *;q=0.1";
+        match self.0.serve(alloc, header.as_bytes()) {
+            Ok(Some(1)) => Answered::Whole,
+            Err(_) => Answered::Refused,
+            Ok(_) => Answered::Wrong,
+        }
+    }
+}
+
+// Finding the nearest for requests with variants.
+#[derive(Drop)]
+struct Nearest<'d>(LocaleServer<'d>, &'d [LanguageIdentifier]);
+
+impl Call for Nearest<'_> {
+    fn answer(&self, alloc: Global) -> Answered {
+        match self.0.nearest(alloc, self.1) {
+            Ok(Some(found)) if found.available == 2 && found.request == 1 => Answered::Whole,
+            Err(_) => Answered::Refused,
+            Ok(_) => Answered::Wrong,
+        }
+    }
+}
+
+fn over_tables(rt: &impl Abort, alloc: Global, tables: &Tables) {
+    let expander = LocaleExpander::try_new_common_unstable(tables).expect(rt, "tables");
+    let aliases = tables.load_aliases().expect(rt, "aliases");
+    let read = ReadRules::read(alloc, aliases).expect(rt, "tables");
+    let rules = CanonicalizerRef::over(&read, aliases, expander);
+    let matching = LanguageMatching::new(alloc, 80, 50, 4);
+    let available = identifiers(alloc, &["en-US", "en-GB", "de"]).expect(rt, "identifiers");
+    let served = ServedLocales::try_new(alloc, &rules, &matching, available);
+    let served = served.expect(rt, "memory");
+    let server = LocaleServer::over(rules, &matching, MatchLimits::default(), &served);
+    stands(rt, alloc, &Serve(server));
+    let requests = identifiers(alloc, &["fr-1694acad", "de-CH-1996"]).expect(rt, "identifiers");
+    let server = LocaleServer::over(rules, &matching, MatchLimits::default(), &served);
+    stands(rt, alloc, &Nearest(server, &requests));
+}
+
+#[test]
+fn served_without_memory(rt: HostRuntime) {
+    let alloc = rt.alloc();
+    let tables = sample(alloc).expect(&rt, "sample");
+    over_tables(&rt, alloc, &tables);
+}
