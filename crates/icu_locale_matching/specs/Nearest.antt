@@ -82,8 +82,8 @@ pub record IsGrouped (forms : List Candidate) (n : ℕ) (groups : List (List ℕ
   pub each : (k : ℕ) (c : Candidate) → k < n → slice_get forms k ≡ Some c
       → IsSome (value_at text_cmp groups c.form.language)
 
--- a list was made over a likely table, and the macro regions and paradigm locales of match rules; it knows where
--- identifiers are in their own spelling
+-- a list was made over a likely table and match rules, of which it keeps for each identifier what does not depend on a
+-- request; it knows where identifiers are in their own spelling
 pub record IsMadeOver (likely : LikelySubtags) (t : LanguageMatching) (c : Candidates)
     : Type 0 where
   pub forms : c.forms.items ≡ candidates_of likely t c.identifiers.items
@@ -138,13 +138,13 @@ question m requests may = record {
 -- spelling, like variants, how likely the form is, paradigm locales, the place
 abbrev pub rank_at : Question → ℕ → ℕ → LanguageIdentifier → ℕ → LanguageIdentifier → Rank
 rank_at q cost i request j identifier =
-    let c = candidate_of q.likely q.matching j identifier in record {
+    let form = form_of q.likely identifier in record {
       cost = cost;
       request = i;
       spelled_otherwise = not (same_parts request identifier);
       varied = not (same_texts request.variants identifier.variants);
-      unlikeliness = c.unlikeliness;
-      off_paradigm = c.off_paradigm;
+      unlikeliness = unlikeliness q.likely form;
+      off_paradigm = not (is_among (paradigms_of q.likely q.matching) form);
       available = j;
     }
 

@@ -53,9 +53,8 @@ impl Drop for Candidates {
 }
 
 impl Candidates {
-    /// Over likely subtags, match rules, for their macro regions and paradigm locales, and the identifiers that are
-    /// available. It takes memory for two entries an identifier, one list a language, and
-    /// notes of the identifiers' spellings.
+    /// Over likely subtags, match rules and the identifiers that are available. It takes memory for two entries an
+    /// identifier, one list a language, and notes of the identifiers' spellings.
     ///
     /// # Errors
     ///

@@ -24,4 +24,5 @@ pub use distances::{distance, distance_of};
 pub use header::{AcceptLanguage, LentWish};
 pub use limits::MatchLimits;
 pub use matcher::{LocaleMatcher, Match};
+pub use rank::Rank;
 pub use server::{LocaleServer, ServedLocales};

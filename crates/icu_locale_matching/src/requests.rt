@@ -1,5 +1,8 @@
 //! Ranges as requests, and canonical forms.
-ghost use Rattle.std.specs.Prelude.{◌≡◌, ◌↔◌, IsTrue, ◌++◌, ◌∷◌, [], List, map, false, IfOk, OnOk};
+ghost use Rattle.std.specs.Prelude.{◌≡◌, ◌↔◌, IsTrue, ◌++◌, ◌∷◌, [], List, map, false, IsOk, IfOk, IfErr, OnOk};
+ghost use Rattle.icu_locale_core.specs.TextSet.{empty};
+ghost use Rattle.icu_locale.specs.Canonical.{without_extensions};
+ghost use Rattle.icu_locale.specs.Cost.{NeedsNoMemory};
 ghost use Rattle.icu_locale.specs.Kinds.{next};
 ghost use Rattle.icu_locale.specs.LikelyTable.{likely};
 ghost use Rattle.icu_locale.specs.Refusals.{IsMemory};
@@ -197,8 +200,10 @@ fn read_tag(alloc: Global, range: &[u8]) -> Result<Option<LocaleIdentifier>, All
 
 // Brings an identifier to its canonical form, if it has one, and tells whether it has.
 fn bring(rules: &CanonicalizerRef<'_>, id: &mut LanguageIdentifier) -> Result<bool, AllocError>
-    ensures { IfOk result (λ ends. IsBrought (likely rules.now.expander) (lent rules.now.rules)
-        id.old ends id.new) }
+    ensures brought { IfOk result (λ ends. IsBrought (likely rules.now.expander)
+        (lent rules.now.rules) id.old ends id.new) }
+    ensures free { NeedsNoMemory (likely rules.now.expander) (lent rules.now.rules)
+        (without_extensions id.old) → IsOk result }
 {
     match rules.canonicalize_identifier(id) {
         Ok(_) => Ok(true),
@@ -208,7 +213,8 @@ fn bring(rules: &CanonicalizerRef<'_>, id: &mut LanguageIdentifier) -> Result<bo
 
 // False, unless memory was refused.
 fn no_end(error: CanonicalizeError) -> Result<bool, AllocError>
-    ensures { IfOk result (λ ends. (ends ≡ false) × ¬ (IsMemory error)) }
+    ensures told { IfOk result (λ ends. (ends ≡ false) × ¬ (IsMemory error)) }
+    ensures refused { IfErr result (λ _. IsMemory error) }
 {
     match error {
         CanonicalizeError::Memory => Err(AllocError),
@@ -238,8 +244,10 @@ fn canonical_form(
     rules: &CanonicalizerRef<'_>,
     id: &LanguageIdentifier,
 ) -> Result<LanguageIdentifier, AllocError>
-    ensures { IfOk result
+    ensures canonical { IfOk result
         (IsCanonicalOf (likely rules.now.expander) (lent rules.now.rules) id.now) }
+    ensures free { id.now.variants ≡ empty → NeedsNoMemory (likely rules.now.expander)
+        (lent rules.now.rules) (without_extensions id.now) → IsOk result }
 {
     let mut copy = match id.try_clone() {
         Ok(copy) => copy,

@@ -14,6 +14,6 @@ loop-id-preserved c =
     let xs = c.args.identifiers.now in
     let i = c.loop-id.id-index in
     let stands = slice_get_read xs (length xs) i c.id-item.result refl c.loop-id-test.true c.id-item.is in
-    let more = canonical_more l r _ _ c.id-item.result c.in_ok-canonical_form.field-0 c.loop-id.invariant c.in_ok-canonical_form.ensures in
+    let more = canonical_more l r _ _ c.id-item.result c.in_ok-canonical_form.field-0 c.loop-id.invariant c.in_ok-canonical_form.ensures.canonical in
     subst (λ (ys : List LanguageIdentifier). AreCanonical l r ys c.push.new.self.items) (sym (taken_more xs i c.id-item.result c.loop-id-test.true stands))
     (subst (AreCanonical l r _) (sym c.in_ok-push.ensures.items) more)

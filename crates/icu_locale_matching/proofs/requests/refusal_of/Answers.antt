@@ -25,5 +25,5 @@ returns-in-Ok c =
       known = tag.0;
       spells = tag.1;
       plain = c.is_plain.ensures.0 c.if-not-is_plain.false;
-      canonical = subst (λ x. IsCanonicalOf l r x c.bring.new.id) c.identifier_of-id.ensures (c.in-Ok.field-0, c.in-Ok.ensures);
+      canonical = subst (λ x. IsCanonicalOf l r x c.bring.new.id) c.identifier_of-id.ensures (c.in-Ok.field-0, c.in-Ok.ensures.brought);
     }
