@@ -1,5 +1,5 @@
 -- The extended languages of BCP 47, each with its prefix (RFC 5646, section 2.2.2; IANA's registry of subtags).
--- tools/extended-languages writes this file.
+-- tools/extended-languages sets it beside the registry.
 use Rattle.std.specs.Prelude.{ℕ, List, [], ◌∷◌, codes}
 
 unfoldable pub extended_languages : List (List ℕ × List ℕ)

@@ -1,5 +1,5 @@
 -- What a part of an extension says, as pieces of a name (UTS #35 Part 2, "Locale Display Name Algorithm").
-use Rattle.std.specs.Prelude.{ℕ, Bool, List, [], ◌∷◌, map, codes, if◌then◌else◌, Option, Some, None}
+use Rattle.std.specs.Prelude.{ℕ, ◌==◌, Bool, ◌&&◌, not, List, [], ◌∷◌, length, map, codes, if◌then◌else◌, Option, Some, None}
 use Rattle.std.specs.List.{flat_map}
 use Rattle.std.specs.Option.{option_and_then}
 use Rattle.std.specs.Str.{bytes_eq}
@@ -33,9 +33,14 @@ named None text = raw_subtag text
 abbrev pub key_piece : ExtensionNames → List ℕ → Piece
 key_piece names key = named (value_at text_cmp names.keys key) key
 
+-- a value that is left out is `true` (UTS #35 Part 1, section 3.2.1, Canonical Unicode Locale Identifiers)
+abbrev pub shown_value : List ℕ → List ℕ
+shown_value [] = codes "true"
+shown_value (c ∷ cs) = c ∷ cs
+
 -- a value by its name
 abbrev pub value_piece : ExtensionNames → List ℕ → List ℕ → Piece
-value_piece names key value = named (name_at names.values key value) value
+value_piece names key value = named (name_at names.values key value) (shown_value value)
 
 -- a value at `kr` is a list of codes
 abbrev pub lists_codes : List ℕ → Bool
@@ -44,7 +49,8 @@ lists_codes key = bytes_eq key (codes "kr")
 -- the value of a keyword: its codes one by one, or as a whole
 abbrev pub value_says : ExtensionNames → List ℕ → Row → List Piece
 value_says names separator row =
-    if lists_codes row.0 then joined separator (map (value_piece names row.0) row.1)
+    if lists_codes row.0 && not (length row.1 == 0)
+    then joined separator (map (value_piece names row.0) row.1)
     else value_piece names row.0 (written_value row.1) ∷ []
 
 -- a key and what it has, by the pattern

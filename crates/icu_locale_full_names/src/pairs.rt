@@ -4,7 +4,7 @@ ghost use Rattle.std.specs.List.{flat_map};
 ghost use Rattle.icu_provider.specs.Names.{part_of};
 ghost use Rattle.icu_locale_names.specs.LanguageNames.{filled, joined};
 ghost use Rattle.icu_locale_names.specs.LentNames.{lent_piece, pieces_of};
-ghost use Rattle.icu_locale_full_names.specs.Says.{name_at, named, value_piece, key_piece, pair};
+ghost use Rattle.icu_locale_full_names.specs.Says.{name_at, named, shown_value, value_piece, key_piece, pair};
 ghost use Rattle.icu_locale_full_names.specs.Squares.{squared};
 ghost use Rattle.icu_locale_full_names.specs.inner.Drafts.{Adds, pieces_behind};
 ghost use Rattle.icu_locale_full_names.specs.inner.Has.{has_pieces};
@@ -122,7 +122,7 @@ impl<'a> Language<'a> {
         'a: 'v,
         ensures { lent_piece result ≡ value_piece self.now.names.now key.now value.now }
     {
-        named(name_at(&self.names.values, key, value), value)
+        named(name_at(&self.names.values, key, value), shown_value(value))
     }
 
     // A key by its name, or raw.
@@ -149,6 +149,13 @@ fn add_name(
         draft.add_square(piece)?;
     }
     Ok(())
+}
+
+// A value, or `true` where it is left out.
+fn shown_value(value: &str) -> &str
+    ensures { result.now ≡ shown_value value.now }
+{
+    if value.is_empty() { "true" } else { value }
 }
 
 // A name, or the raw text that has none.

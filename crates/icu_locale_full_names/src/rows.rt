@@ -146,7 +146,7 @@ impl<'a> Language<'a> {
         ensures { has_pieces self.now.names.now self.now.separator.now result
             ≡ value_says self.now.names.now self.now.separator.now (key.now, value.now) }
     {
-        if lists_codes(key) {
+        if lists_codes(key) && !value.as_slice().is_empty() {
             return Has::Codes(key, value.as_slice());
         }
         Has::Value(self.value_piece(key, written))

@@ -75,8 +75,8 @@ pub fn parts_make_the_whole()
     a_line_has_one_answer();
 }
 
-/// Words are parsed as what they have the form of, and no others are: `longest` and a number, the word of a syntax, those of a command, and
-/// where its tables come from.
+/// Words are parsed as what they have the form of, and no others are: `longest` and a number, the word of a syntax, those
+/// of a command, and where its tables come from.
 pub fn words_are_parsed()
     ensures parsed { (asked : Asked) (words : List (List ℕ)) → AreWordsOf asked words
         → parse words ≡ Some asked }
