@@ -1,5 +1,5 @@
 -- Chains of locales: what a fallbacker is, and what its calls answer.
-use Rattle.std.specs.Prelude.{◌≡◌, ℕ, ◌<◌, ◌≤◌, List, codes, Option, Some, None}
+use Rattle.std.specs.Prelude.{◌≡◌, ℕ, ◌+◌, ◌*◌, ◌<◌, ◌≤◌, List, codes, Option, Some, None}
 use Rattle.std.specs.List.{slice_get}
 use Rattle.icu_locale_fallback.specs.declared.errors.FallbackError.{FallbackError}
 use Rattle.icu_locale_fallback.specs.declared.errors.FallbackError.TheVariants.{Memory, Circle}
@@ -31,10 +31,19 @@ inheritance f priority = record {
 abbrev pub inheritance_of : LocaleFallbackIterator → Inheritance
 inheritance_of place = inheritance place.fallbacker place.config.priority
 
+-- the locale at a place
+abbrev pub locale_of : LocaleFallbackIterator → DataLocale
+locale_of place = place.current
+
 -- the chain ends at the root, or it names the first locale that comes again
 abbrev pub IsCircle : Inheritance → DataLocale → Option DataLocale → Type 0
 IsCircle by x None = EndsAt (next by) x root
 IsCircle by x (Some z) = IsRepeat (next by) x z
+
+-- the steps from before to after are at most six for each different locale of the chain, and at least one
+abbrev pub CountsSteps : Inheritance → DataLocale → (before after : ℕ) → Type 0
+CountsSteps by x before after =
+    (n : ℕ) × HasDistinct (next by) x n × (after ≤ before + 6 * n) × (before + n ≤ after)
 
 -- so many truncations lead to the root at most
 abbrev pub most_truncations : LocaleFallbackPriority → ℕ

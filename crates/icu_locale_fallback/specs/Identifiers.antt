@@ -12,6 +12,21 @@ use Rattle.icu_locale_fallback.specs.Fallback.{Inheritance, root, next, normal}
 use Rattle.icu_locale_fallback.specs.declared.errors.FallbackError.{FallbackError}
 use Rattle.icu_locale_fallback.specs.declared.errors.FallbackError.TheVariants.{Memory, Circle}
 use Rattle.icu_locale_fallback.specs.declared.fallbacker.LocaleFallbackPriority.{LocaleFallbackPriority}
+use Rattle.icu_locale_fallback.specs.declared.fallbacker.LocaleFallbackerWithConfig.{LocaleFallbackerWithConfig}
+use Rattle.icu_locale_fallback.specs.declared.identifiers.IdentifierFallbackIterator.{IdentifierFallbackIterator}
+use Rattle.icu_locale_fallback.specs.Chains.{inheritance}
+
+-- the fallbacker whose chain a place is in
+abbrev pub fallbacker_of : IdentifierFallbackIterator → LocaleFallbackerWithConfig
+fallbacker_of place = record { fallbacker = place.fallbacker; config = place.config }
+
+-- what the chain of a place goes by
+abbrev pub identifier_inheritance_of : IdentifierFallbackIterator → Inheritance
+identifier_inheritance_of place = inheritance place.fallbacker place.config.priority
+
+-- the identifier at a place
+abbrev pub identifier_of : IdentifierFallbackIterator → LanguageIdentifier
+identifier_of place = place.current
 
 -- a locale as an identifier, which has no variants
 abbrev pub plain : DataLocale → LanguageIdentifier

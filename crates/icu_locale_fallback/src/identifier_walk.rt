@@ -4,8 +4,8 @@ ghost use Rattle.icu_locale_core.specs.TextSet.{len};
 ghost use Rattle.icu_locale.specs.LikelySubtags.{subtags_of};
 ghost use Rattle.icu_locale_runs.specs.Run.{EndsAt};
 ghost use Rattle.icu_locale_fallback.specs.Fallback.{root, next};
-ghost use Rattle.icu_locale_fallback.specs.Chains.{inheritance};
-ghost use Rattle.icu_locale_fallback.specs.Identifiers.{plain, IsIdentifierCircle, IsIdentifierChain, IsIdentifierRefusal, IsWritten};
+ghost use Rattle.icu_locale_fallback.specs.Chains.{inheritance, CountsSteps};
+ghost use Rattle.icu_locale_fallback.specs.Identifiers.{plain, identifier_inheritance_of, identifier_of, IsIdentifierCircle, IsIdentifierChain, IsIdentifierRefusal, IsWritten};
 ghost use Rattle.icu_locale_fallback.specs.inner.Listing.{behind_space, IsRestWritten};
 ghost use Rattle.icu_locale_fallback.specs.declared.errors.FallbackError.TheVariants.{Memory};
 
@@ -22,11 +22,22 @@ impl<'d> IdentifierFallbackIterator<'d> {
     /// The first identifier of the chain from here that comes again, or none where the chain ends: it ends at the root
     /// then. It has no variants, so the language, the script and the region are all of it. It takes no memory.
     pub fn first_repeat(&self) -> Option<DataLocale>
-        ensures { IsIdentifierCircle (inheritance self.now.fallbacker self.now.config.priority)
-            self.now.current result }
+        ensures { IsIdentifierCircle (identifier_inheritance_of self.now) (identifier_of self.now)
+            result }
+    {
+        self.first_repeat_counted(&mut Turns::new())
+    }
+
+    /// The same as `first_repeat`, with a count of the steps that are taken. They are those of the chain of the language,
+    /// the script and the region here: at most six for each different locale of it, and at least one.
+    pub fn first_repeat_counted(&self, turns: &mut Turns) -> Option<DataLocale>
+        ensures first { IsIdentifierCircle (identifier_inheritance_of self.now)
+            (identifier_of self.now) result }
+        ensures count { CountsSteps (identifier_inheritance_of self.now)
+            (subtags_of (identifier_of self.now)) turns.old turns.new }
     {
         let start = subtags_of(&self.current);
-        first_repeat_from(&self.fallbacker, self.config.priority, &start)
+        first_repeat_from(&self.fallbacker, self.config.priority, &start, turns)
     }
 
     /// The identifiers of the chain from here to the root, in their order. It takes memory for the list, twice, and for a
@@ -38,13 +49,17 @@ impl<'d> IdentifierFallbackIterator<'d> {
     /// the list could not be made.
     pub fn to_list(&self, alloc: Global) -> Result<Vec<LanguageIdentifier>, FallbackError>
         ensures found { IfOk result (λ list. IsIdentifierChain
-            (inheritance self.now.fallbacker self.now.config.priority) self.now.current
-            list.items) }
+            (identifier_inheritance_of self.now) (identifier_of self.now) list.items) }
         ensures refused { IfErr result (IsIdentifierRefusal
-            (inheritance self.now.fallbacker self.now.config.priority) self.now.current) }
+            (identifier_inheritance_of self.now) (identifier_of self.now)) }
     {
         let start = subtags_of(&self.current);
-        let repeat = first_repeat_from(&self.fallbacker, self.config.priority, &start);
+        let repeat = first_repeat_from(
+            &self.fallbacker,
+            self.config.priority,
+            &start,
+            &mut Turns::new(),
+        );
         if let Some(first) = repeat {
             return Err(FallbackError::Circle(first));
         }
@@ -86,7 +101,7 @@ impl<'d> IdentifierFallbackIterator<'d> {
     }
 
     /// Appends the chain from here to a text, up to the root: each identifier in its written form, with one space between
-    /// two. It takes memory only where the text has no room.
+    /// two. It takes memory where the text has no room.
     ///
     /// # Errors
     ///
@@ -94,14 +109,19 @@ impl<'d> IdentifierFallbackIterator<'d> {
     /// the text could not grow. The text is as it was then.
     pub fn append_to(&self, text: &mut Vec<u8>) -> Result<(), FallbackError>
         ensures appended { OnOk result (IsWritten
-            (inheritance self.now.fallbacker self.now.config.priority) self.now.current
+            (identifier_inheritance_of self.now) (identifier_of self.now)
             text.old.items text.new.items) }
         ensures refused { IfErr result (IsIdentifierRefusal
-            (inheritance self.now.fallbacker self.now.config.priority) self.now.current) }
+            (identifier_inheritance_of self.now) (identifier_of self.now)) }
         ensures unchanged { OnErr result (text.new.items ≡ text.old.items) }
     {
         let start = subtags_of(&self.current);
-        let repeat = first_repeat_from(&self.fallbacker, self.config.priority, &start);
+        let repeat = first_repeat_from(
+            &self.fallbacker,
+            self.config.priority,
+            &start,
+            &mut Turns::new(),
+        );
         if let Some(first) = repeat {
             return Err(FallbackError::Circle(first));
         }

@@ -4,7 +4,7 @@ ghost use Rattle.std.specs.Option.{unwrap_or};
 ghost use Rattle.icu_locale.specs.LikelyTable.{likely};
 ghost use Rattle.icu_locale.specs.LikelySubtags.{subtags_of, with_locale};
 ghost use Rattle.icu_locale_fallback.specs.Chains.{inheritance};
-ghost use Rattle.icu_locale_fallback.specs.Identifiers.{plain, normal_identifier, next_identifier, IsWritten, IsIdentifierRefusal};
+ghost use Rattle.icu_locale_fallback.specs.Identifiers.{plain, normal_identifier, next_identifier, fallbacker_of, identifier_inheritance_of, identifier_of, IsWritten, IsIdentifierRefusal};
 
 use crate::errors::FallbackError;
 use crate::fallbacker::{LocaleFallbackConfig, LocaleFallbacker, LocaleFallbackerWithConfig};
@@ -30,9 +30,8 @@ impl<'d> LocaleFallbackerWithConfig<'d> {
         alloc: Global,
         id: LanguageIdentifier,
     ) -> IdentifierFallbackIterator<'d>
-        ensures fallbacker { result.fallbacker ≡ self.now.fallbacker }
-        ensures config { result.config ≡ self.now.config }
-        ensures current { result.current ≡ normal_identifier self.now.config.priority
+        ensures by { fallbacker_of result ≡ self.now }
+        ensures current { identifier_of result ≡ normal_identifier self.now.config.priority
             (likely self.now.fallbacker.expander) id }
     {
         let mut current = id;
@@ -48,7 +47,7 @@ impl<'d> LocaleFallbackerWithConfig<'d> {
     }
 
     /// Appends the chain of an identifier to a text, from its normal form to the root: each identifier in its written
-    /// form, with one space between two. It takes memory only where the text has no room.
+    /// form, with one space between two. It takes memory where the text has no room.
     ///
     /// # Errors
     ///
@@ -77,18 +76,17 @@ impl<'d> LocaleFallbackerWithConfig<'d> {
 impl<'d> IdentifierFallbackIterator<'d> {
     /// The identifier here.
     pub fn get(&self) -> &LanguageIdentifier
-        ensures { result.now ≡ self.now.current }
+        ensures { result.now ≡ identifier_of self.now }
     {
         &self.current
     }
 
     /// Goes to the next identifier. At the root it stays. It takes no memory.
     pub fn step(&mut self)
-        ensures fallbacker { self.new.fallbacker ≡ self.old.fallbacker }
-        ensures config { self.new.config ≡ self.old.config }
-        ensures current { self.new.current ≡ unwrap_or
-            (next_identifier (inheritance self.old.fallbacker self.old.config.priority)
-            self.old.current) self.old.current }
+        ensures by { fallbacker_of self.new ≡ fallbacker_of self.old }
+        ensures current { identifier_of self.new ≡ unwrap_or
+            (next_identifier (identifier_inheritance_of self.old) (identifier_of self.old))
+            (identifier_of self.old) }
     {
         let subtags = subtags_of(&self.current);
         if self.current.variants.len() == 0 {
@@ -102,7 +100,7 @@ impl<'d> IdentifierFallbackIterator<'d> {
 
     /// The identifier here, by value.
     pub fn take(self) -> LanguageIdentifier
-        ensures { result ≡ self.entry.current }
+        ensures { result ≡ identifier_of self.entry }
     {
         // the types within are named, since the borrow checker's proof is not made without
         let place: IdentifierFallbackIterator<'d> = self;

@@ -77,6 +77,24 @@ pub fn normal_forms_keep()
         (x : DataLocale) → (normal p table x).region ≢ Some unknown_region }
 {}
 
+/// By language and by script, the normal form of a normal form is the same, over every table. By region it need not be:
+/// over the rows of `aa` to `aa-Latn-US` and of `aa-Latn` to `aa-Latn-ZZ`, the normal form of `aa-Latn` is `aa`, and that
+/// of `aa` is `aa-US`.
+pub fn normal_forms_stay()
+    ensures same { (p : LocaleFallbackPriority) (table : LikelySubtags) (x : DataLocale)
+        → p ≢ LocaleFallbackPriority.Region
+        → normal p table (normal p table x) ≡ normal p table x }
+    ensures not_by_region { ¬ ((table : LikelySubtags) (x : DataLocale)
+        → normal LocaleFallbackPriority.Region table (normal LocaleFallbackPriority.Region table x)
+        ≡ normal LocaleFallbackPriority.Region table x) }
+{}
+
+/// The key of a key is the same, over every table.
+pub fn keys_stay()
+    ensures { (table : LikelySubtags) (x : DataLocale)
+        → data_key table (data_key table x) ≡ data_key table x }
+{}
+
 /// The chain of an identifier without variants is that of its language, script and region; that of one with variants is
 /// the identifier, and then that chain.
 pub fn variants_go_first()

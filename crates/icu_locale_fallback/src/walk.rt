@@ -4,7 +4,7 @@ ghost use Rattle.icu_locale.specs.LikelyTable.{likely};
 ghost use Rattle.icu_locale.specs.laws.Locales.{same_from_test};
 ghost use Rattle.icu_locale_runs.specs.Run.{EndsAt};
 ghost use Rattle.icu_locale_fallback.specs.Fallback.{root, next};
-ghost use Rattle.icu_locale_fallback.specs.Chains.{inheritance, inheritance_of, IsCircle, IsChain, IsRefusal};
+ghost use Rattle.icu_locale_fallback.specs.Chains.{inheritance, inheritance_of, locale_of, CountsSteps, IsCircle, IsChain, IsRefusal};
 ghost use Rattle.icu_locale_fallback.specs.declared.errors.FallbackError.TheVariants.{Memory};
 ghost use Rattle.icu_locale_fallback.specs.inner.Universe.{universe};
 
@@ -48,9 +48,19 @@ impl<'d> LocaleFallbackIterator<'d> {
     /// The first locale of the chain from here that comes again, or none where the chain ends: it ends at the root then. It
     /// takes no memory.
     pub fn first_repeat(&self) -> Option<DataLocale>
-        ensures { IsCircle (inheritance_of self.now) self.now.current result }
+        ensures { IsCircle (inheritance_of self.now) (locale_of self.now) result }
     {
-        first_repeat_from(&self.fallbacker, self.config.priority, &self.current)
+        self.first_repeat_counted(&mut Turns::new())
+    }
+
+    /// The same as `first_repeat`, with a count of the steps that are taken: for each different locale of the chain from
+    /// here at most six, and at least one.
+    pub fn first_repeat_counted(&self, turns: &mut Turns) -> Option<DataLocale>
+        ensures first { IsCircle (inheritance_of self.now) (locale_of self.now) result }
+        ensures count { CountsSteps (inheritance_of self.now) (locale_of self.now)
+            turns.old turns.new }
+    {
+        first_repeat_from(&self.fallbacker, self.config.priority, &self.current, turns)
     }
 
     /// The locales of the chain from here to the root, in their order. It takes memory for the list.
@@ -60,9 +70,10 @@ impl<'d> LocaleFallbackIterator<'d> {
     /// `Circle` exactly where the chain has no end, with the first locale that comes again, and else `Memory` where the
     /// list could not be made.
     pub fn to_list(&self, alloc: Global) -> Result<Vec<DataLocale>, FallbackError>
-        ensures found { IfOk result (λ list. IsChain (inheritance_of self.now) self.now.current
-            list.items) }
-        ensures refused { IfErr result (IsRefusal (inheritance_of self.now) self.now.current) }
+        ensures found { IfOk result (λ list. IsChain (inheritance_of self.now)
+            (locale_of self.now) list.items) }
+        ensures refused { IfErr result (IsRefusal (inheritance_of self.now)
+            (locale_of self.now)) }
     {
         match self.first_repeat() {
             Some(first) => Err(FallbackError::Circle(first)),
@@ -71,20 +82,22 @@ impl<'d> LocaleFallbackIterator<'d> {
     }
 }
 
-// The first locale of a chain that comes again, or none where it ends.
+// The first locale of a chain that comes again, or none where it ends. The steps are counted.
 pub(crate) fn first_repeat_from(
     fallbacker: &LocaleFallbacker<'_>,
     priority: LocaleFallbackPriority,
     start: &DataLocale,
+    turns: &mut Turns,
 ) -> Option<DataLocale>
-    ensures { IsCircle (inheritance fallbacker.now priority) start.now result }
+    ensures first { IsCircle (inheritance fallbacker.now priority) start.now result }
+    ensures count { CountsSteps (inheritance fallbacker.now priority) start.now
+        turns.old turns.new }
 {
     let chain = Chain {
         fallbacker: *fallbacker,
         priority,
     };
-    let mut turns = Turns::new();
-    match end_of_run(&chain, start, &mut turns) {
+    match end_of_run(&chain, start, turns) {
         Ok(Outcome::Repeats(first)) => Some(first),
         Ok(Outcome::Ends(_)) => None,
         Ok(Outcome::Same) => None,

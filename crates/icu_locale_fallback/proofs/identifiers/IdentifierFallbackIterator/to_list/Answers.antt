@@ -7,10 +7,10 @@ pub returns-in-Some-clause-refused : goal.returns-in-Some-clause-refused
 returns-in-Some-clause-refused c =
     let by = inheritance c.args.self.now.fallbacker c.args.self.now.config.priority in
     circle_at by c.args.self.now.current c.subtags_of-start.result (Some c.in-Some.first) c.subtags_of-start.ensures
-    (subst (IsCircle by c.subtags_of-start.result) c.in-Some.is c.first_repeat_from-repeat.ensures)
+    (subst (IsCircle by c.subtags_of-start.result) c.in-Some.is c.first_repeat_from-repeat.ensures.first)
 
 pub returns-clause-refused : goal.returns-clause-refused
 returns-clause-refused c =
     let by = inheritance c.args.self.now.fallbacker c.args.self.now.config.priority in
     memory_of by c.args.self.now.current c.subtags_of-start.result c.list_all.result c.subtags_of-start.ensures
-    (subst (IsCircle by c.subtags_of-start.result) c.in_default.is c.first_repeat_from-repeat.ensures) c.list_all.ensures.refused
+    (subst (IsCircle by c.subtags_of-start.result) c.in_default.is c.first_repeat_from-repeat.ensures.first) c.list_all.ensures.refused
