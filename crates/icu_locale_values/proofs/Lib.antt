@@ -1,3 +1,4 @@
+pub mod Counting
 pub mod Followed
 pub mod Found
 pub mod Made

@@ -6,6 +6,7 @@ ghost use Rattle.icu_locale_runs.specs.Run.{IsLaterEnd, IsOutcome};
 ghost use Rattle.icu_locale_runs.specs.declared.rewriting.Outcome.TheVariants.{Same};
 ghost use Rattle.icu_locale_values.specs.Aliases.{preferred};
 ghost use Rattle.icu_locale_values.specs.Whole.{is_any_followed};
+ghost use Rattle.icu_locale_values.specs.inner.Counted.{CountsRun, CountsValues};
 ghost use Rattle.icu_locale_values.specs.inner.Walked.{next_at, universe, has_row, with_end, AreLaterEnds, IsRunRefusal, IsWalkRefusal};
 ghost use Rattle.icu_locale_values.specs.declared.walk.Refusal.TheVariants.{Memory};
 
@@ -52,12 +53,13 @@ impl<V: AliasValue> Rewriting for Aliased<'_, V> {
     ghost exact = { V.value_exact };
 }
 
-// The later ends of the runs of the rows' values, each with its key. Each key is asked once, and where no value has an
-// alias no memory is taken.
+// The later ends of the runs of the rows' values, each with its key. The table is asked once for each row, and where no
+// value has an alias no memory is taken.
 pub(crate) fn later_ends<K: AliasKey, V: AliasValue>(
     alloc: Global,
     table: &SortedMap<K, SortedMap<V, V>>,
     rows: Rows<'_, K, V>,
+    turns: &mut Turns,
 ) -> Result<Vec<(K, V)>, Refusal<K, V>>
     requires { IsSortedMap K.cmp rows }
     ensures ends { IfOk result (λ ends. AreLaterEnds K.cmp
@@ -68,10 +70,12 @@ pub(crate) fn later_ends<K: AliasKey, V: AliasValue>(
         (next_at K.ruled K.cmp V.cmp table.now) rows.entry) }
     ensures free { is_any_followed (next_at K.ruled K.cmp V.cmp table.now) rows.entry ≡ false
         → IsOk result }
+    ensures count { CountsValues (next_at K.ruled K.cmp V.cmp table.now) rows.entry
+        turns.old turns.new }
 {
     let mut ends = Vec::new(alloc);
     for (key, value) in rows {
-        let end = later_end(rows_at(table, key), *key, value)?;
+        let end = later_end(rows_at(table, key), *key, value, turns)?;
         add_end(&mut ends, *key, end)?;
     }
     Ok(ends)
@@ -96,14 +100,17 @@ fn later_end<K: AliasKey, V: AliasValue>(
     rows: Option<&SortedMap<V, V>>,
     key: K,
     value: &V,
+    turns: &mut Turns,
 ) -> Result<Option<V>, Refusal<K, V>>
     ensures end { IfOk result (IsLaterEnd (preferred V.cmp (option_copied rows.entry)) value.now) }
     ensures refused { IfErr result
         (IsRunRefusal (preferred V.cmp (option_copied rows.entry)) key value.now) }
     ensures same { preferred V.cmp (option_copied rows.entry) value.now ≡ None
         → result ≡ Ok None }
+    ensures count { CountsRun (preferred V.cmp (option_copied rows.entry)) value.now
+        turns.old turns.new }
 {
-    match run_of(rows, value) {
+    match run_of(rows, value, turns) {
         Ok(Outcome::Same) => Ok(None),
         Ok(Outcome::Ends(last)) => Ok(Some(last)),
         Ok(Outcome::Repeats(first)) => Err(Refusal::Repeats(key, first)),
@@ -115,16 +122,20 @@ fn later_end<K: AliasKey, V: AliasValue>(
 fn run_of<V: AliasValue>(
     rows: Option<&SortedMap<V, V>>,
     value: &V,
+    turns: &mut Turns,
 ) -> Result<Outcome<V>, ParseError>
     ensures outcome { IfOk result
         (IsOutcome (preferred V.cmp (option_copied rows.entry)) value.now) }
     ensures same { preferred V.cmp (option_copied rows.entry) value.now ≡ None
         → result ≡ Ok Same }
+    ensures refused { IfErr result (λ e. e ≡ parse.Memory) }
+    ensures count { CountsRun (preferred V.cmp (option_copied rows.entry)) value.now
+        turns.old turns.new }
 {
     let Some(rows) = rows else {
         return Ok(Outcome::Same);
     };
-    end_of_run(&Aliased { rows }, value, &mut Turns::new())
+    end_of_run(&Aliased { rows }, value, turns)
 }
 
 // An end more, if there is one.

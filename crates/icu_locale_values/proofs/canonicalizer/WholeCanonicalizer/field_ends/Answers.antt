@@ -2,6 +2,7 @@ use Rattle.std.proofs.Common.{subst}
 use Rattle.icu_locale_core.specs.TextSet.{text_cmp}
 use Rattle.icu_locale_values.specs.Aliases.{next_field}
 use Rattle.icu_locale_values.specs.Refusals.{IsFirstRepeat}
+use Rattle.icu_locale_values.specs.inner.Counted.{CountsValues}
 use Rattle.icu_locale_values.specs.inner.Walked.{AreLaterEnds}
 use Rattle.icu_locale_values.proofs.canonicalizer.WholeCanonicalizer.field_ends.Goals as goal
 
@@ -14,3 +15,19 @@ returns-in-Err-Repeats-clause-refusal c =
     let refused = rw c.in-Err-Repeats.field-0-is at c.in-Err-Repeats.ensures.refused in
     subst (λ rows. IsFirstRepeat text_cmp (next_field c.args.self.now.values.fields.now) rows c.in-Err-Repeats.key c.in-Err-Repeats.first)
     c.iter.ensures refused
+
+-- the searches are those of the walk
+pub returns-in-Ok-clause-count : goal.returns-in-Ok-clause-count
+returns-in-Ok-clause-count c =
+    subst (λ rows. CountsValues (next_field c.args.self.now.values.fields.now) rows c.args.turns.now c.later_ends.new.turns) c.iter.ensures
+    c.in-Ok.ensures.count
+
+pub returns-in-Err-Memory-clause-count : goal.returns-in-Err-Memory-clause-count
+returns-in-Err-Memory-clause-count c =
+    subst (λ rows. CountsValues (next_field c.args.self.now.values.fields.now) rows c.args.turns.now c.later_ends.new.turns) c.iter.ensures
+    c.in-Err-Memory.ensures.count
+
+pub returns-in-Err-Repeats-clause-count : goal.returns-in-Err-Repeats-clause-count
+returns-in-Err-Repeats-clause-count c =
+    subst (λ rows. CountsValues (next_field c.args.self.now.values.fields.now) rows c.args.turns.now c.later_ends.new.turns) c.iter.ensures
+    c.in-Err-Repeats.ensures.count

@@ -6,9 +6,10 @@ use Rattle.icu_locale_runs.specs.Run.{BecomesEnd}
 use Rattle.icu_locale_runs.specs.laws.LaterEnds.{BecomesEnd-later_end}
 use Rattle.icu_locale_values.specs.Aliases.{next_field}
 use Rattle.icu_locale_values.specs.Whole.{whole_rules}
+use Rattle.icu_locale_values.proofs.Counting.{CountsWhole-locale, CountsWhole-refused}
 use Rattle.icu_locale_values.proofs.Refused.{AllEnd-later, refused_by_locale, refused_memory}
 use Rattle.icu_locale_values.proofs.Ruled.{there_later}
-use Rattle.icu_locale_values.proofs.canonicalizer.WholeCanonicalizer.canonicalize.Goals as goal
+use Rattle.icu_locale_values.proofs.canonicalizer.WholeCanonicalizer.canonicalize_counted.Goals as goal
 
 -- a field's run has no end
 pub returns-in_err-ends-clause-ends : goal.returns-in_err-ends-clause-ends
@@ -55,3 +56,18 @@ returns-clause-canonical c =
       others = refl;
       private_use = refl;
     }
+
+-- the searches where a field's run has no end, where the locale is refused, and to the end
+pub returns-in_err-ends-clause-count : goal.returns-in_err-ends-clause-count
+returns-in_err-ends-clause-count c =
+    CountsWhole-refused (whole_rules c.args.self.now) c.args.locale.now c.args.turns.now c.field_ends.new.turns c.in_err-ends.ensures.count
+
+pub returns-in_err-answer-clause-count : goal.returns-in_err-answer-clause-count
+returns-in_err-answer-clause-count c =
+    CountsWhole-locale (whole_rules c.args.self.now) c.args.locale.now c.args.turns.now c.field_ends.new.turns c.canonicalize_locale.new.turns
+    c.in_ok-ends.ensures.count c.in_err-answer.ensures.count
+
+pub returns-clause-count : goal.returns-clause-count
+returns-clause-count c =
+    CountsWhole-locale (whole_rules c.args.self.now) c.args.locale.now c.args.turns.now c.field_ends.new.turns c.canonicalize_locale.new.turns
+    c.in_ok-ends.ensures.count c.in_ok-answer.ensures.count
