@@ -1,6 +1,6 @@
 //! Chains of fallback.
 use crate::faults::is_named;
-use icu_locale::LocaleExpander;
+use icu_locale::{LocaleExpander, Turns};
 use icu_locale_core::LanguageIdentifier;
 use icu_locale_fallback::{
     FallbackError, LocaleFallbackConfig, LocaleFallbackPriority, LocaleFallbacker,
@@ -91,6 +91,8 @@ fn long_circle(
         .fallback_for(numbered(rt, 0));
     let refused = chain.to_list(alloc).err();
     assert!(rt; refused == Some(FallbackError::Circle(numbered(rt, 7))));
+    let first = chain.first_repeat_counted(&mut Turns::new());
+    assert!(rt; first == Some(numbered(rt, 7)));
 }
 
 #[test]
@@ -170,6 +172,7 @@ fn chains_by_each_priority(rt: HostRuntime) {
         let chains = fallbacker.for_config(LocaleFallbackConfig { priority });
         let id = identifier(alloc, "en-US-fonipa-posix").expect(&rt, "identifier");
         let chain = chains.fallback_for_identifier(alloc, id);
+        assert!(rt; chain.first_repeat_counted(&mut Turns::new()).is_none());
         let list = chain.to_list(alloc).expect(&rt, "a chain");
         let mut text = String::new(alloc);
         for x in list.iter() {

@@ -1,5 +1,5 @@
 //! Whole canonical forms, by rows of aliases that are made here: those of CLDR and ECMA-402, and such as lead round.
-use icu_locale::{CanonicalizerRef, LocaleExpander, ReadRules, TransformResult};
+use icu_locale::{CanonicalizerRef, LocaleExpander, ReadRules, TransformResult, Turns};
 use icu_locale_core::{Key, Value};
 use icu_locale_extensions::{FieldKey, LocaleIdentifier, Subtags};
 use icu_locale_values::{ValueAliases, WholeCanonicalizer, WholeError};
@@ -76,8 +76,15 @@ fn becomes(rt: &impl Abort, alloc: Global, whole: &WholeCanonicalizer<'_>, row: 
     let before = whole_identifier(alloc, from).expect(rt, "whole identifier");
     let mut locale = whole_identifier(alloc, from).expect(rt, "whole identifier");
     let answer = whole.canonicalize(&mut locale);
+    let mut counted = whole_identifier(alloc, from).expect(rt, "whole identifier");
+    let again = whole.canonicalize_counted(&mut counted, &mut Turns::new());
+    let again = told(rt, alloc, &again, &counted);
     let told = told(rt, alloc, &answer, &locale);
     assert!(rt; told.as_str() == to, "{told} at {from}");
+    assert!(rt;
+        again == told && counted == locale,
+        "the counted call differs at {from}"
+    );
     let is_same = locale == before;
     match answer {
         Ok(TransformResult::Modified) => assert!(rt; !is_same, "at {from}"),
