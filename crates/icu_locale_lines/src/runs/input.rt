@@ -11,8 +11,11 @@ use crate::runs::cut::{cut, is_too_long};
 use std::alloc::Global;
 use std::io::Read;
 
-// How many reads an input may take.
+// How many reads an input may take: at a million a second they last for twelve days.
 pub const MOST_READS: u64 = 1 << 40;
+
+// Fewer might end a run that a program is kept for.
+const _: () = prove!(MOST_READS >= 1 << 40);
 
 // How many bytes are asked for at once.
 pub const PART: usize = 16384;
