@@ -34,6 +34,9 @@
  * An answer has the bytes of the tables, a NUL or a line feed among them where a name has one, and is ended by neither:
  * `written` is its length.
  *
+ * ICU_LOCALE_MEMORY comes in the place of any number that is found out later: a text is read before what it says is
+ * looked at. The other numbers come in the order that each call tells.
+ *
  * What holds whatever the bytes say: no call reads or writes outside of what it was given, each call returns, and a
  * handle that was never opened, was closed, or is opened or closed again has an answer and no fault.
  */
@@ -193,7 +196,8 @@ int32_t icu_locale_is_settled(struct icu_locale *handle);
  * was.
  * ICU_LOCALE_CLOSED: `from` is closed. ICU_LOCALE_TABLE: a likely table is left out. ICU_LOCALE_LIST,
  * ICU_LOCALE_UNSETTLED, ICU_LOCALE_MEMORY. Both handles are as they were. Where several of these hold, the number is that
- * of the closed handle first, then of the table, of the list, and of tables that are not settled.
+ * of the closed handle first, then of the table, of the list, and of tables that are not settled. Over such tables no
+ * list is made, for `serve` and `nearest` neither; `tools/cldr-tables --settled` writes settled ones.
  */
 int32_t icu_locale_available(struct icu_locale *from, const uint8_t *list, size_t list_length,
                              struct icu_locale *negotiator);

@@ -8,6 +8,7 @@ use icu_locale_fallback::{
 };
 use icu_tables::{Supplement, TableError};
 use std::alloc::Global;
+use std::process::Abort;
 use tests_shared::known::{identifier, sample};
 
 const SUPPLEMENT: &str = "{\"parents\":{\"en-AU\":\"en-001\",\"en-001\":\"en\"},\
@@ -29,7 +30,11 @@ impl Call for ReadSupplement {
 
 // Listing the chain of an identifier, whose variants are copied.
 #[derive(Drop)]
-struct ListChain<'d>(LocaleFallbackerWithConfig<'d>, &'d LanguageIdentifier);
+struct ListChain<'d>(
+    LocaleFallbackerWithConfig<'d>,
+    &'d LanguageIdentifier,
+    usize,
+);
 
 impl Call for ListChain<'_> {
     fn answer(&self, alloc: Global) -> Answered {
@@ -37,7 +42,7 @@ impl Call for ListChain<'_> {
             return Answered::Refused;
         };
         match self.0.fallback_for_identifier(alloc, id).to_list(alloc) {
-            Ok(list) if list.len() == 5 => Answered::Whole,
+            Ok(list) if list.len() == self.2 => Answered::Whole,
             Err(FallbackError::Memory) => Answered::Refused,
             _ => Answered::Wrong,
         }
@@ -46,14 +51,18 @@ impl Call for ListChain<'_> {
 
 // Writing the chain of an identifier after a text, which stays as it was where memory was refused.
 #[derive(Drop)]
-struct AppendChain<'d>(LocaleFallbackerWithConfig<'d>, &'d LanguageIdentifier);
+struct AppendChain<'d>(
+    LocaleFallbackerWithConfig<'d>,
+    &'d LanguageIdentifier,
+    &'d str,
+);
 
 impl Call for AppendChain<'_> {
     fn answer(&self, alloc: Global) -> Answered {
         let Ok(id) = self.1.try_clone() else {
             return Answered::Refused;
         };
-        let wanted = "en-AU-fonipa en-AU en-001 en und";
+        let wanted = self.2;
         let mut text = Vec::new(alloc);
         match self.0.append_chain(alloc, id, &mut text) {
             Ok(()) if text.as_slice() == wanted.as_bytes() => Answered::Whole,
@@ -61,6 +70,41 @@ impl Call for AppendChain<'_> {
             _ => Answered::Wrong,
         }
     }
+}
+
+// What a chain keeps longest, an identifier, its chain, and how long that is.
+const CHAINS: [(LocaleFallbackPriority, &str, &str, usize); 3] = [
+    (
+        LocaleFallbackPriority::Language,
+        "en-AU-fonipa",
+        "en-AU-fonipa en-AU en-001 en und",
+        5,
+    ),
+    (
+        LocaleFallbackPriority::Language,
+        "en-AU-fonipa-posix",
+        "en-AU-fonipa-posix en-AU en-001 en und",
+        5,
+    ),
+    (
+        LocaleFallbackPriority::Region,
+        "en-AU-fonipa",
+        "en-AU-fonipa en-AU und-AU und",
+        4,
+    ),
+];
+
+fn one_chain(
+    rt: &impl Abort,
+    alloc: Global,
+    fallbacker: &LocaleFallbacker<'_>,
+    row: (LocaleFallbackPriority, &str, &str, usize),
+) {
+    let (priority, text, wanted, count) = row;
+    let chains = fallbacker.for_config(LocaleFallbackConfig { priority });
+    let id = identifier(alloc, text).expect(rt, "identifier");
+    stands(rt, alloc, &ListChain(chains, &id, count));
+    stands(rt, alloc, &AppendChain(chains, &id, wanted));
 }
 
 #[test]
@@ -72,12 +116,8 @@ fn chains_and_supplements(rt: HostRuntime) {
         expander: LocaleExpander::try_new_common_unstable(&tables).expect(&rt, "tables"),
         parents: &supplement.parents,
     };
-    let chains = fallbacker.for_config(LocaleFallbackConfig {
-        priority: LocaleFallbackPriority::Language,
-    });
-    let id = identifier(alloc, "en-AU-fonipa").expect(&rt, "identifier");
-    let listed = ListChain(chains, &id);
     stands(&rt, alloc, &ReadSupplement);
-    stands(&rt, alloc, &listed);
-    stands(&rt, alloc, &AppendChain(chains, &id));
+    for row in CHAINS {
+        one_chain(&rt, alloc, &fallbacker, row);
+    }
 }
