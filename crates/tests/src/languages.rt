@@ -22,7 +22,7 @@ use std::process::Abort;
 use tests_shared::fakes::HeldWriter;
 use tests_shared::known::{english, identifier, sample, variant};
 use tests_shared::names::{CHAINS, RAW, named, patterns};
-use tests_shared::refusing::{KINDS, refusal, willing};
+use tests_shared::refusing::{KINDS, Refusing, refusal, willing};
 
 // Markers that are in the chains, one for each part of a name.
 const MARKERS: [NameMarker; 4] = [
@@ -41,6 +41,18 @@ fn refusal_of_a_part(kind: DataErrorKind) -> Option<DataError> {
     }
 }
 
+// What a chain of names is refused by, if it is.
+fn refused_by(
+    rt: &impl Abort,
+    alloc: Global,
+    provider: &Refusing<'_>,
+    subject: &LanguageIdentifier,
+    chain: NameChain,
+) -> Option<DataError> {
+    let of = english().expect(rt, "english");
+    named(alloc, provider, of, subject, chain).err()
+}
+
 fn refused_at_a_name(
     rt: &impl Abort,
     alloc: Global,
@@ -53,14 +65,7 @@ fn refused_at_a_name(
         provider.names = refusal(kind);
         provider.names_at = Some(marker);
         for chain in CHAINS {
-            let refused = named(
-                alloc,
-                &provider,
-                english().expect(rt, "english"),
-                subject,
-                chain,
-            )
-            .err();
+            let refused = refused_by(rt, alloc, &provider, subject, chain);
             assert!(rt; refused == refusal_of_a_part(kind));
         }
     }
@@ -77,14 +82,7 @@ fn refused_at_the_patterns(
     let mut provider = willing(tables);
     provider.essentials = refusal(kind);
     for chain in CHAINS {
-        let refused = named(
-            alloc,
-            &provider,
-            english().expect(rt, "english"),
-            subject,
-            chain,
-        )
-        .err();
+        let refused = refused_by(rt, alloc, &provider, subject, chain);
         assert!(rt; refused == refusal(kind));
     }
 }
@@ -100,14 +98,7 @@ fn refused_at_the_menus(
     let mut provider = willing(tables);
     provider.menus = refusal(kind);
     for chain in CHAINS {
-        let refused = named(
-            alloc,
-            &provider,
-            english().expect(rt, "english"),
-            subject,
-            chain,
-        )
-        .err();
+        let refused = refused_by(rt, alloc, &provider, subject, chain);
         let asks = matches!(
             chain,
             NameChain::MenuLight

@@ -1,9 +1,8 @@
 //! Runs and streams whose readers and writers are slow, full or fail, as rows.
 use crate::case::{ALL, Case, Sink, ends};
+use icu_locale_lines::SAMPLE;
 use std::alloc::Global;
 use std::process::Abort;
-
-// Runs: words, the input, and what is written.
 
 const RUN: Case<'_> = Case {
     is_stream: false,
@@ -17,58 +16,118 @@ const RUN: Case<'_> = Case {
     status: "0",
 };
 
-// Over the sample. (Without tables to read, `settled` reads nothing.)
-fn ends_so(rt: &impl Abort, alloc: Global, case: &Case<'_>) {
-    if case.words != "settled" || !case.fails {
-        let _ = ends(rt, alloc, case);
+// Words, an input, what is written, and how it ends.
+type Row = (&'static str, &'static str, &'static str, &'static str);
+
+// Runs over the sample.
+const RUNS: [Row; 8] = [
+    (
+        "maximize",
+        "zh-CN\nde\n",
+        "zh-Hans-CN\tM\nde-Latn-DE\tM\n",
+        "0",
+    ),
+    (
+        "minimize",
+        "zh-Hans-CN\n\n",
+        "zh\tM\n?\tInvalidLanguage\n",
+        "1",
+    ),
+    ("minimize-script", "zh-TW\n", "zh-Hant\tM\n", "0"),
+    (
+        "canonicalize",
+        "sh\tabcdefg\nja\n",
+        "sr-Latn\txyz\tM\nja\tU\n",
+        "0",
+    ),
+    ("direction", "ar\nen\n", "rtl\nltr\n", "0"),
+    (
+        "negotiate",
+        "en-US zh-Hant\nfr zh-TW\n",
+        "1\tzh-Hant\n",
+        "0",
+    ),
+    ("name light en", "it\n", "Italian\tN\n", "0"),
+    ("settled", "en\n", "yes\n", "0"),
+];
+
+// A read fails after every byte, and nothing is written. (Without tables to read, `settled` reads nothing.)
+fn fails_at_reads<'x>(rt: &impl Abort, alloc: Global, words: &'x str, input: &'x str) {
+    for count in 0..=input.len() {
+        let case = Case {
+            words,
+            input: &input.as_bytes()[..count],
+            fails: true,
+            status: "read failed",
+            ..RUN
+        };
+        let _ = ends(rt, alloc, &case);
     }
 }
 
-// A read fails after every byte, and nothing is written.
-fn fails_at_reads(rt: &impl Abort, alloc: Global, case: &Case<'_>) {
-    for count in 0..=case.input.len() {
-        let failed = Case {
-            input: &case.input[..count],
-            fails: true,
-            output: b"",
-            status: "read failed",
-            ..*case
-        };
-        ends_so(rt, alloc, &failed);
-    }
+// A writer that takes so many bytes at once and so many in all, and then no more, or fails.
+fn writes_to<'x>(
+    rt: &impl Abort,
+    alloc: Global,
+    (words, input): (&'x str, &'x str),
+    sink: Sink,
+    (output, status): (&'x [u8], &'x str),
+) {
+    let case = Case {
+        words,
+        input: input.as_bytes(),
+        at_once: 4096,
+        sink,
+        output,
+        status,
+        ..RUN
+    };
+    let _ = ends(rt, alloc, &case);
 }
 
 // A writer that takes a byte at a time takes all; one that is full, or fails, takes what it can.
-fn fails_at_writes(rt: &impl Abort, alloc: Global, case: &Case<'_>) {
+fn fails_at_writes<'x>(
+    rt: &impl Abort,
+    alloc: Global,
+    call: (&'x str, &'x str),
+    (output, status): (&'x str, &'x str),
+) {
+    let whole = output.as_bytes();
     let slow = Sink { at_once: 1, ..ALL };
-    ends_so(
-        rt,
-        alloc,
-        &Case {
-            sink: slow,
-            ..*case
-        },
-    );
-    for room in 0..=case.output.len() {
+    writes_to(rt, alloc, call, slow, (whole, status));
+    for room in 0..whole.len() {
         for fails in [false, true] {
-            let is_whole = room == case.output.len();
-            let full = Case {
-                sink: Sink {
-                    at_once: 7,
-                    room,
-                    fails,
-                    ..ALL
-                },
-                output: &case.output[..room],
-                status: if is_whole {
-                    case.status
-                } else {
-                    "write failed"
-                },
-                ..*case
+            let full = Sink {
+                at_once: 7,
+                room,
+                fails,
+                ..ALL
             };
-            ends_so(rt, alloc, &full);
+            writes_to(rt, alloc, call, full, (&whole[..room], "write failed"));
         }
+    }
+}
+
+// The same over the tables of the first line.
+fn fails_over_text(rt: &impl Abort, alloc: Global, row: Row) {
+    let (words, input, output, status) = row;
+    let words = format!(in alloc; "{words} json").expect(rt, "memory");
+    fails_at_reads(rt, alloc, words.as_str(), input);
+    let input = format!(in alloc; "{SAMPLE}\n{input}").expect(rt, "memory");
+    let call = (words.as_str(), input.as_str());
+    fails_at_writes(rt, alloc, call, (output, status));
+}
+
+#[test]
+fn runs_with_faults(rt: HostRuntime) {
+    let alloc = rt.alloc();
+    for row in RUNS {
+        let (words, input, output, status) = row;
+        if words != "settled" {
+            fails_at_reads(&rt, alloc, words, input);
+        }
+        fails_at_writes(&rt, alloc, (words, input), (output, status));
+        fails_over_text(&rt, alloc, row);
     }
 }
 
@@ -77,10 +136,8 @@ const STREAM: Case<'_> = Case {
     ..RUN
 };
 
-// Words, an input after which every read fails, what is written, and how it ends.
-type Row = (&'static str, &'static str, &'static str, &'static str);
-
-// A line is answered if it came whole; a first line that did not is never answered. Tables are loaded when theirs has come.
+// Streams, of which every read after the input fails. A line is answered if it came whole; a first line that did not is
+// never answered. Tables are loaded when theirs has come.
 const READS: [Row; 14] = [
     ("maximize", "", "", "read failed"),
     ("maximize", "en", "", "read failed"),
