@@ -11,7 +11,7 @@ use tests_shared::names::called;
 use tests_shared::values::whole_identifier;
 
 // Texts, what each is called, and where raw parts are in that. The first are of CLDR's own suite.
-static NAMES: [(&str, &str, &[(usize, usize)]); 17] = [
+static NAMES: [(&str, &str, &[(usize, usize)]); 18] = [
     (
         "en-u-nu-thai-ca-islamic-civil",
         "English (Islamic Calendar [tabular, civil epoch], Thai Digits)",
@@ -32,6 +32,11 @@ static NAMES: [(&str, &str, &[(usize, usize)]); 17] = [
         &[],
     ),
     ("it-u-kn", "Italian (Sort Digits Numerically)", &[]),
+    (
+        "it-u-kk-kr",
+        "Italian (kk: true, Script/Block Reordering: true)",
+        &[(9, 11), (13, 17), (44, 48)],
+    ),
     (
         "it-u-kr-latn-digit-zzz",
         "Italian (Script/Block Reordering: Latin, Digits, zzz)",
