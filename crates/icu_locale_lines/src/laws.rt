@@ -1,5 +1,6 @@
 //! Laws of lines. Each function here takes nothing, answers nothing and carries a proved fact.
-ghost use Rattle.std.specs.Prelude.{◌≡◌, ◌↔◌, ◌++◌, ◌∷◌, [], None, Some, ℕ, Bool, List};
+ghost use Rattle.std.specs.Prelude.{◌≡◌, ◌↔◌, ◌++◌, ◌∷◌, [], Option, None, Some, ℕ, Bool, List};
+ghost use Rattle.icu_tables.specs.declared.tables.Tables.{Tables};
 ghost use Rattle.icu_locale_lines.specs.declared.asked.Asked.{Asked};
 ghost use Rattle.icu_locale_lines.specs.declared.runs.Status.{Status};
 ghost use Rattle.icu_locale_lines.specs.declared.work.Tools.{Tools};
@@ -9,7 +10,11 @@ ghost use Rattle.icu_locale_extensions.specs.declared.syntax.Syntax.TheVariants.
 ghost use Rattle.icu_locale_lines.specs.Answers.{HasNoSingleton, HoldsIdentifiers, IsAnswer, IsAnswerBy};
 ghost use Rattle.icu_locale_lines.specs.Grammar.{parse};
 ghost use Rattle.icu_locale_lines.specs.Lists.{IsAvailable, listed, shown_at};
+ghost use Rattle.icu_locale_lines.specs.Lines.{Stream};
 ghost use Rattle.icu_locale_lines.specs.Runs.{WritesAll};
+ghost use Rattle.icu_locale_lines.specs.Streams.{IsRunWithin};
+ghost use Rattle.icu_locale_lines.specs.WholeRuns.{IsRun};
+ghost use Rattle.icu_locale_lines.specs.declared.command.Command.{Command};
 ghost use Rattle.icu_locale_lines.specs.laws.Grammar.{AreWordsOf};
 ghost use Rattle.icu_locale_core.specs.declared.langid.LanguageIdentifier.{LanguageIdentifier};
 ghost use Rattle.icu_locale_extensions.specs.declared.identifier.LocaleIdentifier.{LocaleIdentifier};
@@ -74,6 +79,18 @@ pub fn parts_make_the_whole()
 {
     a_line_has_one_answer();
 }
+
+/// A stream that has ended well wrote what a run of the same command writes, over the same tables and the same input, and
+/// with the same status; and without a bound of its lines it writes all that a run does.
+pub fn streams_write_as_runs()
+    ensures same { (c : Command) (t : Tables) (read read' wrote wrote' : Stream)
+        (status : Status) → IsRunWithin None c t read read read' wrote wrote' status
+        ↔ IsRun c t read read' wrote wrote' status }
+    ensures bounded { (longest : Option ℕ) (c : Command) (t : Tables)
+        (read read' wrote wrote' : Stream) (status : Status)
+        → IsRunWithin longest c t read read read' wrote wrote' status
+        → IsRun c t read read' wrote wrote' status }
+{}
 
 /// Words are parsed as what they have the form of, and no others are: `longest` and a number, the word of a syntax, those
 /// of a command, and where its tables come from.
