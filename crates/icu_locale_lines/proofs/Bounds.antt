@@ -1,13 +1,14 @@
 -- Lines within a bound.
-use Rattle.std.proofs.Common.{◌≡◌, ◌⊎◌, ◌≤◌, ℕ, ◌+◌, ◌-◌, take, drop, subst, append-nil, length-append, true, false, ◌||◌, cond, List, [], ◌∷◌, ◌++◌, length, Option, None, Some, is_none, refl, ap}
+use Rattle.std.proofs.Common.{◌≡◌, ◌≢◌, ◌⊎◌, ◌≤◌, ℕ, ◌+◌, ◌-◌, take, drop, subst, append-nil, length-append, true, false, ◌||◌, cond, List, [], ◌∷◌, ◌++◌, length, Option, None, Some, is_none, refl, ap}
 use Rattle.std.proofs.Common.{sym, ◌∙◌, append_assoc, inl, inr, arith}
 use Rattle.std.specs.List.{list_any, slice_split, onto_first}
 use Rattle.std.proofs.lemmas.Bool.{false≢true, or_parts}
 use Rattle.std.proofs.lemmas.Bool.Decides.{nat_tests}
+use Rattle.std.proofs.lemmas.List.{append_cancel_right}
 use Rattle.std.proofs.lemmas.List.Folds.{list_any-append}
 use Rattle.std.proofs.Math.Seq.{take-append_seam, drop-append_seam}
 use Rattle.icu_locale_lines.specs.Lines.{is_line_feed, without_empty_last, lines, first_line, after_first_line, exceeds, AreWithin}
-use Rattle.icu_locale_lines.specs.Streams.{part_size, EndsLines, IsUnended, BeginsTooLong}
+use Rattle.icu_locale_lines.specs.Streams.{part_size, EndsLines, IsUnended, BeginsTooLong, BeginsRefused}
 use Rattle.icu_locale_lines.specs.laws.Parts.{without_empty_last-more, lines_of_parts}
 use Rattle.icu_locale_lines.proofs.FirstLines.{IsWhole, IsCut, cut_at, alone, first_line-grows}
 
@@ -32,6 +33,14 @@ pieces_ended (c ∷ t) none =
     let ps = slice_split is_line_feed (t ++ 10 ∷ []) in
     ap (λ b. cond b ([] ∷ ps) (onto_first c ps)) both.0 ∙ ap (onto_first c) (pieces_ended t both.1)
 
+-- so a line alone is one line, and with its line feed too
+pub lines_alone : (t : List ℕ) → list_any is_line_feed t ≡ false → length (lines t) ≤ 1
+lines_alone [] none = omega arith
+lines_alone (c ∷ t) none = let one = ap (λ ps. length (without_empty_last ps)) (pieces_alone (c ∷ t) none) in omega (arith, one)
+
+pub lines_ended : (line : List ℕ) → list_any is_line_feed line ≡ false → lines (line ++ 10 ∷ []) ≡ line ∷ []
+lines_ended line none = ap without_empty_last (pieces_ended line none) ∙ without_empty_last-more line [] []
+
 module _ (longest : Option ℕ) where
   pub within_none : AreWithin longest []
   within_none = refl
@@ -47,13 +56,16 @@ module _ (longest : Option ℕ) where
 
   -- a line with its line feed
   pub within_ended : (line : List ℕ) → list_any is_line_feed line ≡ false → exceeds longest line ≡ false → AreWithin longest (line ++ 10 ∷ [])
-  within_ended line none within = ap (λ ps. list_any (exceeds longest) (without_empty_last ps)) (pieces_ended line none)
-      ∙ ap (list_any (exceeds longest)) (without_empty_last-more line [] []) ∙ one_line line within
+  within_ended line none within = ap (list_any (exceeds longest)) (lines_ended line none) ∙ one_line line within
 
   -- whole lines, and what follows them
   pub within_after : (done t : List ℕ) → EndsLines done → AreWithin longest done → AreWithin longest t → AreWithin longest (done ++ t)
   within_after done t ends first later = ap (list_any (exceeds longest)) (lines_after done t ends)
       ∙ list_any-append (exceeds longest) (lines done) (lines t) ∙ (λ i. first i || later i)
+
+pub nothing_exceeds : (longest : Option ℕ) → exceeds longest [] ≡ false
+nothing_exceeds None = refl
+nothing_exceeds (Some n) = grind (arith, nat_tests)
 
 -- a longer text exceeds too
 pub exceeds-longer : (longest : Option ℕ) (x y : List ℕ) → length x ≤ length y → exceeds longest x ≡ true → exceeds longest y ≡ true
@@ -79,6 +91,68 @@ begins_too_long (Some n) held part left within short fits is = (grind (arith, na
   where
     by : length held ≤ n → length left ≤ n + part_size
     by low = omega (arith, low, short, fits)
+
+-- what follows a line feed that was not held is of the last part
+behind_held : (held part front left : List ℕ) → list_any is_line_feed held ≡ false → held ++ part ≡ (front ++ 10 ∷ []) ++ left
+    → length left ≤ length part
+behind_held [] part front left none all = let sizes = ap length all in let parts = length-append (front ++ 10 ∷ []) left in omega (arith, sizes, parts)
+behind_held (c ∷ held) part [] left none all =
+    let feed : c ≡ 10 = cc in
+    let other = (or_parts (is_line_feed c) (list_any is_line_feed held) none).0 in
+    absurd (false≢true (sym other ∙ ap is_line_feed feed))
+behind_held (c ∷ held) part (d ∷ front) left none all =
+    behind_held held part front left (or_parts (is_line_feed c) (list_any is_line_feed held) none).1 (by all)
+  where
+    by : c ∷ (held ++ part) ≡ d ∷ ((front ++ 10 ∷ []) ++ left) → held ++ part ≡ (front ++ 10 ∷ []) ++ left
+    by e = cc
+
+-- where memory was refused for the first line of what is left
+pub begins_refused : (longest : Option ℕ) (held part ended left : List ℕ) → IsUnended longest held → length part ≤ part_size
+    → held ++ part ≡ ended ++ left → EndsLines ended → left ≢ [] → BeginsRefused longest left
+begins_refused longest held part ended left unended short all (inl none) some = record {
+  begun = held;
+  part = part;
+  parted = sym (all ∙ ap (λ e. e ++ left) none);
+  unended = unended;
+  short = short;
+  some = some;
+}
+begins_refused longest held part ended left unended short all (inr (front, is)) some = record {
+  begun = [];
+  part = left;
+  parted = refl;
+  unended = (refl, nothing_exceeds longest);
+  short = let less = behind_held held part front left unended.0 (all ∙ ap (λ e. e ++ left) is) in omega (arith, less, short);
+  some = some;
+}
+
+-- ---- whole lines whose first is cut off
+
+-- what follows in whole lines is whole lines
+ends_behind : (a b : List ℕ) → EndsLines (a ++ b) → EndsLines b
+ends_behind [] b ends = ends
+ends_behind (c ∷ a) b (inl none) = absurd (cc)
+ends_behind (c ∷ a) b (inr ([], is)) = ends_behind a b (inl (by is))
+  where
+    by : c ∷ (a ++ b) ≡ 10 ∷ [] → a ++ b ≡ []
+    by e = cc
+ends_behind (c ∷ a) b (inr (d ∷ front, is)) = ends_behind a b (inr (front, by is))
+  where
+    by : c ∷ (a ++ b) ≡ d ∷ (front ++ 10 ∷ []) → a ++ b ≡ front ++ 10 ∷ []
+    by e = cc
+
+pub ends_split : (text front behind : List ℕ) → text ≡ front ++ behind → behind ≡ after_first_line text → EndsLines text
+    → EndsLines front × EndsLines behind
+ends_split text front behind parted rest ends = (by (cut_at text), ends_behind front behind (subst EndsLines parted ends))
+  where
+    by : IsWhole text ⊎ IsCut text → EndsLines front
+    by (inl whole) = subst EndsLines (parted ∙ ap (λ b. front ++ b) (rest ∙ (alone text whole.1).1) ∙ append-nil front) ends
+    by (inr cut) = inr (
+      first_line text,
+      append_cancel_right front (first_line text ++ 10 ∷ []) behind
+          (sym parted ∙ cut.0 ∙ sym (append_assoc (first_line text) (10 ∷ []) (after_first_line text))
+          ∙ ap (λ b. (first_line text ++ 10 ∷ []) ++ b) (sym rest)),
+    )
 
 -- ---- a text up to its first line that is too long
 

@@ -4,18 +4,18 @@ use Rattle.std.proofs.Common.{inl, inr, refl, ap, sym, subst, ◌∙◌, append_
 use Rattle.std.specs.List.{list_any}
 use Rattle.std.specs.Io.KnownBytes.{Consumes, Keeps, IsAtEnd, prepend_known}
 use Rattle.std.proofs.KnownBytes.{Appends-kept, Consumes-nil, Consumes-trans, Consumes-kept}
-use Rattle.std.proofs.lemmas.Bool.Decides.{nat_tests}
 use Rattle.icu_locale_lines.specs.declared.error.CliError.{CliError}
 use Rattle.icu_locale_lines.specs.declared.error.CliError.TheVariants as error
 use Rattle.icu_locale_lines.specs.declared.runs.Status.{Status}
-use Rattle.icu_locale_lines.specs.declared.runs.Status.TheVariants.{Accepted, Refused}
+use Rattle.icu_locale_lines.specs.declared.runs.Status.TheVariants.{Accepted}
 use Rattle.icu_locale_lines.specs.declared.work.Work.{Work}
 use Rattle.icu_locale_lines.specs.Lines.{is_line_feed, exceeds, AreWithin, Stream}
-use Rattle.icu_locale_lines.specs.Runs.{text_of_lines, ReadsAll, WritesAll, WritesWholeLines, WritesPart}
-use Rattle.icu_locale_lines.specs.Streams.{part_size, IsUnended, StopsReading, EndsLines, AnswersEnded, LeavesEnded, LeavesLines, StopsBetween, StopsLate, StopsStream}
+use Rattle.icu_locale_lines.specs.Runs.{text_of_lines, ReadsAll, WritesAll, WritesEarlier, WritesPart}
+use Rattle.icu_locale_lines.specs.Streams.{part_size, IsUnended, StopsReading, EndsLines, AnswersEnded, StopsBetween, StopsStream}
 use Rattle.icu_locale_lines.specs.inner.Parts.{StopsPart}
-use Rattle.icu_locale_lines.proofs.Bounds.{within_none, within_alone, within_after, begins_too_long}
-use Rattle.icu_locale_lines.proofs.PartEnds.{EndsLines-append, WritesPart-behind, WritesAll-behind, WritesAll-none}
+use Rattle.icu_locale_lines.proofs.Bounds.{within_none, within_alone, within_after, nothing_exceeds, begins_too_long, begins_refused}
+use Rattle.icu_locale_lines.proofs.PartEnds.{WritesPart-behind, WritesAll-behind, WritesAll-none, AnswersEnded-behind, StopsPart-behind, StopsPart-earlier}
+use Rattle.icu_locale_lines.proofs.PartEnds.{both_of, both_are}
 
 -- how far a run has come that answers lines as they come
 pub record StreamProgress (longest : Option ℕ) (work : Work) (read read' wrote wrote' : Stream) (status : Status) (carry : List ℕ) : Type 0 where
@@ -26,19 +26,6 @@ pub record StreamProgress (longest : Option ℕ) (work : Work) (read read' wrote
   pub answered : WritesAll work done wrote wrote' status
   pub unended : list_any is_line_feed carry ≡ false
   pub short : exceeds longest carry ≡ false
-
--- the status of two parts
-abbrev both_of : Status → Status → Status
-both_of Accepted later = later
-both_of Refused later = Refused
-
-both_are : (first later : Status) → (both_of first later ≡ Accepted) ↔ ((first ≡ Accepted) × (later ≡ Accepted))
-both_are Accepted later = (λ e. (refl, e), λ both. both.1)
-both_are Refused later = (λ e. (e, absurd (cc)), λ both. both.0)
-
-pub nothing_exceeds : (longest : Option ℕ) → exceeds longest [] ≡ false
-nothing_exceeds None = refl
-nothing_exceeds (Some n) = grind (arith, nat_tests)
 
 pub StreamProgress-none : (longest : Option ℕ) (work : Work) (read wrote : Stream) (carry : List ℕ) → carry ≡ []
     → StreamProgress longest work read read wrote wrote Accepted carry
@@ -63,13 +50,8 @@ module _ (longest : Option ℕ) (work : Work) (read mid wrote between : Stream) 
   answers_more : (wrote' : Stream) (text left : List ℕ) (ended later : Status) → AnswersEnded longest work text left between wrote' ended
       → (later ≡ Accepted) ↔ ((status ≡ Accepted) × (ended ≡ Accepted))
       → AnswersEnded longest work (before.done ++ text) left wrote wrote' later
-  answers_more wrote' text left ended later a both = record {
-    ended = before.done ++ a.ended;
-    whole = EndsLines-append before.done a.ended before.whole a.whole;
-    within = within_after longest before.done a.ended before.whole before.within a.within;
-    parted = ap (λ t. before.done ++ t) a.parted ∙ sym (append_assoc before.done a.ended left);
-    answered = WritesAll-behind work wrote between wrote' before.done a.ended status ended later before.whole before.answered a.answered both;
-  }
+  answers_more wrote' text left ended later a both =
+      AnswersEnded-behind longest work wrote between wrote' before.done status before.whole before.within before.answered text left ended later a both
 
   pub StreamProgress-more : (new wrote' : Stream) (part left : List ℕ) (ended later : Status) → Consumes mid new part
       → AnswersEnded longest work (carry ++ part) left between wrote' ended → IsUnended longest left
@@ -85,40 +67,6 @@ module _ (longest : Option ℕ) (work : Work) (read mid wrote between : Stream) 
         short = unended.1;
       }
 
-  -- what refused lines leave, after the lines before
-  leaves_behind : (Leaves : Work → List ℕ → Stream → Stream → Type 0) (wrote' : Stream)
-      → ((t : List ℕ) → Leaves work t between wrote' → Leaves work (before.done ++ t) wrote wrote') → (text : List ℕ)
-      → LeavesEnded Leaves longest work text between wrote' → LeavesEnded Leaves longest work (before.done ++ text) wrote wrote'
-  leaves_behind Leaves wrote' behind text l = record {
-    ended = before.done ++ l.ended;
-    left = l.left;
-    whole = EndsLines-append before.done l.ended before.whole l.whole;
-    within = within_after longest before.done l.ended before.whole before.within l.within;
-    parted = ap (λ t. before.done ++ t) l.parted ∙ sym (append_assoc before.done l.ended l.left);
-    leaves = behind l.ended l.leaves;
-  }
-
-  part_behind : (wrote' : Stream) (t : List ℕ) → WritesPart work t between wrote' → WritesPart work (before.done ++ t) wrote wrote'
-  part_behind wrote' t w = WritesPart-behind work wrote between wrote' before.done t status before.whole before.answered w
-
-  -- no memory for what came last
-  late : (new wrote' : Stream) (part : List ℕ) → Consumes read new (before.done ++ (carry ++ part)) → length part ≤ part_size
-      → LeavesLines WritesWholeLines longest work new (carry ++ part) between wrote' → StopsLate longest work read new wrote wrote'
-  late new wrote' part consumed size left = record {
-    done = before.done;
-    begun = carry;
-    part = part;
-    between = between;
-    status = status;
-    consumed = consumed;
-    whole = before.whole;
-    within = before.within;
-    answered = before.answered;
-    unended = (before.unended, before.short);
-    short = size;
-    left = left;
-  }
-
   -- a part was refused
   pub StreamProgress-refused : (new wrote' : Stream) (part : List ℕ) → Consumes mid new part → length part ≤ part_size → (e : CliError)
       → StopsPart longest work (carry ++ part) between wrote' e → StopsStream longest work read new wrote wrote' e
@@ -132,12 +80,19 @@ module _ (longest : Option ℕ) (work : Work) (read mid wrote between : Stream) 
         (let all = ap length answers.parted in let left_of = length-append answers.ended left in let whole = length-append carry part in
         omega (arith, all, left_of, whole)) long);
   }
-  StreamProgress-refused new wrote' part more size error.Memory l =
-      late new wrote' part (consumed_more new part more) size (inl l)
+  StreamProgress-refused new wrote' part more size error.Memory (left, ended, answers, some) = record {
+    text = before.done ++ (carry ++ part);
+    left = left;
+    status = both_of status ended;
+    consumed = consumed_more new part more;
+    answered = answers_more wrote' (carry ++ part) left ended (both_of status ended) answers (both_are status ended);
+    unanswered = begins_refused longest carry part answers.ended left (before.unended, before.short) size answers.parted answers.whole some;
+  }
   StreamProgress-refused new wrote' part more size error.Write l = inl (
     before.done ++ (carry ++ part),
     consumed_more new part more,
-    inl (leaves_behind WritesPart wrote' (part_behind wrote') (carry ++ part) l),
+    inl (StopsPart-behind longest work wrote between wrote' before.done status before.whole before.within before.answered (carry ++ part)
+        error.Write l),
   )
   StreamProgress-refused new wrote' part more size error.Usage none = absurd none
   StreamProgress-refused new wrote' part more size (error.Tables t) none = absurd none
@@ -157,14 +112,18 @@ module _ (longest : Option ℕ) (work : Work) (read mid wrote between : Stream) 
 
   -- the last line was refused
   pub StreamProgress-last : (new wrote' : Stream) (nothing : List ℕ) → nothing ≡ [] → Consumes mid new nothing → IsAtEnd new → (e : CliError)
-      → (e ≡ error.Memory) ⊎ (e ≡ error.Write) → (e ≡ error.Memory → WritesWholeLines work carry between wrote')
+      → (e ≡ error.Memory) ⊎ (e ≡ error.Write) → (e ≡ error.Memory → WritesEarlier work carry between wrote')
       → (e ≡ error.Write → WritesPart work carry between wrote') → StopsStream longest work read new wrote wrote' e
   StreamProgress-last new wrote' nothing none more ended e (inl is) memory write = subst (StopsStream longest work read new wrote wrote') (sym is)
-      (late new wrote' [] (subst (λ n. Consumes read new (before.done ++ (carry ++ n))) none (consumed_more new nothing more)) (omega arith)
-      (subst (λ t. LeavesLines WritesWholeLines longest work new t between wrote') (sym (append-nil carry))
-      (inr (ended, within_alone longest carry (before.unended, before.short), memory is))))
+      (StreamProgress-refused new wrote' [] (subst (Consumes mid new) none more) (omega arith) error.Memory
+      (subst (λ t. StopsPart longest work t between wrote' error.Memory) (sym (append-nil carry))
+      (StopsPart-earlier longest work between wrote' carry (within_alone longest carry (before.unended, before.short)) (memory is))))
   StreamProgress-last new wrote' nothing none more ended e (inr is) memory write = subst (StopsStream longest work read new wrote wrote') (sym is)
-      (inl (before.done ++ carry, consumed_all new nothing none more, inr (ended, all_within, part_behind wrote' carry (write is))))
+      (inl (
+        before.done ++ carry,
+        consumed_all new nothing none more,
+        inr (ended, all_within, WritesPart-behind work wrote between wrote' before.done carry status before.whole before.answered (write is)),
+      ))
 
   -- what was carried is left
   answers_so_far : AnswersEnded longest work (before.done ++ carry) carry wrote between status

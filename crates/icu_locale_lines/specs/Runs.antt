@@ -47,10 +47,6 @@ abbrev pub WritesEarlier : Work → List ℕ → Stream → Stream → Type 0
 WritesEarlier work input old new = (line : List ℕ) × (rest : List (List ℕ))
     × WritesUpTo work input old new [] (line ∷ rest)
 
--- whole lines alone are written
-abbrev pub WritesWholeLines : Work → List ℕ → Stream → Stream → Type 0
-WritesWholeLines work input old new = (rest : List (List ℕ)) × WritesUpTo work input old new [] rest
-
 -- the earlier lines are written whole, and of the next a beginning that is not the whole
 pub record WritesPart (work : Work) (input : List ℕ) (old new : Stream) : Type 0 where
   pub line : List ℕ

@@ -1,5 +1,5 @@
 -- What a run that answers lines as they come reads and writes.
-use Rattle.std.specs.Prelude.{◌≡◌, ◌⊎◌, ◌<◌, ◌≤◌, ◌+◌, ℕ, length, Bool, true, false, List, [], ◌∷◌, ◌++◌, Option, None, Some, Ok}
+use Rattle.std.specs.Prelude.{◌≡◌, ◌≢◌, ◌⊎◌, ◌<◌, ◌≤◌, ◌+◌, ℕ, length, Bool, true, false, List, [], ◌∷◌, ◌++◌, Option, None, Some, Ok}
 use Rattle.std.specs.List.{list_any}
 use Rattle.std.specs.Io.KnownBytes.{Consumes, IsAtEnd, prepend_known}
 use Rattle.icu_tables.specs.Rows.{rows_of}
@@ -17,7 +17,7 @@ use Rattle.icu_locale_lines.specs.declared.runs.Status.{Status}
 use Rattle.icu_locale_lines.specs.declared.work.Work.{Work}
 use Rattle.icu_locale_lines.specs.Lines.{is_line_feed, first_line, exceeds, AreWithin, Stream}
 use Rattle.icu_locale_lines.specs.Refusals.{IsRefusedReading, IsRefusedSupplement}
-use Rattle.icu_locale_lines.specs.Runs.{WritesAll, WritesWholeLines, WritesPart}
+use Rattle.icu_locale_lines.specs.Runs.{WritesAll, WritesPart}
 use Rattle.icu_locale_lines.specs.WholeRuns.{IsUnloaded, IsUnread, IsUnlisted, StopsSettled, ReadsInput, WritesOutput}
 use Rattle.icu_locale_lines.specs.Commands.{IsWorkOf, ListsOver, text_answered}
 
@@ -64,58 +64,48 @@ pub record StopsBetween (IsLeft : Option ℕ → List ℕ → Type 0) (longest :
   pub answered : AnswersEnded longest work text left wrote wrote' status
   pub unanswered : IsLeft longest left
 
--- lines that a text ends, each within the bound, are answered as far as Leaves says
-pub record LeavesEnded (Leaves : Work → List ℕ → Stream → Stream → Type 0) (longest : Option ℕ)
-    (work : Work) (text : List ℕ) (old new : Stream) : Type 0 where
+-- what is left where memory was refused for its first line: a line that was begun, if any, and
+-- behind it no more than is read at once
+pub record BeginsRefused (longest : Option ℕ) (text : List ℕ) : Type 0 where
+  pub begun : List ℕ
+  pub part : List ℕ
+  pub parted : text ≡ begun ++ part
+  pub unended : IsUnended longest begun
+  pub short : length part ≤ part_size
+  pub some : text ≢ []
+
+-- of lines that a text ends, each within the bound, the earlier ones are answered, and one in part
+pub record LeavesEnded (longest : Option ℕ) (work : Work) (text : List ℕ) (old new : Stream)
+    : Type 0 where
   pub ended : List ℕ
   pub left : List ℕ
   pub whole : EndsLines ended
   pub within : AreWithin longest ended
   pub parted : text ≡ ended ++ left
-  pub leaves : Leaves work ended old new
+  pub leaves : WritesPart work ended old new
 
--- lines of a text are answered as far as Leaves says: what follows the last line feed is one only
--- where the input has ended
-abbrev pub LeavesLines : (Work → List ℕ → Stream → Stream → Type 0) → Option ℕ → Work → Stream
-    → List ℕ → Stream → Stream → Type 0
-LeavesLines Leaves longest work read' text wrote wrote' =
-    LeavesEnded Leaves longest work text wrote wrote'
-    ⊎ (IsAtEnd read' × AreWithin longest text × Leaves work text wrote wrote')
+-- of lines of a text the earlier ones are answered, and one in part: what follows the last line
+-- feed is a line only where the input has ended
+abbrev pub LeavesLines : Option ℕ → Work → Stream → List ℕ → Stream → Stream → Type 0
+LeavesLines longest work read' text wrote wrote' = LeavesEnded longest work text wrote wrote'
+    ⊎ (IsAtEnd read' × AreWithin longest text × WritesPart work text wrote wrote')
 
--- what came is answered as far as Leaves says
-abbrev pub StopsWithin : (Work → List ℕ → Stream → Stream → Type 0) → Option ℕ → Work → Stream
-    → Stream → Stream → Stream → Type 0
-StopsWithin Leaves longest work read read' wrote wrote' = (text : List ℕ)
-    × Consumes read read' text × LeavesLines Leaves longest work read' text wrote wrote'
-
--- the lines that had ended are all answered but for what came last, which is a line that was begun and
--- no more than is read at once: of its lines whole ones alone are written
-pub record StopsLate (longest : Option ℕ) (work : Work) (read read' wrote wrote' : Stream)
-    : Type 0 where
-  pub done : List ℕ
-  pub begun : List ℕ
-  pub part : List ℕ
-  pub between : Stream
-  pub status : Status
-  pub consumed : Consumes read read' (done ++ (begun ++ part))
-  pub whole : EndsLines done
-  pub within : AreWithin longest done
-  pub answered : WritesAll work done wrote between status
-  pub unended : IsUnended longest begun
-  pub short : length part ≤ part_size
-  pub left : LeavesLines WritesWholeLines longest work read' (begun ++ part) between wrote'
+-- of what came the earlier lines are answered, and one in part
+abbrev pub StopsWithin : Option ℕ → Work → Stream → Stream → Stream → Stream → Type 0
+StopsWithin longest work read read' wrote wrote' = (text : List ℕ)
+    × Consumes read read' text × LeavesLines longest work read' text wrote wrote'
 
 -- what lines leave that stop early: after a failed read each line that had ended is answered, and
--- else each before the first that is too long; where memory was refused each that had ended before
--- what came last, and of that whole lines alone; a failed write leaves the earlier lines and a
--- beginning of the one in hand, and a failed flush each line that had ended
+-- else each before the first that is too long; where memory was refused for a line each before
+-- that, whether it had ended or was begun; a failed write leaves the earlier lines and a beginning
+-- of the one in hand, and a failed flush each line that had ended
 abbrev pub StopsStream : Option ℕ → Work → Stream → Stream → Stream → Stream → CliError → Type 0
 StopsStream longest work read read' wrote wrote' error.Read =
     StopsBetween StopsReading longest work read read' wrote wrote'
 StopsStream longest work read read' wrote wrote' error.Memory =
-    StopsLate longest work read read' wrote wrote'
+    StopsBetween BeginsRefused longest work read read' wrote wrote'
 StopsStream longest work read read' wrote wrote' error.Write =
-    StopsWithin WritesPart longest work read read' wrote wrote'
+    StopsWithin longest work read read' wrote wrote'
     ⊎ StopsBetween IsUnended longest work read read' wrote wrote'
 StopsStream longest work read read' wrote wrote' e = ⊥
 

@@ -24,8 +24,7 @@ pub enum CliError {
     Read,
     /// A write failed, or took no byte. The earlier lines were written, and a beginning of the one in hand.
     Write,
-    /// Memory was asked for and refused. Whole lines only were written; a run has written the answers to all lines before
-    /// the one that found none.
+    /// Memory was asked for and refused. The answers to all lines before the one that found none were written.
     Memory,
     /// The line that lists the available identifiers has a fault. Nothing was written.
     Available(ParseError),

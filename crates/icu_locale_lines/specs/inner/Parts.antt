@@ -1,8 +1,7 @@
 -- The parts of a line: what only private functions cite.
-use Rattle.std.specs.Prelude.{◌≡◌, ℕ, false, List, ◌∷◌, ◌++◌, Option, Some, None, ◌⊎◌, true, Bool}
+use Rattle.std.specs.Prelude.{◌≡◌, ◌≢◌, ℕ, false, List, [], ◌∷◌, ◌++◌, Option, Some, None, ◌⊎◌, true, Bool}
 use Rattle.std.specs.List.{list_any}
 use Rattle.icu_locale_lines.specs.Lines.{is_line_feed, first_line, exceeds, Stream}
-use Rattle.icu_locale_lines.specs.Runs.{WritesWholeLines, WritesPart}
 use Rattle.icu_locale_lines.specs.Streams.{AnswersEnded, LeavesEnded}
 use Rattle.icu_locale_lines.specs.declared.error.CliError.{CliError}
 use Rattle.icu_locale_lines.specs.declared.error.CliError.TheVariants as error
@@ -18,18 +17,19 @@ use Rattle.icu_locale.specs.declared.canonicalizer.CanonicalizeError.{Canonicali
 use Rattle.icu_locale.specs.declared.canonicalizer.CanonicalizeError.TheVariants as refusal
 use Rattle.icu_locale_lines.specs.Texts.{refused_line}
 
--- the lines of a text before the first that is too long are answered
-abbrev pub AnswersBefore : Option ℕ → Work → List ℕ → Stream → Stream → Type 0
-AnswersBefore longest work text old new = (left : List ℕ) × (status : Status)
-    × AnswersEnded longest work text left old new status
-    × (exceeds longest (first_line left) ≡ true)
+-- the lines of a text are answered but for what is left, and IsLeft says what that is
+abbrev pub AnswersBefore : (List ℕ → Type 0) → Option ℕ → Work → List ℕ → Stream → Stream → Type 0
+AnswersBefore IsLeft longest work text old new = (left : List ℕ) × (status : Status)
+    × AnswersEnded longest work text left old new status × IsLeft left
 
--- what the lines leave that a part ends, where it stops early
+-- what the lines leave that a part ends, where it stops early: at one that is too long, at one for
+-- which memory was refused, or within an answer
 abbrev pub StopsPart : Option ℕ → Work → List ℕ → Stream → Stream → CliError → Type 0
-StopsPart longest work text old new error.Read = AnswersBefore longest work text old new
+StopsPart longest work text old new error.Read =
+    AnswersBefore (λ left. exceeds longest (first_line left) ≡ true) longest work text old new
 StopsPart longest work text old new error.Memory =
-    LeavesEnded WritesWholeLines longest work text old new
-StopsPart longest work text old new error.Write = LeavesEnded WritesPart longest work text old new
+    AnswersBefore (λ left. left ≢ []) longest work text old new
+StopsPart longest work text old new error.Write = LeavesEnded longest work text old new
 StopsPart longest work text old new e = ⊥
 
 -- a part is appended to the beginning of a line, up to its first line feed; rest is what follows that

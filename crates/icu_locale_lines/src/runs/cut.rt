@@ -61,6 +61,17 @@ pub fn cut(text: &[u8]) -> (&[u8], &[u8])
     }
 }
 
+// The first line with its line feed, and what follows that.
+pub fn split_first_line(text: &[u8]) -> (&[u8], &[u8])
+    ensures parted { text.now ≡ result.0.now ++ result.1.now }
+    ensures rest { result.1.now ≡ after_first_line text.now }
+    ensures whole { EndsLines text.now → EndsLines result.0.now × EndsLines result.1.now }
+    ensures some { text.now ≢ [] → result.0.now ≢ [] }
+{
+    let (_, behind) = cut(text);
+    text.split_at(text.len() - behind.len())
+}
+
 // Where the first line feed is.
 #[tactic(auto, using(crate::proofs::LineCuts::position_from_first))]
 fn line_feed(text: &[u8]) -> Option<usize>

@@ -1,7 +1,7 @@
 //! A run that answers lines as they come: each answer is written before more is read.
 ghost use Rattle.icu_tables.specs.Supplement.{rows_in, rows_of};
 ghost use Rattle.icu_locale_lines.specs.Refusals.{IsRefusedSupplement};
-ghost use Rattle.std.specs.Prelude.{◌≡◌, ◌↔◌, ◌≤◌, Ok, Err, IfOk, IfErr, None, Some, false, ◌++◌, length, List, ℕ};
+ghost use Rattle.std.specs.Prelude.{◌≡◌, ◌≢◌, ◌↔◌, ◌≤◌, Ok, Err, IfOk, IfErr, OnOk, None, Some, false, [], ◌++◌, length, List, ℕ};
 ghost use Rattle.std.specs.Io.KnownBytes.{prepend_known};
 ghost use Rattle.icu_tables.specs.declared.tables.Tables.{Tables};
 ghost use Rattle.icu_locale_lines.specs.Loads.{not_found};
@@ -18,7 +18,7 @@ ghost use Rattle.icu_locale_lines.specs.Runs.{ReadsAll, WritesAll};
 use crate::command::Command;
 use crate::error::CliError;
 use crate::runs::Status;
-use crate::runs::cut::{cut_before_long, cut_behind_lines, is_too_long};
+use crate::runs::cut::{cut_before_long, cut_behind_lines, is_too_long, split_first_line};
 use crate::runs::input::{MOST_READS, PART, read_first_line};
 use crate::runs::whole::{read_tables, write_settled};
 use crate::runs::writing::write_answers;
@@ -44,8 +44,9 @@ use std::io::{Read, Write};
 ///   before was answered.
 /// - `Write` where a write or a flush failed, or a write took no byte: the earlier lines were answered, and a beginning of
 ///   the answer in hand.
-/// - `Memory` where memory was refused: each line that had ended before the last 16,384 bytes that were read was answered,
-///   and of what came then whole lines only.
+/// - `Memory` where memory was refused: for a line, whether it had ended or was begun, and then the answers to all lines
+///   before it were written, or before, and then nothing was. No more is left unanswered than one line's beginning and the
+///   last 16,384 bytes that were read.
 pub fn stream<R: Read, W: Write>(
     alloc: Global,
     command: &Command,
@@ -263,14 +264,27 @@ fn answer_part<W: Write>(
 {
     let (front, rest) = cut_behind_lines(part);
     let status = answer_front(work, longest, text, carry, front, writer)?;
-    carry.extend_from_slice(rest)?;
+    keep(carry, rest)?;
     if is_too_long(longest, carry) {
         return Err(CliError::Read);
     }
     Ok(status)
 }
 
-// Answers the lines of a text, of which what was carried begins the first, up to the first that is too long.
+// Keeps a text behind what is carried. An empty one needs no memory.
+fn keep(carry: &mut Vec<u8>, text: &[u8]) -> Result<(), CliError>
+    ensures kept { OnOk result (carry.new.items ≡ carry.old.items ++ text.now) }
+    ensures refused { IfErr result (λ e. (e ≡ CliError.Memory) × (text.now ≢ [])) }
+{
+    if text.is_empty() {
+        return Ok(());
+    }
+    carry.extend_from_slice(text)?;
+    Ok(())
+}
+
+// Answers the lines of a text, of which what was carried begins the first, up to the first that is too long. Only a line
+// that was carried is copied.
 fn answer_front<W: Write>(
     work: &Work<'_>,
     longest: Option<usize>,
@@ -291,12 +305,36 @@ fn answer_front<W: Write>(
     if front.is_empty() {
         return Ok(Status::Accepted);
     }
-    carry.extend_from_slice(front)?;
-    let (short, long) = cut_before_long(longest, carry.as_slice());
+    if carry.is_empty() {
+        return answer_lines(work, longest, text, front, writer);
+    }
+    let (line, others) = split_first_line(front);
+    keep(carry, line)?;
+    let first = answer_lines(work, longest, text, carry.as_slice(), writer)?;
+    carry.clear();
+    let later = answer_lines(work, longest, text, others, writer)?;
+    Ok(first.and(later))
+}
+
+// Answers whole lines, up to the first that is too long.
+fn answer_lines<W: Write>(
+    work: &Work<'_>,
+    longest: Option<usize>,
+    text: &mut Vec<u8>,
+    input: &[u8],
+    writer: &mut W,
+) -> Result<Status, CliError>
+    requires { EndsLines input.now }
+    ensures whole { IfOk result (WritesAll work.now input.now (W.contents writer.old)
+        (W.contents writer.new)) }
+    ensures within { IfOk result (λ _. AreWithin longest input.now) }
+    ensures refused { IfErr result (StopsPart longest work.now input.now
+        (W.contents writer.old) (W.contents writer.new)) }
+{
+    let (short, long) = cut_before_long(longest, input);
     let status = write_answers(work, text, short, writer)?;
     if !long.is_empty() {
         return Err(CliError::Read);
     }
-    carry.clear();
     Ok(status)
 }

@@ -5,7 +5,8 @@ use Rattle.icu_locale_lines.specs.Lines.{exceeds}
 use Rattle.icu_locale_lines.specs.Streams.{part_size}
 use Rattle.icu_locale_lines.specs.inner.Parts.{TakesLine}
 use Rattle.icu_locale_lines.proofs.FirstReads.{no_line, line_ended}
-use Rattle.icu_locale_lines.proofs.Streaming.{Consumes-prepended, nothing_exceeds}
+use Rattle.icu_locale_lines.proofs.Bounds.{nothing_exceeds}
+use Rattle.icu_locale_lines.proofs.Streaming.{Consumes-prepended}
 use Rattle.icu_locale_lines.proofs.runs.input.read_first_line.Goals as goal
 
 -- the line was too long in what was read before

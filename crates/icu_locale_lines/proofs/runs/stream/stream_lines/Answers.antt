@@ -1,13 +1,12 @@
 use Rattle.std.proofs.Common.{◌≡◌, ◌≤◌, Err, [], take, length, rules, inr, refl, ap, sym, subst}
 use Rattle.std.specs.Io.KnownBytes.{Consumes, IsAtEnd, prepend_known}
 use Rattle.std.proofs.lemmas.Result.{err_from_is_err_and}
-use Rattle.icu_locale_lines.specs.Runs.{WritesAll, WritesWholeLines, WritesPart}
+use Rattle.icu_locale_lines.specs.Runs.{WritesAll, WritesEarlier, WritesPart}
 use Rattle.icu_locale_lines.specs.Streams.{part_size}
 use Rattle.icu_locale_lines.specs.declared.runs.Status.TheVariants.{Accepted}
 use Rattle.icu_locale_lines.proofs.Streaming.{Consumes-prepended, StreamProgress-none, StreamProgress-more, StreamProgress-refused}
 use Rattle.icu_locale_lines.proofs.Streaming.{StreamProgress-unread, StreamProgress-last, StreamProgress-end}
 use Rattle.icu_locale_lines.proofs.Streaming.{StreamProgress-flushed, StreamProgress-unflushed}
-use Rattle.icu_locale_lines.proofs.PartEnds.{earlier_whole}
 use Rattle.icu_locale_lines.proofs.runs.stream.stream_lines.Goals as goal
 
 -- what was read before was refused
@@ -43,9 +42,8 @@ returns-in_err-last-in-Ok-eq0-clause-refused g c =
     rw (passed_on.1, passed_on.2) (StreamProgress-last c.args.longest work start (read c.loop.reader) (wrote c.args.writer.now)
     (wrote c.flush.new.self) c.loop.status c.loop.carry.items before
     (read c.read.new.self) (wrote c.write_answers.new.writer) [] refl more ended e c.in_err-last-in-Ok-eq0.ensures.refused
-    (λ is. subst (λ t. WritesWholeLines work t (wrote c.flush.new.self) (wrote c.write_answers.new.writer)) c.as_slice.ensures.value
-    (earlier_whole work c.as_slice.result.now (wrote c.flush.new.self) (wrote c.write_answers.new.writer)
-    (c.in_err-last-in-Ok-eq0.ensures.memory (ap (λ e. Err e) is))))
+    (λ is. subst (λ t. WritesEarlier work t (wrote c.flush.new.self) (wrote c.write_answers.new.writer)) c.as_slice.ensures.value
+    (c.in_err-last-in-Ok-eq0.ensures.memory (ap (λ e. Err e) is)))
     (λ is. subst (λ t. WritesPart work t (wrote c.flush.new.self) (wrote c.write_answers.new.writer)) c.as_slice.ensures.value
     (c.in_err-last-in-Ok-eq0.ensures.write (ap (λ e. Err e) is))))
 
