@@ -6,10 +6,12 @@
 #![tactic(auto)]
 
 mod canonical;
+mod chains;
 mod directions;
 mod exemplars;
 mod fault;
 mod forms;
+mod inheritance;
 mod likely;
 mod making;
 mod negotiation;

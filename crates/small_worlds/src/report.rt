@@ -27,14 +27,18 @@ pub struct Met {
     pub repeats: bool,
     pub values_repeat: bool,
     pub negotiated: bool,
+    pub chain_ends: bool,
+    pub chain_repeats: bool,
 }
 
-/// How a canonicalization is answered.
+/// How a canonicalization or a chain is answered.
 #[derive(Clone, Copy)]
 pub enum Kind {
     Ends,
     Repeats,
     ValuesRepeat,
+    ChainEnds,
+    ChainRepeats,
 }
 
 impl Report {
@@ -52,16 +56,20 @@ impl Report {
                 repeats: false,
                 values_repeat: false,
                 negotiated: false,
+                chain_ends: false,
+                chain_repeats: false,
             },
         }
     }
 
-    /// A canonicalization was answered so.
+    /// A canonicalization or a chain was answered so.
     pub fn meet(&mut self, kind: Kind) {
         match kind {
             Kind::Ends => self.met.ends = true,
             Kind::Repeats => self.met.repeats = true,
             Kind::ValuesRepeat => self.met.values_repeat = true,
+            Kind::ChainEnds => self.met.chain_ends = true,
+            Kind::ChainRepeats => self.met.chain_repeats = true,
         }
     }
 
@@ -101,5 +109,7 @@ impl Met {
             && self.repeats
             && self.values_repeat
             && self.negotiated
+            && self.chain_ends
+            && self.chain_repeats
     }
 }

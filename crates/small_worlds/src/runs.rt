@@ -26,7 +26,15 @@ pub fn walk<X: Copy + PartialEq, S: Step<X>>(
     step: &S,
     start: X,
 ) -> Result<Run<X>, Fault> {
-    let mut met = Vec::new(alloc);
+    walk_through(step, start, &mut Vec::new(alloc))
+}
+
+/// The same, with the list of the states that are met, in their order and each once.
+pub fn walk_through<X: Copy + PartialEq, S: Step<X>>(
+    step: &S,
+    start: X,
+    met: &mut Vec<X>,
+) -> Result<Run<X>, Fault> {
     let mut here = start;
     for _ in 0..MOST {
         if met.contains(&here) {

@@ -1,9 +1,11 @@
 //! The worlds, one after another.
 use crate::canonical::{World, compare_canonical};
+use crate::chains::compare_chains;
 use crate::directions::{Ways, compare_directions};
 use crate::exemplars::{Exemplars, compare_exemplars};
 use crate::fault::Fault;
 use crate::forms::compare_forms;
+use crate::inheritance::Parents;
 use crate::likely::Likely;
 use crate::making::{Maker, Making};
 use crate::negotiation::compare_negotiations;
@@ -24,6 +26,7 @@ struct Parts {
     values: [ValueRow; 4],
     ways: Ways,
     exemplars: [Exemplars; 5],
+    parents: Parents,
 }
 
 impl Drop for Parts {
@@ -34,6 +37,7 @@ impl Drop for Parts {
             values: _,
             ways: _,
             exemplars: _,
+            parents: _,
         } = self;
     }
 }
@@ -46,6 +50,7 @@ impl Drawn for Parts {
             values: Drawn::draw(numbers, subtags),
             ways: Drawn::draw(numbers, subtags),
             exemplars: Drawn::draw(numbers, subtags),
+            parents: Drawn::draw(numbers, subtags),
         }
     }
 }
@@ -82,11 +87,12 @@ fn compare_over(
     report: &mut Report,
     maker: Maker<'_>,
     world: World<'_>,
-    (ways, numbers): (Ways, &mut Numbers),
+    (parents, ways, numbers): (&Parents, Ways, &mut Numbers),
 ) -> Result<(), Fault> {
     let (rows, subtags) = (world.rows, world.subtags);
     let expander = maker.expander()?;
     compare_forms(alloc, report, &expander, rows, subtags)?;
+    compare_chains(alloc, report, &expander, rows, subtags, parents)?;
     let directionality = maker.directionality(expander)?;
     compare_directions(alloc, report, &directionality, rows, subtags, ways)?;
     compare_negotiations(alloc, report, &expander, rows, subtags, numbers)?;
@@ -117,7 +123,8 @@ fn compare_parts(
             tables,
             with_extended,
         };
-        compare_over(alloc, report, maker, world, (parts.ways, numbers))?;
+        let drawn = (&parts.parents, parts.ways, &mut *numbers);
+        compare_over(alloc, report, maker, world, drawn)?;
     }
     compare_exemplars(alloc, report, subtags, &parts.exemplars)
 }
