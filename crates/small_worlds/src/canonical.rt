@@ -53,17 +53,28 @@ impl Step<Option<PlainValue>> for ByRow<'_> {
     }
 }
 
-// A locale, plainly.
+/// A locale, plainly.
 #[derive(Clone, Copy)]
-struct PlainLocale {
-    id: Plain,
+pub struct PlainLocale {
+    pub id: Plain,
     lang: Option<Plain>,
     rg: Option<PlainValue>,
     sd: Option<PlainValue>,
 }
 
 impl PlainLocale {
-    fn held(&self, alloc: Global, subtags: &Subtags) -> Result<Locale, Fault> {
+    /// An identifier with some transform language and some values.
+    pub fn draw_with(id: Plain, numbers: &mut Numbers, subtags: &Subtags) -> PlainLocale {
+        PlainLocale {
+            id,
+            lang: Drawn::draw(numbers, subtags),
+            rg: Drawn::draw(numbers, subtags),
+            sd: Drawn::draw(numbers, subtags),
+        }
+    }
+
+    /// As the crates hold it.
+    pub fn held(&self, alloc: Global, subtags: &Subtags) -> Result<Locale, Fault> {
         let mut locale = Locale::new(alloc, self.id.held(alloc, subtags)?);
         self.extend(alloc, subtags, &mut locale)?;
         Ok(locale)
@@ -96,16 +107,16 @@ fn put(
 // What a call answers.
 type Answer = Result<TransformResult, CanonicalizeError>;
 
-// What has to become of a locale.
+/// What has to become of a locale.
 #[derive(Clone, Copy)]
-enum Outcome {
+pub enum Outcome {
     Canonical(PlainLocale),
     Repeats(Option<Plain>),
     ValueRepeats(Option<PlainValue>),
 }
 
-// The identifier's run is asked first, then the transform language's, then the values'.
-fn outcome_of(alloc: Global, world: World<'_>, old: &PlainLocale) -> Result<Outcome, Fault> {
+/// The identifier's run is asked first, then the transform language's, then the values'.
+pub fn outcome_of(alloc: Global, world: World<'_>, old: &PlainLocale) -> Result<Outcome, Fault> {
     let id = match walk(alloc, &ByAll(world), old.id)? {
         Run::Ends(id) => id,
         Run::Repeats(again) => return Ok(Outcome::Repeats(Some(again))),
@@ -125,8 +136,8 @@ fn outcome_of(alloc: Global, world: World<'_>, old: &PlainLocale) -> Result<Outc
     Ok(Outcome::Canonical(PlainLocale { id, lang, rg, sd }))
 }
 
-// Whether some rule or row is applied.
-fn is_applied(world: World<'_>, old: &PlainLocale) -> bool {
+/// Whether some rule or row is applied.
+pub fn is_applied(world: World<'_>, old: &PlainLocale) -> bool {
     ByAll(world).next(&old.id).is_some()
         || ByLanguage(world).next(&old.lang).is_some()
         || ByRow(world).next(&old.rg).is_some()
@@ -330,12 +341,7 @@ pub fn compare_canonical(
 ) -> Result<(), Fault> {
     for variants in 0..8 {
         for id in everyone(world.subtags, variants) {
-            let old = PlainLocale {
-                id,
-                lang: Drawn::draw(numbers, world.subtags),
-                rg: Drawn::draw(numbers, world.subtags),
-                sd: Drawn::draw(numbers, world.subtags),
-            };
+            let old = PlainLocale::draw_with(id, numbers, world.subtags);
             compare_one(alloc, report, canonicalizer, world, &old)?;
         }
     }

@@ -23,6 +23,9 @@ pub enum Fault {
     /// A text of a world cannot be read.
     #[error("{0}")]
     Text(#[from] ParseError),
+    /// A key of a world cannot be read.
+    #[error("a key cannot be read")]
+    Key,
     /// A table of a world cannot be made.
     #[error("{0}")]
     Data(#[from] DataError),

@@ -13,6 +13,7 @@ mod fault;
 mod forms;
 mod inheritance;
 mod likely;
+mod links;
 mod making;
 mod negotiation;
 mod numbers;
@@ -24,6 +25,7 @@ mod steps;
 mod subtags;
 mod tables;
 mod values;
+mod whole;
 mod world;
 
 use crate::fault::Fault;

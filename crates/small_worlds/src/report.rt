@@ -29,6 +29,9 @@ pub struct Met {
     pub negotiated: bool,
     pub chain_ends: bool,
     pub chain_repeats: bool,
+    pub whole: bool,
+    pub field_repeats: bool,
+    pub keyword_repeats: bool,
 }
 
 /// How a canonicalization or a chain is answered.
@@ -39,6 +42,9 @@ pub enum Kind {
     ValuesRepeat,
     ChainEnds,
     ChainRepeats,
+    Whole,
+    FieldRepeats,
+    KeywordRepeats,
 }
 
 impl Report {
@@ -58,6 +64,9 @@ impl Report {
                 negotiated: false,
                 chain_ends: false,
                 chain_repeats: false,
+                whole: false,
+                field_repeats: false,
+                keyword_repeats: false,
             },
         }
     }
@@ -70,6 +79,9 @@ impl Report {
             Kind::ValuesRepeat => self.met.values_repeat = true,
             Kind::ChainEnds => self.met.chain_ends = true,
             Kind::ChainRepeats => self.met.chain_repeats = true,
+            Kind::Whole => self.met.whole = true,
+            Kind::FieldRepeats => self.met.field_repeats = true,
+            Kind::KeywordRepeats => self.met.keyword_repeats = true,
         }
     }
 
@@ -111,5 +123,8 @@ impl Met {
             && self.negotiated
             && self.chain_ends
             && self.chain_repeats
+            && self.whole
+            && self.field_repeats
+            && self.keyword_repeats
     }
 }

@@ -7,6 +7,7 @@ use crate::fault::Fault;
 use crate::forms::compare_forms;
 use crate::inheritance::Parents;
 use crate::likely::Likely;
+use crate::links::Links;
 use crate::making::{Maker, Making};
 use crate::negotiation::compare_negotiations;
 use crate::numbers::{Drawn, Numbers};
@@ -15,6 +16,7 @@ use crate::rules::Rules;
 use crate::subtags::Subtags;
 use crate::tables::put_all;
 use crate::values::ValueRow;
+use crate::whole::compare_whole;
 use icu_provider::Aliases;
 use icu_tables::Tables;
 use std::alloc::Global;
@@ -27,6 +29,7 @@ struct Parts {
     ways: Ways,
     exemplars: [Exemplars; 5],
     parents: Parents,
+    links: Links,
 }
 
 impl Drop for Parts {
@@ -38,6 +41,7 @@ impl Drop for Parts {
             ways: _,
             exemplars: _,
             parents: _,
+            links: _,
         } = self;
     }
 }
@@ -51,6 +55,7 @@ impl Drawn for Parts {
             ways: Drawn::draw(numbers, subtags),
             exemplars: Drawn::draw(numbers, subtags),
             parents: Drawn::draw(numbers, subtags),
+            links: Drawn::draw(numbers, subtags),
         }
     }
 }
@@ -87,17 +92,18 @@ fn compare_over(
     report: &mut Report,
     maker: Maker<'_>,
     world: World<'_>,
-    (parents, ways, numbers): (&Parents, Ways, &mut Numbers),
+    (parts, numbers): (&Parts, &mut Numbers),
 ) -> Result<(), Fault> {
     let (rows, subtags) = (world.rows, world.subtags);
     let expander = maker.expander()?;
     compare_forms(alloc, report, &expander, rows, subtags)?;
-    compare_chains(alloc, report, &expander, rows, subtags, parents)?;
+    compare_chains(alloc, report, &expander, rows, subtags, &parts.parents)?;
     let directionality = maker.directionality(expander)?;
-    compare_directions(alloc, report, &directionality, rows, subtags, ways)?;
+    compare_directions(alloc, report, &directionality, rows, subtags, parts.ways)?;
     compare_negotiations(alloc, report, &expander, rows, subtags, numbers)?;
     let canonicalizer = maker.canonicalizer(alloc, expander)?;
-    compare_canonical(alloc, report, &canonicalizer, world, numbers)
+    compare_canonical(alloc, report, &canonicalizer, world, numbers)?;
+    compare_whole(alloc, report, &canonicalizer, world, &parts.links, numbers)
 }
 
 // The calls over the common tables alone, and over all.
@@ -123,8 +129,7 @@ fn compare_parts(
             tables,
             with_extended,
         };
-        let drawn = (&parts.parents, parts.ways, &mut *numbers);
-        compare_over(alloc, report, maker, world, drawn)?;
+        compare_over(alloc, report, maker, world, (parts, numbers))?;
     }
     compare_exemplars(alloc, report, subtags, &parts.exemplars)
 }

@@ -1,0 +1,208 @@
+//! Whole canonical forms: fields, then keywords, then what the rules say.
+use crate::canonical::{self, PlainLocale, World};
+use crate::fault::Fault;
+use crate::forms::tells;
+use crate::links::{Ends, Links, Word, Words};
+use crate::numbers::{Drawn, Numbers};
+use crate::plain::everyone;
+use crate::report::{Kind, Report};
+use icu_locale::{LocaleCanonicalizer, TransformResult, Turns};
+use icu_locale_extensions::{LocaleIdentifier, Subtags};
+use icu_locale_values::{ValueAliases, WholeCanonicalizer, WholeError};
+use std::alloc::Global;
+
+// A locale identifier, plainly.
+#[derive(Clone, Copy)]
+struct PlainIdentifier {
+    locale: PlainLocale,
+    words: Words,
+}
+
+impl PlainIdentifier {
+    // As the crates hold it, with an attribute and some private use, which have to stay.
+    fn held(&self, alloc: Global, world: World<'_>) -> Result<LocaleIdentifier, Fault> {
+        let locale = self.locale.held(alloc, world.subtags)?;
+        let mut held = LocaleIdentifier::from_locale(alloc, locale);
+        self.extend(alloc, world, &mut held)?;
+        Ok(held)
+    }
+
+    fn extend(
+        &self,
+        alloc: Global,
+        world: World<'_>,
+        held: &mut LocaleIdentifier,
+    ) -> Result<(), Fault> {
+        let _ = held.attributes.insert(world.subtags.subdivisions[0])?;
+        held.private_use = Some(Subtags::try_from_str(alloc, "a-bbb")?);
+        self.words.put(alloc, held)
+    }
+}
+
+// What a call answers.
+type Answer = Result<TransformResult, WholeError>;
+
+// What has to become of a locale identifier.
+#[derive(Clone, Copy)]
+enum Outcome {
+    Whole(PlainIdentifier),
+    FieldRepeats(&'static str, Word),
+    KeywordRepeats(&'static str, Word),
+    ByRules(canonical::Outcome),
+}
+
+// The fields are asked first, then the keywords, and then the rules.
+fn outcome_of(
+    alloc: Global,
+    world: World<'_>,
+    links: &Links,
+    old: &PlainIdentifier,
+) -> Result<Outcome, Fault> {
+    let fields = match links.field_ends(alloc, &old.words)? {
+        Ends::End(fields) => fields,
+        Ends::Repeats(key, again) => return Ok(Outcome::FieldRepeats(key, again)),
+    };
+    let keywords = match links.keyword_ends(alloc, &old.words)? {
+        Ends::End(keywords) => keywords,
+        Ends::Repeats(key, again) => return Ok(Outcome::KeywordRepeats(key, again)),
+    };
+    let words = Words { keywords, fields };
+    Ok(match canonical::outcome_of(alloc, world, &old.locale)? {
+        canonical::Outcome::Canonical(locale) => Outcome::Whole(PlainIdentifier { locale, words }),
+        refusal => Outcome::ByRules(refusal),
+    })
+}
+
+// Whether an answer is the one that has to be given.
+fn answers(
+    alloc: Global,
+    world: World<'_>,
+    applied: bool,
+    answer: &Answer,
+    outcome: &Outcome,
+) -> Result<bool, Fault> {
+    match (answer, outcome) {
+        (Ok(told), Outcome::Whole(_)) => Ok(tells(*told, applied)),
+        (Err(WholeError::NoFieldFixedPoint(key, named)), Outcome::FieldRepeats(at, again)) => {
+            Ok(key.as_str() == *at && again.is_pieces(alloc, named)?)
+        }
+        (Err(WholeError::NoValueFixedPoint(key, named)), Outcome::KeywordRepeats(at, again)) => {
+            Ok(key.as_str() == *at && again.is_value(alloc, named)?)
+        }
+        (
+            Err(WholeError::NoFixedPoint(named)),
+            Outcome::ByRules(canonical::Outcome::Repeats(Some(again))),
+        ) => Ok(again.is_held_as(named, world.subtags)),
+        (
+            Err(WholeError::NoSubdivisionFixedPoint(named)),
+            Outcome::ByRules(canonical::Outcome::ValueRepeats(Some(again))),
+        ) => Ok(again.is_held_as(alloc, named)?),
+        _ => Ok(false),
+    }
+}
+
+// Which kind of answer a call gave.
+fn kind(answer: &Answer) -> Result<Kind, Fault> {
+    match answer {
+        Ok(_) => Ok(Kind::Whole),
+        Err(WholeError::NoFixedPoint(_)) => Ok(Kind::Repeats),
+        Err(WholeError::NoSubdivisionFixedPoint(_)) => Ok(Kind::ValuesRepeat),
+        Err(WholeError::NoValueFixedPoint(_, _)) => Ok(Kind::KeywordRepeats),
+        Err(WholeError::NoFieldFixedPoint(_, _)) => Ok(Kind::FieldRepeats),
+        Err(WholeError::Memory) => Err(Fault::Starved),
+    }
+}
+
+// What is asked: the canonicalizer, and the rules and rows that it goes by.
+#[derive(Clone, Copy)]
+struct Asked<'w> {
+    whole: WholeCanonicalizer<'w>,
+    world: World<'w>,
+    links: &'w Links,
+}
+
+// Whether a call answered, and left the locale identifier, as it has to.
+fn agrees(
+    alloc: Global,
+    report: &mut Report,
+    asked: Asked<'_>,
+    old: &PlainIdentifier,
+    (answer, left): (&Answer, &LocaleIdentifier),
+) -> Result<bool, Fault> {
+    let (world, links) = (asked.world, asked.links);
+    report.meet(kind(answer)?);
+    let outcome = outcome_of(alloc, world, links, old)?;
+    let applied = links.is_applied(&old.words) || canonical::is_applied(world, &old.locale);
+    let new = match outcome {
+        Outcome::Whole(new) => new,
+        _ => *old,
+    };
+    let is_so = answers(alloc, world, applied, answer, &outcome)?;
+    Ok(is_so && new.held(alloc, world)? == *left)
+}
+
+// The call that counts, or the other.
+fn compare_call(
+    alloc: Global,
+    report: &mut Report,
+    asked: Asked<'_>,
+    old: &PlainIdentifier,
+    is_counted: bool,
+) -> Result<(), Fault> {
+    let mut left = old.held(alloc, asked.world)?;
+    let answer = if is_counted {
+        asked
+            .whole
+            .canonicalize_counted(&mut left, &mut Turns::new())
+    } else {
+        asked.whole.canonicalize(&mut left)
+    };
+    let is_so = agrees(alloc, report, asked, old, (&answer, &left))?;
+    report.see(is_so, "WholeCanonicalizer::canonicalize", &old.locale.id);
+    Ok(())
+}
+
+fn compare_everyone(
+    alloc: Global,
+    report: &mut Report,
+    asked: Asked<'_>,
+    numbers: &mut Numbers,
+) -> Result<(), Fault> {
+    let subtags = asked.world.subtags;
+    for id in everyone(subtags, 0) {
+        let old = PlainIdentifier {
+            locale: PlainLocale::draw_with(id, numbers, subtags),
+            words: Drawn::draw(numbers, subtags),
+        };
+        for is_counted in [false, true] {
+            compare_call(alloc, report, asked, &old, is_counted)?;
+        }
+    }
+    Ok(())
+}
+
+/// The calls of a whole canonicalizer at everyone, with some transform language and some values.
+pub fn compare_whole(
+    alloc: Global,
+    report: &mut Report,
+    canonicalizer: &LocaleCanonicalizer<'_>,
+    world: World<'_>,
+    links: &Links,
+    numbers: &mut Numbers,
+) -> Result<(), Fault> {
+    let keywords = links.keyword_table(alloc)?;
+    let fields = links.field_table(alloc)?;
+    let whole = WholeCanonicalizer {
+        rules: canonicalizer.lend(),
+        values: ValueAliases {
+            keywords: &keywords,
+            fields: &fields,
+        },
+    };
+    let asked = Asked {
+        whole,
+        world,
+        links,
+    };
+    compare_everyone(alloc, report, asked, numbers)
+}
