@@ -23,9 +23,9 @@ pub struct World<'w> {
     pub subtags: &'w Subtags,
 }
 
-// One turn of an identifier.
+/// One turn of an identifier.
 #[derive(Clone, Copy)]
-struct ByAll<'w>(World<'w>);
+pub struct ByAll<'w>(pub World<'w>);
 
 impl Step<Plain> for ByAll<'_> {
     fn next(&self, x: &Plain) -> Option<Plain> {

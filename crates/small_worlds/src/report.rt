@@ -32,6 +32,8 @@ pub struct Met {
     pub whole: bool,
     pub field_repeats: bool,
     pub keyword_repeats: bool,
+    pub served: bool,
+    pub not_served: bool,
 }
 
 /// How a canonicalization or a chain is answered.
@@ -45,6 +47,8 @@ pub enum Kind {
     Whole,
     FieldRepeats,
     KeywordRepeats,
+    Served,
+    NotServed,
 }
 
 impl Report {
@@ -67,6 +71,8 @@ impl Report {
                 whole: false,
                 field_repeats: false,
                 keyword_repeats: false,
+                served: false,
+                not_served: false,
             },
         }
     }
@@ -82,6 +88,8 @@ impl Report {
             Kind::Whole => self.met.whole = true,
             Kind::FieldRepeats => self.met.field_repeats = true,
             Kind::KeywordRepeats => self.met.keyword_repeats = true,
+            Kind::Served => self.met.served = true,
+            Kind::NotServed => self.met.not_served = true,
         }
     }
 
@@ -126,5 +134,7 @@ impl Met {
             && self.whole
             && self.field_repeats
             && self.keyword_repeats
+            && self.served
+            && self.not_served
     }
 }

@@ -9,6 +9,7 @@ use crate::inheritance::Parents;
 use crate::likely::Likely;
 use crate::links::Links;
 use crate::making::{Maker, Making};
+use crate::nearest::{Wants, compare_nearest};
 use crate::negotiation::compare_negotiations;
 use crate::numbers::{Drawn, Numbers};
 use crate::report::Report;
@@ -30,6 +31,7 @@ struct Parts {
     exemplars: [Exemplars; 5],
     parents: Parents,
     links: Links,
+    wants: Wants,
 }
 
 impl Drop for Parts {
@@ -42,6 +44,7 @@ impl Drop for Parts {
             exemplars: _,
             parents: _,
             links: _,
+            wants: _,
         } = self;
     }
 }
@@ -56,6 +59,7 @@ impl Drawn for Parts {
             exemplars: Drawn::draw(numbers, subtags),
             parents: Drawn::draw(numbers, subtags),
             links: Drawn::draw(numbers, subtags),
+            wants: Drawn::draw(numbers, subtags),
         }
     }
 }
@@ -103,7 +107,8 @@ fn compare_over(
     compare_negotiations(alloc, report, &expander, rows, subtags, numbers)?;
     let canonicalizer = maker.canonicalizer(alloc, expander)?;
     compare_canonical(alloc, report, &canonicalizer, world, numbers)?;
-    compare_whole(alloc, report, &canonicalizer, world, &parts.links, numbers)
+    compare_whole(alloc, report, &canonicalizer, world, &parts.links, numbers)?;
+    compare_nearest(alloc, report, &canonicalizer, world, &parts.wants)
 }
 
 // The calls over the common tables alone, and over all.
