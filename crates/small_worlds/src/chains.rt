@@ -8,8 +8,8 @@ use crate::runs::{Run, walk_through};
 use crate::subtags::Subtags;
 use icu_locale::{LocaleExpander, Turns};
 use icu_locale_fallback::{
-    FallbackError, LocaleFallbackConfig, LocaleFallbackIterator, LocaleFallbackPriority,
-    LocaleFallbacker, LocaleFallbackerWithConfig,
+    FallbackError, LocaleFallbackConfig, LocaleFallbackPriority, LocaleFallbacker,
+    LocaleFallbackerWithConfig,
 };
 use icu_provider::{DataError, DataLocale, SortedMap};
 use std::alloc::Global;
@@ -30,18 +30,27 @@ fn held(alloc: Global, parents: &Parents) -> Result<SortedMap<DataLocale, DataLo
 }
 
 // The locales of a chain that was walked, and how it goes on after them.
-#[derive(Clone, Copy)]
-struct Walked<'c> {
-    met: &'c [Plain],
+#[derive(Drop)]
+struct Walked {
+    met: Vec<Plain>,
     run: Run<Plain>,
 }
 
-impl Walked<'_> {
+// The chain of a locale, walked.
+fn walk_chain(alloc: Global, by: Inheritance<'_>, x: &Plain) -> Result<Walked, Fault> {
+    let mut met = Vec::new(alloc);
+    match walk_through(&by, by.normal(x), &mut met) {
+        Ok(run) => Ok(Walked { met, run }),
+        Err(fault) => Err(fault),
+    }
+}
+
+impl Walked {
     // What follows the last locale: the first that comes again, or the root, which stays.
-    fn after(&self) -> Plain {
+    fn after(&self) -> DataLocale {
         match self.run {
-            Run::Ends(end) => end,
-            Run::Repeats(again) => again,
+            Run::Ends(end) => end.locale(),
+            Run::Repeats(again) => again.locale(),
         }
     }
 
@@ -62,7 +71,7 @@ impl Walked<'_> {
 
     // Whether a list has the locales that were met.
     fn is_listed_as(&self, list: &[DataLocale]) -> bool {
-        for (locale, x) in list.iter().zip(self.met) {
+        for (locale, x) in list.iter().zip(&self.met) {
             if x.locale() != *locale {
                 return false;
             }
@@ -74,80 +83,96 @@ impl Walked<'_> {
 // Each place of a chain, and the one after.
 fn compare_places(
     report: &mut Report,
-    start: LocaleFallbackIterator<'_>,
-    walked: Walked<'_>,
+    chains: &LocaleFallbackerWithConfig<'_>,
+    walked: &Walked,
     x: &Plain,
 ) {
-    let mut place = start;
-    for locale in walked.met {
-        report.see(
-            *place.get() == locale.locale(),
-            "LocaleFallbackIterator::get",
-            x,
-        );
+    let mut place = chains.fallback_for(x.locale());
+    for locale in &walked.met {
+        let is_so = *place.get() == locale.locale();
+        report.see(is_so, "LocaleFallbackIterator::get", x);
         place.step();
     }
-    let is_so = *place.get() == walked.after().locale();
+    let is_so = *place.get() == walked.after();
     report.see(is_so, "LocaleFallbackIterator::step", x);
-    report.see(place.take() == walked.after().locale(), "take", x);
+    report.see(place.take() == walked.after(), "take", x);
 }
 
 fn compare_repeats(
     report: &mut Report,
-    start: &LocaleFallbackIterator<'_>,
-    walked: Walked<'_>,
+    chains: &LocaleFallbackerWithConfig<'_>,
+    walked: &Walked,
     x: &Plain,
 ) {
     report.meet(walked.kind());
-    report.see(start.first_repeat() == walked.again(), "first_repeat", x);
-    let again = start.first_repeat_counted(&mut Turns::new());
+    let place = chains.fallback_for(x.locale());
+    let again = place.first_repeat();
+    report.see(again == walked.again(), "first_repeat", x);
+    let again = place.first_repeat_counted(&mut Turns::new());
     report.see(again == walked.again(), "first_repeat_counted", x);
+}
+
+// Whether a list is that of the chain, or it is refused as it has to be.
+fn is_list(list: &Result<Vec<DataLocale>, FallbackError>, walked: &Walked) -> Result<bool, Fault> {
+    match list {
+        Ok(list) => Ok(walked.again().is_none() && walked.is_listed_as(list)),
+        Err(FallbackError::Circle(first)) => Ok(walked.again() == Some(*first)),
+        Err(FallbackError::Memory) => Err(Fault::Starved),
+    }
 }
 
 fn compare_list(
     alloc: Global,
     report: &mut Report,
-    start: &LocaleFallbackIterator<'_>,
-    walked: Walked<'_>,
+    chains: &LocaleFallbackerWithConfig<'_>,
+    walked: &Walked,
     x: &Plain,
 ) -> Result<(), Fault> {
-    match start.to_list(alloc) {
-        Ok(list) => {
-            let is_so = walked.again().is_none() && walked.is_listed_as(&list);
-            report.see(is_so, "to_list", x);
-            Ok(())
-        }
-        Err(FallbackError::Circle(first)) => {
-            report.see(walked.again() == Some(first), "to_list", x);
-            Ok(())
-        }
-        Err(FallbackError::Memory) => Err(Fault::Starved),
-    }
+    let place = chains.fallback_for(x.locale());
+    let list = place.to_list(alloc);
+    let is_so = is_list(&list, walked)?;
+    report.see(is_so, "to_list", x);
+    Ok(())
 }
 
 fn compare_chain(
     alloc: Global,
     report: &mut Report,
-    fallbacker: &LocaleFallbackerWithConfig<'_>,
+    chains: &LocaleFallbackerWithConfig<'_>,
     by: Inheritance<'_>,
     x: &Plain,
 ) -> Result<(), Fault> {
-    let mut met = Vec::new(alloc);
-    let run = walk_through(&by, by.normal(x), &mut met)?;
-    let walked = Walked { met: &met, run };
-    let start = fallbacker.fallback_for(x.locale());
-    compare_places(report, start, walked, x);
-    compare_repeats(report, &start, walked, x);
-    compare_list(alloc, report, &start, walked, x)
+    let walked = walk_chain(alloc, by, x)?;
+    compare_places(report, chains, &walked, x);
+    compare_repeats(report, chains, &walked, x);
+    compare_list(alloc, report, chains, &walked, x)
 }
 
-// The chains of everyone by each priority, and the keys.
+// The chains of everyone.
+fn compare_by(
+    alloc: Global,
+    report: &mut Report,
+    fallbacker: &LocaleFallbacker<'_>,
+    by: Inheritance<'_>,
+) -> Result<(), Fault> {
+    let priority = by.priority;
+    let chains = fallbacker.for_config(LocaleFallbackConfig { priority });
+    for x in everyone(by.subtags, 0) {
+        compare_chain(alloc, report, &chains, by, &x)?;
+        if priority == LocaleFallbackPriority::Language {
+            let is_so = fallbacker.key_for(x.locale()) == by.key(&x).locale();
+            report.see(is_so, "key_for", &x);
+        }
+    }
+    Ok(())
+}
+
+// The chains by each priority.
 fn compare_over(
     alloc: Global,
     report: &mut Report,
     fallbacker: &LocaleFallbacker<'_>,
-    rows: &[Row],
-    subtags: &Subtags,
+    (rows, subtags): (&[Row], &Subtags),
     parents: &Parents,
 ) -> Result<(), Fault> {
     for priority in PRIORITIES {
@@ -157,17 +182,12 @@ fn compare_over(
             parents,
             subtags,
         };
-        let configured = fallbacker.for_config(LocaleFallbackConfig { priority });
-        for x in everyone(subtags, 0) {
-            compare_chain(alloc, report, &configured, by, &x)?;
-            let is_so = fallbacker.key_for(x.locale()) == by.key(&x).locale();
-            report.see(is_so, "key_for", &x);
-        }
+        compare_by(alloc, report, fallbacker, by)?;
     }
     Ok(())
 }
 
-/// The chains of everyone.
+/// The chains of everyone by each priority, and the keys.
 pub fn compare_chains(
     alloc: Global,
     report: &mut Report,
@@ -181,5 +201,5 @@ pub fn compare_chains(
         expander: *expander,
         parents: &map,
     };
-    compare_over(alloc, report, &fallbacker, rows, subtags, parents)
+    compare_over(alloc, report, &fallbacker, (rows, subtags), parents)
 }

@@ -131,10 +131,10 @@ impl Pattern {
 
 // The next distance: often one that others have too, and sometimes the greatest that there is.
 fn draw_distance(numbers: &mut Numbers) -> u16 {
-    if numbers.is_chosen() {
-        numbers.one_of(&[0, 4, u16::MAX])
+    if numbers.is_chosen() && numbers.is_chosen() {
+        numbers.one_of(&[4, 40, u16::MAX])
     } else {
-        numbers.one_of(&[5, 10, 40])
+        numbers.one_of(&[0, 5, 10])
     }
 }
 
@@ -186,7 +186,7 @@ pub struct Matching {
     others: [u16; 3],
     macros: [Option<Area>; 3],
     /// The paradigm locales.
-    pub paradigms: [Plain; 2],
+    pub paradigms: [Plain; 6],
 }
 
 impl Drawn for Matching {

@@ -17,15 +17,15 @@ pub struct ParentRow {
 impl Drawn for ParentRow {
     fn draw(numbers: &mut Numbers, subtags: &Subtags) -> ParentRow {
         ParentRow {
-            locale: without_variants(&Drawn::draw(numbers, subtags)),
-            parent: without_variants(&Drawn::draw(numbers, subtags)),
+            locale: Plain::draw(numbers, subtags).without_variants(),
+            parent: Plain::draw(numbers, subtags).without_variants(),
         }
     }
 }
 
-// Locales have no variants.
-fn without_variants(x: &Plain) -> Plain {
-    of_parts(x.language, x.script, x.region)
+// The locale of no language, no script and no region.
+fn root() -> Plain {
+    Plain::of_language(Language::UNKNOWN)
 }
 
 fn of_parts(language: Language, script: Option<Script>, region: Option<Region>) -> Plain {
@@ -77,7 +77,7 @@ impl Step<Plain> for Inheritance<'_> {
     // Nothing follows the root. What follows another locale is its explicit parent, or else its truncation; by region no
     // explicit parent counts.
     fn next(&self, x: &Plain) -> Option<Plain> {
-        if *x == self.root() {
+        if *x == root() {
             return None;
         }
         if self.priority == LocaleFallbackPriority::Region {
@@ -91,11 +91,6 @@ impl Step<Plain> for Inheritance<'_> {
 }
 
 impl Inheritance<'_> {
-    // The locale of no language, no script and no region.
-    fn root(&self) -> Plain {
-        Plain::of_language(self.subtags.languages[0])
-    }
-
     fn maximal(&self, x: &Plain) -> Plain {
         maximal(self.rows, self.subtags, x)
     }
@@ -131,16 +126,10 @@ impl Inheritance<'_> {
         if with == without { None } else { with }
     }
 
-    /// The locale under which a table keeps what it says of a locale: the normal form by language, with the script where
-    /// the region decides it.
+    /// By language the locale under which a table keeps what it says of a locale: the normal form, with the script where the
+    /// region decides it.
     pub fn key(&self, x: &Plain) -> Plain {
-        let by_language = Inheritance {
-            priority: LocaleFallbackPriority::Language,
-            rows: self.rows,
-            parents: self.parents,
-            subtags: self.subtags,
-        };
-        let normal = by_language.normal(x);
+        let normal = self.normal(x);
         let script = normal.script.or(self.script_by_region(&normal));
         of_parts(normal.language, script, normal.region)
     }
@@ -149,18 +138,18 @@ impl Inheritance<'_> {
     // language all, and by script the language, and at last the script.
     fn truncated(&self, x: &Plain) -> Plain {
         let by_script = self.priority == LocaleFallbackPriority::Script;
-        let script_alone = of_parts(self.subtags.languages[0], self.maximal(x).script, None);
+        let script_alone = of_parts(Language::UNKNOWN, self.maximal(x).script, None);
         match (x.script, x.region) {
             (_, Some(_)) if by_script && x.language.is_unknown() => script_alone,
             (None, None) if by_script && !x.language.is_unknown() => script_alone,
-            (Some(_), None) if by_script && x.language.is_unknown() => self.root(),
+            (Some(_), None) if by_script && x.language.is_unknown() => root(),
             (_, Some(_)) => self.above_region(x),
-            (None, None) => self.root(),
+            (None, None) => root(),
             (script, None) if self.script_of(x.language, None) == script => {
                 Plain::of_language(x.language)
             }
             (Some(_), None) if by_script => script_alone,
-            (Some(_), None) => self.root(),
+            (Some(_), None) => root(),
         }
     }
 
@@ -173,9 +162,9 @@ impl Inheritance<'_> {
 
     // The language and the script go, and then the region.
     fn truncated_by_region(&self, x: &Plain) -> Plain {
-        let region_alone = of_parts(self.subtags.languages[0], None, x.region);
+        let region_alone = of_parts(Language::UNKNOWN, None, x.region);
         if *x == region_alone {
-            self.root()
+            root()
         } else {
             region_alone
         }

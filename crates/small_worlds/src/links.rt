@@ -174,23 +174,13 @@ impl Links {
     /// The ends of the runs of the keywords' values.
     pub fn keyword_ends(&self, alloc: Global, words: &Words) -> Result<Ends, Fault> {
         let [first, second, _] = &self.keywords;
-        both_ends(
-            alloc,
-            (KEYWORDS[0], first),
-            (KEYWORDS[1], second),
-            &words.keywords,
-        )
+        both_ends(alloc, (first, second), &words.keywords)
     }
 
     /// The ends of the runs of the fields' values.
     pub fn field_ends(&self, alloc: Global, words: &Words) -> Result<Ends, Fault> {
         let [first, second] = &self.fields;
-        both_ends(
-            alloc,
-            (FIELDS[0], first),
-            (FIELDS[1], second),
-            &words.fields,
-        )
+        both_ends(alloc, (first, second), &words.fields)
     }
 
     /// Whether some value is followed by another.
@@ -227,12 +217,37 @@ fn is_any_followed(links: &[[Link; 3]], words: &[Option<Word>; 2]) -> bool {
     false
 }
 
+/// At which of two keys, the lesser first.
+#[derive(Clone, Copy)]
+pub enum At {
+    First,
+    Second,
+}
+
+impl At {
+    /// The key of a keyword.
+    pub fn in_keywords(self) -> &'static str {
+        match self {
+            At::First => "ca",
+            At::Second => "kb",
+        }
+    }
+
+    /// The key of a field.
+    pub fn in_fields(self) -> &'static str {
+        match self {
+            At::First => "k0",
+            At::Second => "m0",
+        }
+    }
+}
+
 /// Where the runs of two values end, or the first key, by rising keys, at which one leads round, and the first value there
 /// that comes again.
 #[derive(Clone, Copy)]
 pub enum Ends {
     End([Option<Word>; 2]),
-    Repeats(&'static str, Word),
+    Repeats(At, Word),
 }
 
 // Where a run ends, where there is one; or the value that comes again.
@@ -248,16 +263,15 @@ fn end(alloc: Global, rows: &[Link; 3], word: Option<Word>) -> Result<Run<Option
 
 fn both_ends(
     alloc: Global,
-    (first_key, first_rows): (&'static str, &[Link; 3]),
-    (second_key, second_rows): (&'static str, &[Link; 3]),
+    (first_rows, second_rows): (&[Link; 3], &[Link; 3]),
     words: &[Option<Word>; 2],
 ) -> Result<Ends, Fault> {
     let [first, second] = *words;
     let first = end(alloc, first_rows, first)?;
     let second = end(alloc, second_rows, second)?;
     Ok(match (first, second) {
-        (Run::Repeats(Some(again)), _) => Ends::Repeats(first_key, again),
-        (_, Run::Repeats(Some(again))) => Ends::Repeats(second_key, again),
+        (Run::Repeats(Some(again)), _) => Ends::Repeats(At::First, again),
+        (_, Run::Repeats(Some(again))) => Ends::Repeats(At::Second, again),
         (Run::Ends(first) | Run::Repeats(first), Run::Ends(second) | Run::Repeats(second)) => {
             Ends::End([first, second])
         }

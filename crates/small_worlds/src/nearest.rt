@@ -2,6 +2,7 @@
 use crate::canonical::{ByAll, World};
 use crate::distances::Matching;
 use crate::fault::Fault;
+use crate::likely::maximal;
 use crate::numbers::{Drawn, Numbers};
 use crate::plain::Plain;
 use crate::ranks::Question;
@@ -22,7 +23,7 @@ const OFFERED: usize = 8;
 
 const ASKED: usize = 3;
 
-const TIMES: usize = 6;
+const TIMES: usize = 4;
 
 // Every place may be served.
 const ALL: [bool; OFFERED] = [true; OFFERED];
@@ -67,11 +68,17 @@ impl Drawn for Wants {
 }
 
 impl Wants {
-    fn question<'q>(&'q self, world: World<'q>, asking: &'q Asking) -> Question<'q> {
+    fn question<'q>(
+        &'q self,
+        world: World<'q>,
+        paradigms: &'q [Plain],
+        asking: &'q Asking,
+    ) -> Question<'q> {
         Question {
             rows: world.rows,
             subtags: world.subtags,
             matching: &self.matching,
+            paradigms,
             limits: self.limits,
             requests: &asking.requests,
             available: &self.available,
@@ -112,11 +119,11 @@ fn compare_matcher(
     alloc: Global,
     report: &mut Report,
     matcher: &LocaleMatcher<'_>,
-    world: World<'_>,
+    (world, paradigms): (World<'_>, &[Plain]),
     wants: &Wants,
 ) -> Result<(), Fault> {
     for asking in &wants.askings {
-        let question = wants.question(world, asking);
+        let question = wants.question(world, paradigms, asking);
         let requests = held(alloc, &asking.requests, world.subtags)?;
         compare_match(report, question, &matcher.nearest(&requests), "nearest");
         let among = Question {
@@ -137,14 +144,10 @@ fn brought(alloc: Global, world: World<'_>, x: &Plain) -> Result<Plain, Fault> {
     })
 }
 
-fn all_brought<const N: usize>(
-    alloc: Global,
-    world: World<'_>,
-    list: &[Plain; N],
-) -> Result<[Plain; N], Fault> {
-    let mut all = *list;
-    for place in 0..N {
-        all[place] = brought(alloc, world, &all[place])?;
+fn all_brought(alloc: Global, world: World<'_>, list: &[Plain]) -> Result<Vec<Plain>, Fault> {
+    let mut all = Vec::new(alloc);
+    for x in list {
+        all.push(brought(alloc, world, x)?)?;
     }
     Ok(all)
 }
@@ -153,7 +156,7 @@ fn compare_server(
     alloc: Global,
     report: &mut Report,
     server: &LocaleServer<'_>,
-    world: World<'_>,
+    (world, paradigms): (World<'_>, &[Plain]),
     wants: &Wants,
 ) -> Result<(), Fault> {
     let available = all_brought(alloc, world, &wants.available)?;
@@ -162,7 +165,7 @@ fn compare_server(
         let question = Question {
             requests: &canonical,
             available: &available,
-            ..wants.question(world, asking)
+            ..wants.question(world, paradigms, asking)
         };
         let requests = held(alloc, &asking.requests, world.subtags)?;
         let found = server.nearest(alloc, &requests)?;
@@ -176,11 +179,11 @@ fn compare_distances(
     alloc: Global,
     report: &mut Report,
     (rules, matching): (&CanonicalizerRef<'_>, &LanguageMatching),
-    world: World<'_>,
+    (world, paradigms): (World<'_>, &[Plain]),
     wants: &Wants,
 ) -> Result<(), Fault> {
     for asking in &wants.askings {
-        let question = wants.question(world, asking);
+        let question = wants.question(world, paradigms, asking);
         let x = &asking.requests[0];
         let desired = x.held(alloc, world.subtags)?;
         for y in &wants.available {
@@ -199,26 +202,35 @@ fn compare_served(
     alloc: Global,
     report: &mut Report,
     (rules, matching): (CanonicalizerRef<'_>, &LanguageMatching),
-    world: World<'_>,
+    (world, paradigms): (World<'_>, &[Plain]),
     wants: &Wants,
 ) -> Result<(), Fault> {
     let available = held(alloc, &wants.available, world.subtags)?;
     let served = ServedLocales::try_new(alloc, &rules, matching, available)?;
     let server = LocaleServer::over(rules, matching, wants.limits, &served);
-    compare_server(alloc, report, &server, world, wants)
+    compare_server(alloc, report, &server, (world, paradigms), wants)
 }
 
 fn compare_matched(
     alloc: Global,
     report: &mut Report,
     (rules, matching): (CanonicalizerRef<'_>, &LanguageMatching),
-    world: World<'_>,
+    (world, paradigms): (World<'_>, &[Plain]),
     wants: &Wants,
 ) -> Result<(), Fault> {
     let available = held(alloc, &wants.available, world.subtags)?;
     let candidates = Candidates::try_new(alloc, &rules.expander, matching, available)?;
     let matcher = LocaleMatcher::over(rules.expander, matching, wants.limits, &candidates);
-    compare_matcher(alloc, report, &matcher, world, wants)
+    compare_matcher(alloc, report, &matcher, (world, paradigms), wants)
+}
+
+// The maximal forms of the paradigm locales.
+fn paradigm_forms(alloc: Global, world: World<'_>, wants: &Wants) -> Result<Vec<Plain>, Fault> {
+    let mut forms = Vec::new(alloc);
+    for x in &wants.matching.paradigms {
+        forms.push(maximal(world.rows, world.subtags, &x.without_variants()))?;
+    }
+    Ok(forms)
 }
 
 /// Distances, and the nearest of some identifiers to others, as they are and by their canonical forms.
@@ -231,7 +243,9 @@ pub fn compare_nearest(
 ) -> Result<(), Fault> {
     let rules = canonicalizer.lend();
     let matching = wants.matching.held(alloc, world.subtags)?;
-    compare_distances(alloc, report, (&rules, &matching), world, wants)?;
-    compare_matched(alloc, report, (rules, &matching), world, wants)?;
-    compare_served(alloc, report, (rules, &matching), world, wants)
+    let forms = paradigm_forms(alloc, world, wants)?;
+    let plainly = (world, forms.as_slice());
+    compare_distances(alloc, report, (&rules, &matching), plainly, wants)?;
+    compare_matched(alloc, report, (rules, &matching), plainly, wants)?;
+    compare_served(alloc, report, (rules, &matching), plainly, wants)
 }

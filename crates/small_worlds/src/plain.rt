@@ -29,6 +29,16 @@ impl Plain {
         }
     }
 
+    /// Without variants.
+    pub fn without_variants(&self) -> Plain {
+        Plain {
+            language: self.language,
+            script: self.script,
+            region: self.region,
+            variants: 0,
+        }
+    }
+
     /// Without the script and the region that are not known.
     pub fn bare(&self, subtags: &Subtags) -> Plain {
         Plain {

@@ -11,6 +11,8 @@ pub struct Question<'q> {
     pub rows: &'q [Row],
     pub subtags: &'q Subtags,
     pub matching: &'q Matching,
+    /// The maximal forms of the paradigm locales.
+    pub paradigms: &'q [Plain],
     pub limits: MatchLimits,
     pub requests: &'q [Plain],
     pub available: &'q [Plain],
@@ -70,14 +72,9 @@ impl Question<'_> {
         maximal(self.rows, self.subtags, x)
     }
 
-    // The maximal form, variants aside.
-    fn form(&self, x: &Plain) -> Plain {
-        self.maximal(&Plain {
-            language: x.language,
-            script: x.script,
-            region: x.region,
-            variants: 0,
-        })
+    /// The maximal form, variants aside.
+    pub fn form(&self, x: &Plain) -> Plain {
+        self.maximal(&x.without_variants())
     }
 
     /// The distance of two identifiers: that of their forms.
@@ -104,27 +101,23 @@ impl Question<'_> {
         }
     }
 
-    // Whether a form is that of some paradigm locale.
-    fn is_paradigm(&self, form: &Plain) -> bool {
-        for x in &self.matching.paradigms {
-            if self.form(x) == *form {
-                return true;
-            }
-        }
-        false
-    }
-
-    fn rank(&self, demotion: u64, asked: (usize, &Plain), offered: (usize, &Plain)) -> Rank {
-        let form = self.form(offered.1);
+    // The rank of what is asked for and offered, each with its place and its form.
+    fn rank(
+        &self,
+        demotion: u64,
+        asked: (usize, &Plain, &Plain),
+        offered: (usize, &Plain, &Plain),
+    ) -> Rank {
+        let distance = self.matching.distance(self.subtags, asked.2, offered.2);
         Rank {
-            cost: self.distance(asked.1, offered.1).saturating_add(demotion),
+            cost: distance.saturating_add(demotion),
             request: asked.0,
             differs: [
                 number(asked.1 != offered.1),
                 number(asked.1.variants != offered.1.variants),
             ],
-            unlikeliness: self.unlikeliness(&form),
-            off_paradigm: number(!self.is_paradigm(&form)),
+            unlikeliness: self.unlikeliness(offered.2),
+            off_paradigm: number(!self.paradigms.contains(offered.2)),
             available: offered.0,
         }
     }
@@ -139,10 +132,16 @@ impl Question<'_> {
     }
 
     // The lesser of the least so far and the ranks of one request.
-    fn lesser(&self, demotion: u64, asked: (usize, &Plain), least: Option<Rank>) -> Option<Rank> {
+    fn lesser(
+        &self,
+        demotion: u64,
+        asked: (usize, &Plain, &Plain),
+        least: Option<Rank>,
+    ) -> Option<Rank> {
         let mut least = least;
-        for offered in self.available.iter().enumerate() {
-            let rank = self.rank(demotion, asked, offered);
+        for (place, x) in self.available.iter().enumerate() {
+            let form = self.form(x);
+            let rank = self.rank(demotion, asked, (place, x, &form));
             if self.is_offer(&rank) && precedes_any(&rank, &least) {
                 least = Some(rank);
             }
@@ -154,8 +153,9 @@ impl Question<'_> {
     pub fn least(&self) -> Option<Rank> {
         let mut least = None;
         let mut demotion: u64 = 0;
-        for asked in self.requests.iter().enumerate() {
-            least = self.lesser(demotion, asked, least);
+        for (place, x) in self.requests.iter().enumerate() {
+            let form = self.form(x);
+            least = self.lesser(demotion, (place, x, &form), least);
             demotion = demotion.saturating_add(u64::from(self.limits.demotion));
         }
         least

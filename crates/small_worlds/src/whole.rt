@@ -2,14 +2,16 @@
 use crate::canonical::{self, PlainLocale, World};
 use crate::fault::Fault;
 use crate::forms::tells;
-use crate::links::{Ends, Links, Word, Words};
+use crate::links::{At, Ends, Links, Word, Words};
 use crate::numbers::{Drawn, Numbers};
-use crate::plain::everyone;
 use crate::report::{Kind, Report};
 use icu_locale::{LocaleCanonicalizer, TransformResult, Turns};
 use icu_locale_extensions::{LocaleIdentifier, Subtags};
 use icu_locale_values::{ValueAliases, WholeCanonicalizer, WholeError};
 use std::alloc::Global;
+
+// How many locale identifiers are asked over each table.
+const SOME: usize = 16;
 
 // A locale identifier, plainly.
 #[derive(Clone, Copy)]
@@ -46,8 +48,8 @@ type Answer = Result<TransformResult, WholeError>;
 #[derive(Clone, Copy)]
 enum Outcome {
     Whole(PlainIdentifier),
-    FieldRepeats(&'static str, Word),
-    KeywordRepeats(&'static str, Word),
+    FieldRepeats(At, Word),
+    KeywordRepeats(At, Word),
     ByRules(canonical::Outcome),
 }
 
@@ -84,10 +86,10 @@ fn answers(
     match (answer, outcome) {
         (Ok(told), Outcome::Whole(_)) => Ok(tells(*told, applied)),
         (Err(WholeError::NoFieldFixedPoint(key, named)), Outcome::FieldRepeats(at, again)) => {
-            Ok(key.as_str() == *at && again.is_pieces(alloc, named)?)
+            Ok(key.as_str() == at.in_fields() && again.is_pieces(alloc, named)?)
         }
         (Err(WholeError::NoValueFixedPoint(key, named)), Outcome::KeywordRepeats(at, again)) => {
-            Ok(key.as_str() == *at && again.is_value(alloc, named)?)
+            Ok(key.as_str() == at.in_keywords() && again.is_value(alloc, named)?)
         }
         (
             Err(WholeError::NoFixedPoint(named)),
@@ -116,72 +118,86 @@ fn kind(answer: &Answer) -> Result<Kind, Fault> {
 // What is asked: the canonicalizer, and the rules and rows that it goes by.
 #[derive(Clone, Copy)]
 struct Asked<'w> {
-    whole: WholeCanonicalizer<'w>,
+    whole: &'w WholeCanonicalizer<'w>,
     world: World<'w>,
     links: &'w Links,
+}
+
+// What has to become of a locale identifier, and whether some rule or row is applied to it.
+#[derive(Clone, Copy)]
+struct Wanted {
+    outcome: Outcome,
+    applied: bool,
+}
+
+fn what_becomes(alloc: Global, asked: Asked<'_>, old: &PlainIdentifier) -> Result<Wanted, Fault> {
+    let (world, links) = (asked.world, asked.links);
+    let outcome = outcome_of(alloc, world, links, old)?;
+    let applied = links.is_applied(&old.words) || canonical::is_applied(world, &old.locale);
+    Ok(Wanted { outcome, applied })
 }
 
 // Whether a call answered, and left the locale identifier, as it has to.
 fn agrees(
     alloc: Global,
-    report: &mut Report,
-    asked: Asked<'_>,
+    world: World<'_>,
     old: &PlainIdentifier,
+    wanted: &Wanted,
     (answer, left): (&Answer, &LocaleIdentifier),
 ) -> Result<bool, Fault> {
-    let (world, links) = (asked.world, asked.links);
-    report.meet(kind(answer)?);
-    let outcome = outcome_of(alloc, world, links, old)?;
-    let applied = links.is_applied(&old.words) || canonical::is_applied(world, &old.locale);
-    let new = match outcome {
+    let new = match wanted.outcome {
         Outcome::Whole(new) => new,
         _ => *old,
     };
-    let is_so = answers(alloc, world, applied, answer, &outcome)?;
+    let is_so = answers(alloc, world, wanted.applied, answer, &wanted.outcome)?;
     Ok(is_so && new.held(alloc, world)? == *left)
 }
 
 // The call that counts, or the other.
+fn ask(whole: &WholeCanonicalizer<'_>, locale: &mut LocaleIdentifier, is_counted: bool) -> Answer {
+    if is_counted {
+        whole.canonicalize_counted(locale, &mut Turns::new())
+    } else {
+        whole.canonicalize(locale)
+    }
+}
+
 fn compare_call(
     alloc: Global,
     report: &mut Report,
     asked: Asked<'_>,
-    old: &PlainIdentifier,
+    (old, wanted): (&PlainIdentifier, &Wanted),
     is_counted: bool,
 ) -> Result<(), Fault> {
     let mut left = old.held(alloc, asked.world)?;
-    let answer = if is_counted {
-        asked
-            .whole
-            .canonicalize_counted(&mut left, &mut Turns::new())
-    } else {
-        asked.whole.canonicalize(&mut left)
-    };
-    let is_so = agrees(alloc, report, asked, old, (&answer, &left))?;
+    let answer = ask(asked.whole, &mut left, is_counted);
+    report.meet(kind(&answer)?);
+    let is_so = agrees(alloc, asked.world, old, wanted, (&answer, &left))?;
     report.see(is_so, "WholeCanonicalizer::canonicalize", &old.locale.id);
     Ok(())
 }
 
-fn compare_everyone(
+fn compare_some(
     alloc: Global,
     report: &mut Report,
     asked: Asked<'_>,
     numbers: &mut Numbers,
 ) -> Result<(), Fault> {
     let subtags = asked.world.subtags;
-    for id in everyone(subtags, 0) {
+    for _ in 0..SOME {
         let old = PlainIdentifier {
-            locale: PlainLocale::draw_with(id, numbers, subtags),
+            locale: PlainLocale::draw_with(Drawn::draw(numbers, subtags), numbers, subtags),
             words: Drawn::draw(numbers, subtags),
         };
+        let wanted = what_becomes(alloc, asked, &old)?;
         for is_counted in [false, true] {
-            compare_call(alloc, report, asked, &old, is_counted)?;
+            compare_call(alloc, report, asked, (&old, &wanted), is_counted)?;
         }
     }
     Ok(())
 }
 
-/// The calls of a whole canonicalizer at everyone, with some transform language and some values.
+/// The calls of a whole canonicalizer at some locale identifiers.
 pub fn compare_whole(
     alloc: Global,
     report: &mut Report,
@@ -200,9 +216,9 @@ pub fn compare_whole(
         },
     };
     let asked = Asked {
-        whole,
+        whole: &whole,
         world,
         links,
     };
-    compare_everyone(alloc, report, asked, numbers)
+    compare_some(alloc, report, asked, numbers)
 }
