@@ -9,9 +9,8 @@ use crate::subtags::Subtags;
 use icu_locale::{LocaleExpander, Turns};
 use icu_locale_fallback::{
     FallbackError, LocaleFallbackConfig, LocaleFallbackPriority, LocaleFallbacker,
-    LocaleFallbackerWithConfig,
 };
-use icu_provider::{DataError, DataLocale, SortedMap};
+use icu_provider::{DataError, DataLocale, LikelySubtagsExtended, SortedMap};
 use std::alloc::Global;
 
 const PRIORITIES: [LocaleFallbackPriority; 3] = [
@@ -32,6 +31,7 @@ fn held(alloc: Global, parents: &Parents) -> Result<SortedMap<DataLocale, DataLo
 // The locales of a chain that was walked, and how it goes on after them.
 #[derive(Drop)]
 struct Walked {
+    config: LocaleFallbackConfig,
     met: Vec<Plain>,
     run: Run<Plain>,
 }
@@ -39,8 +39,10 @@ struct Walked {
 // The chain of a locale, walked.
 fn walk_chain(alloc: Global, by: Inheritance<'_>, x: &Plain) -> Result<Walked, Fault> {
     let mut met = Vec::new(alloc);
+    let priority = by.priority;
+    let config = LocaleFallbackConfig { priority };
     match walk_through(&by, by.normal(x), &mut met) {
-        Ok(run) => Ok(Walked { met, run }),
+        Ok(run) => Ok(Walked { config, met, run }),
         Err(fault) => Err(fault),
     }
 }
@@ -83,11 +85,17 @@ impl Walked {
 // Each place of a chain, and the one after.
 fn compare_places(
     report: &mut Report,
-    chains: &LocaleFallbackerWithConfig<'_>,
+    fallbacker: &LocaleFallbacker<'_>,
     walked: &Walked,
     x: &Plain,
 ) {
-    let mut place = chains.fallback_for(x.locale());
+    // (The types within are named, since the borrow checker's proof is not made without.)
+    let expander: LocaleExpander<'_> = fallbacker.expander;
+    let extended: Option<&LikelySubtagsExtended> = expander.extended;
+    let parents: &SortedMap<DataLocale, DataLocale> = fallbacker.parents;
+    let _ = (extended.is_some(), parents.is_empty());
+    let config = walked.config;
+    let mut place = fallbacker.for_config(config).fallback_for(x.locale());
     for locale in &walked.met {
         let is_so = *place.get() == locale.locale();
         report.see(is_so, "LocaleFallbackIterator::get", x);
@@ -100,12 +108,13 @@ fn compare_places(
 
 fn compare_repeats(
     report: &mut Report,
-    chains: &LocaleFallbackerWithConfig<'_>,
+    fallbacker: &LocaleFallbacker<'_>,
     walked: &Walked,
     x: &Plain,
 ) {
     report.meet(walked.kind());
-    let place = chains.fallback_for(x.locale());
+    let config = walked.config;
+    let place = fallbacker.for_config(config).fallback_for(x.locale());
     let again = place.first_repeat();
     report.see(again == walked.again(), "first_repeat", x);
     let again = place.first_repeat_counted(&mut Turns::new());
@@ -124,11 +133,12 @@ fn is_list(list: &Result<Vec<DataLocale>, FallbackError>, walked: &Walked) -> Re
 fn compare_list(
     alloc: Global,
     report: &mut Report,
-    chains: &LocaleFallbackerWithConfig<'_>,
+    fallbacker: &LocaleFallbacker<'_>,
     walked: &Walked,
     x: &Plain,
 ) -> Result<(), Fault> {
-    let place = chains.fallback_for(x.locale());
+    let config = walked.config;
+    let place = fallbacker.for_config(config).fallback_for(x.locale());
     let list = place.to_list(alloc);
     let is_so = is_list(&list, walked)?;
     report.see(is_so, "to_list", x);
@@ -138,14 +148,14 @@ fn compare_list(
 fn compare_chain(
     alloc: Global,
     report: &mut Report,
-    chains: &LocaleFallbackerWithConfig<'_>,
+    fallbacker: &LocaleFallbacker<'_>,
     by: Inheritance<'_>,
     x: &Plain,
 ) -> Result<(), Fault> {
     let walked = walk_chain(alloc, by, x)?;
-    compare_places(report, chains, &walked, x);
-    compare_repeats(report, chains, &walked, x);
-    compare_list(alloc, report, chains, &walked, x)
+    compare_places(report, fallbacker, &walked, x);
+    compare_repeats(report, fallbacker, &walked, x);
+    compare_list(alloc, report, fallbacker, &walked, x)
 }
 
 // The chains of everyone.
@@ -155,11 +165,9 @@ fn compare_by(
     fallbacker: &LocaleFallbacker<'_>,
     by: Inheritance<'_>,
 ) -> Result<(), Fault> {
-    let priority = by.priority;
-    let chains = fallbacker.for_config(LocaleFallbackConfig { priority });
     for x in everyone(by.subtags, 0) {
-        compare_chain(alloc, report, &chains, by, &x)?;
-        if priority == LocaleFallbackPriority::Language {
+        compare_chain(alloc, report, fallbacker, by, &x)?;
+        if by.priority == LocaleFallbackPriority::Language {
             let is_so = fallbacker.key_for(x.locale()) == by.key(&x).locale();
             report.see(is_so, "key_for", &x);
         }

@@ -5,6 +5,7 @@ use crate::forms::tells;
 use crate::links::{At, Ends, Links, Word, Words};
 use crate::numbers::{Drawn, Numbers};
 use crate::report::{Kind, Report};
+use crate::subtags::Subtags as WorldSubtags;
 use icu_locale::{LocaleCanonicalizer, TransformResult, Turns};
 use icu_locale_extensions::{LocaleIdentifier, Subtags};
 use icu_locale_values::{ValueAliases, WholeCanonicalizer, WholeError};
@@ -20,22 +21,31 @@ struct PlainIdentifier {
     words: Words,
 }
 
+impl Drawn for PlainIdentifier {
+    fn draw(numbers: &mut Numbers, subtags: &WorldSubtags) -> PlainIdentifier {
+        PlainIdentifier {
+            locale: PlainLocale::draw_with(Drawn::draw(numbers, subtags), numbers, subtags),
+            words: Drawn::draw(numbers, subtags),
+        }
+    }
+}
+
 impl PlainIdentifier {
     // As the crates hold it, with an attribute and some private use, which have to stay.
-    fn held(&self, alloc: Global, world: World<'_>) -> Result<LocaleIdentifier, Fault> {
-        let locale = self.locale.held(alloc, world.subtags)?;
+    fn held(&self, alloc: Global, subtags: &WorldSubtags) -> Result<LocaleIdentifier, Fault> {
+        let locale = self.locale.held(alloc, subtags)?;
         let mut held = LocaleIdentifier::from_locale(alloc, locale);
-        self.extend(alloc, world, &mut held)?;
+        self.extend(alloc, subtags, &mut held)?;
         Ok(held)
     }
 
     fn extend(
         &self,
         alloc: Global,
-        world: World<'_>,
+        subtags: &WorldSubtags,
         held: &mut LocaleIdentifier,
     ) -> Result<(), Fault> {
-        let _ = held.attributes.insert(world.subtags.subdivisions[0])?;
+        let _ = held.attributes.insert(subtags.subdivisions[0])?;
         held.private_use = Some(Subtags::try_from_str(alloc, "a-bbb")?);
         self.words.put(alloc, held)
     }
@@ -150,7 +160,7 @@ fn agrees(
         _ => *old,
     };
     let is_so = answers(alloc, world, wanted.applied, answer, &wanted.outcome)?;
-    Ok(is_so && new.held(alloc, world)? == *left)
+    Ok(is_so && new.held(alloc, world.subtags)? == *left)
 }
 
 // The call that counts, or the other.
@@ -169,12 +179,36 @@ fn compare_call(
     (old, wanted): (&PlainIdentifier, &Wanted),
     is_counted: bool,
 ) -> Result<(), Fault> {
-    let mut left = old.held(alloc, asked.world)?;
+    let mut left = old.held(alloc, asked.world.subtags)?;
     let answer = ask(asked.whole, &mut left, is_counted);
     report.meet(kind(&answer)?);
     let is_so = agrees(alloc, asked.world, old, wanted, (&answer, &left))?;
     report.see(is_so, "WholeCanonicalizer::canonicalize", &old.locale.id);
     Ok(())
+}
+
+fn compare_both(
+    alloc: Global,
+    report: &mut Report,
+    asked: Asked<'_>,
+    old: &PlainIdentifier,
+    wanted: &Wanted,
+) -> Result<(), Fault> {
+    compare_call(alloc, report, asked, (old, wanted), false)?;
+    compare_call(alloc, report, asked, (old, wanted), true)
+}
+
+// Both calls at one locale identifier.
+fn compare_one(
+    alloc: Global,
+    report: &mut Report,
+    asked: Asked<'_>,
+    old: &PlainIdentifier,
+) -> Result<(), Fault> {
+    match what_becomes(alloc, asked, old) {
+        Ok(wanted) => compare_both(alloc, report, asked, old, &wanted),
+        Err(fault) => Err(fault),
+    }
 }
 
 fn compare_some(
@@ -183,16 +217,9 @@ fn compare_some(
     asked: Asked<'_>,
     numbers: &mut Numbers,
 ) -> Result<(), Fault> {
-    let subtags = asked.world.subtags;
     for _ in 0..SOME {
-        let old = PlainIdentifier {
-            locale: PlainLocale::draw_with(Drawn::draw(numbers, subtags), numbers, subtags),
-            words: Drawn::draw(numbers, subtags),
-        };
-        let wanted = what_becomes(alloc, asked, &old)?;
-        for is_counted in [false, true] {
-            compare_call(alloc, report, asked, (&old, &wanted), is_counted)?;
-        }
+        let old = PlainIdentifier::draw(numbers, asked.world.subtags);
+        compare_one(alloc, report, asked, &old)?;
     }
     Ok(())
 }
