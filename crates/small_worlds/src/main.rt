@@ -2,7 +2,7 @@
 //! `icu_locale` over them, each compared with a slow body of its definition at every identifier of the world. What differs
 //! is printed, and at last how many worlds there were. Where memory is refused, the run fails.
 //!
-//! `small_worlds [NUMBER]`: so many worlds, or 5. The file `args` has the number that the gate takes.
+//! `small_worlds [NUMBER]`: so many worlds, or 10. The file `args` has the number that the gate takes.
 #![tactic(auto)]
 
 mod canonical;
@@ -37,7 +37,7 @@ use std::env;
 use std::process::ExitCode;
 
 // How many worlds there are where no number is given.
-const FEW: usize = 5;
+const FEW: usize = 10;
 
 fn main(rt: HostRuntime) -> ExitCode {
     match start(&rt) {

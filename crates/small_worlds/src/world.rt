@@ -90,7 +90,7 @@ impl Parts {
     }
 }
 
-// The calls over one table of likely subtags.
+// The calls over one table of likely subtags. By turns the worlds ask for chains over the common tables, or over all.
 fn compare_over(
     alloc: Global,
     report: &mut Report,
@@ -99,9 +99,12 @@ fn compare_over(
     (parts, numbers): (&Parts, &mut Numbers),
 ) -> Result<(), Fault> {
     let (rows, subtags) = (world.rows, world.subtags);
+    let has_chains = maker.with_extended == (report.world % 2 == 1);
     let expander = maker.expander()?;
     compare_forms(alloc, report, &expander, rows, subtags)?;
-    compare_chains(alloc, report, &expander, rows, subtags, &parts.parents)?;
+    if has_chains {
+        compare_chains(alloc, report, &expander, rows, subtags, &parts.parents)?;
+    }
     let directionality = maker.directionality(expander)?;
     compare_directions(alloc, report, &directionality, rows, subtags, parts.ways)?;
     compare_negotiations(alloc, report, &expander, rows, subtags, numbers)?;
