@@ -17,7 +17,7 @@ NO_DATA = ("this package has none of CLDR's data inside, and there is no Debian 
 
 def texts_of(locales: Locales) -> Tuple[bytes, bytes]:
     """The text of the tables that have the names of some locales, and that of their supplement."""
-    folder = _folder()
+    folder = data_folder()
     supplement, behind, *before, end = _lines(folder, BASE)
     columns: List[Rows] = [[] for _ in (supplement, *before)]
     for locale, rows in _chosen(folder, locales).items():
@@ -28,7 +28,16 @@ def texts_of(locales: Locales) -> Tuple[bytes, bytes]:
     return b"".join([*parts, end]), called + behind
 
 
-def _folder() -> Path:
+def has_names(locale: str) -> bool:
+    """Whether CLDR has names in a locale."""
+    try:
+        return bool(_chosen(data_folder(), [locale]))
+    except NoCldr:
+        return False
+
+
+def data_folder() -> Path:
+    """Where the data is. It raises `NoCldr` where there is none."""
     for folder in FOLDERS:
         if (folder / f"{BASE}.gz").is_file():
             return folder
