@@ -3,8 +3,9 @@ from functools import lru_cache, total_ordering
 from types import MappingProxyType
 from typing import Any, Iterable, List, Mapping, NoReturn, Optional, Tuple, Type, TypeVar
 
+from ._answers import Syntax
 from ._refusals import InvalidLanguage, InvalidSubtag, Text, Written
-from ._tables import Syntax, Tables
+from ._tables import Tables
 
 # What asks no table is asked of tables that hold nothing.
 EMPTY = "{}"
@@ -135,10 +136,14 @@ class Locale(Written):
         return f"{type(self).__name__}({self._text!r})"
 
     def __eq__(self, other: object) -> bool:
-        return self._text == other._text if isinstance(other, Locale) else NotImplemented
+        if not isinstance(other, Locale):
+            return NotImplemented
+        return self._text == other._text
 
     def __lt__(self, other: object) -> bool:
-        return self._text < other._text if isinstance(other, Locale) else NotImplemented
+        if not isinstance(other, Locale):
+            return NotImplemented
+        return self._text < other._text
 
     def __hash__(self) -> int:
         return hash(self._text)

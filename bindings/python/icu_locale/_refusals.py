@@ -177,7 +177,7 @@ def as_bytes(text: Text) -> bytes:
     """The bytes of a text; half of a surrogate pair becomes what no call accepts."""
     if isinstance(text, str):
         return text.encode("utf-8", "surrogatepass")
-    if isinstance(text, TEXTS):
+    if isinstance(text, (bytes, bytearray, memoryview)):
         return bytes(text)
     if isinstance(text, Written):
         return str(text).encode()

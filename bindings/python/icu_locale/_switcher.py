@@ -3,7 +3,7 @@ from typing import Generic, Iterable, Tuple, TypeVar, Union
 
 from ._held import NoCopies
 from ._negotiator import Negotiator, Tag, line_of, listed
-from ._refusals import TEXTS, LineRefused, Text, as_bytes
+from ._refusals import TEXTS, LineRefused, Text, Written, as_bytes
 
 # The header Accept-Language of a request, the lines of several, or None where there is none.
 Headers = Union[None, Text, Iterable[Text]]
@@ -12,8 +12,11 @@ Default = TypeVar("Default")
 
 def header_of(headers: Headers) -> bytes:
     """The bytes of one header: several are one, and none is empty."""
-    each: Iterable[Text] = () if headers is None else (headers,) if isinstance(headers, TEXTS) else headers
-    return b", ".join(map(as_bytes, each))
+    if headers is None:
+        return b""
+    if isinstance(headers, TEXTS) or isinstance(headers, Written):
+        return as_bytes(headers)
+    return b", ".join(map(as_bytes, headers))
 
 
 class Switcher(NoCopies, Generic[Tag, Default]):
