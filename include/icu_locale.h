@@ -28,6 +28,7 @@
  * - `out`, `written`, `request`, `available` and a handle share no byte with each other, nor with a slice that is read.
  *   Slices that are read may overlap. The two handles of icu_locale_share are two, and so are those of
  *   icu_locale_available and icu_locale_available_in.
+ * - There are 256 KiB of stack, which were enough in each test. A text of JSON that is nested deeply wants most.
  * - malloc, realloc and free are those of one allocator, and align as the C standard says. No call is made in a signal
  *   handler, nor in the child of a fork in a process that has threads.
  *
@@ -144,7 +145,7 @@ int32_t icu_locale_supplement(struct icu_locale *handle, const uint8_t *json, si
 
 /*
  * Makes `to` a second handle to the tables of `from`, as for another thread. The tables are there once; they go when the
- * last of their handles is closed. A list of what is available is not shared.
+ * last of their handles is closed. A list of what is available is not shared. Memory is asked for once.
  *
  * ICU_LOCALE_DONE: `to` holds the tables of `from` and no list, and has let go what it held. `from` is as it was.
  * ICU_LOCALE_CLOSED: `from` is closed. ICU_LOCALE_MEMORY. Both handles are as they were.

@@ -95,8 +95,21 @@ static int32_t open_text(const char *json, struct icu_locale *handle) {
     return number;
 }
 
+// A text of objects, one in another, so many deep: as deep as JSON is read, and deeper.
+static int32_t open_nested(int depth, struct icu_locale *handle) {
+    static char json[8 * 1024];
+    char *at = json;
+    for (int level = 0; level < depth; level++) at += sprintf(at, "{\"a\":");
+    *at++ = '1';
+    memset(at, '}', (size_t)depth);
+    at[depth] = '\0';
+    return open_text(json, handle);
+}
+
 static void refused_opens(struct icu_locale *handle) {
     void *at = handle->at;
+    want(open_nested(127, handle) == ICU_LOCALE_SHAPE, "objects as deep as JSON is read");
+    want(open_nested(1000, handle) == ICU_LOCALE_JSON, "objects that are deeper");
     want(open_text("", handle) == ICU_LOCALE_JSON, "no text");
     want(open_text("{", handle) == ICU_LOCALE_JSON, "half of a text");
     want(open_text("{\"colour\":1}", handle) == ICU_LOCALE_SHAPE, "a member that no table has");

@@ -115,7 +115,9 @@ static int run(void) {
         want(row_of(&one, row) != ICU_LOCALE_MEMORY, "the next call is refused too");
     }
     refusals += negotiations(&one);
+    long before = requests;
     number = icu_locale_share(&one, &other);
+    want(requests == before + 1, "a share asks for memory once");
     want(number == ICU_LOCALE_DONE ? !!other.at : number == ICU_LOCALE_MEMORY && !other.at, "a share");
     refusals += number == ICU_LOCALE_MEMORY;
     number = icu_locale_open(json, length, &one);
