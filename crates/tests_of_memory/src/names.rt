@@ -4,12 +4,12 @@ use icu_locale_core::LanguageIdentifier;
 use icu_locale_names::{
     DisplayNamesPreferences, LanguageIdentifierDisplayNameBorrowed, NameChain, NameWriteError,
 };
-use icu_provider::{DataError, DataErrorKind, NameKey, NameMarker};
+use icu_provider::{DataError, DataErrorKind, NameMarker};
 use icu_tables::Tables;
 use std::alloc::Global;
 use std::process::Abort;
 use tests_shared::fakes::HeldWriter;
-use tests_shared::known::{english, identifier, sample, variant};
+use tests_shared::known::{english, identifier, sample};
 use tests_shared::names::{RAW, named, patterns};
 use tests_shared::refusing::{refusal, willing};
 
@@ -48,28 +48,6 @@ fn memory_lacks_behind_the_region_and_before_the_variants(rt: HostRuntime) {
     assert!(rt; without_memory(&rt, alloc, &tables, &two, short) == memory);
     assert!(rt; without_memory(&rt, alloc, &tables, &one, variant) == custom);
     assert!(rt; without_memory(&rt, alloc, &tables, &one, short).is_none());
-}
-
-// What a name answers where there is memory, and the name of one variant is refused.
-#[test]
-fn a_refused_variant_is_no_want_of_memory(rt: HostRuntime) {
-    let alloc = rt.alloc();
-    let tables = patterns(alloc).expect(&rt, "patterns");
-    let two = identifier(alloc, "it-fonipa-posix").expect(&rt, "identifier");
-    for text in ["fonipa", "posix"] {
-        let mut provider = willing(&tables);
-        provider.names = refusal(DataErrorKind::Custom);
-        provider.names_of = Some(NameKey::Variant(variant(text).expect(&rt, "variant")));
-        let refused = named(
-            alloc,
-            &provider,
-            english().expect(&rt, "english"),
-            &two,
-            NameChain::Light,
-        )
-        .err();
-        assert!(rt; refused == refusal(DataErrorKind::Custom));
-    }
 }
 
 fn written_without_memory(
