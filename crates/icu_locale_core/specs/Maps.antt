@@ -1,5 +1,5 @@
 -- A finite map as the list of its rows, a key and its value each.
-use Rattle.std.specs.Prelude.{◌≡◌, ◌↔◌, ◌≢◌, List, Option, Some, if◌then◌else◌}
+use Rattle.std.specs.Prelude.{◌≡◌, ◌↔◌, ◌≢◌, List, Option, Some, is_some, if◌then◌else◌}
 use Rattle.std.specs.List.{Contains}
 use Rattle.std.specs.declared.cmp.Ordering.{Ordering}
 use Rattle.std.specs.declared.cmp.Ordering.TheVariants.{Equal}
@@ -26,6 +26,11 @@ SetsOnly {K} compare old new key answer =
 abbrev pub FindsAlike : {K V : Type 0} → (K → K → Ordering) → (rows others : List (K × V)) → Type 0
 FindsAlike {K} compare rows others =
     (key : K) → value_at compare rows key ≡ value_at compare others key
+
+-- a row more, unless there is one with its key
+abbrev pub add_first : {K V : Type 0} → (K → K → Ordering) → List (K × V) → K → V → List (K × V)
+add_first compare rows key value =
+    if is_some (value_at compare rows key) then rows else insert_entry compare rows key value
 
 -- an order ties equal keys alone
 abbrev pub TiesEqualAlone : {K : Type 0} → (K → K → Ordering) → Type 0

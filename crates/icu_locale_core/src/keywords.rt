@@ -5,7 +5,7 @@ ghost use Rattle.std.specs.Cmp.Lexicographic.{pointwise, lists_equiv};
 ghost use Rattle.std.specs.Fmt.{WritesOnOk};
 ghost use Rattle.std.specs.List.{All};
 ghost use Rattle.icu_locale_core.specs.Keywords.{with_value, without_key, row_eq, KeywordRows, IsKeyword, written_keyword, written_keywords};
-ghost use Rattle.icu_locale_core.specs.Maps.{IsSortedMap, FindsAlike, SetsOnly, value_at};
+ghost use Rattle.icu_locale_core.specs.Maps.{IsSortedMap, FindsAlike, SetsOnly, add_first, value_at};
 ghost use Rattle.icu_locale_core.specs.laws.Maps.{rows_equiv};
 ghost use Rattle.icu_locale_core.specs.TextSet.{text_cmp};
 
@@ -97,6 +97,7 @@ impl Keywords {
     pub fn add(&mut self, key: Key, value: Value) -> Result<(), ParseError>
         ensures added { OnOk result
             (FindsAlike text_cmp self.new (self.old ++ (key, value) ∷ [])) }
+        ensures rows { OnOk result (self.new ≡ add_first text_cmp self.old key value) }
         ensures refused { IfErr result (λ e. e ≡ ParseError.Memory) }
         ensures unchanged { OnErr result (self.new ≡ self.old) }
         ensures present { IsSome (value_at text_cmp self.old key) → IsOk result }

@@ -4,7 +4,7 @@ ghost use Rattle.std.specs.BTreeMap.{insert_entry, is_at};
 ghost use Rattle.std.specs.Iterator.{YieldsFirstBy, item_count};
 ghost use Rattle.std.specs.Map.{remove_entry};
 ghost use Rattle.std.specs.Map.Iter.{deref_pair};
-ghost use Rattle.icu_locale_core.specs.Maps.{IsSortedMap, FindsAlike, SetsOnly, value_at};
+ghost use Rattle.icu_locale_core.specs.Maps.{IsSortedMap, FindsAlike, SetsOnly, add_first, value_at};
 ghost use Rattle.icu_locale_core.specs.Places.{IsAt, IsGapFor};
 
 use std::alloc::{AllocError, Global};
@@ -111,8 +111,7 @@ impl<K: Ord, V> SortedRows<K, V> {
         K: Drop,
         V: Drop,
         ensures added { OnOk result (FindsAlike K.cmp self.new (self.old ++ (key, value) ∷ [])) }
-        ensures rows { OnOk result ((self.new ≡ self.old)
-            ⊎ (self.new ≡ insert_entry K.cmp self.old key value)) }
+        ensures rows { OnOk result (self.new ≡ add_first K.cmp self.old key value) }
         ensures unchanged { OnErr result (self.new ≡ self.old) }
         ensures present { IsSome (value_at K.cmp self.old key) → IsOk result }
     {

@@ -1,6 +1,6 @@
 -- What look-ups find in rows whose keys rise, what a search finds, and what an edit at that place does.
 use Rattle.std.proofs.Common.{◌≡◌, List, [], ◌∷◌, slice_get, Some, refl, sym, ap, ◌∙◌, subst, ◌≢◌, false, if◌then◌else◌, ℕ, zero, suc, ◌+◌, ◌<◌}
-use Rattle.std.proofs.Common.{Bool, true, cond, length, get_or, set, None, Result, Ok, Err, MatchResult, ◌⊎◌, ⊎_elim, arith}
+use Rattle.std.proofs.Common.{Bool, true, is_some, cond, length, get_or, set, None, Result, Ok, Err, MatchResult, ◌⊎◌, ⊎_elim, arith}
 use Rattle.std.specs.declared.cmp.Ordering.{Ordering}
 use Rattle.std.specs.declared.cmp.Ordering.TheVariants.{Less, Equal, Greater}
 use Rattle.std.specs.Ordering.{match_ordering, ordering_reverse, is_eq, is_lt}
@@ -20,7 +20,7 @@ use Rattle.std.proofs.lemmas.Map.Views.{All-keys-insert_entry, All-map-remove_en
 use Rattle.std.proofs.lemmas.List.{get_or-map, get_or_default}
 use Rattle.std.proofs.lemmas.List.Sorted.{searchable_from_sorted}
 use Rattle.icu_locale_core.specs.Maps.{IsSortedMap, Holds}
-use Rattle.icu_locale_core.specs.Maps.{SetsOnly, value_at}
+use Rattle.icu_locale_core.specs.Maps.{SetsOnly, add_first, value_at}
 use Rattle.icu_locale_core.specs.Places.{IsAt, IsGapFor, IsNearest}
 use Rattle.icu_locale_core.specs.laws.Maps.{SetsOnly-insert_entry, found_at_key, stands_where_found}
 
@@ -337,10 +337,10 @@ module _ {K V : Type 0} (compare : K → K → Ordering) where
 
   -- so it does where rows may have stayed as they were
   pub All-added : (P : K × V → Type 0) (key : K) (value : V) → P (key, value) → ((k : K) (v : V) → P (k, v) → P (k, value))
-      → (old new : List (K × V)) → All P old → (new ≡ old) ⊎ (new ≡ insert_entry compare old key value) → All P new
-  All-added P key value new_row kept old new all = ⊎_elim
-      (λ same. subst (All P) (sym same) all)
-      (λ inserted. subst (All P) (sym inserted) (All-insert_entry P key value new_row kept old all))
+      → (old : List (K × V)) → All P old → All P (add_first compare old key value)
+  All-added P key value new_row kept old all =
+      elim (is_some (value_at compare old key)) as (λ b. All P (if b then old else insert_entry compare old key value))
+      [ true ↦ all | false ↦ All-insert_entry P key value new_row kept old all ]
 
 module _ {K V : Type 0} {compare : K → K → Ordering} (total : IsTotalOrder compare) where
   -- a key that is taken out is found no more, and others stay
