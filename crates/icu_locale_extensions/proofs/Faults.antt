@@ -1,39 +1,57 @@
--- A text that is refused is at fault, and one at fault spells nothing.
-use Rattle.std.specs.Prelude.{◌≡◌, ℕ, true, List, [], ◌∷◌, slice_index_or, Err}
-use Rattle.std.proofs.Common.{refl, sym, ◌∙◌}
-use Rattle.std.proofs.lemmas.Bool.{and_parts, false≢true, true_from_ne_false}
-use Rattle.icu_locale_core.specs.Identifier.{pieces, starts_with_language}
-use Rattle.icu_locale_core.specs.Subtag.{is_language}
+-- What is spelled in a syntax is what is read, and why a text is refused.
+use Rattle.std.specs.Prelude.{◌≡◌, ◌⊎◌, ◌↔◌, ℕ, false, List, Result, Ok, Err}
+use Rattle.std.proofs.Common.{refl, ap, sym, ◌∙◌, inl, inr}
+use Rattle.icu_locale_core.specs.Identifier.{pieces}
 use Rattle.icu_locale_core.specs.declared.parse_error.ParseError.{ParseError}
-use Rattle.icu_locale_core.specs.declared.parse_error.ParseError.TheVariants.{InvalidLanguage, InvalidSubtag, Memory}
-use Rattle.icu_locale_extensions.specs.Locales.{IsLocaleIdentifier}
-use Rattle.icu_locale_extensions.specs.Reads.{Spells}
-use Rattle.icu_locale_extensions.specs.Syntaxes.{base_text, starts_by, tag_text, IsFaultBy, ReadsBy, SpellsBy}
+use Rattle.icu_locale_core.specs.declared.parse_error.ParseError.TheVariants.{InvalidLanguage, Memory}
+use Rattle.icu_locale_extensions.specs.Grammar.{IsLocaleId}
+use Rattle.icu_locale_extensions.specs.Reader.{and_then, read}
+use Rattle.icu_locale_extensions.specs.Syntaxes.{IsFaultBy, ReadsBy, SpellsBy, base_text, modifier_text, read_by, starts_by, tag_text, with_modifier}
 use Rattle.icu_locale_extensions.specs.declared.identifier.LocaleIdentifier.{LocaleIdentifier}
 use Rattle.icu_locale_extensions.specs.declared.syntax.Syntax.{Syntax}
 use Rattle.icu_locale_extensions.specs.declared.syntax.Syntax.TheVariants.{Unicode, Bcp47, Posix}
-use Rattle.icu_locale_extensions.proofs.Begins.{may_begin}
-use Rattle.icu_locale_extensions.proofs.StrictTags.{strict_begins}
+use Rattle.icu_locale_extensions.proofs.Refused.{language_told, language_refused, memory_never}
+
+module _ (derived : (ps : List (List ℕ)) (x : LocaleIdentifier) → IsLocaleId ps x ↔ (read ps ≡ Ok x)) where
+  posix_there : (t : List ℕ) (x : LocaleIdentifier) → SpellsBy Posix t x → read_by Posix t ≡ Ok x
+  posix_there t x s =
+      ap (λ r. and_then r (λ y. Ok (with_modifier (modifier_text t) y))) ((derived (pieces (base_text t)) s.base).0 s.spells) ∙ ap Ok (sym s.changed)
+
+  posix_back : (t : List ℕ) (x : LocaleIdentifier) → read_by Posix t ≡ Ok x → SpellsBy Posix t x
+  posix_back t x is = by (read (pieces (base_text t))) refl is
+    where
+      by : (r : Result LocaleIdentifier ParseError) → read (pieces (base_text t)) ≡ r → and_then r (λ y. Ok (with_modifier (modifier_text t) y)) ≡ Ok x → SpellsBy Posix t x
+      by (Ok y) e is = record { base = y; spells = (derived (pieces (base_text t)) y).1 e; changed = sym (ap (λ o. elim o [ Ok z ↦ z | Err f ↦ x ]) is) }
+      by (Err f) e is = absurd (cc is)
+
+  pub spelled_read : (s : Syntax) (t : List ℕ) (x : LocaleIdentifier) → SpellsBy s t x ↔ (read_by s t ≡ Ok x)
+  spelled_read Unicode t x = derived (pieces t) x
+  spelled_read Bcp47 t x = derived (pieces (tag_text t)) x
+  spelled_read Posix t x = (posix_there t x, posix_back t x)
 
 pub fault_of : (s : Syntax) (t : List ℕ) (e : ParseError) → ReadsBy s t (Err e) → ¬ (e ≡ Memory) → IsFaultBy s t e
-fault_of s t InvalidLanguage reads other = reads.language.0 refl
-fault_of s t InvalidSubtag reads other = (true_from_ne_false (starts_by s t) (λ starts. absurd (cc (reads.language.1 starts))), reads.subtag refl)
-fault_of s t Memory reads other = other refl
+fault_of s t e reads other = elim reads.read [ inl memory ↦ absurd (other (cc memory)) | inr same ↦ sym same ]
 
-first_language : (ps : List (List ℕ)) → may_begin ps ≡ true → is_language (slice_index_or ps 0 []) ≡ true
-first_language [] begins = absurd (false≢true begins)
-first_language (p ∷ []) begins = begins
-first_language (p ∷ q ∷ ps) begins = (and_parts (is_language p) _ begins).0
+-- a name is refused where its base is
+posix_fault : (t : List ℕ) (e : ParseError) → read_by Posix t ≡ Err e → read (pieces (base_text t)) ≡ Err e
+posix_fault t e is = by (read (pieces (base_text t))) is
+  where
+    by : (r : Result LocaleIdentifier ParseError) → and_then r (λ y. Ok (with_modifier (modifier_text t) y)) ≡ Err e → r ≡ Err e
+    by (Ok y) is = absurd (cc is)
+    by (Err f) is = cc is
 
-strict_starts : (t : List ℕ) (x : LocaleIdentifier) → IsLocaleIdentifier x → Spells t x → starts_with_language t ≡ true
-strict_starts t x known s = first_language (pieces t) (strict_begins t x known s)
+pub posix_refused : (t : List ℕ) (e : ParseError) → read (pieces (base_text t)) ≡ Err e → read_by Posix t ≡ Err e
+posix_refused t e is = ap (λ r. and_then r (λ y. Ok (with_modifier (modifier_text t) y))) is
 
-spelled_starts : (s : Syntax) (t : List ℕ) (x : LocaleIdentifier) → IsLocaleIdentifier x → SpellsBy s t x → starts_by s t ≡ true
-spelled_starts Unicode t x known s = strict_starts t x known s
-spelled_starts Bcp47 t x known s = strict_starts (tag_text t) x known s
-spelled_starts Posix t x known s = strict_starts (base_text t) s.base s.known s.spells
+pub language_fault : (s : Syntax) (t : List ℕ) → IsFaultBy s t InvalidLanguage ↔ (starts_by s t ≡ false)
+language_fault Unicode t = (language_told (pieces t), language_refused (pieces t))
+language_fault Bcp47 t = (language_told (pieces (tag_text t)), language_refused (pieces (tag_text t)))
+language_fault Posix t = (
+  (λ is. language_told (pieces (base_text t)) (posix_fault t InvalidLanguage is)),
+  (λ none. posix_refused t InvalidLanguage (language_refused (pieces (base_text t)) none))
+)
 
-pub fault_spells_none : (s : Syntax) (t : List ℕ) (e : ParseError) (x : LocaleIdentifier) → IsFaultBy s t e → IsLocaleIdentifier x → ¬ (SpellsBy s t x)
-fault_spells_none s t InvalidLanguage x fault known spells = false≢true (sym fault ∙ spelled_starts s t x known spells)
-fault_spells_none s t InvalidSubtag x fault known spells = fault.1 x known spells
-fault_spells_none s t Memory x fault known spells = fault
+pub memory_fault : (s : Syntax) (t : List ℕ) → ¬ (IsFaultBy s t Memory)
+memory_fault Unicode t is = memory_never (pieces t) is
+memory_fault Bcp47 t is = memory_never (pieces (tag_text t)) is
+memory_fault Posix t is = memory_never (pieces (base_text t)) (posix_fault t Memory is)

@@ -1,49 +1,35 @@
 -- Private use alone, after `und`.
-use Rattle.std.specs.Prelude.{◌≡◌, ◌⊎◌, ℕ, true, List, [], ◌∷◌, ◌++◌, codes, Result, Err, if◌then◌else◌}
-use Rattle.std.proofs.Common.{refl, ap, sym, ◌∙◌, subst}
-use Rattle.std.specs.List.{list_any}
+use Rattle.std.specs.Prelude.{◌≡◌, ◌⊎◌, ℕ, Bool, true, false, List, [], ◌∷◌, ◌++◌, codes, None, Option, Result, Ok, Err, if◌then◌else◌}
+use Rattle.std.proofs.Common.{refl, ap, sym, ◌∙◌, arith}
 use Rattle.std.proofs.lemmas.Bool.{false≢true}
+use Rattle.std.proofs.lemmas.Bool.Decides.{nat_tests}
+use Rattle.std.proofs.lemmas.List.Splits.{slice_split_at}
 use Rattle.icu_locale_core.specs.Identifier.{is_separator, pieces}
-use Rattle.icu_locale_core.specs.Readings.{read_pieces}
-use Rattle.icu_locale_core.specs.Subtag.{is_variant, und}
+use Rattle.icu_locale_core.specs.Readings.{read_front, after_front}
+use Rattle.icu_locale_core.specs.Subtag.{is_script, is_region, is_variant, lowercase, und}
+use Rattle.icu_locale_core.specs.TextSet.{from_list}
 use Rattle.icu_locale_core.specs.declared.langid.LanguageIdentifier.{LanguageIdentifier}
-use Rattle.icu_locale_core.specs.declared.parse_error.ParseError.{ParseError}
-use Rattle.icu_locale_core.specs.declared.parse_error.ParseError.TheVariants.{Memory}
-use Rattle.icu_locale_extensions.specs.Cuts.{front, from}
-use Rattle.icu_locale_extensions.specs.Extensions.{is_singleton}
-use Rattle.icu_locale_extensions.specs.Reads.{identifier_pieces}
+use Rattle.icu_locale_extensions.specs.Extensions.{is_x}
 use Rattle.icu_locale_extensions.specs.Syntaxes.{is_private}
-use Rattle.icu_locale_extensions.specs.inner.Marks.{begins_at_mark}
-use Rattle.icu_locale_extensions.proofs.Cutting.{split-joined}
-use Rattle.icu_locale_extensions.proofs.WholeTexts.{ReadsIdentifierOf, x_is_singleton}
+use Rattle.icu_locale_extensions.proofs.WrittenPieces.{whole_plain}
 
--- private use begins at a singleton
-pub private_begins : (ps : List (List ℕ)) → is_private ps ≡ true → begins_at_mark is_singleton ps ≡ true
-private_begins [] is = absurd (false≢true is)
-private_begins (p ∷ ps) is = x_is_singleton p is
+-- `x` is no script, no region and no variant
+record IsNone (p : List ℕ) : Type 0 where
+  script : is_script p ≡ false
+  region : is_region p ≡ false
+  variant : is_variant p ≡ false
 
-at_once : (ps : List (List ℕ)) → begins_at_mark is_singleton ps ≡ true → (front is_singleton ps ≡ []) × (from is_singleton ps ≡ ps)
-at_once [] is = (refl, refl)
-at_once (p ∷ ps) is =
-    (ap (λ h. if h then [] else p ∷ front is_singleton ps) is, ap (λ h. if h then p ∷ ps else from is_singleton ps) is)
+x_none : (p : List ℕ) → is_x p ≡ true → IsNone p
+x_none [] is = absurd (false≢true is)
+x_none (c ∷ []) is = record { script = refl; region = refl; variant = refl }
+x_none (c ∷ d ∷ p) is = absurd (false≢true (grind (arith, nat_tests)))
 
-module _ (t : List ℕ) (is : is_private (pieces t) ≡ true) where
-  abbrev pub whole : List ℕ
-  whole = codes "und-" ++ t
+-- behind `und`
+pub und_front : (ps : List (List ℕ)) → is_private ps ≡ true → (read_front (und ∷ ps) ≡ read_front (und ∷ [])) × (after_front (und ∷ ps) ≡ ps)
+und_front [] is = absurd (false≢true is)
+und_front (p ∷ ps) is =
+    let none = x_none p is in
+    (rw (none.script, none.region, none.variant) refl, rw (none.script, none.region, none.variant) refl)
 
-  pieces-whole : pieces whole ≡ und ∷ pieces t
-  pieces-whole = split-joined is_separator und 45 t refl
-
-  pub private_left : pieces t ≡ from is_singleton (pieces whole)
-  private_left = sym (ap (from is_singleton) pieces-whole ∙ (at_once (pieces t) (private_begins (pieces t) is)).1)
-
-  front-whole : identifier_pieces whole ≡ und ∷ []
-  front-whole = ap (front is_singleton) pieces-whole ∙ ap (λ ps. und ∷ ps) (at_once (pieces t) (private_begins (pieces t) is)).0
-
-  pub und_read : (r : Result LanguageIdentifier ParseError) → (r ≡ Err Memory) ⊎ (r ≡ read_pieces (und ∷ []))
-      → (r ≡ Err Memory → list_any is_variant (und ∷ []) ≡ true) → ReadsIdentifierOf whole r
-  und_read r read memory = record {
-    read = subst (λ ps. (r ≡ Err Memory) ⊎ (r ≡ read_pieces ps)) (sym front-whole) read;
-    language = λ e. absurd (false≢true (memory e));
-    memory = λ e. absurd (false≢true (memory e));
-  }
+pub pieces-und : (t : List ℕ) → pieces (codes "und-" ++ t) ≡ und ∷ pieces t
+pieces-und t = slice_split_at is_separator und 45 t (whole_plain und refl) refl

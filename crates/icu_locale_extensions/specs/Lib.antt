@@ -1,10 +1,11 @@
 pub mod Attributes
-pub mod Blocks
+pub mod Built
 pub mod Cuts
 pub mod ExtendedLanguages
 pub mod Extensions
+pub mod Grammar
 pub mod Locales
-pub mod Reads
+pub mod Reader
 pub mod Rows
 pub mod Syntaxes
 pub mod inner

@@ -1,14 +1,9 @@
--- Fields and other extensions as finite maps from a mark to its pieces, where the first row with a mark counts.
-use Rattle.std.specs.Prelude.{◌≡◌, ℕ, not, List, ◌∷◌, ◌++◌, filter, codes}
+-- How fields and other extensions are written: finite maps from a mark to its pieces.
+use Rattle.std.specs.Prelude.{ℕ, not, List, ◌∷◌, ◌++◌, filter, codes}
 use Rattle.std.specs.List.{flat_map}
 use Rattle.std.specs.Ordering.{is_lt}
-use Rattle.icu_locale_core.specs.Maps.{value_at}
 use Rattle.icu_locale_core.specs.TextSet.{text_cmp}
 use Rattle.icu_locale_extensions.specs.Cuts.{Block}
-
--- at each mark, the rows have the pieces of the first row of all with that mark
-abbrev pub HaveFirstOf : (rows all : List Block) → Type 0
-HaveFirstOf rows all = (mark : List ℕ) → value_at text_cmp rows mark ≡ value_at text_cmp all mark
 
 -- each mark, followed by its pieces
 abbrev pub flat : List Block → List (List ℕ)

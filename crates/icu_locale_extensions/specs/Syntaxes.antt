@@ -1,21 +1,24 @@
 -- Texts of the world that name a locale: tags of BCP 47 (RFC 5646) and names of POSIX locales, by what each stands for
 -- in the strict grammar.
-use Rattle.std.specs.Prelude.{◌≡◌, ◌↔◌, ℕ, Bool, true, false, ◌&&◌, ◌||◌, ◌==◌, IsTrue, List, [], ◌∷◌, ◌++◌, map, codes, Option, Some, None}
-use Rattle.std.specs.Prelude.{unwrap_or, Result, Err, IfOk, if◌then◌else◌}
+use Rattle.std.specs.Prelude.{◌≡◌, ◌↔◌, ◌⊎◌, ℕ, Bool, true, false, not, ◌&&◌, ◌||◌, ◌==◌, IsTrue, List, [], ◌∷◌, ◌++◌, map, codes, Option, Some, None}
+use Rattle.std.specs.Prelude.{unwrap_or, Result, Ok, Err, IfOk, if◌then◌else◌}
 use Rattle.std.specs.List.{before_first, after_first, list_any}
 use Rattle.std.specs.Option.{option_or}
 use Rattle.std.specs.Cmp.Lexicographic.{pointwise}
 use Rattle.icu_locale_core.specs.Identifier.{is_separator, pieces, starts_with_language}
-use Rattle.icu_locale_core.specs.Subtag.{has_length, is_alphabetic, is_language, lowercase}
+use Rattle.icu_locale_core.specs.Subtag.{has_length, is_alphabetic, is_language, is_variant, lowercase}
 use Rattle.icu_locale_core.specs.TextSet.{from_list, union}
 use Rattle.icu_locale_core.specs.laws.Identifiers.{same_text}
 use Rattle.icu_locale_core.specs.declared.langid.LanguageIdentifier.{LanguageIdentifier}
 use Rattle.icu_locale_core.specs.declared.parse_error.ParseError.{ParseError}
-use Rattle.icu_locale_core.specs.declared.parse_error.ParseError.TheVariants.{InvalidLanguage, InvalidSubtag, Memory}
+use Rattle.icu_locale_core.specs.declared.parse_error.ParseError.TheVariants.{InvalidLanguage, Memory}
+use Rattle.icu_locale_extensions.specs.Built.{with_id}
+use Rattle.icu_locale_extensions.specs.Cuts.{from}
 use Rattle.icu_locale_extensions.specs.ExtendedLanguages.{extended_languages}
-use Rattle.icu_locale_extensions.specs.Extensions.{is_x}
+use Rattle.icu_locale_extensions.specs.Extensions.{is_singleton, is_t, is_tkey, is_x}
+use Rattle.icu_locale_extensions.specs.Grammar.{Spells}
 use Rattle.icu_locale_extensions.specs.Locales.{IsLocaleIdentifier}
-use Rattle.icu_locale_extensions.specs.Reads.{takes_memory, IsOkUnlessMemory, Spells}
+use Rattle.icu_locale_extensions.specs.Reader.{and_then, read}
 use Rattle.icu_locale_extensions.specs.declared.identifier.LocaleIdentifier.{LocaleIdentifier}
 use Rattle.icu_locale_extensions.specs.declared.syntax.Syntax.{Syntax}
 use Rattle.icu_locale_extensions.specs.declared.syntax.Syntax.TheVariants.{Unicode, Bcp47, Posix}
@@ -134,14 +137,15 @@ modified m x = record x {
       else x.variants;
 }
 
+-- a locale identifier with what a modifier names
+abbrev pub with_modifier : List ℕ → LocaleIdentifier → LocaleIdentifier
+with_modifier m x = with_id x (modified m x.locale.id)
+
 -- t spells x: its base spells a locale identifier, and x is that with the modifier in it
 pub record SpellsPosix (t : List ℕ) (x : LocaleIdentifier) : Type 0 where
   pub base : LocaleIdentifier
-  pub known : IsLocaleIdentifier base
   pub spells : Spells (base_text t) base
-  pub changed : x ≡ record base {
-    locale = record base.locale { id = modified (modifier_text t) base.locale.id };
-  }
+  pub changed : x ≡ with_modifier (modifier_text t) base
 
 -- ---- each syntax
 
@@ -151,34 +155,48 @@ SpellsBy Unicode t x = Spells t x
 SpellsBy Bcp47 t x = Spells (tag_text t) x
 SpellsBy Posix t x = SpellsPosix t x
 
+-- what a text is read as, memory aside: what it spells, or why it spells nothing
+abbrev pub read_by : Syntax → List ℕ → Result LocaleIdentifier ParseError
+read_by Unicode t = read (pieces t)
+read_by Bcp47 t = read (pieces (tag_text t))
+read_by Posix t = and_then (read (pieces (base_text t))) (λ x. Ok (with_modifier (modifier_text t) x))
+
+-- t is at fault for this reason; memory is none
+abbrev pub IsFaultBy : Syntax → List ℕ → ParseError → Type 0
+IsFaultBy s t e = read_by s t ≡ Err e
+
 -- the first piece of what t stands for is a language
 abbrev pub starts_by : Syntax → List ℕ → Bool
 starts_by Unicode t = starts_with_language t
 starts_by Bcp47 t = starts_with_language (tag_text t)
 starts_by Posix t = starts_with_language (base_text t)
 
--- something of what t stands for is kept in memory
+-- ---- reading
+
+-- a piece with which something is kept in memory: a variant, or the singleton of an extension but t
+abbrev pub is_kept : List ℕ → Bool
+is_kept p = is_variant p || (is_singleton p && not (is_t p))
+
+-- something of a text is kept in memory: a variant, an extension but t, private use, or a field of t
+abbrev pub takes_memory : List ℕ → Bool
+takes_memory t =
+    list_any is_kept (pieces t) || list_any is_tkey (from is_singleton (pieces t))
+
+-- something of what t stands for is
 abbrev pub takes_memory_by : Syntax → List ℕ → Bool
 takes_memory_by Unicode t = takes_memory t
 takes_memory_by Bcp47 t = takes_memory (tag_text t)
 takes_memory_by Posix t = takes_memory (base_text t) || names_valencia (modifier_text t)
 
--- reading t gives what it spells; a text that spells nothing is refused for its first piece where
--- that is no language, else for another; memory is asked for what is kept in it alone
+-- t is read as what it spells, or refused for its fault, or for memory, which is asked for what is kept in it alone, and
+-- never where its first piece is no language
 pub record ReadsBy (s : Syntax) (t : List ℕ) (result : Result LocaleIdentifier ParseError)
     : Type 0 where
+  pub read : (result ≡ Err Memory) ⊎ (result ≡ read_by s t)
   pub found : IfOk result (λ x. IsLocaleIdentifier x × SpellsBy s t x)
-  pub only : (x : LocaleIdentifier) → IsLocaleIdentifier x → SpellsBy s t x
-      → IsOkUnlessMemory result x
   pub language : (result ≡ Err InvalidLanguage) ↔ (starts_by s t ≡ false)
-  pub subtag : result ≡ Err InvalidSubtag
-      → (x : LocaleIdentifier) → IsLocaleIdentifier x → ¬ (SpellsBy s t x)
   pub memory : result ≡ Err Memory → IsTrue (takes_memory_by s t)
 
--- t is at fault for this reason; memory is none
-abbrev pub IsFaultBy : Syntax → List ℕ → ParseError → Type 0
-IsFaultBy s t InvalidLanguage = starts_by s t ≡ false
-IsFaultBy s t InvalidSubtag =
-    (starts_by s t ≡ true)
-    × ((x : LocaleIdentifier) → IsLocaleIdentifier x → ¬ (SpellsBy s t x))
-IsFaultBy s t Memory = ⊥
+-- x was read, or memory was refused
+abbrev pub IsOkUnlessMemory : Result LocaleIdentifier ParseError → LocaleIdentifier → Type 0
+IsOkUnlessMemory r x = (r ≡ Ok x) ⊎ (r ≡ Err Memory)

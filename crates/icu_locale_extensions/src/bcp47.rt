@@ -3,7 +3,6 @@ ghost use Rattle.std.specs.Prelude.{◌≡◌, ◌∷◌, ◌++◌, ◌&&◌, co
 ghost use Rattle.icu_locale_core.specs.Identifier.{pieces};
 ghost use Rattle.icu_locale_core.specs.Subtag.{has_length, is_alphabetic, is_language, lowercase};
 ghost use Rattle.icu_locale_core.specs.laws.Identifiers.{same_text};
-ghost use Rattle.icu_locale_extensions.specs.Reads.{ReadsLocale};
 ghost use Rattle.icu_locale_extensions.specs.Syntaxes.{has_row, is_extended, is_private, is_registered, tag_text, ReadsBy};
 ghost use Rattle.icu_locale_extensions.specs.inner.Lent.{pieces_of};
 ghost use Rattle.icu_locale_extensions.specs.inner.Tables.{rows_of};
@@ -13,9 +12,9 @@ use crate::extended_languages::EXTENDED_LANGUAGES;
 use crate::identifier::LocaleIdentifier;
 use crate::laws;
 use crate::legacy::preferred;
-use crate::reader::{read_behind, read_identifier, read_locale};
+use crate::reader::{read_behind, read_locale};
 use crate::syntax::Syntax;
-use icu_locale_core::{ParseError, Pieces};
+use icu_locale_core::{LanguageIdentifier, ParseError, Pieces};
 use std::alloc::Global;
 
 impl LocaleIdentifier {
@@ -39,7 +38,7 @@ impl LocaleIdentifier {
 }
 
 fn read_tag(alloc: Global, text: &[u8]) -> Result<LocaleIdentifier, ParseError>
-    ensures { ReadsLocale (tag_text text.now) result }
+    ensures { ReadsBy Syntax.Unicode (tag_text text.now) result }
 {
     let (first, behind) = cut(text);
     if let Some(value) = preferred(first, behind) {
@@ -57,11 +56,10 @@ fn read_tag(alloc: Global, text: &[u8]) -> Result<LocaleIdentifier, ParseError>
 // Private use alone, after `und`.
 fn read_private(alloc: Global, text: &[u8]) -> Result<LocaleIdentifier, ParseError>
     requires { is_private (pieces text.now) ≡ true }
-    ensures { ReadsLocale (codes "und-" ++ text.now) result }
+    ensures { ReadsBy Syntax.Unicode (codes "und-" ++ text.now) result }
 {
-    icu_locale_core::laws::pieces_are_read();
-    laws::spelled_once();
-    let id = read_identifier(alloc, &mut Pieces::new(b"und"))?;
+    laws::derived_is_read();
+    let id = LanguageIdentifier::read_front(alloc, &mut Pieces::new(b"und"))?;
     read_behind(alloc, id, Pieces::new(text))
 }
 

@@ -5,12 +5,12 @@ ghost use Rattle.std.specs.Cmp.Lexicographic.{pointwise, lists_equiv};
 ghost use Rattle.std.specs.Fmt.{WritesOnOk};
 ghost use Rattle.std.specs.List.{All};
 ghost use Rattle.icu_locale_core.specs.Keywords.{row_eq, without_key};
-ghost use Rattle.icu_locale_core.specs.Maps.{IsSortedMap, value_at, SetsOnly};
+ghost use Rattle.icu_locale_core.specs.Maps.{IsSortedMap, add_first, value_at, SetsOnly};
 ghost use Rattle.icu_locale_core.specs.Subtag.{lowercase};
 ghost use Rattle.icu_locale_core.specs.TextSet.{text_cmp};
 ghost use Rattle.icu_locale_core.specs.laws.Maps.{rows_equiv};
 ghost use Rattle.icu_locale_extensions.specs.Extensions.{is_tkey, IsTkey, IsField};
-ghost use Rattle.icu_locale_extensions.specs.Rows.{HaveFirstOf, flat, dashed};
+ghost use Rattle.icu_locale_extensions.specs.Rows.{flat, dashed};
 
 use crate::texts::{Subtags, write_after_dash};
 use icu_locale_core::{ParseError, Rows, SortedRows};
@@ -115,7 +115,7 @@ impl Fields {
     ///
     /// `Memory` where the map could not grow. It is unchanged then, and the pieces are dropped.
     pub fn add(&mut self, key: FieldKey, value: Subtags<3>) -> Result<(), ParseError>
-        ensures added { OnOk result (HaveFirstOf self.new (self.old ++ (key, value) ∷ [])) }
+        ensures added { OnOk result (self.new ≡ add_first text_cmp self.old key value) }
         ensures refused { IfErr result (λ e. e ≡ ParseError.Memory) }
         ensures unchanged { OnErr result (self.new ≡ self.old) }
         ensures present { IsSome (value_at text_cmp self.old key) → IsOk result }

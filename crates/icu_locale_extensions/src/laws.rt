@@ -1,25 +1,44 @@
 //! Facts about locale identifiers. Each function here takes nothing, answers nothing and carries a proved fact.
-ghost use Rattle.std.specs.Prelude.{◌≡◌, ◌↔◌, false, List, ℕ, Result, Err};
+ghost use Rattle.std.specs.Prelude.{◌≡◌, ◌↔◌, false, List, ℕ, Result, Ok, Err};
 ghost use Rattle.std.specs.List.{list_any};
 ghost use Rattle.icu_locale_core.specs.Agreement.{TellsEquality};
 ghost use Rattle.icu_locale_core.specs.Identifier.{pieces, IsIdentifier, ReadsIdentifier};
 ghost use Rattle.icu_locale_core.specs.Identifier as core;
+ghost use Rattle.icu_locale_core.specs.Readings.{read_pieces};
 ghost use Rattle.icu_locale_core.specs.declared.langid.LanguageIdentifier.{LanguageIdentifier};
 ghost use Rattle.icu_locale_core.specs.declared.parse_error.ParseError.{ParseError};
+ghost use Rattle.icu_locale_extensions.specs.Built.{as_locale, bare};
 ghost use Rattle.icu_locale_extensions.specs.Extensions.{is_singleton};
+ghost use Rattle.icu_locale_extensions.specs.Grammar.{IsLocaleId, Spells};
 ghost use Rattle.icu_locale_extensions.specs.Locales.{IsLocaleIdentifier, written};
-ghost use Rattle.icu_locale_extensions.specs.Reads.{as_locale, bare, IsOkUnlessMemory, ReadsLocale, Spells};
-ghost use Rattle.icu_locale_extensions.specs.Syntaxes.{IsFaultBy, ReadsBy, SpellsBy};
+ghost use Rattle.icu_locale_extensions.specs.Reader.{read};
+ghost use Rattle.icu_locale_extensions.specs.Syntaxes.{IsFaultBy, IsOkUnlessMemory, ReadsBy, SpellsBy, read_by, starts_by};
 ghost use Rattle.icu_locale_extensions.specs.declared.identifier.LocaleIdentifier.{LocaleIdentifier};
 
 use crate::{Attributes, Fields, LocaleIdentifier, Others, Syntax};
 use std::cmp::PartialEq;
 
+/// The grammar derives a locale identifier from pieces exactly where they are read as it.
+pub fn derived_is_read()
+    ensures { (ps : List (List ℕ)) (x : LocaleIdentifier) → IsLocaleId ps x ↔ (read ps ≡ Ok x) }
+{
+    icu_locale_core::laws::pieces_are_read();
+}
+
+/// A text spells a locale identifier in a syntax exactly where it is read as it there.
+pub fn spelled_is_read()
+    ensures { (s : Syntax) (t : List ℕ) (x : LocaleIdentifier)
+        → SpellsBy s t x ↔ (read_by s t ≡ Ok x) }
+{
+    derived_is_read();
+}
+
 /// What Display writes of a locale identifier spells that locale identifier.
 pub fn written_spells()
     ensures { (x : LocaleIdentifier) → IsLocaleIdentifier x → Spells (written x) x }
 {
-    icu_locale_core::laws::written_spells();
+    icu_locale_core::laws::pieces_are_read();
+    derived_is_read();
 }
 
 /// Two locale identifiers are equal exactly where their written forms are.
@@ -27,49 +46,55 @@ pub fn written_once()
     ensures { (x y : LocaleIdentifier) → IsLocaleIdentifier x → IsLocaleIdentifier y
         → (written x ≡ written y) ↔ (x ≡ y) }
 {
-    icu_locale_core::laws::written_once();
-    icu_locale_core::laws::spelled_once();
+    written_spells();
+    spelled_once();
 }
 
 /// A text spells at most one locale identifier.
 pub fn spelled_once()
-    ensures { (t : List ℕ) (x y : LocaleIdentifier)
-        → IsLocaleIdentifier x → IsLocaleIdentifier y → Spells t x → Spells t y
-        → x ≡ y }
+    ensures { (t : List ℕ) (x y : LocaleIdentifier) → Spells t x → Spells t y → x ≡ y }
 {
-    icu_locale_core::laws::spelled_once();
+    derived_is_read();
 }
-
-/// What Display writes of a locale identifier is read as that locale identifier, unless memory is refused.
-pub fn written_reads_back()
-    ensures { (x : LocaleIdentifier) (result : Result LocaleIdentifier ParseError)
-        → IsLocaleIdentifier x → ReadsLocale (written x) result → IsOkUnlessMemory result x }
-{
-    written_spells();
-}
-
-/// A text without singletons is read as an identifier alone is, with the same refusals.
-pub fn plain_texts_read_alike()
-    ensures { (t : List ℕ) (result : Result LanguageIdentifier ParseError)
-        → list_any is_singleton (pieces t) ≡ false
-        → ReadsIdentifier t result ↔ ReadsLocale t (as_locale result) }
-{
-    icu_locale_core::laws::spelled_once();
-}
-
-/// What a text spells in the strict grammar it spells in each syntax.
-pub fn strict_texts_read_alike()
-    ensures { (s : Syntax) (t : List ℕ) (x : LocaleIdentifier)
-        → IsLocaleIdentifier x → Spells t x → SpellsBy s t x }
-{}
 
 /// A text spells at most one locale identifier in each syntax.
 pub fn spelled_once_by()
     ensures { (s : Syntax) (t : List ℕ) (x y : LocaleIdentifier)
-        → IsLocaleIdentifier x → IsLocaleIdentifier y → SpellsBy s t x → SpellsBy s t y
-        → x ≡ y }
+        → SpellsBy s t x → SpellsBy s t y → x ≡ y }
 {
-    spelled_once();
+    spelled_is_read();
+}
+
+/// What Display writes of a locale identifier is read as that locale identifier in each syntax, unless memory is refused.
+pub fn written_reads_back()
+    ensures { (s : Syntax) (x : LocaleIdentifier) (result : Result LocaleIdentifier ParseError)
+        → IsLocaleIdentifier x → ReadsBy s (written x) result → IsOkUnlessMemory result x }
+{
+    written_spells();
+    strict_texts_read_alike();
+    spelled_is_read();
+}
+
+/// A text without singletons spells an identifier alone, and is read as one is, with the same refusals.
+pub fn plain_texts_read_alike()
+    ensures spelled { (t : List ℕ) (x : LocaleIdentifier)
+        → list_any is_singleton (pieces t) ≡ false → Spells t x
+        → (IsIdentifier x.locale.id × core.Spells t x.locale.id) × (x ≡ bare x.locale.id) }
+    ensures equal { (t : List ℕ) → list_any is_singleton (pieces t) ≡ false
+        → read (pieces t) ≡ as_locale (read_pieces (pieces t)) }
+    ensures alike { (t : List ℕ) (result : Result LanguageIdentifier ParseError)
+        → list_any is_singleton (pieces t) ≡ false
+        → ReadsIdentifier t result ↔ ReadsBy Syntax.Unicode t (as_locale result) }
+{
+    icu_locale_core::laws::pieces_are_read();
+    derived_is_read();
+}
+
+/// What a text spells in the strict grammar it spells in each syntax.
+pub fn strict_texts_read_alike()
+    ensures { (s : Syntax) (t : List ℕ) (x : LocaleIdentifier) → Spells t x → SpellsBy s t x }
+{
+    derived_is_read();
 }
 
 /// An identifier alone is a locale identifier, and a text of it spells that in each syntax.
@@ -77,15 +102,25 @@ pub fn identifiers_read_alike()
     ensures known { (x : LanguageIdentifier) → IsIdentifier x → IsLocaleIdentifier (bare x) }
     ensures alike { (s : Syntax) (t : List ℕ) (x : LanguageIdentifier)
         → IsIdentifier x → core.Spells t x → SpellsBy s t (bare x) }
-{}
+{
+    icu_locale_core::laws::pieces_are_read();
+    derived_is_read();
+    strict_texts_read_alike();
+}
 
-/// A text that a syntax refuses is at fault for that reason, but for memory, and a text at fault spells nothing in it.
+/// A text that a syntax refuses is at fault for that reason, but for memory, and a text at fault spells nothing in it. It
+/// is at fault for its language exactly where its first piece is none.
 pub fn refusals_are_faults()
     ensures told { (s : Syntax) (t : List ℕ) (e : ParseError)
         → ReadsBy s t (Err e) → ¬ (e ≡ ParseError.Memory) → IsFaultBy s t e }
     ensures nothing { (s : Syntax) (t : List ℕ) (e : ParseError) (x : LocaleIdentifier)
-        → IsFaultBy s t e → IsLocaleIdentifier x → ¬ (SpellsBy s t x) }
-{}
+        → IsFaultBy s t e → ¬ (SpellsBy s t x) }
+    ensures language { (s : Syntax) (t : List ℕ)
+        → IsFaultBy s t ParseError.InvalidLanguage ↔ (starts_by s t ≡ false) }
+    ensures memory { (s : Syntax) (t : List ℕ) → ¬ (IsFaultBy s t ParseError.Memory) }
+{
+    spelled_is_read();
+}
 
 /// `==` of locale identifiers and of their parts passes exactly where they are equal.
 pub fn equality_is_told()

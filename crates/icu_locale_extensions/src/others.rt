@@ -6,12 +6,12 @@ ghost use Rattle.std.specs.Fmt.{WritesOnOk};
 ghost use Rattle.std.specs.List.{All};
 ghost use Rattle.std.specs.Ordering.{is_lt};
 ghost use Rattle.icu_locale_core.specs.Keywords.{row_eq, without_key};
-ghost use Rattle.icu_locale_core.specs.Maps.{IsSortedMap, value_at};
+ghost use Rattle.icu_locale_core.specs.Maps.{IsSortedMap, add_first, value_at};
 ghost use Rattle.icu_locale_core.specs.Subtag.{lowercase};
 ghost use Rattle.icu_locale_core.specs.TextSet.{text_cmp};
 ghost use Rattle.icu_locale_core.specs.laws.Maps.{rows_equiv};
 ghost use Rattle.icu_locale_extensions.specs.Extensions.{is_other_singleton, IsOtherSingleton, IsOther};
-ghost use Rattle.icu_locale_extensions.specs.Rows.{HaveFirstOf, flat, dashed, below_t, above_t};
+ghost use Rattle.icu_locale_extensions.specs.Rows.{flat, dashed, below_t, above_t};
 
 use crate::fields::write_row;
 use crate::texts::Subtags;
@@ -133,8 +133,7 @@ impl Others {
     ///
     /// `Memory` where the map could not grow. It is unchanged then, and the pieces are dropped.
     pub fn add(&mut self, singleton: Singleton, value: Subtags<2>) -> Result<(), ParseError>
-        ensures added { OnOk result
-            (HaveFirstOf self.new (self.old ++ (singleton, value) ∷ [])) }
+        ensures added { OnOk result (self.new ≡ add_first text_cmp self.old singleton value) }
         ensures refused { IfErr result (λ e. e ≡ ParseError.Memory) }
         ensures unchanged { OnErr result (self.new ≡ self.old) }
         ensures present { IsSome (value_at text_cmp self.old singleton) → IsOk result }

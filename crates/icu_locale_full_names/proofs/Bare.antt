@@ -5,7 +5,7 @@ use Rattle.icu_provider.specs.Names.{PatternPart}
 use Rattle.icu_provider.specs.declared.error.DataError.{DataError}
 use Rattle.icu_provider.specs.declared.extension_names.ExtensionNames.{ExtensionNames}
 use Rattle.icu_locale_core.specs.declared.langid.LanguageIdentifier.{LanguageIdentifier}
-use Rattle.icu_locale_extensions.specs.Reads.{bare}
+use Rattle.icu_locale_extensions.specs.Built.{bare}
 use Rattle.icu_locale_extensions.specs.declared.identifier.LocaleIdentifier.{LocaleIdentifier}
 use Rattle.icu_locale_names.specs.Chains.{made_of, and_then}
 use Rattle.icu_locale_names.specs.LanguageChains.{LanguageChain}

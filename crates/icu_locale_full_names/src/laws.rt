@@ -1,7 +1,7 @@
 //! Laws of names of locale identifiers. Each function here takes nothing, answers nothing and carries a proved fact.
 ghost use Rattle.std.specs.Prelude.{◌≡◌, ◌==◌, [], None, Ok, List, length, not};
 ghost use Rattle.icu_locale_core.specs.declared.langid.LanguageIdentifier.{LanguageIdentifier};
-ghost use Rattle.icu_locale_extensions.specs.Reads.{bare};
+ghost use Rattle.icu_locale_extensions.specs.Built.{bare};
 ghost use Rattle.icu_locale_extensions.specs.declared.identifier.LocaleIdentifier.{LocaleIdentifier};
 ghost use Rattle.icu_locale_names.specs.LanguageChains.{LanguageChain};
 ghost use Rattle.icu_locale_names.specs.LanguageNames.{LocaleAnswers, NameParts, name_of, pieces_by_parts};

@@ -1,19 +1,22 @@
 -- A line that holds identifiers alone is answered alike with a syntax and without.
-use Rattle.std.proofs.Common.{◌≡◌, ◌↔◌, ℕ, Bool, List, [], ◌∷◌, ◌++◌, Option, None, Some, refl, ap, sym, subst, ◌∙◌, inl, inr, append-nil}
+use Rattle.std.proofs.Common.{◌≡◌, ◌↔◌, ℕ, Bool, false, List, [], ◌∷◌, ◌++◌, Option, None, Some, refl, ap, sym, subst, ◌∙◌, inl, inr, append-nil}
 use Rattle.std.specs.Prelude.{codes}
-use Rattle.std.specs.List.{join_by, position}
+use Rattle.std.specs.List.{join_by, list_any, position}
 use Rattle.std.specs.List.Sorted.{IsStrictlySortedBy}
-use Rattle.icu_locale_core.specs.Identifier.{IsIdentifier, Spells, subtags}
+use Rattle.icu_locale_core.specs.Identifier.{IsIdentifier, Spells, pieces, subtags}
 use Rattle.icu_locale_core.specs.Identifier as core
 use Rattle.icu_locale_core.specs.TextSet.{rising}
 use Rattle.icu_locale_core.specs.declared.langid.LanguageIdentifier.{LanguageIdentifier}
 use Rattle.icu_locale_core.specs.declared.locale.Locale.{Locale}
+use Rattle.icu_locale_core.specs.declared.parse_error.ParseError.TheVariants as parsing
 use Rattle.icu_locale_extensions.specs.Locales.{IsLocaleIdentifier}
 use Rattle.icu_locale_extensions.specs.Locales as whole
-use Rattle.icu_locale_extensions.specs.Reads.{bare}
-use Rattle.icu_locale_extensions.specs.Syntaxes.{SpellsBy}
+use Rattle.icu_locale_extensions.specs.Built.{bare}
+use Rattle.icu_locale_extensions.specs.Extensions.{is_singleton}
+use Rattle.icu_locale_extensions.specs.Syntaxes.{IsFaultBy, SpellsBy, starts_by}
 use Rattle.icu_locale_extensions.specs.declared.identifier.LocaleIdentifier.{LocaleIdentifier}
 use Rattle.icu_locale_extensions.specs.declared.syntax.Syntax.{Syntax}
+use Rattle.icu_locale_extensions.specs.declared.syntax.Syntax.TheVariants.{Unicode}
 use Rattle.icu_locale.specs.Canonical.{IsCanonical, answer_of, is_applied, put_optional, rg, sd, without_extensions}
 use Rattle.icu_locale.specs.Kinds.{next}
 use Rattle.icu_locale_runs.specs.Run.{EndsAt}
@@ -132,6 +135,10 @@ pub record SyntaxFacts : Type 0 where
   pub spelling : SpellingFacts
   pub known : (x : LanguageIdentifier) → IsIdentifier x → IsLocaleIdentifier (bare x)
   pub alike : (s : Syntax) (t : List ℕ) (x : LanguageIdentifier) → IsIdentifier x → Spells t x → SpellsBy s t (bare x)
+  pub plain : (t : List ℕ) (x : LocaleIdentifier) → list_any is_singleton (pieces t) ≡ false → SpellsBy Unicode t x
+      → (IsIdentifier x.locale.id × Spells t x.locale.id) × (x ≡ bare x.locale.id)
+  pub language : (s : Syntax) (t : List ℕ) → IsFaultBy s t parsing.InvalidLanguage ↔ (starts_by s t ≡ false)
+  pub memory : (s : Syntax) (t : List ℕ) → ¬ (IsFaultBy s t parsing.Memory)
   pub one : HasOneForm
   pub kept : (answers : LocaleAnswers) (chain : LanguageChain) (display : LanguageDisplay) (names : ExtensionNames) (x : LanguageIdentifier)
       → full_name_of answers chain display names (bare x) ≡ name_of answers chain display x

@@ -9,7 +9,7 @@ use Rattle.icu_locale_core.specs.Identifier.{ReadsIdentifier, starts_with_langua
 use Rattle.icu_locale_core.specs.declared.langid.LanguageIdentifier.{LanguageIdentifier}
 use Rattle.icu_locale_core.specs.declared.parse_error.ParseError.{ParseError}
 use Rattle.icu_locale_core.specs.declared.parse_error.ParseError.TheVariants.{InvalidLanguage, InvalidSubtag, Memory}
-use Rattle.icu_locale_extensions.specs.Syntaxes.{ReadsBy, IsFaultBy, starts_by}
+use Rattle.icu_locale_extensions.specs.Syntaxes.{ReadsBy, IsFaultBy}
 use Rattle.icu_locale_extensions.specs.declared.identifier.LocaleIdentifier.{LocaleIdentifier}
 use Rattle.icu_locale_extensions.specs.declared.syntax.Syntax.{Syntax}
 use Rattle.icu_locale_lines.specs.Lists.{is_space, listed, ids_of, IsAvailable, SpellsAll, SpellsIn, SpellsWhole, SpellsWholes, IsFault, IsFaultIn, IsFirstFault}
@@ -46,10 +46,6 @@ is_invalid_subtag : Result LanguageIdentifier ParseError → Type 0
 is_invalid_subtag (Err InvalidSubtag) = Unit {0}
 is_invalid_subtag r = ⊥
 
-is_invalid_whole : Result LocaleIdentifier ParseError → Type 0
-is_invalid_whole (Err InvalidSubtag) = Unit {0}
-is_invalid_whole r = ⊥
-
 -- why reading refuses a text
 pub refusal_from_reading : (t : List ℕ) (e : ParseError) → ReadsIdentifier t (Err e) → (e ≡ Memory) ⊎ IsFault t e
 unfolding is_invalid_subtag
@@ -63,14 +59,7 @@ refusal_from_reading t Memory reads = inl refl
 
 -- the same of a locale identifier
 pub fault_from_reading : (syntax : Syntax) (t : List ℕ) (e : ParseError) → ReadsBy syntax t (Err e) → (e ≡ Memory) ⊎ IsFaultBy syntax t e
-unfolding is_invalid_whole
-fault_from_reading syntax t InvalidLanguage reads = inr (reads.language.0 refl)
-fault_from_reading syntax t InvalidSubtag reads = inr (by (starts_by syntax t) refl, reads.subtag refl)
-  where
-    by : (b : Bool) → starts_by syntax t ≡ b → starts_by syntax t ≡ true
-    by true is = is
-    by false is = absurd (subst is_invalid_whole (reads.language.1 is) tt)
-fault_from_reading syntax t Memory reads = inl refl
+fault_from_reading syntax t e reads = elim reads.read [ inl memory ↦ inl (cc memory) | inr same ↦ inr (sym same) ]
 
 -- the texts before the one in hand were read, and that one is refused
 pub refused_here : (syntax : Option Syntax) (texts : List (List ℕ)) (n : ℕ) (identifiers : List LanguageIdentifier)

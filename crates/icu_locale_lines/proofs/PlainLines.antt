@@ -1,18 +1,16 @@
 -- A line without a piece of one character is answered alike in the syntax of UTS #35 and without one.
-use Rattle.std.proofs.Common.{◌≡◌, ◌↔◌, ◌⊎◌, ℕ, Bool, true, false, ◌||◌, List, [], ◌∷◌, ◌++◌, Option, None, Some, map, refl, ap, sym, subst, ◌∙◌, inl, inr}
+use Rattle.std.proofs.Common.{◌≡◌, ◌↔◌, ◌⊎◌, ℕ, Bool, true, false, ◌||◌, List, [], ◌∷◌, ◌++◌, Option, None, Some, Result, Ok, Err, map, refl, ap, sym, subst, ◌∙◌, inl, inr}
 use Rattle.std.specs.Prelude.{if◌then◌else◌}
 use Rattle.std.specs.List.{list_any, position}
 use Rattle.std.proofs.lemmas.Bool.{false≢true}
-use Rattle.icu_locale_core.specs.Identifier.{pieces}
+use Rattle.icu_locale_core.specs.Identifier.{IsIdentifier, pieces, starts_with_language}
 use Rattle.icu_locale_core.specs.Identifier as core
-use Rattle.icu_locale_core.specs.Subtag.{lowercase}
 use Rattle.icu_locale_core.specs.declared.langid.LanguageIdentifier.{LanguageIdentifier}
 use Rattle.icu_locale_core.specs.declared.parse_error.ParseError.{ParseError}
 use Rattle.icu_locale_core.specs.declared.parse_error.ParseError.TheVariants.{InvalidLanguage, InvalidSubtag, Memory}
-use Rattle.icu_locale_extensions.specs.Cuts.{front}
 use Rattle.icu_locale_extensions.specs.Extensions.{is_singleton}
-use Rattle.icu_locale_extensions.specs.Reads.{bare}
-use Rattle.icu_locale_extensions.specs.Syntaxes.{IsFaultBy}
+use Rattle.icu_locale_extensions.specs.Built.{bare}
+use Rattle.icu_locale_extensions.specs.Syntaxes.{IsFaultBy, read_by}
 use Rattle.icu_locale_extensions.specs.declared.identifier.LocaleIdentifier.{LocaleIdentifier}
 use Rattle.icu_locale_extensions.specs.declared.syntax.Syntax.{Syntax}
 use Rattle.icu_locale_extensions.specs.declared.syntax.Syntax.TheVariants.{Unicode}
@@ -39,35 +37,34 @@ neither : (a b : Bool) → (a || b) ≡ false → (a ≡ false) × (b ≡ false)
 neither true b e = absurd (false≢true (sym e))
 neither false b e = (refl, e)
 
--- where no piece is marked, all are in front
-front_all : (is_mark : List ℕ → Bool) (ps : List (List ℕ)) → list_any is_mark ps ≡ false → front is_mark ps ≡ ps
-front_all is_mark [] none = refl
-front_all is_mark (p ∷ ps) none =
-    let both = neither (is_mark p) (list_any is_mark ps) none in
-    ap (λ (b : Bool). if b then [] else p ∷ front is_mark ps) both.0 ∙ ap (λ qs. p ∷ qs) (front_all is_mark ps both.1)
-
 -- ---- a text without a piece of one character
 
-module _ (t : List ℕ) (plain : has_singleton t ≡ false) where
+module _ (facts : SyntaxFacts) (t : List ℕ) (plain : has_singleton t ≡ false) where
   -- spells the identifier alone
   from_whole : (w : LocaleIdentifier) → SpellsWhole Unicode t w → SpellsIn None t w.locale.id
-  from_whole w (known, s) = (
-    known.id,
-    record {
-      order = s.id.spells.order;
-      lists = s.id.spells.lists;
-      same = ap (map lowercase) (sym (front_all is_singleton (pieces t) plain) ∙ sym s.id.cut) ∙ s.id.spells.same;
-    },
-  )
+  from_whole w whole = (facts.plain t w plain whole.1).0
+
+  begins : (e : ParseError) → IsFaultBy Unicode t e → ¬ (e ≡ InvalidLanguage) → (b : Bool) → starts_with_language t ≡ b → b ≡ true
+  begins e why other true is = refl
+  begins e why other false is = absurd (other (cc (sym why ∙ (facts.language Unicode t).1 is)))
+
+  refused : (r : Result LocaleIdentifier ParseError) → read_by Unicode t ≡ r → starts_with_language t ≡ true
+      → ((x : LanguageIdentifier) → IsIdentifier x → ¬ (core.Spells t x)) → r ≡ Err InvalidSubtag
+  refused (Ok w) is begun none =
+      let spelled = (facts.plain t w plain ((facts.spelling.read Unicode t w).1 is)).0 in absurd (none w.locale.id spelled.0 spelled.1)
+  refused (Err InvalidSubtag) is begun none = refl
+  refused (Err InvalidLanguage) is begun none = absurd (false≢true (sym ((facts.language Unicode t).0 is) ∙ begun))
+  refused (Err Memory) is begun none = absurd (facts.memory Unicode t is)
 
   -- and is refused alike
-  fault_alike : SyntaxFacts → (e : ParseError) → IsFaultBy Unicode t e ↔ IsFault t e
-  fault_alike facts InvalidLanguage = (λ why. why, λ why. why)
-  fault_alike facts InvalidSubtag = (
-    λ why. (why.0, λ x is s. why.1 (bare x) (facts.known x is) (facts.alike Unicode t x is s)),
-    λ why. (why.0, λ w known s. let spells = from_whole w (known, s) in why.1 w.locale.id spells.0 spells.1),
+  fault_alike : (e : ParseError) → IsFaultBy Unicode t e ↔ IsFault t e
+  fault_alike InvalidLanguage = facts.language Unicode t
+  fault_alike InvalidSubtag = (
+    λ why. (begins InvalidSubtag why (λ same. cc same) (starts_with_language t) refl,
+    λ x is s. cc (sym why ∙ (facts.spelling.read Unicode t (bare x)).0 (facts.alike Unicode t x is s))),
+    λ why. refused (read_by Unicode t) refl why.0 why.1,
   )
-  fault_alike facts Memory = (λ why. why, λ why. why)
+  fault_alike Memory = (facts.memory Unicode t, λ why. absurd why)
 
 -- ---- the answers
 
@@ -78,7 +75,7 @@ module _ (facts : SyntaxFacts) (line text : List ℕ) (a : Bool) where
         → ((x : LanguageIdentifier) → SpellsIn None line x → IsWhole (bare x) text a ↔ IsLine x text a)
         → IsSpelledAnswer Unicode IsWhole line text a ↔ IsIdentifierAnswer IsLine line text a
     each_plain IsWhole IsLine both = answered_alike (whole_once facts.spelling Unicode) (alone_once facts.spelling) IsWhole IsLine line text a
-        (λ w reads. by w.locale.id (from_whole line plain w reads)) by (fault_alike line plain facts)
+        (λ w reads. by w.locale.id (from_whole facts line plain w reads)) by (fault_alike facts line plain)
       where
         by : (x : LanguageIdentifier) → SpellsIn None line x → IsSpelledAnswer Unicode IsWhole line text a ↔ IsIdentifierAnswer IsLine line text a
         by x spells = each_alike facts Unicode line text a x spells IsWhole IsLine (both x spells)
@@ -96,9 +93,9 @@ module _ (facts : SyntaxFacts) (line text : List ℕ) (a : Bool) where
           → IsSpelledAnswer Unicode (IsWholeCanonicalized by) line text a ↔ IsLocaleAnswer by.likely by.rules line text a
       canonical_plain by = answered_alike (whole_once facts.spelling Unicode) (locale_once facts.spelling)
           (IsWholeCanonicalized by) (IsCanonicalized by.likely by.rules) line text a
-          (λ w reads. alike w.locale.id (from_whole line plain w reads))
+          (λ w reads. alike w.locale.id (from_whole facts line plain w reads))
           (λ old reads. alike old.id (reads.known, subst (λ t. core.Spells t old.id) (before_first-no_position is_tab line none) reads.id))
-          (λ e. let both = fault_alike line plain facts e in (λ why. locale_fault line none e (both.0 why), λ why. both.1 (fault_of_locale e why)))
+          (λ e. let both = fault_alike facts line plain e in (λ why. locale_fault line none e (both.0 why), λ why. both.1 (fault_of_locale e why)))
         where
           alike : (x : LanguageIdentifier) → SpellsIn None line x
               → IsSpelledAnswer Unicode (IsWholeCanonicalized by) line text a ↔ IsLocaleAnswer by.likely by.rules line text a
@@ -113,7 +110,7 @@ module _ (facts : SyntaxFacts) (line text : List ℕ) (a : Bool) where
   spells_alone (t ∷ ts) [] plain each = absurd each
   spells_alone (t ∷ ts) (x ∷ xs) plain ((w, known, spells, same), later) =
       let both = neither (has_singleton t) (list_any has_singleton ts) plain in (
-        subst (SpellsIn None t) same (from_whole t both.0 w (known, spells)),
+        subst (SpellsIn None t) same (from_whole facts t both.0 w (known, spells)),
         spells_alone ts xs both.1 later,
       )
 
@@ -139,7 +136,7 @@ module _ (facts : SyntaxFacts) (line text : List ℕ) (a : Bool) where
       parted = f.parted;
       identifiers = f.identifiers;
       spelled = spells_alone f.earlier f.identifiers both.0 f.spelled;
-      refused = (fault_alike f.text both.1 facts e).0 f.refused;
+      refused = (fault_alike facts f.text both.1 e).0 f.refused;
     }
 
     first_whole : (e : ParseError) → IsFirstFault None (listed line) e → IsFirstFault (Some Unicode) (listed line) e
@@ -150,7 +147,7 @@ module _ (facts : SyntaxFacts) (line text : List ℕ) (a : Bool) where
       parted = f.parted;
       identifiers = f.identifiers;
       spelled = in_syntax facts Unicode line text a f.earlier f.identifiers f.spelled;
-      refused = (fault_alike f.text both.1 facts e).1 f.refused;
+      refused = (fault_alike facts f.text both.1 e).1 f.refused;
     }
 
     lists_plain : (IsLine : List LanguageIdentifier → List ℕ → Bool → Type 0)

@@ -1,5 +1,5 @@
 -- A line is read as one thing at most, and a line that is read is not refused.
-use Rattle.std.proofs.Common.{◌≡◌, ◌↔◌, ◌⊎◌, ℕ, Bool, true, false, ◌&&◌, List, [], ◌∷◌, ◌++◌, map, Option, Some, None, refl, ap, sym, subst, ◌∙◌}
+use Rattle.std.proofs.Common.{◌≡◌, ◌↔◌, ◌⊎◌, ℕ, Bool, true, false, ◌&&◌, List, [], ◌∷◌, ◌++◌, map, Option, Some, None, Ok, Err, refl, ap, sym, subst, ◌∙◌}
 use Rattle.std.proofs.Common.{inl, inr, arith}
 use Rattle.std.specs.Prelude.{slice_index_or, nat_le}
 use Rattle.std.specs.List.{AllZip, list_all}
@@ -14,7 +14,7 @@ use Rattle.icu_locale_core.specs.declared.locale.Locale.{Locale}
 use Rattle.icu_locale_core.specs.declared.parse_error.ParseError.{ParseError}
 use Rattle.icu_locale_core.specs.declared.parse_error.ParseError.TheVariants.{InvalidLanguage, InvalidSubtag, Memory}
 use Rattle.icu_locale_extensions.specs.Locales.{IsLocaleIdentifier}
-use Rattle.icu_locale_extensions.specs.Syntaxes.{SpellsBy, IsFaultBy, starts_by}
+use Rattle.icu_locale_extensions.specs.Syntaxes.{SpellsBy, IsFaultBy, read_by}
 use Rattle.icu_locale_extensions.specs.declared.identifier.LocaleIdentifier.{LocaleIdentifier}
 use Rattle.icu_locale_extensions.specs.declared.syntax.Syntax.{Syntax}
 use Rattle.icu_locale_lines.specs.Lists.{listed, SpellsAll, SpellsIn, SpellsWhole, IsFault, IsFaultIn, IsFirstFault}
@@ -161,11 +161,6 @@ reason_alone t InvalidLanguage fault = ap reason fault
 reason_alone t InvalidSubtag fault = ap reason fault.0
 reason_alone t Memory fault = absurd fault
 
-reason_whole : (s : Syntax) (t : List ℕ) (e : ParseError) → IsFaultBy s t e → reason (starts_by s t) ≡ e
-reason_whole s t InvalidLanguage fault = ap reason fault
-reason_whole s t InvalidSubtag fault = ap reason fault.0
-reason_whole s t Memory fault = absurd fault
-
 -- a text that spells an identifier is not refused
 not_refused : (t : List ℕ) (x : LanguageIdentifier) (e : ParseError) → SpellsIn None t x → IsFault t e → ⊥
 not_refused t x InvalidLanguage spells fault = false≢true (sym fault ∙ begins t x spells.0 spells.1)
@@ -175,8 +170,7 @@ not_refused t x Memory spells fault = fault
 -- the facts of spelling that are cited
 pub record SpellingFacts : Type 0 where
   pub alone : (t : List ℕ) (x y : LanguageIdentifier) → IsIdentifier x → IsIdentifier y → Spells t x → Spells t y → x ≡ y
-  pub whole : (s : Syntax) (t : List ℕ) (x y : LocaleIdentifier) → IsLocaleIdentifier x → IsLocaleIdentifier y → SpellsBy s t x → SpellsBy s t y → x ≡ y
-  pub nothing : (s : Syntax) (t : List ℕ) (e : ParseError) (x : LocaleIdentifier) → IsFaultBy s t e → IsLocaleIdentifier x → ¬ (SpellsBy s t x)
+  pub read : (s : Syntax) (t : List ℕ) (x : LocaleIdentifier) → SpellsBy s t x ↔ (read_by s t ≡ Ok x)
 
 module _ (facts : SpellingFacts) where
   pub alone_once : ReadsOnce (SpellsIn None) IsFault
@@ -188,9 +182,9 @@ module _ (facts : SpellingFacts) where
 
   pub whole_once : (s : Syntax) → ReadsOnce (SpellsWhole s) (IsFaultBy s)
   whole_once s = record {
-    one = λ t x y p q. facts.whole s t x y p.0 q.0 p.1 q.1;
-    apart = λ t x e p fault. facts.nothing s t e x fault p.0 p.1;
-    fault = λ t e f p q. sym (reason_whole s t e p) ∙ reason_whole s t f q;
+    one = λ t x y p q. cc (sym ((facts.read s t x).0 p.1) ∙ (facts.read s t y).0 q.1);
+    apart = λ t x e p fault. cc (sym ((facts.read s t x).0 p.1) ∙ fault);
+    fault = λ t e f p q. cc (sym p ∙ q);
   }
 
   -- an identifier, alone or in a syntax

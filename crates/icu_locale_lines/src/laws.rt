@@ -21,7 +21,9 @@ ghost use Rattle.icu_locale_extensions.specs.declared.identifier.LocaleIdentifie
 
 use icu_locale::laws::{canonical_form_is_one, minimal_form_is_one};
 use icu_locale_core::laws::spelled_once;
-use icu_locale_extensions::laws::{identifiers_read_alike, refusals_are_faults, spelled_once_by};
+use icu_locale_extensions::laws::{
+    identifiers_read_alike, plain_texts_read_alike, refusals_are_faults, spelled_is_read,
+};
 use icu_locale_full_names::laws::identifiers_keep_their_names;
 use icu_locale_matching::laws::{the_nearest_to_requests_is_one, what_is_served_is_one};
 use icu_locale_values::laws::{a_refusal_is_one, whole_form_is_one, whole_where_runs_end};
@@ -32,8 +34,7 @@ pub fn a_line_has_one_answer()
         → IsAnswer work line one a → IsAnswer work line two b → (one ≡ two) × (a ≡ b) }
 {
     spelled_once();
-    spelled_once_by();
-    refusals_are_faults();
+    spelled_is_read();
     minimal_form_is_one();
     canonical_form_is_one();
     whole_form_is_one();
@@ -61,8 +62,9 @@ pub fn syntaxes_answer_alike()
         → (ys ≡ xs) × ((place : ℕ) → shown_at ys vs place ≡ shown_at xs ws place) }
 {
     spelled_once();
-    spelled_once_by();
+    spelled_is_read();
     refusals_are_faults();
+    plain_texts_read_alike();
     identifiers_read_alike();
     whole_form_is_one();
     identifiers_keep_their_names();

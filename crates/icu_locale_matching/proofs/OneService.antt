@@ -110,16 +110,16 @@ module _ (likely : LikelySubtags) (rules : Rules) where
       let later = canonical_one xs p.1 q.1 p.3 q.3 in
       p.4 ∙ (λ i. first i ∷ later i) ∙ sym q.4
 
-  module _ (spelled : (s : Syntax) (t : List ℕ) (x y : LocaleIdentifier) → IsLocaleIdentifier x → IsLocaleIdentifier y → SpellsBy s t x → SpellsBy s t y → x ≡ y) where
+  module _ (spelled : (s : Syntax) (t : List ℕ) (x y : LocaleIdentifier) → SpellsBy s t x → SpellsBy s t y → x ≡ y) where
     pub request_one : (range : List ℕ) (y z : LanguageIdentifier) → IsRequest likely rules range y → IsRequest likely rules range z → y ≡ z
     request_one range y z p q =
-        let tags = spelled Bcp47 range p.tag q.tag p.known q.known p.spells q.spells in
+        let tags = spelled Bcp47 range p.tag q.tag p.spells q.spells in
         end_is_unique (next likely rules) q.tag.locale.id y z
         (subst (λ (x : LocaleIdentifier). EndsAt (next likely rules) x.locale.id y) tags p.canonical) q.canonical
 
     pub refusal_one : (range : List ℕ) (y z : LanguageIdentifier) → IsRefusal likely rules range y → IsRefusal likely rules range z → y ≡ z
     refusal_one range y z p q =
-        let tags = spelled Bcp47 range p.tag q.tag p.known q.known p.spells q.spells in
+        let tags = spelled Bcp47 range p.tag q.tag p.spells q.spells in
         let here = subst (λ (x : LocaleIdentifier). IsCanonicalOf likely rules x.locale.id y) tags p.canonical in
         brought_one q.tag.locale.id y z here.0 q.canonical.0 here.1 q.canonical.1
 
@@ -145,7 +145,7 @@ choice_one m requests may any a b p q =
     let found = nearest_is_one (question m requests (may_of may)) p.found q.found p.nearest q.nearest in
     p.is ∙ ap (λ (f : Option Match). option_or (place_of f) (first_allowed any may)) found ∙ sym q.is
 
-module _ (spelled : (s : Syntax) (t : List ℕ) (x y : LocaleIdentifier) → IsLocaleIdentifier x → IsLocaleIdentifier y → SpellsBy s t x → SpellsBy s t y → x ≡ y) (s : Service) where
+module _ (spelled : (s : Syntax) (t : List ℕ) (x y : LocaleIdentifier) → SpellsBy s t x → SpellsBy s t y → x ≡ y) (s : Service) where
   served_for_one : (ws : List Wish) (a b : Option ℕ) → IsServedFor s ws a → IsServedFor s ws b → a ≡ b
   served_for_one ws a b p q =
       let l = likely s.expander in

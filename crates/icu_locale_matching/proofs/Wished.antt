@@ -138,7 +138,7 @@ canonical_at likely rules (z ∷ xs) ys zero x y are at is =
 canonical_at likely rules (z ∷ xs) ys (suc k) x y are at is =
     ap (λ (us : List LanguageIdentifier). slice_get us (suc k)) are.4 ∙ canonical_at likely rules xs are.1 k x y are.3 at is
 
-pub refused_out : ((s : Syntax) (t : List ℕ) (x y : LocaleIdentifier) → IsLocaleIdentifier x → IsLocaleIdentifier y → SpellsBy s t x → SpellsBy s t y → x ≡ y)
+pub refused_out : ((s : Syntax) (t : List ℕ) (x y : LocaleIdentifier) → SpellsBy s t x → SpellsBy s t y → x ≡ y)
     → (s : Service) (header : List ℕ) (place : ℕ) (range y : LanguageIdentifier) → IsRefusedIn s header range → IsCanonicalAt s place y
     → IsServed s header (Some place) → refuses range y ≡ false
 refused_out spelled s header place range y out at is =
@@ -166,11 +166,11 @@ any_wish = (codes "*", 1000) ∷ []
 one_by_weight : (w : Wish) → AreByWeight (w ∷ []) (w ∷ [])
 one_by_weight w = record { falls = λ i j d before within. absurd (omega (arith, before, within)); same = λ n. refl }
 
-module _ (nothing : (x : LocaleIdentifier) → IsLocaleIdentifier x → SpellsBy Bcp47 (codes "*") x → ⊥) (s : Service) where
+module _ (nothing : (x : LocaleIdentifier) → SpellsBy Bcp47 (codes "*") x → ⊥) (s : Service) where
   asks_nothing : (o : Option LanguageIdentifier) (rest ys : List LanguageIdentifier) → IsOnly (IsRequest (likely s.expander) s.rules (codes "*")) o
       → rest ≡ [] → ys ≡ cons_option o rest → ys ≡ []
   asks_nothing None rest ys only none is = is ∙ none
-  asks_nothing (Some z) rest ys only none is = absurd (nothing only.tag only.known only.spells)
+  asks_nothing (Some z) rest ys only none is = absurd (nothing only.tag only.spells)
 
   -- nothing is near to no request
   none_near : (m : Matching) (may : ℕ → Bool) (best : Option Rank) → IsLeastOf (IsOffer (question m [] may)) best → option_map match_of best ≡ None

@@ -7,7 +7,7 @@ ghost use Rattle.icu_locale.specs.Kinds.{next};
 ghost use Rattle.icu_locale.specs.LikelyTable.{likely};
 ghost use Rattle.icu_locale.specs.Refusals.{IsMemory};
 ghost use Rattle.icu_locale.specs.RuleSet.{lent};
-ghost use Rattle.icu_locale_extensions.specs.Reads.{bare};
+ghost use Rattle.icu_locale_extensions.specs.Built.{bare};
 ghost use Rattle.icu_locale_matching.specs.Header.{Wish, shown};
 ghost use Rattle.icu_locale_matching.specs.Requests.{IsRequest, IsRefusal, IsOnly, IsTag, AreRequests, AreRefusals, IsBrought, IsCanonicalOf, AreCanonical};
 ghost use Rattle.icu_locale_matching.specs.inner.Added.{IsAdded, IsIdentifierOf};

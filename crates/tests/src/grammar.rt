@@ -1,5 +1,5 @@
 //! Texts that the grammar of UTS #35 derives, and texts that it does not, where reading takes memory.
-use icu_locale_grammar::is_locale_id;
+use icu_locale_extensions::is_locale_id;
 use std::process::Abort;
 
 #[test]

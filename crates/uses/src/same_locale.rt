@@ -1,7 +1,7 @@
 //! Comparing texts with extensions.
 ghost use Rattle.std.specs.Prelude.{◌≡◌, ◌↔◌, IsTrue, IfOk};
 ghost use Rattle.icu_locale_extensions.specs.Locales.{IsLocaleIdentifier};
-ghost use Rattle.icu_locale_extensions.specs.Reads.{Spells};
+ghost use Rattle.icu_locale_extensions.specs.Grammar.{Spells};
 ghost use Rattle.icu_locale_extensions.specs.declared.identifier.LocaleIdentifier.{LocaleIdentifier};
 
 use icu_locale_core::ParseError;

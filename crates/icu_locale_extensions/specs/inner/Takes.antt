@@ -1,49 +1,46 @@
--- What the reader of a part takes from the left, up to the next singleton, and what it leaves.
-use Rattle.std.specs.Prelude.{◌≡◌, ℕ, Bool, true, map, Option, IfSome, ◌||◌, List, Result, Err, IfOk, OnOk}
-use Rattle.icu_locale_core.specs.Identifier.{IsIdentifier}
+-- What the reader of a part does.
+use Rattle.std.specs.Prelude.{IfOk, ◌≡◌, ◌⊎◌, ℕ, Bool, true, not, ◌&&◌, ◌||◌, ◌++◌, List, [], Option, Result, Ok, Err, if◌then◌else◌}
+use Rattle.std.specs.List.{list_any}
+use Rattle.icu_locale_core.specs.Subtag.{is_variant}
 use Rattle.icu_locale_core.specs.declared.langid.LanguageIdentifier.{LanguageIdentifier}
-use Rattle.icu_locale_core.specs.Keywords.{KeywordRows}
-use Rattle.icu_locale_core.specs.Subtag.{is_key, is_subtag, lowercase}
 use Rattle.icu_locale_core.specs.declared.parse_error.ParseError.{ParseError}
-use Rattle.icu_locale_core.specs.declared.parse_error.ParseError.TheVariants.{InvalidLanguage, InvalidSubtag}
-use Rattle.icu_locale_extensions.specs.Cuts.{Block, front, from}
-use Rattle.icu_locale_extensions.specs.Extensions.{is_singleton, is_unicode, is_transform, any_piece, are_pieces, is_tkey, is_piece}
-use Rattle.icu_locale_extensions.specs.Reads.{SpellUnicode, SpellTransform}
+use Rattle.icu_locale_core.specs.declared.parse_error.ParseError.TheVariants.{InvalidSubtag, Memory}
+use Rattle.icu_locale_extensions.specs.Cuts.{from}
+use Rattle.icu_locale_extensions.specs.Extensions.{is_singleton, is_t, is_tkey}
+use Rattle.icu_locale_extensions.specs.Built.{bare}
+use Rattle.icu_locale_extensions.specs.Locales.{IsLocaleIdentifier}
+use Rattle.icu_locale_extensions.specs.Reader.{Part, begins, read_on, with_part}
+use Rattle.icu_locale_extensions.specs.Reader.Part.{whole}
+use Rattle.icu_locale_extensions.specs.declared.identifier.LocaleIdentifier.{LocaleIdentifier}
 
--- what is before the next singleton spells the part and is taken; where it spells none it is refused
-pub record TakesPart {X : Type 0} (Spelled : List (List ℕ) → X → Type 0) (old new : List (List ℕ))
-    (result : Result X ParseError) : Type 0 where
-  pub found : IfOk result (Spelled (front is_singleton old))
-  pub rest : OnOk result (new ≡ from is_singleton old)
-  pub refused : result ≡ Err InvalidSubtag → (x : X) → ¬ (Spelled (front is_singleton old) x)
-  pub language : ¬ (result ≡ Err InvalidLanguage)
+-- what all pieces give is given by what is left, or refused for this reason, memory aside
+abbrev pub Reads : {A : Type 0} → Result A ParseError
+    → (all left : Result LocaleIdentifier ParseError) → Type 0
+Reads (Ok a) all left = all ≡ left
+Reads (Err e) all left = (e ≡ Memory) ⊎ (all ≡ Err e)
 
--- a piece of the Unicode extension
-abbrev pub is_of_unicode : List ℕ → Bool
-is_of_unicode p = is_key p || is_subtag p
+-- what a piece opens is read, if the pieces after it may begin it
+abbrev pub read_opened : Option Part → LocaleIdentifier → List (List ℕ)
+    → Result LocaleIdentifier ParseError
+read_opened part x ps =
+    with_part part (λ next. if begins next ps then read_on next [] x ps else Err InvalidSubtag)
 
--- pieces that may follow u, and spell its parts
-pub record IsUnicode (ps attributes : List (List ℕ)) (keywords : KeywordRows) : Type 0 where
-  pub fits : is_unicode ps ≡ true
-  pub spells : SpellUnicode ps attributes keywords
+-- some pieces were taken, and these are left
+pub record IsEnd (left all : List (List ℕ)) : Type 0 where
+  pub own : List (List ℕ)
+  pub parts : all ≡ own ++ left
 
--- pieces that may follow t, and spell its parts
-pub record IsTransform (ps : List (List ℕ)) (lang : Option LanguageIdentifier)
-    (fields : List Block) : Type 0 where
-  pub fits : is_transform ps ≡ true
-  pub known : IfSome lang IsIdentifier
-  pub spells : SpellTransform ps lang fields
+-- a piece for which memory is taken: a variant, the key of a field, or a singleton but t
+abbrev pub takes_memory : List ℕ → Bool
+takes_memory p = is_variant p || (is_tkey p || (is_singleton p && not (is_t p)))
 
--- pieces of another extension, and the same in lower case
-pub record ArePiecesOf (ps value : List (List ℕ)) : Type 0 where
-  pub some : any_piece ps ≡ true
-  pub each : are_pieces 2 ps ≡ true
-  pub lower : value ≡ map lowercase ps
+-- there is one
+abbrev pub IsKept : List (List ℕ) → Type 0
+IsKept ps = list_any takes_memory ps ≡ true
 
--- a piece of a field
-abbrev pub is_of_fields : List ℕ → Bool
-is_of_fields p = is_tkey p || is_piece 3 p
-
--- a piece before which the language of t ends
-abbrev pub ends_language : List ℕ → Bool
-ends_language p = is_tkey p || is_singleton p
+-- what follows an identifier is read
+pub record ReadsBehind (ps : List (List ℕ)) (id : LanguageIdentifier)
+    (result : Result LocaleIdentifier ParseError) : Type 0 where
+  pub read : (result ≡ Err Memory) ⊎ (result ≡ read_on whole [] (bare id) ps)
+  pub known : IfOk result IsLocaleIdentifier
+  pub memory : result ≡ Err Memory → IsKept (from is_singleton ps)

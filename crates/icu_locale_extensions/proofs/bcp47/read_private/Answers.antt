@@ -1,25 +1,14 @@
-use Rattle.std.proofs.Common.{subst, sym, ◌∙◌}
-use Rattle.icu_locale_extensions.specs.Reads.{ReadsLocale}
-use Rattle.icu_locale_extensions.proofs.PrivateTags.{private_left, und_read, whole}
-use Rattle.icu_locale_extensions.proofs.ReadParts.{same_err}
-use Rattle.icu_locale_extensions.proofs.WholeTexts.{front_refused, whole_read}
+use Rattle.std.proofs.Common.{ap, sym, ◌∙◌}
+use Rattle.icu_locale_core.specs.Identifier.{pieces}
+use Rattle.icu_locale_core.specs.Readings.{read_front}
+use Rattle.icu_locale_extensions.proofs.PrivateTags.{pieces-und, und_front}
+use Rattle.icu_locale_extensions.proofs.Whole.{behind_reads, front_read}
 use Rattle.icu_locale_extensions.proofs.bcp47.read_private.Goals as goal
-
-pub returns-in_err-id : goal.returns-in_err-id
-returns-in_err-id c =
-    let t = c.args.text.now in
-    let f = c.in_err-id.field-0.0 in
-    let read = rw c.new.ensures at c.read_identifier.ensures.read in
-    let memory = rw c.new.ensures at c.read_identifier.ensures.memory in
-    subst (ReadsLocale (whole t c.requires)) (sym (same_err c.from_residual.result f c.from_residual.ensures.0 c.from_residual.ensures.1))
-    (front_refused (whole t c.requires) c.read_identifier.result (und_read t c.requires c.read_identifier.result read memory)
-    c.pieces_are_read.ensures.complete f c.in_err-id.was)
 
 pub returns : goal.returns
 returns c =
     let t = c.args.text.now in
-    let read = rw c.new.ensures at c.read_identifier.ensures.read in
-    let memory = rw c.new.ensures at c.read_identifier.ensures.memory in
-    whole_read (whole t c.requires) c.read_identifier.result (und_read t c.requires c.read_identifier.result read memory)
-    c.pieces_are_read.ensures.sound c.pieces_are_read.ensures.complete c.spelled_once.ensures c.in_ok-id.id c.in_ok-id.was
-    c.new-2.result (c.new-2.ensures ∙ private_left t c.requires) c.read_behind.result c.read_behind.ensures
+    let front = und_front (pieces t) c.requires in
+    behind_reads c.derived_is_read.ensures _ _ c.new-2.result c.in_ok-id.id c.read_behind.result (sym (pieces-und t))
+    (front.0 ∙ ap read_front (sym c.new.ensures) ∙ front_read c.new.result c.read_front.result c.in_ok-id.id c.read_front.ensures.read c.in_ok-id.was)
+    (c.new-2.ensures ∙ sym front.1) c.read_behind.ensures

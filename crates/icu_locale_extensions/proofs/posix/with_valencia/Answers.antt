@@ -1,7 +1,6 @@
 use Rattle.std.proofs.Common.{ap, ◌∙◌, ◌∷◌, ◌++◌, []}
 use Rattle.icu_locale_core.specs.TextSet.{difference, from_list, union}
-use Rattle.icu_locale_extensions.proofs.Languages.{IfOk-map}
-use Rattle.icu_locale_extensions.proofs.Modifiers.{difference_none}
+use Rattle.icu_locale_extensions.proofs.Modifiers.{IfOk-map, difference_none}
 use Rattle.icu_locale_extensions.proofs.posix.with_valencia.Goals as goal
 
 pub returns-clause-same : goal.returns-clause-same

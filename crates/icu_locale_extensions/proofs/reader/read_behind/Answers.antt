@@ -1,68 +1,41 @@
-use Rattle.std.proofs.Common.{Err, ap, sym, subst, ◌∙◌, ◌≡◌, ◌||◌}
-use Rattle.std.specs.List.{list_any}
-use Rattle.std.proofs.lemmas.Bool.{or_right}
-use Rattle.icu_locale_core.specs.declared.parse_error.ParseError.TheVariants.{InvalidLanguage, InvalidSubtag, Memory}
-use Rattle.icu_locale_extensions.specs.Cuts.{from}
-use Rattle.icu_locale_extensions.specs.Extensions.{any_piece, is_x}
-use Rattle.icu_locale_extensions.specs.Reads.{is_kept, SpellPrivateUse}
-use Rattle.icu_locale_extensions.specs.inner.Marks.{begins_at_mark}
-use Rattle.icu_locale_extensions.specs.inner.Readings.{blocks_of, ReadsBehind}
-use Rattle.icu_locale_extensions.proofs.Cutting.{begins_at_mark-from}
-use Rattle.icu_locale_extensions.proofs.Parts.{parts_spelled, walked, walked_spelled}
-use Rattle.icu_locale_extensions.proofs.ReadParts.{same_err}
+use Rattle.std.proofs.Common.{rules, ◌≡◌, ◌⊎◌, [], ◌∷◌, Err, IfOk, ap, sym, subst, inl, inr, ◌∙◌}
+use Rattle.icu_locale_core.specs.declared.parse_error.ParseError.TheVariants.{Memory}
+use Rattle.icu_locale_extensions.specs.Locales.{IsLocaleIdentifier}
+use Rattle.icu_locale_extensions.specs.Reader.{read_on}
+use Rattle.icu_locale_extensions.specs.Reader.Part.{whole}
+use Rattle.icu_locale_extensions.specs.inner.Takes.{IsEnd}
+use Rattle.icu_locale_extensions.proofs.Taking.{end_both, end_none, handed_memory, kept_behind}
+use Rattle.icu_locale_extensions.proofs.Whole.{same_err}
 use Rattle.icu_locale_extensions.proofs.reader.read_behind.Goals as goal
 
-pub returns-in_err-walked : goal.returns-in_err-walked
-returns-in_err-walked c =
-    let ps = c.args.pieces in
-    let f = c.in_err-walked.field-0.0 in
-    let is = same_err c.from_residual.result f c.from_residual.ensures.0 c.from_residual.ensures.1 in
-    subst (ReadsBehind ps c.args.id) (sym is) (record {
-      found = tt;
-      refused = λ e x known s.
-          let same : f ≡ InvalidSubtag = cc e in
-          c.take_extensions.ensures.refused (c.in_err-walked.was ∙ ap Err same) (walked x) (walked_spelled ps x known s);
-      language = λ e. let same : f ≡ InvalidLanguage = cc e in c.take_extensions.ensures.language (c.in_err-walked.was ∙ ap Err same);
-      memory = λ e. let same : f ≡ Memory = cc e in
-          ap (λ h. h || any_piece (from is_x ps)) (c.take_extensions.ensures.memory (c.in_err-walked.was ∙ ap Err same));
-    })
+pub marks-init : goal.marks-init
+marks-init c = record {
+  read = search rules;
+  rest = end_none _;
+}
 
-pub take_private_use-requires : goal.take_private_use-requires
-take_private_use-requires c = ap (begins_at_mark is_x) c.in_ok-walked.ensures.rest ∙ begins_at_mark-from is_x c.args.pieces
-
-pub returns-in_err-private_use : goal.returns-in_err-private_use
-returns-in_err-private_use c =
-    let ps = c.args.pieces in
-    let f = c.in_err-private_use.field-0.0 in
-    let is = same_err c.from_residual-in_err-private_use.result f c.from_residual-in_err-private_use.ensures.0 c.from_residual-in_err-private_use.ensures.1 in
-    let left = c.in_ok-walked.ensures.rest in
-    subst (ReadsBehind ps c.args.id) (sym is) (record {
-      found = tt;
-      refused = λ e x known s.
-          let same : f ≡ InvalidSubtag = cc e in
-          c.take_private_use.ensures.refused (c.in_err-private_use.was ∙ ap Err same) x.private_use known.private_use
-          (subst (λ qs. SpellPrivateUse qs x.private_use) (sym left) s.parts.private_use);
-      language = λ e. let same : f ≡ InvalidLanguage = cc e in c.take_private_use.ensures.language (c.in_err-private_use.was ∙ ap Err same);
-      memory = λ e. let same : f ≡ Memory = cc e in
-          or_right (list_any is_kept (blocks_of ps)) (any_piece (from is_x ps))
-          (ap any_piece (sym left) ∙ c.take_private_use.ensures.memory (c.in_err-private_use.was ∙ ap Err same));
-    })
-
-pub returns : goal.returns
-returns c =
-    let ps = c.args.pieces in
-    let joined = c.joined-whole.ensures in
-    let private_use = subst (λ qs. SpellPrivateUse qs c.in_ok-private_use.private_use) c.in_ok-walked.ensures.rest c.in_ok-private_use.ensures.found.1 in
+pub marks-preserved : goal.marks-preserved
+marks-preserved c =
+    let one : c.marks.pieces ≡ c.in-Some.mark.now ∷ c.next.new.self = search rules in
     record {
-      found = (
-        c.known.ensures,
-        (
-          joined.id,
-          parts_spelled ps c.in_ok-walked.walked c.joined-whole.result c.in_ok-walked.ensures.found
-              joined.unicode joined.transform joined.others (subst (SpellPrivateUse (from is_x ps)) (sym joined.private_use) private_use),
-        ),
-      );
-      refused = λ e. absurd (cc e);
-      language = λ e. absurd (cc e);
-      memory = λ e. absurd (cc e);
+      read = search rules;
+      rest = end_both c.take_extension.new.pieces c.next.new.self c.args.pieces c.in_ok-take_extension.ensures.rest
+          (end_both c.next.new.self c.marks.pieces c.args.pieces (record { own = c.in-Some.mark.now ∷ []; parts = one }) c.marks.invariant.rest);
+    }
+
+pub returns-in_err-take_extension : goal.returns-in_err-take_extension
+returns-in_err-take_extension c =
+    let f = c.in_err-take_extension.field-0.0 in
+    let one : c.marks.pieces ≡ c.in-Some.mark.now ∷ c.next.new.self = search rules in
+    let is = same_err c.from_residual.result f c.from_residual.ensures.0 c.from_residual.ensures.1 in
+    record {
+      read = elim c.in_err-take_extension.ensures.read [
+        | inl memory ↦ inl (is ∙ ap Err memory)
+        | inr refused ↦ inr (is ∙ sym (c.marks.invariant.read ∙ ap (read_on whole [] c.marks.x) one ∙ refused))
+      ];
+      known = subst (λ r. IfOk r IsLocaleIdentifier) (sym is) tt;
+      memory = λ m.
+          let handed = handed_memory c.from_residual.result c.take_extension.result f c.from_residual.ensures.0 c.from_residual.ensures.1 c.in_err-take_extension.was m in
+          kept_behind c.in-Some.mark.now c.next.new.self c.args.pieces (subst (λ ps. IsEnd ps c.args.pieces) one c.marks.invariant.rest)
+          (c.take_extension.ensures.marked handed) (c.take_extension.ensures.memory handed);
     }

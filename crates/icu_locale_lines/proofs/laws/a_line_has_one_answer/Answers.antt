@@ -19,8 +19,7 @@ returns c = λ work line one two a b h k.
     } in
     let spelling : SpellingFacts = record {
       alone = c.spelled_once.ensures;
-      whole = c.spelled_once_by.ensures;
-      nothing = c.refusals_are_faults.ensures.nothing;
+      read = c.spelled_is_read.ensures;
     } in
     let answers = answer_one spelling c.minimal_form_is_one.ensures.one facts wholes c.what_is_served_is_one.ensures c.the_nearest_to_requests_is_one.ensures line one two a b work h k in
     (answers.text, answers.accepted)

@@ -8,11 +8,13 @@ returns-clause-alike c = λ work s line text a holds.
     let facts : SyntaxFacts = record {
       spelling = record {
         alone = c.spelled_once.ensures;
-        whole = c.spelled_once_by.ensures;
-        nothing = c.refusals_are_faults.ensures.nothing;
+        read = c.spelled_is_read.ensures;
       };
       known = c.identifiers_read_alike.ensures.known;
       alike = c.identifiers_read_alike.ensures.alike;
+      plain = c.plain_texts_read_alike.ensures.spelled;
+      language = c.refusals_are_faults.ensures.language;
+      memory = c.refusals_are_faults.ensures.memory;
       one = c.whole_form_is_one.ensures.one;
       kept = c.identifiers_keep_their_names.ensures;
     } in
@@ -23,11 +25,13 @@ returns-clause-plain c = λ work line text a holds.
     let facts : SyntaxFacts = record {
       spelling = record {
         alone = c.spelled_once.ensures;
-        whole = c.spelled_once_by.ensures;
-        nothing = c.refusals_are_faults.ensures.nothing;
+        read = c.spelled_is_read.ensures;
       };
       known = c.identifiers_read_alike.ensures.known;
       alike = c.identifiers_read_alike.ensures.alike;
+      plain = c.plain_texts_read_alike.ensures.spelled;
+      language = c.refusals_are_faults.ensures.language;
+      memory = c.refusals_are_faults.ensures.memory;
       one = c.whole_form_is_one.ensures.one;
       kept = c.identifiers_keep_their_names.ensures;
     } in
@@ -38,11 +42,13 @@ returns-clause-offered c = λ s line xs ys ws vs alone whole.
     let facts : SyntaxFacts = record {
       spelling = record {
         alone = c.spelled_once.ensures;
-        whole = c.spelled_once_by.ensures;
-        nothing = c.refusals_are_faults.ensures.nothing;
+        read = c.spelled_is_read.ensures;
       };
       known = c.identifiers_read_alike.ensures.known;
       alike = c.identifiers_read_alike.ensures.alike;
+      plain = c.plain_texts_read_alike.ensures.spelled;
+      language = c.refusals_are_faults.ensures.language;
+      memory = c.refusals_are_faults.ensures.memory;
       one = c.whole_form_is_one.ensures.one;
       kept = c.identifiers_keep_their_names.ensures;
     } in

@@ -7,4 +7,5 @@ use Rattle.icu_locale_matching.proofs.laws.any_alone_serves_the_first.Goals as g
 
 pub returns : goal.returns
 unfolding preferred
-returns c = any_serves_first (λ x known spells. c.refusals_are_faults.ensures.nothing Bcp47 (codes "*") InvalidLanguage x refl known spells)
+returns c = any_serves_first (λ x spells. c.refusals_are_faults.ensures.nothing Bcp47 (codes "*") InvalidLanguage x
+    ((c.refusals_are_faults.ensures.language Bcp47 (codes "*")).1 refl) spells)

@@ -1,5 +1,5 @@
 use Rattle.std.proofs.Common.{refl}
-use Rattle.icu_locale_extensions.specs.Reads.{bare}
+use Rattle.icu_locale_extensions.specs.Built.{bare}
 use Rattle.icu_locale_extensions.specs.declared.syntax.Syntax.TheVariants.{Bcp47}
 use Rattle.icu_locale_matching.proofs.requests.identifier_in.Goals as goal
 

@@ -1,7 +1,7 @@
 use Rattle.std.proofs.Common.{◌≡◌, ◌∙◌, sym, subst}
 use Rattle.icu_locale.specs.LikelyTable.{likely}
 use Rattle.icu_locale.specs.RuleSet.{lent}
-use Rattle.icu_locale_extensions.specs.Reads.{bare}
+use Rattle.icu_locale_extensions.specs.Built.{bare}
 use Rattle.icu_locale_extensions.specs.declared.identifier.LocaleIdentifier.{LocaleIdentifier}
 use Rattle.icu_locale_extensions.specs.declared.syntax.Syntax.TheVariants.{Bcp47}
 use Rattle.std.proofs.lemmas.Bool.{false≢true}
@@ -11,7 +11,7 @@ use Rattle.icu_locale_matching.proofs.requests.refusal_of.Goals as goal
 pub returns-then-not-is_plain : goal.returns-then-not-is_plain
 returns-then-not-is_plain c = λ y asked.
     let tag = rw c.in-Ok-Some.field-0-is at c.in-Ok-Some.ensures in
-    let same : asked.tag ≡ c.in-Ok-Some.tag = c.spelled_once_by.ensures Bcp47 c.args.range.now asked.tag c.in-Ok-Some.tag asked.known tag.0 asked.spells tag.1 in
+    let same : asked.tag ≡ c.in-Ok-Some.tag = c.spelled_once_by.ensures Bcp47 c.args.range.now asked.tag c.in-Ok-Some.tag asked.spells tag.1 in
     let plain = subst (λ (x : LocaleIdentifier). x ≡ bare x.locale.id) same asked.plain in
     false≢true (sym c.if-not-is_plain.true ∙ c.is_plain.ensures.1 plain)
 

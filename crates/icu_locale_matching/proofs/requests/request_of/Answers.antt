@@ -24,7 +24,7 @@ returns-in-Ok-false c = λ y asked.
     let n = next (likely c.args.rules.now.expander) (lent c.args.rules.now.rules) in
     let found = rw c.in-Ok-Some.field-0-is at c.in-Ok-Some.ensures in
     let none = rw c.in-Ok-false.field-0-test at c.in-Ok-false.ensures.brought in
-    let same : asked.tag ≡ found.tag = c.spelled_once_by.ensures Bcp47 c.args.range.now asked.tag found.tag asked.known found.is.0 asked.spells found.is.1 in
+    let same : asked.tag ≡ found.tag = c.spelled_once_by.ensures Bcp47 c.args.range.now asked.tag found.tag asked.spells found.is.1 in
     let at = ap (λ (x : LocaleIdentifier). x.locale.id) same ∙ found.at in
     none.0 y (subst (λ x. EndsAt n x y) at asked.canonical)
 

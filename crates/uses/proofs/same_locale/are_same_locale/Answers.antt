@@ -1,5 +1,5 @@
 use Rattle.std.proofs.Common.{◌≡◌, sym, ◌∙◌, subst}
-use Rattle.icu_locale_extensions.specs.Reads.{Spells}
+use Rattle.icu_locale_extensions.specs.Grammar.{Spells}
 use Rattle.icu_locale_extensions.specs.declared.identifier.LocaleIdentifier.{LocaleIdentifier}
 use Rattle.uses.proofs.same_locale.are_same_locale.Goals as goal
 
@@ -14,7 +14,7 @@ returns c =
           let same : x ≡ y = tells.0 (sym c.eq.ensures ∙ passed) in
           (x, of_x.0, of_x.1, subst (Spells c.args.second.now) (sym same) of_y.1),
       λ z.
-          let first : x ≡ z.0 = c.spelled_once.ensures c.args.first.now x z.0 of_x.0 z.1 of_x.1 z.2 in
-          let second : y ≡ z.0 = c.spelled_once.ensures c.args.second.now y z.0 of_y.0 z.1 of_y.1 z.3 in
+          let first : x ≡ z.0 = c.spelled_once.ensures c.args.first.now x z.0 of_x.1 z.2 in
+          let second : y ≡ z.0 = c.spelled_once.ensures c.args.second.now y z.0 of_y.1 z.3 in
           c.eq.ensures ∙ tells.1 (first ∙ sym second),
     )
