@@ -48,7 +48,7 @@ language_fault Unicode t = (language_told (pieces t), language_refused (pieces t
 language_fault Bcp47 t = (language_told (pieces (tag_text t)), language_refused (pieces (tag_text t)))
 language_fault Posix t = (
   (λ is. language_told (pieces (base_text t)) (posix_fault t InvalidLanguage is)),
-  (λ none. posix_refused t InvalidLanguage (language_refused (pieces (base_text t)) none))
+  (λ none. posix_refused t InvalidLanguage (language_refused (pieces (base_text t)) none)),
 )
 
 pub memory_fault : (s : Syntax) (t : List ℕ) → ¬ (IsFaultBy s t Memory)

@@ -53,9 +53,11 @@ kept_variants (p ∷ ps) none = by (is_singleton p) refl none (kept_variants ps)
         → (list_any is_kept (p ∷ ps) ≡ list_any is_variant (p ∷ ps)) × (from is_singleton (p ∷ ps) ≡ [])
     by true e none rest = absurd (false≢true (sym none))
     by false e none rest =
-        let more = rest none in
-        (ap (λ b. (is_variant p || (b && not (is_t p))) || list_any is_kept ps) e
-        ∙ left (is_variant p) (not (is_t p)) (list_any is_kept ps) (list_any is_variant ps) more.0, rw e more.1)
+        let more = rest none in (
+          ap (λ b. (is_variant p || (b && not (is_t p))) || list_any is_kept ps) e
+              ∙ left (is_variant p) (not (is_t p)) (list_any is_kept ps) (list_any is_variant ps) more.0,
+          rw e more.1,
+        )
 
 or_none : (b : Bool) → (b || false) ≡ b
 or_none true = refl

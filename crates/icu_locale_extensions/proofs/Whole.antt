@@ -85,7 +85,7 @@ module _ (derived : (ps : List (List ℕ)) (x : LocaleIdentifier) → IsLocaleId
     found = found (pieces t) r is known;
     language = (
       (λ e. elim is [ inl memory ↦ absurd (cc (sym memory ∙ e)) | inr same ↦ language_told (pieces t) (sym same ∙ e) ]),
-      (λ none. elim is [ inl memory ↦ absurd (false≢true (sym none ∙ begins memory)) | inr same ↦ same ∙ language_refused (pieces t) none ])
+      (λ none. elim is [ inl memory ↦ absurd (false≢true (sym none ∙ begins memory)) | inr same ↦ same ∙ language_refused (pieces t) none ]),
     );
     memory = memory;
   }
@@ -105,7 +105,7 @@ module _ (derived : (ps : List (List ℕ)) (x : LocaleIdentifier) → IsLocaleId
       let at : read_front (pieces t) ≡ Ok l = ap read_front (sym same) ∙ front in
       let left_is : left ≡ after_front (pieces t) = rest ∙ ap after_front same in
       let whole_is : read_on whole [] (bare l) left ≡ read (pieces t) =
-          ap (read_on whole [] (bare l)) left_is ∙ sym (ap (λ r. and_then r (λ l. read_on whole [] (bare l) (after_front (pieces t)))) at) in
+      ap (read_on whole [] (bare l)) left_is ∙ sym (ap (λ r. and_then r (λ l. read_on whole [] (bare l) (after_front (pieces t)))) at) in
       reads t r (elim behind.read [ inl memory ↦ inl memory | inr is ↦ inr (is ∙ whole_is) ]) behind.known
       (λ e. front_begins (pieces t) l at)
       (λ e. kept_text t (kept_after (after_front (pieces t)) (pieces t) (end_front (pieces t)) (subst (λ qs. IsKept (from is_singleton qs)) left_is (behind.memory e))))

@@ -4,8 +4,7 @@ ghost use Rattle.icu_locale_extensions.specs.Grammar.{Spells};
 ghost use Rattle.icu_locale_extensions.specs.Syntaxes.{takes_memory};
 ghost use Rattle.icu_locale_extensions.specs.declared.identifier.LocaleIdentifier.{LocaleIdentifier};
 
-use crate::LocaleIdentifier;
-use crate::laws;
+use crate::{LocaleIdentifier, laws};
 use icu_locale_core::ParseError;
 use std::alloc::{AllocError, Global};
 

@@ -60,8 +60,10 @@ module _ (facts : SyntaxFacts) (t : List ℕ) (plain : has_singleton t ≡ false
   fault_alike : (e : ParseError) → IsFaultBy Unicode t e ↔ IsFault t e
   fault_alike InvalidLanguage = facts.language Unicode t
   fault_alike InvalidSubtag = (
-    λ why. (begins InvalidSubtag why (λ same. cc same) (starts_with_language t) refl,
-    λ x is s. cc (sym why ∙ (facts.spelling.read Unicode t (bare x)).0 (facts.alike Unicode t x is s))),
+    λ why. (
+      begins InvalidSubtag why (λ same. cc same) (starts_with_language t) refl,
+      λ x is s. cc (sym why ∙ (facts.spelling.read Unicode t (bare x)).0 (facts.alike Unicode t x is s)),
+    ),
     λ why. refused (read_by Unicode t) refl why.0 why.1,
   )
   fault_alike Memory = (facts.memory Unicode t, λ why. absurd why)

@@ -14,7 +14,7 @@ nothing : ((s : Syntax) (t : List ℕ) (x : LocaleIdentifier) → SpellsBy s t x
     → (◌≡◌ {A = Result LocaleIdentifier ParseError} (Err e) (Err Memory)) ⊎ (Err e ≡ read_by Unicode t) → IsTrue false ↔ ((x : LocaleIdentifier) × Spells t x)
 nothing facts t e other is = (
   (λ never. absurd (cc never)),
-  (λ z. elim is [ inl memory ↦ absurd (other (cc memory)) | inr same ↦ absurd (cc (same ∙ (facts Unicode t z.0).0 z.1)) ])
+  (λ z. elim is [ inl memory ↦ absurd (other (cc memory)) | inr same ↦ absurd (cc (same ∙ (facts Unicode t z.0).0 z.1)) ]),
 )
 
 pub returns-clause-told : goal.returns-clause-told
