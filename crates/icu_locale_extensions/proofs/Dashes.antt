@@ -5,7 +5,7 @@ use Rattle.std.specs.Ordering.{is_lt}
 use Rattle.std.proofs.lemmas.List.Concat.{flat_map-append}
 use Rattle.icu_locale_core.specs.Keywords.{written_keywords}
 use Rattle.icu_locale_core.specs.TextSet.{text_cmp}
-use Rattle.icu_locale_extensions.specs.Cuts.{Block}
+use Rattle.icu_locale_core.specs.Cuts.{Block}
 use Rattle.icu_locale_extensions.specs.Rows.{flat, dashed}
 
 pub dashed-append : (ps qs : List (List ℕ)) → dashed (ps ++ qs) ≡ dashed ps ++ dashed qs

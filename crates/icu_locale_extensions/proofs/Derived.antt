@@ -16,7 +16,7 @@ use Rattle.icu_locale_core.specs.TextSet.{text_cmp, rising, from_list}
 use Rattle.icu_locale_core.specs.Value.{is_true}
 use Rattle.icu_locale_core.specs.declared.langid.LanguageIdentifier.{LanguageIdentifier}
 use Rattle.icu_locale_core.specs.declared.parse_error.ParseError.TheVariants.{InvalidSubtag}
-use Rattle.icu_locale_extensions.specs.Cuts.{Block}
+use Rattle.icu_locale_core.specs.Cuts.{Block}
 use Rattle.icu_locale_extensions.specs.Extensions.{is_piece, is_singleton, is_x, is_u, is_t, is_tkey, is_other_singleton}
 use Rattle.icu_locale_extensions.specs.declared.identifier.LocaleIdentifier.{LocaleIdentifier}
 use Rattle.icu_locale_extensions.specs.Grammar.{One, one, AtMostOne, absent, present, AnyNumber, done, next, AtLeastOne, first, IsTypes, IsKeyword, keyword, IsTfield, tfield}
@@ -91,7 +91,7 @@ fields_read y old ps rows rest (next qs rs row more (tfield ks ts k v (one p is)
 
 -- ---- marks
 
-named : (p : List ℕ) (n : ℕ) → same_text (lowercase p) (n ∷ []) ≡ true → lowercase p ≡ n ∷ []
+pub named : (p : List ℕ) (n : ℕ) → same_text (lowercase p) (n ∷ []) ≡ true → lowercase p ≡ n ∷ []
 named p n is = (bytes_eq-Decides (lowercase p) (n ∷ [])).0 is
 
 module _ (y : LocaleIdentifier) (p : List ℕ) where

@@ -6,7 +6,7 @@ use Rattle.std.proofs.lemmas.Bool.{and_parts, and_from}
 use Rattle.std.proofs.lemmas.Slice.Eq.{bytes_eq-Decides, slice_eq-Decides}
 use Rattle.icu_locale_core.specs.Keywords.{row_eq}
 use Rattle.icu_locale_core.specs.laws.Identifiers.{Tells, same_text, values_decide, options_tell}
-use Rattle.icu_locale_extensions.specs.Cuts.{Block}
+use Rattle.icu_locale_core.specs.Cuts.{Block}
 use Rattle.icu_locale_extensions.specs.declared.identifier.LocaleIdentifier.{LocaleIdentifier}
 
 row_tells : (p q : Block) → Tells (row_eq p q) (p ≡ q)

@@ -1,5 +1,5 @@
 -- What is spelled in a syntax is what is read, and why a text is refused.
-use Rattle.std.specs.Prelude.{◌≡◌, ◌⊎◌, ◌↔◌, ℕ, false, List, Result, Ok, Err}
+use Rattle.std.specs.Prelude.{◌≡◌, ◌↔◌, ℕ, false, List, Result, Ok, Err}
 use Rattle.std.proofs.Common.{refl, ap, sym, ◌∙◌, inl, inr}
 use Rattle.icu_locale_core.specs.Identifier.{pieces}
 use Rattle.icu_locale_core.specs.declared.parse_error.ParseError.{ParseError}

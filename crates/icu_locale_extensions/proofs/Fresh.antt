@@ -14,7 +14,7 @@ use Rattle.icu_locale_core.specs.declared.langid.LanguageIdentifier.{LanguageIde
 use Rattle.icu_locale_core.specs.laws.Identifiers.{same_text}
 use Rattle.icu_locale_core.specs.laws.Maps.{SetsOnly-insert_entry}
 use Rattle.icu_locale_core.specs.laws.TextSets.{text_total, contains-from_list, contains-rising, is_among}
-use Rattle.icu_locale_extensions.specs.Cuts.{Block}
+use Rattle.icu_locale_core.specs.Cuts.{Block}
 use Rattle.icu_locale_extensions.specs.Extensions.{any_piece}
 use Rattle.icu_locale_extensions.specs.Built.{bare}
 use Rattle.icu_locale_extensions.specs.declared.identifier.LocaleIdentifier.{LocaleIdentifier}

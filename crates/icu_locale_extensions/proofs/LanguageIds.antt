@@ -14,7 +14,7 @@ use Rattle.icu_locale_core.specs.declared.langid.LanguageIdentifier.{LanguageIde
 use Rattle.icu_locale_core.specs.declared.parse_error.ParseError.TheVariants.{InvalidLanguage, InvalidSubtag}
 use Rattle.icu_locale_core.specs.laws.Identifiers.{same_text}
 use Rattle.icu_locale_core.specs.laws.TextSets.{text_total, is_among, contains-from_list, length-rising_empty}
-use Rattle.icu_locale_extensions.specs.Cuts.{optional_subtag, after_optional_subtag}
+use Rattle.icu_locale_core.specs.Cuts.{optional_subtag, after_optional_subtag}
 use Rattle.icu_locale_extensions.specs.Grammar.{One, one, AtMostOne, absent, present, AnyNumber, done, next, are_different, IsLanguageId, language_id}
 use Rattle.icu_locale_extensions.specs.Reader.{first_is, belongs}
 use Rattle.icu_locale_extensions.specs.Reader.Part.{language}

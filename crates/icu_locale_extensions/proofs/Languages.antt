@@ -10,7 +10,7 @@ use Rattle.icu_locale_core.specs.TextSet.{from_list, len}
 use Rattle.icu_locale_core.specs.declared.langid.LanguageIdentifier.{LanguageIdentifier}
 use Rattle.icu_locale_core.specs.declared.parse_error.ParseError.{ParseError}
 use Rattle.icu_locale_core.specs.declared.parse_error.ParseError.TheVariants.{InvalidLanguage, InvalidSubtag}
-use Rattle.icu_locale_extensions.specs.Cuts.{front, from, other_than, optional_subtag, after_optional_subtag}
+use Rattle.icu_locale_core.specs.Cuts.{front, from, other_than, optional_subtag, after_optional_subtag}
 use Rattle.icu_locale_extensions.specs.Extensions.{is_singleton, is_tkey}
 use Rattle.icu_locale_extensions.specs.declared.identifier.LocaleIdentifier.{LocaleIdentifier}
 use Rattle.icu_locale_extensions.specs.Reader.{first_is, belongs, begins, added, marked, with_read, and_then, read_on}

@@ -7,7 +7,7 @@ use Rattle.std.proofs.lemmas.Bool.{and_parts, false≢true}
 use Rattle.std.proofs.lemmas.Bool.Decides.{nat_tests}
 use Rattle.icu_locale_core.specs.Subtag.{is_alphanumeric}
 use Rattle.icu_locale_core.specs.declared.langid.LanguageIdentifier.{LanguageIdentifier}
-use Rattle.icu_locale_extensions.specs.Cuts.{Block}
+use Rattle.icu_locale_core.specs.Cuts.{Block}
 use Rattle.icu_locale_extensions.specs.Extensions.{any_piece}
 use Rattle.icu_locale_extensions.specs.Locales.{lower_subtags}
 use Rattle.icu_locale_extensions.specs.Rows.{flat}

@@ -1,6 +1,6 @@
 -- What a name of a POSIX locale spells: its base with the modifier in it.
 use Rattle.std.specs.Prelude.{◌≡◌, ℕ, not, ◌&&◌, List, Result, Ok, Err, IfOk}
-use Rattle.std.proofs.Common.{ap, sym, ◌∙◌, inl, inr}
+use Rattle.std.proofs.Common.{ap, ◌∙◌, inl, inr}
 use Rattle.icu_locale_core.specs.TextSet.{TextSet, difference, empty}
 use Rattle.icu_locale_core.specs.laws.TextSets.{contains-difference, contains-empty, same_set}
 use Rattle.icu_locale_core.specs.TextSet.{contains}

@@ -12,7 +12,7 @@ use Rattle.icu_locale_core.specs.declared.langid.LanguageIdentifier.{LanguageIde
 use Rattle.icu_locale_core.specs.declared.parse_error.ParseError.{ParseError}
 use Rattle.icu_locale_core.specs.declared.parse_error.ParseError.TheVariants.{InvalidSubtag}
 use Rattle.icu_locale_core.specs.laws.Fronts.{taken_are}
-use Rattle.icu_locale_extensions.specs.Cuts.{Block, front, from, other_than}
+use Rattle.icu_locale_core.specs.Cuts.{Block, front, from, other_than}
 use Rattle.icu_locale_extensions.specs.Extensions.{is_piece, is_singleton, is_x, is_u, is_t, is_tkey, is_other_singleton}
 use Rattle.icu_locale_extensions.specs.declared.identifier.LocaleIdentifier.{LocaleIdentifier}
 use Rattle.icu_locale_extensions.specs.Grammar.{One, one, AtMostOne, absent, present, AnyNumber, done, next, AtLeastOne, first, IsTypes, IsKeyword, keyword, IsTfield, tfield}

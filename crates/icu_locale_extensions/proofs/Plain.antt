@@ -14,7 +14,7 @@ use Rattle.icu_locale_core.specs.declared.langid.LanguageIdentifier.{LanguageIde
 use Rattle.icu_locale_core.specs.declared.parse_error.ParseError.{ParseError}
 use Rattle.icu_locale_core.specs.declared.parse_error.ParseError.TheVariants.{InvalidLanguage, InvalidSubtag, Memory}
 use Rattle.icu_locale_extensions.specs.Built.{as_locale, bare}
-use Rattle.icu_locale_extensions.specs.Cuts.{from}
+use Rattle.icu_locale_core.specs.Cuts.{from}
 use Rattle.icu_locale_extensions.specs.Extensions.{is_singleton, is_t, is_tkey, IsField, IsOther}
 use Rattle.icu_locale_extensions.specs.Grammar.{IsLocaleId}
 use Rattle.icu_locale_extensions.specs.Locales.{IsLocaleIdentifier}

@@ -1,14 +1,12 @@
 -- Private use alone, after `und`.
-use Rattle.std.specs.Prelude.{◌≡◌, ◌⊎◌, ℕ, Bool, true, false, List, [], ◌∷◌, ◌++◌, codes, None, Option, Result, Ok, Err, if◌then◌else◌}
-use Rattle.std.proofs.Common.{refl, ap, sym, ◌∙◌, arith}
+use Rattle.std.specs.Prelude.{◌≡◌, ℕ, true, false, List, [], ◌∷◌, ◌++◌, codes}
+use Rattle.std.proofs.Common.{refl, arith}
 use Rattle.std.proofs.lemmas.Bool.{false≢true}
 use Rattle.std.proofs.lemmas.Bool.Decides.{nat_tests}
 use Rattle.std.proofs.lemmas.List.Splits.{slice_split_at}
 use Rattle.icu_locale_core.specs.Identifier.{is_separator, pieces}
 use Rattle.icu_locale_core.specs.Readings.{read_front, after_front}
-use Rattle.icu_locale_core.specs.Subtag.{is_script, is_region, is_variant, lowercase, und}
-use Rattle.icu_locale_core.specs.TextSet.{from_list}
-use Rattle.icu_locale_core.specs.declared.langid.LanguageIdentifier.{LanguageIdentifier}
+use Rattle.icu_locale_core.specs.Subtag.{is_script, is_region, is_variant, und}
 use Rattle.icu_locale_extensions.specs.Extensions.{is_x}
 use Rattle.icu_locale_extensions.specs.Syntaxes.{is_private}
 use Rattle.icu_locale_extensions.proofs.WrittenPieces.{whole_plain}

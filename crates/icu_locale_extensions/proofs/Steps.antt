@@ -3,7 +3,7 @@ use Rattle.std.specs.Prelude.{◌≡◌, ℕ, Bool, true, false, List, [], ◌�
 use Rattle.std.proofs.Common.{refl, ap, sym, ◌∙◌, append_assoc}
 use Rattle.std.proofs.lemmas.List.{append-nil}
 use Rattle.icu_locale_core.specs.declared.parse_error.ParseError.{ParseError}
-use Rattle.icu_locale_extensions.specs.Cuts.{front, from, other_than}
+use Rattle.icu_locale_core.specs.Cuts.{front, from, other_than}
 use Rattle.icu_locale_extensions.specs.declared.identifier.LocaleIdentifier.{LocaleIdentifier}
 use Rattle.icu_locale_extensions.specs.Reader.{Part, belongs, added, closed, opened, and_then, read_on}
 use Rattle.icu_locale_extensions.specs.inner.Takes.{read_opened}

@@ -1,25 +1,20 @@
 -- What each reader takes, as a step of the definition.
-use Rattle.std.specs.Prelude.{◌≡◌, ◌⊎◌, ℕ, ◌≤◌, ◌<◌, Bool, true, false, not, ◌&&◌, ◌||◌, List, [], ◌∷◌, ◌++◌, length, map, Option, None, Some, Result, Ok, Err, IsErr, IsErrAnd, if◌then◌else◌}
+use Rattle.std.specs.Prelude.{◌≡◌, ◌⊎◌, ℕ, ◌≤◌, ◌<◌, Bool, true, false, not, ◌&&◌, ◌||◌, List, [], ◌∷◌, ◌++◌, length, map, None, Some, Result, Ok, Err, IsErr, IsErrAnd, if◌then◌else◌}
 use Rattle.std.proofs.Common.{refl, ap, sym, subst, ◌∙◌, arith, inl, inr, append_assoc}
 use Rattle.std.proofs.lemmas.List.{nil_from_length}
-use Rattle.icu_locale_core.specs.Maps.{IsSortedMap, FindsAlike, value_at}
 use Rattle.std.specs.List.{list_any}
 use Rattle.std.proofs.lemmas.Bool.{or_right}
 use Rattle.icu_locale_core.specs.Readings.{after_front, after_head, front_variants}
 use Rattle.icu_locale_core.specs.Subtag.{lowercase, is_subtag, is_variant, is_script, is_region}
 use Rattle.icu_locale_core.specs.TextSet.{from_list, rising, text_cmp}
-use Rattle.icu_locale_core.specs.laws.FirstRows.{first_is_there, first_is_new}
-use Rattle.icu_locale_core.specs.laws.Maps.{SetsOnly-insert_entry, same_sorted_map}
-use Rattle.icu_locale_core.specs.laws.SortedMaps.{IsSortedMap-insert_entry}
-use Rattle.icu_locale_core.specs.laws.TextSets.{text_total, text_same, contains-from_list, from_list-rising, is_among, is_among-append, same_set, length-rising_empty}
+use Rattle.icu_locale_core.specs.laws.TextSets.{contains-from_list, from_list-rising, is_among, is_among-append, same_set, length-rising_empty}
 use Rattle.icu_locale_core.specs.declared.parse_error.ParseError.{ParseError}
 use Rattle.icu_locale_core.specs.declared.parse_error.ParseError.TheVariants.{Memory}
-use Rattle.icu_locale_extensions.specs.Cuts.{Block, front, from, other_than, optional_subtag, after_optional_subtag}
+use Rattle.icu_locale_core.specs.Cuts.{front, from, other_than, optional_subtag, after_optional_subtag}
 use Rattle.icu_locale_extensions.specs.Extensions.{any_piece, is_piece, is_singleton, is_t, is_tkey}
 use Rattle.icu_locale_extensions.specs.declared.identifier.LocaleIdentifier.{LocaleIdentifier}
 use Rattle.icu_locale_extensions.specs.Reader.{Part, first_is, belongs, begins, added, closed, marked, and_then, read_on}
 use Rattle.icu_locale_extensions.specs.Built.{with_attributes, with_private_use}
-use Rattle.icu_locale_core.specs.Maps.{add_first}
 use Rattle.icu_locale_extensions.specs.Reader.Part.{whole, attributes, keywords, private_use, nothing}
 use Rattle.icu_locale_extensions.specs.inner.Takes.{Reads, read_opened, IsEnd, takes_memory, IsKept}
 use Rattle.icu_locale_extensions.proofs.Steps.{taken}

@@ -10,7 +10,7 @@ use Rattle.icu_locale_core.specs.declared.langid.LanguageIdentifier.{LanguageIde
 use Rattle.icu_locale_core.specs.declared.parse_error.ParseError.{ParseError}
 use Rattle.icu_locale_core.specs.declared.parse_error.ParseError.TheVariants.{InvalidLanguage, Memory}
 use Rattle.icu_locale_extensions.specs.Built.{bare}
-use Rattle.icu_locale_extensions.specs.Cuts.{from}
+use Rattle.icu_locale_core.specs.Cuts.{from}
 use Rattle.icu_locale_extensions.specs.Extensions.{is_singleton, is_t, is_tkey}
 use Rattle.icu_locale_extensions.specs.Grammar.{IsLocaleId}
 use Rattle.icu_locale_extensions.specs.Locales.{IsLocaleIdentifier}

@@ -31,7 +31,7 @@ use Rattle.icu_locale_core.specs.laws.Maps.{SetsOnly-insert_entry, same_sorted_m
 use Rattle.icu_locale_core.specs.laws.SortedMaps.{IsSortedMap-insert_entry}
 use Rattle.icu_locale_core.specs.laws.TextSets.{text_total, text_same}
 use Rattle.icu_locale_extensions.specs.Attributes.{AreAttributes}
-use Rattle.icu_locale_extensions.specs.Cuts.{Block, front, from, other_than}
+use Rattle.icu_locale_core.specs.Cuts.{Block, front, from, other_than}
 use Rattle.icu_locale_extensions.specs.Extensions.{is_piece, is_singleton, is_x, is_u, is_t, is_tkey, is_other_singleton, IsPiece, ArePieces, IsField, IsOther}
 use Rattle.icu_locale_extensions.specs.Locales.{IsLocaleIdentifier, marked_if_any, lower_subtags, transform_pieces, unicode_pieces, written_pieces}
 use Rattle.icu_locale_extensions.specs.Locales as locales

@@ -16,7 +16,7 @@ use Rattle.icu_locale_core.specs.TextSet.{rising}
 use Rattle.icu_locale_core.specs.declared.langid.LanguageIdentifier.{LanguageIdentifier}
 use Rattle.icu_locale_core.specs.laws.Classes.{part_key, part_subtag, rising_variants, subtag_parts, IsPart}
 use Rattle.icu_locale_core.specs.laws.TextSets.{from_list-rising}
-use Rattle.icu_locale_extensions.specs.Cuts.{Block}
+use Rattle.icu_locale_core.specs.Cuts.{Block}
 use Rattle.icu_locale_extensions.specs.Extensions.{is_singleton, is_tkey, IsPiece, ArePieces, IsField, IsOther}
 use Rattle.icu_locale_extensions.specs.Locales.{IsLocaleIdentifier, marked, marked_if_any, lower_subtags, written_pieces, written}
 use Rattle.icu_locale_extensions.specs.Rows.{flat, below_t, above_t}

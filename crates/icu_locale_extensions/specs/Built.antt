@@ -1,8 +1,8 @@
 -- How a locale identifier is built: from an identifier alone, part by part.
-use Rattle.std.specs.Prelude.{ℕ, List, [], Option, None, Some, Result, Ok, Err}
+use Rattle.std.specs.Prelude.{ℕ, List, [], None, Some, Result, Ok, Err}
 use Rattle.icu_locale_core.specs.declared.langid.LanguageIdentifier.{LanguageIdentifier}
 use Rattle.icu_locale_core.specs.declared.parse_error.ParseError.{ParseError}
-use Rattle.icu_locale_extensions.specs.Cuts.{Block}
+use Rattle.icu_locale_core.specs.Cuts.{Block}
 use Rattle.icu_locale_extensions.specs.declared.identifier.LocaleIdentifier.{LocaleIdentifier}
 
 -- a locale identifier without extensions and private use

@@ -1,13 +1,13 @@
 -- Extensions of an identifier (UTS #35 Part 1, sections 3.2, 3.6 and 3.7): which pieces each may have, in any case.
-use Rattle.std.specs.Prelude.{◌≡◌, ℕ, Bool, true, false, ◌&&◌, ◌||◌, ◌==◌, not, List, [], ◌∷◌, length, map, codes, if◌then◌else◌, Result, Err, IfOk, ◌↔◌}
+use Rattle.std.specs.Prelude.{◌≡◌, ℕ, Bool, true, false, ◌&&◌, ◌||◌, ◌==◌, not, List, [], ◌∷◌, length, map, codes, Result, Err, IfOk, ◌↔◌}
 use Rattle.std.specs.List.{All, list_all}
 use Rattle.std.specs.Char.{is_ascii_alphabetic, is_ascii_digit}
 use Rattle.icu_locale_core.specs.Identifier.{pieces}
-use Rattle.icu_locale_core.specs.Subtag.{has_length, is_alphanumeric, is_key, is_subtag, lowercase, IsWritten}
+use Rattle.icu_locale_core.specs.Subtag.{has_length, is_alphanumeric, lowercase, IsWritten}
 use Rattle.icu_locale_core.specs.laws.Identifiers.{same_text}
 use Rattle.icu_locale_core.specs.declared.parse_error.ParseError.{ParseError}
 use Rattle.icu_locale_core.specs.declared.parse_error.ParseError.TheVariants.{InvalidLanguage, InvalidSubtag}
-use Rattle.icu_locale_extensions.specs.Cuts.{Block, blocks}
+use Rattle.icu_locale_core.specs.Cuts.{Block}
 
 -- ---- marks
 
@@ -47,30 +47,6 @@ is_piece low p = has_length low 8 p && is_alphanumeric p
 
 abbrev pub are_pieces : ℕ → List (List ℕ) → Bool
 are_pieces low ps = list_all (is_piece low) ps
-
--- unicode_locale_extensions: attributes, and then keys, each with the pieces of its type
-abbrev pub is_unicode : List (List ℕ) → Bool
-is_unicode ps = any_piece ps && list_all (λ p. is_key p || is_subtag p) ps
-
--- tfield: a tkey and the pieces of its value
-abbrev pub is_tfield : Block → Bool
-is_tfield field = any_piece field.1 && are_pieces 3 field.1
-
--- transformed_extensions: a language or none, of which nothing is said here, and then fields
-abbrev pub is_transform : List (List ℕ) → Bool
-is_transform ps = any_piece ps && list_all is_tfield (blocks is_tkey ps)
-
--- other_extensions: a letter or digit, and pieces
-abbrev pub is_other : Block → Bool
-is_other e = is_alphanumeric e.0 && (any_piece e.1 && are_pieces 2 e.1)
-
--- an extension: a singleton, and pieces that it may have
-abbrev pub is_extension : Block → Bool
-is_extension e =
-    if is_u e.0 then is_unicode e.1 else (if is_t e.0 then is_transform e.1 else is_other e)
-
-abbrev pub IsExtension : Block → Type 0
-IsExtension e = is_extension e ≡ true
 
 -- ---- in lower case
 

@@ -9,7 +9,7 @@ use Rattle.icu_locale_core.specs.TextSet.{from_list, rising, text_cmp}
 use Rattle.icu_locale_core.specs.Value.{is_true}
 use Rattle.icu_locale_core.specs.declared.langid.LanguageIdentifier.{LanguageIdentifier}
 use Rattle.icu_locale_core.specs.laws.Identifiers.{same_text}
-use Rattle.icu_locale_extensions.specs.Cuts.{Block}
+use Rattle.icu_locale_core.specs.Cuts.{Block}
 use Rattle.icu_locale_extensions.specs.Extensions.{is_u, is_t, is_x, is_other_singleton, is_tkey, is_piece}
 use Rattle.icu_locale_extensions.specs.Built.{bare, with_attributes, with_keywords, with_language, with_fields, with_others, with_private_use}
 use Rattle.icu_locale_extensions.specs.declared.identifier.LocaleIdentifier.{LocaleIdentifier}

@@ -1,6 +1,5 @@
 pub mod Attributes
 pub mod Built
-pub mod Cuts
 pub mod ExtendedLanguages
 pub mod Extensions
 pub mod Grammar
@@ -8,4 +7,5 @@ pub mod Locales
 pub mod Reader
 pub mod Rows
 pub mod Syntaxes
+pub mod Tags
 pub mod inner

@@ -3,7 +3,7 @@ use Rattle.std.specs.Prelude.{ℕ, not, List, ◌∷◌, ◌++◌, filter, codes
 use Rattle.std.specs.List.{flat_map}
 use Rattle.std.specs.Ordering.{is_lt}
 use Rattle.icu_locale_core.specs.TextSet.{text_cmp}
-use Rattle.icu_locale_extensions.specs.Cuts.{Block}
+use Rattle.icu_locale_core.specs.Cuts.{Block}
 
 -- each mark, followed by its pieces
 abbrev pub flat : List Block → List (List ℕ)

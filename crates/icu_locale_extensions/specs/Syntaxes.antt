@@ -1,6 +1,6 @@
 -- Texts of the world that name a locale: tags of BCP 47 (RFC 5646) and names of POSIX locales, by what each stands for
 -- in the strict grammar.
-use Rattle.std.specs.Prelude.{◌≡◌, ◌↔◌, ◌⊎◌, ℕ, Bool, true, false, not, ◌&&◌, ◌||◌, ◌==◌, IsTrue, List, [], ◌∷◌, ◌++◌, map, codes, Option, Some, None}
+use Rattle.std.specs.Prelude.{◌≡◌, ◌↔◌, ◌⊎◌, ℕ, Bool, false, not, ◌&&◌, ◌||◌, ◌==◌, IsTrue, List, [], ◌∷◌, ◌++◌, map, codes, Option, Some, None}
 use Rattle.std.specs.Prelude.{unwrap_or, Result, Ok, Err, IfOk, if◌then◌else◌}
 use Rattle.std.specs.List.{before_first, after_first, list_any}
 use Rattle.std.specs.Option.{option_or}
@@ -13,7 +13,7 @@ use Rattle.icu_locale_core.specs.declared.langid.LanguageIdentifier.{LanguageIde
 use Rattle.icu_locale_core.specs.declared.parse_error.ParseError.{ParseError}
 use Rattle.icu_locale_core.specs.declared.parse_error.ParseError.TheVariants.{InvalidLanguage, Memory}
 use Rattle.icu_locale_extensions.specs.Built.{with_id}
-use Rattle.icu_locale_extensions.specs.Cuts.{from}
+use Rattle.icu_locale_core.specs.Cuts.{from}
 use Rattle.icu_locale_extensions.specs.ExtendedLanguages.{extended_languages}
 use Rattle.icu_locale_extensions.specs.Extensions.{is_singleton, is_t, is_tkey, is_x}
 use Rattle.icu_locale_extensions.specs.Grammar.{Spells}

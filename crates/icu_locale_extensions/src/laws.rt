@@ -13,6 +13,7 @@ ghost use Rattle.icu_locale_extensions.specs.Grammar.{IsLocaleId, Spells};
 ghost use Rattle.icu_locale_extensions.specs.Locales.{IsLocaleIdentifier, written};
 ghost use Rattle.icu_locale_extensions.specs.Reader.{read};
 ghost use Rattle.icu_locale_extensions.specs.Syntaxes.{IsFaultBy, IsOkUnlessMemory, ReadsBy, SpellsBy, read_by, starts_by};
+ghost use Rattle.icu_locale_extensions.specs.Tags.{IsTagOf};
 ghost use Rattle.icu_locale_extensions.specs.declared.identifier.LocaleIdentifier.{LocaleIdentifier};
 
 use crate::{Attributes, Fields, LocaleIdentifier, Others, Syntax};
@@ -120,6 +121,15 @@ pub fn refusals_are_faults()
     ensures memory { (s : Syntax) (t : List ℕ) → ¬ (IsFaultBy s t ParseError.Memory) }
 {
     spelled_is_read();
+}
+
+/// What the grammar derives is a well-formed tag of RFC 5646, section 2.1, with the same parts; so is what Display writes.
+pub fn texts_are_tags()
+    ensures derived { (ps : List (List ℕ)) (x : LocaleIdentifier) → IsLocaleId ps x → IsTagOf ps x }
+    ensures written { (x : LocaleIdentifier) → IsLocaleIdentifier x
+        → IsTagOf (pieces (written x)) x }
+{
+    written_spells();
 }
 
 /// `==` of locale identifiers and of their parts passes exactly where they are equal.

@@ -5,7 +5,7 @@ use Rattle.icu_locale_core.specs.Subtag.{is_variant}
 use Rattle.icu_locale_core.specs.declared.langid.LanguageIdentifier.{LanguageIdentifier}
 use Rattle.icu_locale_core.specs.declared.parse_error.ParseError.{ParseError}
 use Rattle.icu_locale_core.specs.declared.parse_error.ParseError.TheVariants.{InvalidSubtag, Memory}
-use Rattle.icu_locale_extensions.specs.Cuts.{from}
+use Rattle.icu_locale_core.specs.Cuts.{from}
 use Rattle.icu_locale_extensions.specs.Extensions.{is_singleton, is_t, is_tkey}
 use Rattle.icu_locale_extensions.specs.Built.{bare}
 use Rattle.icu_locale_extensions.specs.Locales.{IsLocaleIdentifier}

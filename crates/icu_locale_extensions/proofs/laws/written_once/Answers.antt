@@ -1,4 +1,4 @@
-use Rattle.std.proofs.Common.{ap, sym, subst}
+use Rattle.std.proofs.Common.{ap, subst}
 use Rattle.icu_locale_extensions.specs.Grammar.{Spells}
 use Rattle.icu_locale_extensions.specs.Locales.{written}
 use Rattle.icu_locale_extensions.proofs.laws.written_once.Goals as goal

@@ -1,5 +1,4 @@
-use Rattle.std.proofs.Common.{rules, ◌≡◌, ◌⊎◌, [], ◌∷◌, Err, IfOk, ap, sym, subst, inl, inr, ◌∙◌}
-use Rattle.icu_locale_core.specs.declared.parse_error.ParseError.TheVariants.{Memory}
+use Rattle.std.proofs.Common.{rules, ◌≡◌, [], ◌∷◌, Err, IfOk, ap, sym, subst, inl, inr, ◌∙◌}
 use Rattle.icu_locale_extensions.specs.Locales.{IsLocaleIdentifier}
 use Rattle.icu_locale_extensions.specs.Reader.{read_on}
 use Rattle.icu_locale_extensions.specs.Reader.Part.{whole}
