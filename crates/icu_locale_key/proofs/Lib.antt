@@ -1,0 +1,12 @@
+pub mod Ends
+pub mod Filled
+pub mod Forms
+pub mod KeyRuns
+pub mod Meaning
+pub mod Members
+pub mod MinimalForms
+pub mod Near
+pub mod Parts
+pub mod Rows
+pub mod Subsets
+pub mod Turns

@@ -1,0 +1,4 @@
+pub mod Filling
+pub mod Keys
+pub mod Stable
+pub mod inner

@@ -1,0 +1,2 @@
+pub mod Universe
+pub mod KeyRun
