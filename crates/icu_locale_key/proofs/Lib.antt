@@ -10,3 +10,4 @@ pub mod Parts
 pub mod Rows
 pub mod Subsets
 pub mod Turns
+pub mod Unsettled

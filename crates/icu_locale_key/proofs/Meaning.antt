@@ -42,3 +42,10 @@ module _ (likely : LikelySubtags) (rules : Rules) where
   leads_means favor x has zero y same = (0, same)
   leads_means favor x has (suc n) y (k, before, (is, other)) =
       means_through x k y (leads_means favor x has n k before) (key_means favor k y is (has n k is.canonical before is.end))
+
+  -- an equivalence that holds of each step holds of what means the same
+  pub least_of : (R : LanguageIdentifier → LanguageIdentifier → Type 0) → ((x : LanguageIdentifier) → R x x)
+      → ((x y z : LanguageIdentifier) → R x y → R y z → R x z) → ((x y : LanguageIdentifier) → IsStep likely rules x y → R x y)
+      → (n : ℕ) (x y : LanguageIdentifier) → AreLinkedIn likely rules n x y → R x y
+  least_of R itself through steps zero x y same = subst (R x) same (itself x)
+  least_of R itself through steps (suc n) x y (w, step, rest) = through x w y (steps x w step) (least_of R itself through steps n w y rest)

@@ -1,5 +1,5 @@
 //! Laws of keys. Each function here takes nothing, answers nothing and carries a proved fact.
-ghost use Rattle.std.specs.Prelude.{◌≡◌, ◌↔◌, ◌⊎◌, None, true};
+ghost use Rattle.std.specs.Prelude.{◌≡◌, ◌↔◌, ◌⊎◌, Bool, None, true};
 ghost use Rattle.icu_locale_core.specs.declared.langid.LanguageIdentifier.{LanguageIdentifier};
 ghost use Rattle.icu_locale_core.specs.Identifier.{IsIdentifier};
 ghost use Rattle.icu_locale_runs.specs.Run.{EndsAt, IsRepeat};
@@ -13,7 +13,7 @@ ghost use Rattle.icu_locale.specs.declared.expander.Favor.TheVariants.{RegionFir
 ghost use Rattle.icu_locale.specs.declared.canonicalizer.rules.Rules.{Rules};
 ghost use Rattle.icu_locale_key.specs.Filling.{LeavesFilled, leaves_tables};
 ghost use Rattle.icu_locale_key.specs.Keys.{IsKey, IsPart, HasClass, KeysStayCanonical};
-ghost use Rattle.icu_locale_key.specs.Stable.{IsStableKey, IsStuck, ComesRound, KeysHaveClasses, MeanTheSame};
+ghost use Rattle.icu_locale_key.specs.Stable.{IsStableKey, IsStuck, ComesRound, KeysHaveClasses, IsStep, MeanTheSame};
 
 /// Over every table, an identifier has one key at most: it has one exactly where its run ends, the minimal form of that
 /// end.
@@ -113,8 +113,9 @@ pub fn filled_subtags_stay_unmatched()
 }
 
 /// Over the tables of an expander, an identifier has a key that stays, or its keys come to one that has no key, or they
-/// come round. The key that stays is one, and each key on the way has the same. Where the maximal forms of two
-/// canonical forms are equal, so are the keys that stay.
+/// come round. Over every table only one of these holds; the key that stays is one, and so is what comes again first.
+/// The key of an identifier has the same key that stays. Where the maximal forms of two canonical forms are equal, so
+/// are the keys that stay.
 pub fn stable_key_is_one()
     ensures exists { (e : LocaleExpander) (rules : Rules) (x : LanguageIdentifier)
         → ((k : LanguageIdentifier) × IsStableKey RegionFirst (likely e) rules x k)
@@ -123,6 +124,13 @@ pub fn stable_key_is_one()
     ensures one { (likely : LikelySubtags) (rules : Rules) (x k l : LanguageIdentifier)
         → IsStableKey RegionFirst likely rules x k → IsStableKey RegionFirst likely rules x l
         → k ≡ l }
+    ensures not_both { (likely : LikelySubtags) (rules : Rules) (x k z : LanguageIdentifier)
+        → IsStableKey RegionFirst likely rules x k
+        → IsStuck RegionFirst likely rules x z ⊎ ComesRound RegionFirst likely rules x z → ⊥ }
+    ensures one_reason { (likely : LikelySubtags) (rules : Rules) (x y z : LanguageIdentifier)
+        → IsStuck RegionFirst likely rules x y ⊎ ComesRound RegionFirst likely rules x y
+        → IsStuck RegionFirst likely rules x z ⊎ ComesRound RegionFirst likely rules x z
+        → y ≡ z }
     ensures kept { (likely : LikelySubtags) (rules : Rules) (x k l : LanguageIdentifier)
         → IsStableKey RegionFirst likely rules x l → IsKey RegionFirst likely rules x k
         → IsStableKey RegionFirst likely rules k l }
@@ -139,7 +147,7 @@ pub fn stable_key_is_one()
 /// What equal keys that stay mean. Two identifiers mean the same by the least equivalence that holds of an identifier
 /// and its canonical form, and of identifiers with equal maximal forms. An identifier means the same as its key that
 /// stays, where the classes of the canonical forms on the way have members. So identifiers with equal ones mean the
-/// same.
+/// same, and no test that is such an equivalence tells them apart.
 ///
 /// The other way round does not hold: with the rule `en-US` to `fr`, and rows that make `en-Latn-US` of `en` and of
 /// `und`, `und-US` and `en-US` have equal maximal forms. No rule matches the first, so its key that stays is `en`; that
@@ -162,6 +170,12 @@ pub fn stable_keys_mean_the_same()
     ensures transitive { (likely : LikelySubtags) (rules : Rules) (x y z : LanguageIdentifier)
         → MeanTheSame likely rules x y → MeanTheSame likely rules y z
         → MeanTheSame likely rules x z }
+    ensures least { (likely : LikelySubtags) (rules : Rules)
+        (test : LanguageIdentifier → LanguageIdentifier → Bool)
+        → ((x : LanguageIdentifier) → test x x ≡ true)
+        → ((x y z : LanguageIdentifier) → test x y ≡ true → test y z ≡ true → test x z ≡ true)
+        → ((x y : LanguageIdentifier) → IsStep likely rules x y → test x y ≡ true)
+        → (x y : LanguageIdentifier) → MeanTheSame likely rules x y → test x y ≡ true }
 {
     icu_locale::laws::runs_end_or_repeat();
 }

@@ -1,12 +1,12 @@
 //! The key that stays: from an identifier to its key, and on, until a key is its own.
-ghost use Rattle.std.specs.Prelude.{◌≡◌, ◌⊎◌, IsOk, OnOk, OnErr, IfOk, IfErr};
+ghost use Rattle.std.specs.Prelude.{◌≡◌, ◌⊎◌, Err, IsOk, OnOk, OnErr, IfOk, IfErr};
 ghost use Rattle.icu_locale_core.specs.declared.langid.LanguageIdentifier.{LanguageIdentifier};
 ghost use Rattle.icu_locale_core.specs.laws.Identifiers.{identifiers_decide};
 ghost use Rattle.icu_locale.specs.LikelyTable.{likely};
 ghost use Rattle.icu_locale.specs.Refusals.{IsMemory, IsOutOfMemory};
 ghost use Rattle.icu_locale.specs.RuleSet.{lent};
 ghost use Rattle.icu_locale.specs.declared.expander.Favor.TheVariants.{RegionFirst};
-ghost use Rattle.icu_locale_key.specs.Stable.{IsStableKey, IsStableKeyRefusal};
+ghost use Rattle.icu_locale_key.specs.Stable.{IsStableKey, IsStuck, ComesRound, IsStableKeyRefusal};
 ghost use Rattle.icu_locale_key.specs.inner.KeyRun.{key_step, other_than, IsRepeatOf};
 ghost use Rattle.icu_locale_key.specs.inner.Universe.{key_universe};
 
@@ -111,6 +111,11 @@ pub fn bring_to_stable_key(
     ensures ends { (y : LanguageIdentifier) → IsStableKey RegionFirst
         (likely canonicalizer.now.expander) (lent canonicalizer.now.rules) id.old y
         → IsOk result ⊎ IsOutOfMemory result }
+    ensures names { (z : LanguageIdentifier) → IsStuck RegionFirst
+        (likely canonicalizer.now.expander) (lent canonicalizer.now.rules) id.old z
+        ⊎ ComesRound RegionFirst (likely canonicalizer.now.expander)
+        (lent canonicalizer.now.rules) id.old z
+        → (result ≡ Err (CanonicalizeError.NoFixedPoint z)) ⊎ IsOutOfMemory result }
 {
     laws::minimal_form_is_one();
     laws::the_likely_table_is_one_map();

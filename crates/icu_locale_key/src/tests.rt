@@ -93,21 +93,26 @@ fn has_stable_key(
     assert!(rt; id == wanted);
 }
 
+// What a refusal names.
+fn named_by(answer: Result<(), CanonicalizeError>) -> Option<LanguageIdentifier> {
+    match answer {
+        Err(CanonicalizeError::NoFixedPoint(first)) => Some(first),
+        _ => None,
+    }
+}
+
 // No key may stay, and this identifier must be named.
 fn has_no_stable_key(
     rt: &impl Abort,
     alloc: Global,
     canonicalizer: &CanonicalizerRef<'_>,
     text: &str,
-    named: &str,
+    wanted: &str,
 ) {
     let mut id = identifier(rt, alloc, text);
-    let named = identifier(rt, alloc, named);
-    let told = match bring_to_stable_key(canonicalizer, &mut id) {
-        Err(CanonicalizeError::NoFixedPoint(first)) => first == named,
-        _ => false,
-    };
-    assert!(rt; told);
+    let named = named_by(bring_to_stable_key(canonicalizer, &mut id));
+    let wanted = Some(identifier(rt, alloc, wanted));
+    assert!(rt; named == wanted);
     let given = identifier(rt, alloc, text);
     assert!(rt; id == given);
 }

@@ -1,6 +1,6 @@
-use Rattle.std.proofs.Common.{refl, sym, subst, false}
+use Rattle.std.proofs.Common.{◌≡◌, true, refl, sym, subst, false}
 use Rattle.icu_locale_key.specs.Keys.{HasClass}
-use Rattle.icu_locale_key.proofs.Meaning.{key_means, leads_means, means_back, means_through}
+use Rattle.icu_locale_key.proofs.Meaning.{key_means, leads_means, least_of, means_back, means_through}
 use Rattle.icu_locale_key.proofs.laws.stable_keys_mean_the_same.Goals as goal
 
 pub returns-clause-key : goal.returns-clause-key
@@ -24,3 +24,7 @@ returns-clause-symmetric c likely rules x y means = means_back likely rules x y 
 
 pub returns-clause-transitive : goal.returns-clause-transitive
 returns-clause-transitive c likely rules x y z one other = means_through likely rules x y z one other
+
+pub returns-clause-least : goal.returns-clause-least
+returns-clause-least c likely rules test itself through steps x y means =
+    least_of likely rules (λ w z. test w z ≡ true) itself through steps means.0 x y means.1

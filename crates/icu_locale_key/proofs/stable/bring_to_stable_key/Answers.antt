@@ -7,6 +7,7 @@ use Rattle.icu_locale.specs.RuleSet.{lent}
 use Rattle.icu_locale.specs.declared.expander.Favor.TheVariants.{RegionFirst}
 use Rattle.icu_locale_key.specs.inner.KeyRun.{key_step}
 use Rattle.icu_locale_key.proofs.KeyRuns.{keys_stay_among, ends_stable, stable_ends, refusal_of}
+use Rattle.icu_locale_key.proofs.Unsettled.{no_reason, refused_by}
 use Rattle.icu_locale_key.proofs.stable.bring_to_stable_key.Goals as goal
 
 pub end_of_run-requires : goal.end_of_run-requires
@@ -46,3 +47,27 @@ returns-in-Ok-Repeats-clause-ends c y stable =
     let repeats = subst (IsOutcome (key_step table rules) c.args.id.now) c.in-Ok-Repeats.field-0-is c.in-Ok-Repeats.ensures.outcome in
     let ends = ends_stable table rules (c.minimal_form_is_one.ensures.exists RegionFirst table) c.args.id.now y stable in
     absurd (ends_with_no_repeat (key_step table rules) c.args.id.now y c.in-Ok-Repeats.key ends repeats.again)
+
+pub returns-in-Ok-Same-clause-names : goal.returns-in-Ok-Same-clause-names
+returns-in-Ok-Same-clause-names c z why =
+    let rules = lent c.args.canonicalizer.now.rules in
+    let table = likely c.args.canonicalizer.now.expander in
+    let none = subst (IsOutcome (key_step table rules) c.args.id.now) c.in-Ok-Same.field-0-is c.in-Ok-Same.ensures.outcome in
+    let ends = alone (key_step table rules) c.args.id.now none in
+    absurd (no_reason table rules (c.minimal_form_is_one.ensures.exists RegionFirst table) c.args.id.now c.args.id.now z ends why)
+
+pub returns-in-Ok-Ends-clause-names : goal.returns-in-Ok-Ends-clause-names
+returns-in-Ok-Ends-clause-names c z why =
+    let rules = lent c.args.canonicalizer.now.rules in
+    let table = likely c.args.canonicalizer.now.expander in
+    let later = subst (IsOutcome (key_step table rules) c.args.id.now) c.in-Ok-Ends.field-0-is c.in-Ok-Ends.ensures.outcome in
+    absurd (no_reason table rules (c.minimal_form_is_one.ensures.exists RegionFirst table) c.args.id.now c.in-Ok-Ends.key z later.1 why)
+
+pub returns-in-Ok-Repeats-clause-names : goal.returns-in-Ok-Repeats-clause-names
+returns-in-Ok-Repeats-clause-names c z why =
+    let rules = lent c.args.canonicalizer.now.rules in
+    let table = likely c.args.canonicalizer.now.expander in
+    let form = c.minimal_form_is_one.ensures.exists RegionFirst table in
+    let repeats = subst (IsOutcome (key_step table rules) c.args.id.now) c.in-Ok-Repeats.field-0-is c.in-Ok-Repeats.ensures.outcome in
+    let refused = refusal_of table rules form c.args.id.now c.in-Ok-Repeats.key c.repeat_of.result repeats c.repeat_of.ensures in
+    refused_by table rules form c.args.id.now c.repeat_of.result z refused why

@@ -25,6 +25,6 @@ returns-in-Err-NoFixedPoint-clause-found c =
     let table = likely c.args.canonicalizer.now.expander in
     let first = c.in-Err-NoFixedPoint.field-0-0 in
     let P : LanguageIdentifier → Type 0 = λ x. IsRepeat (next table rules) x first in
-    let repeats : P c.args.id.now = 
+    let repeats : P c.args.id.now =
     subst P c.in-Ok.ensures.same (subst (IsKeyRefusal table rules c.in-Ok.key) c.in-Err-NoFixedPoint.field-0-is c.in-Err-NoFixedPoint.ensures.refused) in
     ap Some (c.in-Err-NoFixedPoint.ensures.unchanged ∙ c.in-Ok.ensures.same) ∙ sym (step_stuck table rules c.args.id.now first repeats)
