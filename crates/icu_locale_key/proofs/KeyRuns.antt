@@ -1,7 +1,6 @@
 -- The run of keys: what its steps, its end and its repeats say of keys.
-use Rattle.std.proofs.Common.{◌≡◌, ◌≢◌, ◌⊎◌, ◌<◌, ℕ, zero, suc, Bool, true, false, cond, List, [], ◌∷◌, ◌++◌, Option, Some, None, option_and_then, unwrap_or, refl, ap, sym, ◌∙◌, subst, inl, inr, arith}
-use Rattle.std.specs.List.{Contains, flat_map}
-use Rattle.std.specs.Option.{option_or}
+use Rattle.std.proofs.Common.{◌≡◌, ◌≢◌, ◌⊎◌, ◌+◌, ◌*◌, ◌≤◌, ℕ, zero, suc, Bool, true, false, cond, List, [], ◌∷◌, ◌++◌, Option, Some, None, option_and_then, unwrap_or, refl, ap, sym, ◌∙◌, subst, inl, inr, arith}
+use Rattle.std.specs.List.{Contains}
 use Rattle.std.specs.Str.{bytes_eq}
 use Rattle.std.proofs.lemmas.Bool.{cases_Bool, cases_lt, false≢true}
 use Rattle.std.proofs.lemmas.List.Elements.{Contains-append_left, Contains-append_right}
@@ -9,10 +8,9 @@ use Rattle.std.proofs.lemmas.Option.{none-some, same_Some, option_and_then_some}
 use Rattle.icu_locale_core.specs.Subtag.{und}
 use Rattle.icu_locale_core.specs.declared.langid.LanguageIdentifier.{LanguageIdentifier}
 use Rattle.icu_locale_core.specs.laws.Identifiers.{same_parts, identifiers_decide}
-use Rattle.icu_provider.specs.declared.data_locale.DataLocale.{DataLocale}
-use Rattle.icu_locale_runs.specs.Run.{at, StandsIn, EndsAt, ComesAgain, IsRepeat, IsUniverse}
+use Rattle.icu_locale_runs.specs.Run.{at, EndsAt, IsRepeat, IsUniverse, HasDistinct}
 use Rattle.icu_locale_runs.specs.laws.Counts.{stays_within}
-use Rattle.icu_locale_runs.specs.laws.Lists.{some_or, Contains-here, Contains-there, Contains-flat_map}
+use Rattle.icu_locale_runs.specs.laws.Lists.{some_or, Contains-flat_map}
 use Rattle.icu_locale_runs.specs.laws.Runs.{end_is_unique, end_is_kept, ends_with_no_repeat, EndsOrRepeats-universe}
 use Rattle.icu_locale.specs.Kinds.{next}
 use Rattle.icu_locale.specs.LikelySubtags.{LikelySubtags, Triple, known_subtag, bare_locale, keys, first_found, filled_from, subtags_of, with_locale, maximal}
@@ -28,9 +26,9 @@ use Rattle.icu_locale.specs.declared.canonicalizer.CanonicalizeError.{Canonicali
 use Rattle.icu_locale.specs.declared.canonicalizer.CanonicalizeError.TheVariants.{Memory, NoFixedPoint, NoSubdivisionFixedPoint}
 use Rattle.icu_locale.specs.declared.canonicalizer.rules.Rules.{Rules}
 use Rattle.icu_locale_key.specs.Keys.{IsKey}
-use Rattle.icu_locale_key.specs.Stable.{Follows, Leads, IsStableKey, IsStuck, ComesRound, IsStableKeyRefusal}
+use Rattle.icu_locale_key.specs.Stable.{Follows, Leads, IsStableKey, IsStuck, ComesRound, IsStableKeyRefusal, CountsKeys}
 use Rattle.icu_locale_key.specs.inner.Universe.{texts_of, rule_texts, triple_texts, table_texts, identifiers_of, key_universe}
-use Rattle.icu_locale_key.specs.inner.KeyRun.{canonical_form, trials, first_of, minimal_form, other_than, step_from, key_step, IsRepeatOf}
+use Rattle.icu_locale_key.specs.inner.KeyRun.{canonical_form, minimal_form, other_than, step_from, key_step, IsRepeatOf}
 use Rattle.icu_locale_key.proofs.Members.{IsIn, IsIn-none, IsIn-some, IsOf, IsOf-texts, HasAll, has_identifier, is_identifier}
 use Rattle.icu_locale_key.proofs.Turns.{IsOf-script, IsOf-region}
 use Rattle.icu_locale_key.proofs.Ends.{stays_among, canonical_some, canonical_ends, canonical_none, ends_or_repeats, same_identifier}
@@ -291,6 +289,21 @@ module _ (likely : LikelySubtags) (rules : Rules) (form : (c : LanguageIdentifie
   pub stable_of_equal : (x y j k l : LanguageIdentifier) → IsKey RegionFirst likely rules x j → IsKey RegionFirst likely rules y j
       → IsStableKey RegionFirst likely rules x k → IsStableKey RegionFirst likely rules y l → k ≡ l
   stable_of_equal x y j k l of_x of_y one other = stable_is_one j k l (stable_is_kept x j k one of_x) (stable_is_kept y j l other of_y)
+
+-- the different states of the run are those that turns lead to
+pub keys_counted : (likely : LikelySubtags) (rules : Rules) → ((c : LanguageIdentifier) → (k : LanguageIdentifier) × IsMinimalForm RegionFirst likely c k)
+    → (x : LanguageIdentifier) (before after n : ℕ) → HasDistinct (key_step likely rules) x n → before ≤ after → after ≤ before + 6 * n + 1
+    → CountsKeys RegionFirst likely rules x before after
+keys_counted likely rules form x before after n (states, has, long) forward most = (
+  states,
+  record {
+    each = λ i y leads. has.each y (i, leads_at likely rules form x i y leads);
+    no_other = λ y here. let stands = has.no_other y here in comes_to likely rules form x stands.0 y stands.1;
+    once = has.once;
+  },
+  forward,
+  omega (arith, long, most),
+)
 
 -- each identifier has a key that stays, or its keys come to one that has none, or come round
 pub stable_or_not : (e : LocaleExpander) (rules : Rules) → ((k : LikelyKey) (t : Triple) → likely e k ≡ Some t → Contains (table_keys e) k)

@@ -1,13 +1,11 @@
 -- What keys that stay mean: steps that lead from an identifier to its key, and on.
-use Rattle.std.proofs.Common.{◌≡◌, ◌⊎◌, ℕ, zero, suc, refl, ap, sym, ◌∙◌, subst, inl, inr}
+use Rattle.std.proofs.Common.{ℕ, zero, suc, refl, sym, subst, inl, inr}
 use Rattle.icu_locale_core.specs.declared.langid.LanguageIdentifier.{LanguageIdentifier}
-use Rattle.icu_locale_runs.specs.Run.{EndsAt, HasOneEnd}
-use Rattle.icu_locale.specs.Kinds.{next}
-use Rattle.icu_locale.specs.LikelySubtags.{LikelySubtags, maximal}
+use Rattle.icu_locale.specs.LikelySubtags.{LikelySubtags}
 use Rattle.icu_locale.specs.declared.expander.Favor.{Favor}
 use Rattle.icu_locale.specs.declared.canonicalizer.rules.Rules.{Rules}
 use Rattle.icu_locale_key.specs.Keys.{IsKey, HasClass}
-use Rattle.icu_locale_key.specs.Stable.{Leads, IsStableKey, IsStep, AreLinkedIn, MeanTheSame, KeysHaveClasses}
+use Rattle.icu_locale_key.specs.Stable.{Leads, IsStep, AreLinkedIn, MeanTheSame, KeysHaveClasses}
 use Rattle.icu_locale_key.proofs.Forms.{maximal_of_minimal}
 
 module _ (likely : LikelySubtags) (rules : Rules) where

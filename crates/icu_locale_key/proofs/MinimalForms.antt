@@ -1,12 +1,12 @@
 -- The minimal form that favors the region, as three trials find it.
-use Rattle.std.proofs.Common.{◌≡◌, ◌≢◌, ◌⊎◌, ◌+◌, ◌<◌, ℕ, Bool, true, false, cond, List, [], ◌∷◌, length, Option, Some, None, refl, ap, sym, ◌∙◌, subst, inl, inr, arith}
+use Rattle.std.proofs.Common.{◌≡◌, ◌≢◌, ◌⊎◌, ◌+◌, ◌<◌, ℕ, cond, List, [], ◌∷◌, Option, Some, None, refl, ap, sym, ◌∙◌, subst, inl, inr, arith}
 use Rattle.std.specs.Option.{IsSome}
 use Rattle.std.proofs.lemmas.Bool.{cases_Bool, false≢true}
 use Rattle.icu_locale_core.specs.TextSet.{len}
 use Rattle.icu_locale_core.specs.declared.langid.LanguageIdentifier.{LanguageIdentifier}
 use Rattle.icu_locale_core.specs.laws.Identifiers.{same_parts, identifiers_decide}
 use Rattle.icu_locale.specs.LikelySubtags.{LikelySubtags, maximal}
-use Rattle.icu_locale.specs.Minimal.{count, subtag_count, IsInClass, IsLeast, IsMinimalForm, Precedes}
+use Rattle.icu_locale.specs.Minimal.{count, IsInClass, IsLeast, IsMinimalForm, Precedes}
 use Rattle.icu_locale.specs.declared.expander.Favor.TheVariants.{RegionFirst}
 use Rattle.icu_locale_key.specs.Keys.{IsPart}
 use Rattle.icu_locale_key.specs.inner.KeyRun.{first_of, trials, minimal_form}

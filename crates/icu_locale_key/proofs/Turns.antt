@@ -1,6 +1,6 @@
 -- What a turn makes of an identifier has no texts but its own and those that rules put in.
 use Rattle.std.proofs.Common.{◌≡◌, ◌==◌, ℕ, Bool, true, false, cond, not, ◌&&◌, ◌||◌, List, [], ◌∷◌, length, map, Option, Some, None, is_some, inl, inr, unwrap_or}
-use Rattle.std.proofs.Common.{codes, refl, ap, sym, ◌∙◌, subst, arith, Vec, Global}
+use Rattle.std.proofs.Common.{codes, refl, sym, ◌∙◌, subst, arith, Vec, Global}
 use Rattle.std.specs.Str.{bytes_eq}
 use Rattle.std.specs.List.{Contains, find, list_any, flat_map}
 use Rattle.std.specs.Option.{option_and_then, option_or}
@@ -10,9 +10,9 @@ use Rattle.std.proofs.lemmas.Map.Views.{Contains-from_lookup}
 use Rattle.std.proofs.lemmas.Option.{none-some, same_Some, option_and_then_some}
 use Rattle.std.proofs.lemmas.Slice.Eq.{bytes_eq-Decides}
 use Rattle.icu_locale_core.specs.Subtag.{is_alphabetic}
-use Rattle.icu_locale_core.specs.TextSet.{text_cmp, empty, len, contains, from_list, rising, image}
+use Rattle.icu_locale_core.specs.TextSet.{text_cmp, empty, len, contains, rising, image}
 use Rattle.icu_locale_core.specs.declared.langid.LanguageIdentifier.{LanguageIdentifier}
-use Rattle.icu_locale_core.specs.laws.TextSets.{is_among, same_from_tied, contains-rising, contains-from_list, contains-replaced, contains-empty}
+use Rattle.icu_locale_core.specs.laws.TextSets.{same_from_tied, contains-rising, contains-from_list, contains-replaced, contains-empty}
 use Rattle.icu_locale_core.specs.laws.TextSets.{Contains-is_among, is_among-Contains}
 use Rattle.icu_locale_core.specs.Maps.{value_at}
 use Rattle.icu_locale.specs.LikelySubtags.{LikelySubtags}

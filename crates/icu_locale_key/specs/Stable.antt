@@ -1,5 +1,6 @@
 -- Keys of keys, until one stays (UTS #35 Part 1, section 4.3 and Annex C): a key need not be its own key.
-use Rattle.std.specs.Prelude.{◌≡◌, ◌≢◌, ◌⊎◌, ℕ, zero, suc, ◌<◌}
+use Rattle.std.specs.Prelude.{◌≡◌, ◌≢◌, ◌⊎◌, ℕ, zero, suc, ◌+◌, ◌*◌, ◌<◌, ◌≤◌, List, length}
+use Rattle.std.specs.List.{AllPairs, Contains}
 use Rattle.icu_locale_core.specs.declared.langid.LanguageIdentifier.{LanguageIdentifier}
 use Rattle.icu_locale_runs.specs.Run.{EndsAt, IsRepeat}
 use Rattle.icu_locale.specs.Kinds.{next}
@@ -55,6 +56,20 @@ IsStableKeyRefusal favor likely rules x Memory = Unit {0}
 IsStableKeyRefusal favor likely rules x (NoFixedPoint z) =
     IsStuck favor likely rules x z ⊎ ComesRound favor likely rules x z
 IsStableKeyRefusal favor likely rules x (NoSubdivisionFixedPoint v) = ⊥
+
+-- the list has x and each key that x comes to, each once and no others
+pub record AreKeysOf (favor : Favor) (likely : LikelySubtags) (rules : Rules)
+    (x : LanguageIdentifier) (keys : List LanguageIdentifier) : Type 0 where
+  pub each : (n : ℕ) (y : LanguageIdentifier) → Leads favor likely rules n x y → Contains keys y
+  pub no_other : (y : LanguageIdentifier) → Contains keys y
+      → (n : ℕ) × Leads favor likely rules n x y
+  pub once : AllPairs (λ y z. y ≢ z) keys
+
+-- the keys that were made from before to after are at most six for each of these, and one
+abbrev pub CountsKeys : Favor → LikelySubtags → Rules → LanguageIdentifier → ℕ → ℕ → Type 0
+CountsKeys favor likely rules x before after = (keys : List LanguageIdentifier)
+    × AreKeysOf favor likely rules x keys × (before ≤ after)
+    × (after ≤ before + 6 * length keys + 1)
 
 -- y is the canonical form of x, or x that of y, or their maximal forms are equal
 abbrev pub IsStep : LikelySubtags → Rules → LanguageIdentifier → LanguageIdentifier → Type 0

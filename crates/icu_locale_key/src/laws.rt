@@ -125,8 +125,8 @@ pub fn stable_key_is_one()
         → IsStableKey RegionFirst likely rules x k → IsStableKey RegionFirst likely rules x l
         → k ≡ l }
     ensures not_both { (likely : LikelySubtags) (rules : Rules) (x k z : LanguageIdentifier)
-        → IsStableKey RegionFirst likely rules x k
-        → IsStuck RegionFirst likely rules x z ⊎ ComesRound RegionFirst likely rules x z → ⊥ }
+        → IsStableKey RegionFirst likely rules x k → IsStuck RegionFirst likely rules x z
+        ⊎ ComesRound RegionFirst likely rules x z → ⊥ }
     ensures one_reason { (likely : LikelySubtags) (rules : Rules) (x y z : LanguageIdentifier)
         → IsStuck RegionFirst likely rules x y ⊎ ComesRound RegionFirst likely rules x y
         → IsStuck RegionFirst likely rules x z ⊎ ComesRound RegionFirst likely rules x z
@@ -173,7 +173,8 @@ pub fn stable_keys_mean_the_same()
     ensures least { (likely : LikelySubtags) (rules : Rules)
         (test : LanguageIdentifier → LanguageIdentifier → Bool)
         → ((x : LanguageIdentifier) → test x x ≡ true)
-        → ((x y z : LanguageIdentifier) → test x y ≡ true → test y z ≡ true → test x z ≡ true)
+        → ((x y z : LanguageIdentifier) → test x y ≡ true → test y z ≡ true
+        → test x z ≡ true)
         → ((x y : LanguageIdentifier) → IsStep likely rules x y → test x y ≡ true)
         → (x y : LanguageIdentifier) → MeanTheSame likely rules x y → test x y ≡ true }
 {

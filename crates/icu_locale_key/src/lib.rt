@@ -9,4 +9,4 @@ mod stable;
 mod tests;
 
 pub use keys::{bring_to_key, bring_to_key_favor_script, is_own_key, keys_are_stable};
-pub use stable::bring_to_stable_key;
+pub use stable::{bring_to_stable_key, bring_to_stable_key_counted};

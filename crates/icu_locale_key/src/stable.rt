@@ -1,12 +1,12 @@
 //! The key that stays: from an identifier to its key, and on, until a key is its own.
-ghost use Rattle.std.specs.Prelude.{◌≡◌, ◌⊎◌, Err, IsOk, OnOk, OnErr, IfOk, IfErr};
+ghost use Rattle.std.specs.Prelude.{◌≡◌, ◌⊎◌, ◌+◌, Err, IsOk, OnOk, OnErr, IfOk, IfErr};
 ghost use Rattle.icu_locale_core.specs.declared.langid.LanguageIdentifier.{LanguageIdentifier};
 ghost use Rattle.icu_locale_core.specs.laws.Identifiers.{identifiers_decide};
 ghost use Rattle.icu_locale.specs.LikelyTable.{likely};
 ghost use Rattle.icu_locale.specs.Refusals.{IsMemory, IsOutOfMemory};
 ghost use Rattle.icu_locale.specs.RuleSet.{lent};
 ghost use Rattle.icu_locale.specs.declared.expander.Favor.TheVariants.{RegionFirst};
-ghost use Rattle.icu_locale_key.specs.Stable.{IsStableKey, IsStuck, ComesRound, IsStableKeyRefusal};
+ghost use Rattle.icu_locale_key.specs.Stable.{IsStableKey, IsStuck, ComesRound, IsStableKeyRefusal, CountsKeys};
 ghost use Rattle.icu_locale_key.specs.inner.KeyRun.{key_step, other_than, IsRepeatOf};
 ghost use Rattle.icu_locale_key.specs.inner.Universe.{key_universe};
 
@@ -75,10 +75,16 @@ fn other_than(id: &LanguageIdentifier, key: LanguageIdentifier) -> Option<Langua
 }
 
 // Why an identifier that follows itself or comes round has no key that stays.
-fn repeat_of(canonicalizer: &CanonicalizerRef<'_>, key: LanguageIdentifier) -> CanonicalizeError
-    ensures { IsRepeatOf (likely canonicalizer.now.expander) (lent canonicalizer.now.rules) key
-        result }
+fn repeat_of(
+    canonicalizer: &CanonicalizerRef<'_>,
+    key: LanguageIdentifier,
+    turns: &mut Turns,
+) -> CanonicalizeError
+    ensures told { IsRepeatOf (likely canonicalizer.now.expander) (lent canonicalizer.now.rules)
+        key result }
+    ensures counted { turns.new ≡ turns.old + 1 }
 {
+    turns.take();
     let mut next = match key.try_clone() {
         Ok(next) => next,
         Err(_) => return CanonicalizeError::Memory,
@@ -90,7 +96,7 @@ fn repeat_of(canonicalizer: &CanonicalizerRef<'_>, key: LanguageIdentifier) -> C
 }
 
 /// Brings an identifier to its key that stays: to its key, as `bring_to_key` makes it, to the key of that, and on, until
-/// one is its own. It takes no memory but that of `bring_to_key`, and for a copy of the variants of each key.
+/// one is its own. It takes no memory but that of `bring_to_key` and, for each key, for a copy of the variants.
 ///
 /// # Errors
 ///
@@ -117,18 +123,48 @@ pub fn bring_to_stable_key(
         (lent canonicalizer.now.rules) id.old z
         → (result ≡ Err (CanonicalizeError.NoFixedPoint z)) ⊎ IsOutOfMemory result }
 {
+    bring_to_stable_key_counted(canonicalizer, id, &mut Turns::new())
+}
+
+/// The same as `bring_to_stable_key`, with a count of the keys that are made: at most six for each different identifier
+/// that the walk comes to, and one.
+///
+/// # Errors
+///
+/// Those of `bring_to_stable_key`. The identifier is unchanged then.
+pub fn bring_to_stable_key_counted(
+    canonicalizer: &CanonicalizerRef<'_>,
+    id: &mut LanguageIdentifier,
+    turns: &mut Turns,
+) -> Result<(), CanonicalizeError>
+    ensures key { OnOk result (IsStableKey RegionFirst (likely canonicalizer.now.expander)
+        (lent canonicalizer.now.rules) id.old id.new) }
+    ensures refused { IfErr result (IsStableKeyRefusal RegionFirst
+        (likely canonicalizer.now.expander) (lent canonicalizer.now.rules) id.old) }
+    ensures unchanged { OnErr result (id.new ≡ id.old) }
+    ensures ends { (y : LanguageIdentifier) → IsStableKey RegionFirst
+        (likely canonicalizer.now.expander) (lent canonicalizer.now.rules) id.old y
+        → IsOk result ⊎ IsOutOfMemory result }
+    ensures names { (z : LanguageIdentifier) → IsStuck RegionFirst
+        (likely canonicalizer.now.expander) (lent canonicalizer.now.rules) id.old z
+        ⊎ ComesRound RegionFirst (likely canonicalizer.now.expander)
+        (lent canonicalizer.now.rules) id.old z
+        → (result ≡ Err (CanonicalizeError.NoFixedPoint z)) ⊎ IsOutOfMemory result }
+    ensures count { CountsKeys RegionFirst (likely canonicalizer.now.expander)
+        (lent canonicalizer.now.rules) id.old turns.old turns.new }
+{
     laws::minimal_form_is_one();
     laws::the_likely_table_is_one_map();
     let run = KeyRun {
         canonicalizer: *canonicalizer,
     };
-    match end_of_run(&run, id, &mut Turns::new()) {
+    match end_of_run(&run, id, turns) {
         Ok(Outcome::Same) => Ok(()),
         Ok(Outcome::Ends(key)) => {
             *id = key;
             Ok(())
         }
-        Ok(Outcome::Repeats(key)) => Err(repeat_of(canonicalizer, key)),
+        Ok(Outcome::Repeats(key)) => Err(repeat_of(canonicalizer, key, turns)),
         Err(_) => Err(CanonicalizeError::Memory),
     }
 }

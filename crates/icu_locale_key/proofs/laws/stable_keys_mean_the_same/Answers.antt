@@ -1,4 +1,4 @@
-use Rattle.std.proofs.Common.{◌≡◌, true, refl, sym, subst, false}
+use Rattle.std.proofs.Common.{◌≡◌, true, refl, subst, false}
 use Rattle.icu_locale_key.specs.Keys.{HasClass}
 use Rattle.icu_locale_key.proofs.Meaning.{key_means, leads_means, least_of, means_back, means_through}
 use Rattle.icu_locale_key.proofs.laws.stable_keys_mean_the_same.Goals as goal

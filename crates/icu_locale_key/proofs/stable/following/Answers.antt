@@ -1,4 +1,4 @@
-use Rattle.std.proofs.Common.{◌≡◌, Some, ap, sym, ◌∙◌, subst}
+use Rattle.std.proofs.Common.{Some, ap, sym, ◌∙◌, subst}
 use Rattle.icu_locale_core.specs.declared.langid.LanguageIdentifier.{LanguageIdentifier}
 use Rattle.icu_locale_runs.specs.Run.{IsRepeat}
 use Rattle.icu_locale.specs.Kinds.{next}

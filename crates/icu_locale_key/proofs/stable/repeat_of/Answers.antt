@@ -6,8 +6,8 @@ use Rattle.icu_locale.specs.declared.expander.Favor.TheVariants.{RegionFirst}
 use Rattle.icu_locale_key.specs.Keys.{IsKey}
 use Rattle.icu_locale_key.proofs.stable.repeat_of.Goals as goal
 
-pub returns-in-Ok-bring_to_key : goal.returns-in-Ok-bring_to_key
-returns-in-Ok-bring_to_key c =
+pub returns-in-Ok-bring_to_key-clause-told : goal.returns-in-Ok-bring_to_key-clause-told
+returns-in-Ok-bring_to_key-clause-told c =
     let rules = lent c.args.canonicalizer.now.rules in
     let table = likely c.args.canonicalizer.now.expander in
     let P : LanguageIdentifier → Type 0 = λ x. IsKey RegionFirst table rules x c.bring_to_key.new.id in

@@ -1,4 +1,4 @@
-use Rattle.std.proofs.Common.{subst}
+use Rattle.std.proofs.Common.{subst, arith}
 use Rattle.icu_locale_runs.specs.Run.{IsOutcome}
 use Rattle.icu_locale_runs.specs.laws.LaterEnds.{alone}
 use Rattle.icu_locale_runs.specs.laws.Runs.{ends_with_no_repeat}
@@ -6,9 +6,9 @@ use Rattle.icu_locale.specs.LikelyTable.{likely}
 use Rattle.icu_locale.specs.RuleSet.{lent}
 use Rattle.icu_locale.specs.declared.expander.Favor.TheVariants.{RegionFirst}
 use Rattle.icu_locale_key.specs.inner.KeyRun.{key_step}
-use Rattle.icu_locale_key.proofs.KeyRuns.{keys_stay_among, ends_stable, stable_ends, refusal_of}
+use Rattle.icu_locale_key.proofs.KeyRuns.{keys_counted, keys_stay_among, ends_stable, stable_ends, refusal_of}
 use Rattle.icu_locale_key.proofs.Unsettled.{no_reason, refused_by}
-use Rattle.icu_locale_key.proofs.stable.bring_to_stable_key.Goals as goal
+use Rattle.icu_locale_key.proofs.stable.bring_to_stable_key_counted.Goals as goal
 
 pub end_of_run-requires : goal.end_of_run-requires
 end_of_run-requires c =
@@ -37,7 +37,7 @@ returns-in-Ok-Repeats-clause-refused c =
     let table = likely c.args.canonicalizer.now.expander in
     let repeats = subst (IsOutcome (key_step table rules) c.args.id.now) c.in-Ok-Repeats.field-0-is c.in-Ok-Repeats.ensures.outcome in
     refusal_of table rules (c.minimal_form_is_one.ensures.exists RegionFirst table) c.args.id.now c.in-Ok-Repeats.key c.repeat_of.result
-    repeats c.repeat_of.ensures
+    repeats c.repeat_of.ensures.told
 
 -- what has a key that stays has no repeat
 pub returns-in-Ok-Repeats-clause-ends : goal.returns-in-Ok-Repeats-clause-ends
@@ -69,5 +69,37 @@ returns-in-Ok-Repeats-clause-names c z why =
     let table = likely c.args.canonicalizer.now.expander in
     let form = c.minimal_form_is_one.ensures.exists RegionFirst table in
     let repeats = subst (IsOutcome (key_step table rules) c.args.id.now) c.in-Ok-Repeats.field-0-is c.in-Ok-Repeats.ensures.outcome in
-    let refused = refusal_of table rules form c.args.id.now c.in-Ok-Repeats.key c.repeat_of.result repeats c.repeat_of.ensures in
+    let refused = refusal_of table rules form c.args.id.now c.in-Ok-Repeats.key c.repeat_of.result repeats c.repeat_of.ensures.told in
     refused_by table rules form c.args.id.now c.repeat_of.result z refused why
+
+pub returns-in-Ok-Same-clause-count : goal.returns-in-Ok-Same-clause-count
+returns-in-Ok-Same-clause-count c =
+    let rules = lent c.args.canonicalizer.now.rules in
+    let table = likely c.args.canonicalizer.now.expander in
+    let counted = c.end_of_run.ensures.count in
+    keys_counted table rules (c.minimal_form_is_one.ensures.exists RegionFirst table) c.args.id.now c.args.turns.now c.end_of_run.new.turns counted.0 counted.1
+    (omega (arith, c.end_of_run.ensures.forward)) (omega (arith, counted.2))
+
+pub returns-in-Ok-Ends-clause-count : goal.returns-in-Ok-Ends-clause-count
+returns-in-Ok-Ends-clause-count c =
+    let rules = lent c.args.canonicalizer.now.rules in
+    let table = likely c.args.canonicalizer.now.expander in
+    let counted = c.end_of_run.ensures.count in
+    keys_counted table rules (c.minimal_form_is_one.ensures.exists RegionFirst table) c.args.id.now c.args.turns.now c.end_of_run.new.turns counted.0 counted.1
+    (omega (arith, c.end_of_run.ensures.forward)) (omega (arith, counted.2))
+
+pub returns-in-Ok-Repeats-clause-count : goal.returns-in-Ok-Repeats-clause-count
+returns-in-Ok-Repeats-clause-count c =
+    let rules = lent c.args.canonicalizer.now.rules in
+    let table = likely c.args.canonicalizer.now.expander in
+    let counted = c.end_of_run.ensures.count in
+    keys_counted table rules (c.minimal_form_is_one.ensures.exists RegionFirst table) c.args.id.now c.args.turns.now c.repeat_of.new.turns counted.0 counted.1
+    (omega (arith, c.end_of_run.ensures.forward, c.repeat_of.ensures.counted)) (omega (arith, counted.2, c.repeat_of.ensures.counted))
+
+pub returns-clause-count : goal.returns-clause-count
+returns-clause-count c =
+    let rules = lent c.args.canonicalizer.now.rules in
+    let table = likely c.args.canonicalizer.now.expander in
+    let counted = c.end_of_run.ensures.count in
+    keys_counted table rules (c.minimal_form_is_one.ensures.exists RegionFirst table) c.args.id.now c.args.turns.now c.end_of_run.new.turns counted.0 counted.1
+    (omega (arith, c.end_of_run.ensures.forward)) (omega (arith, counted.2))
