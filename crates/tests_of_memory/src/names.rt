@@ -105,6 +105,29 @@ impl Call for WriteName<'_> {
     }
 }
 
+// Writing alone: five spans are more than a list first has room for, so three requests are made. Each is for more than one
+// step of the budgets, and none gives room back that the next could take, so each is refused in its turn at some budget.
+#[test]
+fn spans_at_every_budget(rt: HostRuntime) {
+    let alloc = rt.alloc();
+    let tables = patterns(alloc).expect(&rt, "patterns");
+    let subject = identifier(alloc, "tlh-Qabc-150-1901-1996-posix").expect(&rt, "identifier");
+    let name = named(
+        alloc,
+        &tables,
+        english().expect(&rt, "english"),
+        &subject,
+        NameChain::Light,
+    )
+    .expect(&rt, "a name");
+    let call = WriteName {
+        name: name.as_borrowed(),
+        text: "tlh (Qabc, Europe, 1901, 1996, posix)",
+        spans: &[(0, 3), (5, 9), (19, 23), (25, 29), (31, 36)],
+    };
+    stands(&rt, alloc, &call);
+}
+
 // Making a name, and writing it.
 #[derive(Drop)]
 struct MakeName<'t> {
