@@ -1,5 +1,5 @@
 //! Names of whole locale identifiers.
-ghost use Rattle.std.specs.Prelude.{◌≡◌, ◌≢◌, ◌⊎◌, ◌↔◌, ◌++◌, [], Some, Err, IsErr, IfOk, IfErr, OnOk, OnErr, length, ◌==◌, not};
+ghost use Rattle.std.specs.Prelude.{◌≡◌, ◌≢◌, ◌⊎◌, ◌↔◌, ◌++◌, ◌+◌, ◌<◌, [], Some, Err, IsErr, IfOk, IfErr, OnOk, OnErr, length, ◌==◌, not, vec_capacity, vec_len};
 ghost use Rattle.std.specs.Io.KnownBytes.{Appends};
 ghost use Rattle.icu_locale_core.specs.Sinks.{AppendsPart};
 ghost use Rattle.icu_locale_names.specs.LanguageChains.{chain_of};
@@ -90,15 +90,17 @@ impl LocaleDisplayName {
         self.draft.raw_spans.as_slice()
     }
 
-    /// Appends the text to `text`, and tells whether a raw part is in it. It takes memory where `text` has no room.
+    /// Appends the text to `text`, and tells whether a raw part is in it. It takes memory only where `text` has no room.
     ///
     /// # Errors
     ///
-    /// `Memory` where `text` could not grow. It is as it was then.
+    /// `Memory` where `text` had no room and could not grow, never else. It is as it was then.
     pub fn append_to(&self, text: &mut Vec<u8>) -> Result<bool, NameWriteError>
         ensures text { OnOk result (text.new.items ≡ text.old.items ++ self.now.text) }
         ensures raw { IfOk result (λ is_raw. is_raw ≡ not (length self.now.raw_spans == 0)) }
         ensures refused { IfErr result (λ e. e ≡ NameWriteError.Memory) }
+        ensures full { OnErr result
+            (vec_capacity text.old < vec_len text.old + length self.now.text) }
         ensures unchanged { OnErr result (text.new.items ≡ text.old.items) }
     {
         text.extend_from_slice(self.as_str().as_bytes())?;
@@ -107,13 +109,14 @@ impl LocaleDisplayName {
 
     /// Writes the text, and appends the span of each raw part to `parts`, as
     /// `LanguageIdentifierDisplayNameBorrowed::try_write_to_parts` does. The report inside is `Err` exactly where there is
-    /// a raw part. It takes memory for the spans alone.
+    /// a raw part. It takes memory for the spans alone, and only where `parts` has no room for them.
     ///
     /// # Errors
     ///
     /// `parts` is unchanged after each.
     ///
-    /// - `Memory` where the spans found no room, never where no raw part is in the text. Nothing was written.
+    /// - `Memory` where `parts` had no room for the spans and could not grow, so never where no raw part is in the text.
+    ///   Nothing was written.
     /// - `Sink` where a write failed or took no byte. A beginning of the text was written, and not the whole.
     pub fn try_write_to_parts<W: io::Write>(
         &self,
@@ -130,6 +133,8 @@ impl LocaleDisplayName {
         ensures part { result ≡ Err NameWriteError.Sink → AppendsPart (W.contents sink.old)
             (W.contents sink.new) self.now.text }
         ensures unmarked { OnErr result (parts.new.items ≡ parts.old.items) }
+        ensures full { result ≡ Err NameWriteError.Memory
+            → vec_capacity parts.old < vec_len parts.old + length self.now.raw_spans }
         ensures free { self.now.raw_spans ≡ [] → result ≢ Err NameWriteError.Memory }
     {
         let before = parts.as_slice().len();
