@@ -5,8 +5,6 @@ mod filling;
 mod keys;
 pub mod laws;
 mod stable;
-#[cfg(test)]
-mod tests;
 
 pub use keys::{bring_to_key, bring_to_key_favor_script, is_own_key, keys_are_stable};
 pub use stable::{bring_to_stable_key, bring_to_stable_key_counted};

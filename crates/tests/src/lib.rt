@@ -18,6 +18,8 @@ mod full_names;
 #[cfg(test)]
 mod grammar;
 #[cfg(test)]
+mod keys;
+#[cfg(test)]
 mod languages;
 #[cfg(test)]
 mod maps;

@@ -1,9 +1,9 @@
 //! Keys over small tables: keys that are not their own, that have no key, that come round, and both minimal forms.
-use crate::{
-    bring_to_key, bring_to_key_favor_script, bring_to_stable_key, is_own_key, keys_are_stable,
-};
 use icu_locale::{CanonicalizeError, CanonicalizerRef, LocaleCanonicalizer};
 use icu_locale_core::{Language, LanguageIdentifier, Region, Script};
+use icu_locale_key::{
+    bring_to_key, bring_to_key_favor_script, bring_to_stable_key, is_own_key, keys_are_stable,
+};
 use icu_provider::{
     Aliases, LanguageStrStrPair, LikelySubtagsForLanguage, LikelySubtagsForScriptRegion,
 };
