@@ -190,6 +190,8 @@ fn identifier_of(tag: LocaleIdentifier) -> LanguageIdentifier
 fn read_tag(alloc: Global, range: &[u8]) -> Result<Option<LocaleIdentifier>, AllocError>
     ensures { IfOk result (IsOnly (IsTag range.now)) }
 {
+    // a law for the proof: no code runs
+    icu_locale_extensions::laws::refusals_are_faults();
     match LocaleIdentifier::try_from_bcp47(alloc, range) {
         Ok(tag) => Ok(Some(tag)),
         Err(ParseError::Memory) => Err(AllocError),
