@@ -5,7 +5,7 @@ use icu_locale_key::{
     bring_to_key, bring_to_key_favor_script, bring_to_stable_key, is_own_key, keys_are_stable,
 };
 use icu_provider::{
-    Aliases, LanguageStrStrPair, LikelySubtagsForLanguage, LikelySubtagsForScriptRegion,
+    Aliases, LanguageStrStrPair, LikelySubtagsForLanguage, LikelySubtagsForScriptRegion, StrStrPair,
 };
 use std::alloc::Global;
 use std::process::Abort;
@@ -183,6 +183,25 @@ fn keys_that_come_round(rt: HostRuntime) {
     has_key(&rt, alloc, &lent, "en", "fr", false);
     has_no_stable_key(&rt, alloc, &lent, "und-US", "en");
     has_no_stable_key(&rt, alloc, &lent, "fr", "fr");
+}
+
+// `und-US` and `en-US` have one maximal form, and a rule matches the second alone.
+#[test]
+fn equal_maximal_forms_with_other_keys(rt: HostRuntime) {
+    let alloc = rt.alloc();
+    let likely = likely(&rt, alloc, "en", "Latn", "US");
+    let others = LikelySubtagsForScriptRegion::new(alloc);
+    let mut aliases = Aliases::new(alloc);
+    let from = format!(in alloc; "en-US").expect(&rt, "memory");
+    let to = format!(in alloc; "fr").expect(&rt, "memory");
+    aliases
+        .push_language(StrStrPair(from, to))
+        .expect(&rt, "memory");
+    let canonicalizer = LocaleCanonicalizer::new_common(alloc, &likely, &others, &aliases);
+    let canonicalizer = canonicalizer.expect(&rt, "tables");
+    let lent = canonicalizer.lend();
+    has_stable_key(&rt, alloc, &lent, "und-US", "en");
+    has_stable_key(&rt, alloc, &lent, "en-US", "fr");
 }
 
 // UTS #35 Part 1, section 4.3: `zh-TW`, or `zh-Hant` where the script is favored.
