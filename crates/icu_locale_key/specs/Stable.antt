@@ -60,13 +60,15 @@ IsStableKeyRefusal favor likely rules x (NoSubdivisionFixedPoint v) = ⊥
 -- the list has x and each key that x comes to, each once and no others
 pub record AreKeysOf (favor : Favor) (likely : LikelySubtags) (rules : Rules)
     (x : LanguageIdentifier) (keys : List LanguageIdentifier) : Type 0 where
-  pub each : (n : ℕ) (y : LanguageIdentifier) → Leads favor likely rules n x y → Contains keys y
+  pub each : (n : ℕ) (y : LanguageIdentifier) → Leads favor likely rules n x y
+      → Contains keys y
   pub no_other : (y : LanguageIdentifier) → Contains keys y
       → (n : ℕ) × Leads favor likely rules n x y
   pub once : AllPairs (λ y z. y ≢ z) keys
 
 -- the keys that were made from before to after are at most six for each of these, and one
-abbrev pub CountsKeys : Favor → LikelySubtags → Rules → LanguageIdentifier → ℕ → ℕ → Type 0
+abbrev pub CountsKeys : Favor → LikelySubtags → Rules → LanguageIdentifier → ℕ → ℕ
+    → Type 0
 CountsKeys favor likely rules x before after = (keys : List LanguageIdentifier)
     × AreKeysOf favor likely rules x keys × (before ≤ after)
     × (after ≤ before + 6 * length keys + 1)

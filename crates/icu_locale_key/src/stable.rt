@@ -101,7 +101,7 @@ fn repeat_of(
 /// # Errors
 ///
 /// - `NoFixedPoint` exactly where no key stays. Where the rules come to no end on the identifier or on a key, it names
-///   the first identifier that comes again by them. Where the keys come round, it names the first that comes again.
+///   the first identifier that comes again by them; where the keys come round, the first key that comes again.
 /// - `Memory` where memory was asked for and refused.
 ///
 /// The identifier is unchanged then.
