@@ -30,9 +30,8 @@ module _ (facts : SyntaxFacts) (s : Syntax) where
   all_bare (t ∷ ts) [] ws each whole = absurd each
   all_bare (t ∷ ts) (x ∷ xs) [] each whole = absurd whole
   all_bare (t ∷ ts) (x ∷ xs) (w ∷ ws) each whole =
-      let known = facts.known x each.0.0 in
       let spells = facts.alike s t x each.0.0 each.0.1 in
-      let same = facts.spelling.whole s t w (bare x) whole.0.0 known whole.0.1 spells in
+      let same : w ≡ bare x = cc (sym ((facts.spelling.read s t w).0 whole.0.1) ∙ (facts.spelling.read s t (bare x)).0 spells) in
       let others = all_bare ts xs ws each.1 whole.1 in
       λ i. same i ∷ others i
 

@@ -192,7 +192,7 @@ module _ (facts : SpellingFacts) where
   once_in None = alone_once
   once_in (Some s) = record {
     one = λ t x y p q. sym p.3 ∙ ap (λ w. w.locale.id) ((whole_once s).one t p.0 q.0 (p.1, p.2) (q.1, q.2)) ∙ q.3;
-    apart = λ t x e p fault. facts.nothing s t e p.0 fault p.1 p.2;
+    apart = λ t x e p fault. (whole_once s).apart t p.0 e (p.1, p.2) fault;
     fault = (whole_once s).fault;
   }
 
