@@ -11,3 +11,4 @@ pub mod Rows
 pub mod Subsets
 pub mod Turns
 pub mod Unsettled
+pub mod WholeKeys

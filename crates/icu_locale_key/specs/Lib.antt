@@ -1,4 +1,5 @@
 pub mod Filling
 pub mod Keys
 pub mod Stable
+pub mod Whole
 pub mod inner

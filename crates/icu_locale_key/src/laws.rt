@@ -6,7 +6,7 @@ ghost use Rattle.icu_locale_runs.specs.Run.{EndsAt, IsRepeat};
 ghost use Rattle.icu_locale.specs.Kinds.{next};
 ghost use Rattle.icu_locale.specs.LikelySubtags.{LikelySubtags, maximal, IsSettled};
 ghost use Rattle.icu_locale.specs.LikelyTable.{likely};
-ghost use Rattle.icu_locale.specs.Minimal.{IsMinimalForm};
+ghost use Rattle.icu_locale.specs.Minimal.{IsMinimalForm, IsLeast};
 ghost use Rattle.icu_locale.specs.declared.expander.LocaleExpander.{LocaleExpander};
 ghost use Rattle.icu_locale.specs.declared.expander.Favor.{Favor};
 ghost use Rattle.icu_locale.specs.declared.expander.Favor.TheVariants.{RegionFirst};
@@ -14,6 +14,28 @@ ghost use Rattle.icu_locale.specs.declared.canonicalizer.rules.Rules.{Rules};
 ghost use Rattle.icu_locale_key.specs.Filling.{LeavesFilled, leaves_tables};
 ghost use Rattle.icu_locale_key.specs.Keys.{IsKey, IsPart, HasClass, KeysStayCanonical};
 ghost use Rattle.icu_locale_key.specs.Stable.{IsStableKey, IsStuck, ComesRound, KeysHaveClasses, IsStep, MeanTheSame};
+ghost use Rattle.icu_locale_key.specs.Whole.{IsWholeKey, IsWholeKeyRefusal};
+ghost use Rattle.icu_locale_extensions.specs.Built.{with_id};
+ghost use Rattle.icu_locale_extensions.specs.declared.identifier.LocaleIdentifier.{LocaleIdentifier};
+ghost use Rattle.icu_locale_values.specs.Refusals.{IsMemory};
+ghost use Rattle.icu_locale_values.specs.Whole.{WholeRules, IsWhole, AreMaps};
+ghost use Rattle.icu_locale_values.specs.declared.error.WholeError.{WholeError};
+
+/// Minimal forms are canonical where less is asked than that maximal forms are settled: that maximizing them again changes
+/// nothing. Of such identifiers the minimal forms are equal exactly where the maximal forms are, and each is the least of
+/// its class.
+pub fn minimal_forms_tell_apart()
+    ensures equal { (favor : Favor) (likely : LikelySubtags) (x y k l : LanguageIdentifier)
+        → maximal likely (maximal likely x) ≡ maximal likely x
+        → maximal likely (maximal likely y) ≡ maximal likely y
+        → IsMinimalForm favor likely x k → IsMinimalForm favor likely y l
+        → (k ≡ l) ↔ (maximal likely x ≡ maximal likely y) }
+    ensures least { (favor : Favor) (likely : LikelySubtags) (x k : LanguageIdentifier)
+        → maximal likely (maximal likely x) ≡ maximal likely x
+        → IsMinimalForm favor likely x k → IsLeast favor likely x k }
+{
+    icu_locale::laws::minimal_form_is_one();
+}
 
 /// Over every table, an identifier has one key at most: it has one exactly where its run ends, the minimal form of that
 /// end.
@@ -179,4 +201,29 @@ pub fn stable_keys_mean_the_same()
         → (x y : LanguageIdentifier) → MeanTheSame likely rules x y → test x y ≡ true }
 {
     icu_locale::laws::runs_end_or_repeat();
+}
+
+/// A locale identifier has one key at most, or one reason why it has none, want of memory aside. Its key is its own key.
+/// Where two whole canonical forms differ by their identifiers alone, and the maximal forms of these are equal, so are the
+/// keys.
+pub fn whole_key_is_one()
+    ensures one { (by : WholeRules) (x k l : LocaleIdentifier) → IsWholeKey by x k
+        → IsWholeKey by x l → k ≡ l }
+    ensures not_both { (by : WholeRules) (x k : LocaleIdentifier) (e : WholeError)
+        → IsWholeKey by x k → IsWholeKeyRefusal by x e → IsMemory e }
+    ensures one_reason { (by : WholeRules) (x : LocaleIdentifier) (e f : WholeError)
+        → IsWholeKeyRefusal by x e → IsWholeKeyRefusal by x f → ¬ (IsMemory e)
+        → ¬ (IsMemory f) → e ≡ f }
+    ensures own { (by : WholeRules) (x k : LocaleIdentifier) → IsWholeKey by x k
+        → IsWholeKey by k k }
+    ensures equal { (by : WholeRules) (x y c d k l : LocaleIdentifier) → AreMaps c → AreMaps d
+        → IsWhole by x c → IsWhole by y d → with_id d c.locale.id ≡ c
+        → maximal by.likely c.locale.id ≡ maximal by.likely d.locale.id
+        → IsWholeKey by x k → IsWholeKey by y l → k ≡ l }
+{
+    icu_locale::laws::minimal_form_is_one();
+    icu_locale_values::laws::whole_form_is_one();
+    icu_locale_values::laws::whole_form_stays();
+    icu_locale_values::laws::whole_where_runs_end();
+    icu_locale_values::laws::a_refusal_is_one();
 }

@@ -1,7 +1,8 @@
 //! Runs and streams that are larger than rows: megabytes of tables and of lines, a thousand identifiers, names and lines of
 //! thousands of bytes, and readers without an end.
 use crate::case::{ALL, Case, ends};
-use icu_locale_lines::{CliError, SAMPLE, read_all};
+use icu_locale_extensions::Syntax;
+use icu_locale_lines::{CliError, SAMPLE, fault_of_list, read_all};
 use std::alloc::Global;
 use std::io;
 use std::io::Read;
@@ -75,6 +76,27 @@ fn a_thousand_identifiers(rt: HostRuntime) {
     text.push_str("en-Latn-US-1998\n").expect(&rt, "memory");
     let output = "999\tzh-TW\n999\ten-1998\n";
     runs(&rt, alloc, "negotiate json", text.as_str(), output);
+}
+
+// The place of the first text of a list that is no identifier, before and behind the sizes of every day.
+#[test]
+fn the_first_fault_of_a_list(rt: HostRuntime) {
+    let alloc = rt.alloc();
+    for (text, wanted) in [
+        ("", None),
+        ("en zh-Hant", None),
+        ("en en- x-", Some(1)),
+        (" en", Some(0)),
+    ] {
+        let told = fault_of_list(alloc, None, text.as_bytes()).expect(&rt, "memory");
+        assert!(&rt; told == wanted, "at {text}");
+    }
+    let mut text = format!(in alloc; "").expect(&rt, "memory");
+    english_by_numbers(&rt, &mut text, 1_000, 1_999);
+    text.push_str("x- en-").expect(&rt, "memory");
+    let told = fault_of_list(alloc, Some(Syntax::Unicode), text.as_bytes());
+    let told = told.expect(&rt, "memory");
+    assert!(&rt; told == Some(999));
 }
 
 #[test]

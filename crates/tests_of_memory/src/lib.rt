@@ -15,6 +15,8 @@ mod full_names;
 #[cfg(test)]
 mod identifiers;
 #[cfg(test)]
+mod keys;
+#[cfg(test)]
 mod locales;
 #[cfg(test)]
 mod names;
