@@ -100,8 +100,8 @@ enum {
     /* icu_locale_open and icu_locale_supplement: the JSON has not the shape of tables, or of a supplement. */
     ICU_LOCALE_SHAPE = 6,
 
-    /* icu_locale_answer: no command has these words. icu_locale_available_in and
-       icu_locale_negotiate_in: the word is that of no syntax. */
+    /* icu_locale_answer: no command has these words. icu_locale_available_in, icu_locale_negotiate_in and
+       icu_locale_list_fault: the word is that of no syntax. */
     ICU_LOCALE_COMMAND = 7,
 
     /* icu_locale_answer, icu_locale_is_settled, icu_locale_available and icu_locale_available_in: the tables leave out one that
@@ -112,11 +112,12 @@ enum {
        holds no list of what is available. This is told before a table that is left out. */
     ICU_LOCALE_NEGOTIATE = 9,
 
-    /* icu_locale_available, icu_locale_negotiate and both in a syntax: the text lists something that is no identifier, or no
-       locale identifier in the syntax. */
+    /* icu_locale_available, icu_locale_negotiate, both in a syntax, and icu_locale_list_fault: the text lists something that
+       is no identifier, or no locale identifier in the syntax. */
     ICU_LOCALE_LIST = 10,
 
-    /* icu_locale_available and icu_locale_available_in: the likely tables are not settled. */
+    /* icu_locale_negotiate and icu_locale_negotiate_in, and icu_locale_answer at `negotiate`: the likely tables are not
+       settled. This is told before the line is read. */
     ICU_LOCALE_UNSETTLED = 11,
 
     /* icu_locale_supplement: another handle has the tables too. */
@@ -154,11 +155,11 @@ int32_t icu_locale_share(struct icu_locale *from, struct icu_locale *to);
 
 /*
  * Answers one line. `command` is the program's words, one space between two: `maximize`, `minimize`, `minimize-script`,
- * `canonicalize`, `direction`, `fallback`, `distance`, `parts`, `name CHAIN PREFERENCES` as in `name light en`, or
- * `negotiate`, `serve` or `nearest` where the handle holds a list of what is available. `line` is one line of the program's input
- * without its line feed: an identifier, or at `canonicalize` an identifier, or an identifier, a tab and a value; at
- * `distance` two identifiers, at `negotiate` and `nearest` the requests of one reader, and at `serve` a header
- * Accept-Language. `serve`, `nearest` and `distance` ask the rules of language matching of the tables' supplement.
+ * `canonicalize`, `key`, `identifier-key`, `direction`, `fallback`, `distance`, `parts`, `name CHAIN PREFERENCES` as in
+ * `name light en`, or `negotiate`, `serve` or `nearest` where the handle holds a list of what is available. `line` is one
+ * line of the program's input without its line feed: an identifier, or at `canonicalize` an identifier, or an identifier, a
+ * tab and a value; at `distance` two identifiers, at `negotiate` and `nearest` the requests of one reader, and at `serve` a
+ * header Accept-Language. `serve`, `nearest` and `distance` ask the rules of language matching of the tables' supplement.
  *
  * Before these words may come `locales`, `bcp47` or `posix`, as in `locales maximize`: the line holds locale identifiers
  * with extensions, or such tags of RFC 5646, or such names of POSIX locales, and the answer has their extensions.
@@ -167,13 +168,14 @@ int32_t icu_locale_share(struct icu_locale *from, struct icu_locale *to);
  *
  * ICU_LOCALE_ACCEPTED, ICU_LOCALE_REFUSED: `out` begins with the answer, and `written` is how long that is.
  * ICU_LOCALE_ROOM: `out` is as it was, and `written` is how much room the answer wants.
- * ICU_LOCALE_CLOSED, ICU_LOCALE_COMMAND, ICU_LOCALE_NEGOTIATE, ICU_LOCALE_TABLE, ICU_LOCALE_MEMORY: `out` is as it was,
- * and `written` is 0. Where several hold, the number is that of the first in this order; room is asked for last.
+ * ICU_LOCALE_CLOSED, ICU_LOCALE_COMMAND, ICU_LOCALE_NEGOTIATE, ICU_LOCALE_TABLE, ICU_LOCALE_UNSETTLED,
+ * ICU_LOCALE_MEMORY: `out` is as it was, and `written` is 0. Where several hold, the number is that of the first in this
+ * order; room is asked for last.
  *
  * The tables stay. The answer is made in a list that the handle keeps, and then copied to `out`: the first calls take
  * memory for it, and later ones where they want a longer one, or come after a call that found no memory. What is taken
  * besides is what the program takes: memory for an identifier's variants, for a value and for a list of requests. The
- * first `canonicalize`, `serve` or `nearest` on a handle also reads the rules, which takes about as long as some hundred
+ * first `canonicalize`, `key`, `serve` or `nearest` on a handle also reads the rules, which takes about as long as some hundred
  * calls, and the first `serve` or `nearest` prepares the list; both are kept until the handle is closed.
  */
 int32_t icu_locale_answer(struct icu_locale *handle, const uint8_t *command, size_t command_length, const uint8_t *line,
@@ -189,16 +191,16 @@ int32_t icu_locale_is_settled(struct icu_locale *handle);
 /*
  * Makes `negotiator` a handle to the tables of `from`, with a list of the identifiers that are available. `list` is the
  * program's first line at `negotiate`, without its line feed: one space is between two identifiers, and an empty text
- * lists none. Their minimal forms are made here once, and kept.
+ * lists none. Over settled tables their minimal forms are made here once, and kept.
  *
  * `negotiator` answers every other call too. Each handle that negotiates is given its list by a call of its own.
  *
  * ICU_LOCALE_DONE: `negotiator` holds the tables of `from` and the list, and has let go what it held. `from` is as it
  * was.
  * ICU_LOCALE_CLOSED: `from` is closed. ICU_LOCALE_TABLE: a likely table is left out. ICU_LOCALE_LIST,
- * ICU_LOCALE_UNSETTLED, ICU_LOCALE_MEMORY. Both handles are as they were. Where several of these hold, the number is that
- * of the closed handle first, then of the table, of the list, and of tables that are not settled. Over such tables no
- * list is made, for `serve` and `nearest` neither; `tools/cldr-tables --settled` writes settled ones.
+ * ICU_LOCALE_MEMORY. Both handles are as they were. Where several of these hold, the number is that of the closed handle
+ * first, then of the table, and of the list. Tables need not be settled: a list over those that are not is for `serve`
+ * and `nearest`.
  */
 int32_t icu_locale_available(struct icu_locale *from, const uint8_t *list, size_t list_length,
                              struct icu_locale *negotiator);
@@ -210,8 +212,9 @@ int32_t icu_locale_available(struct icu_locale *from, const uint8_t *list, size_
  * between two identifiers, the most wanted first, and an empty text lists none.
  *
  * ICU_LOCALE_MET: `request` and `available` are the places.
- * ICU_LOCALE_NOT_MET, ICU_LOCALE_CLOSED, ICU_LOCALE_NEGOTIATE, ICU_LOCALE_LIST, ICU_LOCALE_MEMORY: both are as they were.
- * A closed handle is told first, then a list that is not there, then requests that are none.
+ * ICU_LOCALE_NOT_MET, ICU_LOCALE_CLOSED, ICU_LOCALE_NEGOTIATE, ICU_LOCALE_UNSETTLED, ICU_LOCALE_LIST, ICU_LOCALE_MEMORY:
+ * both are as they were. A closed handle is told first, then a list that is not there, then tables that are not settled,
+ * then requests that are none. `tools/cldr-tables --settled` writes settled tables.
  *
  * The list and the tables stay. Memory is taken for the list of requests and for their variants alone.
  */
@@ -231,6 +234,16 @@ int32_t icu_locale_available_in(struct icu_locale *from, const uint8_t *syntax, 
                                 size_t list_length, struct icu_locale *negotiator);
 int32_t icu_locale_negotiate_in(struct icu_locale *negotiator, const uint8_t *syntax, size_t syntax_length,
                                 const uint8_t *requests, size_t requests_length, size_t *request, size_t *available);
+
+/*
+ * Tells which text of a list is no identifier, where a call answered ICU_LOCALE_LIST. `syntax` is as above, and empty for the
+ * calls without one. It asks no handle.
+ *
+ * ICU_LOCALE_LIST: `place` is that of the first such text, counted from 0.
+ * ICU_LOCALE_DONE: each text is an identifier. ICU_LOCALE_COMMAND, ICU_LOCALE_MEMORY. `place` is as it was.
+ */
+int32_t icu_locale_list_fault(const uint8_t *syntax, size_t syntax_length, const uint8_t *list, size_t list_length,
+                              size_t *place);
 
 /* Lets the tables and the list go, and makes the handle zero. It may be opened again. A second call does nothing. */
 void icu_locale_close(struct icu_locale *handle);

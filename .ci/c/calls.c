@@ -1,72 +1,5 @@
 // Calls in each order, right and wrong, and the number and the text of each: `calls TABLES`, a file with the sample.
-#include "shared.h"
-
-static char text[4096];
-static size_t written;
-
-// Where there is no answer, no length is told.
-static void answers(struct icu_locale *handle, const char *command, const char *line, int32_t number, const char *wanted) {
-    written = 77;
-    int32_t told = ask(handle, command, line, 4000, text, &written);
-    want(told == ICU_LOCALE_ACCEPTED || told == ICU_LOCALE_REFUSED || written == 0, "a length is told where there is no answer");
-    if (told != number || strcmp(text, wanted)) {
-        printf("%s: %s: %d %s, and not %d %s\n", command, line, told, text, number, wanted);
-        faults += 1;
-    }
-}
-
-static int32_t list_of(struct icu_locale *from, const char *list, struct icu_locale *negotiator) {
-    uint8_t *bytes = copy_of(list);
-    int32_t number = icu_locale_available(from, bytes, strlen(list), negotiator);
-    free(bytes);
-    return number;
-}
-
-// Negotiates, and looks at the two places. Where the number is not MET, both stay.
-static void meets(struct icu_locale *handle, const char *requests, int32_t number, size_t request, size_t available) {
-    enum { STAYS = 77 };
-    size_t *places = malloc(sizeof *places), *other = malloc(sizeof *other);
-    uint8_t *bytes = copy_of(requests);
-    if (!places || !other) exit(2);
-    *places = *other = STAYS;
-    int32_t told = icu_locale_negotiate(handle, bytes, strlen(requests), places, other);
-    if (number != ICU_LOCALE_MET) request = available = STAYS;
-    if (told != number || *places != request || *other != available) {
-        printf("negotiate: %s: %d %zu %zu, and not %d %zu %zu\n", requests, told, *places, *other, number, request, available);
-        faults += 1;
-    }
-    free(bytes);
-    free(places);
-    free(other);
-}
-
-// The same two calls in a syntax.
-static int32_t listed_in(struct icu_locale *from, const char *syntax, const char *list, struct icu_locale *negotiator) {
-    uint8_t *word = copy_of(syntax), *bytes = copy_of(list);
-    int32_t number = icu_locale_available_in(from, word, strlen(syntax), bytes, strlen(list), negotiator);
-    free(word);
-    free(bytes);
-    return number;
-}
-
-static int32_t met_in(struct icu_locale *handle, const char *syntax, const char *requests, size_t *request, size_t *available) {
-    uint8_t *word = copy_of(syntax), *bytes = copy_of(requests);
-    int32_t number = icu_locale_negotiate_in(handle, word, strlen(syntax), bytes, strlen(requests), request, available);
-    free(word);
-    free(bytes);
-    return number;
-}
-
-static void refuses(struct icu_locale *handle, const char *requests, int32_t number) {
-    meets(handle, requests, number, 0, 0);
-}
-
-static int32_t supplement_of(struct icu_locale *handle, const char *json) {
-    uint8_t *bytes = copy_of(json);
-    int32_t number = icu_locale_supplement(handle, bytes, strlen(json));
-    free(bytes);
-    return number;
-}
+#include "asked.h"
 
 // Before an open, and behind a close.
 static void closed(struct icu_locale *handle) {
@@ -352,12 +285,60 @@ static void left_out(struct icu_locale *handle, struct icu_locale *other) {
     answers(handle, "canonicalize", "en", ICU_LOCALE_TABLE, "");
     answers(handle, "canonicalize", "en-1996-fonipa", ICU_LOCALE_TABLE, "");
     answers(handle, "direction", "en", ICU_LOCALE_TABLE, "");
-    want(open_text("{\"likely_language\":{\"und\":[\"en\",\"Latn\",\"US\"],\"language\":{\"xx\":[\"Zzzz\",\"DE\"]}},"
-                   "\"likely_script_region\":{}}", handle) == ICU_LOCALE_DONE, "tables that are not settled");
-    want(icu_locale_is_settled(handle) == ICU_LOCALE_NOT_SETTLED, "they are told as settled");
-    want(list_of(handle, "en", other) == ICU_LOCALE_UNSETTLED, "a list over tables that are not settled");
-    want(list_of(handle, "", other) == ICU_LOCALE_UNSETTLED, "an empty list over tables that are not settled");
-    want(list_of(handle, "en-", other) == ICU_LOCALE_LIST, "a faulty list over tables that are not settled");
+}
+
+// A list over tables that are not settled: it is served and not negotiated over, whatever the requests are.
+static void not_negotiated(struct icu_locale *handle) {
+    const char *requests[] = {"en", "", "en-", " "};
+    for (size_t place = 0; place < sizeof requests / sizeof *requests; place++) {
+        refuses(handle, requests[place], ICU_LOCALE_UNSETTLED);
+        answers(handle, "negotiate", requests[place], ICU_LOCALE_UNSETTLED, "");
+        answers(handle, "locales negotiate", requests[place], ICU_LOCALE_UNSETTLED, "");
+    }
+}
+
+static void unsettled(void) {
+    struct icu_locale from = {0}, one = {0};
+    const char *tables = "{\"likely_language\":{\"und\":[\"en\",\"Latn\",\"US\"],\"language\":{\"xx\":[\"Zzzz\",\"DE\"]}},"
+                         "\"likely_script_region\":{},\"aliases\":{\"language_len2\":{\"iw\":\"he\"}}}";
+    size_t request = 77, available = 77;
+    want(open_text(tables, &from) == ICU_LOCALE_DONE, "tables that are not settled");
+    want(icu_locale_is_settled(&from) == ICU_LOCALE_NOT_SETTLED, "they are told as settled");
+    without_list(&from);
+    refused_lists(&from, &one);
+    want(list_of(&from, "en he", &one) == ICU_LOCALE_DONE, "a list over tables that are not settled");
+    answers(&one, "serve", "iw", ICU_LOCALE_TABLE, "");
+    icu_locale_close(&one);
+    want(supplement_of(&from, "{\"matching\":{\"others\":[80,50,4]}}") == ICU_LOCALE_DONE, "match rules");
+    want(list_of(&from, "en he", &one) == ICU_LOCALE_DONE, "a list over them, with match rules");
+    for (int times = 0; times < 2; times++) {
+        answers(&one, "serve", "fr, iw;q=0.5", ICU_LOCALE_ACCEPTED, "1\the");
+        answers(&one, "nearest", "fr iw", ICU_LOCALE_ACCEPTED, "1\the");
+        answers(&one, "serve", "fr", ICU_LOCALE_ACCEPTED, "none");
+        not_negotiated(&one);
+    }
+    rooms(&one, "maximize");
+    refused_lists(&from, &one);
+    want(list_of(&from, "", &one) == ICU_LOCALE_DONE, "an empty list over tables that are not settled");
+    answers(&one, "serve", "en", ICU_LOCALE_ACCEPTED, "none");
+    not_negotiated(&one);
+    want(listed_in(&from, "locales", "en-u-hc-h12", &one) == ICU_LOCALE_DONE, "a list in a syntax over such tables");
+    answers(&one, "serve", "en", ICU_LOCALE_ACCEPTED, "0\ten-u-hc-h12");
+    want(met_in(&one, "locales", "en", &request, &available) == ICU_LOCALE_UNSETTLED, "requests in a syntax over such tables");
+    want(met_in(&one, "unicode", "en", &request, &available) == ICU_LOCALE_COMMAND, "requests in what is no syntax over such tables");
+    want(request == 77 && available == 77, "places are written where there is no answer");
+    icu_locale_close(&from);
+    icu_locale_close(&one);
+}
+
+static void list_faults(void) {
+    fault("", "", ICU_LOCALE_DONE, 0);
+    fault("", "en zh-Hant de-u-co-phonebk fr-", ICU_LOCALE_LIST, 2);
+    fault("", " en", ICU_LOCALE_LIST, 0);
+    fault("locales", "en zh-Hant de-u-co-phonebk", ICU_LOCALE_DONE, 0);
+    fault("locales", "en en-Latm1-US x", ICU_LOCALE_LIST, 1);
+    fault("posix", "en_US.UTF-8 C", ICU_LOCALE_DONE, 0);
+    fault("tags", "en-", ICU_LOCALE_COMMAND, 0);
 }
 
 int main(int count, char **names) {
@@ -376,6 +357,8 @@ int main(int count, char **names) {
     want(icu_locale_open(json, length, &one) == ICU_LOCALE_DONE, "an open of an open handle");
     alone(json, length);
     supplements(json, length);
+    unsettled();
+    list_faults();
     free(json);
     commands(&other);
     wrong_words(&one);

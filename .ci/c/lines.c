@@ -74,12 +74,18 @@ static int answers(struct icu_locale *handle, const char *command, const char *l
     return status;
 }
 
+// Tables that are not settled are told before the first request, as by the program.
 static int over_list(const char *command) {
+    size_t request, available;
     next_line();
     char *list = strdup(line);
     int32_t number = icu_locale_available(&tables, (const uint8_t *)line, length, &negotiator);
     icu_locale_close(&tables);
     int is_places = !strcmp(command, "negotiate");
+    if (is_places && number == ICU_LOCALE_DONE) {
+        int32_t told = icu_locale_negotiate(&negotiator, (const uint8_t *)"", 0, &request, &available);
+        if (told == ICU_LOCALE_UNSETTLED) number = told;
+    }
     int status = number == ICU_LOCALE_DONE ? answers(&negotiator, command, is_places ? list : NULL) : refuse(number);
     free(list);
     return status;

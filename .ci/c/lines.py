@@ -50,7 +50,9 @@ def main():
                 print("yes" if tables.is_settled else "no")
                 return 0
             if command == "negotiate":
-                return write_answers(tables.negotiator(listed(b"".join(lines[:1]))), command, lines[1:])
+                negotiator = tables.negotiator(listed(b"".join(lines[:1])))
+                negotiator.negotiate([])  # tables that are not settled are told before the first request
+                return write_answers(negotiator, command, lines[1:])
             return write_answers(tables, command, lines)
     except Refused as refused:
         print(refused.number, file=sys.stderr)

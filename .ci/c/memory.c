@@ -29,6 +29,8 @@ static const char *rows[][3] = {
     {"canonicalize", "ja\tpiece000-piece001", "ja\tpiece000-piece001\tU"},
     {"name light en", "it-Latn-fonipa-posix", "Italian (Latin, IPA Phonetics, posix)\tR"},
     {"maximize", "e", "?\tInvalidLanguage"},
+    {"key", "ja-Latn-hepburn-heploc", "ja-Latn-alalc97\tM"},
+    {"locales key", "en-US-u-rg-abcdefg", "en-u-rg-xyz\tM"},
     {"fallback", "en-AU-1996-fonipa", "en-AU-1996-fonipa en-AU en-001 en und"},
     {"negotiate", "fr de-1996-1901 zh-TW", "2\tzh-Hant"},
 };
@@ -90,6 +92,18 @@ static int negotiations(struct icu_locale *from) {
     return refusals;
 }
 
+// The place of the text of a list that is none, and the same once more where memory was refused. It stays then.
+static int list_fault(void) {
+    static const char list[] = "en de-1996-fonipa en-";
+    size_t place = 77;
+    int32_t number = icu_locale_list_fault((const uint8_t *)"", 0, (const uint8_t *)list, sizeof list - 1, &place);
+    want(number == ICU_LOCALE_LIST ? place == 2 : number == ICU_LOCALE_MEMORY && place == 77, "the place of a fault");
+    if (number == ICU_LOCALE_LIST) return 0;
+    number = icu_locale_list_fault((const uint8_t *)"", 0, (const uint8_t *)list, sizeof list - 1, &place);
+    want(number == ICU_LOCALE_LIST && place == 2, "the next place of a fault");
+    return 1;
+}
+
 // A supplement, and the same once more where memory was refused.
 static int supplement(struct icu_locale *handle) {
     static const char parents[] = "{\"parents\":{\"en-AU\":\"en-001\"}}";
@@ -115,6 +129,7 @@ static int run(void) {
         want(row_of(&one, row) != ICU_LOCALE_MEMORY, "the next call is refused too");
     }
     refusals += negotiations(&one);
+    refusals += list_fault();
     long before = requests;
     number = icu_locale_share(&one, &other);
     want(requests == before + 1, "a share asks for memory once");

@@ -5,11 +5,9 @@ use Rattle.icu_tables.specs.declared.tables.Tables.{Tables}
 use Rattle.icu_locale_lines.specs.Answers.{IsAnswer}
 use Rattle.icu_locale_lines.specs.Loads.{IsExpanderOf}
 use Rattle.icu_locale_c.specs.Asked.{IsLineOf}
-use Rattle.icu_locale_c.specs.Held.{Held, IsListOver, IsNegotiationOf, IsWorkOver, AreToolsOver, with_list}
-use Rattle.icu_locale.specs.Negotiation.{IsMadeOver, identifiers_of, Negotiation}
+use Rattle.icu_locale_c.specs.Held.{Held, IsListMade, IsListOver, IsNegotiationOf, IsWorkOver, AreToolsOver, identifiers_of_list, with_list}
+use Rattle.icu_locale.specs.Negotiation.{Negotiation}
 use Rattle.icu_locale.specs.LikelyTable.{likely}
-use Rattle.icu_locale.specs.LikelySubtags.{AreSettled}
-use Rattle.icu_locale.specs.declared.negotiator.available.Available.{Available}
 use Rattle.icu_locale_lines.specs.Lists.{listed, IsAvailable}
 use Rattle.icu_locale_lines.specs.Commands.{IsWorkOf, AreToolsOf, text_answered, text_left}
 use Rattle.icu_locale_lines.specs.Lines.{after_first_line}
@@ -25,8 +23,8 @@ use Rattle.icu_locale_extensions.specs.declared.syntax.Syntax.{Syntax}
 use Rattle.std.proofs.Common.{◌⊎◌, inl, inr, IfErr, false, true, is_some}
 use Rattle.std.proofs.lemmas.Bool.{false≢true}
 use Rattle.std.proofs.lemmas.Result.{IfOk-weaker, IfErr-weaker}
-use Rattle.icu_locale_lines.specs.Commands.{IsListing, ListsBy, has_tables}
-use Rattle.icu_locale_lines.specs.Loads.{not_found}
+use Rattle.icu_locale_lines.specs.Commands.{HoldsSettled, IsListing, ListsBy, has_tables}
+use Rattle.icu_locale_lines.specs.Loads.{has_likely, not_found}
 use Rattle.icu_locale_lines.specs.WholeRuns.{IsUnloaded}
 use Rattle.icu_locale_lines.specs.declared.command.Command.TheVariants.{Lines}
 use Rattle.icu_locale_lines.specs.declared.error.CliError.{CliError}
@@ -35,8 +33,9 @@ use Rattle.icu_locale_lines.specs.declared.work.listing.Listing.{Listing}
 use Rattle.icu_locale_core.specs.declared.langid.LanguageIdentifier.{LanguageIdentifier}
 use Rattle.icu_locale_lines.specs.Answers.{IsAnswer}
 use Rattle.icu_locale_lines.specs.declared.work.Tools.{Tools}
-use Rattle.icu_locale_c.specs.Asked.{HasList, IsLineOf, IsRefusedLine, asks_list}
+use Rattle.icu_locale_c.specs.Asked.{HasList, HasNoNegotiation, IsLineOf, IsRefusedLine, asks_list}
 use Rattle.icu_locale_c.specs.Negotiations.{IsRefusedNegotiation, IsRefusedRequests}
+use Rattle.icu_locale_c.specs.declared.kept_list.KeptList.{KeptList}
 use Rattle.icu_locale_c.specs.declared.refusal.Refusal.{Refusal}
 use Rattle.icu_locale_c.specs.declared.refusal.Refusal.TheVariants as refusal
 
@@ -60,6 +59,7 @@ work_without_list asked t list ws w of = record { syntax = (of []).0.syntax; too
     by (task.Serve wishes) are same = absurd (never (same (10 ∷ [])))
     by task.Distance are same = are
     by task.Parts are same = are
+    by (task.Key of) are same = are
 
 -- the line of a work over what is held
 module _ (h : Held) (asked : LineCommand) (w : Work) (line whole : List ℕ) (r : Result Bool Refusal) where
@@ -87,6 +87,7 @@ asks_none task.Fallback negotiates serves = refl
 asks_none (task.Serve w) negotiates serves = absurd (serves w refl)
 asks_none task.Distance negotiates serves = refl
 asks_none task.Parts negotiates serves = refl
+asks_none (task.Key of) negotiates serves = refl
 
 -- a task that asks for no list is refused for a table alone
 pub loaded_table : (asked : LineCommand) (t : Tables) (e : CliError) → asks_list asked.task ≡ false → (e ≡ Data not_found) ⊎ (e ≡ NotSettled)
@@ -109,47 +110,54 @@ never_lists asked t l none waits = by asked.task none waits.over
     by (task.Serve w) none lists = false≢true (sym none)
     by task.Distance none lists = lists
     by task.Parts none lists = lists
+    by (task.Key of) none lists = lists
 
--- why a line gives no places is told by the line, where a list is held
-pub refused_requests : {A : Type 0} (syntax : Option Syntax) (h : Held) (line : List ℕ) (r : Result A Refusal) → is_some h.available ≡ true
-    → IfErr r (IsRefusedRequests syntax line) → IfErr r (IsRefusedNegotiation syntax h line)
-refused_requests syntax h line r there why = IfErr-weaker r _ _ by why
+-- why there is no negotiator is why there are no places, and why there is no line of `negotiate`
+pub no_places : (syntax : Option Syntax) (h : Held) (line : List ℕ) (e : Refusal) → HasNoNegotiation h e → IsRefusedNegotiation syntax h line e
+no_places syntax h line refusal.Negotiate why = why
+no_places syntax h line refusal.Unsettled why = why
+no_places syntax h line e why = absurd why
+
+pub no_line : (h : Held) (asked : LineCommand) (e : Refusal) → asked.task ≡ task.Negotiate → HasNoNegotiation h e → IsRefusedLine h asked e
+no_line h asked refusal.Negotiate negotiates why = (ap asks_list negotiates, why)
+no_line h asked refusal.Unsettled negotiates why = (negotiates, why)
+no_line h asked e negotiates why = absurd why
+
+-- with a negotiator, why a line gives no places is told by the line
+pub refused_requests : {A : Type 0} (syntax : Option Syntax) (h : Held) (n : Negotiation) (line : List ℕ) (r : Result A Refusal)
+    → IsNegotiationOf h n → IfErr r (IsRefusedRequests syntax line) → IfErr r (IsRefusedNegotiation syntax h line)
+refused_requests syntax h n line r over why = IfErr-weaker r _ _ by why
   where
     by : (e : Refusal) → IsRefusedRequests syntax line e → IsRefusedNegotiation syntax h line e
     by refusal.Negotiate why = absurd why
-    by refusal.Memory why = (there, why)
-    by refusal.List why = (there, why)
-    by e why = (there, why)
+    by refusal.Unsettled why = absurd why
+    by e why = (ap is_some over.available, (n.expander, over.expander, over.settled), why)
 
 -- a list that was made over one expander of tables was made over each
-pub list_over : (t : Tables) (e f : LocaleExpander) (list : Available) → IsExpanderOf t e → f ≡ e → IsMadeOver (likely f) list → IsListOver t list
+pub list_over : (t : Tables) (e f : LocaleExpander) (list : KeptList) → IsExpanderOf t e → f ≡ e → IsListMade (likely f) list → IsListOver t list
 list_over t e f list over same made = record {
   expander = e;
   over = over;
-  made = λ other also. subst (λ table. IsMadeOver table list) (ap likely same ∙ same_likely t e other over also) made;
+  made = λ other also. subst (λ table. IsListMade table list) (ap likely same ∙ same_likely t e other over also) made;
 }
 
--- a negotiation over such an expander and a list
-pub negotiation_over : (t : Tables) (e : LocaleExpander) (n : Negotiation) (a : Available) (ws : List LocaleIdentifier) → IsListOver t a
-    → IsExpanderOf t e → n.expander ≡ e → n.available ≡ identifiers_of a → IsNegotiationOf (with_list t (identifiers_of a) ws) n
-negotiation_over t e n a ws kept over same listed = record {
-  expander = subst (IsExpanderOf t) (sym same) over;
-  settled = subst (λ (x : LocaleExpander). AreSettled (likely x)) (sym same) (kept.made e over).settled;
-  available = ap Some (sym listed);
-}
+-- tables over which a list was made hold their likely tables
+pub likely_held : (t : Tables) (list : KeptList) → IsListOver t list → has_likely t ≡ true
+likely_held t list kept = rw (kept.over.language, kept.over.script_region) refl
 
-module _ (syntax : Option Syntax) (t : Tables) (a : Available) (ws : List LocaleIdentifier) (line : List ℕ) (kept : IsListOver t a)
-    (spelled : IsAvailable syntax (listed line) (identifiers_of a) ws) where
-  listed_anew : IsListed syntax t line (with_list t (identifiers_of a) ws)
+module _ (syntax : Option Syntax) (t : Tables) (a : KeptList) (ws : List LocaleIdentifier) (line : List ℕ) (kept : IsListOver t a)
+    (spelled : IsAvailable syntax (listed line) (identifiers_of_list a) ws) where
+  listed_anew : IsListed syntax t line (with_list t (identifiers_of_list a) ws)
   listed_anew = record {
     tables = refl;
-    negotiation = record { expander = kept.expander; available = identifiers_of a };
-    over = record { expander = kept.over; settled = (kept.made kept.expander kept.over).settled; available = refl };
+    loaded = likely_held t a kept;
+    identifiers = identifiers_of_list a;
+    available = refl;
     spelled = spelled;
   }
 
-  pub listed_in : {B E : Type 0} (held : B → Held) (u : Tables) → u ≡ t → (r : Result B E)
-      → IfOk r (λ b. held b ≡ with_list u (identifiers_of a) ws) → IfOk r (λ b. IsListed syntax t line (held b))
-  listed_in held u same (Ok b) is =
-      subst (IsListed syntax t line) (sym (is ∙ ap (λ x. with_list x (identifiers_of a) ws) same)) listed_anew
-  listed_in held u same (Err f) is = tt
+  pub listed_in : {B E : Type 0} (value : B → Held) (u : Tables) → u ≡ t → (r : Result B E)
+      → IfOk r (λ b. value b ≡ with_list u (identifiers_of_list a) ws) → IfOk r (λ b. IsListed syntax t line (value b))
+  listed_in value u same (Ok b) is =
+      subst (IsListed syntax t line) (sym (is ∙ ap (λ x. with_list x (identifiers_of_list a) ws) same)) listed_anew
+  listed_in value u same (Err f) is = tt

@@ -4,12 +4,10 @@ use Rattle.std.specs.Prelude.{IsSomeAnd}
 use Rattle.std.proofs.lemmas.Bool.{false≢true}
 use Rattle.std.proofs.lemmas.Option.{same_Some}
 use Rattle.icu_locale.specs.LikelyTable.{likely}
-use Rattle.icu_locale.specs.Negotiation.{identifiers_of}
 use Rattle.icu_locale.specs.RuleSet.{lent, rules_over}
 use Rattle.icu_locale.specs.Rules.{AreRules}
 use Rattle.icu_locale.specs.declared.canonicalizer.lending.CanonicalizerRef.{CanonicalizerRef}
 use Rattle.icu_locale.specs.declared.canonicalizer.rules.ReadRules.{ReadRules}
-use Rattle.icu_locale.specs.declared.negotiator.available.Available.{Available}
 use Rattle.icu_locale_extensions.specs.declared.identifier.LocaleIdentifier.{LocaleIdentifier}
 use Rattle.icu_locale_matching.specs.Service.{Service, IsPreparedOver}
 use Rattle.icu_locale_matching.specs.Service as service
@@ -20,10 +18,12 @@ use Rattle.icu_tables.specs.declared.tables.Tables.{Tables}
 use Rattle.icu_locale_lines.specs.Loads.{AreRulesOf, IsCanonicalizerOf, IsExpanderOf}
 use Rattle.icu_locale_lines.specs.laws.Expanders.{same_likely}
 use Rattle.icu_locale_lines.specs.declared.command.Task.{Task}
-use Rattle.icu_locale_lines.specs.declared.command.Task.TheVariants.{Transform, Canonicalize, Direction, Negotiate, Name, Fallback, Serve, Distance, Parts}
+use Rattle.icu_locale_lines.specs.declared.command.Task.TheVariants.{Transform, Canonicalize, Direction, Negotiate, Name, Fallback, Serve, Distance, Parts, Key}
+use Rattle.icu_locale_lines.specs.declared.command.KeyOf.{KeyOf}
 use Rattle.icu_locale_lines.specs.declared.command.Wishes.{Wishes}
-use Rattle.icu_locale_c.specs.Held.{AreKept, HasKept, IsServedOver, IsServerOver, held}
+use Rattle.icu_locale_c.specs.Held.{AreKept, HasKept, IsServedOver, IsServerOver, held, identifiers_of_list}
 use Rattle.icu_locale_c.specs.declared.kept.Kept.{Kept}
+use Rattle.icu_locale_c.specs.declared.kept_list.KeptList.{KeptList}
 
 -- rules that are lent: those that were read, over the aliases of the tables
 abbrev pub Lends : Tables → ReadRules → CanonicalizerRef → Type 0
@@ -32,7 +32,7 @@ Lends t read c = IsSomeAnd t.aliases (λ table. lent c.rules ≡ rules_over read
 module _ (t : Tables) (read : ReadRules) (s : ServedLocales) (c : CanonicalizerRef) (m : LanguageMatching) (over : IsExpanderOf t c.expander)
     (lends : Lends t read c) (matching : t.supplement.matching ≡ Some m) where
   -- a list that was prepared over one expander of the tables was prepared over each
-  pub served_over_one : (a : Available) → service.identifiers_of s ≡ identifiers_of a → IsPreparedOver (likely c.expander) (lent c.rules) m s
+  pub served_over_one : (a : KeptList) → service.identifiers_of s ≡ identifiers_of_list a → IsPreparedOver (likely c.expander) (lent c.rules) m s
       → IsServedOver t read a s
   served_over_one a listed prepared = record {
     available = listed;
@@ -43,7 +43,7 @@ module _ (t : Tables) (read : ReadRules) (s : ServedLocales) (c : CanonicalizerR
         (subst (λ x. IsPreparedOver (likely c.expander) (lent c.rules) x s) (same_Some m n (sym matching ∙ has_n)) prepared));
   }
 
-  pub prepared_over : (a : Available) → IsServedOver t read a s → IsPreparedOver (likely c.expander) (lent c.rules) m s
+  pub prepared_over : (a : KeptList) → IsServedOver t read a s → IsPreparedOver (likely c.expander) (lent c.rules) m s
   prepared_over a kept = by t.aliases refl lends
     where
       by : (o : Option Aliases) → t.aliases ≡ o → IsSomeAnd o (λ table. lent c.rules ≡ rules_over read table)
@@ -52,21 +52,21 @@ module _ (t : Tables) (read : ReadRules) (s : ServedLocales) (c : CanonicalizerR
       by (Some table) has same = subst (λ r. IsPreparedOver (likely c.expander) r m s) (sym same) (kept.over c.expander table m over has matching)
 
 -- what is kept, where rules and what is served are there
-pub kept_served : (t : Tables) (list : Option Available) (k : Kept) (read : ReadRules) (s : ServedLocales) → AreKept t list k
+pub kept_served : (t : Tables) (list : Option KeptList) (k : Kept) (read : ReadRules) (s : ServedLocales) → AreKept t list k
     → k.rules ≡ Some read → k.served ≡ Some s → IsSomeAnd list (λ a. IsServedOver t read a s)
 kept_served t list k read s kept rules served =
     subst (λ (o : Option ReadRules). IsSomeAnd o (λ r. IsSomeAnd list (λ a. IsServedOver t r a s))) rules
     (subst (λ (o : Option ServedLocales). IfSome o (λ x. IsSomeAnd k.rules (λ r. IsSomeAnd list (λ a. IsServedOver t r a x)))) served kept.served)
 
 -- rules that are kept are lent, and what is served was prepared by them
-pub prepared_kept : (t : Tables) (list : Option Available) (k : Kept) (s : ServedLocales) (c : CanonicalizerRef) (m : LanguageMatching) → AreKept t list k
+pub prepared_kept : (t : Tables) (list : Option KeptList) (k : Kept) (s : ServedLocales) (c : CanonicalizerRef) (m : LanguageMatching) → AreKept t list k
     → k.served ≡ Some s → IsExpanderOf t c.expander → IsSomeAnd k.rules (λ read. Lends t read c) → t.supplement.matching ≡ Some m
     → IsPreparedOver (likely c.expander) (lent c.rules) m s
 prepared_kept t list k s c m kept served over lends matching =
     by_rules k.rules lends
     (subst (λ (o : Option ServedLocales). IfSome o (λ x. IsSomeAnd k.rules (λ r. IsSomeAnd list (λ a. IsServedOver t r a x)))) served kept.served)
   where
-    by_list : (l : Option Available) (read : ReadRules) → Lends t read c → IsSomeAnd l (λ a. IsServedOver t read a s)
+    by_list : (l : Option KeptList) (read : ReadRules) → Lends t read c → IsSomeAnd l (λ a. IsServedOver t read a s)
         → IsPreparedOver (likely c.expander) (lent c.rules) m s
     by_list None read lends from = absurd from
     by_list (Some a) read lends from = prepared_over t read s c m over lends matching a from
@@ -77,15 +77,15 @@ prepared_kept t list k s c m kept served over lends matching =
     by_rules (Some read) lends from = by_list list read lends from
 
 -- what is prepared by rules that are kept is kept
-pub served_kept : (t : Tables) (list : Available) (rules : Option ReadRules) (s : ServedLocales) (c : CanonicalizerRef) (m : LanguageMatching)
+pub served_kept : (t : Tables) (list : KeptList) (rules : Option ReadRules) (s : ServedLocales) (c : CanonicalizerRef) (m : LanguageMatching)
     → IsExpanderOf t c.expander → IsSomeAnd rules (λ read. Lends t read c) → t.supplement.matching ≡ Some m
-    → service.identifiers_of s ≡ identifiers_of list → IsPreparedOver (likely c.expander) (lent c.rules) m s
+    → service.identifiers_of s ≡ identifiers_of_list list → IsPreparedOver (likely c.expander) (lent c.rules) m s
     → IsSomeAnd rules (λ r. IsServedOver t r list s)
 served_kept t list None s c m over lends matching same prepared = absurd lends
 served_kept t list (Some read) s c m over lends matching same prepared = served_over_one t read s c m over lends matching list same prepared
 
 -- rules that are kept are those of the tables
-pub rules_kept : (t : Tables) (list : Option Available) (k : Kept) → AreKept t list k → IsSome k.rules → IsSomeAnd k.rules (AreRulesOf t)
+pub rules_kept : (t : Tables) (list : Option KeptList) (k : Kept) → AreKept t list k → IsSome k.rules → IsSomeAnd k.rules (AreRulesOf t)
 rules_kept t list k kept there = by k.rules kept.rules there
   where
     by : (o : Option ReadRules) → IfSome o (AreRulesOf t) → IsSome o → IsSomeAnd o (AreRulesOf t)
@@ -93,15 +93,15 @@ rules_kept t list k kept there = by k.rules kept.rules there
     by (Some read) rules there = rules
 
 -- a server over what is kept
-module _ (t : Tables) (list : Option Available) (ws : List LocaleIdentifier) (k : Kept) (read : ReadRules) (s : ServedLocales) (c : CanonicalizerRef)
+module _ (t : Tables) (list : Option KeptList) (ws : List LocaleIdentifier) (k : Kept) (read : ReadRules) (s : ServedLocales) (c : CanonicalizerRef)
     (m : LanguageMatching) (v : Service) (kept : AreKept t list k) (rules : k.rules ≡ Some read) (served : k.served ≡ Some s) where
   of_rules : (o : Option Aliases) → IsSomeAnd o (λ table. lent c.rules ≡ rules_over read table) → IsSomeAnd o (λ table. AreRules table (rules_over read table))
       → v.rules ≡ lent c.rules → IsSomeAnd o (λ table. AreRules table v.rules)
   of_rules None lends are same = absurd lends
   of_rules (Some table) lends are same = subst (AreRules table) (sym (same ∙ lends)) are
 
-  of_list : (l : Option Available) → IsSomeAnd l (λ a. IsServedOver t read a s) → v.available ≡ service.identifiers_of s
-      → option_map identifiers_of l ≡ Some v.available
+  of_list : (l : Option KeptList) → IsSomeAnd l (λ a. IsServedOver t read a s) → v.available ≡ service.identifiers_of s
+      → option_map identifiers_of_list l ≡ Some v.available
   of_list None over same = absurd over
   of_list (Some a) over same = ap Some (sym (same ∙ over.available))
 
@@ -119,7 +119,7 @@ module _ (t : Tables) (list : Option Available) (ws : List LocaleIdentifier) (k 
   }
 
 -- rules that are kept, lent over the tables
-pub lent_of_kept : (t : Tables) (list : Option Available) (k : Kept) (read : ReadRules) (c : CanonicalizerRef) → AreKept t list k → k.rules ≡ Some read
+pub lent_of_kept : (t : Tables) (list : Option KeptList) (k : Kept) (read : ReadRules) (c : CanonicalizerRef) → AreKept t list k → k.rules ≡ Some read
     → IsExpanderOf t c.expander → Lends t read c → IsCanonicalizerOf t c
 lent_of_kept t list k read c kept rules over lends = record {
   expander = over;
@@ -132,13 +132,15 @@ lent_of_kept t list k read c kept rules over lends = record {
     by (Some table) lends are = subst (AreRules table) (sym lends) are
 
 -- a task that asks for nothing beside the tables has what it asks for
-pub nothing_kept : (task : Task) (kept : Kept) → (task ≡ Canonicalize → ⊥) → ((w : Wishes) → task ≡ Serve w → ⊥) → HasKept task kept
-nothing_kept (Transform form) kept rules served = tt
-nothing_kept Canonicalize kept rules served = absurd (rules refl)
-nothing_kept Direction kept rules served = tt
-nothing_kept Negotiate kept rules served = tt
-nothing_kept (Name chain preferences) kept rules served = tt
-nothing_kept Fallback kept rules served = tt
-nothing_kept (Serve w) kept rules served = absurd (served w refl)
-nothing_kept Distance kept rules served = tt
-nothing_kept Parts kept rules served = tt
+pub nothing_kept : (task : Task) (kept : Kept) → (task ≡ Canonicalize → ⊥) → ((w : Wishes) → task ≡ Serve w → ⊥)
+    → ((of : KeyOf) → task ≡ Key of → ⊥) → HasKept task kept
+nothing_kept (Transform form) kept rules served keyed = tt
+nothing_kept Canonicalize kept rules served keyed = absurd (rules refl)
+nothing_kept Direction kept rules served keyed = tt
+nothing_kept Negotiate kept rules served keyed = tt
+nothing_kept (Name chain preferences) kept rules served keyed = tt
+nothing_kept Fallback kept rules served keyed = tt
+nothing_kept (Serve w) kept rules served keyed = absurd (served w refl)
+nothing_kept Distance kept rules served keyed = tt
+nothing_kept Parts kept rules served keyed = tt
+nothing_kept (Key of) kept rules served keyed = absurd (keyed of refl)

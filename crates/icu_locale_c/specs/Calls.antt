@@ -17,8 +17,9 @@ use Rattle.icu_locale_lines.specs.declared.command.Command.TheVariants.{Settled,
 use Rattle.icu_locale_lines.specs.declared.asked.Asked.{Asked}
 use Rattle.icu_locale_lines.specs.declared.asked.Source.TheVariants.{Sample}
 use Rattle.icu_locale_lines.specs.declared.command.LineCommand.{LineCommand}
+use Rattle.icu_locale_lines.specs.declared.command.Task.TheVariants.{Negotiate}
 use Rattle.icu_locale_lines.specs.declared.work.Work.{Work}
-use Rattle.icu_locale_c.specs.Asked.{HasList, asks_list}
+use Rattle.icu_locale_c.specs.Asked.{HasList, HasUnsettledList, asks_list}
 use Rattle.icu_locale_c.specs.Held.{Held, IsWorkOver, without_list}
 use Rattle.icu_locale_c.specs.declared.refusal.Refusal.{Refusal}
 use Rattle.icu_locale_c.specs.declared.refusal.Refusal.TheVariants as refusal
@@ -69,6 +70,10 @@ pub record NeedsTables (h : Held) (command : List ℕ) (held : Bool) : Type 0 wh
 abbrev pub NamesListed : List ℕ → Type 0
 NamesListed command = (c : LineCommand) × Names command c × (asks_list c.task ≡ true)
 
+-- the text names `negotiate`, in a syntax or none
+abbrev pub NamesNegotiate : List ℕ → Type 0
+NamesNegotiate command = (c : LineCommand) × Names command c × (c.task ≡ Negotiate)
+
 -- why there is no answer, whatever the room: the handle is asked first, then the words, then a list,
 -- and then the tables
 abbrev pub HasNoAnswer : Option Held → List ℕ → Refusal → Type 0
@@ -78,6 +83,8 @@ HasNoAnswer held command refusal.Command = IsSomeAnd held (λ h. NamesNone comma
 HasNoAnswer held command refusal.Table = IsSomeAnd held (λ h. NeedsTables h command false)
 HasNoAnswer held command refusal.Negotiate =
     IsSomeAnd held (λ h. NamesListed command × (h.available ≡ None))
+HasNoAnswer held command refusal.Unsettled =
+    IsSomeAnd held (λ h. NamesNegotiate command × HasUnsettledList h)
 HasNoAnswer held command e = ⊥
 
 -- why nothing is answered: too little room tells how much is wanted, and all else tells no length

@@ -9,9 +9,8 @@ use Rattle.icu_locale.specs.Negotiation.{IsMadeOver, Negotiation, identifiers_of
 use Rattle.icu_locale.specs.RuleSet.{rules_over}
 use Rattle.icu_locale.specs.declared.canonicalizer.rules.ReadRules.{ReadRules}
 use Rattle.icu_locale.specs.LikelyTable.{likely}
-use Rattle.icu_locale.specs.LikelySubtags.{AreSettled}
+use Rattle.icu_locale.specs.LikelySubtags.{LikelySubtags, AreSettled}
 use Rattle.icu_locale.specs.declared.expander.LocaleExpander.{LocaleExpander}
-use Rattle.icu_locale.specs.declared.negotiator.available.Available.{Available}
 use Rattle.icu_locale_matching.specs.Service.{Service, IsPreparedOver}
 use Rattle.icu_locale_matching.specs.Service as served
 use Rattle.icu_locale_matching.specs.declared.server.ServedLocales.{ServedLocales}
@@ -23,9 +22,11 @@ use Rattle.icu_locale_lines.specs.Loads.{AreRulesOf, IsExpanderOf}
 use Rattle.icu_locale_lines.specs.Commands.{AreToolsOf, IsServerOf}
 use Rattle.icu_locale_lines.specs.declared.command.LineCommand.{LineCommand}
 use Rattle.icu_locale_c.specs.declared.kept.Kept.{Kept}
+use Rattle.icu_locale_c.specs.declared.kept_list.KeptList.{KeptList}
+use Rattle.icu_locale_c.specs.declared.kept_list.KeptList.TheVariants.{Settled, Unsettled}
 use Rattle.icu_locale_extensions.specs.declared.syntax.Syntax.{Syntax}
 use Rattle.icu_locale_lines.specs.declared.command.Task.{Task}
-use Rattle.icu_locale_lines.specs.declared.command.Task.TheVariants.{Canonicalize, Negotiate, Serve}
+use Rattle.icu_locale_lines.specs.declared.command.Task.TheVariants.{Canonicalize, Key, Negotiate, Serve}
 use Rattle.icu_locale_lines.specs.declared.work.Work.{Work}
 use Rattle.icu_locale_lines.specs.declared.work.Tools.{Tools}
 use Rattle.icu_locale_lines.specs.declared.work.Tools.TheVariants as tools
@@ -45,10 +46,15 @@ without_list t = record { tables = t; available = None; wholes = [] }
 abbrev pub with_list : Tables → List LanguageIdentifier → List LocaleIdentifier → Held
 with_list t list wholes = record { tables = t; available = Some list; wholes = wholes }
 
+-- the identifiers of a list that is kept, as they were handed in
+abbrev pub identifiers_of_list : KeptList → List LanguageIdentifier
+identifiers_of_list (Settled available) = identifiers_of available
+identifiers_of_list (Unsettled identifiers) = identifiers.items
+
 -- tables, and the list that is kept of what is available, if one is
-abbrev pub held : Tables → Option Available → List LocaleIdentifier → Held
+abbrev pub held : Tables → Option KeptList → List LocaleIdentifier → Held
 held t list wholes =
-    record { tables = t; available = option_map identifiers_of list; wholes = wholes }
+    record { tables = t; available = option_map identifiers_of_list list; wholes = wholes }
 
 -- the code of what is held
 abbrev pub held_code : Coded Held
@@ -57,22 +63,27 @@ held_code = code_by (Tables × (Option (List LanguageIdentifier) × List LocaleI
     (coded_list whole_row.coded))) (λ h. (h.tables, (h.available, h.wholes)))
     (λ p. record { tables = p.0; available = p.1.0; wholes = p.1.1 }) (λ h i. h)
 
--- a list was made over the tables, whatever the expander over them: they have one
-pub record IsListOver (t : Tables) (list : Available) : Type 0 where
+-- a list was made over a likely table: for negotiation where that is settled
+abbrev pub IsListMade : LikelySubtags → KeptList → Type 0
+IsListMade table (Settled available) = IsMadeOver table available
+IsListMade table (Unsettled identifiers) = ¬ (AreSettled table)
+
+-- it was made over the tables, whatever the expander over them: they have one
+pub record IsListOver (t : Tables) (list : KeptList) : Type 0 where
   pub expander : LocaleExpander
   pub over : IsExpanderOf t expander
-  pub made : (e : LocaleExpander) → IsExpanderOf t e → IsMadeOver (likely e) list
+  pub made : (e : LocaleExpander) → IsExpanderOf t e → IsListMade (likely e) list
 
 -- what is served was prepared of a list, over the tables and the rules that were read of them
-pub record IsServedOver (t : Tables) (read : ReadRules) (list : Available) (s : ServedLocales)
+pub record IsServedOver (t : Tables) (read : ReadRules) (list : KeptList) (s : ServedLocales)
     : Type 0 where
-  pub available : served.identifiers_of s ≡ identifiers_of list
+  pub available : served.identifiers_of s ≡ identifiers_of_list list
   pub over : (e : LocaleExpander) (table : Aliases) (m : LanguageMatching) → IsExpanderOf t e
       → t.aliases ≡ Some table → t.supplement.matching ≡ Some m
       → IsPreparedOver (likely e) (rules_over read table) m s
 
 -- what is kept was made over the tables and the list
-pub record AreKept (t : Tables) (list : Option Available) (kept : Kept) : Type 0 where
+pub record AreKept (t : Tables) (list : Option KeptList) (kept : Kept) : Type 0 where
   pub rules : IfSome kept.rules (AreRulesOf t)
   pub served : IfSome kept.served (λ s. IsSomeAnd kept.rules
       (λ read. IsSomeAnd list (λ a. IsServedOver t read a s)))
@@ -80,6 +91,7 @@ pub record AreKept (t : Tables) (list : Option Available) (kept : Kept) : Type 0
 -- what a task asks for beside the tables is kept
 abbrev pub HasKept : Task → Kept → Type 0
 HasKept Canonicalize kept = IsSome kept.rules
+HasKept (Key of) kept = IsSome kept.rules
 HasKept (Serve wishes) kept = IsSome kept.rules × IsSome kept.served
 HasKept task kept = Unit {0}
 

@@ -1,17 +1,16 @@
 -- What the calls of negotiation answer.
-use Rattle.std.specs.Prelude.{◌≡◌, ◌⊎◌, ℕ, Bool, true, false, List, [], Option, Some, None, is_some, IsSomeAnd, Result, Ok, Err}
+use Rattle.std.specs.Prelude.{◌≡◌, ◌⊎◌, ℕ, Bool, true, false, List, [], Option, Some, None, IsSome, IsSomeAnd, Result, Ok, Err}
 use Rattle.icu_locale_core.specs.declared.langid.LanguageIdentifier.{LanguageIdentifier}
 use Rattle.icu_locale_core.specs.declared.parse_error.ParseError.{ParseError}
 use Rattle.icu_locale_extensions.specs.declared.syntax.Syntax.{Syntax}
 use Rattle.icu_locale.specs.LikelyTable.{likely}
 use Rattle.icu_locale.specs.Negotiation.{Negotiation, IsNegotiated}
 use Rattle.icu_tables.specs.declared.tables.Tables.{Tables}
-use Rattle.icu_locale_lines.specs.Lists.{listed, SpellsAll, IsAvailable, IsFirstFault}
+use Rattle.icu_locale_lines.specs.Lists.{listed, SpellsAll, IsAvailable, IsFirstFault, TellsFault}
 use Rattle.icu_locale_lines.specs.Loads.{has_likely}
-use Rattle.icu_locale_lines.specs.Commands.{IsUnsettled, plain}
+use Rattle.icu_locale_lines.specs.Commands.{HoldsSettled}
 use Rattle.icu_locale_lines.specs.Grammar.{syntax_at}
-use Rattle.icu_locale_lines.specs.declared.command.Command.TheVariants.{Lines}
-use Rattle.icu_locale_lines.specs.declared.command.Task.TheVariants.{Negotiate}
+use Rattle.icu_locale_c.specs.Asked.{HasUnsettledList}
 use Rattle.icu_locale_c.specs.Held.{Held, IsNegotiationOf}
 use Rattle.icu_locale_c.specs.declared.refusal.Refusal.{Refusal}
 use Rattle.icu_locale_c.specs.declared.refusal.Refusal.TheVariants as refusal
@@ -20,26 +19,19 @@ use Rattle.icu_locale_c.specs.declared.refusal.Refusal.TheVariants as refusal
 abbrev pub HasFault : Option Syntax → List ℕ → Type 0
 HasFault syntax line = (e : ParseError) × IsFirstFault syntax (listed line) e
 
--- each text that a line lists spells an identifier
-abbrev pub ListsIdentifiers : Option Syntax → List ℕ → Type 0
-ListsIdentifiers syntax line =
-    (identifiers : List LanguageIdentifier) × SpellsAll syntax (listed line) identifiers
-
--- the tables are held, with the list of a line over settled likely tables
+-- the tables are held, their likely tables among them, with the list of a line
 pub record IsListed (syntax : Option Syntax) (t : Tables) (list : List ℕ) (h : Held) : Type 0 where
   pub tables : h.tables ≡ t
-  pub negotiation : Negotiation
-  pub over : IsNegotiationOf h negotiation
-  pub spelled : IsAvailable syntax (listed list) negotiation.available h.wholes
+  pub loaded : has_likely t ≡ true
+  pub identifiers : List LanguageIdentifier
+  pub available : h.available ≡ Some identifiers
+  pub spelled : IsAvailable syntax (listed list) identifiers h.wholes
 
--- why a line gives no list over tables: a likely table is asked first, then the line is read, and
--- then the tables are asked whether they are settled
+-- why a line gives no list over tables: a likely table is asked first, and then the line is read
 abbrev pub IsRefusedListing : Option Syntax → Tables → List ℕ → Refusal → Type 0
 IsRefusedListing syntax t list refusal.Memory = has_likely t ≡ true
 IsRefusedListing syntax t list refusal.Table = has_likely t ≡ false
 IsRefusedListing syntax t list refusal.List = (has_likely t ≡ true) × HasFault syntax list
-IsRefusedListing syntax t list refusal.Unsettled =
-    IsUnsettled (Lines (plain Negotiate)) t × ListsIdentifiers syntax list
 IsRefusedListing syntax t list e = ⊥
 
 -- the tables are held a second time, with a list, or what was held stays
@@ -66,11 +58,12 @@ IsRefusedRequests syntax line refusal.Memory = Unit {0}
 IsRefusedRequests syntax line refusal.List = HasFault syntax line
 IsRefusedRequests syntax line e = ⊥
 
--- why there are no places: without a list the line is not read
+-- why there are no places: a list is asked for first, then settled tables, and then the line
 abbrev pub IsRefusedNegotiation : Option Syntax → Held → List ℕ → Refusal → Type 0
 IsRefusedNegotiation syntax h line refusal.Negotiate = h.available ≡ None
+IsRefusedNegotiation syntax h line refusal.Unsettled = HasUnsettledList h
 IsRefusedNegotiation syntax h line e =
-    (is_some h.available ≡ true) × IsRefusedRequests syntax line e
+    IsSome h.available × HoldsSettled h.tables × IsRefusedRequests syntax line e
 
 -- the places are told where a request is met, and stay as they were where none is, or where there is
 -- no answer
@@ -83,6 +76,13 @@ IsNegotiatedCall syntax held line old new (Ok false) =
 IsNegotiatedCall syntax held line old new (Err refusal.Closed) = (new ≡ old) × (held ≡ None)
 IsNegotiatedCall syntax held line old new (Err e) =
     (new ≡ old) × IsSomeAnd held (λ h. IsRefusedNegotiation syntax h line e)
+
+-- the place is that of the first text of a list that spells no identifier, or stays where each does
+abbrev pub IsListFault : Option Syntax → List ℕ → ℕ → ℕ → Result (Unit {0}) Refusal → Type 0
+IsListFault syntax list old new (Ok u) = (new ≡ old) × TellsFault syntax (listed list) None
+IsListFault syntax list old new (Err refusal.List) = TellsFault syntax (listed list) (Some new)
+IsListFault syntax list old new (Err refusal.Memory) = new ≡ old
+IsListFault syntax list old new (Err e) = ⊥
 
 -- ---- in a syntax
 
@@ -110,4 +110,10 @@ abbrev pub IsNegotiatedIn : Option Held → List ℕ → List ℕ → ℕ × ℕ
 IsNegotiatedIn held word line old new outcome =
     ((syntax : Option Syntax) × NamesSyntax word syntax
     × IsNegotiatedCall syntax held line old new outcome)
+    ⊎ ((e : Refusal) × IsNoSyntax word e × (outcome ≡ Err e) × (new ≡ old))
+
+-- the place is that of the first text that spells none in the syntax that a word names, or stays
+abbrev pub IsListFaultIn : List ℕ → List ℕ → ℕ → ℕ → Result (Unit {0}) Refusal → Type 0
+IsListFaultIn word list old new outcome =
+    ((syntax : Option Syntax) × NamesSyntax word syntax × IsListFault syntax list old new outcome)
     ⊎ ((e : Refusal) × IsNoSyntax word e × (outcome ≡ Err e) × (new ≡ old))

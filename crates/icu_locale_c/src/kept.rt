@@ -2,16 +2,17 @@
 ghost use Rattle.std.specs.Prelude.{◌≡◌, ◌&&◌, [], true, false, List, Option, Some, IfOk, IfErr, IfSome, IsOk, IsSome, IsSomeAnd};
 ghost use Rattle.icu_locale.specs.RuleSet.{lent, rules_over};
 ghost use Rattle.icu_locale.specs.Rules.{HasNoTexts};
-ghost use Rattle.icu_locale.specs.declared.negotiator.available.Available.{Available};
 ghost use Rattle.icu_locale_extensions.specs.declared.identifier.LocaleIdentifier.{LocaleIdentifier};
 ghost use Rattle.icu_locale_lines.specs.Commands.{has_matching, has_tables, reads_rules};
 ghost use Rattle.icu_locale_lines.specs.declared.command.Command.TheVariants.{Lines};
 ghost use Rattle.icu_locale_lines.specs.Loads.{IsExpanderOf, IsWholeOf, has_rules};
 ghost use Rattle.icu_locale_c.specs.Asked.{IsNotHeld, IsRefusedLine, IsServeTask, IsUnkept};
 ghost use Rattle.icu_locale_c.specs.Held.{AreKept, HasKept, IsServerOver, StaysKept, held};
+ghost use Rattle.icu_locale_c.specs.declared.kept_list.KeptList.{KeptList};
 
+use crate::kept_list::KeptList;
 use crate::refusal::Refusal;
-use icu_locale::{Available, CanonicalizerRef, ReadRules};
+use icu_locale::{CanonicalizerRef, ReadRules};
 use icu_locale_core::{LanguageIdentifier, ParseError};
 use icu_locale_lines::{CliError, LineCommand, Task, lend_rules, load_rules};
 use icu_locale_matching::{LocaleServer, MatchLimits, ServedLocales};
@@ -39,7 +40,7 @@ impl Drop for Kept {
 pub fn keep(
     alloc: Global,
     tables: &Tables,
-    list: &Option<Available>,
+    list: &Option<KeptList>,
     asked: &LineCommand,
     kept: &mut Kept,
 ) -> Result<(), Refusal>
@@ -56,6 +57,7 @@ pub fn keep(
 {
     match asked.task {
         Task::Canonicalize => keep_rules(alloc, tables, asked, kept),
+        Task::Key(_) => keep_rules(alloc, tables, asked, kept),
         Task::Serve(_) => match list {
             Some(list) => {
                 keep_rules(alloc, tables, asked, kept)?;
@@ -75,7 +77,7 @@ fn keep_rules(
     kept: &mut Kept,
 ) -> Result<(), Refusal>
     requires { reads_rules asked.now.task ≡ true }
-    ensures kept { (list : Option Available) → AreKept tables.now list kept.old
+    ensures kept { (list : Option KeptList) → AreKept tables.now list kept.old
         → AreKept tables.now list kept.new }
     ensures there { IsOk result → IsSome kept.new.rules }
     ensures stays { StaysKept kept.old kept.new }
@@ -101,7 +103,7 @@ fn keep_rules(
 fn keep_served(
     alloc: Global,
     tables: &Tables,
-    list: &Available,
+    list: &KeptList,
     asked: &LineCommand,
     kept: &mut Kept,
 ) -> Result<(), Refusal>
@@ -138,7 +140,7 @@ pub fn canonicalizer_over<'r>(
     kept: &'r Kept,
 ) -> Result<WholeCanonicalizer<'r>, Refusal>
     requires rules { IsSome kept.now.rules }
-    ensures over { (list : Option Available) → AreKept tables.now list kept.now
+    ensures over { (list : Option KeptList) → AreKept tables.now list kept.now
         → IfOk result (IsWholeOf tables.now) }
     ensures held { IfOk result (λ _. has_rules tables.now ≡ true) }
     ensures refused { IfErr result (IsNotHeld (has_rules tables.now)) }
@@ -183,8 +185,8 @@ fn lend_service<'r>(
 pub fn server_over<'r>(tables: &'r Tables, kept: &'r Kept) -> Result<LocaleServer<'r>, Refusal>
     requires rules { IsSome kept.now.rules }
     requires served { IsSome kept.now.served }
-    requires kept { (list : Option Available) × AreKept tables.now list kept.now }
-    ensures over { (list : Option Available) (wholes : List LocaleIdentifier)
+    requires kept { (list : Option KeptList) × AreKept tables.now list kept.now }
+    ensures over { (list : Option KeptList) (wholes : List LocaleIdentifier)
         → AreKept tables.now list kept.now
         → IfOk result (IsServerOver (held tables.now list wholes)) }
     ensures held { IfOk result (λ _. (has_matching tables.now && has_rules tables.now) ≡ true) }

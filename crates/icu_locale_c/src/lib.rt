@@ -3,11 +3,12 @@
 
 ghost use Rattle.std.specs.Prelude.{◌≡◌, None, Bool, Result};
 ghost use Rattle.icu_locale_c.specs.Calls.{IsCall, IsOpened, IsShared, IsSupplemented, IsSettledCall, done_number, answer_number, yes_number};
-ghost use Rattle.icu_locale_c.specs.Negotiations.{IsAvailableCall, IsAvailableIn, IsNegotiatedCall, IsNegotiatedIn};
+ghost use Rattle.icu_locale_c.specs.Negotiations.{IsAvailableCall, IsAvailableIn, IsListFaultIn, IsNegotiatedCall, IsNegotiatedIn};
 ghost use Rattle.icu_locale_c.specs.declared.refusal.Refusal.{Refusal};
 
 mod handle;
 mod kept;
+mod kept_list;
 mod lines;
 mod loose;
 mod negotiations;
@@ -16,6 +17,7 @@ mod shared;
 mod words;
 
 use crate::handle::Handle;
+use crate::negotiations::put_fault;
 use crate::refusal::{Refusal, answer_number, done_number, yes_number};
 use crate::shared::Shared;
 use crate::words::read_syntax;
@@ -137,6 +139,20 @@ pub extern "C" fn icu_locale_negotiate_in(
         (request.old, available.old) (request.new, available.new) outcome }
 {
     answer_number(negotiate_in(alloc, negotiator, syntax, requests, request, available))
+}
+
+/// The place of the first text of a list that is no identifier, in the syntax that a word names.
+#[unsafe(no_mangle)]
+pub extern "C" fn icu_locale_list_fault(
+    alloc: Global,
+    syntax: &[u8],
+    list: &[u8],
+    place: &mut usize,
+) -> i32
+    ensures { (outcome : Result (Unit {0}) Refusal) × (result ≡ done_number outcome)
+        × IsListFaultIn syntax.now list.now place.old place.new outcome }
+{
+    done_number(list_fault(alloc, syntax, list, place))
 }
 
 /// Whether the likely tables are settled.
@@ -284,6 +300,15 @@ fn negotiate(
             Ok(true)
         }
         None => Ok(false),
+    }
+}
+
+fn list_fault(alloc: Global, word: &[u8], list: &[u8], place: &mut usize) -> Result<(), Refusal>
+    ensures { IsListFaultIn word.now list.now place.old place.new result }
+{
+    match read_syntax(word) {
+        Ok(syntax) => put_fault(alloc, syntax, list, place),
+        Err(refusal) => Err(refusal),
     }
 }
 

@@ -9,9 +9,10 @@ ghost use Rattle.icu_locale_c.specs.Calls.{Writes, unended};
 ghost use Rattle.icu_locale_c.specs.Held.{AreKept, HasKept, IsListOver, StaysKept, held};
 
 use crate::kept::{Kept, canonicalizer_over, keep, server_over};
+use crate::kept_list::KeptList;
 use crate::negotiations::negotiator_over;
 use crate::refusal::Refusal;
-use icu_locale::{Available, LocaleExpander};
+use icu_locale::LocaleExpander;
 use icu_locale_lines::{LineCommand, Loaded, Offered, Task, Tools, Work, load_expander};
 use icu_tables::Tables;
 use std::alloc::Global;
@@ -22,7 +23,7 @@ pub fn line_of(
     alloc: Global,
     tables: &Tables,
     kept: &mut Kept,
-    list: &Option<Available>,
+    list: &Option<KeptList>,
     offered: &Offered,
     asked: &LineCommand,
     room: &mut Vec<u8>,
@@ -47,7 +48,7 @@ pub fn line_of(
 #[inline(always)]
 fn kept_line<'r>(
     tables: &'r Tables,
-    list: &'r Option<Available>,
+    list: &'r Option<KeptList>,
     offered: &'r Offered,
     kept: &'r Kept,
     asked: &LineCommand,
@@ -80,7 +81,7 @@ fn kept_line<'r>(
 #[inline(never)]
 fn further_line<'r>(
     tables: &'r Tables,
-    list: &'r Option<Available>,
+    list: &'r Option<KeptList>,
     offered: &'r Offered,
     kept: &'r Kept,
     asked: &LineCommand,

@@ -5,11 +5,11 @@ ghost use Rattle.icu_locale_c.specs.Held.{Held, AreKept, IsListOver, held, held_
 ghost use Rattle.icu_locale_c.specs.Negotiations.{IsListed, IsMet, IsRefusedListing, IsRefusedNegotiation};
 
 use crate::kept::Kept;
+use crate::kept_list::KeptList;
 use crate::lines::{line_of, put_line};
-use crate::negotiations::{negotiate, negotiator_over, read_available};
+use crate::negotiations::{list_available, negotiate, negotiator_over};
 use crate::refusal::Refusal;
 use crate::words::read_command;
-use icu_locale::Available;
 use icu_locale_extensions::Syntax;
 use icu_locale_lines::{Offered, load_expander};
 use icu_tables::{Supplement, TableError, Tables};
@@ -21,7 +21,7 @@ use std::sync::Arc;
 // of the last answer.
 pub struct Shared {
     tables: Arc<Tables>,
-    available: Option<Available>,
+    available: Option<KeptList>,
     offered: Offered,
     kept: Kept,
     room: Vec<u8>,
@@ -102,7 +102,7 @@ impl Shared {
         ensures made { IfOk result (λ b. IsListed syntax self.now.tables line.now b.value) }
         ensures refused { IfErr result (IsRefusedListing syntax self.now.tables line.now) }
     {
-        let (available, offered) = read_available(alloc, &self.tables, syntax, line)?;
+        let (available, offered) = list_available(alloc, &self.tables, syntax, line)?;
         let Ok(tables) = Arc::clone(&self.tables) else {
             return Err(Refusal::Memory);
         };
@@ -182,7 +182,7 @@ fn nothing(alloc: Global) -> Offered
 fn boxed(
     alloc: Global,
     tables: Arc<Tables>,
-    available: Option<Available>,
+    available: Option<KeptList>,
     offered: Offered,
 ) -> Result<Box<Shared>, Refusal>
     requires { IfSome available (IsListOver tables.value) }

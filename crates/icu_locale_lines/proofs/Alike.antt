@@ -25,7 +25,9 @@ use Rattle.icu_locale_values.specs.Refusals.{IsWholeRefusal}
 use Rattle.icu_locale_values.specs.Whole.{WholeRules, IsWhole, AreMaps, whole_rules}
 use Rattle.icu_locale_values.specs.declared.error.WholeError.{WholeError}
 use Rattle.icu_locale_values.specs.declared.error.WholeError.TheVariants.{Memory, NoFixedPoint, NoSubdivisionFixedPoint, NoValueFixedPoint, NoFieldFixedPoint}
-use Rattle.icu_locale_lines.specs.Wholes.{IsWholeCanonicalized, TellsWholeRefusal}
+use Rattle.icu_locale_lines.specs.Wholes.{IsKeyed, IsWholeCanonicalized, TellsWholeRefusal, keyed}
+use Rattle.icu_locale_lines.specs.declared.command.KeyOf.{KeyOf}
+use Rattle.icu_locale_lines.specs.declared.command.KeyOf.TheVariants.{Whole, Identifier}
 use Rattle.icu_locale.specs.LikelySubtags.{LikelySubtags}
 use Rattle.icu_locale.specs.LikelyTable.{likely}
 use Rattle.icu_locale.specs.declared.canonicalizer.rules.Rules.{Rules}
@@ -128,6 +130,12 @@ module _ (one : HasOneForm) (by : WholeRules) (x : LanguageIdentifier) (text : L
   from_canonical (inr (inl h)) = inr (NoFixedPoint h.0, (λ key. tt, (λ key. tt, h.1)), (h.2, h.3))
   from_canonical (inr (inr h)) = inr (NoSubdivisionFixedPoint h.0, (λ key. tt, (λ key. tt, h.1)), (h.2, h.3))
 
+-- the key of an identifier alone is that of its bare locale identifier
+pub keyed_alike : (of : KeyOf) (by : WholeRules) (x : LanguageIdentifier) {text : List ℕ} {a : Bool}
+    → IsKeyed by (keyed of (bare x)) text a ↔ IsKeyed by (bare x) text a
+keyed_alike Whole by x = (λ h. h, λ h. h)
+keyed_alike Identifier by x = (λ h. h, λ h. h)
+
 -- ---- the answers
 
 -- the facts of locale identifiers that are cited
@@ -208,3 +216,5 @@ module _ (facts : SyntaxFacts) (s : Syntax) (line text : List ℕ) (a : Bool) wh
   answers_alike (tools.Fallback f) (none, x, is, spells) =
       each_alike x (is, spells) (λ w. IsChained f w.locale.id) (IsChained f) (λ h. h, λ h. h)
   answers_alike tools.Parts (none, x, is, spells) = each_alike x (is, spells) IsWholeParted IsParted (parted_alike x (is, spells))
+  answers_alike (tools.Key of k) (none, x, is, spells) =
+      each_alike x (is, spells) (λ w. IsKeyed (whole_rules k) (keyed of w)) (λ y. IsKeyed (whole_rules k) (bare y)) (keyed_alike of (whole_rules k) x)

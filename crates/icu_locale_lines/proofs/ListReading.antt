@@ -12,7 +12,7 @@ use Rattle.icu_locale_core.specs.declared.parse_error.ParseError.TheVariants.{In
 use Rattle.icu_locale_extensions.specs.Syntaxes.{ReadsBy, IsFaultBy}
 use Rattle.icu_locale_extensions.specs.declared.identifier.LocaleIdentifier.{LocaleIdentifier}
 use Rattle.icu_locale_extensions.specs.declared.syntax.Syntax.{Syntax}
-use Rattle.icu_locale_lines.specs.Lists.{is_space, listed, ids_of, IsAvailable, SpellsAll, SpellsIn, SpellsWhole, SpellsWholes, IsFault, IsFaultIn, IsFirstFault}
+use Rattle.icu_locale_lines.specs.Lists.{is_space, listed, ids_of, IsAvailable, SpellsAll, SpellsIn, SpellsWhole, SpellsWholes, IsFault, IsFaultAt, IsFaultIn, IsFirstFault, TellsFault}
 
 -- one more at the end of both lists
 pub AllZip-push : {A B : Type 0} (P : A → B → Type 0) (xs : List A) (ys : List B) (x : A) (y : B) → AllZip P xs ys → P x y
@@ -61,21 +61,44 @@ refusal_from_reading t Memory reads = inl refl
 pub fault_from_reading : (syntax : Syntax) (t : List ℕ) (e : ParseError) → ReadsBy syntax t (Err e) → (e ≡ Memory) ⊎ IsFaultBy syntax t e
 fault_from_reading syntax t e reads = elim reads.read [ inl memory ↦ inl (cc memory) | inr same ↦ inr (sym same) ]
 
+-- as many identifiers as texts
+spelled_length : (syntax : Option Syntax) (texts : List (List ℕ)) (xs : List LanguageIdentifier) → SpellsAll syntax texts xs → length texts ≡ length xs
+spelled_length syntax [] [] each = refl
+spelled_length syntax [] (x ∷ xs) each = absurd each
+spelled_length syntax (t ∷ ts) [] each = absurd each
+spelled_length syntax (t ∷ ts) (x ∷ xs) each = ap suc (spelled_length syntax ts xs each.1)
+
 -- the texts before the one in hand were read, and that one is refused
+pub fault_here : (syntax : Option Syntax) (texts : List (List ℕ)) (n : ℕ) (identifiers : List LanguageIdentifier)
+    → SpellsAll syntax (take n texts) identifiers → n < length texts → (t : List ℕ) → t ≡ get_or texts n t → (e : ParseError) → (e ≡ Memory)
+    ⊎ IsFaultIn syntax t e
+    → (e ≡ Memory) ⊎ IsFaultAt syntax texts (length identifiers) e
+fault_here syntax texts n identifiers spelled low t here e (inl memory) = inl memory
+fault_here syntax texts n identifiers spelled low t here e (inr refusal) = inr (
+  record {
+    earlier = take n texts;
+    text = t;
+    later = drop (suc n) texts;
+    parted = around texts n t low ∙ ap (λ x. take n texts ++ x ∷ drop (suc n) texts) (sym here);
+    identifiers = identifiers;
+    spelled = spelled;
+    refused = refusal;
+  },
+  spelled_length syntax (take n texts) identifiers spelled,
+)
+
 pub refused_here : (syntax : Option Syntax) (texts : List (List ℕ)) (n : ℕ) (identifiers : List LanguageIdentifier)
     → SpellsAll syntax (take n texts) identifiers → n < length texts → (t : List ℕ) → t ≡ get_or texts n t → (e : ParseError) → (e ≡ Memory)
     ⊎ IsFaultIn syntax t e
     → (e ≡ Memory) ⊎ IsFirstFault syntax texts e
-refused_here syntax texts n identifiers spelled low t here e (inl memory) = inl memory
-refused_here syntax texts n identifiers spelled low t here e (inr refusal) = inr (record {
-  earlier = take n texts;
-  text = t;
-  later = drop (suc n) texts;
-  parted = around texts n t low ∙ ap (λ x. take n texts ++ x ∷ drop (suc n) texts) (sym here);
-  identifiers = identifiers;
-  spelled = spelled;
-  refused = refusal;
-})
+refused_here syntax texts n identifiers spelled low t here e why =
+    elim (fault_here syntax texts n identifiers spelled low t here e why) [ inl memory ↦ inl memory | inr at ↦ inr at.0 ]
+
+-- the place of a text that is refused for another reason than memory
+pub fault_told : (syntax : Option Syntax) (texts : List (List ℕ)) (place : ℕ) (e : ParseError) → ¬ (e ≡ Memory)
+    → (e ≡ Memory) ⊎ IsFaultAt syntax texts place e → TellsFault syntax texts (Some place)
+fault_told syntax texts place e other (inl memory) = absurd (other memory)
+fault_told syntax texts place e other (inr at) = (e, at)
 
 -- ---- the locale identifiers of texts
 

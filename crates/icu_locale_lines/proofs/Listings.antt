@@ -17,7 +17,7 @@ use Rattle.icu_locale_lines.specs.Loads.{IsExpanderOf}
 use Rattle.icu_locale_lines.specs.Refusals.{IsRefusedList, IsFaultyList}
 use Rattle.icu_locale_lines.specs.declared.command.LineCommand.{LineCommand}
 use Rattle.icu_locale_lines.specs.declared.command.Task.{Task}
-use Rattle.icu_locale_lines.specs.declared.command.Task.TheVariants.{Transform, Canonicalize, Direction, Negotiate, Name, Fallback, Serve, Distance, Parts}
+use Rattle.icu_locale_lines.specs.declared.command.Task.TheVariants.{Transform, Canonicalize, Direction, Negotiate, Name, Fallback, Serve, Distance, Parts, Key}
 use Rattle.icu_locale_lines.specs.declared.error.CliError.{CliError}
 use Rattle.icu_locale_lines.specs.declared.error.CliError.TheVariants as error
 use Rattle.icu_locale_lines.specs.declared.work.listing.ListedOver.TheVariants as owner
@@ -39,6 +39,7 @@ left_behind Fallback t o h input = absurd h
 left_behind (Serve wishes) t o h input = refl
 left_behind Distance t o h input = absurd h
 left_behind Parts t o h input = absurd h
+left_behind (Key of) t o h input = absurd h
 
 pub listing_left : (c : LineCommand) (t : Tables) (listing : Listing) → IsListing c t listing → (input : List ℕ)
     → text_answered c input ≡ after_first_line input
@@ -67,6 +68,7 @@ lists_by (Serve wishes) t (over.Serve how k m) h =
     λ i. matching i && ((language i && script_region i) && aliases i)
 lists_by Distance t o h = absurd h
 lists_by Parts t o h = absurd h
+lists_by (Key of) t o h = absurd h
 
 pub lists_over : (c : LineCommand) (t : Tables) (listing : Listing) → IsListing c t listing → ListsOver c.task t
 lists_over c t listing is = lists_by c.task t listing.over is.over
@@ -87,6 +89,7 @@ module _ (syntax : Option Syntax) (t : Tables) (input : List ℕ) where
   negotiate_tools (Serve wishes) e n offered h same spelled = absurd h
   negotiate_tools Distance e n offered h same spelled = absurd h
   negotiate_tools Parts e n offered h same spelled = absurd h
+  negotiate_tools (Key of) e n offered h same spelled = absurd h
 
   serve_tools : (task : Task) (how : _) (k : _) (m : _) (s : Service) (offered : Bor Offered) → ListsBy task t (over.Serve how k m)
       → s.expander ≡ k.expander → s.rules ≡ lent k.rules → s.matching ≡ m.now → s.limits ≡ record { threshold = 50; demotion = 5 }
@@ -110,6 +113,7 @@ module _ (syntax : Option Syntax) (t : Tables) (input : List ℕ) where
   )
   serve_tools Distance how k m s offered h expander rules matching limits spelled = absurd h
   serve_tools Parts how k m s offered h expander rules matching limits spelled = absurd h
+  serve_tools (Key of) how k m s offered h expander rules matching limits spelled = absurd h
 
 module _ (c : LineCommand) (t : Tables) (input : List ℕ) (o : Offered) where
   -- what an owner lends is written as it is offered
@@ -137,6 +141,7 @@ module _ (c : LineCommand) (t : Tables) (input : List ℕ) (o : Offered) where
       by (tools.Serve who s offered) lends = absurd lends
       by (tools.Distance d) lends = absurd lends
       by tools.Parts lends = absurd lends
+      by (tools.Key of k) lends = absurd lends
 
   pub listed_service : (how : _) (k : _) (m : _) (s : Service) → ListsBy c.task t (over.Serve how k m) → s.expander ≡ k.expander
       → s.rules ≡ lent k.rules → s.matching ≡ m.now → s.limits ≡ record { threshold = 50; demotion = 5 }
@@ -159,6 +164,7 @@ module _ (c : LineCommand) (t : Tables) (input : List ℕ) (o : Offered) where
           (spelled_lent (λ (x : Service). x.available) s r offered lends.1 lends.2 spelled))
       by (tools.Distance d) lends = absurd lends
       by tools.Parts lends = absurd lends
+      by (tools.Key of k) lends = absurd lends
 
 -- a list is refused over settled tables for a fault or for memory
 settled_by : (task : Task) (t : Tables) (e : _) → ListsBy task t (over.Negotiate e) → AreSettled (likely e)
@@ -171,6 +177,7 @@ settled_by Fallback t e h = absurd h
 settled_by (Serve wishes) t e h = absurd h
 settled_by Distance t e h = absurd h
 settled_by Parts t e h = absurd h
+settled_by (Key of) t e h = absurd h
 
 faulty : (syntax : Option Syntax) (table : LikelySubtags) (line : List ℕ) (e : CliError) → AreSettled table
     → IsRefusedList syntax table line e → IsFaultyList syntax line e

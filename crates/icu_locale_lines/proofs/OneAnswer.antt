@@ -23,6 +23,7 @@ use Rattle.icu_locale_core.specs.declared.locale.Locale.{Locale}
 use Rattle.icu_locale_lines.specs.declared.work.Work.{Work}
 use Rattle.icu_locale_lines.specs.declared.work.Tools.{Tools}
 use Rattle.icu_locale_lines.specs.declared.work.Tools.TheVariants as tools
+use Rattle.icu_locale_extensions.specs.Built.{bare}
 use Rattle.icu_locale_extensions.specs.Locales as extended
 use Rattle.icu_locale_extensions.specs.declared.identifier.LocaleIdentifier.{LocaleIdentifier}
 use Rattle.icu_locale_extensions.specs.declared.syntax.Syntax.{Syntax}
@@ -35,7 +36,8 @@ use Rattle.icu_locale_values.specs.Refusals as values
 use Rattle.icu_locale_values.specs.Whole.{WholeRules, IsWhole, AreMaps, is_whole_applied, whole_rules}
 use Rattle.icu_locale_values.specs.declared.error.WholeError.{WholeError}
 use Rattle.icu_locale_values.specs.declared.error.WholeError.TheVariants as whole_error
-use Rattle.icu_locale_lines.specs.Wholes.{IsWholeCanonicalized, TellsWholeRefusal}
+use Rattle.icu_locale_key.specs.Whole.{IsWholeKey, IsWholeKeyRefusal}
+use Rattle.icu_locale_lines.specs.Wholes.{IsKeyed, IsWholeCanonicalized, TellsWholeRefusal, keyed}
 use Rattle.icu_locale_lines.specs.Serving.{TellsServed, IsNearestLine, IsDistanceLine, IsWishAnswer}
 use Rattle.icu_locale_lines.specs.declared.command.Wishes.{Wishes}
 use Rattle.icu_locale_lines.specs.declared.command.Wishes.TheVariants.{Header, Requests}
@@ -96,6 +98,13 @@ pub record WholeFacts : Type 0 where
   pub once : (by : WholeRules) (old : LocaleIdentifier) (e f : WholeError) → IsWholeRefusal by old e → IsWholeRefusal by old f
       → ¬ (values.IsMemory e) → ¬ (values.IsMemory f) → e ≡ f
 
+-- the facts of keys that are cited
+pub record KeyFacts : Type 0 where
+  pub one : (by : WholeRules) (x k l : LocaleIdentifier) → IsWholeKey by x k → IsWholeKey by x l → k ≡ l
+  pub none : (by : WholeRules) (x k : LocaleIdentifier) (e : WholeError) → IsWholeKey by x k → IsWholeKeyRefusal by x e → values.IsMemory e
+  pub once : (by : WholeRules) (x : LocaleIdentifier) (e f : WholeError) → IsWholeKeyRefusal by x e → IsWholeKeyRefusal by x f
+      → ¬ (values.IsMemory e) → ¬ (values.IsMemory f) → e ≡ f
+
 module _ (facts : WholeFacts) (by : WholeRules) (x : LocaleIdentifier) (one two : List ℕ) (a b : Bool) where
   no_line : (e : WholeError) (text : List ℕ) (accepted : Bool) → TellsWholeRefusal e text accepted → values.IsMemory e → ⊥
   no_line whole_error.Memory text accepted tells memory = tells
@@ -122,6 +131,20 @@ module _ (facts : WholeFacts) (by : WholeRules) (x : LocaleIdentifier) (one two 
       let first = told h.0 one a h.2 in
       let second = told k.0 two b k.2 in
       same first.0 second.0 (ap (λ e. refused_line (whole_error_name e)) e) first.1 second.1
+
+  module _ (keys : KeyFacts) where
+    keyed_one : IsKeyed by x one a → IsKeyed by x two b → SameAnswer one two a b
+    keyed_one (inl (k, m, is, changed, text, accepted)) (inl (l, n, also, other, text', accepted')) =
+        let e = keys.one by x k l is also in
+        let f = result_one m n changed (subst (λ w. (n ≡ Modified) ↔ (w ≢ x)) (sym e) other) in
+        same text text' (λ i. whole_line (e i) (f i)) accepted accepted'
+    keyed_one (inl h) (inr k) = absurd (no_line k.0 two b k.2 (keys.none by x h.0 k.0 h.2 k.1))
+    keyed_one (inr h) (inl k) = absurd (no_line h.0 one a h.2 (keys.none by x k.0 h.0 k.2 h.1))
+    keyed_one (inr h) (inr k) =
+        let e = keys.once by x h.0 k.0 h.1 k.1 (no_line h.0 one a h.2) (no_line k.0 two b k.2) in
+        let first = told h.0 one a h.2 in
+        let second = told k.0 two b k.2 in
+        same first.0 second.0 (ap (λ e. refused_line (whole_error_name e)) e) first.1 second.1
 
 module _ (line_of : Locale → TransformResult → List ℕ) (likely : LikelySubtags) (rules : Rules) (facts : CanonicalFacts likely rules) (old : Locale) where
   canonical_line_one : (m : TransformResult) (new other : Locale) → IsCanonical likely rules old new → IsCanonical likely rules old other
@@ -171,7 +194,7 @@ module _ (table : LikelySubtags) (requests available : List LanguageIdentifier) 
 
 module _ (spelling : SpellingFacts) (minimal_one : (favor : Favor) (table : LikelySubtags) (x y z : LanguageIdentifier)
     → IsMinimalForm favor table x y → IsMinimalForm favor table x z → y ≡ z)
-    (facts : (likely : LikelySubtags) (rules : Rules) → CanonicalFacts likely rules) (wholes : WholeFacts)
+    (facts : (likely : LikelySubtags) (rules : Rules) → CanonicalFacts likely rules) (wholes : WholeFacts) (keys : KeyFacts)
     (served_once : (s : Service) (header : List ℕ) (a b : Option ℕ) → IsServed s header a → IsServed s header b → a ≡ b)
     (nearest_once : (s : Service) (requests : List LanguageIdentifier) (a b : Option Match) → IsNearestTo s requests a
     → IsNearestTo s requests b → a ≡ b) (line one two : List ℕ) (a b : Bool) where
@@ -236,6 +259,9 @@ module _ (spelling : SpellingFacts) (minimal_one : (favor : Favor) (table : Like
       (same_chain f) (λ x p q. same_chain f x.locale.id p q) h k
   answer_by_one syntax tools.Parts h k = answer_of_one syntax IsParted IsWholeParted
       (λ x p q. same p.0 q.0 refl p.1 q.1) (λ x p q. same p.0 q.0 refl p.1 q.1) h k
+  answer_by_one syntax (tools.Key of c) h k = answer_of_one syntax (λ x. IsKeyed (whole_rules c) (bare x))
+      (λ x. IsKeyed (whole_rules c) (keyed of x)) (λ x p q. keyed_one wholes (whole_rules c) (bare x) one two a b keys p q)
+      (λ x p q. keyed_one wholes (whole_rules c) (keyed of x) one two a b keys p q) h k
 
   pub answer_one : (work : Work) → IsAnswer work line one a → IsAnswer work line two b → SameAnswer one two a b
   answer_one work h k = answer_by_one work.syntax work.tools h k

@@ -22,11 +22,11 @@ use Rattle.icu_locale_lines.specs.Chains.{IsChained}
 use Rattle.icu_locale_lines.specs.Lists.{IsFault, IsFirstFault, IsListedAnswer, IsNegotiatedLine, SpellsAll, SpellsIn, SpellsWhole, listed}
 use Rattle.icu_locale_lines.specs.Locales.{is_tab, is_readable, identifier_text, value_text, IsLocaleFault, IsValueFault, SpellsSome}
 use Rattle.icu_locale_lines.specs.Serving.{IsNearestLine, IsDistanceLine}
-use Rattle.icu_locale_lines.specs.Wholes.{IsWholeCanonicalized}
+use Rattle.icu_locale_lines.specs.Wholes.{IsKeyed, IsWholeCanonicalized, keyed}
 use Rattle.icu_locale_lines.specs.declared.command.Wishes.TheVariants.{Header, Requests}
 use Rattle.icu_locale_lines.specs.declared.work.Tools.{Tools}
 use Rattle.icu_locale_lines.specs.declared.work.Tools.TheVariants as tools
-use Rattle.icu_locale_lines.proofs.Alike.{SyntaxFacts, each_alike, transformed_alike, named_alike, canonical_answers_alike, in_syntax, lists_alike, parted_alike}
+use Rattle.icu_locale_lines.proofs.Alike.{SyntaxFacts, each_alike, transformed_alike, named_alike, canonical_answers_alike, in_syntax, lists_alike, keyed_alike, parted_alike}
 use Rattle.icu_locale_lines.proofs.LineAnswers.{locale_fault}
 use Rattle.icu_locale_lines.proofs.LineCuts.{before_first-no_position}
 use Rattle.icu_locale_lines.proofs.LocaleLines.{value_text-no_position}
@@ -178,3 +178,5 @@ module _ (facts : SyntaxFacts) (line text : List ℕ) (a : Bool) where
       each_plain plain (λ w. IsChained f w.locale.id) (IsChained f) (λ x spells. (λ h. h, λ h. h))
   plain_answers_alike tools.Parts plain =
       each_plain plain IsWholeParted IsParted (λ x spells. parted_alike facts Unicode line text a x spells)
+  plain_answers_alike (tools.Key of k) plain =
+      each_plain plain (λ w. IsKeyed (whole_rules k) (keyed of w)) (λ y. IsKeyed (whole_rules k) (bare y)) (λ x spells. keyed_alike of (whole_rules k) x)

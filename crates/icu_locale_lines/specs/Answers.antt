@@ -25,13 +25,14 @@ use Rattle.icu_locale_lines.specs.declared.work.Tools.TheVariants as tools
 use Rattle.icu_locale_lines.specs.Chains.{IsChained}
 use Rattle.icu_locale_lines.specs.Lists.{listed, SpellsAll, SpellsIn, SpellsWhole, IsFault, IsListedAnswer, IsNegotiatedLine}
 use Rattle.icu_locale_lines.specs.Serving.{IsWishAnswer, IsDistanceLine}
-use Rattle.icu_locale_lines.specs.Wholes.{IsWholeCanonicalized}
+use Rattle.icu_locale_lines.specs.Wholes.{IsKeyed, IsWholeCanonicalized, keyed}
 use Rattle.icu_locale_values.specs.Whole.{WholeRules, whole_rules}
 use Rattle.icu_locale_lines.specs.declared.command.Wishes.TheVariants.{Header, Requests}
 use Rattle.icu_locale_lines.specs.Locales.{is_tab, SpellsLocale, IsLocaleFault}
 use Rattle.icu_locale_lines.specs.Names.{name_asked, whole_name_asked, IsNamedLine}
 use Rattle.icu_locale_lines.specs.Readings.{IsReadAnswer}
 use Rattle.icu_locale_lines.specs.Texts.{changed_line, canonical_line, refused_line, direction_line}
+use Rattle.icu_locale_extensions.specs.Built.{bare}
 use Rattle.icu_locale_extensions.specs.Extensions.{is_singleton}
 use Rattle.icu_locale_extensions.specs.Locales as extended
 use Rattle.icu_locale_extensions.specs.Syntaxes.{IsFaultBy}
@@ -190,6 +191,9 @@ IsAnswerBy syntax (tools.Distance d) line text accepted =
     IsListedAnswer syntax (IsDistanceLine d.matching.now (likely d.expander)) line text accepted
 IsAnswerBy syntax tools.Parts line text accepted =
     IsAnswerOf syntax IsParted IsWholeParted line text accepted
+IsAnswerBy syntax (tools.Key of k) line text accepted =
+    IsAnswerOf syntax (λ x. IsKeyed (whole_rules k) (bare x))
+    (λ x. IsKeyed (whole_rules k) (keyed of x)) line text accepted
 
 -- the answer to a line
 abbrev pub IsAnswer : Work → List ℕ → List ℕ → Bool → Type 0

@@ -8,7 +8,7 @@ use Rattle.icu_locale_lines.specs.declared.command.Command.{Command}
 use Rattle.icu_locale_lines.specs.declared.command.Command.TheVariants.{Settled, Lines}
 use Rattle.icu_locale_lines.specs.declared.command.LineCommand.{LineCommand}
 use Rattle.icu_locale_lines.specs.declared.command.Task.{Task}
-use Rattle.icu_locale_lines.specs.declared.command.Task.TheVariants.{Transform, Canonicalize, Direction, Negotiate, Name, Fallback, Serve, Distance, Parts}
+use Rattle.icu_locale_lines.specs.declared.command.Task.TheVariants.{Transform, Canonicalize, Direction, Negotiate, Name, Fallback, Serve, Distance, Parts, Key}
 use Rattle.icu_locale_extensions.specs.declared.syntax.Syntax.{Syntax}
 use Rattle.icu_locale.specs.LikelyTable.{likely}
 use Rattle.icu_locale_fallback.specs.declared.fallbacker.LocaleFallbackPriority.TheVariants.{Language}
@@ -47,6 +47,7 @@ has_matching t = is_some t.supplement.matching
 -- the tables that a task needs are held; `name` and `parts` need none
 abbrev pub holds_for : Task → Tables → Bool
 holds_for Canonicalize t = has_likely t && is_some t.aliases
+holds_for (Key of) t = has_likely t && is_some t.aliases
 holds_for Direction t = has_likely t && is_some t.script_direction
 holds_for (Name chain preferences) t = true
 holds_for (Serve wishes) t = has_matching t && (has_likely t && is_some t.aliases)
@@ -62,6 +63,7 @@ has_tables (Lines c) t = holds_for c.task t
 -- a task reads rules before its first line, for which it takes memory
 abbrev pub reads_rules : Task → Bool
 reads_rules Canonicalize = true
+reads_rules (Key of) = true
 reads_rules (Serve wishes) = true
 reads_rules task = false
 
@@ -138,6 +140,7 @@ AreToolsOf syntax (Serve wishes) t input (tools.Serve how s offered) =
 AreToolsOf syntax Distance t input (tools.Distance d) =
     IsExpanderOf t d.expander × (t.supplement.matching ≡ Some d.matching.now)
 AreToolsOf syntax Parts t input tools.Parts = Unit {0}
+AreToolsOf syntax (Key of) t input (tools.Key other k) = (other ≡ of) × IsWholeOf t k
 AreToolsOf syntax task t input other = ⊥
 
 -- the work of a command over tables

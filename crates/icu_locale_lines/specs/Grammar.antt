@@ -21,7 +21,8 @@ use Rattle.icu_locale_lines.specs.declared.asked.Source.TheVariants.{Sample, Jso
 use Rattle.icu_locale_lines.specs.declared.command.Command.{Command}
 use Rattle.icu_locale_lines.specs.declared.command.Command.TheVariants.{Settled, Lines}
 use Rattle.icu_locale_lines.specs.declared.command.Task.{Task}
-use Rattle.icu_locale_lines.specs.declared.command.Task.TheVariants.{Transform, Canonicalize, Direction, Negotiate, Name, Fallback, Serve, Distance, Parts}
+use Rattle.icu_locale_lines.specs.declared.command.Task.TheVariants.{Transform, Canonicalize, Direction, Negotiate, Name, Fallback, Serve, Distance, Parts, Key}
+use Rattle.icu_locale_lines.specs.declared.command.KeyOf.TheVariants.{Whole, Identifier}
 use Rattle.icu_locale_lines.specs.declared.command.Wishes.TheVariants.{Header, Requests}
 use Rattle.icu_locale_lines.specs.declared.work.form.Transform.TheVariants.{Maximize, Minimize, MinimizeScript}
 
@@ -45,10 +46,13 @@ task_word (Serve Header) = codes "serve"
 task_word (Serve Requests) = codes "nearest"
 task_word Distance = codes "distance"
 task_word Parts = codes "parts"
+task_word (Key Whole) = codes "key"
+task_word (Key Identifier) = codes "identifier-key"
 
 abbrev pub tasks : List Task
 tasks = Transform Maximize ∷ Transform Minimize ∷ Transform MinimizeScript ∷ Canonicalize ∷ Direction
-    ∷ Negotiate ∷ Fallback ∷ Serve Header ∷ Serve Requests ∷ Distance ∷ Parts ∷ []
+    ∷ Negotiate ∷ Fallback ∷ Serve Header ∷ Serve Requests ∷ Distance ∷ Parts
+    ∷ Key Whole ∷ Key Identifier ∷ []
 
 abbrev pub task_at : List ℕ → Option Task
 task_at = named task_word tasks
@@ -158,6 +162,7 @@ is_streamed_task Fallback = true
 is_streamed_task (Serve wishes) = true
 is_streamed_task Distance = true
 is_streamed_task Parts = true
+is_streamed_task (Key of) = true
 is_streamed_task task = false
 
 abbrev pub is_for_runs : Command → Bool

@@ -1,5 +1,5 @@
 -- Lines that list identifiers, and what is written for a line of requests.
-use Rattle.std.specs.Prelude.{◌≡◌, ℕ, Bool, ◌==◌, true, false, List, [], ◌∷◌, ◌++◌, map, codes, Option, Some, None}
+use Rattle.std.specs.Prelude.{◌≡◌, ℕ, Bool, ◌==◌, true, false, List, [], ◌∷◌, ◌++◌, map, length, codes, Option, Some, None}
 use Rattle.std.specs.List.{AllZip, slice_split, slice_get}
 use Rattle.std.specs.Option.{option_map, option_or}
 use Rattle.icu_locale_core.specs.Identifier.{IsIdentifier, Spells, starts_with_language, written}
@@ -59,6 +59,16 @@ pub record IsFirstFault (syntax : Option Syntax) (texts : List (List ℕ)) (e : 
   pub identifiers : List LanguageIdentifier
   pub spelled : SpellsAll syntax earlier identifiers
   pub refused : IsFaultIn syntax text e
+
+-- that text is at a place, counted from 0
+abbrev pub IsFaultAt : Option Syntax → List (List ℕ) → ℕ → ParseError → Type 0
+IsFaultAt syntax texts place e =
+    (fault : IsFirstFault syntax texts e) × (length fault.earlier ≡ place)
+
+-- the place of that text, or none where each spells an identifier
+abbrev pub TellsFault : Option Syntax → List (List ℕ) → Option ℕ → Type 0
+TellsFault syntax texts None = (xs : List LanguageIdentifier) × SpellsAll syntax texts xs
+TellsFault syntax texts (Some place) = (e : ParseError) × IsFaultAt syntax texts place e
 
 -- a line that lists identifiers gives their line; every other gives the refusal of its first fault
 abbrev pub IsListedAnswer : Option Syntax → (List LanguageIdentifier → List ℕ → Bool → Type 0)

@@ -26,19 +26,17 @@ IsRefusedSupplement text (Supplement e) = further.rows_in text ≡ Err e
 IsRefusedSupplement text Memory = Unit {0}
 IsRefusedSupplement text e = ⊥
 
--- why a line gives no negotiator
-abbrev pub IsRefusedList : Option Syntax → LikelySubtags → List ℕ → CliError → Type 0
-IsRefusedList syntax likely line (Available e) = IsFirstFault syntax (listed line) e
-IsRefusedList syntax likely line Memory = Unit {0}
-IsRefusedList syntax likely line NotSettled =
-    ¬ (AreSettled likely) × (list : List LanguageIdentifier) × SpellsAll syntax (listed line) list
-IsRefusedList syntax likely line e = ⊥
-
 -- why the line of what is available lists none
 abbrev pub IsFaultyList : Option Syntax → List ℕ → CliError → Type 0
 IsFaultyList syntax line (Available e) = IsFirstFault syntax (listed line) e
 IsFaultyList syntax line Memory = Unit {0}
 IsFaultyList syntax line e = ⊥
+
+-- why a line gives no negotiator: it lists none, or the tables are not settled
+abbrev pub IsRefusedList : Option Syntax → LikelySubtags → List ℕ → CliError → Type 0
+IsRefusedList syntax likely line NotSettled =
+    ¬ (AreSettled likely) × (list : List LanguageIdentifier) × SpellsAll syntax (listed line) list
+IsRefusedList syntax likely line e = IsFaultyList syntax line e
 
 -- the name of a refusal of tables
 abbrev pub table_error_name : TableError → List ℕ

@@ -55,6 +55,18 @@ pub enum Task {
     Distance,
     /// The parts of each locale, each in a place of its own. It asks no table. Streams alone have it.
     Parts,
+    /// The key of each locale in a store: its canonical form with the key that stays in place of its identifier. Streams
+    /// alone have it.
+    Key(KeyOf),
+}
+
+/// What a key is made of.
+#[derive(Clone, Copy, Debug, PartialEq, Eq)]
+pub enum KeyOf {
+    /// The locale, its extensions kept.
+    Whole,
+    /// Its identifier alone.
+    Identifier,
 }
 
 /// How a line says what it wishes.
@@ -129,6 +141,7 @@ fn is_streamed_task(task: Task) -> bool
         Task::Serve(_) => true,
         Task::Distance => true,
         Task::Parts => true,
+        Task::Key(_) => true,
         _ => false,
     }
 }
@@ -159,6 +172,10 @@ pub fn task_of(word: &[u8]) -> Option<Task>
         Some(Task::Distance)
     } else if is_word(word, "parts") {
         Some(Task::Parts)
+    } else if is_word(word, "key") {
+        Some(Task::Key(KeyOf::Whole))
+    } else if is_word(word, "identifier-key") {
+        Some(Task::Key(KeyOf::Identifier))
     } else {
         None
     }

@@ -25,6 +25,7 @@ use icu_locale_extensions::laws::{
     identifiers_read_alike, plain_texts_read_alike, refusals_are_faults, spelled_is_read,
 };
 use icu_locale_full_names::laws::identifiers_keep_their_names;
+use icu_locale_key::laws::whole_key_is_one;
 use icu_locale_matching::laws::{the_nearest_to_requests_is_one, what_is_served_is_one};
 use icu_locale_values::laws::{a_refusal_is_one, whole_form_is_one, whole_where_runs_end};
 
@@ -40,6 +41,7 @@ pub fn a_line_has_one_answer()
     whole_form_is_one();
     whole_where_runs_end();
     a_refusal_is_one();
+    whole_key_is_one();
     what_is_served_is_one();
     the_nearest_to_requests_is_one();
 }

@@ -6,6 +6,7 @@ pub mod answering;
 pub mod direction;
 pub mod fallback;
 pub mod form;
+pub mod key;
 pub mod list;
 pub mod listing;
 pub mod load;
@@ -17,11 +18,12 @@ pub mod serve;
 pub mod serving;
 pub mod value;
 
-use crate::command::Wishes;
+use crate::command::{KeyOf, Wishes};
 use crate::error::CliError;
 use crate::work::direction::add_direction;
 use crate::work::fallback::add_chain;
 use crate::work::form::{Transform, add_form};
+use crate::work::key::add_key;
 use crate::work::list::add_requests;
 use crate::work::locale::add_locale;
 use crate::work::name::{Naming, add_name};
@@ -65,6 +67,8 @@ pub enum Tools<'r> {
     Distance(Distances<'r>),
     /// The parts of each locale are told.
     Parts,
+    /// Each locale is brought to its key.
+    Key(KeyOf, WholeCanonicalizer<'r>),
 }
 
 impl<'r> Work<'r> {
@@ -128,6 +132,7 @@ impl<'r> Work<'r> {
             }
             Tools::Distance(distances) => add_distance(text, distances, syntax, line),
             Tools::Parts => add_parts(text, syntax, line),
+            Tools::Key(of, canonicalizer) => add_key(text, *of, *canonicalizer, syntax, line),
         }
     }
 }

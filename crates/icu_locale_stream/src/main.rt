@@ -33,6 +33,8 @@ supplement the second their supplement; without json both are a small sample.
   nearest                  the nearest available identifier for each line of requests; the first line lists them
   distance                 how far the second identifier of a line is from the first
   parts                    each part of a locale in a place of its own, a tab between two places
+  key                      the key of each locale in a store: locales that mean the same have one
+  identifier-key           the same, of the identifier alone
   settled                  whether the tables are settled: yes or no
 
 CHAIN is tiny, light, short-light, long-light, menu-light, short-menu-light, heavy, short-heavy, long-heavy, menu-heavy

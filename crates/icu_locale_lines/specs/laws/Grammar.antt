@@ -21,7 +21,8 @@ use Rattle.icu_locale_lines.specs.declared.asked.Source.TheVariants.{Sample, Jso
 use Rattle.icu_locale_lines.specs.declared.command.Command.{Command}
 use Rattle.icu_locale_lines.specs.declared.command.Command.TheVariants.{Settled, Lines}
 use Rattle.icu_locale_lines.specs.declared.command.Task.{Task}
-use Rattle.icu_locale_lines.specs.declared.command.Task.TheVariants.{Transform, Canonicalize, Direction, Negotiate, Name, Fallback, Serve, Distance, Parts}
+use Rattle.icu_locale_lines.specs.declared.command.Task.TheVariants.{Transform, Canonicalize, Direction, Negotiate, Name, Fallback, Serve, Distance, Parts, Key}
+use Rattle.icu_locale_lines.specs.declared.command.KeyOf.TheVariants.{Whole, Identifier}
 use Rattle.icu_locale_lines.specs.declared.command.Wishes.TheVariants.{Header, Requests}
 use Rattle.icu_locale_lines.specs.declared.work.form.Transform.TheVariants.{Maximize, Minimize, MinimizeScript}
 
@@ -104,6 +105,8 @@ apart (Serve Header) = (refl, refl)
 apart (Serve Requests) = (refl, refl)
 apart Distance = (refl, refl)
 apart Parts = (refl, refl)
+apart (Key Whole) = (refl, refl)
+apart (Key Identifier) = (refl, refl)
 
 module _ (longest : Option ℕ) (s : Source) (text : List ℕ) where
   abbrev asks : Command → Option Asked
@@ -125,6 +128,8 @@ module _ (longest : Option ℕ) (s : Source) (text : List ℕ) where
   task_parsed syntax (Serve Requests) has = alone (lines_of syntax (Serve Requests))
   task_parsed syntax Distance has = alone (lines_of syntax Distance)
   task_parsed syntax Parts has = alone (lines_of syntax Parts)
+  task_parsed syntax (Key Whole) has = alone (lines_of syntax (Key Whole))
+  task_parsed syntax (Key Identifier) has = alone (lines_of syntax (Key Identifier))
   task_parsed syntax (Name chain p) has =
       (λ i. asked_for longest (option_and_then (λ c. option_map (λ q. lines_of syntax (Name c q)) (has i)) (chain_found chain i))
       (parse_source (source_words s))) ∙ alone (lines_of syntax (Name chain p))
@@ -237,6 +242,7 @@ lone Fallback is = (tt, refl)
 lone (Serve wishes) is = (tt, refl)
 lone Distance is = (tt, refl)
 lone Parts is = (tt, refl)
+lone (Key of) is = (tt, refl)
 lone (Name chain preferences) is = absurd (false≢true is)
 
 word_told : (syntax : Option Syntax) (w : List ℕ) (c : Command) (ws : List (List ℕ)) → parse_word syntax w ≡ Some c → Told syntax c (w ∷ ws) ws
@@ -366,6 +372,8 @@ one_word (Serve Header) = refl
 one_word (Serve Requests) = refl
 one_word Distance = refl
 one_word Parts = refl
+one_word (Key Whole) = refl
+one_word (Key Identifier) = refl
 
 -- so it asks for that task alone
 pub word_parsed : (word : List ℕ) (t : Task) → task_at word ≡ Some t → parse (slice_split is_space word)

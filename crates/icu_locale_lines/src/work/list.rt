@@ -1,6 +1,6 @@
 //! Lines that list identifiers, cut at each space, and lines of requests.
-ghost use Rattle.std.specs.Prelude.{◌≡◌, ◌⊎◌, ◌<◌, ◌++◌, length, List, ℕ, Some, IfOk, IfErr, OnOk, OnErr, true};
-ghost use Rattle.icu_locale_lines.specs.Lists.{listed, SpellsAll, IsFirstFault, SpellsIn, IsFaultIn, IsListedAnswer, IsNegotiatedLine, TellsPlace, shown_at};
+ghost use Rattle.std.specs.Prelude.{◌≡◌, ◌⊎◌, ◌<◌, ◌++◌, ◌∷◌, [], length, List, ℕ, Some, IfOk, IfErr, OnOk, OnErr, true};
+ghost use Rattle.icu_locale_lines.specs.Lists.{listed, SpellsAll, IsFaultAt, IsFirstFault, TellsFault, SpellsIn, IsFaultIn, IsListedAnswer, IsNegotiatedLine, TellsPlace, shown_at};
 ghost use Rattle.icu_locale_lines.specs.Answers.{AddsLine, Keeps};
 
 use crate::answer::{add_fault, add_known, add_number, add_text};
@@ -10,7 +10,75 @@ use crate::work::offered::Offered;
 use icu_locale::NegotiatorRef;
 use icu_locale_core::{LanguageIdentifier, Locale, ParseError};
 use icu_locale_extensions::{LocaleIdentifier, Syntax};
-use std::alloc::Global;
+use std::alloc::{AllocError, Global};
+
+// Why a line lists no identifiers: the refusal of its first text that spells none, and the place of that.
+#[derive(Clone, Copy)]
+struct ListFault {
+    place: usize,
+    refusal: ParseError,
+}
+
+// The identifiers that a line lists.
+fn read_texts(
+    alloc: Global,
+    syntax: Option<Syntax>,
+    line: &[u8],
+) -> Result<Vec<LanguageIdentifier>, ListFault>
+    ensures read { IfOk result (λ list. SpellsAll syntax (listed line.now) list.items) }
+    ensures refused { IfErr result (λ f. (f.refusal ≡ ParseError.Memory)
+        ⊎ IsFaultAt syntax (listed line.now) f.place f.refusal) }
+{
+    let mut list = Vec::new(alloc);
+    if line.is_empty() {
+        return Ok(list);
+    }
+    for piece in line.split(|byte| *byte == b' ') {
+        let place = list.as_slice().len();
+        match read_identifier(alloc, syntax, piece) {
+            Ok(identifier) => push(&mut list, identifier)?,
+            Err(refusal) => return Err(ListFault { place, refusal }),
+        }
+    }
+    Ok(list)
+}
+
+// Puts an identifier behind the others.
+fn push(list: &mut Vec<LanguageIdentifier>, identifier: LanguageIdentifier) -> Result<(), ListFault>
+    ensures pushed { OnOk result (list.new.items ≡ list.old.items ++ identifier ∷ []) }
+    ensures refused { IfErr result (λ f. f.refusal ≡ ParseError.Memory) }
+{
+    let place = list.len();
+    match list.push(identifier) {
+        Ok(()) => Ok(()),
+        Err(_) => Err(ListFault {
+            place,
+            refusal: ParseError::Memory,
+        }),
+    }
+}
+
+/// The place of the first text of a line that spells no identifier, counted from 0, if there is one.
+///
+/// # Errors
+///
+/// `AllocError` where memory was refused.
+pub fn fault_of_list(
+    alloc: Global,
+    syntax: Option<Syntax>,
+    line: &[u8],
+) -> Result<Option<usize>, AllocError>
+    ensures { IfOk result (TellsFault syntax (listed line.now)) }
+{
+    let fault = match read_texts(alloc, syntax, line) {
+        Ok(_) => return Ok(None),
+        Err(fault) => fault,
+    };
+    match fault.refusal {
+        ParseError::Memory => Err(AllocError),
+        _ => Ok(Some(fault.place)),
+    }
+}
 
 /// The identifiers that a line lists: each alone, or that of a locale identifier in a syntax. An empty line lists none.
 ///
@@ -26,14 +94,10 @@ pub fn read_list(
     ensures refused { IfErr result (λ e. (e ≡ ParseError.Memory)
         ⊎ IsFirstFault syntax (listed line.now) e) }
 {
-    let mut list = Vec::new(alloc);
-    if line.is_empty() {
-        return Ok(list);
+    match read_texts(alloc, syntax, line) {
+        Ok(list) => Ok(list),
+        Err(fault) => Err(fault.refusal),
     }
-    for piece in line.split(|byte| *byte == b' ') {
-        list.push(read_identifier(alloc, syntax, piece)?)?;
-    }
-    Ok(list)
 }
 
 // The identifier of a text: alone, or that of a locale identifier in a syntax.

@@ -46,6 +46,7 @@ pub fn load_rules(
 {
     match command.task {
         Task::Canonicalize => Ok(Some(read_rules(alloc, tables)?)),
+        Task::Key(_) => Ok(Some(read_rules(alloc, tables)?)),
         Task::Serve(_) => {
             load_matching(tables)?;
             Ok(Some(read_rules(alloc, tables)?))
@@ -111,6 +112,7 @@ impl<'r> Loaded<'r> {
             Task::Fallback => Tools::Fallback(load_fallbacker(tables)?),
             Task::Distance => Tools::Distance(load_distances(tables)?),
             Task::Parts => Tools::Parts,
+            Task::Key(of) => Tools::Key(of, load_whole_canonicalizer(tables, rules)?),
             Task::Negotiate => {
                 let expander = load_expander(tables)?;
                 if !expander.is_settled() {

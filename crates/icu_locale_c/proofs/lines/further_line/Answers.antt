@@ -1,10 +1,10 @@
 use Rattle.std.proofs.Common.{refl, ap, ◌∙◌, is_some, option_map}
-use Rattle.icu_locale.specs.Negotiation.{identifiers_of}
+use Rattle.std.proofs.lemmas.Result.{err_from_is_err_and}
 use Rattle.icu_locale_lines.specs.Commands.{holds_for}
 use Rattle.icu_locale_lines.specs.declared.command.Task.TheVariants as task
 use Rattle.icu_locale_lines.specs.declared.work.Tools.TheVariants as tools
-use Rattle.icu_locale_c.specs.Held.{held}
-use Rattle.icu_locale_c.proofs.HeldLines.{line_over, line_refused, work_over, work_without_list}
+use Rattle.icu_locale_c.specs.Held.{held, identifiers_of_list}
+use Rattle.icu_locale_c.proofs.HeldLines.{line_over, line_refused, no_line, work_over, work_without_list}
 use Rattle.icu_locale_c.proofs.lines.further_line.Goals as goal
 
 -- over the list
@@ -29,6 +29,14 @@ returns-in_ok-negotiator_over-in-Negotiate-clause-refused c =
     told.result (λ asks. ap is_some (made.ensures.over ws).available)
     (ap (λ k. holds_for k c.args.tables.now) c.in-Negotiate.is ∙ made.ensures.held) told.ensures.refused
 
+-- the list is not there, or not over settled tables
+pub returns-in_err-negotiator_over-in-Negotiate-clause-refused : goal.returns-in_err-negotiator_over-in-Negotiate-clause-refused
+returns-in_err-negotiator_over-in-Negotiate-clause-refused c =
+    let ws = c.args.offered.now.wholes.items in
+    let passed_on = err_from_is_err_and c.from_residual.result c.from_residual.ensures.1 in
+    rw (passed_on.1, passed_on.2) (no_line (held c.args.tables.now c.args.list.now ws) c.args.asked.now _ c.in-Negotiate.is
+    (c.in_err-negotiator_over-in-Negotiate.ensures.refused ws))
+
 pub returns-in_ok-server_over-in-Serve-clause-answered : goal.returns-in_ok-server_over-in-Serve-clause-answered
 returns-in_ok-server_over-in-Serve-clause-answered c =
     let ws = c.args.offered.now.wholes.items in
@@ -50,4 +58,4 @@ returns-in_ok-loaded_work-in_default-clause-answered c =
     let made = c.in_ok-loaded_work-in_default in
     let told = c.answer-in_default in
     line_over h asked made.field-0 c.args.line.now told.new.room.items told.result
-    (work_without_list asked c.args.tables.now (option_map identifiers_of c.args.list.now) ws made.field-0 made.ensures.work) told.ensures.answered
+    (work_without_list asked c.args.tables.now (option_map identifiers_of_list c.args.list.now) ws made.field-0 made.ensures.work) told.ensures.answered

@@ -1,6 +1,6 @@
 use Rattle.icu_locale.specs.LikelySubtags.{LikelySubtags}
 use Rattle.icu_locale.specs.declared.canonicalizer.rules.Rules.{Rules}
-use Rattle.icu_locale_lines.proofs.OneAnswer.{CanonicalFacts, WholeFacts, answer_one}
+use Rattle.icu_locale_lines.proofs.OneAnswer.{CanonicalFacts, KeyFacts, WholeFacts, answer_one}
 use Rattle.icu_locale_lines.proofs.Readings.{SpellingFacts}
 use Rattle.icu_locale_lines.proofs.laws.a_line_has_one_answer.Goals as goal
 
@@ -17,9 +17,14 @@ returns c = λ work line one two a b h k.
       none = λ by old new e is why. c.whole_where_runs_end.ensures.refused by old e (c.whole_where_runs_end.ensures.ends by old new is) why;
       once = c.a_refusal_is_one.ensures;
     } in
+    let keys : KeyFacts = record {
+      one = c.whole_key_is_one.ensures.one;
+      none = c.whole_key_is_one.ensures.not_both;
+      once = c.whole_key_is_one.ensures.one_reason;
+    } in
     let spelling : SpellingFacts = record {
       alone = c.spelled_once.ensures;
       read = c.spelled_is_read.ensures;
     } in
-    let answers = answer_one spelling c.minimal_form_is_one.ensures.one facts wholes c.what_is_served_is_one.ensures c.the_nearest_to_requests_is_one.ensures line one two a b work h k in
+    let answers = answer_one spelling c.minimal_form_is_one.ensures.one facts wholes keys c.what_is_served_is_one.ensures c.the_nearest_to_requests_is_one.ensures line one two a b work h k in
     (answers.text, answers.accepted)

@@ -7,3 +7,8 @@ pub returns-in-Transform-clause-answer : goal.returns-in-Transform-clause-answer
 returns-in-Transform-clause-answer c =
     if_adds _ _ (λ t a h. subst (λ tools. IsAnswerBy c.args.self.now.syntax tools c.args.line.now t a) (sym c.in-Transform.is) h) _ _
     c.add_form.result c.add_form.ensures.answer
+
+pub returns-in-Key-clause-answer : goal.returns-in-Key-clause-answer
+returns-in-Key-clause-answer c =
+    if_adds _ _ (λ t a h. subst (λ tools. IsAnswerBy c.args.self.now.syntax tools c.args.line.now t a) (sym c.in-Key.is) h) _ _
+    c.add_key.result c.add_key.ensures.answer
