@@ -74,17 +74,17 @@ class Stream:
 
 
 class Switcher:
-    """Serves one of some locales, the first where nothing is near enough. `settled` and `names` are JSON tables on one line
-    each, and `supplement` is that of the first, with match rules."""
+    """Serves one of some locales, the first where nothing is near enough. `tables` are JSON tables on one line with their
+    names, and `supplement` has match rules."""
 
-    def __init__(self, program: str, settled: str, supplement: str, names: str, available: list[str]) -> None:
-        names = names.strip() + "\n"
-        with Tables.from_json(settled, supplement) as tables:
-            self.available = [tables.canonicalize(tag) for tag in available]
-            self.switcher = tables.switcher(self.available, default=self.available[0])
+    def __init__(self, program: str, tables: str, supplement: str, available: list[str]) -> None:
+        with Tables.from_json(tables, supplement) as opened:
+            self.available = [opened.canonicalize(tag) for tag in available]
+            self.switcher = opened.switcher(self.available, default=self.available[0])
             self.switcher.serve(None)  # refuses a supplement without match rules before anyone asks
-        self.direction = Stream([program, "direction", "json"], names)
-        self.named = {tag: Stream([program, "name", "light", tag, "json"], names) for tag in self.available}
+        first = tables.strip() + "\n"
+        self.direction = Stream([program, "direction", "json"], first)
+        self.named = {tag: Stream([program, "name", "light", tag, "json"], first) for tag in self.available}
 
     def menu(self, locale: str) -> list[dict[str, object]]:
         """What each available locale is called in the language of one, and whether a part of it has no name there."""

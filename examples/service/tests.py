@@ -1,10 +1,10 @@
 #!/usr/bin/env python3
 """Tests the switcher and the service over tables of CLDR.
 
-    examples/service/tests.py STREAM PROGRAM SETTLED SUPPLEMENT NAMES [PICTURE]
+    examples/service/tests.py STREAM PROGRAM TABLES SUPPLEMENT [PICTURE]
 
-STREAM is icu_locale_stream and PROGRAM icu_locale_cli; SETTLED, SUPPLEMENT and NAMES are files as the service reads them,
-the last with the locales of LOCALES. Each answer of a process that is kept is compared with that of one run of PROGRAM:
+STREAM is icu_locale_stream and PROGRAM icu_locale_cli; TABLES and SUPPLEMENT are files as the service reads them, the
+first with the locales of LOCALES. Each answer of a process that is kept is compared with that of one run of PROGRAM:
 one question after another, from eight threads, and while the process is killed again and again. Then the service is asked
 by HTTP, and what it serves is what `serve` of STREAM answers; it is ended while it answers, and cuts none. Headless Chromium looks at its page where there is one, and
 leaves PICTURE where it is named. The last line says how long a question takes beside one that starts a process. The status
@@ -242,15 +242,15 @@ def times(stream: str, program: str, tables: str) -> str:
 
 def main() -> int:
     parser = Words("examples/service/tests.py", __doc__)
-    for word in ("stream", "program", "settled", "supplement", "names"):
+    for word in ("stream", "program", "tables", "supplement"):
         parser.add_argument(word, metavar=word.upper())
     parser.add_argument("picture", metavar="PICTURE", nargs="?")
     words = parser.parse_args()
     stream, program = words.stream, words.program
-    tables = Path(words.settled).read_text(encoding="utf-8").strip() + "\n"
+    tables = Path(words.tables).read_text(encoding="utf-8").strip() + "\n"
     faults = check_stream(stream, program, tables)
     faults += check_served(stream, tables, Path(words.supplement).read_text(encoding="utf-8"))
-    command = [sys.executable, HERE / "service", stream, words.settled, words.supplement, words.names, "0", *LOCALES]
+    command = [sys.executable, HERE / "service", stream, words.tables, words.supplement, "0", *LOCALES]
     for number in (signal.SIGTERM, signal.SIGINT):
         with subprocess.Popen(command, stdout=subprocess.PIPE, text=True) as service:
             address = service.stdout.readline().strip()

@@ -1,0 +1,37 @@
+.load ./mod_icu_locale
+.mode list
+SELECT icu_locale_data_version();
+SELECT locale_canonical('iw'), locale_key('ZH_hant_TW'), locale_maximal('en'), locale_minimal('iw'), locale_direction('ar'), locale_direction('und-Zyyy') IS NULL;
+SELECT locale_key('und-CN-guoyu'), locale_minimal('und-CN-guoyu'), locale_direction('sh'), locale_maximal('sh'), locale_identifier_key('de-DE-u-co-phonebk');
+SELECT locale_chain('zh-TW'), locale_distance('en-AU','en-GB'), locale_serve('en-AU, en;q=0.8','de en_US en-GB'), locale_serve_place('zh-TW','de zh_Hant');
+SELECT value FROM json_each(locale_chain('zh-TW'));
+SELECT locale_name('de-AT','en'), locale_name('iw','de-CH'), locale_name('de-u-co-phonebk','en');
+SELECT locale_name('de','tlh');
+SELECT is_locale('en-USA'), is_locale(NULL) IS NULL, is_locale(x'ff00'), is_locale('en' || char(0)), is_locale(5), is_locale(x'');
+SELECT locale_canonical('en_US.UTF-8');
+SELECT locale_canonical('en_US.UTF-8','posix'), locale_canonical('i-klingon','bcp47');
+SELECT locale_canonical('en','xml');
+SELECT locale_key('en' || char(0) || 'x');
+SELECT locale_key(CAST(x'c3ffe9' AS TEXT));
+SELECT locale_key(printf('%.*c', 70000, 'a'));
+SELECT locale_distance('en de','fr');
+SELECT locale_serve('de','en,de');
+SELECT locale_serve('de',''), locale_serve('fr','en de'), locale_serve(NULL,'en'), locale_serve('en',NULL);
+CREATE TABLE texts (tag TEXT NOT NULL CHECK (is_locale(tag)), text TEXT);
+CREATE UNIQUE INDEX one ON texts(locale_key(tag));
+INSERT INTO texts VALUES ('zh-Hant-TW','a'),('he','b'),('en-u-hc-h12','c');
+INSERT INTO texts VALUES ('zh_tw','x');
+INSERT INTO texts VALUES ('iw-Hebr','x');
+INSERT INTO texts VALUES ('english','x');
+INSERT INTO texts VALUES ('IW','d') ON CONFLICT (locale_key(tag)) DO UPDATE SET text = excluded.text;
+SELECT * FROM texts;
+EXPLAIN QUERY PLAN SELECT text FROM texts WHERE locale_key(tag) = locale_key('iw');
+CREATE TABLE gen (tag TEXT, key TEXT GENERATED ALWAYS AS (locale_key(tag)) STORED UNIQUE, v TEXT AS (locale_direction(tag)) VIRTUAL) STRICT;
+INSERT INTO gen(tag) VALUES ('zh-Hant-TW');
+INSERT INTO gen(tag) VALUES ('zh-TW');
+SELECT * FROM gen;
+CREATE INDEX n ON texts(locale_name(tag,'en'));
+PRAGMA trusted_schema = OFF;
+SELECT count(*) FROM gen WHERE v = 'ltr';
+PRAGMA integrity_check;
+REINDEX one;
