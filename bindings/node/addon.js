@@ -29,5 +29,6 @@ module.exports = {
   supplement: (held, json) => calls.supplement(held, bytes(json)),
   available: (held, syntax, list) => calls.available(held, wordsOf(syntax), bytes(list)),
   negotiate: (held, syntax, requests) => calls.negotiate(held, wordsOf(syntax), bytes(requests)),
+  listFault: (syntax, list) => calls.listFault(wordsOf(syntax), bytes(list)),
   answer: (held, command, line) => calls.answer(held, wordsOf(command), bytes(line)),
 };

@@ -90,17 +90,9 @@ function headerOf(headers) {
   return Array.isArray(headers) ? joined(headers, ', ') : text(headers);
 }
 
-/** Why a list is refused: the first that is refused as a line. */
-function listRefusal(tables, list, command) {
-  const isRefused = (it) => {
-    try {
-      tables.answer(command, it);
-      return false;
-    } catch (refused) {
-      return true;
-    }
-  };
-  const place = list.findIndex(isRefused);
+/** Why a list is refused, in the syntax of a word: the first text that is no identifier. */
+function listRefusal(word, list) {
+  const [place] = made(behind.calls.listFault(word, list.join(' ')));
   return noIdentifier(place, list[place]);
 }
 
@@ -113,9 +105,9 @@ function leavesOut(held) {
 }
 
 /** What a call of icu_locale.h tells, by its name, that is handed the word of a syntax and a list. */
-function overList(call, tables, held, word, list) {
+function overList(call, held, word, list) {
   const told = behind.calls[call](held, word, list.join(' '));
-  if (told === LIST) throw listRefusal(tables, list, word ? `${word} maximize` : 'maximize');
+  if (told === LIST) throw listRefusal(word, list);
   if (told === TABLE) throw leftOut('maximize', leavesOut(held));
   return told;
 }
@@ -132,6 +124,6 @@ function answered(held, command, line) {
 }
 
 module.exports = {
-  DONE, TABLE, behind, stand, text, string, optionsOf, wordsIn, wordOf, made, listed, joined, headerOf, listRefusal,
-  leavesOut, overList, answered,
+  DONE, TABLE, LIST, behind, stand, text, string, optionsOf, wordsIn, wordOf, made, listed, joined, headerOf,
+  listRefusal, leavesOut, overList, answered,
 };

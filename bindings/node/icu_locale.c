@@ -203,6 +203,21 @@ static napi_value negotiate(napi_env env, napi_callback_info info) {
     return list;
 }
 
+// listFault(syntax, list): the place of the first text that is no identifier, in a list, or the number where there is none.
+static napi_value list_fault(napi_env env, napi_callback_info info) {
+    size_t count = 2, syntax_length, length, found;
+    napi_value values[2], list = NULL, place = NULL;
+    const uint8_t *syntax, *texts;
+    if (napi_get_cb_info(env, info, &count, values, NULL, NULL) != napi_ok || count < 2) return wrong(env);
+    if (!bytes_of(env, values[0], &syntax, &syntax_length) || !bytes_of(env, values[1], &texts, &length)) return wrong(env);
+    int32_t number = icu_locale_list_fault(syntax, syntax_length, texts, length, &found);
+    if (number != ICU_LOCALE_LIST) return number_of(env, number);
+    napi_create_array_with_length(env, 1, &list);
+    napi_create_int64(env, (int64_t)found, &place);
+    napi_set_element(env, list, 0, place);
+    return list;
+}
+
 // answer(tables, command, line): the text of an accepted line, and else a list of a number and a text.
 static napi_value answer(napi_env env, napi_callback_info info) {
     size_t count = 3, command_length, line_length, written = 0;
@@ -258,7 +273,7 @@ NAPI_MODULE_INIT() {
         const char *name;
         napi_callback call;
     } calls[] = {{"open", open_tables}, {"supplement", supplement}, {"share", share_tables}, {"available", available_of}, {"answer", answer},
-                 {"negotiate", negotiate}, {"isSettled", is_settled}, {"lend", lend}, {"borrow", borrow},
+                 {"negotiate", negotiate}, {"listFault", list_fault}, {"isSettled", is_settled}, {"lend", lend}, {"borrow", borrow},
                  {"close", close_tables}};
     for (size_t place = 0; place < sizeof calls / sizeof *calls; place++) {
         napi_value call;

@@ -114,6 +114,11 @@ export class Tables {
   canonicalize(identifier: Text, options?: Reading): string;
   /** The canonical form of an identifier alone, and that of a value at the key `rg`. */
   canonicalize(identifier: Text, value: Text): [string, string];
+  /**
+   * The key of a locale in a store: its canonical form, with the shortest identifier that means the same. Texts that mean the
+   * same have one key. Without extensions, the key of the identifier alone.
+   */
+  key(identifier: Text, options?: Reading & { extensions?: boolean }): string;
   /** Which way the likely script runs; null where that is not known. */
   direction(identifier: Text, options?: Reading): 'ltr' | 'rtl' | null;
   /** The identifiers that a loader asks after one another, from this one, without its extensions, to `und`. */
@@ -180,7 +185,10 @@ export class Negotiator {
   private constructor();
   /** The identifiers that are available, as they were handed in. */
   readonly available: readonly string[];
-  /** The first request that an available identifier means, and the first such identifier; null where there is none. */
+  /**
+   * The first request that an available identifier means, and the first such identifier; null where there is none. It is
+   * refused as `Unsettled` where the likely tables are not settled.
+   */
   negotiate(requests: readonly string[]): Match | null;
   /** What the program icu_locale_cli answers to a line, by the words of a command. */
   answer(command: Text, line: Text): string;

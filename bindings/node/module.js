@@ -1,6 +1,7 @@
 'use strict';
 // The calls of icu_locale.h by the module for WebAssembly, as the addon has them: over the memory of one instance. A handle
 // is a block of that memory, which an object stands for.
+const { LIST } = require('./asking.js');
 
 const [ROOM, MEMORY, NO_LOAN] = [3, 4, -1];
 const HANDLE = 8n;
@@ -159,6 +160,15 @@ class Module {
     const number = this.#over(requests, (place, length) => (
       this.#its.icu_locale_negotiate_in(held.place, ...word, place, length, this.#numbers, other)));
     return number ? number : [this.#number(this.#numbers), this.#number(other)];
+  }
+
+  /** The place of the first text of a list that is no identifier, or the number where there is none. */
+  listFault(syntax, list) {
+    const word = this.#words(syntax);
+    if (!word) return MEMORY;
+    const number = this.#over(list, (place, length) => (
+      this.#its.icu_locale_list_fault(...word, place, length, this.#numbers)));
+    return number === LIST ? [this.#number(this.#numbers)] : number;
   }
 
   /** The text of an accepted line, and else a number and a text. */

@@ -31,9 +31,13 @@ const OF_LINES = {
   IdentifierNotFound: 'the tables were made without the locale of the preferences',
 };
 
+const ALIASES = 'the member `aliases`';
+
 // What a command wants of the tables: a command that wants all of it but for one member, and that member.
 const WANTS = {
-  canonicalize: ['maximize', 'the member `aliases`'],
+  canonicalize: ['maximize', ALIASES],
+  key: ['maximize', ALIASES],
+  'identifier-key': ['maximize', ALIASES],
   direction: ['maximize', 'the member `direction`'],
   distance: ['maximize', MATCH_RULES],
   serve: ['canonicalize', MATCH_RULES],

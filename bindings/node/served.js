@@ -29,7 +29,7 @@ class Negotiator {
    * `{ request, available }`; null where no request is met.
    */
   negotiate(requests) {
-    const told = overList('negotiate', this, this.#at, this.#word, listed(requests));
+    const told = overList('negotiate', this.#at, this.#word, listed(requests));
     if (told === NOT_MET) return null;
     const [request, available] = made(told);
     return { request, available };
@@ -73,7 +73,7 @@ class Switcher {
     try {
       return this.#told('locales nearest', list.join(' '));
     } catch (refused) {
-      throw /^Invalid/.test(refused.code) ? listRefusal(this.#negotiator, list, 'locales maximize') : refused;
+      throw /^Invalid/.test(refused.code) ? listRefusal('locales', list) : refused;
     }
   }
 

@@ -77,7 +77,7 @@ class Tables {
   negotiator(available, options) {
     const word = wordOf(options);
     const list = listed(available);
-    const at = made(overList('available', this, this.#at, word, list));
+    const at = made(overList('available', this.#at, word, list));
     return new Negotiator(OWN, at, word, list);
   }
 
@@ -164,6 +164,12 @@ class Tables {
     const isText = typeof value === 'string' || value instanceof Uint8Array;
     if (!isText) return this.#form('canonicalize', identifier, value);
     return beforeMark(this.answer('canonicalize', joined([identifier, value], '\t'))).split('\t');
+  }
+
+  /** The key of a locale in a store: texts that mean the same have one. Without extensions, that of the identifier alone. */
+  key(identifier, options) {
+    const { extensions = true, syntax } = optionsOf(options, 'extensions', 'syntax');
+    return this.#form(extensions ? 'key' : 'identifier-key', identifier, { syntax });
   }
 
   /** `ltr`, `rtl` or null. */

@@ -125,7 +125,9 @@ for (const list of ['en', 5, undefined, null, [5], ['en', null], new Array(2)]) 
 }
 const language = '{"und":["en","Latn","US"],"language":{"xx":["Zzzz","DE"]}}';
 const unsettled = `{"likely_language":${language},"likely_script_region":{}}`;
-refuses(() => Tables.fromJson(unsettled).negotiator(['en']), 'Unsettled');
+for (const requests of [['en'], ['en-'], []]) {
+  refuses(() => Tables.fromJson(unsettled).negotiator(['en']).negotiate(requests), 'Unsettled');
+}
 refuses(() => Tables.fromJson('{}').negotiator(['en-']), 'Table');
 
 const many = Array.from({ length: 2000 }, (_, number) => `en-${1000 + number}`);

@@ -29,7 +29,7 @@ const REFUSED = [
   [() => tables.answer('maximise', 'en'), 'Command: no command has these words'],
   [() => tables.answer('serve', 'en'), 'Negotiate: there is no list of what is available; tables.negotiator takes one'],
   [() => tables.negotiator(['en', 'e-']), 'List: what stands at place 1 is no identifier: "e-"'],
-  [() => Tables.fromJson(unsettled).negotiator([]),
+  [() => Tables.fromJson(unsettled).negotiator([]).negotiate([]),
     'Unsettled: the likely tables are not settled; those of tools/cldr-tables --settled are'],
   [() => tables.maximize('e'), 'InvalidLanguage: the text does not begin with a language: "e"'],
   [() => tables.maximize(Buffer.from('en-')), 'InvalidSubtag: a subtag is none, or stands where it may not: "en-"'],

@@ -82,6 +82,18 @@ class Answers(Held):
         """
         return self._told(b"canonicalize", without_tab(identifier), syntax).partition("\t")[0]
 
+    def key(self, identifier: Text, *, extensions: bool = True, syntax: Syntax = "locales") -> str:
+        """The key of a locale in a store: its canonical form, the shortest identifier that means the same in it. Texts that
+        mean the same have one key. Without extensions, the key of the identifier alone.
+
+        >>> from icu_locale.example import TABLES
+        >>> tables = Tables.from_json(TABLES)
+        >>> tables.key("zh-Hant-TW"), tables.key("sh-u-rg-abcdefg"), tables.key("en-US-u-hc-h12", extensions=False)
+        ('zh-TW', 'sr-Latn-u-rg-xyz', 'en')
+        """
+        command = b"key" if extensions else b"identifier-key"
+        return self._told(command, identifier, syntax).partition("\t")[0]
+
     def canonicalize_with(self, identifier: Text, value: Text) -> Canonical:
         """The canonical form of an identifier alone, and that of a value at the key `rg`.
 

@@ -33,6 +33,7 @@ class Calls:
         self.is_settled = _call(long.icu_locale_is_settled, _HANDLE)
         self.available = _call(long.icu_locale_available_in, _HANDLE, *_TEXT, *_TEXT, _HANDLE)
         self.negotiate = _call(short.icu_locale_negotiate_in, _HANDLE, *_TEXT, *_TEXT, size_at, size_at)
+        self.list_fault = _call(short.icu_locale_list_fault, *_TEXT, *_TEXT, size_at)
         self.close = _call(short.icu_locale_close, _HANDLE)
         short.icu_locale_close.restype = None
 

@@ -19,8 +19,9 @@ ACCEPTED = 0
 ROOM = 3
 # What else a command needs of the tables comes first: another command that needs the rest, and then what it needs itself.
 NEEDS_FIRST = {b"canonicalize": b"maximize", b"direction": b"maximize", b"distance": b"maximize", b"serve": b"canonicalize",
-               b"nearest": b"canonicalize"}
-NEEDS = {b"canonicalize": "The tables leave out `aliases`, which are needed.",
+               b"nearest": b"canonicalize", b"key": b"maximize", b"identifier-key": b"maximize"}
+NO_ALIASES = "The tables leave out `aliases`, which are needed."
+NEEDS = {b"canonicalize": NO_ALIASES, b"key": NO_ALIASES, b"identifier-key": NO_ALIASES,
          b"direction": "The tables leave out `direction`, which is needed."}
 NO_LIKELY = "The tables leave out `likely_language` or `likely_script_region`, which are needed."
 NO_MATCH_RULES = "The tables have no match rules: the supplement that has them is missing."
@@ -173,14 +174,13 @@ class Held(NoCopies):
             return TableMissing(NEEDS.get(task, NO_MATCH_RULES))
         return TableMissing(NO_LIKELY)
 
-    def _list_refusal(self, listed: Tuple[Text, ...], command: bytes = b"maximize") -> InvalidList:
-        """Why a list is refused: the first that is refused as a line."""
-        for place, identifier in enumerate(listed):
-            try:
-                self.answer(command, identifier)
-            except LineRefused:
-                return list_refusal(place, identifier)
-        raise AssertionError(listed)
+    def _list_refusal(self, listed: Tuple[Text, ...], word: bytes = b"") -> InvalidList:
+        """Why a list is refused, in the syntax of a word or in none: the first that is no identifier."""
+        line, place = b" ".join(map(as_bytes, listed)), SIZE()
+        number = self._calls.list_fault(word, len(word), line, len(line), place)
+        if number != InvalidList.number:
+            refuse(number)
+        return list_refusal(place.value, listed[place.value])
 
 
 os.register_at_fork(before=Held._rooted.acquire, after_in_parent=Held._rooted.release,

@@ -76,6 +76,7 @@ class Negotiator(Held):
 
     def negotiate(self, requests: Iterable[Text]) -> Optional[Match]:
         """The first request that an available identifier means, and the first such identifier; None where no request is met.
+        It raises `NotSettled` where the likely tables are not settled.
 
         >>> from icu_locale.example import TABLES
         >>> negotiator = Tables.from_json(TABLES).negotiator(["de", "en", "en-Latn"])
@@ -97,15 +98,10 @@ class Negotiator(Held):
         if number == MET:
             return Match(request.value, available.value)
         if number == InvalidList.number:
-            raise self._list_refusal(asked, maximize_in(self._word))
+            raise self._list_refusal(asked, self._word)
         if number != NOT_MET:
             refuse(number)
         return None
-
-
-def maximize_in(word: bytes) -> bytes:
-    """The words that tell which text of a list is refused, in the syntax of a word or in none."""
-    return word + b" maximize" if word else b"maximize"
 
 
 def line_of(identifiers: Iterable[Text]) -> bytes:

@@ -74,7 +74,7 @@ class InvalidList(Refused, ValueError):
 
 
 class NotSettled(Refused, ValueError):
-    """The likely tables are not settled."""
+    """The likely tables are not settled, which `negotiate` asks."""
 
     number = 11
 

@@ -57,7 +57,7 @@ class Switcher(NoCopies, Generic[Tag, Default]):
         try:
             return self._told(b"locales nearest", line_of(asked))
         except LineRefused:
-            raise self._negotiator._list_refusal(asked, b"locales maximize") from None
+            raise self._negotiator._list_refusal(asked, b"locales") from None
 
     def _told(self, command: bytes, line: bytes) -> Union[Tag, Default]:
         told = self._negotiator.answer(command, line)

@@ -4,7 +4,7 @@ from typing import Any, Iterable, Optional, Tuple, Union, overload
 
 from ._answers import Answers, Syntax
 from ._data import Locales, texts_of
-from ._negotiator import Negotiator, Tag, gathered, line_of, listed, maximize_in
+from ._negotiator import Negotiator, Tag, gathered, line_of, listed
 from ._refusals import InvalidList, Text, as_bytes, refuse
 from ._switcher import Default, Headers, Switcher
 
@@ -71,7 +71,7 @@ class Tables(Answers):
         """The tables of CLDR's folder `common`, which Debian has in the package unicode-cldr-core, with the names of some
         locales, and their supplement, by which `serve` and `fallback` go, and which has what parts of extensions are called.
         The names of subdivisions and of time zones are large, and are there where `subdivisions` or `zones` is True. What
-        keeps the likely tables from being settled is left out, as negotiation and `serve` want it, unless `settled` is False.
+        keeps the likely tables from being settled is left out, as negotiation wants it, unless `settled` is False.
         It raises `NoCldr` where the folder or a locale is not there. It takes about a second.
         """
         from .cldr.command import json_of, supplement_of
@@ -121,7 +121,7 @@ class Tables(Answers):
         try:
             made._free.append(made._fresh())
         except InvalidList:
-            raise self._list_refusal(available, maximize_in(word)) from None
+            raise self._list_refusal(available, word) from None
         made._is_open = True
         return made
 

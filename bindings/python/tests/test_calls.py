@@ -244,7 +244,10 @@ class Negotiators(unittest.TestCase):
 
     def test_tables(self):
         with Tables.from_json(UNSETTLED) as tables:
-            self.assertRaises(NotSettled, tables.negotiator, ["en"])
+            negotiator = tables.negotiator(["en"])
+            for requests in (["en"], ["en-"], []):
+                self.assertRaises(NotSettled, negotiator.negotiate, requests)
+            self.assertRaises(NotSettled, negotiator.answer, "negotiate", "en")
             self.assertRaises(InvalidList, tables.negotiator, ["en-"])
 
     def test_long_lists(self):

@@ -48,7 +48,9 @@ class Cldr(unittest.TestCase):
             self.assertEqual(tables.serve("iw, zh-HK;q=0.1", ["en", "he", "zh-Hant"]), "he")
             self.assertEqual(tables.fallback("en-AU"), ["en-AU", "en-001", "en", "und"])
             self.assertTrue(tables.is_settled)
-        self.assertFalse(Tables.from_cldr(settled=False).is_settled)
+        with Tables.from_cldr(settled=False) as tables:
+            self.assertFalse(tables.is_settled)
+            self.assertEqual(tables.serve("iw, zh-HK;q=0.1", ["en", "he", "zh-Hant"]), "he")
 
 
 if __name__ == "__main__":

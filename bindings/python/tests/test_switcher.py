@@ -103,7 +103,9 @@ class Switchers(unittest.TestCase):
         for wrong in (0, 5, [5], [None]):
             self.assertRaises(TypeError, self.tables.serve, wrong, ["en"])
         unsettled = TABLES.replace('"de": ["Latn", "DE"]', '"de": ["Zzzz", "DE"]')
-        self.assertRaises(NotSettled, Tables.from_json(unsettled, SUPPLEMENT).switcher, ["en"])
+        tables = Tables.from_json(unsettled, SUPPLEMENT)
+        self.assertRaises(NotSettled, tables.negotiator(["en"]).negotiate, ["en"])
+        self.assertEqual((tables.serve("en-AU", ["en"]), tables.switcher(["en"]).nearest(["en-AU"])), ("en", "en"))
 
     def test_what_is_kept(self):
         """What was last available is read once, and another list is another one."""

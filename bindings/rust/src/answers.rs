@@ -87,6 +87,33 @@ impl Tables {
         self.form("canonicalize", identifier)
     }
 
+    /// The key of a locale in a store: its canonical form, with the shortest identifier that means the same. Texts that mean
+    /// the same have one key.
+    ///
+    /// # Errors
+    ///
+    /// Those of `canonicalize`; `NoFixedPoint` also where no key stays.
+    ///
+    /// ```
+    /// use icu_locale_calls::{Tables, EXAMPLE};
+    /// let tables = Tables::from_json(EXAMPLE.as_bytes())?;
+    /// assert_eq!(tables.key("zh-Hant-TW-u-hc-h12")?, "zh-TW-u-hc-h12");
+    /// assert_eq!(tables.identifier_key("zh-Hant-TW-u-hc-h12")?, "zh-TW");
+    /// # Ok::<(), icu_locale_calls::Refusal>(())
+    /// ```
+    pub fn key(&self, identifier: &str) -> Result<String, Refusal> {
+        self.form("key", identifier)
+    }
+
+    /// The key of the identifier of a locale alone.
+    ///
+    /// # Errors
+    ///
+    /// Those of `key`.
+    pub fn identifier_key(&self, identifier: &str) -> Result<String, Refusal> {
+        self.form("identifier-key", identifier)
+    }
+
     /// The canonical form of an identifier alone, and that of a value at the key `rg`.
     ///
     /// # Errors

@@ -37,7 +37,7 @@ impl Negotiator {
     ///
     /// # Errors
     ///
-    /// `List` where a request is no identifier, or `Memory`.
+    /// `Unsettled` where the likely tables are not settled, `List` where a request is no identifier, or `Memory`.
     ///
     /// ```
     /// use icu_locale_calls::{Match, Refusal, Tables, EXAMPLE};

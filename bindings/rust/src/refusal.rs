@@ -20,7 +20,7 @@ pub enum Refusal {
     Negotiate,
     /// The list has something that is no identifier.
     List,
-    /// The likely tables are not settled.
+    /// The likely tables are not settled, which `negotiate` asks.
     Unsettled,
     /// Other handles have the tables too.
     Shared,

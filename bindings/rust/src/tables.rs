@@ -136,7 +136,7 @@ impl Tables {
     ///
     /// # Errors
     ///
-    /// `Table` where a likely table is left out, `List`, `Unsettled` or `Memory`.
+    /// `Table` where a likely table is left out, `List` or `Memory`.
     ///
     /// ```
     /// use icu_locale_calls::{Match, Refusal, Tables, EXAMPLE};

@@ -199,8 +199,10 @@ fn refused_tables() {
     let empty = Tables::from_json(b"{}").unwrap();
     assert_eq!(empty.negotiator(["en-"]).err(), Some(Refusal::Table));
     let unsettled = Tables::from_json(UNSETTLED.as_bytes()).unwrap();
-    assert_eq!(unsettled.negotiator(["en"]).err(), Some(Refusal::Unsettled));
     assert_eq!(unsettled.negotiator(["en-"]).err(), Some(Refusal::List));
+    let negotiator = unsettled.negotiator(["en"]).unwrap();
+    assert_eq!(negotiator.negotiate(["en"]), Err(Refusal::Unsettled));
+    assert_eq!(negotiator.negotiate(["en-"]), Err(Refusal::Unsettled));
 }
 
 #[test]

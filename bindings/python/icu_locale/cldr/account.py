@@ -6,14 +6,20 @@ class Account:
 
     def __init__(self):
         self.names_by_reason = {}
+        self.told = {}
 
     def note(self, reason, name):
         """Says that what has this name is left out, or held otherwise than CLDR has it, and why."""
         self.names_by_reason.setdefault(reason, {})[name] = None
 
+    def tell(self, fact, name):
+        """Says what is true of what has this name, which is held as CLDR has it."""
+        self.told.setdefault(fact, {})[name] = None
+
     def lines(self):
-        """A line for each reason: how many there are, and their names."""
-        return [f"{reason} ({len(names)}): {', '.join(names)}" for reason, names in self.names_by_reason.items()]
+        """A line for each reason and fact: how many there are, and their names."""
+        named = self.names_by_reason | self.told
+        return [f"{reason} ({len(names)}): {', '.join(names)}" for reason, names in named.items()]
 
     def summary(self, name):
         """One line, which the tool of a name says in place of those; none where nothing is left out."""

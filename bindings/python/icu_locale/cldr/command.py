@@ -13,6 +13,7 @@ from .directions import directions
 from .exemplars import add_exemplars, exemplar_rows
 from .extension_names import LARGE
 from .inheritance import Inheritance
+from .keys import UNSTABLE, unstable_rules
 from .likely import read_likely
 from .names import Names, name_rows, note_others
 from .patterns import essentials, pattern_rows
@@ -24,7 +25,7 @@ DESCRIPTION = """\
 Writes the JSON tables of one run of icu_locale_cli, on one line: likely subtags, aliases and directions, and for each
 LOCALE its names, its names in menus, the patterns that put them together, and its exemplar sets. What is left out, or
 held otherwise than CLDR has it, is counted in one line on standard error. With --account each reason has a line there:
-why, how many there are, and their names.
+why, how many there are, and their names, and rules by which the key of a locale need not be its own key.
 
 The program looks up what it is asked and falls back from no locale to another. So what a locale inherits in CLDR,
 from its parents up to `root`, is written as its own.
@@ -45,6 +46,8 @@ def arguments(parser_type, name, words):
                         help="leave out the likely subtags that keep the table from being settled")
     parser.add_argument("--supplement", action="store_true",
                         help="write the supplement of the tables instead of tables")
+    parser.add_argument("--names", action="store_true",
+                        help="write the tables of each LOCALE alone, without likely subtags, aliases and directions")
     parser.add_argument("--without", action="append", default=[], choices=sorted(LARGE),
                         help="leave out the names of subdivisions or of time zones, which are most of what is written")
     parser.add_argument("--account", action="store_true",
@@ -55,6 +58,8 @@ def arguments(parser_type, name, words):
     chosen = parser.parse_args(words)
     if chosen.supplement and chosen.settled:
         parser.error("--supplement does not go with --settled")
+    if chosen.names and (chosen.supplement or chosen.settled or not chosen.locales):
+        parser.error("--names goes with a LOCALE, and not with --supplement or --settled")
     if chosen.without and not chosen.supplement:
         parser.error("--without goes with --supplement alone")
     return chosen
@@ -66,6 +71,8 @@ def tables_of(common, locales, is_settled, account):
     complete(likely, aliases, common, account)
     if is_settled:
         likely.settle(account)
+    for rule in unstable_rules(likely, aliases):
+        account.tell(UNSTABLE, rule)
     tables = likely.tables() | {
         "aliases": aliases.table(),
         "direction": directions(common, account),
@@ -122,6 +129,11 @@ def json_of(folder: Union[str, "PathLike[str]"], locales: Iterable[str], is_sett
     return on_one_line(tables_of(Common(folder), list(read_locales(locales)), is_settled, account or Account()))
 
 
+def names_of(folder: Union[str, "PathLike[str]"], locales: Iterable[str], account: Optional[Account] = None) -> bytes:
+    """The JSON text of the tables of some locales alone: names, names in menus, patterns and exemplar sets."""
+    return on_one_line(tables_of_locales(Common(folder), list(read_locales(locales)), account or Account()))
+
+
 def supplement_of(folder: Union[str, "PathLike[str]"], account: Optional[Account] = None,
                   locales: Iterable[str] = (), without: Iterable[str] = ()) -> bytes:
     """The JSON text of the supplement of a CLDR folder, on one line, with what parts of extensions are called in the
@@ -135,6 +147,8 @@ def main(parser_type, name, words):
     try:
         if chosen.supplement:
             text = supplement_of(chosen.common, account, chosen.locales, chosen.without)
+        elif chosen.names:
+            text = names_of(chosen.common, chosen.locales, account)
         else:
             text = json_of(chosen.common, chosen.locales, chosen.settled, account)
     except NoCldr as fault:
