@@ -3,7 +3,8 @@
 # `make` proves the two programs and what they use, and leaves them here; `make c` proves the calls for C, and
 # leaves their libraries in out/c; `make wasm` leaves the same calls as a module for WebAssembly in out/wasm;
 # `make install` copies the programs and their manual pages, and what `make c` has left;
-# `make wheel`, `make npm`, `make crate` and `make deb` leave packages in out/packages;
+# `make wheel`, `make npm`, `make crate` and `make deb` leave packages in out/packages; `make postgresql` and
+# `make sqlite` leave the extensions in their folders of bindings/;
 # `make compare` measures icu_locale_cli beside others, once it is built; `make clean` takes away what was built, and the
 # next `make` then proves all from nothing.
 PROGRAMS = icu_locale_cli icu_locale_stream
@@ -11,7 +12,7 @@ PREFIX = /usr/local
 LIBDIR = $(PREFIX)/lib
 C_FILES = libicu_locale.a libicu_locale.so libicu_locale.so.0 pkgconfig/icu_locale.pc
 
-.PHONY: all try test prove c wasm wheel npm crate deb compare install uninstall clean
+.PHONY: all try test prove c wasm wheel npm crate deb postgresql sqlite compare install uninstall clean
 .SILENT: try test prove
 
 all:
@@ -32,6 +33,9 @@ npm: out/c/libicu_locale.a out/wasm/icu_locale.wasm
 deb: $(PROGRAMS) out/c/libicu_locale.a
 	tools/package $@
 
+postgresql sqlite: out/c/libicu_locale.a | out/data
+	$(MAKE) -C bindings/$@
+
 try:
 	printf 'zh-CN\nund-SA\n' | tools/try maximize
 
@@ -50,6 +54,9 @@ $(PROGRAMS):
 
 out/c/libicu_locale.a: | $(PROGRAMS)
 	tools/build-c
+
+out/data:
+	tools/package-data $@
 
 out/wasm/icu_locale.wasm: | $(PROGRAMS)
 	tools/build-wasm
@@ -75,5 +82,7 @@ clean:
 	rm -rf out crates/*/out $(PROGRAMS)
 	rm -rf bindings/python/build bindings/python/*.egg-info bindings/rust/target bindings/node/addon \
 	    bindings/node/icu_locale.wasm bindings/node/browser.mjs bindings/node/example.json \
-	    bindings/node/example-supplement.json bindings/node/data examples/page/node_modules
+	    bindings/node/example-supplement.json bindings/node/data examples/page/node_modules bindings/sqlite/*.so \
+	    bindings/sqlite/*.json bindings/postgresql/*.o bindings/postgresql/*.so bindings/postgresql/*.json \
+	    bindings/postgresql/icu_locale--*
 	find tools bench .ci bindings -name __pycache__ -prune -exec rm -rf {} +
