@@ -1,0 +1,6 @@
+mod Bytes
+mod Grown
+mod Heads
+mod Once
+mod Probed
+mod Told

@@ -1,0 +1,59 @@
+-- Where a text is wrong: the place of the first piece that no locale identifier can have there (UTS #35 Part 1,
+-- section 3.2, unicode_locale_id).
+use Rattle.std.specs.Prelude.{◌≡◌, ◌⊎◌, ◌<◌, ◌≤◌, ◌+◌, suc, ℕ, Bool, true, ◌||◌, IsTrue, List, [], ◌∷◌, ◌++◌, length, take, slice_index_or, codes, Err, is_ok}
+use Rattle.icu_locale_core.specs.Identifier.{pieces}
+use Rattle.icu_locale_core.specs.declared.parse_error.ParseError.TheVariants.{InvalidSubtag}
+use Rattle.icu_locale_extensions.specs.Grammar.{IsLocaleId}
+use Rattle.icu_locale_extensions.specs.Reader.{read}
+use Rattle.icu_locale_extensions.specs.Syntaxes.{takes_memory}
+use Rattle.icu_locale_extensions.specs.declared.identifier.LocaleIdentifier.{LocaleIdentifier}
+use Rattle.icu_locale_places.specs.declared.place.Fault.{Fault}
+use Rattle.icu_locale_places.specs.declared.place.Fault.TheVariants.{Memory, At}
+
+-- ---- the place
+
+-- the pieces are the first of some that the grammar derives a locale identifier from
+abbrev pub BeginsSome : List (List ℕ) → Type 0
+BeginsSome ps = (qs : List (List ℕ)) × ((x : LocaleIdentifier) × IsLocaleId (ps ++ qs) x)
+
+-- piece n is the first that no locale identifier can have there; where each can be, n is the end
+pub record IsFirstFault (ps : List (List ℕ)) (n : ℕ) : Type 0 where
+  pub within : n ≤ length ps
+  pub before : BeginsSome (take n ps)
+  pub there : n < length ps → ¬ (BeginsSome (take (suc n) ps))
+
+-- ---- its bytes
+
+-- how many bytes pieces have, with a separator after each
+abbrev pub spaced : List (List ℕ) → ℕ
+spaced [] = 0
+spaced (p ∷ ps) = suc (length p + spaced ps)
+
+-- piece n of t has the bytes after the pieces before it; the end is after the last byte
+pub record IsSpan (t : List ℕ) (n start stop : ℕ) : Type 0 where
+  pub piece : n < length (pieces t) → (start ≡ spaced (take n (pieces t)))
+      × (stop ≡ start + length (slice_index_or (pieces t) n []))
+  pub ending : n ≡ length (pieces t) → (start ≡ length t) × (stop ≡ length t)
+
+-- these are the bytes of the first fault of t
+pub record IsPlace (t : List ℕ) (start stop : ℕ) : Type 0 where
+  pub piece : ℕ
+  pub fault : IsFirstFault (pieces t) piece
+  pub span : IsSpan t piece start stop
+
+-- why t is no locale identifier, as the reader says it, and where; memory is asked for what is kept of a text, and to
+-- find a piece behind the language
+abbrev pub IsFault : List ℕ → Fault → Type 0
+IsFault t (At refusal start stop) = (read (pieces t) ≡ Err refusal) × IsPlace t start stop
+IsFault t Memory = IsTrue (takes_memory t) ⊎ (read (pieces t) ≡ Err InvalidSubtag)
+
+-- ---- told by the reader
+
+-- a piece that may follow in each part that is open
+abbrev pub probe : List ℕ
+probe = codes "abc"
+
+-- the pieces are read, or they are with this one more
+abbrev pub begins_some : List (List ℕ) → Bool
+begins_some [] = true
+begins_some (p ∷ ps) = is_ok (read (p ∷ ps)) || is_ok (read (p ∷ (ps ++ probe ∷ [])))

@@ -1,0 +1,66 @@
+//! The reader that tells where a text is wrong.
+ghost use Rattle.std.specs.Prelude.{◌≡◌, IfOk, IfErr, Ok, Err};
+ghost use Rattle.icu_locale_core.specs.Identifier.{pieces};
+ghost use Rattle.icu_locale_extensions.specs.Locales.{IsLocaleIdentifier};
+ghost use Rattle.icu_locale_extensions.specs.Reader.{read};
+ghost use Rattle.icu_locale_extensions.specs.Syntaxes.{ReadsBy};
+ghost use Rattle.icu_locale_places.specs.Places.{IsFault};
+
+use crate::fronts::{find_fault, first_span};
+use icu_locale_core::ParseError;
+use icu_locale_extensions::{LocaleIdentifier, Syntax};
+use std::alloc::Global;
+
+/// Why a text is no locale identifier.
+#[derive(Clone, Copy, Debug, PartialEq, Eq)]
+pub enum Fault {
+    /// Memory was asked for and refused.
+    Memory,
+    /// The text is refused for this reason, and this is the first piece that no locale identifier can have there: from its
+    /// first byte to the byte after it. Where each piece can be, it is the end of the text.
+    At {
+        /// The reader's reason.
+        refusal: ParseError,
+        /// The first byte.
+        from: usize,
+        /// The byte after it.
+        to: usize,
+    },
+}
+
+/// Reads a locale identifier as `LocaleIdentifier::try_from_utf8` does, and says of a text that it refuses where it is
+/// wrong: at the first piece that no locale identifier can have there, whatever follows, or at the end, where each piece
+/// can be. A text that is read costs that reading and its memory alone. To find a piece behind the language, the reader
+/// is called for some of the first pieces, by halves, in room that is asked for once: text of the same length.
+///
+/// # Errors
+///
+/// - `At` exactly where the text is refused, with the reader's reason: `InvalidLanguage` for the first piece,
+///   `InvalidSubtag` for a later one or for the end.
+/// - `Memory` only where variants, extensions or private use are kept, or a text is refused by `InvalidSubtag`.
+pub fn read_at(alloc: Global, text: &[u8]) -> Result<LocaleIdentifier, Fault>
+    ensures read { IfOk result (λ x. IsLocaleIdentifier x × (read (pieces text.now) ≡ Ok x)) }
+    ensures refused { IfErr result (IsFault text.now) }
+{
+    match LocaleIdentifier::try_from_utf8(alloc, text) {
+        Ok(x) => Ok(x),
+        Err(refusal) => Err(fault_of(alloc, text, refusal)),
+    }
+}
+
+// Why and where a text is wrong that the reader refuses.
+fn fault_of(alloc: Global, text: &[u8], refusal: ParseError) -> Fault
+    requires { ReadsBy Syntax.Unicode text.now (Err refusal) }
+    ensures { IsFault text.now result }
+{
+    let found = match refusal {
+        ParseError::Memory => return Fault::Memory,
+        ParseError::InvalidLanguage => first_span(text),
+        ParseError::InvalidSubtag => match find_fault(alloc, text) {
+            Ok(span) => span,
+            Err(_) => return Fault::Memory,
+        },
+    };
+    let (from, to) = found;
+    Fault::At { refusal, from, to }
+}
