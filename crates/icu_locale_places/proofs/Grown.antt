@@ -218,6 +218,8 @@ read_grown p ps qs ok = near (by (is_language p) ok)
     near (inl now) = or_left (is_ok (read (p ∷ ps))) (is_ok (read (p ∷ (ps ++ probe ∷ [])))) now
     near (inr later) = or_right (is_ok (read (p ∷ ps))) (is_ok (read (p ∷ (ps ++ probe ∷ [])))) later
 
--- a piece is read
-pub probe_read : is_ok (read (probe ∷ [])) ≡ true
-probe_read = variants_ok (lowercase probe) None None [] no_variants
+-- a language alone is read
+pub language_read : (p : List ℕ) → is_language p ≡ true → is_ok (read (p ∷ [])) ≡ true
+language_read p is =
+    ap (λ b. is_ok (behind (if b then read_after (lowercase p) [] else Err InvalidLanguage) [])) is
+    ∙ variants_ok (lowercase p) None None [] no_variants

@@ -1,26 +1,19 @@
 -- What the code tests is what the test of pieces says.
-use Rattle.std.proofs.Common.{◌≡◌, ℕ, ◌<◌, suc, true, false, ◌||◌, List, [], ◌∷◌, ◌++◌, length, take, get_or, codes, is_ok, refl, ap, sym, ◌∙◌, arith}
-use Rattle.std.proofs.lemmas.Bool.{or_left}
-use Rattle.std.proofs.lemmas.List.{take_all}
+use Rattle.std.proofs.Common.{◌≡◌, ℕ, ◌⊎◌, ◌↔◌, ◌<◌, ◌≤◌, suc, zero, Bool, true, false, ◌||◌, List, [], ◌∷◌, ◌++◌, length, take, drop, get_or, codes, is_ok, refl, ap, sym, ◌∙◌, subst, inl, inr, arith}
+use Rattle.std.proofs.lemmas.Bool.{or_cases, or_left}
+use Rattle.std.proofs.lemmas.List.{take-append-drop, take_all, take_at}
 use Rattle.icu_locale_core.specs.Identifier.{pieces, starts_with_language}
 use Rattle.icu_locale_core.specs.Subtag.{is_language}
+use Rattle.icu_locale_extensions.specs.Grammar.{IsLocaleId}
 use Rattle.icu_locale_extensions.specs.Reader.{read}
-use Rattle.icu_locale_places.specs.Places.{IsPlace, IsSpan, begins_some, probe}
-use Rattle.icu_locale_places.proofs.Bytes.{HasFirst, has_first, joined_pieces}
-use Rattle.icu_locale_places.proofs.Told.{BeginsIsTold, fault_here}
+use Rattle.icu_locale_places.specs.Places.{BeginsSome, BeginsText, IsFirstFault, IsPlace, IsSpan, begins_some, probe}
+use Rattle.icu_locale_places.proofs.Bytes.{HasFirst, front_pieces, has_first, joined_pieces, some_piece, stop_of}
+use Rattle.icu_locale_places.proofs.Grown.{language_read}
+use Rattle.icu_locale_places.proofs.Told.{BeginsIsTold, DerivedIsRead, fault_here, one_fault, value}
 
--- a text that is read
-pub read_begins : (t : List ℕ) → is_ok (read (pieces t)) ≡ true → begins_some (pieces t) ≡ true
-read_begins t is = by (pieces t) (has_first t) is
-  where
-    by : (ps : List (List ℕ)) → HasFirst ps → is_ok (read ps) ≡ true → begins_some ps ≡ true
-    by [] has is = refl
-    by (p ∷ ps) has is = or_left (is_ok (read (p ∷ ps))) (is_ok (read (p ∷ (ps ++ probe ∷ [])))) is
-
--- a text that is not, with a piece more
-pub probed : (t s : List ℕ) → is_ok (read (pieces t)) ≡ false → s ≡ t ++ codes "-abc" → is_ok (read (pieces s)) ≡ begins_some (pieces t)
-probed t s not_read is =
-    ap (λ u. is_ok (read (pieces u))) is ∙ ap (λ ps. is_ok (read ps)) (joined_pieces t (codes "abc")) ∙ by (pieces t) (has_first t) not_read
+-- a text that is not read, with a piece more
+pub probed : (t : List ℕ) → is_ok (read (pieces t)) ≡ false → is_ok (read (pieces t ++ probe ∷ [])) ≡ begins_some (pieces t)
+probed t not_read = by (pieces t) (has_first t) not_read
   where
     by : (ps : List (List ℕ)) → HasFirst ps → is_ok (read ps) ≡ false → is_ok (read (ps ++ probe ∷ [])) ≡ begins_some ps
     by [] has not_read = absurd (cc has.parts)
@@ -34,12 +27,34 @@ no_language t not_one = by (pieces t) (has_first t) not_one
     by [] has not_one = absurd (cc has.parts)
     by (p ∷ ps) has not_one = rw not_one refl
 
+some_language : (t : List ℕ) → starts_with_language t ≡ true → begins_some (take 1 (pieces t)) ≡ true
+some_language t is = by (pieces t) (has_first t) is
+  where
+    by : (ps : List (List ℕ)) → HasFirst ps → is_language (get_or ps 0 []) ≡ true → begins_some (take 1 ps) ≡ true
+    by [] has is = refl
+    by (p ∷ ps) has is = or_left (is_ok (read (p ∷ []))) (is_ok (read (p ∷ probe ∷ []))) (language_read p is)
+
 module _ (law : BeginsIsTold) (t : List ℕ) where
+  no_language_first : starts_with_language t ≡ false → IsFirstFault (pieces t) 0
+  no_language_first not_one = fault_here law (pieces t) 0 (omega arith) refl (λ inside. no_language t not_one)
+
+  -- the first piece is the fault exactly where it is no language
+  pub first_is_language : (n : ℕ) → IsFirstFault (pieces t) n → (n ≡ 0) ↔ (starts_with_language t ≡ false)
+  first_is_language n fault = (by n fault, λ not_one. one_fault (pieces t) n 0 fault (no_language_first not_one))
+    where
+      at_first : IsFirstFault (pieces t) 0 → (b : Bool) → starts_with_language t ≡ b → b ≡ false
+      at_first fault true is = absurd (fault.there (some_piece t) ((law (take 1 (pieces t))).1 (some_language t is)))
+      at_first fault false is = refl
+
+      by : (n : ℕ) → IsFirstFault (pieces t) n → n ≡ 0 → starts_with_language t ≡ false
+      by zero fault is = at_first fault (starts_with_language t) refl
+      by (suc n) fault is = absurd (omega arith)
+
   -- the first piece is the first fault
   pub first_place : (start stop : ℕ) → starts_with_language t ≡ false → IsSpan t 0 start stop → IsPlace t start stop
   first_place start stop not_one span = record {
     piece = 0;
-    fault = fault_here law (pieces t) 0 (omega arith) refl (λ inside. no_language t not_one);
+    fault = no_language_first not_one;
     span = span;
   }
 
@@ -60,3 +75,43 @@ module _ (law : BeginsIsTold) (t : List ℕ) where
         (ap begins_some (take_all (length (pieces t)) (pieces t) (omega arith)) ∙ before) (λ inside. absurd (omega arith));
     span = record { piece = λ inside. absurd (omega arith); ending = λ is. (refl, refl) };
   }
+
+-- ---- texts
+
+-- pieces that are read, with these first
+text_of : (law : DerivedIsRead) (ps : List (List ℕ)) (u : List ℕ) → take (length ps) (pieces u) ≡ ps → is_ok (read (pieces u)) ≡ true → BeginsText ps
+text_of law ps u first ok = let x = value (read (pieces u)) ok in (u, (x.0, (first, (law (pieces u) x.0).1 x.1)))
+
+module _ (law : DerivedIsRead) (told : BeginsIsTold) where
+  -- a text up to the end of a piece, or that and a piece more
+  front_text : (ps : List (List ℕ)) (u : List ℕ) → pieces u ≡ ps → begins_some (pieces u) ≡ true → BeginsText ps
+  front_text ps u is begins = by (pieces u) (has_first u) refl begins
+    where
+      by : (qs : List (List ℕ)) → HasFirst qs → pieces u ≡ qs → begins_some qs ≡ true → BeginsText ps
+      by [] has same begins = absurd (cc has.parts)
+      by (q ∷ qs) has same begins = at (or_cases (is_ok (read (q ∷ qs))) (is_ok (read (q ∷ (qs ++ probe ∷ [])))) begins)
+        where
+          more : pieces (u ++ codes "-abc") ≡ q ∷ (qs ++ probe ∷ [])
+          more = joined_pieces u (codes "abc") ∙ ap (λ rs. rs ++ probe ∷ []) same
+
+          at : (is_ok (read (q ∷ qs)) ≡ true) ⊎ (is_ok (read (q ∷ (qs ++ probe ∷ []))) ≡ true) → BeginsText ps
+          at (inl now) = text_of law ps u (ap (take (length ps)) is ∙ take_all (length ps) ps (omega arith)) (ap (λ rs. is_ok (read rs)) same ∙ now)
+          at (inr later) = text_of law ps (u ++ codes "-abc")
+              (ap (take (length ps)) (joined_pieces u (codes "abc") ∙ ap (λ rs. rs ++ probe ∷ []) is) ∙ take_at ps (probe ∷ []) (length ps) refl)
+              (ap (λ rs. is_ok (read rs)) more ∙ later)
+
+  some_text : (t : List ℕ) (n : ℕ) → n ≤ length (pieces t) → BeginsSome (take n (pieces t)) → BeginsText (take n (pieces t))
+  some_text t zero within some = text_of law [] probe refl (language_read probe refl)
+  some_text t (suc n) within some =
+      let is = front_pieces t n (omega arith) in
+      front_text (take (suc n) (pieces t)) (take (stop_of (pieces t) n) t) is (ap begins_some is ∙ (told (take (suc n) (pieces t))).0 some)
+
+  begun_text : (ps : List (List ℕ)) → BeginsText ps → BeginsSome ps
+  begun_text ps some =
+      let u = some.0 in
+      let rest = drop (length ps) (pieces u) in
+      let whole : pieces u ≡ ps ++ rest = sym (take-append-drop (length ps) (pieces u)) ∙ ap (λ qs. qs ++ rest) some.1.1.0 in
+      (rest, (some.1.0, subst (λ qs. IsLocaleId qs some.1.0) whole some.1.1.1))
+
+  pub texts_begin : (t : List ℕ) (n : ℕ) → n ≤ length (pieces t) → BeginsSome (take n (pieces t)) ↔ BeginsText (take n (pieces t))
+  texts_begin t n within = (some_text t n within, begun_text (take n (pieces t)))

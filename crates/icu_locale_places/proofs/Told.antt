@@ -7,13 +7,13 @@ use Rattle.icu_locale_extensions.specs.Grammar.{IsLocaleId}
 use Rattle.icu_locale_extensions.specs.Reader.{read}
 use Rattle.icu_locale_extensions.specs.declared.identifier.LocaleIdentifier.{LocaleIdentifier}
 use Rattle.icu_locale_places.specs.Places.{BeginsSome, IsFirstFault, begins_some, probe}
-use Rattle.icu_locale_places.proofs.Grown.{probe_read, read_grown}
+use Rattle.icu_locale_places.proofs.Grown.{language_read, read_grown}
 
 -- the public law of the grammar
 abbrev pub DerivedIsRead : Type 0
 DerivedIsRead = (ps : List (List ℕ)) (x : LocaleIdentifier) → IsLocaleId ps x ↔ (read ps ≡ Ok x)
 
-value : (r : Result LocaleIdentifier ParseError) → is_ok r ≡ true → (x : LocaleIdentifier) × (r ≡ Ok x)
+pub value : (r : Result LocaleIdentifier ParseError) → is_ok r ≡ true → (x : LocaleIdentifier) × (r ≡ Ok x)
 value (Ok x) ok = (x, refl)
 value (Err e) ok = absurd (false≢true ok)
 
@@ -26,7 +26,7 @@ module _ (law : DerivedIsRead) where
   told (p ∷ ps) some = read_grown p ps some.0 (ap is_ok ((law (p ∷ ps ++ some.0) some.1.0).0 some.1.1))
 
   begun : (ps : List (List ℕ)) → begins_some ps ≡ true → BeginsSome ps
-  begun [] is = begins_with [] (probe ∷ []) probe_read
+  begun [] is = begins_with [] (probe ∷ []) (language_read probe refl)
   begun (p ∷ ps) is = by (or_cases (is_ok (read (p ∷ ps))) (is_ok (read (p ∷ (ps ++ probe ∷ [])))) is)
     where
       by : (is_ok (read (p ∷ ps)) ≡ true) ⊎ (is_ok (read (p ∷ (ps ++ probe ∷ []))) ≡ true) → BeginsSome (p ∷ ps)

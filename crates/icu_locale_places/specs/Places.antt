@@ -1,9 +1,9 @@
 -- Where a text is wrong: the place of the first piece that no locale identifier can have there (UTS #35 Part 1,
 -- section 3.2, unicode_locale_id).
 use Rattle.std.specs.Prelude.{◌≡◌, ◌⊎◌, ◌<◌, ◌≤◌, ◌+◌, suc, ℕ, Bool, true, ◌||◌, IsTrue, List, [], ◌∷◌, ◌++◌, length, take, slice_index_or, codes, Err, is_ok}
-use Rattle.icu_locale_core.specs.Identifier.{pieces}
+use Rattle.icu_locale_core.specs.Identifier.{pieces, starts_with_language}
 use Rattle.icu_locale_core.specs.declared.parse_error.ParseError.TheVariants.{InvalidSubtag}
-use Rattle.icu_locale_extensions.specs.Grammar.{IsLocaleId}
+use Rattle.icu_locale_extensions.specs.Grammar.{IsLocaleId, Spells}
 use Rattle.icu_locale_extensions.specs.Reader.{read}
 use Rattle.icu_locale_extensions.specs.Syntaxes.{takes_memory}
 use Rattle.icu_locale_extensions.specs.declared.identifier.LocaleIdentifier.{LocaleIdentifier}
@@ -21,6 +21,11 @@ pub record IsFirstFault (ps : List (List ℕ)) (n : ℕ) : Type 0 where
   pub within : n ≤ length ps
   pub before : BeginsSome (take n ps)
   pub there : n < length ps → ¬ (BeginsSome (take (suc n) ps))
+
+-- some text with these first pieces spells a locale identifier
+abbrev pub BeginsText : List (List ℕ) → Type 0
+BeginsText ps =
+    (t : List ℕ) × ((x : LocaleIdentifier) × ((take (length ps) (pieces t) ≡ ps) × Spells t x))
 
 -- ---- its bytes
 
@@ -41,11 +46,12 @@ pub record IsPlace (t : List ℕ) (start stop : ℕ) : Type 0 where
   pub fault : IsFirstFault (pieces t) piece
   pub span : IsSpan t piece start stop
 
--- why t is no locale identifier, as the reader says it, and where; memory is asked for what is kept of a text, and to
--- find a piece behind the language
+-- why t is no locale identifier, as the reader says it, and where; where it begins with a language, memory is asked for
+-- what is kept of it, and to find a later piece
 abbrev pub IsFault : List ℕ → Fault → Type 0
 IsFault t (At refusal start stop) = (read (pieces t) ≡ Err refusal) × IsPlace t start stop
-IsFault t Memory = IsTrue (takes_memory t) ⊎ (read (pieces t) ≡ Err InvalidSubtag)
+IsFault t Memory = IsTrue (starts_with_language t)
+    × (IsTrue (takes_memory t) ⊎ (read (pieces t) ≡ Err InvalidSubtag))
 
 -- ---- told by the reader
 

@@ -1,13 +1,16 @@
 //! Which first pieces of a text begin some text that is read.
-ghost use Rattle.std.specs.Prelude.{◌≡◌, ◌<◌, suc, true, false, IfOk, is_ok, length, take, drop, slice_index_or, count_by, []};
+ghost use Rattle.std.specs.Prelude.{◌≡◌, ◌<◌, ◌++◌, ◌∷◌, suc, true, false, IfOk, is_ok, length, take, drop, slice_index_or, count_by, []};
 ghost use Rattle.icu_locale_core.specs.Identifier.{is_separator, pieces, starts_with_language};
 ghost use Rattle.icu_locale_extensions.specs.Reader.{read};
-ghost use Rattle.icu_locale_places.specs.Places.{IsPlace, IsSpan, begins_some};
+ghost use Rattle.icu_locale_places.specs.Places.{IsPlace, IsSpan, begins_some, probe};
 
 use crate::laws;
 use icu_locale_core::{ParseError, Pieces};
 use icu_locale_extensions::LocaleIdentifier;
 use std::alloc::{AllocError, Global};
+
+// A piece more: no place where a piece must follow refuses it.
+const MORE: &[u8] = b"-abc";
 
 // The bytes of the first piece, where that is no language.
 pub fn first_span(text: &[u8]) -> (usize, usize)
@@ -20,11 +23,12 @@ pub fn first_span(text: &[u8]) -> (usize, usize)
 
 // The bytes of the first piece that no locale identifier can have there, or the end.
 pub fn find_fault(alloc: Global, text: &[u8]) -> Result<(usize, usize), AllocError>
+    requires { is_ok (read (pieces text.now)) ≡ false }
     ensures { IfOk result (λ span. IsPlace text.now span.0 span.1) }
 {
     laws::begins_is_told();
-    let mut room = Vec::with_capacity(alloc, text.len().saturating_add(4))?;
-    if begins_some(alloc, text, &mut room)? {
+    let mut room = Vec::with_capacity(alloc, text.len().saturating_add(MORE.len()))?;
+    if is_read_with_more(alloc, text, &mut room)? {
         return Ok((text.len(), text.len()));
     }
     let piece = first_fault(alloc, text, &mut room)?;
@@ -58,9 +62,16 @@ fn begins_some(alloc: Global, text: &[u8], room: &mut Vec<u8>) -> Result<bool, A
     if is_read(alloc, text)? {
         return Ok(true);
     }
+    is_read_with_more(alloc, text, room)
+}
+
+// Whether a text is read with one piece more, that may follow wherever a piece must.
+fn is_read_with_more(alloc: Global, text: &[u8], room: &mut Vec<u8>) -> Result<bool, AllocError>
+    ensures { IfOk result (λ b. b ≡ is_ok (read (pieces text.now ++ probe ∷ []))) }
+{
     room.clear();
     room.extend_from_slice(text)?;
-    room.extend_from_slice(b"-abc")?;
+    room.extend_from_slice(MORE)?;
     is_read(alloc, room.as_slice())
 }
 

@@ -1,8 +1,8 @@
 //! Laws of places. Each function here takes nothing, answers nothing and carries a proved fact.
-ghost use Rattle.std.specs.Prelude.{◌≡◌, ◌↔◌, ◌<◌, true, List, ℕ};
-ghost use Rattle.std.specs.Prelude.{length, slice_index_or, slice_range, []};
-ghost use Rattle.icu_locale_core.specs.Identifier.{pieces};
-ghost use Rattle.icu_locale_places.specs.Places.{BeginsSome, IsFirstFault, IsSpan, begins_some};
+ghost use Rattle.std.specs.Prelude.{◌≡◌, ◌↔◌, ◌<◌, ◌≤◌, true, false, List, ℕ};
+ghost use Rattle.std.specs.Prelude.{length, take, slice_index_or, slice_range, []};
+ghost use Rattle.icu_locale_core.specs.Identifier.{pieces, starts_with_language};
+ghost use Rattle.icu_locale_places.specs.Places.{BeginsSome, BeginsText, IsFirstFault, IsSpan, begins_some};
 
 /// Pieces are the first of some that spell a locale identifier exactly where they are read, or are with one more.
 pub fn begins_is_told()
@@ -11,16 +11,35 @@ pub fn begins_is_told()
     icu_locale_extensions::laws::derived_is_read();
 }
 
+/// The first pieces of a text are those of some that spell a locale identifier exactly where some text that begins with
+/// them spells one.
+pub fn fronts_begin_texts()
+    ensures { (t : List ℕ) (n : ℕ) → n ≤ length (pieces t)
+        → BeginsSome (take n (pieces t)) ↔ BeginsText (take n (pieces t)) }
+{
+    icu_locale_extensions::laws::derived_is_read();
+    begins_is_told();
+}
+
 /// Pieces have one first fault.
 pub fn faults_are_one()
     ensures some { (ps : List (List ℕ)) → (n : ℕ) × IsFirstFault ps n }
-    ensures one { (ps : List (List ℕ)) (m n : ℕ) → IsFirstFault ps m → IsFirstFault ps n → m ≡ n }
+    ensures one { (ps : List (List ℕ)) (m n : ℕ) → IsFirstFault ps m → IsFirstFault ps n
+        → m ≡ n }
+{
+    begins_is_told();
+}
+
+/// The first piece is the fault exactly where it is no language, so exactly where the reader says so.
+pub fn first_faults_are_languages()
+    ensures { (t : List ℕ) (n : ℕ) → IsFirstFault (pieces t) n
+        → (n ≡ 0) ↔ (starts_with_language t ≡ false) }
 {
     begins_is_told();
 }
 
 /// The bytes of a piece are that piece.
 pub fn spans_are_pieces()
-    ensures { (t : List ℕ) (n start stop : ℕ) → n < length (pieces t) → IsSpan t n start stop
-        → slice_range t start stop ≡ slice_index_or (pieces t) n [] }
+    ensures { (t : List ℕ) (n start stop : ℕ) → n < length (pieces t)
+        → IsSpan t n start stop → slice_range t start stop ≡ slice_index_or (pieces t) n [] }
 {}
