@@ -6,10 +6,10 @@ use Rattle.icu_locale_core.specs.Identifier.{pieces, starts_with_language}
 use Rattle.icu_locale_core.specs.Subtag.{is_language}
 use Rattle.icu_locale_extensions.specs.Grammar.{IsLocaleId}
 use Rattle.icu_locale_extensions.specs.Reader.{read}
-use Rattle.icu_locale_places.specs.Places.{BeginsSome, BeginsText, IsFirstFault, IsPlace, IsSpan, begins_some, probe}
+use Rattle.icu_locale_places.specs.Places.{BeginsSome, BeginsText, IsPlace, IsWrongAt, IsSpan, begins_some, probe}
 use Rattle.icu_locale_places.proofs.Bytes.{HasFirst, front_pieces, has_first, joined_pieces, some_piece, stop_of}
 use Rattle.icu_locale_places.proofs.Grown.{language_read}
-use Rattle.icu_locale_places.proofs.Told.{BeginsIsTold, DerivedIsRead, fault_here, one_fault, value}
+use Rattle.icu_locale_places.proofs.Told.{BeginsIsTold, DerivedIsRead, place_here, one_place, value}
 
 -- a text that is not read, with a piece more
 pub probed : (t : List ℕ) → is_ok (read (pieces t)) ≡ false → is_ok (read (pieces t ++ probe ∷ [])) ≡ begins_some (pieces t)
@@ -35,43 +35,43 @@ some_language t is = by (pieces t) (has_first t) is
     by (p ∷ ps) has is = or_left (is_ok (read (p ∷ []))) (is_ok (read (p ∷ probe ∷ []))) (language_read p is)
 
 module _ (law : BeginsIsTold) (t : List ℕ) where
-  no_language_first : starts_with_language t ≡ false → IsFirstFault (pieces t) 0
-  no_language_first not_one = fault_here law (pieces t) 0 (omega arith) refl (λ inside. no_language t not_one)
+  first_is_place : starts_with_language t ≡ false → IsPlace (pieces t) 0
+  first_is_place not_one = place_here law (pieces t) 0 (omega arith) refl (λ inside. no_language t not_one)
 
-  -- the first piece is the fault exactly where it is no language
-  pub first_is_language : (n : ℕ) → IsFirstFault (pieces t) n → (n ≡ 0) ↔ (starts_with_language t ≡ false)
-  first_is_language n fault = (by n fault, λ not_one. one_fault (pieces t) n 0 fault (no_language_first not_one))
+  -- the place is the first piece exactly where that is no language
+  pub first_is_language : (n : ℕ) → IsPlace (pieces t) n → (n ≡ 0) ↔ (starts_with_language t ≡ false)
+  first_is_language n place = (by n place, λ not_one. one_place (pieces t) n 0 place (first_is_place not_one))
     where
-      at_first : IsFirstFault (pieces t) 0 → (b : Bool) → starts_with_language t ≡ b → b ≡ false
-      at_first fault true is = absurd (fault.there (some_piece t) ((law (take 1 (pieces t))).1 (some_language t is)))
-      at_first fault false is = refl
+      at_first : IsPlace (pieces t) 0 → (b : Bool) → starts_with_language t ≡ b → b ≡ false
+      at_first place true is = absurd (place.there (some_piece t) ((law (take 1 (pieces t))).1 (some_language t is)))
+      at_first place false is = refl
 
-      by : (n : ℕ) → IsFirstFault (pieces t) n → n ≡ 0 → starts_with_language t ≡ false
-      by zero fault is = at_first fault (starts_with_language t) refl
-      by (suc n) fault is = absurd (omega arith)
+      by : (n : ℕ) → IsPlace (pieces t) n → n ≡ 0 → starts_with_language t ≡ false
+      by zero place is = at_first place (starts_with_language t) refl
+      by (suc n) place is = absurd (omega arith)
 
-  -- the first piece is the first fault
-  pub first_place : (start stop : ℕ) → starts_with_language t ≡ false → IsSpan t 0 start stop → IsPlace t start stop
-  first_place start stop not_one span = record {
+  -- the first piece is the place
+  pub wrong_at_first : (from to : ℕ) → starts_with_language t ≡ false → IsSpan t 0 from to → IsWrongAt t from to
+  wrong_at_first from to not_one span = record {
     piece = 0;
-    fault = no_language_first not_one;
+    place = first_is_place not_one;
     span = span;
   }
 
   -- a piece with which those before it begin nothing
-  pub piece_place : (n start stop : ℕ) → n < length (pieces t) → begins_some (take n (pieces t)) ≡ true → begins_some (take (suc n) (pieces t)) ≡ false
-      → IsSpan t n start stop → IsPlace t start stop
-  piece_place n start stop inside before there span = record {
+  pub wrong_at_piece : (n from to : ℕ) → n < length (pieces t) → begins_some (take n (pieces t)) ≡ true → begins_some (take (suc n) (pieces t)) ≡ false
+      → IsSpan t n from to → IsWrongAt t from to
+  wrong_at_piece n from to inside before there span = record {
     piece = n;
-    fault = fault_here law (pieces t) n (omega arith) before (λ inside. there);
+    place = place_here law (pieces t) n (omega arith) before (λ inside. there);
     span = span;
   }
 
   -- the end
-  pub end_place : begins_some (pieces t) ≡ true → IsPlace t (length t) (length t)
-  end_place before = record {
+  pub wrong_at_end : begins_some (pieces t) ≡ true → IsWrongAt t (length t) (length t)
+  wrong_at_end before = record {
     piece = length (pieces t);
-    fault = fault_here law (pieces t) (length (pieces t)) (omega arith)
+    place = place_here law (pieces t) (length (pieces t)) (omega arith)
         (ap begins_some (take_all (length (pieces t)) (pieces t) (omega arith)) ∙ before) (λ inside. absurd (omega arith));
     span = record { piece = λ inside. absurd (omega arith); ending = λ is. (refl, refl) };
   }

@@ -16,16 +16,16 @@ use Rattle.icu_locale_places.specs.declared.place.Fault.TheVariants.{Memory, At}
 abbrev pub BeginsSome : List (List ℕ) → Type 0
 BeginsSome ps = (qs : List (List ℕ)) × ((x : LocaleIdentifier) × IsLocaleId (ps ++ qs) x)
 
--- piece n is the first that no locale identifier can have there; where each can be, n is the end
-pub record IsFirstFault (ps : List (List ℕ)) (n : ℕ) : Type 0 where
+-- the place: piece n is the first that no locale identifier can have there; where each can be, n is the end
+pub record IsPlace (ps : List (List ℕ)) (n : ℕ) : Type 0 where
   pub within : n ≤ length ps
   pub before : BeginsSome (take n ps)
   pub there : n < length ps → ¬ (BeginsSome (take (suc n) ps))
 
 -- some text with these first pieces spells a locale identifier
 abbrev pub BeginsText : List (List ℕ) → Type 0
-BeginsText ps =
-    (t : List ℕ) × ((x : LocaleIdentifier) × ((take (length ps) (pieces t) ≡ ps) × Spells t x))
+BeginsText ps = (t : List ℕ) × ((x : LocaleIdentifier)
+    × ((take (length ps) (pieces t) ≡ ps) × Spells t x))
 
 -- ---- its bytes
 
@@ -35,21 +35,21 @@ spaced [] = 0
 spaced (p ∷ ps) = suc (length p + spaced ps)
 
 -- piece n of t has the bytes after the pieces before it; the end is after the last byte
-pub record IsSpan (t : List ℕ) (n start stop : ℕ) : Type 0 where
-  pub piece : n < length (pieces t) → (start ≡ spaced (take n (pieces t)))
-      × (stop ≡ start + length (slice_index_or (pieces t) n []))
-  pub ending : n ≡ length (pieces t) → (start ≡ length t) × (stop ≡ length t)
+pub record IsSpan (t : List ℕ) (n from to : ℕ) : Type 0 where
+  pub piece : n < length (pieces t) → (from ≡ spaced (take n (pieces t)))
+      × (to ≡ from + length (slice_index_or (pieces t) n []))
+  pub ending : n ≡ length (pieces t) → (from ≡ length t) × (to ≡ length t)
 
--- these are the bytes of the first fault of t
-pub record IsPlace (t : List ℕ) (start stop : ℕ) : Type 0 where
+-- t is wrong at these bytes: its place has them
+pub record IsWrongAt (t : List ℕ) (from to : ℕ) : Type 0 where
   pub piece : ℕ
-  pub fault : IsFirstFault (pieces t) piece
-  pub span : IsSpan t piece start stop
+  pub place : IsPlace (pieces t) piece
+  pub span : IsSpan t piece from to
 
 -- why t is no locale identifier, as the reader says it, and where; where it begins with a language, memory is asked for
 -- what is kept of it, and to find a later piece
 abbrev pub IsFault : List ℕ → Fault → Type 0
-IsFault t (At refusal start stop) = (read (pieces t) ≡ Err refusal) × IsPlace t start stop
+IsFault t (At refusal from to) = (read (pieces t) ≡ Err refusal) × IsWrongAt t from to
 IsFault t Memory = IsTrue (starts_with_language t)
     × (IsTrue (takes_memory t) ⊎ (read (pieces t) ≡ Err InvalidSubtag))
 

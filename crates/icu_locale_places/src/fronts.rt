@@ -2,7 +2,7 @@
 ghost use Rattle.std.specs.Prelude.{◌≡◌, ◌<◌, ◌++◌, ◌∷◌, suc, true, false, IfOk, is_ok, length, take, drop, slice_index_or, count_by, []};
 ghost use Rattle.icu_locale_core.specs.Identifier.{is_separator, pieces, starts_with_language};
 ghost use Rattle.icu_locale_extensions.specs.Reader.{read};
-ghost use Rattle.icu_locale_places.specs.Places.{IsPlace, IsSpan, begins_some, probe};
+ghost use Rattle.icu_locale_places.specs.Places.{IsWrongAt, IsSpan, begins_some, probe};
 
 use crate::laws;
 use icu_locale_core::{ParseError, Pieces};
@@ -15,28 +15,28 @@ const MORE: &[u8] = b"-abc";
 // The bytes of the first piece, where that is no language.
 pub fn first_span(text: &[u8]) -> (usize, usize)
     requires { starts_with_language text.now ≡ false }
-    ensures { IsPlace text.now result.0 result.1 }
+    ensures { IsWrongAt text.now result.0 result.1 }
 {
     laws::begins_is_told();
     span(text, 0)
 }
 
 // The bytes of the first piece that no locale identifier can have there, or the end.
-pub fn find_fault(alloc: Global, text: &[u8]) -> Result<(usize, usize), AllocError>
+pub fn find_place(alloc: Global, text: &[u8]) -> Result<(usize, usize), AllocError>
     requires { is_ok (read (pieces text.now)) ≡ false }
-    ensures { IfOk result (λ span. IsPlace text.now span.0 span.1) }
+    ensures { IfOk result (λ span. IsWrongAt text.now span.0 span.1) }
 {
     laws::begins_is_told();
     let mut room = Vec::with_capacity(alloc, text.len().saturating_add(MORE.len()))?;
     if is_read_with_more(alloc, text, &mut room)? {
         return Ok((text.len(), text.len()));
     }
-    let piece = first_fault(alloc, text, &mut room)?;
+    let piece = first_wrong(alloc, text, &mut room)?;
     Ok(span(text, piece))
 }
 
 // The first piece with which the pieces before it begin no text that is read, by halves.
-fn first_fault(alloc: Global, text: &[u8], room: &mut Vec<u8>) -> Result<usize, AllocError>
+fn first_wrong(alloc: Global, text: &[u8], room: &mut Vec<u8>) -> Result<usize, AllocError>
     requires { begins_some (pieces text.now) ≡ false }
     ensures within { IfOk result (λ n. n < length (pieces text.now)) }
     ensures before { IfOk result (λ n. begins_some (take n (pieces text.now)) ≡ true) }

@@ -2,7 +2,7 @@
 ghost use Rattle.std.specs.Prelude.{◌≡◌, ◌↔◌, ◌<◌, ◌≤◌, true, false, List, ℕ};
 ghost use Rattle.std.specs.Prelude.{length, take, slice_index_or, slice_range, []};
 ghost use Rattle.icu_locale_core.specs.Identifier.{pieces, starts_with_language};
-ghost use Rattle.icu_locale_places.specs.Places.{BeginsSome, BeginsText, IsFirstFault, IsSpan, begins_some};
+ghost use Rattle.icu_locale_places.specs.Places.{BeginsSome, BeginsText, IsPlace, IsSpan, begins_some};
 
 /// Pieces are the first of some that spell a locale identifier exactly where they are read, or are with one more.
 pub fn begins_is_told()
@@ -21,18 +21,18 @@ pub fn fronts_begin_texts()
     begins_is_told();
 }
 
-/// Pieces have one first fault.
-pub fn faults_are_one()
-    ensures some { (ps : List (List ℕ)) → (n : ℕ) × IsFirstFault ps n }
-    ensures one { (ps : List (List ℕ)) (m n : ℕ) → IsFirstFault ps m → IsFirstFault ps n
+/// Pieces have one place.
+pub fn places_are_one()
+    ensures some { (ps : List (List ℕ)) → (n : ℕ) × IsPlace ps n }
+    ensures one { (ps : List (List ℕ)) (m n : ℕ) → IsPlace ps m → IsPlace ps n
         → m ≡ n }
 {
     begins_is_told();
 }
 
-/// The first piece is the fault exactly where it is no language, so exactly where the reader says so.
-pub fn first_faults_are_languages()
-    ensures { (t : List ℕ) (n : ℕ) → IsFirstFault (pieces t) n
+/// The place is the first piece exactly where that is no language, so exactly where the reader says so.
+pub fn languages_come_first()
+    ensures { (t : List ℕ) (n : ℕ) → IsPlace (pieces t) n
         → (n ≡ 0) ↔ (starts_with_language t ≡ false) }
 {
     begins_is_told();
@@ -40,6 +40,6 @@ pub fn first_faults_are_languages()
 
 /// The bytes of a piece are that piece.
 pub fn spans_are_pieces()
-    ensures { (t : List ℕ) (n start stop : ℕ) → n < length (pieces t)
-        → IsSpan t n start stop → slice_range t start stop ≡ slice_index_or (pieces t) n [] }
+    ensures { (t : List ℕ) (n from to : ℕ) → n < length (pieces t)
+        → IsSpan t n from to → slice_range t from to ≡ slice_index_or (pieces t) n [] }
 {}

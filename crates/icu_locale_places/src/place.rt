@@ -6,7 +6,7 @@ ghost use Rattle.icu_locale_extensions.specs.Reader.{read};
 ghost use Rattle.icu_locale_extensions.specs.Syntaxes.{ReadsBy};
 ghost use Rattle.icu_locale_places.specs.Places.{IsFault};
 
-use crate::fronts::{find_fault, first_span};
+use crate::fronts::{find_place, first_span};
 use icu_locale_core::ParseError;
 use icu_locale_extensions::{LocaleIdentifier, Syntax};
 use std::alloc::Global;
@@ -37,7 +37,8 @@ pub enum Fault {
 ///
 /// - `At` exactly where the text is refused, with the reader's reason: `InvalidLanguage` for the first piece,
 ///   `InvalidSubtag` for a later one or for the end.
-/// - `Memory` only where variants, extensions or private use are kept, or a text is refused by `InvalidSubtag`.
+/// - `Memory` only where variants, extensions or private use are kept, or a text is refused by `InvalidSubtag`; never in place of
+///   `InvalidLanguage`.
 pub fn read_at(alloc: Global, text: &[u8]) -> Result<LocaleIdentifier, Fault>
     ensures read { IfOk result (λ x. IsLocaleIdentifier x × (read (pieces text.now) ≡ Ok x)) }
     ensures refused { IfErr result (IsFault text.now) }
@@ -56,7 +57,7 @@ fn fault_of(alloc: Global, text: &[u8], refusal: ParseError) -> Fault
     let found = match refusal {
         ParseError::Memory => return Fault::Memory,
         ParseError::InvalidLanguage => first_span(text),
-        ParseError::InvalidSubtag => match find_fault(alloc, text) {
+        ParseError::InvalidSubtag => match find_place(alloc, text) {
             Ok(span) => span,
             Err(_) => return Fault::Memory,
         },

@@ -26,6 +26,8 @@ mod maps;
 #[cfg(test)]
 mod parts;
 #[cfg(test)]
+mod places;
+#[cfg(test)]
 mod providers;
 #[cfg(test)]
 mod serving;

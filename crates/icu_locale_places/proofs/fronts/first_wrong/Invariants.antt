@@ -1,7 +1,7 @@
 use Rattle.std.proofs.Common.{◌≡◌, ◌-◌, ◌<◌, ◌≤◌, suc, true, false, length, take}
 use Rattle.icu_locale_core.specs.Identifier.{pieces}
 use Rattle.icu_locale_places.specs.Places.{begins_some}
-use Rattle.icu_locale_places.proofs.fronts.first_fault.Given as goal
+use Rattle.icu_locale_places.proofs.fronts.first_wrong.Given as goal
 
 abbrev pub invariant-halves : goal.invariant-halves
 invariant-halves l = record {

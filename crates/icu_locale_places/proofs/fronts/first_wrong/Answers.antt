@@ -3,7 +3,7 @@ use Rattle.std.proofs.lemmas.List.{take_all}
 use Rattle.icu_locale_core.specs.Identifier.{pieces}
 use Rattle.icu_locale_places.specs.Places.{begins_some}
 use Rattle.icu_locale_places.proofs.Bytes.{pieces_length}
-use Rattle.icu_locale_places.proofs.fronts.first_fault.Goals as goal
+use Rattle.icu_locale_places.proofs.fronts.first_wrong.Goals as goal
 
 pub halves-init : goal.halves-init
 halves-init c =
