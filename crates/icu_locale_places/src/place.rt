@@ -16,8 +16,8 @@ use std::alloc::Global;
 pub enum Fault {
     /// Memory was asked for and refused.
     Memory,
-    /// The text is refused for this reason, and this is the first piece that no locale identifier can have there: from its
-    /// first byte to the byte after it. Where each piece can be, it is the end of the text.
+    /// The text is refused for this reason, and this is the first piece that no locale identifier can have there: from
+    /// its first byte to the byte after it. Where each piece can be, it is the end of the text.
     At {
         /// The reader's reason.
         refusal: ParseError,
@@ -28,17 +28,17 @@ pub enum Fault {
     },
 }
 
-/// Reads a locale identifier as `LocaleIdentifier::try_from_utf8` does, and says of a text that it refuses where it is
-/// wrong: at the first piece that no locale identifier can have there, whatever follows, or at the end, where each piece
-/// can be. A text that is read costs that reading and its memory alone. To find a piece behind the language, the reader
-/// is called for some of the first pieces, by halves, in room that is asked for once: text of the same length.
+/// Reads a locale identifier as `LocaleIdentifier::try_from_utf8` does, and says of a text that it refuses where it
+/// is wrong: at the first piece that no locale identifier can have there, or at the end, where each piece can be. A
+/// text that is read costs that reading and its memory alone. To find a piece behind the language, the reader is
+/// called for fronts of the text, by halves, in room that is asked for once: four bytes more than the text has.
 ///
 /// # Errors
 ///
 /// - `At` exactly where the text is refused, with the reader's reason: `InvalidLanguage` for the first piece,
 ///   `InvalidSubtag` for a later one or for the end.
-/// - `Memory` only where variants, extensions or private use are kept, or a text is refused by `InvalidSubtag`; never in place of
-///   `InvalidLanguage`.
+/// - `Memory` only where variants, extensions or private use are kept, or a text is refused by `InvalidSubtag`, and
+///   never in place of `InvalidLanguage`.
 pub fn read_at(alloc: Global, text: &[u8]) -> Result<LocaleIdentifier, Fault>
     ensures read { IfOk result (λ x. IsLocaleIdentifier x × (read (pieces text.now) ≡ Ok x)) }
     ensures refused { IfErr result (IsFault text.now) }
@@ -54,7 +54,7 @@ fn fault_of(alloc: Global, text: &[u8], refusal: ParseError) -> Fault
     requires { ReadsBy Syntax.Unicode text.now (Err refusal) }
     ensures { IsFault text.now result }
 {
-    let found = match refusal {
+    let (from, to) = match refusal {
         ParseError::Memory => return Fault::Memory,
         ParseError::InvalidLanguage => first_span(text),
         ParseError::InvalidSubtag => match find_place(alloc, text) {
@@ -62,6 +62,5 @@ fn fault_of(alloc: Global, text: &[u8], refusal: ParseError) -> Fault
             Err(_) => return Fault::Memory,
         },
     };
-    let (from, to) = found;
     Fault::At { refusal, from, to }
 }
