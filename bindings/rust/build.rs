@@ -33,7 +33,12 @@ fn write_data(folders: &[PathBuf]) {
     let folder = folders.iter().find(|folder| folder.join("base-and-supplement.gz").exists());
     let mut rows: Vec<String> = folder.into_iter().flat_map(|folder| files_of(folder)).map(|path| row_of(&path)).collect();
     rows.sort();
-    let text = format!("/// The files.\npub const FILES: &[(&str, &[u8])] = &[{}];\n", rows.concat());
+    let told = folder.and_then(|folder| fs::read_to_string(folder.join("version")).ok());
+    let version = told.as_deref().map(str::trim);
+    let text = format!(
+        "/// The files.\npub const FILES: &[(&str, &[u8])] = &[{}];\n/// CLDR's version.\npub const VERSION: Option<&str> = {version:?};\n",
+        rows.concat()
+    );
     let to = PathBuf::from(env::var("OUT_DIR").expect("cargo names a folder for it")).join("data.rs");
     fs::write(to, text).expect("the list of files is written");
 }
@@ -42,7 +47,7 @@ fn files_of(folder: &Path) -> Vec<PathBuf> {
     println!("cargo:rerun-if-changed={}", folder.display());
     let entries = fs::read_dir(folder).expect("the folder of the data is read");
     let paths = entries.map(|entry| entry.expect("the folder of the data is read").path());
-    paths.filter(|path| path.extension().map_or(false, |ending| ending == "gz")).collect()
+    paths.filter(|path| path.extension().is_some_and(|ending| ending == "gz")).collect()
 }
 
 fn row_of(path: &Path) -> String {

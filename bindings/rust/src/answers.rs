@@ -1,7 +1,7 @@
 //! What tables are asked about one identifier, and the menu of several.
 use crate::calls;
 use crate::menu::{in_order, MenuRow};
-use crate::{Direction, Refusal, Tables};
+use crate::{Chain, Direction, Name, Refusal, Tables};
 
 impl Tables {
     /// How far an identifier that may be served is from one that is desired, by the match rules. Their maximal forms are
@@ -157,9 +157,32 @@ impl Tables {
     ///
     /// # Errors
     ///
-    /// `InvalidLanguage`, `InvalidSubtag`, `NameMissing` or `Memory`, and `Command` where the preferences are none.
+    /// `InvalidLanguage`, `InvalidSubtag`, `NameMissing` or `Memory`, and `Preferences` where those are no identifier without
+    /// variants.
     pub fn name(&self, identifier: &str, preferences: &str) -> Result<String, Refusal> {
-        self.form(&format!("name light {preferences}"), identifier)
+        self.name_in(identifier, preferences, Chain::Light).map(|name| name.text)
+    }
+
+    /// The same by a chain, and whether a part of it is raw.
+    ///
+    /// # Errors
+    ///
+    /// Those of `name`.
+    ///
+    /// ```
+    /// use icu_locale_calls::{Chain, Refusal, Tables, EXAMPLE};
+    /// let tables = Tables::from_json(EXAMPLE.as_bytes())?;
+    /// let name = tables.name_in("it-Qabc-150", "en", Chain::Light)?;
+    /// assert_eq!((name.text.as_str(), name.is_raw), ("Italian (Qabc, Europe)", true));
+    /// assert_eq!(tables.name_in("ku", "en", Chain::MenuLight)?.to_string(), "Kurdish (Kurmanji)");
+    /// assert_eq!(tables.name_in("ku", "no language", Chain::Light), Err(Refusal::Preferences));
+    /// # Ok::<(), Refusal>(())
+    /// ```
+    pub fn name_in(&self, identifier: &str, preferences: &str, chain: Chain) -> Result<Name, Refusal> {
+        let told = self.told(&format!("name {} {preferences}", chain.word()), identifier);
+        let told = told.map_err(|refusal| if refusal == Refusal::Command { Refusal::Preferences } else { refusal })?;
+        let is_raw = told.ends_with("\tR");
+        Ok(Name { text: before_mark(told), is_raw })
     }
 
     /// The identifiers that a loader asks after one another, from this one, without its extensions, to `und`.

@@ -10,25 +10,98 @@ include!(concat!(env!("OUT_DIR"), "/data.rs"));
 const BASE: &str = "base-and-supplement";
 const ALL: &str = "all";
 
+/// A part of tables before the rows of locales, and the rows.
+type Column<'a> = (&'a [u8], Vec<u8>);
+
+// What tables have that name a script, a region or a variant alone: a pattern of what is behind `und`, and its name.
+const FOR_PARTS: [(&str, &str); 2] = [
+    ("\"essentials\":{", r#"{"pattern":[1],"separator":[0,", ",1]}"#),
+    ("\"language/medium/tiny\":{", r#"{"und":"und"}"#),
+];
+
 /// The text of the tables that have the names of some locales, and that of their supplement.
 pub fn texts_of(locales: &[&str]) -> Result<(Vec<u8>, Vec<u8>), Refusal> {
-    let base = unpacked(BASE).ok_or(Refusal::NoData)?;
+    with_columns(|columns| {
+        if locales != [ALL] {
+            return put_some(locales, columns);
+        }
+        for (language, _) in FILES.iter().filter(|(name, _)| *name != BASE) {
+            put(&unpacked(language)?.unwrap_or_default(), |_| true, columns);
+        }
+        Ok(())
+    })
+}
+
+/// The text of the tables that have the names of scripts, regions and variants in a locale.
+pub fn parts_of(locale: &str) -> Result<Vec<u8>, Refusal> {
+    let texts = with_columns(|columns| {
+        put_some(&[locale], columns)?;
+        for (part, column) in columns {
+            let is_of = |name: &str| part.windows(name.len()).any(|window| window == name.as_bytes());
+            match FOR_PARTS.iter().find(|(end, _)| part.ends_with(end.as_bytes())) {
+                Some((_, row)) => *column = format!("\"{locale}\":{row}").into_bytes(),
+                None if ["script/", "region/", "variant/"].iter().any(|name| is_of(name)) => {}
+                None => column.clear(),
+            }
+        }
+        Ok(())
+    });
+    texts.map(|(tables, _)| tables)
+}
+
+// The two texts, with the rows that are put in.
+fn with_columns(
+    put_in: impl FnOnce(&mut [Column<'_>]) -> Result<(), Refusal>,
+) -> Result<(Vec<u8>, Vec<u8>), Refusal> {
+    let base = unpacked(BASE)?.ok_or(Refusal::NoData)?;
     let mut parts = lines(&base);
     let (called, behind) = (parts.next().unwrap_or_default(), parts.next().unwrap_or_default());
-    let mut columns: Vec<(&[u8], Vec<u8>)> = once(called).chain(parts).map(|part| (part, Vec::new())).collect();
-    if locales == [ALL] {
-        for (language, _) in FILES.iter().filter(|(name, _)| *name != BASE) {
-            put(&unpacked(language).unwrap_or_default(), |_| true, &mut columns);
-        }
-    } else {
-        put_some(locales, &mut columns)?;
-    }
+    let mut columns: Vec<Column<'_>> = once(called).chain(parts).map(|part| (part, Vec::new())).collect();
+    put_in(&mut columns)?;
     let supplement = [called, &columns[0].1, behind].concat();
     Ok((columns[1..].iter().flat_map(|(part, rows)| [*part, rows]).collect::<Vec<_>>().concat(), supplement))
 }
 
-fn unpacked(name: &str) -> Option<Vec<u8>> {
-    FILES.iter().find(|(its, _)| *its == name).and_then(|(_, file)| gunzip(file))
+/// The locales that there are names in, in the order of their texts.
+pub fn locales() -> Result<Vec<String>, Refusal> {
+    let mut found = Vec::new();
+    for (name, _) in FILES.iter().filter(|(name, _)| *name != BASE) {
+        found.extend(names_in(&unpacked(name)?.unwrap_or_default()).map(str::to_owned));
+    }
+    found.sort_unstable();
+    Ok(found)
+}
+
+/// Whether there are names in a locale.
+pub fn has(locale: &str) -> Result<bool, Refusal> {
+    let key = key_of(locale);
+    let file = unpacked(language_of(&key))?.unwrap_or_default();
+    let mut names = names_in(&file);
+    Ok(names.any(|name| name.eq_ignore_ascii_case(&key)))
+}
+
+fn key_of(locale: &str) -> String {
+    locale.to_ascii_lowercase().replace('_', "-")
+}
+
+// The language of a key, whose file has its rows.
+fn language_of(key: &str) -> &str {
+    key.split('-').next().unwrap_or_default()
+}
+
+// The first line of a language's file: groups of locales that have the same rows.
+fn groups_of(text: &[u8]) -> Vec<&str> {
+    std::str::from_utf8(lines(text).next().unwrap_or_default()).unwrap_or_default().split('\t').collect()
+}
+
+fn names_in(text: &[u8]) -> impl Iterator<Item = &str> {
+    groups_of(text).into_iter().flat_map(|group| group.split(' ')).filter(|name| !name.is_empty())
+}
+
+// What a file holds; None where there is no such file.
+fn unpacked(name: &str) -> Result<Option<Vec<u8>>, Refusal> {
+    let Some((file, packed)) = FILES.iter().find(|(its, _)| *its == name) else { return Ok(None) };
+    gunzip(packed).map(Some).ok_or(Refusal::Damaged { file })
 }
 
 fn lines(text: &[u8]) -> impl Iterator<Item = &[u8]> {
@@ -36,16 +109,16 @@ fn lines(text: &[u8]) -> impl Iterator<Item = &[u8]> {
 }
 
 // Each locale once. It is found in any case, with `-` or `_`.
-fn put_some(locales: &[&str], columns: &mut [(&[u8], Vec<u8>)]) -> Result<(), Refusal> {
+fn put_some(locales: &[&str], columns: &mut [Column<'_>]) -> Result<(), Refusal> {
     let mut languages = BTreeMap::new();
-    let keys: Vec<String> = locales.iter().map(|word| word.to_ascii_lowercase().replace('_', "-")).collect();
+    let keys: Vec<String> = locales.iter().map(|word| key_of(word)).collect();
     for (place, key) in keys.iter().enumerate() {
-        let language = key.split('-').next().unwrap_or_default();
-        let text: &mut Vec<u8> = languages.entry(language).or_insert_with(|| match language {
-            BASE => Vec::new(),
-            language => unpacked(language).unwrap_or_default(),
-        });
-        if !keys[..place].contains(key) && !put(text, |name| name.eq_ignore_ascii_case(key), columns) {
+        let language = language_of(key);
+        if !languages.contains_key(language) {
+            languages.insert(language, if language == BASE { None } else { unpacked(language)? }.unwrap_or_default());
+        }
+        let is_new = !keys[..place].contains(key);
+        if is_new && !put(&languages[language], |name| name.eq_ignore_ascii_case(key), columns) {
             return Err(Refusal::NoLocale { place });
         }
     }
@@ -54,11 +127,9 @@ fn put_some(locales: &[&str], columns: &mut [(&[u8], Vec<u8>)]) -> Result<(), Re
 
 // Puts the rows of the chosen locales of a language after the parts of the tables, and tells whether there are any. The
 // first line has the names of the locales that have the same rows, as groups; each further one is the row of a group.
-fn put(text: &[u8], is_chosen: impl Fn(&str) -> bool, columns: &mut [(&[u8], Vec<u8>)]) -> bool {
-    let mut rows = lines(text);
-    let names = std::str::from_utf8(rows.next().unwrap_or_default()).unwrap_or_default();
-    let groups: Vec<&str> = names.split('\t').collect();
-    let rows: Vec<&[u8]> = rows.collect();
+fn put(text: &[u8], is_chosen: impl Fn(&str) -> bool, columns: &mut [Column<'_>]) -> bool {
+    let groups = groups_of(text);
+    let rows: Vec<&[u8]> = lines(text).skip(1).collect();
     let mut is_any = false;
     for (place, group) in groups.iter().enumerate() {
         for name in group.split(' ').filter(|name| !name.is_empty() && is_chosen(name)) {

@@ -16,8 +16,8 @@ const ORDER: [usize; 19] = [16, 17, 18, 0, 8, 7, 9, 6, 10, 5, 11, 4, 12, 3, 13, 
 const END: usize = 256;
 const LONGEST: u32 = 15;
 
-/// The bytes of a gzip file of one member, without a name, a comment or an extra field; None where it is no such file.
-/// Its checksum is not looked at.
+/// The bytes of a gzip file of one member, without a name, a comment or an extra field; None where it is no such file, or
+/// its checksum is another one.
 pub fn gunzip(file: &[u8]) -> Option<Vec<u8>> {
     let (head, rest) = (file.get(..10)?, file.get(10..)?);
     if head[..4] != [0x1f, 0x8b, 8, 0] {
@@ -39,10 +39,31 @@ pub fn gunzip(file: &[u8]) -> Option<Vec<u8>> {
             _ => return None,
         }
         if is_last {
-            return (out.len() == size).then_some(out);
+            let wanted = u32::from_le_bytes(rest[packed.len()..][..4].try_into().ok()?);
+            return (out.len() == size && checksum(&out) == wanted).then_some(out);
         }
     }
 }
+
+// That of RFC 1952, section 8.
+fn checksum(bytes: &[u8]) -> u32 {
+    !bytes.iter().fold(u32::MAX, |sum, byte| CHECKS[(sum as u8 ^ byte) as usize] ^ (sum >> 8))
+}
+
+const CHECKS: [u32; 256] = {
+    let mut table = [0; 256];
+    let mut place = 0;
+    while place < 256 {
+        let (mut row, mut step) = (place as u32, 0);
+        while step < 8 {
+            row = if row & 1 == 1 { 0xedb8_8320 ^ (row >> 1) } else { row >> 1 };
+            step += 1;
+        }
+        table[place] = row;
+        place += 1;
+    }
+    table
+};
 
 /// Bits of bytes, the lowest first.
 struct Bits<'a> {

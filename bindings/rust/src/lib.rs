@@ -43,17 +43,24 @@
 mod answers;
 mod calls;
 mod data;
+mod headers;
+pub mod icu_locale;
 mod inflate;
 mod locale;
 mod menu;
+mod names;
 mod negotiator;
 mod pool;
 mod refusal;
 mod switcher;
 mod tables;
+#[cfg(feature = "serde")]
+mod texts;
 
+pub use headers::Headers;
 pub use locale::Locale;
 pub use menu::MenuRow;
+pub use names::{Chain, Name};
 pub use negotiator::{Match, Negotiator};
 pub use refusal::Refusal;
 pub use switcher::Switcher;
@@ -64,6 +71,26 @@ pub const EXAMPLE: &str = include_str!("../example.json");
 
 /// A supplement of these tables: parents, match rules and aliases of values.
 pub const EXAMPLE_SUPPLEMENT: &str = include_str!("../example-supplement.json");
+
+/// The version of CLDR whose data this crate has inside, as `41`; None where it has none or CLDR does not tell it.
+pub const fn cldr_version() -> Option<&'static str> {
+    data::VERSION
+}
+
+/// The locales that CLDR has names in, by which `Tables::cldr` opens them, in the order of their texts.
+///
+/// # Errors
+///
+/// `Damaged` where a file of the data is damaged.
+///
+/// ```
+/// let locales = icu_locale_calls::cldr_locales()?;
+/// assert_eq!(locales.iter().any(|it| it == "zh-Hant"), icu_locale_calls::cldr_version().is_some());
+/// # Ok::<(), icu_locale_calls::Refusal>(())
+/// ```
+pub fn cldr_locales() -> Result<Vec<String>, Refusal> {
+    data::locales()
+}
 
 /// Which way a script runs.
 #[derive(Clone, Copy, Debug, PartialEq, Eq, Hash)]

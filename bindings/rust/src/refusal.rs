@@ -47,6 +47,13 @@ pub enum Refusal {
     },
     /// The crate was made without CLDR's data.
     NoData,
+    /// A file of CLDR's data inside is damaged.
+    Damaged {
+        /// Its name, without `.gz`.
+        file: &'static str,
+    },
+    /// The preferences of a name are no identifier without variants.
+    Preferences,
 }
 
 impl Refusal {
@@ -83,6 +90,8 @@ impl fmt::Display for Refusal {
     fn fmt(&self, f: &mut fmt::Formatter<'_>) -> fmt::Result {
         f.write_str(match self {
             Refusal::NoLocale { place } => return write!(f, "CLDR has no names for the locale at place {place} of the list"),
+            Refusal::Damaged { file } => return write!(f, "the file {file}.gz of CLDR's data inside is damaged"),
+            Refusal::Preferences => "the preferences are no identifier without variants",
             Refusal::NoData => "this crate was made without CLDR's data; `from_json` takes tables of it",
             Refusal::Memory => "no memory",
             Refusal::Json => "the text is no JSON",

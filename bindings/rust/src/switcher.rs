@@ -1,5 +1,6 @@
 //! What is available, and which of it is served to a reader.
 use crate::calls::Handle;
+use crate::headers::Headers;
 use crate::pool::{line, Pool};
 use crate::Refusal;
 
@@ -20,8 +21,7 @@ impl Switcher {
         &self.available
     }
 
-    /// What is served for the header Accept-Language: for the lines of several headers, or for none. None where nothing
-    /// is near enough.
+    /// What is served for the header Accept-Language: for one, for several or for none. None where nothing is near enough.
     ///
     /// # Errors
     ///
@@ -31,16 +31,12 @@ impl Switcher {
     /// use icu_locale_calls::{Tables, EXAMPLE, EXAMPLE_SUPPLEMENT};
     /// let tables = Tables::from_json_with(EXAMPLE.as_bytes(), EXAMPLE_SUPPLEMENT.as_bytes())?;
     /// let switcher = tables.switcher(["en", "zh_hant", "sr_latn"])?;
-    /// assert_eq!(switcher.serve(["sh;q=0.8, fr"])?, Some("sr_latn"));
+    /// assert_eq!(switcher.serve("sh;q=0.8, fr")?, Some("sr_latn"));
     /// assert_eq!(switcher.serve([b"fr".as_slice(), b"zh-TW-u-co-stroke"])?, Some("zh_hant"));
     /// assert_eq!(switcher.serve(None::<&str>)?, None);
     /// # Ok::<(), icu_locale_calls::Refusal>(())
     /// ```
-    pub fn serve<H>(&self, headers: H) -> Result<Option<&str>, Refusal>
-    where
-        H: IntoIterator,
-        H::Item: AsRef<[u8]>,
-    {
+    pub fn serve<H: Headers>(&self, headers: H) -> Result<Option<&str>, Refusal> {
         Ok(served(&self.pool, headers)?.map(|place| self.available[place].as_str()))
     }
 
@@ -69,19 +65,8 @@ impl Switcher {
 }
 
 /// The place of what is served for headers. Several are one, and none is empty.
-pub fn served<H>(pool: &Pool, headers: H) -> Result<Option<usize>, Refusal>
-where
-    H: IntoIterator,
-    H::Item: AsRef<[u8]>,
-{
-    let mut header = Vec::new();
-    for (place, each) in headers.into_iter().enumerate() {
-        if place > 0 {
-            header.extend_from_slice(b", ");
-        }
-        header.extend_from_slice(each.as_ref());
-    }
-    pool.answer("serve", &header).map(|told| place_of(&told))
+pub fn served<H: Headers>(pool: &Pool, headers: H) -> Result<Option<usize>, Refusal> {
+    pool.answer("serve", &headers.one()).map(|told| place_of(&told))
 }
 
 /// The place of what is nearest to requests.

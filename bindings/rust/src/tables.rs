@@ -1,11 +1,27 @@
 //! Tables: how they are opened, and what they serve a reader.
 use crate::calls::{self, Handle};
-use crate::data::texts_of;
+use crate::data::{self, texts_of};
 use crate::pool::Pool;
 use crate::switcher;
+use crate::headers::Headers;
 use crate::{Negotiator, Refusal, Switcher, Syntax};
 
 const ACCEPTED: i32 = 0;
+
+// The first of each locale's chain that CLDR has names in.
+fn in_chains(locales: &[&str]) -> Result<Vec<String>, Refusal> {
+    let tables = Tables::cldr(&[])?;
+    let found = locales.iter().enumerate().map(|(place, locale)| {
+        let chain = tables.fallback(locale).map_err(|_| Refusal::NoLocale { place })?;
+        for each in std::iter::once((*locale).to_owned()).chain(chain) {
+            if data::has(&each)? {
+                return Ok(each);
+            }
+        }
+        Err(Refusal::NoLocale { place })
+    });
+    found.collect()
+}
 
 /// Tables. Any number of threads may use them at once, by a reference or an `Arc`.
 ///
@@ -78,11 +94,11 @@ impl Tables {
     /// The tables of CLDR's data that this crate has inside, with the names of some locales, and their supplement, by which
     /// `serve` and `fallback` go, and which has what parts of extensions are called in these locales, but for subdivisions and
     /// time zones. The likely tables are settled. The word `all` alone is every locale. A locale is found in any case, with `-`
-    /// or `_`.
+    /// or `_`; in its place comes the first of its chain that CLDR has, as `zh-Hant` for `zh-TW`. `cldr_locales` lists them.
     ///
     /// # Errors
     ///
-    /// `NoLocale` where CLDR has no names for a locale, `NoData` where the crate was made without data, or `Memory`.
+    /// `NoLocale` where CLDR has no names in a chain, `NoData` where the crate was made without data, `Damaged` or `Memory`.
     ///
     /// ```
     /// use icu_locale_calls::{Refusal, Tables};
@@ -96,8 +112,20 @@ impl Tables {
     /// # Ok::<(), Refusal>(())
     /// ```
     pub fn cldr(locales: &[&str]) -> Result<Self, Refusal> {
-        let (tables, supplement) = texts_of(locales)?;
+        let texts = match texts_of(locales) {
+            Err(Refusal::NoLocale { .. }) => {
+                let found = in_chains(locales)?;
+                texts_of(&found.iter().map(String::as_str).collect::<Vec<_>>())
+            }
+            texts => texts,
+        };
+        let (tables, supplement) = texts?;
         Tables::from_json_with(&tables, &supplement)
+    }
+
+    // Those that name scripts, regions and variants alone, in a locale that CLDR has.
+    pub(crate) fn cldr_parts(locale: &str) -> Result<Self, Refusal> {
+        Tables::from_json(&data::parts_of(locale)?)
     }
 
     /// The same tables once more, to be let go apart. They are in memory once.
@@ -206,8 +234,8 @@ impl Tables {
         Switcher::over(self.pool.share()?, available.into_iter().map(Into::into).collect())
     }
 
-    /// What is served of the available identifiers for the header Accept-Language, as it was handed in: for the lines of
-    /// several headers, or for none. None where nothing is near enough. A service that is asked again keeps a `switcher`.
+    /// What is served of the available identifiers, as it was handed in, for the header Accept-Language: for one, for several
+    /// or for none. None where nothing is near enough. A service that is asked again keeps a `switcher`.
     ///
     /// # Errors
     ///
@@ -216,6 +244,7 @@ impl Tables {
     /// ```
     /// use icu_locale_calls::{Refusal, Tables, EXAMPLE, EXAMPLE_SUPPLEMENT};
     /// let tables = Tables::from_json_with(EXAMPLE.as_bytes(), EXAMPLE_SUPPLEMENT.as_bytes())?;
+    /// assert_eq!(tables.serve("fr, en;q=0.5", ["en", "zh_hant"])?, Some("en"));
     /// assert_eq!(tables.serve(["fr;q=0.1", "de-AT, *;q=0.2"], ["en", "zh_hant"])?, Some("en"));
     /// assert_eq!(tables.serve(None::<&str>, ["en", "zh_hant"])?, None);
     /// assert_eq!(Tables::from_json(EXAMPLE.as_bytes())?.serve(["en"], ["en"]), Err(Refusal::Table));
@@ -223,8 +252,7 @@ impl Tables {
     /// ```
     pub fn serve<H, I>(&self, headers: H, available: I) -> Result<Option<I::Item>, Refusal>
     where
-        H: IntoIterator,
-        H::Item: AsRef<[u8]>,
+        H: Headers,
         I: IntoIterator,
         I::Item: AsRef<str>,
     {

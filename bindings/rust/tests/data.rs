@@ -1,6 +1,6 @@
 //! CLDR's data inside the crate. In a clone `tools/package-data out/data` makes it; without data nothing is tried but the
 //! refusal.
-use icu_locale_calls::{MenuRow, Refusal, Tables, EXAMPLE};
+use icu_locale_calls::{cldr_locales, cldr_version, MenuRow, Refusal, Tables, EXAMPLE};
 
 // The tables of some locales, and none where the crate has no data.
 fn opened(locales: &[&str]) -> Option<Tables> {
@@ -48,9 +48,25 @@ fn locales() {
     assert_eq!(tables.name("it", "zh-Hant").as_deref(), Ok("\u{7fa9}\u{5927}\u{5229}\u{6587}"));
     assert_eq!(tables.name("it", "zh-Hant-HK").as_deref(), Ok("\u{610f}\u{5927}\u{5229}\u{6587}"));
     assert_eq!(tables.name("it", "en"), Err(Refusal::NameMissing));
-    for faulty in ["xx", "en-XX", "all", "", "no locale", "base-and-supplement", "copyright", "../data/en", "en\0", "\u{212a}l"] {
+    for faulty in ["xx", "all", "", "no locale", "base-and-supplement", "copyright", "../data/en", "en\0", "\u{212a}l"] {
         assert_eq!(Tables::cldr(&["en", faulty]).err(), Some(Refusal::NoLocale { place: 1 }), "{faulty}");
     }
+}
+
+// In the place of a locale comes the first of its chain.
+#[test]
+fn chains() {
+    let Some(tables) = opened(&["zh_TW", "en-XX", "sr-Latn-RS", "de-u-co-phonebk"]) else { return };
+    assert_eq!(tables.name("it", "zh-Hant").as_deref(), Ok("\u{7fa9}\u{5927}\u{5229}\u{6587}"));
+    assert_eq!(tables.name_by_fallback("it", "zh-TW").as_deref(), Ok("\u{7fa9}\u{5927}\u{5229}\u{6587}"));
+    for (locale, wanted) in [("en", "Italian"), ("sr-Latn", "italijanski"), ("de", "Italienisch")] {
+        assert_eq!(tables.name("it", locale).as_deref(), Ok(wanted), "{locale}");
+    }
+    let locales = cldr_locales().unwrap();
+    assert!(locales.windows(2).all(|pair| pair[0] < pair[1]));
+    assert!(locales.iter().step_by(50).all(|locale| Tables::cldr(&[locale]).is_ok()));
+    assert!(locales.iter().any(|it| it == "zh-Hant") && !locales.iter().any(|it| it == "zh-TW" || it == "xx"));
+    assert!(cldr_version().is_some_and(|version| version.chars().all(|it| it.is_ascii_digit() || it == '.')));
 }
 
 // Names by every locale, and by one at a time.

@@ -12,7 +12,9 @@ fn refusals() {
     assert_eq!(tables.maximize("en"), Err(Refusal::Table));
     assert_eq!(tables.is_settled(), Err(Refusal::Table));
     assert_eq!(tables.name("en", "en"), Err(Refusal::NameMissing));
-    assert_eq!(tables.name("en", "en-fonipa"), Err(Refusal::Command));
+    for preferences in ["en-fonipa", "", "e", "en en", "en-u-ca-roc"] {
+        assert_eq!(tables.name("en", preferences), Err(Refusal::Preferences), "{preferences}");
+    }
     for command in ["negotiate", "serve", "nearest", "locales nearest"] {
         assert_eq!(tables.answer(command, b"en"), Err(Refusal::Negotiate));
     }
@@ -120,6 +122,11 @@ fn served() {
     assert_eq!(switcher.serve(["fr, en;q=0.1", "de;q=0.2"]), Ok(Some("de")));
     assert_eq!(switcher.serve([b"\xff".as_slice(), b"de"]), Ok(Some("de")));
     assert_eq!(switcher.serve(None::<&str>), Ok(None));
+    let (one, several) = (String::from("fr, de"), vec!["fr", "de"]);
+    assert_eq!(switcher.serve("fr, de"), Ok(Some("de")));
+    assert_eq!(switcher.serve(&one), switcher.serve(&several));
+    assert_eq!(switcher.serve(&several[..]), switcher.serve(Some("de")));
+    assert_eq!(switcher.serve(one), switcher.serve(several));
     let none: [&str; 0] = [];
     assert_eq!(tables.serve(["en"], none), Ok(None));
     assert_eq!(tables.serve(["de"], vec!["en".to_owned(), "DE".to_owned()]), Ok(Some("DE".to_owned())));

@@ -1,0 +1,233 @@
+//! Names of identifiers, scripts, regions and variants. The first name in a locale opens its tables, which are kept: 5 MB
+//! for names of identifiers, and 5 for the others.
+use super::kept::{named, tables, Names};
+use super::subtags::{Region, Script, Variant};
+use super::{LanguageIdentifier, Locale};
+use crate::{data, Chain, Name, Refusal};
+use std::fmt;
+
+/// Why there is no name.
+pub type DataError = Refusal;
+
+/// The locale in whose language names are.
+///
+/// ```
+/// use icu_locale_calls::icu_locale::{locale, names::DisplayNamesPreferences};
+/// assert_eq!(DisplayNamesPreferences::from(locale!("de")), locale!("DE").into());
+/// ```
+#[derive(Clone, Debug, PartialEq, Eq, Hash)]
+pub struct DisplayNamesPreferences(String);
+
+impl DisplayNamesPreferences {
+    // The first locale of the chain that CLDR has.
+    fn locale(&self) -> Result<String, DataError> {
+        let chain = tables().fallback(&self.0)?;
+        chain.into_iter().find(|it| data::has(it) == Ok(true)).ok_or(Refusal::NameMissing)
+    }
+}
+
+impl From<Locale> for DisplayNamesPreferences {
+    fn from(locale: Locale) -> Self {
+        Self::from(locale.id)
+    }
+}
+
+impl From<&Locale> for DisplayNamesPreferences {
+    fn from(locale: &Locale) -> Self {
+        Self::from(&locale.id)
+    }
+}
+
+impl From<LanguageIdentifier> for DisplayNamesPreferences {
+    fn from(langid: LanguageIdentifier) -> Self {
+        Self::from(&langid)
+    }
+}
+
+impl From<&LanguageIdentifier> for DisplayNamesPreferences {
+    fn from(langid: &LanguageIdentifier) -> Self {
+        DisplayNamesPreferences(langid.to_string())
+    }
+}
+
+/// How names of identifiers are made.
+#[derive(Clone, Copy, Debug, Default, PartialEq, Eq, Hash)]
+#[non_exhaustive]
+pub struct LanguageIdentifierDisplayNameOptions {
+    /// Which names there are of languages; `Dialect` where none is told.
+    pub language_display: Option<LanguageDisplay>,
+}
+
+/// Which names there are of languages.
+#[derive(Clone, Copy, Debug, Default, PartialEq, Eq, Hash)]
+#[non_exhaustive]
+pub enum LanguageDisplay {
+    /// Those of dialects too, as `Austrian German`.
+    #[default]
+    Dialect,
+    /// Those of languages alone, which is refused as `Command`: no call has it.
+    Standard,
+}
+
+/// The name of an identifier.
+///
+/// ```
+/// use icu_locale_calls::icu_locale::names::LanguageIdentifierDisplayName;
+/// use icu_locale_calls::icu_locale::{langid, locale};
+/// # if icu_locale_calls::Tables::cldr(&[]).is_err() { return Ok(()) }
+/// let name = LanguageIdentifierDisplayName::try_new_short_light(locale!("nl").into(), langid!("en-GB"), Default::default())?;
+/// assert_eq!(name.to_string(), "Engels (VK)");
+/// assert!(!name.is_raw());
+/// # Ok::<(), icu_locale_calls::Refusal>(())
+/// ```
+#[derive(Clone, Debug, PartialEq, Eq, Hash)]
+pub struct LanguageIdentifierDisplayName(Name);
+
+/// The same, borrowed.
+#[derive(Clone, Copy, Debug, PartialEq, Eq, Hash)]
+pub struct LanguageIdentifierDisplayNameBorrowed<'a>(&'a Name);
+
+impl LanguageIdentifierDisplayName {
+    fn of(
+        prefs: DisplayNamesPreferences,
+        subject: LanguageIdentifier,
+        options: LanguageIdentifierDisplayNameOptions,
+        chain: Chain,
+    ) -> Result<Self, DataError> {
+        if options.language_display == Some(LanguageDisplay::Standard) {
+            return Err(Refusal::Command);
+        }
+        let locale = prefs.locale()?;
+        named(&locale, Names::Whole)?.name_in(&subject.to_string(), &locale, chain).map(LanguageIdentifierDisplayName)
+    }
+
+    /// The same, borrowed.
+    #[must_use]
+    pub fn as_borrowed(&self) -> LanguageIdentifierDisplayNameBorrowed<'_> {
+        LanguageIdentifierDisplayNameBorrowed(&self.0)
+    }
+
+    /// Whether a part of it has no name, and is a subtag.
+    #[must_use]
+    pub fn is_raw(&self) -> bool {
+        self.0.is_raw
+    }
+}
+
+macro_rules! chains {
+    ($($call:ident $chain:ident)*) => {
+        impl LanguageIdentifierDisplayName {$(
+            #[doc = concat!("A name by the chain `", stringify!($chain), "`.")]
+            ///
+            /// # Errors
+            ///
+            /// `NameMissing` where CLDR has no names in that language, `Command` for `LanguageDisplay::Standard`, `Memory`.
+            pub fn $call(
+                prefs: DisplayNamesPreferences,
+                subject: LanguageIdentifier,
+                options: LanguageIdentifierDisplayNameOptions,
+            ) -> Result<Self, DataError> {
+                Self::of(prefs, subject, options, Chain::$chain)
+            }
+        )*}
+    };
+}
+
+chains! {
+    try_new_tiny Tiny
+    try_new_light Light
+    try_new_short_light ShortLight
+    try_new_long_light LongLight
+    try_new_menu_light MenuLight
+    try_new_short_menu_light ShortMenuLight
+    try_new_heavy Heavy
+    try_new_short_heavy ShortHeavy
+    try_new_long_heavy LongHeavy
+    try_new_menu_heavy MenuHeavy
+    try_new_short_menu_heavy ShortMenuHeavy
+}
+
+impl fmt::Display for LanguageIdentifierDisplayName {
+    fn fmt(&self, to: &mut fmt::Formatter<'_>) -> fmt::Result {
+        to.pad(&self.0.text)
+    }
+}
+
+impl fmt::Display for LanguageIdentifierDisplayNameBorrowed<'_> {
+    fn fmt(&self, to: &mut fmt::Formatter<'_>) -> fmt::Result {
+        to.pad(&self.0.text)
+    }
+}
+
+// The name of a subtag alone, by tables that have no others.
+fn of_part(prefs: &DisplayNamesPreferences, subtag: &str, chain: Chain) -> Result<String, DataError> {
+    let locale = prefs.locale()?;
+    match named(&locale, Names::Parts)?.name_in(&format!("und-{subtag}"), &locale, chain)? {
+        Name { is_raw: true, .. } => Err(Refusal::NameMissing),
+        Name { text, .. } => Ok(text),
+    }
+}
+
+macro_rules! of_parts {
+    ($($name:ident $borrowed:ident $part:ident: $($chain:ident $try_new:ident $with_fallback:ident),*;)*) => {$(
+        #[doc = concat!("The name of a `", stringify!($part), "`.")]
+        #[derive(Clone, Debug, PartialEq, Eq, Hash)]
+        pub struct $name(String);
+
+        /// The same, borrowed.
+        #[derive(Clone, Copy, Debug, PartialEq, Eq, Hash)]
+        pub struct $borrowed<'a>(&'a str);
+
+        impl $name {
+            $(
+                #[doc = concat!("A name by the chain `", stringify!($chain), "`.")]
+                ///
+                /// # Errors
+                ///
+                /// `NameMissing` where CLDR has none, or none in that language; `Memory`.
+                pub fn $try_new(prefs: DisplayNamesPreferences, subtag: $part) -> Result<Self, DataError> {
+                    of_part(&prefs, subtag.as_str(), Chain::$chain).map($name)
+                }
+
+                /// The same, or the subtag where there is none.
+                #[must_use]
+                pub fn $with_fallback(prefs: DisplayNamesPreferences, subtag: $part) -> Self {
+                    Self::$try_new(prefs, subtag).unwrap_or_else(|_| $name(subtag.to_string()))
+                }
+            )*
+
+            /// The same, borrowed.
+            #[must_use]
+            pub fn as_borrowed(&self) -> $borrowed<'_> {
+                $borrowed(&self.0)
+            }
+        }
+
+        impl fmt::Display for $name {
+            fn fmt(&self, to: &mut fmt::Formatter<'_>) -> fmt::Result {
+                to.pad(&self.0)
+            }
+        }
+
+        impl fmt::Display for $borrowed<'_> {
+            fn fmt(&self, to: &mut fmt::Formatter<'_>) -> fmt::Result {
+                to.pad(self.0)
+            }
+        }
+    )*};
+}
+
+of_parts! {
+    RegionDisplayName RegionDisplayNameBorrowed Region:
+        Tiny try_new_tiny new_tiny_with_fallback,
+        Light try_new_light new_light_with_fallback,
+        ShortLight try_new_short_light new_short_light_with_fallback,
+        ShortLight try_new_short_tiny new_short_tiny_with_fallback;
+    ScriptDisplayName ScriptDisplayNameBorrowed Script:
+        Tiny try_new_tiny new_tiny_with_fallback,
+        Light try_new_light new_light_with_fallback,
+        Heavy try_new_heavy new_heavy_with_fallback,
+        ShortHeavy try_new_short_heavy new_short_heavy_with_fallback;
+    VariantDisplayName VariantDisplayNameBorrowed Variant:
+        Heavy try_new_heavy new_heavy_with_fallback;
+}
