@@ -66,7 +66,8 @@ install: $(PROGRAMS)
 	install -m 755 $(PROGRAMS) "$(DESTDIR)$(PREFIX)/bin"
 	install -m 644 $(PROGRAMS:%=man/%.1) "$(DESTDIR)$(PREFIX)/share/man/man1"
 	if [ -d out/c ]; then \
-	    install -d "$(DESTDIR)$(PREFIX)/include" "$(DESTDIR)$(LIBDIR)/pkgconfig" && \
+	    install -d "$(DESTDIR)$(PREFIX)/include" "$(DESTDIR)$(LIBDIR)/pkgconfig" "$(DESTDIR)$(PREFIX)/share/man/man3" && \
+	    install -m 644 man/icu_locale.3 "$(DESTDIR)$(PREFIX)/share/man/man3" && \
 	    install -m 644 out/c/icu_locale.h "$(DESTDIR)$(PREFIX)/include/icu_locale.h" && \
 	    install -m 644 out/c/libicu_locale.a out/c/libicu_locale.so.0 "$(DESTDIR)$(LIBDIR)" && \
 	    ln -sf libicu_locale.so.0 "$(DESTDIR)$(LIBDIR)/libicu_locale.so" && \
@@ -76,7 +77,7 @@ install: $(PROGRAMS)
 
 uninstall:
 	rm -f $(PROGRAMS:%="$(DESTDIR)$(PREFIX)/bin/%") $(PROGRAMS:%="$(DESTDIR)$(PREFIX)/share/man/man1/%.1") \
-	    "$(DESTDIR)$(PREFIX)/include/icu_locale.h" $(C_FILES:%="$(DESTDIR)$(LIBDIR)/%")
+	    "$(DESTDIR)$(PREFIX)/include/icu_locale.h" "$(DESTDIR)$(PREFIX)/share/man/man3/icu_locale.3" $(C_FILES:%="$(DESTDIR)$(LIBDIR)/%")
 
 clean:
 	rm -rf out crates/*/out $(PROGRAMS)
