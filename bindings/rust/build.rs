@@ -33,10 +33,12 @@ fn write_data(folders: &[PathBuf]) {
     let folder = folders.iter().find(|folder| folder.join("base-and-supplement.gz").exists());
     let mut rows: Vec<String> = folder.into_iter().flat_map(|folder| files_of(folder)).map(|path| row_of(&path)).collect();
     rows.sort();
-    let told = folder.and_then(|folder| fs::read_to_string(folder.join("version")).ok());
-    let version = told.as_deref().map(str::trim);
+    let told = |name| folder.and_then(|folder| fs::read_to_string(folder.join(name)).ok());
+    let (version, locales) = (told("version"), told("locales").unwrap_or_default());
+    let (version, locales) = (version.as_deref().map(str::trim), locales.lines().collect::<Vec<_>>());
     let text = format!(
-        "/// The files.\npub const FILES: &[(&str, &[u8])] = &[{}];\n/// CLDR's version.\npub const VERSION: Option<&str> = {version:?};\n",
+        "/// The files.\npub const FILES: &[(&str, &[u8])] = &[{}];\n/// CLDR's version.\npub const VERSION: Option<&str> = {version:?};\n\
+         /// The locales that there are names in, in the order of their texts.\npub const LOCALES: &[&str] = &{locales:?};\n",
         rows.concat()
     );
     let to = PathBuf::from(env::var("OUT_DIR").expect("cargo names a folder for it")).join("data.rs");

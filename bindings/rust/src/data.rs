@@ -32,10 +32,15 @@ pub fn texts_of(locales: &[&str]) -> Result<(Vec<u8>, Vec<u8>), Refusal> {
     })
 }
 
+// Where names begin in the text of tables.
+const NAMES: &str = "\"names\":";
+
 /// The text of the tables that have the names of scripts, regions and variants in a locale.
 pub fn parts_of(locale: &str) -> Result<Vec<u8>, Refusal> {
     let texts = with_columns(|columns| {
         put_some(&[locale], columns)?;
+        let names = columns[1].0.windows(NAMES.len()).rposition(|window| window == NAMES.as_bytes());
+        columns[1].0 = &columns[1].0[names.unwrap_or_default()..];
         for (part, column) in columns {
             let is_of = |name: &str| part.windows(name.len()).any(|window| window == name.as_bytes());
             match FOR_PARTS.iter().find(|(end, _)| part.ends_with(end.as_bytes())) {
@@ -46,7 +51,7 @@ pub fn parts_of(locale: &str) -> Result<Vec<u8>, Refusal> {
         }
         Ok(())
     });
-    texts.map(|(tables, _)| tables)
+    texts.map(|(tables, _)| [b"{", tables.as_slice()].concat())
 }
 
 // The two texts, with the rows that are put in.
@@ -62,22 +67,10 @@ fn with_columns(
     Ok((columns[1..].iter().flat_map(|(part, rows)| [*part, rows]).collect::<Vec<_>>().concat(), supplement))
 }
 
-/// The locales that there are names in, in the order of their texts.
-pub fn locales() -> Result<Vec<String>, Refusal> {
-    let mut found = Vec::new();
-    for (name, _) in FILES.iter().filter(|(name, _)| *name != BASE) {
-        found.extend(names_in(&unpacked(name)?.unwrap_or_default()).map(str::to_owned));
-    }
-    found.sort_unstable();
-    Ok(found)
-}
-
-/// Whether there are names in a locale.
-pub fn has(locale: &str) -> Result<bool, Refusal> {
+/// The locale that is named so, in any case, with `-` or `_`, if there are names in it.
+pub fn known(locale: &str) -> Option<&'static str> {
     let key = key_of(locale);
-    let file = unpacked(language_of(&key))?.unwrap_or_default();
-    let mut names = names_in(&file);
-    Ok(names.any(|name| name.eq_ignore_ascii_case(&key)))
+    LOCALES.iter().copied().find(|name| name.eq_ignore_ascii_case(&key))
 }
 
 fn key_of(locale: &str) -> String {
@@ -87,15 +80,6 @@ fn key_of(locale: &str) -> String {
 // The language of a key, whose file has its rows.
 fn language_of(key: &str) -> &str {
     key.split('-').next().unwrap_or_default()
-}
-
-// The first line of a language's file: groups of locales that have the same rows.
-fn groups_of(text: &[u8]) -> Vec<&str> {
-    std::str::from_utf8(lines(text).next().unwrap_or_default()).unwrap_or_default().split('\t').collect()
-}
-
-fn names_in(text: &[u8]) -> impl Iterator<Item = &str> {
-    groups_of(text).into_iter().flat_map(|group| group.split(' ')).filter(|name| !name.is_empty())
 }
 
 // What a file holds; None where there is no such file.
@@ -128,8 +112,10 @@ fn put_some(locales: &[&str], columns: &mut [Column<'_>]) -> Result<(), Refusal>
 // Puts the rows of the chosen locales of a language after the parts of the tables, and tells whether there are any. The
 // first line has the names of the locales that have the same rows, as groups; each further one is the row of a group.
 fn put(text: &[u8], is_chosen: impl Fn(&str) -> bool, columns: &mut [Column<'_>]) -> bool {
-    let groups = groups_of(text);
-    let rows: Vec<&[u8]> = lines(text).skip(1).collect();
+    let mut rows = lines(text);
+    let names = std::str::from_utf8(rows.next().unwrap_or_default()).unwrap_or_default();
+    let groups: Vec<&str> = names.split('\t').collect();
+    let rows: Vec<&[u8]> = rows.collect();
     let mut is_any = false;
     for (place, group) in groups.iter().enumerate() {
         for name in group.split(' ').filter(|name| !name.is_empty() && is_chosen(name)) {

@@ -79,17 +79,12 @@ pub const fn cldr_version() -> Option<&'static str> {
 
 /// The locales that CLDR has names in, by which `Tables::cldr` opens them, in the order of their texts.
 ///
-/// # Errors
-///
-/// `Damaged` where a file of the data is damaged.
-///
 /// ```
-/// let locales = icu_locale_calls::cldr_locales()?;
-/// assert_eq!(locales.iter().any(|it| it == "zh-Hant"), icu_locale_calls::cldr_version().is_some());
-/// # Ok::<(), icu_locale_calls::Refusal>(())
+/// use icu_locale_calls::{cldr_locales, cldr_version};
+/// assert_eq!(cldr_locales().contains(&"zh-Hant"), cldr_version().is_some());
 /// ```
-pub fn cldr_locales() -> Result<Vec<String>, Refusal> {
-    data::locales()
+pub const fn cldr_locales() -> &'static [&'static str] {
+    data::LOCALES
 }
 
 /// Which way a script runs.

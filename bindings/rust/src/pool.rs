@@ -11,6 +11,8 @@ const ACCEPTED: i32 = 0;
 const LINE_REFUSED: i32 = 1;
 const ROOM: i32 = 3;
 const PLACES: usize = 32;
+// Bytes of an answer whose room a handle keeps.
+const LARGEST: usize = 1 << 16;
 
 /// A place for a handle that is free, in a line of memory of its own, so that threads do not wait for each other's.
 #[repr(align(64))]
@@ -65,6 +67,9 @@ impl Pool {
             if number == ROOM {
                 out.resize(written, 0);
                 number = call(handle, command, line, &mut out, &mut written);
+            }
+            if written > LARGEST {
+                *handle = Handle::closed(); // with the room that it took
             }
             number
         })?;

@@ -9,16 +9,11 @@ use crate::{Negotiator, Refusal, Switcher, Syntax};
 const ACCEPTED: i32 = 0;
 
 // The first of each locale's chain that CLDR has names in.
-fn in_chains(locales: &[&str]) -> Result<Vec<String>, Refusal> {
+fn in_chains(locales: &[&str]) -> Result<Vec<&'static str>, Refusal> {
     let tables = Tables::cldr(&[])?;
     let found = locales.iter().enumerate().map(|(place, locale)| {
-        let chain = tables.fallback(locale).map_err(|_| Refusal::NoLocale { place })?;
-        for each in std::iter::once((*locale).to_owned()).chain(chain) {
-            if data::has(&each)? {
-                return Ok(each);
-            }
-        }
-        Err(Refusal::NoLocale { place })
+        let of_chain = || tables.fallback(locale).ok()?.iter().find_map(|it| data::known(it));
+        data::known(locale).or_else(of_chain).ok_or(Refusal::NoLocale { place })
     });
     found.collect()
 }
@@ -94,7 +89,7 @@ impl Tables {
     /// The tables of CLDR's data that this crate has inside, with the names of some locales, and their supplement, by which
     /// `serve` and `fallback` go, and which has what parts of extensions are called in these locales, but for subdivisions and
     /// time zones. The likely tables are settled. The word `all` alone is every locale. A locale is found in any case, with `-`
-    /// or `_`; in its place comes the first of its chain that CLDR has, as `zh-Hant` for `zh-TW`. `cldr_locales` lists them.
+    /// or `_`; in its place comes the first of its chain that CLDR has, as `zh-Hant-TW` for `zh-TW`. `cldr_locales` lists them.
     ///
     /// # Errors
     ///
@@ -113,10 +108,7 @@ impl Tables {
     /// ```
     pub fn cldr(locales: &[&str]) -> Result<Self, Refusal> {
         let texts = match texts_of(locales) {
-            Err(Refusal::NoLocale { .. }) => {
-                let found = in_chains(locales)?;
-                texts_of(&found.iter().map(String::as_str).collect::<Vec<_>>())
-            }
+            Err(Refusal::NoLocale { .. }) => texts_of(&in_chains(locales)?),
             texts => texts,
         };
         let (tables, supplement) = texts?;

@@ -98,7 +98,7 @@ fn names_of_identifiers() {
     for (made, locale, subject, wanted, is_raw) in rows {
         let prefs = DisplayNamesPreferences::from(locale.parse::<Locale>().unwrap());
         let name = made(prefs, subject.parse().unwrap(), Default::default()).unwrap();
-        assert_eq!((name.to_string().as_str(), name.is_raw()), (wanted, is_raw), "{subject} in {locale}");
+        assert_eq!((name.to_string().as_str(), name.is_whole().is_err()), (wanted, is_raw), "{subject} in {locale}");
         assert_eq!(name.as_borrowed().to_string(), wanted);
     }
     let mut options = LanguageIdentifierDisplayNameOptions::default();

@@ -55,6 +55,11 @@ fn long_answers() {
     let variants: Vec<String> = (0..200).map(|number| format!("piece{number:03}")).collect();
     let variants = variants.join("-");
     assert_eq!(tables.maximize(&format!("de-{variants}")), Ok(format!("de-Latn-DE-{variants}")));
+    let variants: Vec<String> = (0..20_000).map(|number| format!("p{number:05}")).collect();
+    let variants = variants.join("-");
+    for _ in 0..2 {
+        assert_eq!(tables.maximize(&format!("de-{variants}")), Ok(format!("de-Latn-DE-{variants}")));
+    }
     assert_eq!(tables.is_settled(), Ok(true));
     assert_eq!(tables.canonicalize("sh\tab"), Err(Refusal::InvalidSubtag));
 }

@@ -19,10 +19,10 @@ pub fn tables() -> &'static Tables {
 }
 
 /// Those with the names of a locale that CLDR has.
-pub fn named(locale: &str, names: Names) -> Result<&'static Tables, Refusal> {
-    static NAMED: Mutex<BTreeMap<(String, Names), &'static Tables>> = Mutex::new(BTreeMap::new());
+pub fn named(locale: &'static str, names: Names) -> Result<&'static Tables, Refusal> {
+    static NAMED: Mutex<BTreeMap<(&str, Names), &'static Tables>> = Mutex::new(BTreeMap::new());
     let mut kept = NAMED.lock().unwrap_or_else(PoisonError::into_inner);
-    if let Some(tables) = kept.get(&(locale.to_owned(), names)) {
+    if let Some(tables) = kept.get(&(locale, names)) {
         return Ok(tables);
     }
     let tables = match names {
@@ -30,6 +30,6 @@ pub fn named(locale: &str, names: Names) -> Result<&'static Tables, Refusal> {
         Names::Parts => Tables::cldr_parts(locale)?,
     };
     let tables: &'static Tables = Box::leak(Box::new(tables));
-    kept.insert((locale.to_owned(), names), tables);
+    kept.insert((locale, names), tables);
     Ok(tables)
 }

@@ -1,7 +1,6 @@
-//! Names of identifiers, scripts, regions and variants. The first name in a locale opens its tables, which are kept: 5 MB
-//! for names of identifiers, and 5 for the others.
+//! Names of identifiers, scripts, regions and variants. The first name in a locale opens its tables, which are kept.
 use super::kept::{named, tables, Names};
-use super::subtags::{Region, Script, Variant};
+use super::subtags::{Language, Region, Script, Variant};
 use super::{LanguageIdentifier, Locale};
 use crate::{data, Chain, Name, Refusal};
 use std::fmt;
@@ -9,20 +8,21 @@ use std::fmt;
 /// Why there is no name.
 pub type DataError = Refusal;
 
-/// The locale in whose language names are.
+/// The locale in whose language names are: a language, a script and a region.
 ///
 /// ```
 /// use icu_locale_calls::icu_locale::{locale, names::DisplayNamesPreferences};
 /// assert_eq!(DisplayNamesPreferences::from(locale!("de")), locale!("DE").into());
 /// ```
-#[derive(Clone, Debug, PartialEq, Eq, Hash)]
-pub struct DisplayNamesPreferences(String);
+#[derive(Clone, Copy, Debug, PartialEq, Eq, Hash)]
+pub struct DisplayNamesPreferences(Language, Option<Script>, Option<Region>);
 
 impl DisplayNamesPreferences {
     // The first locale of the chain that CLDR has.
-    fn locale(&self) -> Result<String, DataError> {
-        let chain = tables().fallback(&self.0)?;
-        chain.into_iter().find(|it| data::has(it) == Ok(true)).ok_or(Refusal::NameMissing)
+    fn locale(&self) -> Result<&'static str, DataError> {
+        let DisplayNamesPreferences(language, script, region) = *self;
+        let chain = tables().fallback(&LanguageIdentifier::from((language, script, region)).to_string())?;
+        chain.iter().find_map(|it| data::known(it)).ok_or(Refusal::NameMissing)
     }
 }
 
@@ -46,7 +46,7 @@ impl From<LanguageIdentifier> for DisplayNamesPreferences {
 
 impl From<&LanguageIdentifier> for DisplayNamesPreferences {
     fn from(langid: &LanguageIdentifier) -> Self {
-        DisplayNamesPreferences(langid.to_string())
+        DisplayNamesPreferences(langid.language, langid.script, langid.region)
     }
 }
 
@@ -77,7 +77,7 @@ pub enum LanguageDisplay {
 /// # if icu_locale_calls::Tables::cldr(&[]).is_err() { return Ok(()) }
 /// let name = LanguageIdentifierDisplayName::try_new_short_light(locale!("nl").into(), langid!("en-GB"), Default::default())?;
 /// assert_eq!(name.to_string(), "Engels (VK)");
-/// assert!(!name.is_raw());
+/// assert_eq!(name.is_whole(), Ok(()));
 /// # Ok::<(), icu_locale_calls::Refusal>(())
 /// ```
 #[derive(Clone, Debug, PartialEq, Eq, Hash)]
@@ -86,6 +86,18 @@ pub struct LanguageIdentifierDisplayName(Name);
 /// The same, borrowed.
 #[derive(Clone, Copy, Debug, PartialEq, Eq, Hash)]
 pub struct LanguageIdentifierDisplayNameBorrowed<'a>(&'a Name);
+
+/// What is told of a name of which a part is a subtag.
+#[derive(Clone, Copy, Debug, Default, PartialEq, Eq, Hash)]
+pub struct LanguageIdentifierNameFallbackError;
+
+impl fmt::Display for LanguageIdentifierNameFallbackError {
+    fn fmt(&self, to: &mut fmt::Formatter<'_>) -> fmt::Result {
+        to.write_str("a part of the name is a subtag")
+    }
+}
+
+impl std::error::Error for LanguageIdentifierNameFallbackError {}
 
 impl LanguageIdentifierDisplayName {
     fn of(
@@ -98,7 +110,7 @@ impl LanguageIdentifierDisplayName {
             return Err(Refusal::Command);
         }
         let locale = prefs.locale()?;
-        named(&locale, Names::Whole)?.name_in(&subject.to_string(), &locale, chain).map(LanguageIdentifierDisplayName)
+        named(locale, Names::Whole)?.name_in(&subject.to_string(), locale, chain).map(LanguageIdentifierDisplayName)
     }
 
     /// The same, borrowed.
@@ -107,10 +119,24 @@ impl LanguageIdentifierDisplayName {
         LanguageIdentifierDisplayNameBorrowed(&self.0)
     }
 
-    /// Whether a part of it has no name, and is a subtag.
-    #[must_use]
-    pub fn is_raw(&self) -> bool {
-        self.0.is_raw
+    /// Whether each part of it has a name.
+    ///
+    /// # Errors
+    ///
+    /// Where one has none, and is a subtag.
+    pub fn is_whole(&self) -> Result<(), LanguageIdentifierNameFallbackError> {
+        self.as_borrowed().is_whole()
+    }
+}
+
+impl LanguageIdentifierDisplayNameBorrowed<'_> {
+    /// Whether each part of it has a name.
+    ///
+    /// # Errors
+    ///
+    /// Where one has none, and is a subtag.
+    pub fn is_whole(&self) -> Result<(), LanguageIdentifierNameFallbackError> {
+        if self.0.is_raw { Err(LanguageIdentifierNameFallbackError) } else { Ok(()) }
     }
 }
 
@@ -160,9 +186,9 @@ impl fmt::Display for LanguageIdentifierDisplayNameBorrowed<'_> {
 }
 
 // The name of a subtag alone, by tables that have no others.
-fn of_part(prefs: &DisplayNamesPreferences, subtag: &str, chain: Chain) -> Result<String, DataError> {
+fn of_part(prefs: DisplayNamesPreferences, subtag: &str, chain: Chain) -> Result<String, DataError> {
     let locale = prefs.locale()?;
-    match named(&locale, Names::Parts)?.name_in(&format!("und-{subtag}"), &locale, chain)? {
+    match named(locale, Names::Parts)?.name_in(&format!("und-{subtag}"), locale, chain)? {
         Name { is_raw: true, .. } => Err(Refusal::NameMissing),
         Name { text, .. } => Ok(text),
     }
@@ -186,7 +212,7 @@ macro_rules! of_parts {
                 ///
                 /// `NameMissing` where CLDR has none, or none in that language; `Memory`.
                 pub fn $try_new(prefs: DisplayNamesPreferences, subtag: $part) -> Result<Self, DataError> {
-                    of_part(&prefs, subtag.as_str(), Chain::$chain).map($name)
+                    of_part(prefs, subtag.as_str(), Chain::$chain).map($name)
                 }
 
                 /// The same, or the subtag where there is none.
