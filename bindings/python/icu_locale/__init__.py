@@ -20,8 +20,9 @@ The library libicu_locale.so.0 is looked for where the variable ICU_LOCALE_LIBRA
 out/c of its repository, where `make c` leaves it, and then where the system looks for libraries. It is loaded where it is
 first wanted.
 """
-from ._answers import Canonical, Direction, Syntax
+from ._answers import CHAINS, Canonical, Chain, Direction, Named, Syntax
 from ._calls import version
+from ._data import cldr_locales, cldr_version
 from ._locale import Locale
 from ._menu import MenuRow
 from ._negotiator import Match, Negotiator
@@ -31,10 +32,11 @@ from ._refusals import (Circle, Closed, InvalidLanguage, InvalidList, InvalidSub
 from ._switcher import Headers, Switcher
 from ._tables import Tables
 
-__all__ = ["Tables", "Locale", "Negotiator", "Switcher", "Match", "MenuRow", "Canonical", "Direction", "Syntax", "Headers", "Text", "Refused",
-           "Closed", "MemoryRefused", "NoJson", "NoTables", "NoCommand", "TableMissing", "NoList", "InvalidList",
-           "NotSettled", "TablesShared", "NoCldr", "LineRefused", "InvalidLanguage", "InvalidSubtag", "NoFixedPoint",
-           "NoSubdivisionFixedPoint", "NoValueFixedPoint", "NoFieldFixedPoint", "Circle", "NameMissing"]
+__all__ = ["Tables", "Locale", "Negotiator", "Switcher", "Match", "MenuRow", "Canonical", "Named", "Direction", "Syntax",
+           "Chain", "CHAINS", "Headers", "Text", "cldr_version", "cldr_locales", "Refused", "Closed", "MemoryRefused",
+           "NoJson", "NoTables", "NoCommand", "TableMissing", "NoList", "InvalidList", "NotSettled", "TablesShared",
+           "NoCldr", "LineRefused", "InvalidLanguage", "InvalidSubtag", "NoFixedPoint", "NoSubdivisionFixedPoint",
+           "NoValueFixedPoint", "NoFieldFixedPoint", "Circle", "NameMissing"]
 
 __version__ = version()
 

@@ -1,15 +1,29 @@
 """What tables are asked about one identifier, and the menu of several."""
-from typing import Iterable, List, Literal, NamedTuple, Optional
+from typing import Iterable, List, Literal, NamedTuple, Optional, Tuple
 
 from ._held import NO_LIKELY, Held
-from ._menu import Key, MenuRow, by_platform, in_order
+from ._menu import Key, MenuRow, in_order, key_of
 from ._negotiator import gathered, line_of
-from ._refusals import InvalidSubtag, NameMissing, TableMissing, Text, as_bytes, line_refusal, refuse, shown
+from ._refusals import InvalidSubtag, NameMissing, NoCommand, TableMissing, Text, as_bytes, line_refusal, refuse, shown
 
 Direction = Literal["ltr", "rtl"]
 # How a text is read: a locale identifier of UTS #35, besides a tag of RFC 5646, or besides a name of a POSIX locale.
 Syntax = Literal["locales", "bcp47", "posix"]
 SYNTAXES = {each: each.encode() + b" " for each in ("locales", "bcp47", "posix")}
+
+
+# Which kinds of names are asked, in order: docs/PROGRAM.md of the repository tells them.
+Chain = Literal["tiny", "light", "heavy", "short-light", "short-heavy", "long-light", "long-heavy", "menu-light", "menu-heavy",
+                "short-menu-light", "short-menu-heavy"]
+CHAINS: Tuple[Chain, ...] = ("tiny", "light", "heavy", "short-light", "short-heavy", "long-light", "long-heavy", "menu-light",
+                             "menu-heavy", "short-menu-light", "short-menu-heavy")
+
+
+class Named(NamedTuple):
+    """A name, and whether a part of it has none, and is a subtag."""
+
+    name: str
+    is_raw: bool
 
 
 class Canonical(NamedTuple):
@@ -154,11 +168,11 @@ class Answers(Held):
         """
         return self._told(b"fallback", identifier, syntax).split(" ")
 
-    def name(self, identifier: Text, preferences: Text, chain: Text = "light", *, syntax: Syntax = "locales",
+    def name(self, identifier: Text, preferences: Text, chain: Chain = "light", *, syntax: Syntax = "locales",
              fallback: bool = False) -> str:
         """The name of the identifier in the language of the preferences, with what its extensions say where the supplement
-        has names of extensions in that language, and without them else. What the tables have no name for is a subtag there. With `fallback` the name is in the first locale after the preferences that the tables
-        have.
+        has names of extensions in that language, and without them else. What the tables have no name for is a subtag there.
+        With `fallback` the name is in the first locale after the preferences that the tables have.
 
         >>> from icu_locale.example import TABLES
         >>> tables = Tables.from_json(TABLES)
@@ -170,24 +184,43 @@ class Answers(Held):
         icu_locale.NameMissing: IdentifierNotFound: the tables were made without the locale 'de', to name 'it' in
         >>> tables.name("it", "en-AU", fallback=True)
         'Italian'
+        >>> tables.name("it", "en", "lihgt")
+        Traceback (most recent call last):
+            ...
+        icu_locale.NoCommand: 'lihgt' is no chain; the chains are tiny, light, heavy, short-light, short-heavy, long-light, \
+long-heavy, menu-light, menu-heavy, short-menu-light, short-menu-heavy
+        """
+        return self.name_parts(identifier, preferences, chain, syntax=syntax, fallback=fallback).name
+
+    def name_parts(self, identifier: Text, preferences: Text, chain: Chain = "light", *, syntax: Syntax = "locales",
+                   fallback: bool = False) -> Named:
+        """The same, and whether a part of the name is raw.
+
+        >>> from icu_locale.example import TABLES
+        >>> Tables.from_json(TABLES).name_parts("it-Qabc-150", "en")
+        Named(name='Italian (Qabc, Europe)', is_raw=True)
         """
         for locale in self.fallback(preferences) if fallback else ():
             try:
-                return self.name(identifier, locale, chain, syntax=syntax)
+                return self.name_parts(identifier, locale, chain, syntax=syntax)
             except NameMissing:
                 pass
         command = b" ".join((b"name", as_bytes(chain), as_bytes(preferences)))
         try:
-            return self._told(command, identifier, syntax).rpartition("\t")[0]
+            name, _, mark = self._told(command, identifier, syntax).rpartition("\t")
+            return Named(name, mark == "R")
         except NameMissing as fault:
             raise NameMissing(f"{fault.name}: the tables were made without the locale {shown(preferences)}, to name "
                               f"{shown(identifier)} in") from None
+        except NoCommand:
+            raise NoCommand(f"the preferences {shown(preferences)} are no identifier without variants" if chain in CHAINS else
+                            f"{shown(chain)} is no chain; the chains are {', '.join(CHAINS)}") from None
 
-    def menu(self, locales: Iterable[str], language: Text, chain: Text = "light", *, fallback: bool = False,
-             key: Key = by_platform) -> List[MenuRow]:
+    def menu(self, locales: Iterable[str], language: Text, chain: Chain = "light", *, fallback: bool = False,
+             key: Optional[Key] = None) -> List[MenuRow]:
         """The languages of a list for a menu: each with its name in one language and its own name, in the order of the
-        first. That is the order of `locale.strxfrm`, by the locale that the program has set for LC_COLLATE: by code point
-        where it has set none. `key` is another one, of a name. `chain` and `fallback` are those of `name`.
+        first. That is the order of the language, by the module icu of PyICU where it is installed, and by code point else.
+        `key` is another one, of a name. `chain` and `fallback` are those of `name`.
 
         >>> from icu_locale.example import TABLES
         >>> Tables.from_json(TABLES).menu(["en"], "en")
@@ -195,7 +228,7 @@ class Answers(Held):
         """
         rows = [MenuRow(each, self.name(each, language, chain, fallback=fallback),
                         self.name(each, each, chain, fallback=fallback)) for each in gathered(locales)]
-        return in_order(rows, key)
+        return in_order(rows, key or key_of(as_bytes(language).decode("utf-8", "replace")))
 
     @property
     def is_settled(self) -> bool:

@@ -3,12 +3,13 @@ import ctypes
 import os
 from functools import lru_cache
 from pathlib import Path
-from typing import Any, Callable
+from typing import Any, Callable, Optional, Tuple
 
 HERE = Path(__file__).resolve().parent
 TOP = HERE.parents[2]
 
 SIZE = ctypes.c_size_t
+REFUSED = 1
 
 
 class Handle(ctypes.Structure):
@@ -34,6 +35,8 @@ class Calls:
         self.available = _call(long.icu_locale_available_in, _HANDLE, *_TEXT, *_TEXT, _HANDLE)
         self.negotiate = _call(short.icu_locale_negotiate_in, _HANDLE, *_TEXT, *_TEXT, size_at, size_at)
         self.list_fault = _call(short.icu_locale_list_fault, *_TEXT, *_TEXT, size_at)
+        fault = getattr(short, "icu_locale_fault", None)  # which an older library has not
+        self.fault = fault and _call(fault, *_TEXT, size_at, size_at)
         self.close = _call(short.icu_locale_close, _HANDLE)
         short.icu_locale_close.restype = None
 
@@ -59,6 +62,12 @@ def calls() -> Calls:
     except (OSError, AttributeError) as fault:
         raise OSError(f"the library {path} cannot be loaded; the variable ICU_LOCALE_LIBRARY may name another one, "
                       f"which `make c` makes: {fault}") from fault
+
+
+def fault_of(text: bytes) -> Optional[Tuple[int, int]]:
+    """Where a text is wrong that is no locale identifier; None where it is one, or the library does not tell."""
+    ask, start, end = calls().fault, SIZE(), SIZE()
+    return (start.value, end.value) if ask and ask(text, len(text), start, end) == REFUSED else None
 
 
 def version() -> str:

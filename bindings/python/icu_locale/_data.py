@@ -1,26 +1,42 @@
 """CLDR's data inside the package, as texts of tables. docs/CLDR.md of the repository says what is in each file."""
 import gzip
+import itertools
+import os
+import zlib
 from pathlib import Path
-from typing import Dict, Iterable, List, Literal, Tuple, Union
+from typing import Callable, Dict, Iterable, List, Literal, Mapping, Optional, Tuple, Union
 
 from ._calls import HERE, TOP
 from ._refusals import NoCldr, cut
 
 Locales = Union[Iterable[str], Literal["all"]]
 Rows = List[bytes]
+# The chain of a locale; it is empty where the locale is none.
+Chain = Callable[[str], List[str]]
 # In the package, where tools/package-data of its repository has left it, or in Debian's package icu-locale-data.
 FOLDERS = (HERE / "data", TOP / "out" / "data", Path("/usr/share/icu-locale"))
+VARIABLE = "ICU_LOCALE_DATA"
 BASE = "base-and-supplement"
+LEAST = 4  # lines of it
 NO_DATA = ("this package has none of CLDR's data inside, and there is no Debian package icu-locale-data; "
            "Tables.from_cldr takes a folder of it, as Debian's package unicode-cldr-core has one")
 
 
-def texts_of(locales: Locales) -> Tuple[bytes, bytes]:
-    """The text of the tables that have the names of some locales, and that of their supplement."""
+def no_chain(_: str) -> List[str]:
+    """That of a locale whose chain is not asked."""
+    return []
+
+
+def texts_of(locales: Locales, chain: Chain = no_chain) -> Tuple[bytes, bytes]:
+    """The text of the tables that have the names of some locales, and that of their supplement. `chain` tells the chain of a
+    locale that CLDR has no names in."""
     folder = data_folder()
-    supplement, behind, *before, end = _lines(folder, BASE)
+    lines = _lines(folder, BASE)
+    if len(lines) < LEAST:
+        raise damaged(folder / f"{BASE}.gz", "it is too short")
+    supplement, behind, *before, end = lines
     columns: List[Rows] = [[] for _ in (supplement, *before)]
-    for locale, rows in _chosen(folder, locales).items():
+    for locale, rows in _chosen(folder, locales, chain).items():
         for column, row in zip(columns, rows):
             if row:
                 column.append(b'"%s":%s' % (locale.encode(), row))
@@ -28,51 +44,86 @@ def texts_of(locales: Locales) -> Tuple[bytes, bytes]:
     return b"".join([*parts, end]), called + behind
 
 
-def has_names(locale: str) -> bool:
-    """Whether CLDR has names in a locale."""
+def cldr_locales() -> List[str]:
+    """The locales that CLDR has names in, by which `Tables.cldr` opens them, in the order of their texts."""
+    return _told(data_folder(), "locales").split()
+
+
+def cldr_version() -> Optional[str]:
+    """The version of CLDR whose data is there, as `41`; None where there is none, or CLDR does not tell it."""
     try:
-        return bool(_chosen(data_folder(), [locale]))
+        return _told(data_folder(), "version").strip()
     except NoCldr:
-        return False
+        return None
+
+
+def _told(folder: Path, name: str) -> str:
+    try:
+        return (folder / name).read_text(encoding="ascii")
+    except (OSError, ValueError) as fault:
+        raise damaged(folder / name, fault) from None
+
+
+def damaged(path: Path, why: object) -> NoCldr:
+    """What is raised for data that is not what the package was made with."""
+    return NoCldr(f"the data of CLDR in {path} is damaged: {why}")
 
 
 def data_folder() -> Path:
-    """Where the data is. It raises `NoCldr` where there is none."""
-    for folder in FOLDERS:
+    """Where the data is: in the folder that the variable ICU_LOCALE_DATA names, where it is set. It raises `NoCldr` where there
+    is none."""
+    named = os.environ.get(VARIABLE)
+    for folder in (Path(named),) if named else FOLDERS:
         if (folder / f"{BASE}.gz").is_file():
             return folder
-    raise NoCldr(NO_DATA)
+    raise NoCldr(f"{VARIABLE} names {named}, where there is no data of CLDR" if named else NO_DATA)
 
 
 def _lines(folder: Path, name: str) -> Rows:
-    return gzip.decompress((folder / f"{name}.gz").read_bytes()).split(b"\n")
+    path = folder / f"{name}.gz"
+    try:
+        return gzip.decompress(path.read_bytes()).split(b"\n")
+    except (OSError, EOFError, zlib.error) as fault:
+        raise damaged(path, fault) from None
 
 
 def _rows_of(folder: Path, language: str) -> Dict[str, Rows]:
     """The rows of each locale of a language: one for each table, which is empty where there is none."""
     names, *rows = _lines(folder, language)
-    groups = names.decode().split("\t")
+    groups = names.decode("ascii", "replace").split("\t")
     return {locale: rows[place::len(groups)] for place, group in enumerate(groups) for locale in group.split(" ")}
 
 
-def _chosen(folder: Path, locales: Locales) -> Dict[str, Rows]:
+def _key(word: str) -> str:
+    """What a locale is found by: it may be in any case, with `-` or `_`."""
+    return (word.lower() if word.isascii() else word).replace("_", "-")
+
+
+def in_chain(locale: str, chain: Chain, names: Mapping[str, str]) -> str:
+    """The locale, or the first of its chain, whose key is there, by the name that it has there."""
+    for each in itertools.chain([locale], chain(locale) if _key(locale) not in names else ()):
+        if _key(each) in names:
+            return names[_key(each)]
+    raise NoCldr(f"CLDR has no locale {cut(locale)}")
+
+
+def _chosen(folder: Path, locales: Locales, chain: Chain) -> Dict[str, Rows]:
     """The rows of some locales."""
-    languages = sorted({path.stem for path in folder.glob("*.gz")} - {BASE})
     if locales == "all":
+        languages = sorted({path.stem for path in folder.glob("*.gz")} - {BASE})
         return {locale: rows for language in languages for locale, rows in _rows_of(folder, language).items()}
     if isinstance(locales, (str, bytes)):
         raise TypeError("one text is no list of locales, but for `all`, which is every one")
-    found: Dict[str, Rows] = {}
-    spelled: Dict[str, Dict[str, Tuple[str, Rows]]] = {}
+    names: Dict[str, str] = {}
+    wanted: List[str] = []
     for word in locales:
         if not isinstance(word, str):
             raise TypeError(f"a locale is a str, and no {type(word).__name__}")
-        key = (word.lower() if word.isascii() else word).replace("_", "-")  # it is found in any case, with `-` or `_`
-        language = key.partition("-")[0]
-        if language in languages and language not in spelled:
-            spelled[language] = {name.lower(): (name, rows) for name, rows in _rows_of(folder, language).items()}
-        if key not in spelled.get(language, {}):
-            raise NoCldr(f"CLDR has no locale {cut(word)}")
-        name, rows = spelled[language][key]
-        found[name] = rows
-    return found
+        names = names or {_key(name): name for name in _told(folder, "locales").split()}
+        wanted.append(in_chain(word, chain, names))
+    languages = sorted({locale.partition("-")[0] for locale in wanted})
+    rows = {language: _rows_of(folder, language) for language in languages}
+    try:
+        return {locale: rows[locale.partition("-")[0]][locale] for locale in wanted}
+    except KeyError as fault:
+        raise damaged(folder, f"there is no {fault.args[0]}") from None

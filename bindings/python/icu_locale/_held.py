@@ -17,6 +17,7 @@ from ._refusals import (Closed, InvalidList, LineRefused, TableMissing, Text, as
 
 ACCEPTED = 0
 ROOM = 3
+LARGEST = 1 << 16  # bytes of room that a handle keeps
 # What else a command needs of the tables comes first: another command that needs the rest, and then what it needs itself.
 NEEDS_FIRST = {b"canonicalize": b"maximize", b"direction": b"maximize", b"distance": b"maximize", b"serve": b"canonicalize",
                b"nearest": b"canonicalize", b"key": b"maximize", b"identifier-key": b"maximize"}
@@ -103,6 +104,9 @@ class Held(NoCopies):
             return self._fresh()
 
     def _give_back(self, slot: Slot) -> None:
+        if slot.room > LARGEST:  # what a long answer took, here and in the library, is given back
+            self._calls.close(slot.handle)
+            return
         self._free.append(slot)
         if not self._is_open:
             self._let_go()
@@ -128,6 +132,13 @@ class Held(NoCopies):
     def __exit__(self, kind: Optional[Type[BaseException]], error: Optional[BaseException],
                  trace: Optional[TracebackType]) -> None:
         self.close()
+
+    def __repr__(self) -> str:
+        return f"<{type(self).__name__}{self._about()}{'' if self._is_open else ', closed'}>"
+
+    def _about(self) -> str:
+        """What the object's own text tells of it."""
+        return ""
 
     def __del__(self) -> None:
         if hasattr(self, "_is_open"):
@@ -159,7 +170,7 @@ class Held(NoCopies):
         if number == ACCEPTED:
             return told.decode()
         if number == LineRefused.number:
-            raise line_refusal(told.decode().split("\t")[1], line)
+            raise line_refusal(told.decode().split("\t")[1], line, words.partition(b" ")[0].decode("ascii", "replace"))
         if number == TableMissing.number:
             raise self._table_missing(words.split(b" ")[-1])
         refuse(number)

@@ -1,5 +1,6 @@
 """A menu of languages: its rows, and their order."""
-import locale as platform
+import importlib
+from functools import lru_cache
 from typing import Any, Callable, List, NamedTuple
 
 # What a name is sorted by.
@@ -14,14 +15,17 @@ class MenuRow(NamedTuple):
     own: str
 
 
-def by_platform(name: str) -> str:
-    """The sort key of the platform, by the locale that the program has set for LC_COLLATE."""
-    return platform.strxfrm(name)
+@lru_cache(maxsize=16)
+def key_of(language: str) -> Key:
+    """The sort key of a language, by PyICU, whose module is icu; by code point where that is not installed."""
+    try:
+        icu = importlib.import_module("icu")
+    except ImportError:
+        return str
+    key: Key = icu.Collator.createInstance(icu.Locale.forLanguageTag(language.replace("_", "-"))).getSortKey
+    return key
 
 
 def in_order(rows: List[MenuRow], key: Key) -> List[MenuRow]:
-    """The rows in the order of the names: by code point where the platform has no key for one of them."""
-    try:
-        return sorted(rows, key=lambda row: (key(row.name), row.name))
-    except OSError:
-        return sorted(rows, key=lambda row: row.name)
+    """The rows in the order of the names, and where their keys are equal by code point."""
+    return sorted(rows, key=lambda row: (key(row.name), row.name))

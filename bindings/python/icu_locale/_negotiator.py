@@ -69,6 +69,9 @@ class Negotiator(Held):
             refuse(number)
         return slot
 
+    def _about(self) -> str:
+        return f" of {list(self._available)!r}"
+
     @property
     def available(self) -> Tuple[Text, ...]:
         """The identifiers that are available, as they were handed in."""

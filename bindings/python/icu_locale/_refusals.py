@@ -1,6 +1,7 @@
 """Why a call gives no answer, and what a text is."""
-from typing import Dict, NoReturn, Type, Union
+from typing import Dict, NoReturn, Optional, Tuple, Type, Union
 
+from ._calls import fault_of
 
 
 class Written:
@@ -91,10 +92,38 @@ class NoCldr(Refused, LookupError):
 
 
 class LineRefused(Refused, ValueError):
-    """The line is refused, and `name` is the refusal's."""
+    """The line is refused, and `name` is the refusal's. `text` is what was asked. Where it is no locale identifier, `subtag` is
+    the first piece that none can have there, from `start` to `end`; else these are the ends of the text, and it is None."""
 
     number = 1
     name: str = ""
+    text: Text = ""
+    syntax: str = ""
+
+    @property
+    def start(self) -> int:
+        """Where the subtag begins."""
+        return self._spot[0]
+
+    @property
+    def end(self) -> int:
+        """Where the subtag ends."""
+        return self._spot[1]
+
+    @property
+    def subtag(self) -> Optional[str]:
+        """The subtag that is none, or is where it may not be; empty where the text ends too early."""
+        return self._spot[2]
+
+    @property
+    def _spot(self) -> Tuple[int, int, Optional[str]]:
+        octets = as_bytes(self.text)
+        found = fault_of(octets) if self.syntax == "locales" and self.name.startswith("Invalid") else None
+        if isinstance(self.text, str):
+            start, end = (len(_text_of(octets[:each])) for each in found or (0, len(octets)))
+        else:
+            start, end = found or (0, len(octets))
+        return start, end, _text_of(octets[found[0]:found[1]]) if found else None
 
 
 class InvalidLanguage(LineRefused):
@@ -155,15 +184,24 @@ _BY_NAME: Dict[str, Type[LineRefused]] = {each.name: each for each in (
     NameMissing)}
 
 
+def _text_of(octets: bytes) -> str:
+    try:
+        return octets.decode("utf-8", "surrogatepass")
+    except UnicodeDecodeError:
+        return octets.decode("utf-8", "replace")
+
+
 def refuse(number: int) -> NoReturn:
     """Raises what a number of icu_locale.h stands for."""
     kind = _BY_NUMBER.get(number, Refused)
     raise kind(kind.__doc__ if number in _BY_NUMBER else number)
 
 
-def line_refusal(name: str, line: Text) -> LineRefused:
-    """What is raised for a line that is refused."""
-    return _BY_NAME.get(name, LineRefused)(f"{name}: {shown(line)}")
+def line_refusal(name: str, line: Text, syntax: str = "") -> LineRefused:
+    """What is raised for a line that is refused, which was read in a syntax."""
+    refusal = _BY_NAME.get(name, LineRefused)(f"{name}: {shown(line)}")
+    refusal.text, refusal.syntax = line, syntax
+    return refusal
 
 
 def list_refusal(place: int, identifier: Text) -> InvalidList:

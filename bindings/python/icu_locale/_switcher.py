@@ -1,5 +1,6 @@
 """What is available, and which of it is served to a reader."""
-from typing import Generic, Iterable, Tuple, TypeVar, Union
+from types import TracebackType
+from typing import Generic, Iterable, Optional, Tuple, Type, TypeVar, Union
 
 from ._held import NoCopies
 from ._negotiator import Negotiator, Tag, line_of, listed
@@ -66,3 +67,13 @@ class Switcher(NoCopies, Generic[Tag, Default]):
     def close(self) -> None:
         """Lets the list and the tables go. A second call does nothing."""
         self._negotiator.close()
+
+    def __enter__(self) -> "Switcher[Tag, Default]":
+        return self
+
+    def __exit__(self, kind: Optional[Type[BaseException]], error: Optional[BaseException],
+                 trace: Optional[TracebackType]) -> None:
+        self.close()
+
+    def __repr__(self) -> str:
+        return f"<Switcher of {list(self._available)!r}, or else {self._default!r}>"

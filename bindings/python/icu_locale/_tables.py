@@ -1,11 +1,11 @@
 """Tables: how they are opened, and what they serve a reader."""
 from os import PathLike
-from typing import Any, Iterable, Optional, Tuple, Union, overload
+from typing import Any, Iterable, List, Optional, Tuple, Union, overload
 
 from ._answers import Answers, Syntax
-from ._data import Locales, texts_of
+from ._data import Locales, damaged, data_folder, texts_of
 from ._negotiator import Negotiator, Tag, gathered, line_of, listed
-from ._refusals import InvalidList, Text, as_bytes, refuse
+from ._refusals import InvalidList, LineRefused, NoJson, NoTables, Text, as_bytes, refuse
 from ._switcher import Default, Headers, Switcher
 
 DEBIAN_CLDR = "/usr/share/unicode/cldr/common"
@@ -60,10 +60,15 @@ class Tables(Answers):
         """The tables of CLDR's data that this package has inside, with the names of some locales, as ["en", "zh-Hant"],
         and their supplement, by which `serve` and `fallback` go, and which has what parts of extensions are called in these
         locales, but for subdivisions and time zones. The likely tables are settled. The word `all` is every
-        locale. One that CLDR has no names for raises `NoCldr`, and so does a package that was made without data. One
-        locale takes some hundredths of a second, `all` a second.
+        locale. In the place of one that CLDR has no names in comes the first of its chain, as `zh-Hant-TW` for `zh-TW`;
+        `cldr_locales` lists them. `NoCldr` is raised where there is none, or no data, or a file is damaged, which is named.
+        One locale takes some hundredths of a second, `all` a second.
         """
-        return cls.from_json(*texts_of(locales))
+        texts = texts_of(locales, _cldr_chain)
+        try:
+            return cls.from_json(*texts)
+        except (NoJson, NoTables) as fault:
+            raise damaged(data_folder(), fault) from None
 
     @classmethod
     def from_cldr(cls, folder: Union[str, "PathLike[str]"] = DEBIAN_CLDR, locales: Iterable[str] = (), *,
@@ -202,3 +207,12 @@ class Tables(Answers):
         """Lets the tables go; a call that still runs has its answer first. A second call does nothing."""
         self._negotiator = None
         super().close()
+
+
+def _cldr_chain(locale: str) -> List[str]:
+    """The chain of a locale over CLDR's data inside; none where it is refused."""
+    with Tables.cldr() as tables:
+        try:
+            return tables.fallback(locale)
+        except LineRefused:
+            return []

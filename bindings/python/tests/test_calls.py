@@ -7,10 +7,11 @@ import subprocess
 import sys
 import unittest
 from pathlib import Path
+from unittest import mock
 
 import icu_locale
 from icu_locale import (Circle, Closed, InvalidLanguage, InvalidList, InvalidSubtag, LineRefused, Match, NameMissing,
-                        Negotiator, NoCommand, NoJson, NoList, NoTables, NotSettled, Refused, TableMissing, Tables)
+                        Negotiator, NoCommand, NoJson, NoList, NoTables, NotSettled, Refused, TableMissing, Tables, _held)
 from icu_locale.example import SUPPLEMENT, TABLES
 
 UNSETTLED = """{"likely_language": {"und": ["en", "Latn", "US"], "language": {"xx": ["Zzzz", "DE"]}},
@@ -22,6 +23,17 @@ TOP = Path(__file__).resolve().parents[3]
 
 
 class Examples(unittest.TestCase):
+    def test_room(self):
+        with Tables.from_json(TABLES) as tables:
+            text = "de-" + "-".join(f"piece{number:03}" for number in range(1000))
+            self.assertEqual(tables.maximize(text), f"de-Latn-DE{text[2:]}")
+            self.assertEqual(len(tables._free), 1)
+            with mock.patch.object(_held, "LARGEST", 1000):
+                self.assertEqual(tables.maximize(text), f"de-Latn-DE{text[2:]}")
+                self.assertEqual(len(tables._free), 0)
+            self.assertEqual(tables.maximize("zh"), "zh-Hans-CN")
+            self.assertEqual(len(tables._free), 1)
+
     def test_examples(self):
         runner, names = doctest.DocTestRunner(), {name: getattr(icu_locale, name) for name in icu_locale.__all__}
         inherited = [("Tables", each) for each in Tables.__mro__[1:-1]]

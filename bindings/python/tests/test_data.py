@@ -1,12 +1,14 @@
 """CLDR's data inside the package: its answers are those of CLDR's folder. In a clone `tools/package-data out/data` makes
 it."""
+import gzip
 import os
+import sys
 import tempfile
 import unittest
 from pathlib import Path
 from unittest import mock
 
-from icu_locale import NameMissing, NoCldr, Refused, Tables, _data
+from icu_locale import MenuRow, NameMissing, NoCldr, Refused, Tables, _data, _menu, cldr_locales, cldr_version
 from icu_locale._tables import DEBIAN_CLDR
 
 LANGUAGES = ("und", "en", "de", "sr", "zh", "ar", "iw", "hy", "sgn", "mo", "tlh", "yue")
@@ -95,7 +97,7 @@ class Data(unittest.TestCase):
             self.assertRaises(NameMissing, tables.name, "it", "en")
 
     def test_unknown_locales(self):
-        for locale in ("xx", "en-XX", "all", "", "no locale", "base-and-supplement", "copyright", "../data/en", "en\0",
+        for locale in ("xx", "all", "", "no locale", "base-and-supplement", "copyright", "../data/en", "en\0",
                        "\u212al"):
             with self.assertRaises(NoCldr) as refused:
                 Tables.cldr(["en", locale])
@@ -105,6 +107,33 @@ class Data(unittest.TestCase):
         self.assertLess(len(str(refused.exception)), 300)
         for wrong in ("en", b"en", 5, [5], [b"en"], [None]):
             self.assertRaises(TypeError, Tables.cldr, wrong)
+
+    def test_chains(self):
+        with Tables.cldr(["zh_TW", "en-XX", "de-u-co-phonebk"]) as tables:
+            self.assertEqual(tables.name("it", "zh-TW", fallback=True), "義大利文")
+            self.assertEqual([tables.name("it", each) for each in ("zh-Hant-TW", "en", "de")], ["義大利文", "Italian", "Italienisch"])
+        locales = cldr_locales()
+        self.assertEqual(locales, sorted(locales))
+        self.assertTrue("zh-Hant" in locales and "zh-TW" not in locales)
+        self.assertRegex(cldr_version(), "^[0-9.]+$")
+
+    def test_damage(self):
+        folder = next(folder for folder in _data.FOLDERS if folder.is_dir())
+        with tempfile.TemporaryDirectory() as work, mock.patch.object(_data, "FOLDERS", (Path(work),)):
+            copy = Path(work)
+            for name in ("base-and-supplement.gz", "en.gz", "locales", "version"):
+                (copy / name).write_bytes((folder / name).read_bytes())
+            whole = (copy / "en.gz").read_bytes()
+            changed = whole[:99] + bytes([whole[99] ^ 8]) + whole[100:]
+            for fault in (whole[:-9], b"no file", b"", changed, gzip.compress(b"")):
+                (copy / "en.gz").write_bytes(fault)
+                with self.assertRaisesRegex(NoCldr, f"{work}(/en.gz)? is damaged"):
+                    Tables.cldr(["en"])
+            Tables.cldr().close()
+            for fault in (b"no file", gzip.compress(b""), gzip.compress(b"{\n}\n{\n}")):
+                (copy / "base-and-supplement.gz").write_bytes(fault)
+                with self.assertRaisesRegex(NoCldr, f"{work}(/base-and-supplement.gz)? is damaged"):
+                    Tables.cldr()
 
     def test_menu(self):
         locales = ["ja", "fr", "en", "zh-Hant"]
@@ -122,8 +151,22 @@ class Data(unittest.TestCase):
             self.assertRaises(NameMissing, tables.menu, ["en"], "de")
             self.assertRaises(TypeError, tables.menu, "en", "en")
             self.assertRaises(Refused, tables.menu, ["e"], "en")
-            with mock.patch("locale.strxfrm", side_effect=OSError):
+            with mock.patch.dict(sys.modules, icu=None):
+                _menu.key_of.cache_clear()
+                self.addCleanup(_menu.key_of.cache_clear)
                 self.assertEqual(tables.menu(locales, "en"), rows)
+
+    def test_order(self):
+        names = ["zulu", "Österreich", "Oslo", "a"]
+        rows = [MenuRow("", name, "") for name in names]
+        try:
+            import icu  # noqa: F401
+        except ImportError:
+            wanted = {"de": ["Oslo", "a", "zulu", "Österreich"]}
+        else:
+            wanted = {"de": ["a", "Oslo", "Österreich", "zulu"], "sv": ["a", "Oslo", "zulu", "Österreich"]}
+        for language, names in wanted.items():
+            self.assertEqual([row.name for row in _menu.in_order(rows, _menu.key_of(language))], names)
 
     def test_notice(self):
         folder = next(folder for folder in _data.FOLDERS if folder.is_dir())
@@ -136,6 +179,16 @@ class WithoutData(unittest.TestCase):
             for locales in ((), ["en"], "all"):
                 with self.assertRaisesRegex(NoCldr, "Tables.from_cldr takes a folder"):
                     Tables.cldr(locales)
+            self.assertIsNone(cldr_version())
+            with mock.patch.dict(os.environ, ICU_LOCALE_DATA="/nowhere"), self.assertRaisesRegex(NoCldr, "names /nowhere"):
+                Tables.cldr()
+
+    @unittest.skipUnless(HAS_DATA, "the package has no data of CLDR inside")
+    def test_named_folder(self):
+        found = next(folder for folder in _data.FOLDERS if folder.is_dir())
+        with mock.patch.dict(os.environ, ICU_LOCALE_DATA=str(found)), mock.patch.object(_data, "FOLDERS", ()):
+            with Tables.cldr() as tables:
+                self.assertEqual(tables.maximize("zh-TW"), "zh-Hant-TW")
 
 
 if __name__ == "__main__":

@@ -3,7 +3,8 @@ import copy
 import pickle
 import unittest
 
-from icu_locale import InvalidLanguage, InvalidSubtag, Locale, Tables
+from icu_locale import InvalidLanguage, InvalidSubtag, LineRefused, Locale, Tables
+from icu_locale._calls import calls
 from icu_locale.example import TABLES
 
 
@@ -49,6 +50,22 @@ class Locales(unittest.TestCase):
             with self.assertRaises(wrong):
                 Locale(text)
         self.assertEqual(Locale.parse("i-klingon", syntax="bcp47"), Locale("tlh"))
+
+    @unittest.skipUnless(calls().fault, "the library does not tell where a text is wrong")
+    def test_where(self):
+        for text, where in (
+                ("en-US-Latn", (6, 10, "Latn")), ("", (0, 0, "")), ("e-US", (0, 1, "e")), ("de-u", (4, 4, "")),
+                ("en-a-bb-a-cc", (8, 9, "a")), ("de_DE-1996-1996", (11, 15, "1996")), (b"en-\xff", (3, 4, "\ufffd")),
+                ("en-\xe9-US", (3, 4, "\xe9"))):
+            with self.assertRaises(LineRefused) as refused:
+                Locale(text)
+            refusal = refused.exception
+            self.assertEqual(((refusal.start, refusal.end, refusal.subtag), refusal.text), (where, text))
+
+    def test_elsewhere(self):
+        with self.assertRaises(LineRefused) as refused:
+            Locale.parse("i-klingo", syntax="bcp47")
+        self.assertEqual((refused.exception.start, refused.exception.end, refused.exception.subtag), (0, 8, None))
 
     def test_taken_by_calls(self):
         with Tables.from_json(TABLES) as tables:

@@ -41,6 +41,15 @@ class Switchers(unittest.TestCase):
         self.tables = Tables.from_json(TABLES, SUPPLEMENT)
         self.addCleanup(self.tables.close)
 
+    def test_context(self):
+        with self.tables.switcher(["en", "de"], default="en") as switcher:
+            self.assertEqual(switcher.serve("de"), "de")
+            self.assertEqual(repr(switcher), "<Switcher of ['en', 'de'], or else 'en'>")
+        self.assertRaises(ValueError, switcher.serve, "de")
+        with self.tables.negotiator(["en"]) as negotiator:
+            self.assertEqual(repr(negotiator), "<Negotiator of ['en']>")
+        self.assertEqual((repr(negotiator), repr(self.tables)), ("<Negotiator of ['en'], closed>", "<Tables>"))
+
     def test_served(self):
         for available in (AVAILABLE, iter(AVAILABLE)):
             switcher = self.tables.switcher(available)

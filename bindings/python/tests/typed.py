@@ -1,7 +1,8 @@
 """Each call with the types that it takes and gives: mypy --strict reads it, and a run of it tries it."""
 from typing import List, Optional, Union
 
-from icu_locale import Canonical, Direction, Match, MenuRow, Negotiator, Refused, Switcher, Tables, Text, __version__
+from icu_locale import (Canonical, Chain, Direction, LineRefused, Match, MenuRow, Named, Negotiator, Refused, Switcher, Tables,
+                        Text, __version__, cldr_locales, cldr_version)
 from icu_locale.example import SUPPLEMENT, TABLES
 
 
@@ -12,6 +13,9 @@ def shown(tables: Tables) -> List[str]:
     direction: Optional[Direction] = tables.direction("ar")
     chain: List[str] = tables.fallback("en-AU")
     rows: List[MenuRow] = tables.menu(["en"], "en", key=len)
+    kinds: Chain = "menu-light"
+    named: Named = tables.name_parts("ku", "en", kinds)
+    forms += [f"{named.name} {named.is_raw}"]
     forms += [tables.name("it-US", chain[0], fallback=True), *chain, *(row.own for row in rows)]
     return [*forms, canonical.identifier, canonical.value, direction or "none", tables.name("it-US", "en")]
 
@@ -20,8 +24,8 @@ def served(tables: Tables, header: str) -> List[str]:
     """What a reader is served, by a negotiator, by a switcher and at once."""
     negotiator: Negotiator = tables.negotiator(["en", "zh-Hant"])
     match: Optional[Match] = negotiator.negotiate(["fr", "zh-TW"])
-    switcher: Switcher[Text, None] = tables.switcher(negotiator.available)
-    found: Optional[Text] = switcher.serve([header])
+    with tables.switcher(negotiator.available) as switcher:
+        found: Optional[Text] = switcher.serve([header])
     spelled: Switcher[bytes, None] = tables.switcher([b"en", b"zh-Hant"])
     octets: Optional[bytes] = spelled.serve(header)
     sure: Switcher[str, str] = tables.switcher(["en", "zh-Hant"], default="en")
@@ -35,8 +39,18 @@ def served(tables: Tables, header: str) -> List[str]:
             str(distance), str(same)]
 
 
+def spot(refusal: LineRefused) -> str:
+    """Where a text is none."""
+    start: int = refusal.start
+    subtag: Optional[str] = refusal.subtag
+    return f"{start}: {subtag}"
+
+
 def opened(locales: List[str]) -> List[Tables]:
     """Tables of CLDR's data inside; a package may have none."""
+    known: List[str] = cldr_locales()
+    number: Optional[str] = cldr_version()
+    print(known, number)
     return [Tables.cldr(), Tables.cldr(locales), Tables.cldr(iter(locales)), Tables.cldr("all")]
 
 
@@ -46,6 +60,7 @@ def wrong(tables: Tables) -> None:
     tables.nearest(["en"], [5])  # type: ignore[type-var]
     Tables.cldr(5)  # type: ignore[arg-type]
     tables.serve("en", ["en"]).lower()  # type: ignore[union-attr]
+    tables.name("en", "en", "lihgt")  # type: ignore[arg-type]
     tables.switcher([b"en"], default=b"en").serve("en").isidentifier()  # type: ignore[attr-defined]
 
 

@@ -5,7 +5,7 @@ import sys
 from typing import Any, List, Optional, Sequence
 
 from .._calls import calls, version
-from .._data import data_folder
+from .._data import cldr_version, data_folder
 from .._refusals import LineRefused, NoCldr, Refused
 from .lines import (Table, Written, as_json, on_one_line, standard_input, standard_output, tell, tell_refusal, texts_of,
                     watched)
@@ -69,12 +69,12 @@ def _run(words: Sequence[str]) -> int:
 
 
 def _version(form: Optional[str]) -> str:
-    """The version of the package, and where its data is."""
+    """The version of the package, that of its data, and where that is."""
     try:
         data: Optional[str] = str(data_folder())
     except NoCldr:
         data = None
-    told = {NAME: version(), "data": data}
+    told = {NAME: version(), "CLDR": cldr_version(), "data": data}
     return f"{as_json(told)}\n" if form else "".join(f"{name}: {on_one_line(each)}\n" for name, each in told.items())
 
 

@@ -1,67 +1,49 @@
 """What each command of `icu-locale` asks the library."""
-import locale as platform
-import zlib
 from contextlib import contextmanager, suppress
 from typing import Any, Callable, Dict, Iterable, Iterator, List, Mapping, Tuple, Union
 
-from .._data import data_folder, has_names
+from .._data import cldr_locales, in_chain
 from .._locale import Locale
 from .._menu import MenuRow
-from .._refusals import InvalidList, LineRefused, Refused
+from .._refusals import InvalidList, LineRefused, NoCldr
 from .._tables import Tables
 from .words import Stopped
 
 # An answer: a text, several, or some by their names; None where there is no answer, and none is refused.
 Answer = Union[None, str, List[str], Dict[str, Any]]
 Task = Callable[[str], Answer]
-# What a damaged file of data raises.
-DAMAGED = (Refused, OSError, EOFError, ValueError, zlib.error)
-
-
-@contextmanager
-def reading() -> Iterator[None]:
-    """Tells in one line what is wrong with data that is read within."""
-    folder = data_folder()
-    try:
-        yield
-    except DAMAGED as fault:
-        raise Stopped(f"the data of CLDR in {folder} cannot be read: {fault}") from None
 
 
 def opened(locales: Iterable[str] = ()) -> Tables:
     """The tables with the names of some locales."""
-    with reading():
-        return Tables.cldr(locales)
+    return Tables.cldr(locales)
 
 
-def with_names(languages: Iterable[str]) -> Tuple[Tables, Dict[str, str]]:
-    """Tables with the names of some locales, and by locale the one whose names are taken: where CLDR has no names in it, the
-    first of its chain that CLDR has names in. A locale that has no such one, or is refused, is left out."""
-    asked = dict.fromkeys(languages)
-    with reading():
-        found = {each: each for each in asked if has_names(each)}
-    others = [each for each in asked if each not in found]
-    if others:
-        with opened() as tables, reading():
-            found.update((each, name) for each in others for name in _chain(tables, each) if has_names(name))
-    return opened(dict.fromkeys(found.values())), found
+def with_names(language: str, others: Iterable[str] = ()) -> Tuple[Tables, str]:
+    """Tables with names in a language, and in those of others that CLDR has names in, and the locale whose names those in the
+    language are."""
+    names = {name.lower(): name for name in cldr_locales()}
+    with opened() as tables:
+        def found(locale: str) -> str:
+            return in_chain(locale, lambda it: _chain(tables, it), names)
+
+        try:
+            locale = found(language)
+        except NoCldr:
+            raise Stopped(f"--in {language}: CLDR has no names in it") from None
+        kept = [locale]
+        for each in dict.fromkeys(others):
+            with suppress(NoCldr):
+                kept.append(found(each))
+    return opened(kept), locale
 
 
 def _chain(tables: Tables, language: str) -> List[str]:
-    """The chain of a locale, the last first; none where it is refused."""
+    """The chain of a locale; none where it is refused."""
     try:
-        return tables.fallback(language)[::-1]
+        return tables.fallback(language)
     except LineRefused:
         return []
-
-
-def _in(language: str, languages: Iterable[str] = ()) -> Tuple[Tables, str]:
-    """Tables with names in a language, and in some others, and the locale whose names those in the language are."""
-    tables, found = with_names([language, *languages])
-    if language not in found:
-        tables.close()
-        raise Stopped(f"--in {language}: CLDR has no names in it")
-    return tables, found[language]
 
 
 def parts(text: str, syntax: Any) -> Answer:
@@ -81,7 +63,7 @@ def task_of(chosen: Any) -> Iterator[Task]:
     if chosen.command == "parts":
         yield lambda text: parts(text, chosen.syntax)
     elif chosen.command == "name":
-        tables, locale = _in(chosen.language)
+        tables, locale = with_names(chosen.language)
         with tables:
             yield lambda text: tables.name(text, locale, syntax=chosen.syntax)
     elif chosen.command == "serve":
@@ -112,25 +94,13 @@ def _served(tables: Tables, chosen: Any) -> Task:
         raise Stopped(f"--available: {refusal}") from None
 
 
-@contextmanager
-def platform_order() -> Iterator[None]:
-    """The order of texts is that of the platform within, as LC_ALL, LC_COLLATE or LANG says, and else by code point."""
-    before = platform.setlocale(platform.LC_COLLATE)
-    with suppress(platform.Error):
-        platform.setlocale(platform.LC_COLLATE, "")
-    try:
-        yield
-    finally:
-        platform.setlocale(platform.LC_COLLATE, before)
-
-
 def menu(texts: Iterable[str], language: str) -> Tuple[List[MenuRow], Dict[int, LineRefused]]:
     """The rows of a menu, and by place what was refused."""
     asked = list(texts)
     kept: List[str] = []
     refused: Dict[int, LineRefused] = {}
-    tables, locale = _in(language, asked)
-    with tables, platform_order():
+    tables, locale = with_names(language, asked)
+    with tables:
         for place, text in enumerate(asked):
             try:
                 tables.menu([text], locale, fallback=True)
