@@ -9,7 +9,7 @@ const LIST = 10;
 const SYNTAXES = ['locales', 'bcp47', 'posix'];
 
 // What the package asks: the calls of icu_locale.h, and what a platform does in its own way.
-const behind = { calls: null, textsOfCldr: null, mark: () => {} };
+const behind = { calls: null, textsOfCldr: null, toldOfCldr: null, mark: () => {} };
 
 /** Gives the package the calls and ways of a platform. */
 function stand(ways) {

@@ -2,22 +2,41 @@
 // CLDR's data inside the package, as texts of tables. docs/CLDR.md of the repository says what is in each file.
 const { refusal, shown } = require('./refused.js');
 
-/** The file of all that no locale has part in. */
+/** The file of all that no locale has part in, and the list of the locales that there are names in. */
 const BASE = 'base-and-supplement';
+const LOCALES = 'locales';
 const NO_DATA = "this package has none of CLDR's data inside; Tables.fromJson takes tables of a folder of it, as "
   + 'tools/cldr-tables writes them';
-
-function refuse(why) {
-  throw refusal('NoCldr', why);
-}
+// Where names begin in the text of tables, and what tables have that name a script, a region or a variant alone: a pattern of
+// what is behind `und`, and its name.
+const NAMES = '"names":';
+const FOR_PARTS = {
+  '"essentials":{': '{"pattern":[1],"separator":[0,", ",1]}', '"language/medium/tiny":{': '{"und":"und"}',
+};
 
 /** The refusal of a package without data. */
 function refuseWithoutData() {
-  refuse(NO_DATA);
+  throw refusal('NoCldr', NO_DATA);
+}
+
+/** The refusal of a locale that CLDR has no names for. */
+function refuseLocale(locale) {
+  throw refusal('NoCldr', `CLDR has no locale ${shown(locale)}`);
+}
+
+/** The refusal of a file that is not what the package was made with. */
+function damaged(file, why) {
+  return refusal('NoCldr', `${file} is damaged: ${why}`);
 }
 
 function keyOf(word) {
   return word.toLowerCase().replace(/_/g, '-');
+}
+
+/** The locale of a list that a word names, in any case, with `-` or `_`; undefined where there is none. */
+function spelled(list, word) {
+  const key = keyOf(word);
+  return list.find((it) => it.toLowerCase() === key);
 }
 
 /** The languages whose files have the rows of some locales, once each; null where it is those of all. */
@@ -40,24 +59,48 @@ function rowsOf([names, ...rows]) {
   return found;
 }
 
-// The rows of some locales by the names that CLDR spells. A locale is found in any case, with `-` or `_`.
+// The rows of some locales by the names that CLDR spells, and the locales that have none.
 function chosen(files, locales) {
-  const known = new Map([...files.values()].flatMap((lines) => [...rowsOf(lines)]));
-  if (locales === 'all') return known;
-  const byKey = new Map([...known].map((row) => [keyOf(row[0]), row]));
-  return new Map(locales.map((it) => byKey.get(keyOf(it)) || refuse(`CLDR has no locale ${shown(it)}`)));
+  const all = new Map([...files.values()].flatMap((lines) => [...rowsOf(lines)]));
+  if (locales === 'all') return [all, []];
+  const byKey = new Map([...all].map((row) => [keyOf(row[0]), row]));
+  const found = locales.map((it) => byKey.get(keyOf(it)));
+  return [new Map(found.filter(Boolean)), locales.filter((_, place) => !found[place])];
 }
 
-/** The texts of tables with the names of some locales, and of their supplement, of the lines of files. */
-function textsOf([called, behind, ...parts], files, locales) {
+// The rows of languages without those of dialects.
+function withoutDialects(part, row) {
+  if (!part.includes('"language/')) return row;
+  return JSON.stringify(Object.fromEntries(Object.entries(JSON.parse(row)).filter(([key]) => !key.includes('-'))));
+}
+
+// The row that names parts alone: of names of scripts, regions and variants it is the locale's own.
+function ofParts(part, row) {
+  const end = Object.keys(FOR_PARTS).find((it) => part.endsWith(it));
+  return end ? FOR_PARTS[end] : /"(script|region|variant)\/[^"]*":\{$/.test(part) ? row : '';
+}
+
+// What becomes of a row, by what its table has before it: with dialects it stays.
+const ROWS = { dialect: (part, row) => row, standard: withoutDialects, parts: ofParts };
+
+/**
+ * The texts of tables with the names of some locales, and of their supplement, of the lines of files; and the locales that
+ * are missing. The names are those with dialects, those of languages in the standard way, or those of parts alone.
+ */
+function textsOf([called, behind, ...parts], files, locales, kind = 'dialect') {
   const end = parts.pop();
   const before = [called, ...parts];
   const columns = before.map(() => []);
-  for (const [locale, rows] of chosen(files, locales)) {
-    rows.forEach((row, place) => row && columns[place].push(`"${locale}":${row}`));
+  const [found, missing] = chosen(files, locales);
+  for (const [locale, rows] of found) {
+    rows.forEach((it, place) => {
+      const row = it && ROWS[kind](before[place], it);
+      if (row) columns[place].push(`"${locale}":${row}`);
+    });
   }
+  if (kind === 'parts') before[1] = `{${before[1].slice(before[1].lastIndexOf(NAMES))}`;
   const [supplement, ...tables] = before.map((part, place) => part + columns[place].join(','));
-  return { tables: tables.join('') + end, supplement: supplement + behind };
+  return { tables: tables.join('') + end, supplement: supplement + behind, missing };
 }
 
-module.exports = { BASE, refuseWithoutData, languagesOf, textsOf };
+module.exports = { BASE, LOCALES, refuseWithoutData, refuseLocale, damaged, spelled, languagesOf, textsOf };

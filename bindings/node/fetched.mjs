@@ -4,6 +4,7 @@
 const HERE = import.meta.url;
 let folder = new URL('data/', HERE);
 let loading;
+let places = {};
 
 async function got(place) {
   const response = await fetch(place);
@@ -21,8 +22,7 @@ async function compiled(source) {
   return isTold ? WebAssembly.compileStreaming(response) : WebAssembly.compile(await response.arrayBuffer());
 }
 
-async function begun(options) {
-  const { module = new URL('icu_locale.wasm', import.meta.url), data = folder } = optionsOf(options, 'module', 'data');
+async function begun({ module = new URL('icu_locale.wasm', import.meta.url), data = folder }) {
   if (!hasWideMemory()) {
     const since = 'which Chromium and Firefox have from 2025 on';
     throw refusal('NotLoaded', `this engine has no memory of 64 bits for WebAssembly, ${since}`);
@@ -31,45 +31,75 @@ async function begun(options) {
   stand({ calls: new Module(await WebAssembly.instantiate(await compiled(module), {})) });
 }
 
-/** Loads the module, once, and says where CLDR's data is fetched. Where it fails it may be called again. */
+// Refuses other places than those that are loaded, or are being loaded.
+function sameAsLoaded(wanted) {
+  const other = Object.keys(wanted).find((it) => wanted[it] !== undefined && String(wanted[it]) !== String(places[it]));
+  if (other) throw refusal('NotLoaded', `the package is loaded with ${other} of another place; it is loaded once`);
+}
+
+/**
+ * Loads the module, once, and says where CLDR's data is fetched. Where it fails it may be called again. With another place
+ * than before it is refused.
+ */
 export async function load(options) {
-  loading = loading || begun(options);
+  const wanted = optionsOf(options, 'module', 'data');
+  if (loading) sameAsLoaded(wanted);
+  else places = wanted;
+  loading = loading || begun(wanted);
   try {
     await loading;
   } catch (fault) {
     loading = undefined;
     throw fault;
   }
-  return { Tables, Locale, Negotiator, Switcher, Refused, implementation, load };
+  return {
+    Tables, Locale, DisplayNames, Negotiator, Switcher, Refused, cldrVersion, cldrLocales, implementation, load,
+  };
 }
 
 // The lines of a file of data, or null where there is none. A server may have unpacked it.
 async function linesOf(name) {
-  const response = await fetch(new URL(name, folder));
+  const place = new URL(name, folder);
+  const response = await fetch(place);
   if (response.status === 404) return null;
-  if (!response.ok) throw refusal('NoCldr', `${name} is answered by ${response.status}`);
+  if (!response.ok) throw refusal('NoCldr', `${place} is answered by ${response.status}`);
   const bytes = new Uint8Array(await response.arrayBuffer());
   const isPacked = bytes[0] === 31 && bytes[1] === 139;
   const stream = new Blob([bytes]).stream();
-  const text = await new Response(isPacked ? stream.pipeThrough(new DecompressionStream('gzip')) : stream).text();
-  return text.split('\n');
+  try {
+    const text = await new Response(isPacked ? stream.pipeThrough(new DecompressionStream('gzip')) : stream).text();
+    return text.split('\n');
+  } catch (fault) {
+    throw damaged(place, fault.message);
+  }
+}
+
+function notFound(name) {
+  throw refusal('NoCldr', `${new URL(name, folder)} is answered by 404, so that there is none of CLDR's data`);
 }
 
 // The texts of tables with the names of some locales, and of their supplement.
-async function textsFetched(locales) {
+async function textsFetched(locales, kind) {
   const wanted = languagesOf(locales);
   await load();
-  const languages = wanted || (await linesOf('languages')) || refuseWithoutData();
+  const languages = wanted || (await linesOf('languages')) || notFound('languages');
   const fetched = languages.filter((it) => /^[a-z]{2,8}$/.test(it)).map(async (it) => [it, await linesOf(`${it}.gz`)]);
   const [base, ...files] = await Promise.all([linesOf(`${BASE}.gz`), ...fetched]);
-  return textsOf(base || refuseWithoutData(), new Map(files.filter(([, lines]) => lines)), locales);
+  const texts = textsOf(base || notFound(`${BASE}.gz`), new Map(files.filter(([, lines]) => lines)), locales, kind);
+  return { folder, ...texts };
+}
+
+// What the folder tells of itself by a name, as lines; none where it tells nothing.
+async function toldFetched(name) {
+  await load();
+  return ((await linesOf(name)) || []).filter(Boolean);
 }
 
 function notLoaded() {
   throw refusal('NotLoaded', 'the module is there once load() has ended: await load()');
 }
 
-stand({ calls: new Proxy({}, { get: notLoaded }), textsOfCldr: textsFetched });
+stand({ calls: new Proxy({}, { get: notLoaded }), textsOfCldr: textsFetched, toldOfCldr: toldFetched });
 
 export const implementation = 'module';
-export { Tables, Locale, Negotiator, Switcher, Refused };
+export { Tables, Locale, DisplayNames, Negotiator, Switcher, Refused, cldrVersion, cldrLocales };

@@ -17,6 +17,14 @@ export interface Reading {
   syntax?: 'locales' | 'bcp47' | 'posix';
 }
 
+/** Which kinds of names are asked, in order: docs/PROGRAM.md of the repository tells them. */
+export type Chain =
+  | 'tiny' | 'light' | 'heavy' | 'short-light' | 'short-heavy' | 'long-light' | 'long-heavy' | 'menu-light' | 'menu-heavy'
+  | 'short-menu-light' | 'short-menu-heavy';
+
+/** How a name is made: with `fallback`, in the first locale after the preferences that the tables have. */
+export type Naming = Reading & { fallback?: boolean };
+
 /** Why a call gives no answer. */
 export type Code =
   | 'Closed' | 'Memory' | 'Json' | 'Shape' | 'Command' | 'Table' | 'Negotiate' | 'List' | 'Unsettled' | 'Shared'
@@ -54,8 +62,8 @@ export class Tables {
   /**
    * The tables of CLDR's data that this package has inside, with the names of some locales, as `['en', 'zh-Hant']`, and
    * their supplement, by which `serve` and `fallback` go, and which has what parts of extensions are called in these locales,
-   * but for subdivisions and time zones. The likely tables are settled. `all` is every locale. One that CLDR has no names for
-   * is refused as `NoCldr`, and so is a package that was made without data.
+   * but for subdivisions and time zones. The likely tables are settled. `all` is every locale. In the place of one that CLDR
+   * has no names in comes the first of its chain; where there is none, or no data inside, or a file is damaged, it is `NoCldr`.
    */
   static cldr(locales?: readonly string[] | 'all'): Tables;
   /**
@@ -125,20 +133,65 @@ export class Tables {
   fallback(identifier: Text, options?: Reading): string[];
   /**
    * The name in the language of the preferences, with what its extensions say where the supplement has names of extensions
-   * in that language, and without them else. The chain is `light` where none is named. With `fallback` the name is in the first
-   * locale after the preferences that the tables have.
+   * in that language, and without them else. The chain is `light` where none is named.
    */
-  name(identifier: Text, preferences: string, chain?: string, options?: Reading & { fallback?: boolean }): string;
+  name(identifier: Text, preferences: string, chain?: Chain | Naming, options?: Naming): string;
+  /** The same, and whether a part of it has no name, and is a subtag. */
+  nameParts(
+    identifier: Text, preferences: string, chain?: Chain | Naming, options?: Naming,
+  ): { name: string; isRaw: boolean };
   /**
    * The languages of a list for a menu: each with its name in one language and its own name, in the order of the first. That
    * is the order of `Intl.Collator` where it knows the language, and else that by code point. The chain and `fallback` are
    * those of `name`.
    */
-  menu(locales: readonly string[], language: string, chain?: string, options?: { fallback?: boolean }): MenuRow[];
+  menu(
+    locales: readonly string[], language: string, chain?: Chain | { fallback?: boolean }, options?: { fallback?: boolean },
+  ): MenuRow[];
   /** Whether the likely tables are settled. It looks at each row. */
   isSettled(): boolean;
   /** Lets the tables go. A second call does nothing. */
   close(): void;
+}
+
+/** What stands in the place of a locale's own, as in the options of `Intl.Locale`. */
+export interface LocaleOptions {
+  language?: string;
+  script?: string;
+  region?: string;
+  calendar?: string;
+  collation?: string;
+  hourCycle?: string;
+  caseFirst?: string;
+  numeric?: boolean;
+  numberingSystem?: string;
+}
+
+/** The version of CLDR whose data is inside, as `41`; undefined where there is none, or CLDR does not tell it. */
+export function cldrVersion(): string | undefined;
+/** The locales that CLDR has names in, by which `Tables.cldr` opens them, in the order of their texts. */
+export function cldrLocales(): string[];
+
+/** The options of `Intl.DisplayNames`. */
+export interface DisplayNamesOptions {
+  type: 'language' | 'region' | 'script';
+  style?: 'long' | 'short' | 'narrow';
+  fallback?: 'code' | 'none';
+  languageDisplay?: 'dialect' | 'standard';
+}
+
+/** Names of languages, regions or scripts in one language, by the ways of `Intl.DisplayNames`, over CLDR's data. */
+export class DisplayNames {
+  /** In a browser data is fetched, and `load` makes one. Where CLDR has no names in any of the locales it is `NoCldr`. */
+  constructor(locales: string | Locale | readonly (string | Locale)[], options: DisplayNamesOptions);
+  /** The same, once the data has been fetched. */
+  static load(
+    locales: string | Locale | readonly (string | Locale)[], options: DisplayNamesOptions,
+  ): Promise<DisplayNames>;
+  /** The name of a code. Where there is none it is the code as it is written, or undefined by the option `fallback`. */
+  of(code: string | Locale): string | undefined;
+  /** What was chosen. */
+  resolvedOptions(): DisplayNamesOptions & { locale: string };
 }
 
 /**
@@ -146,8 +199,11 @@ export class Tables {
  * there is undefined, and a list without members is empty.
  */
 export class Locale {
-  /** Reads a text, in a syntax. `InvalidLanguage` and `InvalidSubtag` refuse what is no locale identifier. */
-  constructor(text: Text, options?: Reading);
+  /**
+   * Reads a text, in a syntax, with parts and values in the place of its own. `InvalidLanguage` and `InvalidSubtag` refuse
+   * what is no locale identifier.
+   */
+  constructor(text: Text, options?: Reading & LocaleOptions);
   /** `und` where none is known. */
   readonly language: string;
   readonly script: string | undefined;
@@ -167,6 +223,19 @@ export class Locale {
   readonly hourCycle: string | undefined;
   /** The digits that are asked for, as `latn`. */
   readonly numberingSystem: string | undefined;
+  /** `upper`, `lower` or `false`: which case comes first in an order. */
+  readonly caseFirst: string | undefined;
+  /** Whether digits are put in order as numbers. */
+  readonly numeric: boolean;
+  /**
+   * The locale with its likely script and region, by CLDR's tables inside, or by others. In a browser tables have to be
+   * handed in: else it is refused as `NotLoaded`.
+   */
+  maximize(tables?: Tables): Locale;
+  /** The shortest locale that means the same. */
+  minimize(tables?: Tables): Locale;
+  /** Which way the likely script runs; undefined where that is not known. */
+  getTextInfo(tables?: Tables): { direction: 'ltr' | 'rtl' | undefined };
   /** The language that the extension `t` tells. */
   readonly transformLanguage: string | undefined;
   /** The fields of the extension `t`, by their keys. */

@@ -6,12 +6,13 @@ const path = require('path');
 // Newer versions of Node.js refuse a copy for another thread; older ones make an empty object.
 const { markAsUncloneable = () => {} } = require('worker_threads');
 const { stand } = require('./asking.js');
-const { textsOfFolder } = require('./data.js');
+const { textsOfFolder, toldByFolder } = require('./data.js');
 const { Locale } = require('./locale.js');
 const { Module, hasWideMemory } = require('./module.js');
+const { DisplayNames } = require('./names.js');
 const { Refused } = require('./refused.js');
 const { Negotiator, Switcher } = require('./served.js');
-const { Tables } = require('./tables.js');
+const { Tables, cldrVersion, cldrLocales } = require('./tables.js');
 
 const VARIABLE = 'ICU_LOCALE_IMPLEMENTATION';
 const WANTED = process.env[VARIABLE] || '';
@@ -43,8 +44,10 @@ function chosen() {
 }
 
 const [implementation, calls] = chosen();
-stand({ calls, textsOfCldr: textsOfFolder, mark: markAsUncloneable });
+stand({ calls, textsOfCldr: textsOfFolder, toldOfCldr: toldByFolder, mark: markAsUncloneable });
 
-module.exports = { Tables, Locale, Negotiator, Switcher, Refused, implementation };
+module.exports = {
+  Tables, Locale, DisplayNames, Negotiator, Switcher, Refused, cldrVersion, cldrLocales, implementation,
+};
 /** What is loaded already; in a browser the same call loads it. */
 module.exports.load = async () => module.exports;

@@ -5,6 +5,9 @@ const { behind, listed, made, headerOf, listRefusal, overList, answered } = requ
 const NOT_MET = 1;
 const OWN = Symbol('made by the package');
 
+// How Node.js shows an object.
+const SHOWN = Symbol.for('nodejs.util.inspect.custom');
+
 /** What is available, by `tables.negotiator`. */
 class Negotiator {
   #at;
@@ -38,6 +41,10 @@ class Negotiator {
   /** What the program icu_locale_cli answers to a line, by the words of a command. */
   answer(command, line) {
     return answered(this.#at, command, line);
+  }
+
+  [SHOWN](depth, options, inspect) {
+    return `Negotiator of ${inspect(this.#available, options)}`;
   }
 
   /** Lets the list and the tables go. A second call does nothing. */
@@ -75,6 +82,10 @@ class Switcher {
     } catch (refused) {
       throw /^Invalid/.test(refused.code) ? listRefusal('locales', list) : refused;
     }
+  }
+
+  [SHOWN](depth, options, inspect) {
+    return `Switcher of ${inspect(this.available, options)}, or else ${inspect(this.#otherwise, options)}`;
   }
 
   #told(command, line) {

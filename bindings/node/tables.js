@@ -6,6 +6,9 @@ const {
 } = require('./asking.js');
 const { OWN, Negotiator, Switcher } = require('./served.js');
 const { inOrder } = require('./menu.js');
+const { LOCALES, refuseLocale, damaged, spelled } = require('./cldr.js');
+
+const CHAINS = ['tiny', ...['', 'short-', 'long-', 'menu-', 'short-menu-'].flatMap((it) => [`${it}light`, `${it}heavy`])];
 
 // What is before the mark of an answer.
 function beforeMark(answer) {
@@ -18,10 +21,69 @@ function defaultOf(options) {
   return otherwise;
 }
 
-// The tables of two texts, or of two that are yet to come.
-function opened(texts) {
-  if (texts instanceof Promise) return texts.then(opened);
-  return Tables.fromJson(texts.tables, { supplement: texts.supplement });
+// What comes of a value that is there, or that is yet to come.
+function after(value, next) {
+  return value instanceof Promise ? value.then(next) : next(value);
+}
+
+// The tables of CLDR's two texts.
+function opened({ folder, tables, supplement }) {
+  try {
+    return Tables.fromJson(tables, { supplement });
+  } catch (refused) {
+    throw /^(Json|Shape)$/.test(refused.code) ? damaged(folder, refused.message) : refused;
+  }
+}
+
+// The first of a locale's chain that is in a list.
+function firstOfChain(base, list, locale) {
+  try {
+    return base.fallback(locale).map((it) => spelled(list, it)).find(Boolean) || refuseLocale(locale);
+  } catch (refused) {
+    return refuseLocale(locale);
+  }
+}
+
+/** The locales by which CLDR has what some locales ask: each itself, or the first of its chain. */
+function inChains(locales) {
+  return after(behind.toldOfCldr(LOCALES), (list) => {
+    const found = locales.map((it) => spelled(list, it));
+    if (found.every(Boolean)) return found;
+    return after(behind.textsOfCldr([]), (texts) => {
+      const base = opened(texts);
+      try {
+        return locales.map((it, place) => found[place] || firstOfChain(base, list, it));
+      } finally {
+        base.close();
+      }
+    });
+  });
+}
+
+/** The tables of CLDR's data, with names of a kind in some locales, as textsOf makes them. */
+function openedOfCldr(locales, kind) {
+  return after(behind.textsOfCldr(locales, kind), (texts) => {
+    if (!texts.missing.length) return opened(texts);
+    return after(inChains(locales), (found) => after(behind.textsOfCldr(found, kind), opened));
+  });
+}
+
+/** The version of CLDR whose data is inside, as `41`; undefined where there is none, or CLDR does not tell it. */
+function cldrVersion() {
+  return after(behind.toldOfCldr('version'), ([version]) => version);
+}
+
+/** The locales that CLDR has names in, in the order of their texts. */
+function cldrLocales() {
+  return behind.toldOfCldr(LOCALES);
+}
+
+// What is said of a command that is none, since a chain or preferences are none.
+function wrongName(chain, preferences) {
+  const words = CHAINS.includes(chain)
+    ? `the preferences ${shown(preferences)} are no identifier without variants`
+    : `${shown(chain)} is no chain; the chains are ${CHAINS.join(', ')}`;
+  return refusal('Command', words);
 }
 
 /** Tables, by `Tables.cldr` or `Tables.fromJson`. */
@@ -35,9 +97,12 @@ class Tables {
     this.#at = at;
   }
 
-  /** The tables of CLDR's data inside, with the names of some locales, or of `all`, and their supplement. */
+  /**
+   * The tables of CLDR's data inside, with the names of some locales, or of `all`, and their supplement. In the place of a
+   * locale that CLDR has no names in comes the first of its chain.
+   */
   static cldr(locales = []) {
-    return opened(behind.textsOfCldr(locales));
+    return openedOfCldr(locales);
   }
 
   /** The tables of a JSON text, a string or its bytes, and their supplement of another one. */
@@ -185,20 +250,32 @@ class Tables {
 
   /**
    * The name, in the language of the preferences. What the tables have no name for is a subtag there. With `fallback` it is
-   * in the first locale after the preferences that the tables have.
+   * in the first locale after the preferences that the tables have. Options may come in the place of the chain.
    */
-  name(identifier, preferences, chain = 'light', options = undefined) {
+  name(identifier, preferences, chain, options) {
+    return this.nameParts(identifier, preferences, chain, options).name;
+  }
+
+  /** The same, as `{ name, isRaw }`: whether a part of it has no name, and is a subtag. */
+  nameParts(identifier, preferences, chain, options) {
+    if (chain !== undefined && typeof chain !== 'string') return this.nameParts(identifier, preferences, 'light', chain);
     const { fallback = false, syntax } = optionsOf(options, 'fallback', 'syntax');
     for (const locale of fallback ? this.fallback(string(preferences)) : []) {
       try {
-        return this.name(identifier, locale, chain, { syntax });
+        return this.#named(identifier, locale, chain, syntax);
       } catch (refused) {
         if (refused.code !== 'IdentifierNotFound') throw refused;
       }
     }
+    return this.#named(identifier, preferences, chain, syntax);
+  }
+
+  #named(identifier, preferences, chain = 'light', syntax = undefined) {
     try {
-      return this.#form(`name ${string(chain)} ${string(preferences)}`, identifier, { syntax });
+      const told = this.#told(`name ${chain} ${string(preferences)}`, identifier, { syntax });
+      return { name: beforeMark(told), isRaw: told.endsWith('\tR') };
     } catch (refused) {
+      if (refused.code === 'Command') throw wrongName(chain, preferences);
       if (refused.code !== 'IdentifierNotFound') throw refused;
       throw refusal(refused.code, `the tables were made without the locale ${shown(preferences)}`);
     }
@@ -208,7 +285,8 @@ class Tables {
    * The languages of a list for a menu, as `{ locale, name, own }`: the locale as it was handed in, its name in one
    * language, and in itself. They are in the order of their names by Intl.Collator, or else by code point.
    */
-  menu(locales, language, chain = 'light', options = undefined) {
+  menu(locales, language, chain, options) {
+    if (chain !== undefined && typeof chain !== 'string') return this.menu(locales, language, 'light', chain);
     const { fallback } = optionsOf(options, 'fallback');
     const nameIn = (it, preferences) => this.name(it, preferences, chain, { fallback });
     const rows = listed(locales).map((locale) => ({ locale, name: nameIn(locale, language), own: nameIn(locale, locale) }));
@@ -224,4 +302,4 @@ class Tables {
   }
 }
 
-module.exports = { Tables };
+module.exports = { Tables, after, inChains, openedOfCldr, cldrVersion, cldrLocales };

@@ -1,8 +1,11 @@
 'use strict';
 // CLDR's data inside the package: its answers are those of tables of CLDR's folder, which are handed in as two files.
 const assert = require('assert');
+const childProcess = require('child_process');
 const fs = require('fs');
-const { Tables, Refused } = require('icu_locale');
+const os = require('os');
+const path = require('path');
+const { Tables, Refused, cldrLocales, cldrVersion } = require('icu_locale');
 
 const LANGUAGES = ['und', 'en', 'de', 'sr', 'zh', 'ar', 'iw', 'hy', 'sgn', 'mo', 'tlh', 'yue'];
 const SCRIPTS = ['', '-Latn', '-Arab', '-Hant', '-Qaai'];
@@ -67,8 +70,45 @@ function locales() {
     const [found, wanted] = [every, one].map((each) => IDENTIFIERS.map((it) => told(() => each.name(it, locale))));
     assert.deepStrictEqual(found, wanted, locale);
   }
-  ['xx', 'en-XX', 'all', '', 'no locale', 'base-and-supplement', '../data/en', 'en\0'].forEach(refusesLocale);
+  ['xx', 'all', '', 'no locale', 'base-and-supplement', '../data/en', 'en\0'].forEach(refusesLocale);
   for (const wrong of ['en', 5, [5], null, [undefined]]) assert.throws(() => Tables.cldr(wrong), TypeError);
+}
+
+// In the place of a locale comes the first of its chain.
+function chains() {
+  const tables = Tables.cldr(['zh_TW', 'en-XX', 'de-u-co-phonebk']);
+  assert.strictEqual(tables.name('it', 'zh-Hant-TW'), '義大利文');
+  assert.strictEqual(tables.name('it', 'zh-TW', { fallback: true }), '義大利文');
+  assert.deepStrictEqual(['en', 'de'].map((it) => tables.name('it', it)), ['Italian', 'Italienisch']);
+  const list = cldrLocales();
+  assert.deepStrictEqual(list, [...list].sort());
+  assert.ok(list.includes('zh-Hant') && !list.includes('zh-TW'));
+  assert.match(cldrVersion(), /^[0-9.]+$/);
+}
+
+// A copy of the package whose data has a fault says which file has it.
+function damage() {
+  const folder = path.dirname(require.resolve('icu_locale'));
+  const data = [path.join(folder, 'data'), path.join(folder, '..', '..', 'out', 'data')].find((it) => fs.existsSync(it));
+  const work = fs.mkdtempSync(path.join(os.tmpdir(), 'icu_locale-'));
+  try {
+    for (const name of fs.readdirSync(folder).filter((it) => /\.js(on)?$/.test(it))) fs.copyFileSync(path.join(folder, name), path.join(work, name));
+    fs.mkdirSync(path.join(work, 'data'));
+    for (const name of ['base-and-supplement.gz', 'locales', 'de.gz']) fs.copyFileSync(path.join(data, name), path.join(work, 'data', name));
+    const whole = fs.readFileSync(path.join(data, 'en.gz'));
+    const { textsOfFolder } = require(path.join(work, 'data.js'));
+    const words = ['-p', 'require("icu_locale").Tables.cldr(["de"]).name("de-AT", "de")'];
+    const env = { ...process.env, ICU_LOCALE_DATA: path.join(work, 'data') };
+    const said = childProcess.execFileSync(process.execPath, [...process.execArgv, ...words], { env, encoding: 'utf8' });
+    assert.strictEqual(said, 'Österreichisches Deutsch\n');
+    for (const wrong of [whole.subarray(0, -9), Buffer.from('no file'), whole.map((it, at) => (at === 99 ? it ^ 8 : it))]) {
+      fs.writeFileSync(path.join(work, 'data', 'en.gz'), wrong);
+      assert.throws(() => textsOfFolder(['en']), { name: 'Refused', code: 'NoCldr', message: /data\/en\.gz is damaged: / });
+      assert.deepStrictEqual(textsOfFolder(['de']).missing, []);
+    }
+  } finally {
+    fs.rmSync(work, { recursive: true });
+  }
 }
 
 const files = process.argv.slice(2);
@@ -76,6 +116,8 @@ if (/inside/.test(told(() => Tables.cldr() && ''))) {
   console.log('data: the package has none inside');
 } else {
   locales();
+  chains();
+  damage();
   extensions();
   if (files.length) compared(...files);
   console.log(`data: as it should be${files.length ? '' : ', not compared: there is no unicode-cldr-core'}`);

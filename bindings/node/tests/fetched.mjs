@@ -5,7 +5,7 @@ import fs from 'fs';
 import http from 'http';
 import path from 'path';
 import { createRequire } from 'module';
-import { Tables as Here } from 'icu_locale';
+import { Tables as Here, cldrLocales as hereLocales, cldrVersion as hereVersion } from 'icu_locale';
 
 const require = createRequire(import.meta.url);
 const folder = path.dirname(require.resolve('icu_locale'));
@@ -24,7 +24,8 @@ function file(address) {
 const server = http.createServer((request, response) => {
   try {
     const found = file(request.url);
-    const bytes = typeof found === 'string' ? fs.readFileSync(found) : found;
+    const whole = typeof found === 'string' ? fs.readFileSync(found) : found;
+    const bytes = request.url.startsWith('/cut') ? whole.subarray(0, whole.length / 2) : whole;
     const headers = {};
     if (request.url.endsWith('.wasm') && !request.url.startsWith('/other')) headers['content-type'] = 'application/wasm';
     if (request.url.startsWith('/unpacked') && request.url.endsWith('.gz')) headers['content-encoding'] = 'gzip';
@@ -47,8 +48,12 @@ async function loads(address) {
   assert.throws(() => Tables.fromJson(example), { name: 'Refused', code: 'NotLoaded', message: /await load\(\)/ });
   await assert.rejects(load({ module: `${address}/missing.wasm` }), { code: 'NotLoaded', message: /404/ });
   await assert.rejects(load({ modul: 1 }), TypeError);
-  const [first, second] = await Promise.all([load({ module: `${address}/icu_locale.wasm` }), load()]);
-  assert.strictEqual(first.Tables, second.Tables);
+  const place = { module: `${address}/icu_locale.wasm` };
+  const [first, second, third] = await Promise.all([load(place), load(), load({ ...place })]);
+  assert.ok(first.Tables === second.Tables && first.Tables === third.Tables);
+  for (const other of [{ data: `${address}/data/` }, { module: `${address}/other/icu_locale.wasm` }]) {
+    await assert.rejects(load(other), { code: 'NotLoaded', message: /^NotLoaded: the package is loaded with (data|module) of another place/ });
+  }
   assert.strictEqual(Tables.fromJson(example).maximize('zh-TW'), 'zh-Hant-TW');
   assert.throws(() => Tables.fromJson('{'), Refused);
 }
@@ -76,19 +81,34 @@ async function fetches(address) {
       assert.strictEqual(outside.name(it, 'zh-Hant'), inside.name(it, 'zh-Hant'));
     }
     assert.strictEqual(outside.serve('gsw', ['en', 'de']), 'de');
-    for (const word of ['xx', 'en-XX', '../data/en', 'base-and-supplement', '']) {
+    for (const word of ['xx', '../data/en', 'base-and-supplement', '']) {
       await assert.rejects(Tables.cldr([word]), { code: 'NoCldr', message: `NoCldr: CLDR has no locale ${JSON.stringify(word)}` });
     }
     await assert.rejects(Tables.cldr('en'), TypeError);
   }
-  const { Tables } = await (await fresh()).load({ module, data: `${address}/data/` });
+  const { Tables, DisplayNames, Locale, cldrLocales, cldrVersion } = await (await fresh()).load({ module, data: `${address}/data/` });
+  assert.strictEqual((await Tables.cldr(['zh-TW'])).name('it', 'zh-Hant-TW'), '義大利文');
+  assert.deepStrictEqual([await cldrVersion(), await cldrLocales()], [hereVersion(), hereLocales()]);
+  assert.strictEqual((await DisplayNames.load(['tlh', 'de-CH'], { type: 'region' })).of('us'), 'Vereinigte Staaten');
+  assert.throws(() => new DisplayNames('de', { type: 'region' }), { code: 'NotLoaded', message: /await DisplayNames\.load/ });
+  await assert.rejects(DisplayNames.load('tlh', { type: 'region' }), { code: 'NoCldr' });
+  assert.throws(() => new Locale('zh').maximize(), { code: 'NotLoaded', message: /hand in tables/ });
+  assert.strictEqual(`${new Locale('zh').maximize(await Tables.cldr())}`, 'zh-Hans-CN');
   assert.strictEqual((await Tables.cldr('all')).name('it', 'hi'), Here.cldr(['hi']).name('it', 'hi'));
+}
+
+// A file that is cut off on its way is named.
+async function damage(address) {
+  const { Tables } = await (await fresh()).load({ module: `${address}/icu_locale.wasm`, data: `${address}/cut/data/` });
+  await assert.rejects(Tables.cldr(['en']), { code: 'NoCldr', message: new RegExp(`^NoCldr: ${address}/cut/data/[a-z-]+\\.gz is damaged: `) });
 }
 
 async function withoutData(address) {
   const { Tables } = await (await fresh()).load({ module: `${address}/icu_locale.wasm`, data: `${address}/nothing/` });
   for (const locales of [[], ['en'], 'all']) {
-    await assert.rejects(Tables.cldr(locales), { code: 'NoCldr', message: /^NoCldr: this package has none of CLDR's data inside/ });
+    const name = locales === 'all' ? 'languages' : 'base-and-supplement.gz';
+    const message = `NoCldr: ${address}/nothing/${name} is answered by 404, so that there is none of CLDR's data`;
+    await assert.rejects(Tables.cldr(locales), { code: 'NoCldr', message });
   }
 }
 
@@ -98,6 +118,7 @@ const address = `http://127.0.0.1:${server.address().port}`;
 await loads(address);
 await loadsOtherwise(address);
 if (data) await fetches(address);
+if (data) await damage(address);
 await withoutData(address);
 server.close();
 console.log(`fetched: as it should be${data ? '' : ', without data'}`);

@@ -1,7 +1,9 @@
 'use strict';
 // A locale as an object. What can be asked of Intl.Locale is compared with it.
 const assert = require('assert');
-const { Locale } = require('icu_locale');
+const fs = require('fs');
+const util = require('util');
+const { Locale, Tables } = require('icu_locale');
 
 const refuses = (call, code) => assert.throws(call, (error) => error.code === code);
 
@@ -27,6 +29,24 @@ for (const text of ['en', 'und', 'de-Latn-DE-1996', 'ar-EG-u-nu-arab-hc-h23', 't
   }
   assert.strictEqual(String(here), String(there));
 }
+
+// options stand in the place of parts, as those of Intl.Locale do
+for (const [text, options] of [
+  ['en', { script: 'Latn', region: 'GB' }], ['de-1996', { calendar: 'roc', numeric: true, caseFirst: 'upper' }],
+  ['zh-TW-u-ca-roc-kn-x-a', { language: 'yue', numeric: false, hourCycle: 'h12' }], ['ja-t-en-m0-din', { collation: 'unihan' }],
+  ['en-a-foo-u-nu-latn', { numberingSystem: 'arab', region: undefined }],
+]) {
+  const [here, there] = [new Locale(text, options), new Intl.Locale(text, options)];
+  assert.strictEqual(String(here), String(there));
+  assert.deepStrictEqual([here.numeric, here.caseFirst], [there.numeric, there.caseFirst]);
+}
+for (const wrong of [{ region: 'english' }, { calendar: 'a' }, { script: 'Latn-US-u-ca' }]) refuses(() => new Locale('en', wrong), 'InvalidSubtag');
+assert.throws(() => new Locale('en', { calendar: 5 }), TypeError);
+assert.strictEqual(util.inspect(locale), "Locale 'zh-Hant-TW-u-ca-roc-nu-hanidec'");
+const likely = Tables.fromJson(fs.readFileSync(require.resolve('icu_locale/example.json')));
+const [taiwan, arabic] = [new Locale('zh-TW-u-ca-roc'), new Locale('ar')];
+assert.deepStrictEqual([String(taiwan.maximize(likely)), String(taiwan.maximize(likely).minimize(likely))], ['zh-Hant-TW-u-ca-roc', 'zh-TW-u-ca-roc']);
+assert.deepStrictEqual([arabic.getTextInfo(likely), new Locale('und').getTextInfo(likely)], [{ direction: 'rtl' }, { direction: undefined }]);
 
 assert.strictEqual(String(new Locale('de_DE.UTF-8', { syntax: 'posix' })), 'de-DE');
 assert.strictEqual(String(new Locale(Buffer.from('fr-ca'))), 'fr-CA');

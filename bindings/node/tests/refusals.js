@@ -43,6 +43,9 @@ const REFUSED = [
   [() => round({ parents: { aa: 'qbb', qbb: 'aa' } }).fallback('aa'),
     'Circle: the parents behind the locale lead round in a circle: "aa"'],
   [() => tables.name('it', 'de'), 'IdentifierNotFound: the tables were made without the locale "de"'],
+  [() => tables.name('it', 'en', 'lihgt'), 'Command: "lihgt" is no chain; the chains are tiny, light, heavy, short-light, '
+    + 'short-heavy, long-light, long-heavy, menu-light, menu-heavy, short-menu-light, short-menu-heavy'],
+  [() => tables.name('it', 'en-fonipa'), 'Command: the preferences "en-fonipa" are no identifier without variants'],
   [() => tables.answer('name light de', 'it'),
     'IdentifierNotFound: the tables were made without the locale of the preferences: "it"'],
   [() => Tables.cldr(['no locale']), /^NoCldr: (CLDR has no locale "no locale"|this package has none of CLDR's data inside; .*)$/],
@@ -75,6 +78,14 @@ for (const call of [
   () => tables.name('it', `en-${long}`), () => tables.nearest([long], ['en']), () => tables.areSame('en', long), () => tables.answer(long, 'en'), () => Tables.cldr([long]),
   () => tables.canonicalize(`${long}\t`),
 ]) assert.throws(call, (fault) => fault instanceof Refused && fault.message.length < 200);
+
+// options in the place of the chain, and raw parts
+assert.strictEqual(tables.name('it', 'en-US', { fallback: true }), 'Italian');
+assert.deepStrictEqual(tables.nameParts('it-Qabc-150', 'en'), { name: 'Italian (Qabc, Europe)', isRaw: true });
+assert.deepStrictEqual(tables.nameParts('ku', 'en-US', 'menu-light', { fallback: true }), { name: 'Kurdish (Kurmanji)', isRaw: false });
+assert.strictEqual(tables.menu(['en-US'], 'en', { fallback: true })[0].own, 'English (United States)');
+assert.strictEqual(require('util').inspect(tables.switcher(['en'], { default: 'en' })), "Switcher of [ 'en' ], or else 'en'");
+assert.strictEqual(require('util').inspect(tables.negotiator(['en', 'de'])), "Negotiator of [ 'en', 'de' ]");
 
 // what no call takes
 const { implementation, load } = require('icu_locale');

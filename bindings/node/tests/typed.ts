@@ -1,5 +1,8 @@
 // Each call with the types that it takes and gives, for tsc --strict.
-import { Headers, Locale, Match, MenuRow, Negotiator, Refused, Switcher, Tables, implementation, load } from 'icu_locale';
+import {
+  Chain, DisplayNames, Headers, Locale, Match, MenuRow, Negotiator, Refused, Switcher, Tables, cldrLocales, cldrVersion,
+  implementation, load,
+} from 'icu_locale';
 
 const tables: Tables = Tables.fromJson('{}');
 const opened: Tables[] = [Tables.cldr(), Tables.cldr(['en', 'de']), Tables.cldr('all')];
@@ -21,6 +24,12 @@ const distance: number = tables.distance('en-AU', new Uint8Array(2), { syntax: '
 const same: boolean = tables.areSame('sh', 'sr-Latn');
 const locale: Locale = new Locale('zh-Hant-TW', { syntax: 'bcp47' });
 const parts: (string | undefined)[] = [locale.language, locale.script, ...locale.variants, locale.keywords.ca];
+const maximal: Locale = new Locale('zh', { calendar: 'roc', numeric: true }).maximize(tables);
+const runs: 'ltr' | 'rtl' | undefined = maximal.getTextInfo().direction;
+const chain: Chain = 'menu-light';
+const named: { name: string; isRaw: boolean } = tables.nameParts('it', 'en', chain, { fallback: true });
+const short: string[] = [named.name, tables.name('it', 'en', { fallback: true }), cldrVersion() || '', ...cldrLocales()];
+const region: string | undefined = new DisplayNames(['de', locale], { type: 'region', style: 'short' }).of('US');
 const menu: MenuRow[] = tables.menu(['en', 'de'], 'en', 'light', { fallback: true });
 const by: 'module' | 'addon' = implementation;
 load().then((it) => it.Tables.cldr(['en']));
@@ -47,6 +56,10 @@ tables.negotiator(['de'], { syntax: 'utf8' });
 locale.region = 'HK';
 // @ts-expect-error: tables are made by calls of their own
 new Tables();
+// @ts-expect-error: no chain is called so
+tables.name('it', 'en', 'lihgt');
+// @ts-expect-error: no names of currencies
+new DisplayNames('de', { type: 'currency' });
 // @ts-expect-error: no refusal is called so
 new Refused('Nothing');
-export { opened, forms, canonical, both, direction, settled, match, extended, served, always, other, distance, same, parts, menu, by };
+export { opened, forms, canonical, both, direction, settled, match, extended, served, always, other, distance, same, parts, runs, short, region, menu, by };
