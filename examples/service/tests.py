@@ -12,6 +12,7 @@ is 1 where something is wrong.
 """
 from __future__ import annotations
 
+import contextlib
 import json
 import shutil
 import signal
@@ -34,6 +35,7 @@ from script import Words  # noqa: E402
 import switcher  # noqa: E402
 from switcher import Stream  # noqa: E402
 
+SLOWEST = 13  # seconds: a reader may take ten
 LOCALES = ["en", "de", "ar", "ja", "zh-Hant", "sr-Latn"]
 # A header, what is served for it, and which way that runs.
 SERVED = [
@@ -128,7 +130,10 @@ def check_http(address: str) -> list[str]:
             faults.append(f"/{path}: {told}")
         if told["HEAD"][3] or not told["GET"][3] or (status == 200 and told["GET"][2] != told["HEAD"][2]):
             faults.append(f"/{path}: HEAD is not GET without its body")
-    return faults
+    with connected(address) as reader:
+        reader.sendall(b"GET http://[::1/menu HTTP/1.0\r\n\r\n")
+        told = reader.makefile("rb").readline()
+    return faults + ([] if b" 400 " in told else [f"http://[::1/menu: {told!r}"])
 
 
 def asked(address: str, method: str) -> tuple[int, str | None, str | None, bytes]:
@@ -183,6 +188,21 @@ def check_end(service: subprocess.Popen[str], address: str, number: int) -> list
         return [f"signal {number}: it does not end"]
     is_so = half and status == 0 and counts["whole"] > 8 and not counts["cut"]
     return [] if is_so else [f"signal {number}: {counts}, half a question answered: {half}, status {status}"]
+
+
+def check_dripping(service: subprocess.Popen[str], address: str) -> list[str]:
+    """What is wrong where a reader sends a byte now and then, and the service is to end."""
+    with connected(address) as reader:
+        reader.sendall(b"GET /menu HTTP/1.0\r\nX: ")
+        service.send_signal(signal.SIGTERM)
+        begun = time.monotonic()
+        while service.poll() is None and time.monotonic() - begun < 30:
+            with contextlib.suppress(OSError):
+                reader.sendall(b"x")
+            time.sleep(0.3)
+    took = time.monotonic() - begun
+    service.kill()
+    return [] if took < SLOWEST else [f"a reader that drips: the service takes {took:.0f} s to end"]
 
 
 def check_service(address: str) -> list[str]:
@@ -257,6 +277,8 @@ def main() -> int:
             if number == signal.SIGTERM:
                 faults += check_service(address) + check_http(address) + check_page(address, words.picture)
             faults += check_end(service, address, number)
+    with subprocess.Popen(command, stdout=subprocess.PIPE, text=True) as service:
+        faults += check_dripping(service, service.stdout.readline().strip())
     for fault in faults[:20]:
         print(fault)
     print(times(stream, program, tables))
