@@ -1,7 +1,7 @@
 'use strict';
 // A locale as an object: its parts, as the proved library tells them. index.d.ts says what each is.
 const { optionsOf, wordsIn } = require('./asking.js');
-const { refusal } = require('./refused.js');
+const { refusal, shown } = require('./refused.js');
 const { Tables } = require('./tables.js');
 
 // What asks no table is asked of tables that hold nothing, and likely subtags of CLDR's.
@@ -35,9 +35,13 @@ function withOptions(text, options) {
   const { syntax, ...others } = optionsOf(options, 'syntax', ...PARTS, ...Object.keys(KEYS));
   const wanted = Object.entries(others).filter(([, value]) => value !== undefined);
   if (!wanted.length) return [text, { syntax }];
-  const parts = Object.fromEntries(wanted.filter(([name]) => PARTS.includes(name)));
+  const parts = wanted.filter(([name]) => PARTS.includes(name)).map(([name, value]) => [name, valueOf(value)]);
   const values = wanted.filter(([name]) => name in KEYS).map(([name, value]) => [KEYS[name], valueOf(value)]);
-  return [written(new Locale(text, { syntax }), parts, Object.fromEntries(values)), undefined];
+  const its = new Locale(written(new Locale(text, { syntax }), Object.fromEntries(parts), Object.fromEntries(values)));
+  const isOther = ([name, value], found) => value.toLowerCase().replace(/^true$/, '') !== (found || '').toLowerCase();
+  const wrong = parts.find((row) => isOther(row, its[row[0]])) || values.find((row) => isOther(row, its.keywords[row[0]]));
+  if (wrong) throw refusal('InvalidSubtag', `${shown(wrong[1])} is not read as ${wrong[0]}`);
+  return [String(its), undefined];
 }
 
 // The text of a locale with other parts, and with further keywords.

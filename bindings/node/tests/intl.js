@@ -74,7 +74,14 @@ const kindOf = (kinds, ...facts) => (kinds.find(([, fits]) => fits(...facts)) ||
 const FIELDS_OF_INTL = ['baseName', 'language', 'script', 'region', 'calendar', 'collation', 'hourCycle', 'caseFirst', 'numeric',
   'numberingSystem'];
 
+const OF_PARTS = [
+  ['the language und, which is undefined there', (name, here, there) => name === 'language' && here === 'und' && there === undefined],
+  ['u-va-posix, which is in baseName there', (name, here, there) => name === 'baseName' && there === `${here}-u-va-posix`],
+  ['a value that is left out, which is empty here, and true there', (name, here, there) => here === '' && there === 'true'],
+];
 const OF_LIKELY = [
+  ['Zzzz or ZZ, which stays there', (text) => /-(zzzz|zz)\b/i.test(text.replace(/-[tu]-.*/i, ''))],
+  ['und for which nothing is told, which is English there', (text, here, there) => /^und\b/i.test(here) && /^en\b/.test(there)],
   ['likely subtags of another version of CLDR', () => VERSIONS_DIFFER],
 ];
 
@@ -86,7 +93,10 @@ function comparedLocales(tables) {
     if (String(here) !== String(there)) {
       count(kindOf(OF_LOCALES, text, here, there), text, here, there);
     } else if (here) {
-      for (const name of FIELDS_OF_INTL) assert.strictEqual(here[name], there[name], `${name} of ${text}`);
+      for (const name of FIELDS_OF_INTL) {
+        const [ours, theirs] = [here[name], there[name]];
+        if (ours !== theirs) count(kindOf(OF_PARTS, name, ours, theirs), `${name} of ${text}`, ours, theirs);
+      }
       for (const call of ['maximize', 'minimize']) {
         const [ours, theirs] = [here[call](tables), there[call]()].map(String);
         if (ours !== theirs) count(kindOf(OF_LIKELY, text, ours, theirs), `${call} ${text}`, ours, theirs);
@@ -108,8 +118,13 @@ const CODES = {
 
 // The same of names. Either may be null, where the code is refused.
 const OF_NAMES = [
-  ['a code in lower case, which is refused there', (type, code, here, there) => there === null && code !== code.toUpperCase()],
-  ['extensions, which are refused there', (type, code, here, there) => there === null && /-u-/.test(code)],
+  ['a code in lower case, which is no name there', (type, code, here, there) => type !== 'language' && code !== code.toUpperCase()
+    && (there === null || there === code)],
+  ['extensions, which are left out there', (type, code) => /-u-/.test(code)],
+  ['the language und, which is called root there', (type, code, here, there) => code === 'und' && there === 'root'],
+  ['a dialect with a script and a region', (type, code) => type === 'language' && /^[a-z]+-[A-Z][a-z]{3}-[A-Z]/.test(code)],
+  ['brackets inside of brackets, which are square there', (type, code, here, there) => here && there
+    && here === there.replace(/\[/g, '(').replace(/\]/g, ')')],
   ['a language of five to eight letters, which is read there alone', (type, code, here) => here === null && /^[a-z]{5,8}$/.test(code)],
   ['a script that is called otherwise alone', (type, code) => type === 'script' && /^Han[st]$/.test(code)],
   ['a code that has an alias, which is looked up there', (type, code, here, there, tables) => tables.canonicalize(written(type, code))

@@ -177,7 +177,7 @@ class Words(unittest.TestCase):
 
     def test_version(self):
         self.assertEqual(called("--version"), (0, f"icu-locale {version()}\n", ""))
-        self.assertEqual(called("version"), (0, f"icu-locale: {version()}\ndata: {_data.data_folder()}\n", ""))
+        self.assertEqual(called("version"), (0, f"icu-locale: {version()}\nCLDR: {_data.cldr_version()}\ndata: {_data.data_folder()}\n", ""))
         self.assertEqual(json.loads(called("version --json")[1])["icu-locale"], version())
 
     def test_completion(self):

@@ -130,7 +130,7 @@ class Data(unittest.TestCase):
                 with self.assertRaisesRegex(NoCldr, f"{work}(/en.gz)? is damaged"):
                     Tables.cldr(["en"])
             Tables.cldr().close()
-            for fault in (b"no file", gzip.compress(b""), gzip.compress(b"{\n}\n{\n}")):
+            for fault in (b"no file", gzip.compress(b""), gzip.compress(b"{\n}\n[\n}")):
                 (copy / "base-and-supplement.gz").write_bytes(fault)
                 with self.assertRaisesRegex(NoCldr, f"{work}(/base-and-supplement.gz)? is damaged"):
                     Tables.cldr()

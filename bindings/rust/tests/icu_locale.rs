@@ -63,7 +63,7 @@ fn directions() {
     let directionality = LocaleDirectionality::new_with_expander(LocaleExpander::new_extended());
     let (left, right) = (Some(Direction::LeftToRight), Some(Direction::RightToLeft));
     for (text, wanted) in
-        [("en", left), ("en-US", left), ("ar", right), ("en-Arab", right), ("jbn", right), ("foo", None), ("und-Latn", left)]
+        [("en", left), ("en-US", left), ("ar", right), ("en-Arab", right), ("ckb", right), ("foo", None), ("und-Latn", left)]
     {
         let langid: LanguageIdentifier = text.parse().unwrap();
         assert_eq!(directionality.get(&langid), wanted, "{text}");
