@@ -24,11 +24,11 @@ fn transform<T: Display + FromStr>(command: &str, value: &mut T) -> TransformRes
 /// use icu_locale_calls::icu_locale::{langid, LocaleExpander, TransformResult};
 /// # if icu_locale_calls::Tables::cldr(&[]).is_err() { return }
 /// let expander = LocaleExpander::new_extended();
-/// let mut found = langid!("sr-ME");
+/// let mut found = langid!("uz-AF");
 /// assert_eq!(expander.maximize(&mut found), TransformResult::Modified);
-/// assert_eq!(found, langid!("sr-Latn-ME"));
+/// assert_eq!(found, langid!("uz-Arab-AF"));
 /// assert_eq!(expander.minimize_favor_script(&mut found), TransformResult::Modified);
-/// assert_eq!(found, langid!("sr-Latn"));
+/// assert_eq!(found, langid!("uz-Arab"));
 /// ```
 #[derive(Clone, Debug)]
 pub struct LocaleExpander(());

@@ -9,10 +9,11 @@
 //! assert_eq!(found, locale!("zh-Hant-TW-u-ca-roc"));
 //! ```
 //!
-//! What differs: `new_common` knows every language too; `locale!` and its like read their text when the program runs, and
-//! panic where it is none; keys and values of extensions are texts that were read; there are no constructors over a
-//! provider, and no exemplars; a name of a whole identifier is a text, and `LanguageDisplay::Standard` is refused. Any call
-//! but those that only read a text panics where the crate was made without data.
+//! What differs: `new_common`, `tiny` and `light` have all of CLDR's data, whose version `cldr_version` tells; `locale!` and
+//! its like read their text when the program runs, and panic where it is none; keys and values of extensions are texts that
+//! were read; there are no constructors over a provider, and no exemplars; a name is a text, and
+//! `LanguageDisplay::Standard` is refused. Any call but those that only read a text panics where the crate was made without
+//! data.
 mod extensions;
 mod forms;
 mod identifiers;
