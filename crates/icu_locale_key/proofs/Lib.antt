@@ -1,3 +1,4 @@
+pub mod AtOnce
 pub mod Ends
 pub mod Filled
 pub mod Forms

@@ -18,6 +18,7 @@ use Rattle.icu_locale_values.specs.declared.error.WholeError.TheVariants.{Memory
 use Rattle.icu_locale_key.specs.Keys.{IsKey}
 use Rattle.icu_locale_key.specs.Stable.{IsStableKey, IsStuck, ComesRound}
 use Rattle.icu_locale_key.specs.Whole.{IsWholeKey, HasNoKey, IsWholeKeyRefusal}
+use Rattle.icu_locale_key.proofs.AtOnce.{stable_of_own}
 use Rattle.icu_locale_key.proofs.Forms.{same_minimal_form}
 use Rattle.icu_locale_key.proofs.KeyRuns.{ends_stable, stable_is_one, stable_of_equal}
 use Rattle.icu_locale_key.proofs.Unsettled as unsettled
@@ -34,18 +35,9 @@ pub record Facts : Type 0 where
 -- a key that is its own is the key that stays of its canonical form
 own_of_end : (table : LikelySubtags) (rules : Rules) (k : LanguageIdentifier) (own : IsKey RegionFirst table rules k k)
     → IsStableKey RegionFirst table rules own.canonical k
-own_of_end table rules k own = by (same_parts k own.canonical) refl
-  where
-    is : IsKey RegionFirst table rules own.canonical k
-    is = record { canonical = own.canonical; end = alone (next table rules) own.canonical own.end.last; minimal = own.minimal }
-
-    by : (b : Bool) → same_parts k own.canonical ≡ b → IsStableKey RegionFirst table rules own.canonical k
-    by true e = record { turns = 0; comes = sym ((identifiers_decide k own.canonical).0 e); own = own }
-    by false e = record {
-      turns = 1;
-      comes = (own.canonical, refl, (is, λ same. false≢true (sym e ∙ (identifiers_decide k own.canonical).1 same)));
-      own = own;
-    }
+own_of_end table rules k own =
+    stable_of_own table rules own.canonical k
+    (record { canonical = own.canonical; end = alone (next table rules) own.canonical own.end.last; minimal = own.minimal }) own
 
 module _ (facts : Facts) (by : WholeRules) where
   -- what comes again first, where some whole canonical form has no key that stays

@@ -1,2 +1,3 @@
 pub mod Universe
 pub mod KeyRun
+pub mod AtOnce

@@ -16,6 +16,26 @@ use crate::laws;
 use icu_locale::{CanonicalizeError, CanonicalizerRef};
 use icu_locale_core::LanguageIdentifier;
 
+// A copy of an identifier in its canonical form.
+pub(crate) fn canonical_copy(
+    canonicalizer: &CanonicalizerRef<'_>,
+    id: &LanguageIdentifier,
+) -> Result<LanguageIdentifier, CanonicalizeError>
+    ensures end { IfOk result (EndsAt (next (likely canonicalizer.now.expander)
+        (lent canonicalizer.now.rules)) id.now) }
+    ensures refused { IfErr result (IsKeyRefusal (likely canonicalizer.now.expander)
+        (lent canonicalizer.now.rules) id.now) }
+{
+    let mut copy = match id.try_clone() {
+        Ok(copy) => copy,
+        Err(_) => return Err(CanonicalizeError::Memory),
+    };
+    match canonicalizer.canonicalize_identifier(&mut copy) {
+        Ok(_) => Ok(copy),
+        Err(refusal) => Err(refusal),
+    }
+}
+
 /// Brings an identifier to its key: the minimal form of its canonical form, which favors the region. A key need not be
 /// its own key, as `is_own_key` tells; one that is comes of `bring_to_stable_key`. It takes no memory but that of
 /// `canonicalize_identifier`.

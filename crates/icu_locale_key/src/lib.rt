@@ -1,6 +1,7 @@
 //! One key for a locale, in a store: the minimal form of its canonical form, and the key that stays.
 #![tactic(auto)]
 
+mod at_once;
 mod filling;
 mod keys;
 pub mod laws;
@@ -9,4 +10,4 @@ mod whole;
 
 pub use keys::{bring_to_key, bring_to_key_favor_script, is_own_key, keys_are_stable};
 pub use stable::{bring_to_stable_key, bring_to_stable_key_counted};
-pub use whole::key_of_whole;
+pub use whole::{key_of_identifier, key_of_whole};

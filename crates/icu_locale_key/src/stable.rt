@@ -10,7 +10,9 @@ ghost use Rattle.icu_locale_key.specs.Stable.{IsStableKey, IsStuck, ComesRound, 
 ghost use Rattle.icu_locale_key.specs.inner.KeyRun.{key_step, other_than, IsRepeatOf};
 ghost use Rattle.icu_locale_key.specs.inner.Universe.{key_universe};
 
-use crate::keys::bring_to_key;
+use crate::at_once::stays_at_once;
+use crate::keys::{bring_to_key, canonical_copy};
+use crate::laws as own;
 use icu_locale::{CanonicalizeError, CanonicalizerRef, Turns, laws};
 use icu_locale_core::LanguageIdentifier;
 use icu_locale_runs::{Outcome, Rewriting, end_of_run};
@@ -123,6 +125,16 @@ pub fn bring_to_stable_key(
         (lent canonicalizer.now.rules) id.old z
         → (result ≡ Err (CanonicalizeError.NoFixedPoint z)) ⊎ IsOutOfMemory result }
 {
+    laws::minimal_form_is_one();
+    own::stable_key_is_one();
+    let mut key = match canonical_copy(canonicalizer, id) {
+        Ok(key) => key,
+        Err(refusal) => return Err(refusal),
+    };
+    if stays_at_once(&canonicalizer.expander, &mut key) {
+        *id = key;
+        return Ok(());
+    }
     bring_to_stable_key_counted(canonicalizer, id, &mut Turns::new())
 }
 

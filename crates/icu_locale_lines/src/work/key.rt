@@ -14,7 +14,7 @@ use crate::work::locale::add_refusal;
 use icu_locale::TransformResult;
 use icu_locale_core::LanguageIdentifier;
 use icu_locale_extensions::{LocaleIdentifier, Syntax, laws};
-use icu_locale_key::key_of_whole;
+use icu_locale_key::{key_of_identifier, key_of_whole};
 use icu_locale_values::WholeCanonicalizer;
 
 // What is brought to a key, and by what.
@@ -34,11 +34,10 @@ impl<'d> Answering for Keying<'d> {
         text: &mut Vec<u8>,
         identifier: &mut LanguageIdentifier,
     ) -> Result<bool, CliError> {
-        let Ok(copy) = identifier.try_clone() else {
-            return Err(CliError::Memory);
-        };
-        let alone = LocaleIdentifier::new(*text.allocator(), copy);
-        add_key_of(text, &self.canonicalizer, &alone)
+        match key_of_identifier(&self.canonicalizer, identifier) {
+            Ok(key) => add_changed(text, &key, changed_from(identifier, &key)),
+            Err(refusal) => add_refusal(text, refusal),
+        }
     }
 
     fn add_whole_line(
@@ -94,6 +93,17 @@ fn changed_to(locale: &LocaleIdentifier, key: &LocaleIdentifier) -> TransformRes
 {
     laws::equality_is_told();
     if key == locale {
+        TransformResult::Unmodified
+    } else {
+        TransformResult::Modified
+    }
+}
+
+// Whether an identifier differs from its key.
+fn changed_from(identifier: &LanguageIdentifier, key: &LanguageIdentifier) -> TransformResult
+    ensures { (result ≡ Modified) ↔ (key.now ≢ identifier.now) }
+{
+    if key == identifier {
         TransformResult::Unmodified
     } else {
         TransformResult::Modified

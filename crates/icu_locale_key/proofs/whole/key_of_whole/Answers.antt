@@ -1,11 +1,9 @@
-use Rattle.std.proofs.Common.{inr, refl, subst}
-use Rattle.icu_locale.specs.declared.expander.Favor.TheVariants.{RegionFirst}
+use Rattle.std.proofs.Common.{inr, refl, sym, subst}
 use Rattle.icu_locale_extensions.specs.declared.identifier.LocaleIdentifier.{LocaleIdentifier}
 use Rattle.icu_locale_values.specs.Refusals.{IsWholeRefusal}
 use Rattle.icu_locale_values.specs.Whole.{IsWhole, whole_rules}
-use Rattle.icu_locale_values.specs.declared.error.WholeError.TheVariants.{NoFixedPoint}
-use Rattle.icu_locale_key.specs.Stable.{IsStableKeyRefusal}
-use Rattle.icu_locale_key.specs.Whole.{HasNoKey, IsWholeKeyRefusal}
+use Rattle.icu_locale_key.specs.Whole.{IsWholeKeyRefusal}
+use Rattle.icu_locale_key.proofs.AtOnce.{refusal_of_canonical}
 use Rattle.icu_locale_key.proofs.WholeKeys.{refusal_of_whole}
 use Rattle.icu_locale_key.proofs.whole.key_of_whole.Goals as goal
 
@@ -25,43 +23,41 @@ returns-in-Err-canonicalize-clause-there c k is =
     inr (c.whole_key_is_one.ensures.not_both by c.args.locale.now k e is why)
 
 -- with the key that stays
-pub returns-in-Ok-bring_to_stable_key-clause-key : goal.returns-in-Ok-bring_to_stable_key-clause-key
-returns-in-Ok-bring_to_stable_key-clause-key c =
+pub returns-in-Ok-bring_canonical_to_stable_key-clause-key : goal.returns-in-Ok-bring_canonical_to_stable_key-clause-key
+returns-in-Ok-bring_canonical_to_stable_key-clause-key c =
     let by = whole_rules c.args.canonicalizer.now in
     let canonical = c.canonicalize.new.locale in
     record {
       canonical = canonical;
       maps = c.know_maps.ensures;
       whole = subst (λ (x : LocaleIdentifier). IsWhole by x canonical) c.in-Ok.ensures.same c.in_default.ensures.canonical;
-      key = c.bring_to_stable_key.new.id;
-      stays = c.in-Ok-bring_to_stable_key.ensures.key;
+      key = c.bring_canonical_to_stable_key.new.id;
+      stays = c.in-Ok-bring_canonical_to_stable_key.ensures.key;
       is = refl;
     }
 
--- where none stays
-pub returns-in-Err-NoFixedPoint-clause-refused : goal.returns-in-Err-NoFixedPoint-clause-refused
-returns-in-Err-NoFixedPoint-clause-refused c =
-    let by = whole_rules c.args.canonicalizer.now in
-    let canonical = c.canonicalize.new.locale in
-    inr (record {
-      canonical = canonical;
-      maps = c.know_maps.ensures;
-      whole = subst (λ (x : LocaleIdentifier). IsWhole by x canonical) c.in-Ok.ensures.same c.in_default.ensures.canonical;
-      reason = subst (IsStableKeyRefusal RegionFirst by.likely by.rules canonical.locale.id) c.in-Err-NoFixedPoint.field-0-is
-          c.in-Err-NoFixedPoint.ensures.refused;
-    })
+-- the rules leave the identifier of a whole canonical form
+pub bring_canonical_to_stable_key-requires : goal.bring_canonical_to_stable_key-requires
+bring_canonical_to_stable_key-requires c = c.in_default.ensures.canonical.locale.id.last
 
-pub returns-in-Err-NoFixedPoint-clause-there : goal.returns-in-Err-NoFixedPoint-clause-there
-returns-in-Err-NoFixedPoint-clause-there c k is =
+-- where none stays
+pub returns-in-Err-bring_canonical_to_stable_key-clause-refused : goal.returns-in-Err-bring_canonical_to_stable_key-clause-refused
+returns-in-Err-bring_canonical_to_stable_key-clause-refused c =
     let by = whole_rules c.args.canonicalizer.now in
+    let x = c.args.locale.now in
     let canonical = c.canonicalize.new.locale in
-    let first = c.in-Err-NoFixedPoint.first in
-    let none : HasNoKey by c.args.locale.now first = record {
-      canonical = canonical;
-      maps = c.know_maps.ensures;
-      whole = subst (λ (x : LocaleIdentifier). IsWhole by x canonical) c.in-Ok.ensures.same c.in_default.ensures.canonical;
-      reason = subst (IsStableKeyRefusal RegionFirst by.likely by.rules canonical.locale.id) c.in-Err-NoFixedPoint.field-0-is
-          c.in-Err-NoFixedPoint.ensures.refused;
-    } in
-    let why : IsWholeKeyRefusal by c.args.locale.now (NoFixedPoint first) = inr none in
-    absurd (c.whole_key_is_one.ensures.not_both by c.args.locale.now k (NoFixedPoint first) is why)
+    let whole = subst (λ (x : LocaleIdentifier). IsWhole by x canonical) c.in-Ok.ensures.same c.in_default.ensures.canonical in
+    subst (IsWholeKeyRefusal by x) (sym c.of_rules.ensures)
+    (refusal_of_canonical by x c.in-Err-bring_canonical_to_stable_key.refusal canonical c.know_maps.ensures whole
+    c.in-Err-bring_canonical_to_stable_key.ensures.refused)
+
+pub returns-in-Err-bring_canonical_to_stable_key-clause-there : goal.returns-in-Err-bring_canonical_to_stable_key-clause-there
+returns-in-Err-bring_canonical_to_stable_key-clause-there c k is =
+    let by = whole_rules c.args.canonicalizer.now in
+    let x = c.args.locale.now in
+    let canonical = c.canonicalize.new.locale in
+    let whole = subst (λ (x : LocaleIdentifier). IsWhole by x canonical) c.in-Ok.ensures.same c.in_default.ensures.canonical in
+    let why = subst (IsWholeKeyRefusal by x) (sym c.of_rules.ensures)
+    (refusal_of_canonical by x c.in-Err-bring_canonical_to_stable_key.refusal canonical c.know_maps.ensures whole
+    c.in-Err-bring_canonical_to_stable_key.ensures.refused) in
+    inr (c.whole_key_is_one.ensures.not_both by x k c.of_rules.result is why)
