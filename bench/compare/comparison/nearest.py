@@ -151,6 +151,8 @@ class Kinds:
 
     def of_equal_distances(self, row):
         """The kind of a difference where both have the same distances."""
+        if row.there is None and any(self.distances[one, row.here][0] < THRESHOLD for one in row.requests):
+            return "a later request: ICU counts its demotion against the threshold, and serves none"
         here, there = (self.cost(row, answer) for answer in (row.here, row.there))
         if here == there < THRESHOLD and self.is_by_region(row.here, row.there):
             return "equally near in another script: ICU prefers the likely region of the language, here that of both counts"

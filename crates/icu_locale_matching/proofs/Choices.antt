@@ -1,5 +1,5 @@
 -- What is chosen.
-use Rattle.std.proofs.Common.{◌≡◌, ◌∙◌, ℕ, suc, arith, ◌<◌, Bool, true, false, cond, nat_lt, ◌==◌, List, [], ◌∷◌, length, Option, Some, None, Result, Ok, Err, IfOk, refl, ap, sym, subst}
+use Rattle.std.proofs.Common.{◌≡◌, ◌∙◌, ℕ, suc, arith, ◌<◌, Bool, true, false, cond, nat_lt, ◌==◌, List, [], ◌∷◌, length, Option, Some, None, Result, Ok, Err, IfOk, is_some, refl, ap, sym, subst}
 use Rattle.std.specs.List.{position, position_or_len, slice_get}
 use Rattle.std.specs.Option.{option_map, option_or}
 use Rattle.std.proofs.lemmas.Bool.{ltb-true, false≢true}
@@ -38,6 +38,20 @@ chosen_by m requests may false place None nearest is = absurd (none-some place (
 pub chosen_may : (m : Matching) (requests : List LanguageIdentifier) (may : List Bool) (any : Bool) (place : ℕ)
     → IsChoice m requests may any (Some place) → may_of may place ≡ true
 chosen_may m requests may any place choice = chosen_by m requests may any place choice.found choice.nearest choice.is
+
+-- what is found is chosen
+chosen_if : (o p : Option ℕ) → is_some o ≡ true → is_some (option_or o p) ≡ true
+chosen_if None p e = absurd (false≢true e)
+chosen_if (Some n) p e = refl
+
+placed_if : (found : Option Match) → is_some found ≡ true → is_some (place_of found) ≡ true
+placed_if None e = absurd (false≢true e)
+placed_if (Some x) e = refl
+
+pub found_is_chosen : (m : Matching) (requests : List LanguageIdentifier) (may : List Bool) (any : Bool) (result : Option ℕ)
+    (choice : IsChoice m requests may any result) → is_some choice.found ≡ true → is_some result ≡ true
+found_is_chosen m requests may any result choice there =
+    ap is_some choice.is ∙ chosen_if (place_of choice.found) (first_allowed any may) (placed_if choice.found there)
 
 -- ---- where nothing is refused
 

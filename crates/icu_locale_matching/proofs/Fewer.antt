@@ -9,7 +9,8 @@ use Rattle.std.proofs.lemmas.Bool.{cases_lt}
 use Rattle.std.proofs.lemmas.Cmp.{ranked}
 use Rattle.std.proofs.lemmas.Option.{same_Some, none-some}
 use Rattle.icu_locale_core.specs.declared.langid.LanguageIdentifier.{LanguageIdentifier}
-use Rattle.icu_locale_matching.specs.Nearest.{Question, IsOffer, IsLeastOf, rank_cmp, rank_of, match_of, IsNearest, IsPart, IsNoFarther, moved_to}
+use Rattle.icu_locale_matching.specs.Distance.{distance}
+use Rattle.icu_locale_matching.specs.Nearest.{Question, IsOffer, IsLeastOf, form_of, rank_cmp, rank_of, match_of, IsNearest, IsPart, IsNoFarther, moved_to}
 use Rattle.icu_locale_matching.specs.declared.rank.Rank.{Rank}
 use Rattle.icu_locale_matching.specs.declared.matcher.Match.{Match}
 use Rattle.icu_locale_matching.proofs.Serving.{no_dearer, no_later}
@@ -63,6 +64,10 @@ module _ (p q : Question) (f : ℕ → ℕ) (part : IsPart p q f) where
     may = p.may;
   }) i x j y)
 
+  same_distance : (x y : LanguageIdentifier) → distance p.matching (form_of p.likely x) (form_of p.likely y)
+      ≡ distance q.matching (form_of q.likely x) (form_of q.likely y)
+  same_distance x y = λ e. distance (part.matching e) (form_of (part.likely e) x) (form_of (part.likely e) y)
+
   lifted : (s : Rank) → IsOffer p s → IsOffer q (at_place (f s.available) s)
   lifted s o = record {
     request = o.request;
@@ -70,7 +75,7 @@ module _ (p q : Question) (f : ℕ → ℕ) (part : IsPart p q f) where
     requested = ap (λ xs. slice_get xs s.request) (sym part.requests) ∙ o.requested;
     offered = part.offered s.available o.identifier o.offered;
     is = ap (at_place (f s.available)) o.is ∙ same_rank s.request o.request s.available (f s.available) o.identifier;
-    below = omega (arith, o.below, ap (λ l. l.threshold) part.limits);
+    below = omega (arith, o.below, ap (λ l. l.threshold) part.limits, same_distance o.request o.identifier);
     may = part.may s.available o.may;
   }
 
@@ -111,7 +116,7 @@ module _ (p q : Question) (f : ℕ → ℕ) (part : IsPart p q f) where
             requested = ap (λ xs. slice_get xs r.request) part.requests ∙ o.requested;
             offered = stands ∙ ap Some same;
             is = ap (at_place k) o.is ∙ sym (same_rank r.request o.request k k o.identifier);
-            below = omega (arith, o.below, ap (λ l. l.threshold) part.limits);
+            below = omega (arith, o.below, ap (λ l. l.threshold) part.limits, same_distance o.request o.identifier);
             may = may;
           },
           λ s offer. in_order r (at_place (f s.available) s) k s.available

@@ -1,15 +1,16 @@
 -- What is near enough is looked at.
-use Rattle.std.proofs.Common.{◌≡◌, ℕ, ◌-◌, ◌≤◌, Bool, true, false, List, Option, Some, None, refl, ap, sym, ◌∙◌, ⊎_elim, arith}
+use Rattle.std.proofs.Common.{◌≡◌, ℕ, ◌≤◌, Bool, true, false, List, Option, Some, None, refl, ap, sym, ◌∙◌, ⊎_elim, arith}
 use Rattle.std.specs.List.{filter, slice_get}
 use Rattle.std.specs.Str.{bytes_eq}
 use Rattle.std.proofs.lemmas.Bool.{false≢true}
-use Rattle.std.proofs.lemmas.Option.{slice_get_within}
+use Rattle.std.proofs.lemmas.Option.{same_Some, slice_get_within}
 use Rattle.std.proofs.lemmas.Slice.Eq.{bytes_eq-Decides}
 use Rattle.icu_locale_core.specs.TextSet.{text_cmp}
+use Rattle.icu_locale_core.specs.declared.langid.LanguageIdentifier.{LanguageIdentifier}
 use Rattle.icu_locale_core.specs.Maps.{value_at}
 use Rattle.icu_locale.specs.LikelyTable.{likely}
-use Rattle.icu_locale_matching.specs.Distance.{Levels, levels_of}
-use Rattle.icu_locale_matching.specs.Nearest.{Question, candidate_of, candidates_of, form_of, has_language}
+use Rattle.icu_locale_matching.specs.Distance.{Levels, distance, levels_of}
+use Rattle.icu_locale_matching.specs.Nearest.{Question, candidate_of, candidates_of, demotion_at, form_of, has_language}
 use Rattle.icu_locale_matching.specs.inner.Levels.{shown}
 use Rattle.icu_locale_matching.specs.inner.Asked.{asked_of, IsAsked, IsOfferAt, Beats, BeatsEach, limit}
 use Rattle.icu_locale_matching.specs.declared.candidates.Candidate.{Candidate}
@@ -21,7 +22,7 @@ use Rattle.icu_locale_matching.specs.declared.search.Asked.{Asked}
 use Rattle.icu_locale_matching.specs.declared.search.Search.{Search}
 use Rattle.icu_locale_matching.proofs.Apart.{other_at_least, named_or_not}
 use Rattle.icu_locale_matching.proofs.Groups.{row_at, filter_has}
-use Rattle.icu_locale_matching.proofs.Ranks.{asked_distance, dear_beaten, is_this}
+use Rattle.icu_locale_matching.proofs.Ranks.{asked_distance, dear_beaten}
 
 -- what beats each of some candidates beats an offer by one of them
 pub each_beats : (q : Question) (i : ℕ) (part : List Candidate) (best : Option Rank) → BeatsEach q i part best
@@ -45,7 +46,7 @@ module _ (m : Search) (a : Asked) (known : IsAsked m a)
       s.available o.offer.identifier o.offer.offered
 
   -- what is of no language that is looked at costs too much
-  far_beaten : (best : Option Rank) → limit m.limits.threshold best - a.demoted ≤ m.matching.now.other_language
+  far_beaten : (best : Option Rank) → limit m.limits.threshold a.demoted best ≤ m.matching.now.other_language
       → (s : Rank) (o : IsOfferAt (asked_of m a.requests.now) a.place s)
       → bytes_eq (form_of (likely m.expander) o.offer.identifier).language a.form.language ≡ false
       → ((k : ℕ) (r : MatchRule) → slice_get a.levels.language.rules.now k ≡ Some r → r.language ≡ (form_of (likely m.expander) o.offer.identifier).language → ⊥)
@@ -58,11 +59,12 @@ module _ (m : Search) (a : Asked) (known : IsAsked m a)
       let other : a.levels.language.other ≡ m.matching.now.other_language = ap (λ (l : Levels). l.language.other) known.levels
       ∙ same_other m.matching.now (value_at text_cmp m.matching.now.rules a.form.language) in
       let is = asked_distance m a y d known refl in
-      let cost = ap (λ (r : Rank). r.cost) (is_this q a.place s.available a.request.now y known.stands o.offer.offered s o refl) in
-      let demoted = known.demoted in
-      dear_beaten q best s o.offer (omega (arith, least, other, is, cost, demoted, far))
+      let request : a.request.now ≡ o.offer.request = same_Some _ _ (sym known.stands ∙ ap (slice_get a.requests.now) (sym o.at) ∙ o.offer.requested) in
+      let asked = ap (λ (x : LanguageIdentifier). distance m.matching.now (form_of (likely m.expander) x) d) request in
+      let limits = ap (λ n. limit m.limits.threshold n best) (known.demoted ∙ ap (demotion_at m.limits.demotion) (sym o.at)) in
+      dear_beaten q best s o.offer (omega (arith, least, other, is, asked, limits, far))
 
-  module _ (best : Option Rank) (far : limit m.limits.threshold best - a.demoted ≤ m.matching.now.other_language)
+  module _ (best : Option Rank) (far : limit m.limits.threshold a.demoted best ≤ m.matching.now.other_language)
       (own : BeatsEach (asked_of m a.requests.now) a.place (filter (has_language a.form.language) m.candidates.now.forms.items) best)
       (named : (k : ℕ) (r : MatchRule) → slice_get a.levels.language.rules.now k ≡ Some r
       → BeatsEach (asked_of m a.requests.now) a.place (filter (has_language r.language) m.candidates.now.forms.items) best) where

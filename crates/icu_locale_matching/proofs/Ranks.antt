@@ -1,16 +1,16 @@
 -- The best of a growing set of ranks.
-use Rattle.std.proofs.Common.{◌≡◌, ◌⊎◌, ℕ, ◌+◌, ◌*◌, ◌<◌, ◌≤◌, Bool, true, false, List, length, Option, Some, None, refl, ap, sym, ◌∙◌, subst, inl, inr, ⊎_elim, arith, mul-le-mul_left, if◌then◌else◌}
+use Rattle.std.proofs.Common.{◌≡◌, ◌⊎◌, ℕ, zero, suc, ◌+◌, ◌-◌, ◌<◌, ◌≤◌, Bool, true, false, List, length, Option, Some, None, refl, ap, sym, ◌∙◌, subst, inl, inr, ⊎_elim, arith, if◌then◌else◌}
 use Rattle.std.specs.List.{slice_get}
 use Rattle.std.specs.declared.cmp.Ordering.{Ordering}
 use Rattle.std.specs.declared.cmp.Ordering.TheVariants.{Less, Equal, Greater}
 use Rattle.std.specs.Ordering.{is_lt, is_le, is_gt, ordering_reverse, ordering_then, MatchOrdering}
 use Rattle.std.specs.Cmp.{IsTotalOrder, bool_cmp_total}
-use Rattle.std.proofs.lemmas.Bool.{cases_lt}
+use Rattle.std.proofs.lemmas.Bool.{cases_lt, false≢true, leb-true}
 use Rattle.std.proofs.lemmas.Cmp.{then_total, on_total, nat_cmp_total, tied_itself, ranked, upto}
 use Rattle.std.proofs.lemmas.Option.{same_Some, slice_get_within}
 use Rattle.icu_locale_core.specs.declared.langid.LanguageIdentifier.{LanguageIdentifier}
-use Rattle.icu_locale_matching.specs.Nearest.{Question, IsOffer, IsLeastOf, form_of, rank_cmp, rank_of}
-use Rattle.icu_locale_matching.specs.inner.Asked.{IsAsked, IsOfferBefore, IsOfferAt, Beats, Improves, BeatsUpto, IsWithin, later_limit, limit, lesser}
+use Rattle.icu_locale_matching.specs.Nearest.{Question, IsOffer, IsLeastOf, demotion_at, form_of, rank_cmp, rank_of}
+use Rattle.icu_locale_matching.specs.inner.Asked.{IsAsked, IsOfferBefore, IsOfferAt, Beats, Improves, BeatsUpto, IsWithin, is_settled, limit, lesser}
 use Rattle.icu_locale.specs.LikelyTable.{likely}
 use Rattle.icu_provider.specs.declared.data_locale.DataLocale.{DataLocale}
 use Rattle.icu_locale_matching.specs.Distance.{distance, distance_by}
@@ -98,10 +98,40 @@ improves_through q i a b c first second = record {
   keeps = λ s h. second.keeps s (first.keeps s h);
 }
 
+-- the demotion of a request is small
+pub demoted_small : (demotion i : ℕ) → demotion_at demotion i ≤ 65535
+demoted_small demotion zero = omega arith
+demoted_small demotion (suc i) = omega arith
+
+-- and rises
+demoted_more : (demotion i : ℕ) → demotion_at demotion i ≤ demotion_at demotion (suc i)
+demoted_more demotion i = omega (arith, demoted_small demotion i)
+
+demoted_rises : (demotion i d : ℕ) → demotion_at demotion i ≤ demotion_at demotion (d + i)
+demoted_rises demotion i zero =
+    let e : i ≡ 0 + i = omega arith in
+    omega (arith, ap (demotion_at demotion) e)
+demoted_rises demotion i (suc d) =
+    let e : suc (d + i) ≡ suc d + i = omega arith in
+    omega (arith, demoted_rises demotion i d, demoted_more demotion (d + i), ap (demotion_at demotion) e)
+
+pub demoted_mono : (demotion i j : ℕ) → i ≤ j → demotion_at demotion i ≤ demotion_at demotion j
+demoted_mono demotion i j upto =
+    let e : (j - i) + i ≡ j = omega (arith, upto) in
+    subst (λ n. demotion_at demotion i ≤ demotion_at demotion n) e (demoted_rises demotion i (j - i))
+
+-- the cost of an offer
+pub offer_cost : (q : Question) (r : Rank) (o : IsOffer q r)
+    → r.cost ≡ distance q.matching (form_of q.likely o.request) (form_of q.likely o.identifier) + demotion_at q.limits.demotion r.request
+offer_cost q r o = ap (λ (s : Rank). s.cost) o.is
+
+offer_within : (q : Question) (r : Rank) → IsOffer q r → r.cost < q.limits.threshold + 65535
+offer_within q r o = omega (arith, o.below, offer_cost q r o, demoted_small q.limits.demotion r.request)
+
 pub within_improved : (q : Question) (i : ℕ) (old new : Option Rank) → IsWithin q.limits.threshold old → Improves q i old new → IsWithin q.limits.threshold new
 within_improved q i old None within better = tt
 within_improved q i old (Some r) within better =
-    ⊎_elim (λ e. subst (IsWithin q.limits.threshold) e within) (λ o. o.offer.below) (better.among r refl)
+    ⊎_elim (λ e. subst (IsWithin q.limits.threshold) e within) (λ o. offer_within q r o.offer) (better.among r refl)
 
 pub beats_kept : (q : Question) (i : ℕ) (part : List Candidate) (n : ℕ) (old new : Option Rank) → Improves q i old new
     → BeatsUpto q i part n old → BeatsUpto q i part n new
@@ -119,10 +149,13 @@ beats_more q i part n c old new stands better beats here = λ k d s upto is o at
     here s o (at ∙ ap (λ (e : Candidate). e.place) one))
     (cases_lt k n)
 
--- an offer that costs too much is beaten
-pub dear_beaten : (q : Question) (best : Option Rank) (s : Rank) → IsOffer q s → limit q.limits.threshold best ≤ s.cost → Beats best s
+-- an offer that is too far is beaten
+pub dear_beaten : (q : Question) (best : Option Rank) (s : Rank) (o : IsOffer q s)
+    → limit q.limits.threshold (demotion_at q.limits.demotion s.request) best ≤ distance q.matching (form_of q.likely o.request) (form_of q.likely o.identifier)
+    → Beats best s
 dear_beaten q None s o dear = omega (arith, o.below, dear)
-dear_beaten q (Some r) s o dear = le_by_cost r s (omega (arith, dear))
+dear_beaten q (Some r) s o dear =
+    le_by_cost r s (omega (arith, dear, o.below, offer_cost q s o))
 
 -- which of two is the lesser
 lesser_cases : (b n : Rank) (t : Bool) → t ≡ is_lt (rank_cmp n b)
@@ -140,19 +173,25 @@ module _ (q : Question) (i j : ℕ) (x y : LanguageIdentifier) (requested : slic
       o.offer.is ∙ (λ k. rank_of q (o.at k) (same_x k) (b k) (same_y k))
 
   module _ (may : q.may j ≡ true) where
-    this : (rank_of q i x j y).cost < q.limits.threshold → IsOfferAt q i (rank_of q i x j y)
+    this : distance q.matching (form_of q.likely x) (form_of q.likely y) < q.limits.threshold → IsOfferAt q i (rank_of q i x j y)
     this below = record {
       offer = record { request = x; identifier = y; requested = requested; offered = offered; is = refl; below = below; may = may };
       at = refl;
     }
 
-    -- where it costs too much, it is beaten
-    pub pair_beaten : (best : Option Rank) → limit q.limits.threshold best ≤ (rank_of q i x j y).cost
+    -- where it is too far, it is beaten
+    pub pair_beaten : (best : Option Rank)
+        → limit q.limits.threshold (demotion_at q.limits.demotion i) best ≤ distance q.matching (form_of q.likely x) (form_of q.likely y)
         → (s : Rank) → IsOfferAt q i s → s.available ≡ j → Beats best s
-    pair_beaten best dear s o at = let cost = ap (λ (r : Rank). r.cost) (is_this s o at) in dear_beaten q best s o.offer (omega (arith, cost, dear))
+    pair_beaten best dear s o at =
+        let same_x : x ≡ o.offer.request = same_Some _ _ (sym requested ∙ ap (slice_get q.requests) (sym o.at) ∙ o.offer.requested) in
+        let same_y : y ≡ o.offer.identifier = same_Some _ _ (sym offered ∙ ap (slice_get q.available) (sym at) ∙ o.offer.offered) in
+        let far = subst (λ n. limit q.limits.threshold (demotion_at q.limits.demotion n) best ≤ distance q.matching (form_of q.likely x) (form_of q.likely y)) (sym o.at) dear in
+        dear_beaten q best s o.offer (subst (λ d. limit q.limits.threshold (demotion_at q.limits.demotion s.request) best ≤ d)
+        (λ k. distance q.matching (form_of q.likely (same_x k)) (form_of q.likely (same_y k))) far)
 
     -- else the lesser of both is better
-    pub lesser_improves : (best : Option Rank) → (rank_of q i x j y).cost < q.limits.threshold → Improves q i best (Some (lesser best (rank_of q i x j y)))
+    pub lesser_improves : (best : Option Rank) → distance q.matching (form_of q.likely x) (form_of q.likely y) < q.limits.threshold → Improves q i best (Some (lesser best (rank_of q i x j y)))
     lesser_improves None below = record {
       among = λ r e. inr (subst (IsOfferAt q i) (same_Some _ _ e) (this below));
       keeps = λ s h. absurd h;
@@ -206,10 +245,10 @@ IsLeastOf-next q i best new least better beats = by_new new better beats where
         (cases_lt s.request i),
   )
 
--- the least is below the threshold
+-- the least costs less than the threshold and the greatest demotion
 pub least_within : (q : Question) (i : ℕ) (best : Option Rank) → IsLeastOf (IsOfferBefore q i) best → IsWithin q.limits.threshold best
 least_within q i None least = tt
-least_within q i (Some r) least = least.0.offer.below
+least_within q i (Some r) least = offer_within q r least.0.offer
 
 -- after the last request that is all
 pub IsLeastOf-all : (q : Question) (i : ℕ) (best : Option Rank) → length q.requests ≤ i → IsLeastOf (IsOfferBefore q i) best → IsLeastOf (IsOffer q) best
@@ -217,29 +256,26 @@ IsLeastOf-all q i best all least = IsLeastOf-same best (λ s h. h.offer)
     (λ s o. record { offer = o; before = omega (arith, slice_get_within q.requests s.request o.request o.requested) }) least
 
 -- a later request costs its demotion at least
-demoted_at_least : (q : Question) (i : ℕ) (s : Rank) → IsOffer q s → i ≤ s.request → q.limits.demotion * i ≤ s.cost
-demoted_at_least q i s o later =
-    let cost = ap (λ (r : Rank). r.cost) o.is in omega (arith, cost, mul-le-mul_left q.limits.demotion later)
+demoted_at_least : (q : Question) (i : ℕ) (s : Rank) → IsOffer q s → i ≤ s.request → demotion_at q.limits.demotion i ≤ s.cost
+demoted_at_least q i s o later = omega (arith, offer_cost q s o, demoted_mono q.limits.demotion i s.request later)
 
 -- so where that is too much, it is all
-pub IsLeastOf-early : (q : Question) (i : ℕ) (best : Option Rank) → later_limit q.limits.threshold best ≤ q.limits.demotion * i
+pub IsLeastOf-early : (q : Question) (i : ℕ) (best : Option Rank) → is_settled (demotion_at q.limits.demotion i) best ≡ true
     → IsLeastOf (IsOfferBefore q i) best → IsLeastOf (IsOffer q) best
-IsLeastOf-early q i None dear least = λ s o. ⊎_elim
-    (λ earlier. least s (record { offer = o; before = earlier }))
-    (λ later. omega (arith, dear, demoted_at_least q i s o later, o.below))
-    (cases_lt s.request i)
-IsLeastOf-early q i (Some r) dear least = (
-  least.0.offer,
-  λ s o. ⊎_elim
-      (λ earlier. least.1 s (record { offer = o; before = earlier }))
-      (λ later. le_by_request r s (omega (arith, dear, demoted_at_least q i s o later)) (omega (arith, least.0.before, later)))
-      (cases_lt s.request i),
-)
+IsLeastOf-early q i None settled least = absurd (false≢true settled)
+IsLeastOf-early q i (Some r) settled least =
+    let dear = leb-true r.cost (demotion_at q.limits.demotion i) settled in (
+      least.0.offer,
+      λ s o. ⊎_elim
+          (λ earlier. least.1 s (record { offer = o; before = earlier }))
+          (λ later. le_by_request r s (omega (arith, dear, demoted_at_least q i s o later)) (omega (arith, least.0.before, later)))
+          (cases_lt s.request i),
+    )
 
--- the limits are the threshold at most
-pub limit_within : (t : ℕ) (best : Option Rank) → IsWithin t best → limit t best ≤ t
-limit_within t None h = omega arith
-limit_within t (Some r) h = omega (arith, h)
+-- the limit is the threshold at most
+pub limit_within : (t d : ℕ) (best : Option Rank) → limit t d best ≤ t
+limit_within t d None = omega arith
+limit_within t d (Some r) = omega arith
 
 -- ---- what the code holds
 

@@ -1,5 +1,5 @@
 -- What the nearest is: one, below the threshold, and at no distance where it can be.
-use Rattle.std.proofs.Common.{◌≡◌, ℕ, ◌+◌, ◌*◌, ◌<◌, ◌≤◌, Bool, true, false, Option, Some, None, refl, ap, sym, ◌∙◌, subst, arith, IsSomeAnd, map, not}
+use Rattle.std.proofs.Common.{◌≡◌, ℕ, ◌+◌, ◌<◌, ◌≤◌, Bool, true, false, Option, Some, None, refl, ap, sym, ◌∙◌, subst, arith, IsSomeAnd, is_some, map, not}
 use Rattle.std.specs.List.{slice_get}
 use Rattle.std.specs.Option.{option_map}
 use Rattle.std.specs.declared.cmp.Ordering.{Ordering}
@@ -14,11 +14,11 @@ use Rattle.icu_locale.specs.Negotiation.{IsMatch}
 use Rattle.icu_locale_core.specs.TextSet.{text_cmp}
 use Rattle.icu_locale_core.specs.Maps.{value_at}
 use Rattle.icu_locale_matching.specs.Distance.{distance, distance_by, levels_for, TellsApart}
-use Rattle.icu_locale_matching.specs.Nearest.{Question, IsOffer, IsLeastOf, form_of, rank_cmp, rank_of, is_among, match_of, IsNearest, ServesFirst, IsSpelledFirst, IsFormedFirst, unlikeliness, paradigms_of, AgreeOn, with_matching, ScriptsAreFar, KeepsScript}
+use Rattle.icu_locale_matching.specs.Nearest.{Question, IsOffer, IsLeastOf, demotion_at, form_of, rank_cmp, rank_of, is_among, match_of, IsNearest, ServesFirst, IsSpelledFirst, IsFormedFirst, unlikeliness, paradigms_of, AgreeOn, with_matching, ScriptsAreFar, KeepsScript}
 use Rattle.icu_provider.specs.declared.matching.LanguageMatching.{LanguageMatching}
 use Rattle.icu_locale_matching.specs.declared.rank.Rank.{Rank}
 use Rattle.icu_locale_matching.specs.declared.matcher.Match.{Match}
-use Rattle.icu_locale_matching.proofs.Ranks.{rank_total, IsLeastOf-same}
+use Rattle.icu_locale_matching.proofs.Ranks.{rank_total, offer_cost, IsLeastOf-same}
 use Rattle.icu_locale_matching.proofs.Apart.{distance_zero, distance_itself, distance_agrees, script_kept, script_other}
 
 -- ---- ranks that tie
@@ -89,14 +89,17 @@ pub nearest_is_one : (q : Question) (a b : Option Match) → IsNearest q a → I
 nearest_is_one q a b first second =
     first.is ∙ ap (option_map match_of) (least_is_one (IsOffer q) first.best second.best first.least second.least) ∙ sym second.is
 
--- ---- it is below the threshold
+-- ---- it is below the threshold, the demotion aside
 
-below_of : (q : Question) (m : Match) (best : Option Rank) → IsLeastOf (IsOffer q) best → Some m ≡ option_map match_of best → m.distance < q.limits.threshold
+below_of : (q : Question) (m : Match) (best : Option Rank) → IsLeastOf (IsOffer q) best → Some m ≡ option_map match_of best → m.distance < q.limits.threshold + demotion_at q.limits.demotion m.request
 below_of q m None least is = absurd (none-some m (sym is))
 below_of q m (Some r) least is =
-    let same = ap (λ (n : Match). n.distance) (same_Some m (match_of r) is) in omega (arith, same, least.0.below)
+    let same : m ≡ match_of r = same_Some m (match_of r) is in
+    let cost = ap (λ (n : Match). n.distance) same in
+    let request = ap (λ (n : Match). demotion_at q.limits.demotion n.request) same in
+    omega (arith, cost, request, offer_cost q r least.0, least.0.below)
 
-pub served_below : (q : Question) (m : Match) → IsNearest q (Some m) → m.distance < q.limits.threshold
+pub served_below : (q : Question) (m : Match) → IsNearest q (Some m) → m.distance < q.limits.threshold + demotion_at q.limits.demotion m.request
 served_below q m nearest = below_of q m nearest.best nearest.least nearest.is
 
 -- ---- it may be served
@@ -119,8 +122,7 @@ script_by q m (Some r) far least is =
     let d = form_of q.likely o.request in
     let s = form_of q.likely o.identifier in
     let levels = levels_for q.matching d.language in
-    let cost = ap (λ (r : Rank). r.cost) o.is in
-    let near : distance_by levels d s < q.limits.threshold = omega (arith, cost, o.below) in
+    let near : distance_by levels d s < q.limits.threshold = o.below in
     let other : q.limits.threshold ≤ levels.script.other = omega (arith, far.other, script_other q.matching (value_at text_cmp q.matching.rules d.language)) in
     record {
       request = o.request;
@@ -173,7 +175,7 @@ module _ (q : Question) (j : ℕ) (tells : TellsApart q.matching) (room : 0 < q.
     requested = match.requested;
     offered = match.offered;
     is = refl;
-    below = omega (arith, exact_costs_nothing, room);
+    below = omega (arith, (distance_zero q.matching (form_of q.likely match.request) (form_of q.likely match.identifier) tells).1 equal_forms, room);
     may = may;
   }
 
@@ -241,7 +243,7 @@ module _ (q : Question) (j : ℕ) (room : 0 < q.limits.threshold) (spelled : IsS
     requested = spelled.requested;
     offered = spelled.offered;
     is = refl;
-    below = omega (arith, own_costs_nothing, room);
+    below = omega (arith, distance_itself q.matching (form_of q.likely spelled.request), room);
     may = spelled.may;
   }
 
@@ -345,7 +347,7 @@ module _ (q : Question) (j : ℕ) (tells : TellsApart q.matching) (room : 0 < q.
     requested = formed.requested;
     offered = formed.offered;
     is = refl;
-    below = omega (arith, formed_costs_nothing, room);
+    below = omega (arith, (distance_zero q.matching (form_of q.likely formed.request) (form_of q.likely formed.identifier) tells).1 (sym formed.form), room);
     may = formed.may;
   }
 
@@ -403,7 +405,7 @@ module _ (q : Question) (u : LanguageMatching) (agree : AgreeOn q u) where
       let paradigm = ap (λ ps. not (is_among (map (maximal_locale q.likely) ps) (form_of q.likely y))) agree.paradigms in
       let r = rank_of q i x j y in
       λ k. record {
-        cost = far k + q.limits.demotion * i;
+        cost = far k + demotion_at q.limits.demotion i;
         request = i;
         spelled_otherwise = r.spelled_otherwise;
         varied = r.varied;
@@ -419,7 +421,7 @@ module _ (q : Question) (u : LanguageMatching) (agree : AgreeOn q u) where
     requested = o.requested;
     offered = o.offered;
     is = o.is ∙ same_ranks s.request o.request s.available o.identifier o.requested;
-    below = o.below;
+    below = omega (arith, o.below, distance_agrees q.matching u (form_of q.likely o.request) (form_of q.likely o.identifier) (agree.rules s.request o.request o.requested));
     may = o.may;
   }
 
@@ -430,7 +432,7 @@ module _ (q : Question) (u : LanguageMatching) (agree : AgreeOn q u) where
     requested = o.requested;
     offered = o.offered;
     is = o.is ∙ sym (same_ranks s.request o.request s.available o.identifier o.requested);
-    below = o.below;
+    below = omega (arith, o.below, distance_agrees q.matching u (form_of q.likely o.request) (form_of q.likely o.identifier) (agree.rules s.request o.request o.requested));
     may = o.may;
   }
 
@@ -440,3 +442,29 @@ other_rules q u result agree nearest = record {
   least = IsLeastOf-same nearest.best (to_other q u agree) (from_other q u agree) nearest.least;
   is = nearest.is;
 }
+
+-- ---- what is near is not lost
+
+offered_best : (q : Question) (r : Rank) → IsOffer q r → (best : Option Rank) → IsLeastOf (IsOffer q) best → is_some (option_map match_of best) ≡ true
+offered_best q r offer None least = absurd (least r offer)
+offered_best q r offer (Some s) least = refl
+
+pub near_is_served : (q : Question) (i j : ℕ) (request identifier : LanguageIdentifier) (result : Option Match) → slice_get q.requests i ≡ Some request
+    → slice_get q.available j ≡ Some identifier → q.may j ≡ true
+    → distance q.matching (form_of q.likely request) (form_of q.likely identifier) < q.limits.threshold → IsNearest q result → is_some result ≡ true
+near_is_served q i j request identifier result requested offered may near nearest =
+    let offer : IsOffer q (rank_of q i request j identifier) = record {
+      request = request;
+      identifier = identifier;
+      requested = requested;
+      offered = offered;
+      is = refl;
+      below = near;
+      may = may;
+    } in
+    ap is_some nearest.is ∙ offered_best q (rank_of q i request j identifier) offer nearest.best nearest.least
+
+pub spelled_is_served : (q : Question) (i j : ℕ) (request : LanguageIdentifier) (result : Option Match) → 0 < q.limits.threshold
+    → slice_get q.requests i ≡ Some request → slice_get q.available j ≡ Some request → q.may j ≡ true → IsNearest q result → is_some result ≡ true
+spelled_is_served q i j request result room requested offered may nearest =
+    near_is_served q i j request request result requested offered may (omega (arith, distance_itself q.matching (form_of q.likely request), room)) nearest

@@ -1,5 +1,5 @@
 -- The nearest available locale (UTS #35 Part 1, section 4.4, Language Matching).
-use Rattle.std.specs.Prelude.{◌≡◌, ℕ, ◌+◌, ◌*◌, ◌<◌, ◌≤◌, Bool, true, false, ◌&&◌, not, List, map, Option, Some, None, IsSome, Vec, length, if◌then◌else◌}
+use Rattle.std.specs.Prelude.{◌≡◌, ℕ, zero, suc, ◌+◌, ◌<◌, ◌≤◌, min, Bool, true, false, ◌&&◌, not, List, map, Option, Some, None, IsSome, Vec, length, if◌then◌else◌}
 use Rattle.std.specs.List.{All, enumerate_from, filter, list_any, slice_get}
 use Rattle.std.specs.Global.{Global}
 use Rattle.std.specs.Str.{bytes_eq}
@@ -148,11 +148,16 @@ rank_at q cost i request j identifier =
       available = j;
     }
 
--- the cost: the distance of the maximal forms, and the demotion for each earlier request
+-- what a request costs for those before it: the demotion for each, and 65,535 at most
+abbrev pub demotion_at : ℕ → ℕ → ℕ
+demotion_at demotion zero = 0
+demotion_at demotion (suc i) = min (demotion_at demotion i + demotion) 65535
+
+-- the cost: the distance of the maximal forms, and what the request costs for those before it
 abbrev pub rank_of : Question → ℕ → LanguageIdentifier → ℕ → LanguageIdentifier → Rank
 rank_of q i request j identifier =
     rank_at q (distance q.matching (form_of q.likely request) (form_of q.likely identifier)
-    + q.limits.demotion * i) i request j identifier
+    + demotion_at q.limits.demotion i) i request j identifier
 
 -- by cost, then the others in their order
 abbrev pub rank_cmp : Rank → Rank → Ordering
@@ -165,14 +170,15 @@ rank_cmp r s =
     (ordering_then (bool_cmp r.off_paradigm s.off_paradigm)
     (nat_cmp r.available s.available))))))
 
--- r is the rank of a request and an available identifier that may be served, below the threshold
+-- r is the rank of a request and an available identifier that may be served, whose distance is below the threshold
 pub record IsOffer (q : Question) (r : Rank) : Type 0 where
   pub request : LanguageIdentifier
   pub identifier : LanguageIdentifier
   pub requested : slice_get q.requests r.request ≡ Some request
   pub offered : slice_get q.available r.available ≡ Some identifier
   pub is : r ≡ rank_of q r.request request r.available identifier
-  pub below : r.cost < q.limits.threshold
+  pub below : distance q.matching (form_of q.likely request) (form_of q.likely identifier)
+      < q.limits.threshold
   pub may : q.may r.available ≡ true
 
 -- the least rank with P, if there is one

@@ -1,10 +1,10 @@
 //! Laws of language matching: what follows from the definitions alone, over every table. Their functions do nothing.
-ghost use Rattle.std.specs.Prelude.{◌≡◌, ◌↔◌, ◌<◌, ℕ, Bool, true, false, List, codes, length, Option, Some, IsSomeAnd};
+ghost use Rattle.std.specs.Prelude.{◌≡◌, ◌↔◌, ◌+◌, ◌<◌, ℕ, Bool, true, false, List, codes, length, Option, Some, IsSome, IsSomeAnd};
 ghost use Rattle.std.specs.List.{slice_get};
 ghost use Rattle.icu_locale.specs.Negotiation.{IsMatch};
 ghost use Rattle.icu_provider.specs.declared.data_locale.DataLocale.{DataLocale};
 ghost use Rattle.icu_locale_matching.specs.Distance.{distance, TellsApart, AgreeAt};
-ghost use Rattle.icu_locale_matching.specs.Nearest.{Matching, may_of, Question, AgreeOn, with_matching, IsNearest, ServesFirst, IsSpelledFirst, IsFormedFirst, IsPart, IsNoFarther, moved_to, ScriptsAreFar, KeepsScript};
+ghost use Rattle.icu_locale_matching.specs.Nearest.{Matching, may_of, Question, AgreeOn, with_matching, IsNearest, ServesFirst, IsSpelledFirst, IsFormedFirst, IsPart, IsNoFarther, moved_to, ScriptsAreFar, KeepsScript, demotion_at, form_of};
 ghost use Rattle.icu_locale_matching.specs.Service.{Service, IsChoice, IsServed, IsNearestTo, IsRefusedIn, IsCanonicalAt, IsUnread, refuses, first_place};
 ghost use Rattle.icu_locale_matching.specs.declared.matcher.Match.{Match};
 ghost use Rattle.icu_locale_core.specs.declared.langid.LanguageIdentifier.{LanguageIdentifier};
@@ -31,11 +31,30 @@ pub fn the_nearest_is_one()
     ensures { (q : Question) (a b : Option Match) → IsNearest q a → IsNearest q b → a ≡ b }
 {}
 
-/// What is served is nearer than the threshold.
+/// What is served is nearer than the threshold, the demotion of its request aside.
 #[tactic(auto, using(crate::proofs::Serving::served_below))]
 pub fn what_is_served_is_below_the_threshold()
     ensures { (q : Question) (m : Match) → IsNearest q (Some m)
-        → m.distance < q.limits.threshold }
+        → m.distance < q.limits.threshold + demotion_at q.limits.demotion m.request }
+{}
+
+/// What is near enough to some request and may be served is never lost: something is served, however many requests come
+/// before. What is available in a request's own spelling is near enough to it.
+pub fn what_is_near_is_not_lost()
+    ensures near { (q : Question) (i j : ℕ) (request identifier : LanguageIdentifier)
+        (result : Option Match) → slice_get q.requests i ≡ Some request
+        → slice_get q.available j ≡ Some identifier → q.may j ≡ true
+        → distance q.matching (form_of q.likely request) (form_of q.likely identifier)
+        < q.limits.threshold → IsNearest q result → IsSome result }
+    ensures spelled { (q : Question) (i j : ℕ) (request : LanguageIdentifier)
+        (result : Option Match) → 0 < q.limits.threshold
+        → slice_get q.requests i ≡ Some request → slice_get q.available j ≡ Some request
+        → q.may j ≡ true → IsNearest q result → IsSome result }
+    ensures chosen { (m : Matching) (requests : List LanguageIdentifier) (may : List Bool)
+        (any : Bool) (i j : ℕ) (request : LanguageIdentifier) (result : Option ℕ)
+        → 0 < m.limits.threshold → slice_get requests i ≡ Some request
+        → slice_get m.available j ≡ Some request → may_of may j ≡ true
+        → IsChoice m requests may any result → IsSome result }
 {}
 
 /// Where a negotiator meets the first request by an identifier that may be served, a matcher serves it at no

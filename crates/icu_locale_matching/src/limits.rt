@@ -6,7 +6,8 @@ ghost use Rattle.std.specs.Prelude.{◌≡◌};
 pub struct MatchLimits {
     /// What is served has a lesser distance.
     pub threshold: u16,
-    /// What each request before it adds to the distance of a request.
+    /// What each request before it adds to the cost of a request, up to 65,535 in all. It decides which is served, and
+    /// takes none away.
     pub demotion: u16,
 }
 

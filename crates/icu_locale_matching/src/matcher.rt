@@ -23,7 +23,7 @@ pub struct Match {
     pub request: usize,
     /// The place of the available identifier.
     pub available: usize,
-    /// The distance of their maximal forms, and the demotion of the request.
+    /// The distance of their maximal forms, and the demotion for each request before, 65,535 at most.
     pub distance: u32,
 }
 
@@ -83,7 +83,7 @@ impl<'r> LocaleMatcher<'r> {
     }
 
     /// The nearest available identifier for requests in their order of preference: the one with the least rank among
-    /// those below the threshold. None where there is none. It takes no memory.
+    /// those whose distance is below the threshold. None where there is none. It takes no memory.
     pub fn nearest(&self, requests: &[LanguageIdentifier]) -> Option<Match>
         ensures { IsNearest (question self.now requests.now all_may) result }
     {

@@ -1,10 +1,10 @@
 //! The search for the nearest available locale.
-ghost use Rattle.std.specs.Prelude.{◌≡◌, ◌+◌, ◌<◌, ◌*◌, ◌^◌, ℕ, Some, IfSome, true, length, option_copied};
+ghost use Rattle.std.specs.Prelude.{◌≡◌, ◌+◌, ◌<◌, ◌^◌, ℕ, Some, IfSome, true, length, option_copied};
 ghost use Rattle.std.specs.List.{All, filter, slice_get};
 ghost use Rattle.icu_locale_core.specs.laws.Identifiers.{same_parts, same_texts};
 ghost use Rattle.icu_locale.specs.LikelyTable.{likely};
-ghost use Rattle.icu_locale_matching.specs.Nearest.{is_true, has_language, IsMadeOver, IsLeastOf, IsOffer, IsSpelledFirst};
-ghost use Rattle.icu_locale_matching.specs.inner.Asked.{may_shown, asked_of, IsOfferBefore, IsOfferAt, Beats, BeatsEach, Improves, IsRowOf, IsWithin, IsAsked, IsRankAt, later_limit, limit, lesser};
+ghost use Rattle.icu_locale_matching.specs.Nearest.{is_true, has_language, IsMadeOver, IsLeastOf, IsOffer, IsSpelledFirst, demotion_at};
+ghost use Rattle.icu_locale_matching.specs.inner.Asked.{may_shown, asked_of, IsOfferBefore, IsOfferAt, Beats, BeatsEach, Improves, IsRowOf, IsWithin, IsAsked, IsRankAt, is_settled, limit, lesser};
 ghost use Rattle.icu_locale_matching.specs.Distance.{levels_for, serving_of};
 ghost use Rattle.icu_locale_matching.specs.inner.Known.{AreServing};
 ghost use Rattle.icu_provider.specs.declared.matching.LanguageMatching.{LanguageMatching as TheMatching};
@@ -49,7 +49,7 @@ pub(crate) struct Asked<'q, 'd> {
     known: [bool; 8],
     // No distance of two regions is less.
     least: u16,
-    demoted: u32,
+    demoted: u16,
 }
 
 impl<'r> Search<'r> {
@@ -117,11 +117,11 @@ impl<'r> Search<'r> {
         let mut best = None;
         let mut demoted = 0;
         for place in 0..requests.len() {
-            if demoted >= self.later_limit(&best) {
+            if is_settled(demoted, &best) {
                 return best;
             }
             best = self.least_at(requests, place, demoted, best);
-            demoted += u32::from(self.limits.demotion);
+            demoted = demoted.saturating_add(self.limits.demotion);
         }
         best
     }
@@ -131,13 +131,13 @@ impl<'r> Search<'r> {
         &self,
         requests: &[LanguageIdentifier],
         place: usize,
-        demoted: u32,
+        demoted: u16,
         best: Option<Rank>,
     ) -> Option<Rank>
         requires made { IsMadeOver (likely self.now.expander) self.now.matching.now
             self.now.candidates.now }
         requires in_range { place < length requests.now }
-        requires demoted { demoted ≡ self.now.limits.demotion * place }
+        requires demoted { demoted ≡ demotion_at self.now.limits.demotion place }
         requires best { IsLeastOf (IsOfferBefore (asked_of self.now requests.now) place) best }
         ensures { IsLeastOf (IsOfferBefore (asked_of self.now requests.now) (place + 1)) result }
     {
@@ -175,7 +175,7 @@ impl<'r> Search<'r> {
     {
         let near = self.best_near(asked, best);
         let others = u32::from(self.matching.other_language);
-        if others < self.limit(&near).saturating_sub(asked.demoted) {
+        if others < self.limit(asked.demoted, &near) {
             self.best_among(asked, &self.candidates.forms, near)
         } else {
             near
@@ -251,7 +251,7 @@ impl<'r> Search<'r> {
         if !self.may_serve(candidate.place) {
             return best;
         }
-        let limit = self.limit(&best).saturating_sub(asked.demoted);
+        let limit = self.limit(asked.demoted, &best);
         let any_macro = asked.is_macro || candidate.is_macro;
         let serving = serving_for(&asked.form, candidate);
         match asked.levels.distance_below(
@@ -287,7 +287,7 @@ impl<'r> Search<'r> {
     {
         let identifier = &self.candidates.identifiers[candidate.place];
         Rank {
-            cost: distance + asked.demoted,
+            cost: distance + u32::from(asked.demoted),
             request: asked.place,
             spelled_otherwise: !is_same(asked.request, identifier),
             varied: !has_same_variants(asked.request, identifier),
@@ -297,37 +297,29 @@ impl<'r> Search<'r> {
         }
     }
 
-    // What a rank of a later request has to cost less than, to be less.
-    fn later_limit(&self, best: &Option<Rank>) -> u32
+    // What the distance from a request has to be less than, if its rank is to be less than the best.
+    fn limit(&self, demoted: u16, best: &Option<Rank>) -> u32
         requires { IsWithin self.now.limits.threshold best.now }
-        ensures value { result ≡ later_limit self.now.limits.threshold best.now }
+        ensures value { result ≡ limit self.now.limits.threshold demoted best.now }
         ensures small { result < 2 ^ 16 }
     {
-        let threshold = self.threshold();
+        let threshold = u32::from(self.limits.threshold);
         match best {
-            Some(rank) => rank.cost,
+            Some(rank) => (rank.cost + 1)
+                .saturating_sub(u32::from(demoted))
+                .min(threshold),
             None => threshold,
         }
     }
+}
 
-    // What a rank has to cost less than, if it is to be less.
-    fn limit(&self, best: &Option<Rank>) -> u32
-        requires { IsWithin self.now.limits.threshold best.now }
-        ensures { result ≡ limit self.now.limits.threshold best.now }
-    {
-        let threshold = self.threshold();
-        match best {
-            Some(rank) => rank.cost + 1,
-            None => threshold,
-        }
-    }
-
-    // The threshold.
-    fn threshold(&self) -> u32
-        ensures value { result ≡ self.now.limits.threshold }
-        ensures small { result < 2 ^ 16 }
-    {
-        u32::from(self.limits.threshold)
+// Whether no later request can be better.
+fn is_settled(demoted: u16, best: &Option<Rank>) -> bool
+    ensures { result ≡ is_settled demoted best.now }
+{
+    match best {
+        Some(rank) => rank.cost <= u32::from(demoted),
+        None => false,
     }
 }
 

@@ -122,13 +122,13 @@ impl Question<'_> {
         }
     }
 
-    // Whether a rank is below the threshold, at a place that may be served.
-    fn is_offer(&self, rank: &Rank) -> bool {
+    // Whether the distance of a rank is below the threshold, at a place that may be served.
+    fn is_offer(&self, demotion: u64, rank: &Rank) -> bool {
         let may = match self.may.get(rank.available) {
             Some(may) => *may,
             None => false,
         };
-        may && rank.cost < u64::from(self.limits.threshold)
+        may && rank.cost.saturating_sub(demotion) < u64::from(self.limits.threshold)
     }
 
     // The lesser of the least so far and the ranks of one request.
@@ -142,7 +142,7 @@ impl Question<'_> {
         for (place, x) in self.available.iter().enumerate() {
             let form = self.form(x);
             let rank = self.rank(demotion, asked, (place, x, &form));
-            if self.is_offer(&rank) && precedes_any(&rank, &least) {
+            if self.is_offer(demotion, &rank) && precedes_any(&rank, &least) {
                 least = Some(rank);
             }
         }
@@ -156,7 +156,9 @@ impl Question<'_> {
         for (place, x) in self.requests.iter().enumerate() {
             let form = self.form(x);
             least = self.lesser(demotion, (place, x, &form), least);
-            demotion = demotion.saturating_add(u64::from(self.limits.demotion));
+            demotion = demotion
+                .saturating_add(u64::from(self.limits.demotion))
+                .min(65535);
         }
         least
     }

@@ -34,6 +34,13 @@ fn serves_headers(rt: &impl Abort, alloc: Global, server: &LocaleServer<'_>) {
         rt,
         alloc,
         server,
+        "da-DK,da,fi-FI,fi,et-EE,et,lv-LV,lv,lt-LT,lt,de-DE,de",
+        Some(2),
+    );
+    serves(
+        rt,
+        alloc,
+        server,
         "en-GB;q=2, ?, zh-TW-u-co-stroke;Q=0.5",
         Some(3),
     );

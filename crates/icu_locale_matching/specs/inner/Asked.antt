@@ -1,5 +1,5 @@
 -- How the nearest is found: request by request, and group by group.
-use Rattle.std.specs.Prelude.{◌≡◌, ◌⊎◌, ℕ, ◌+◌, ◌*◌, ◌<◌, ◌≤◌, Bool, true, Option, Some, None, List, length, IfSome, if◌then◌else◌}
+use Rattle.std.specs.Prelude.{◌≡◌, ◌⊎◌, ℕ, ◌+◌, ◌-◌, ◌<◌, ◌≤◌, min, nat_le, Bool, true, false, Option, Some, None, List, length, IfSome, if◌then◌else◌}
 use Rattle.std.specs.List.{slice_get}
 use Rattle.std.specs.Ordering.{is_lt, is_le}
 use Rattle.icu_locale_core.specs.declared.langid.LanguageIdentifier.{LanguageIdentifier}
@@ -8,7 +8,7 @@ use Rattle.icu_locale.specs.LikelyTable.{likely}
 use Rattle.icu_provider.specs.declared.data_locale.DataLocale.{DataLocale}
 use Rattle.icu_provider.specs.declared.matching.LanguageMatching.{LanguageMatching}
 use Rattle.icu_locale_matching.specs.Distance.{levels_for, level_distance, is_macro}
-use Rattle.icu_locale_matching.specs.Nearest.{Question, all_may, may_of, IsOffer, candidate_of, form_of, rank_cmp, rank_at}
+use Rattle.icu_locale_matching.specs.Nearest.{Question, all_may, may_of, IsOffer, candidate_of, form_of, rank_cmp, rank_at, demotion_at}
 use Rattle.icu_locale_matching.specs.inner.Known.{AreKnown}
 use Rattle.icu_locale_matching.specs.inner.Levels.{shown, shown_level}
 use Rattle.icu_locale_matching.specs.declared.candidates.Candidate.{Candidate}
@@ -62,9 +62,9 @@ BeatsUpto q i part n best = (k : ℕ) (c : Candidate) (s : Rank) → k < n → s
 abbrev pub BeatsEach : Question → ℕ → List Candidate → Option Rank → Type 0
 BeatsEach q i part best = BeatsUpto q i part (length part) best
 
--- the best is below the threshold
+-- the best costs less than the threshold and the greatest demotion
 abbrev pub IsWithin : ℕ → Option Rank → Type 0
-IsWithin threshold best = IfSome best (λ r. r.cost < threshold)
+IsWithin threshold best = IfSome best (λ r. r.cost < threshold + 65535)
 
 -- a candidate stands for the available identifier at its place
 pub record IsRowOf (likely : LikelySubtags) (t : LanguageMatching)
@@ -82,17 +82,17 @@ pub record IsAsked (m : Search) (a : Asked) : Type 0 where
   pub known : AreKnown a.levels.region.rules.now a.form a.known
   pub least : (d s : DataLocale)
       → a.least ≤ level_distance (shown_level a.levels.region) d s
-  pub demoted : a.demoted ≡ m.limits.demotion * a.place
+  pub demoted : a.demoted ≡ demotion_at m.limits.demotion a.place
 
--- what a rank of a later request has to cost less than, to be less
-abbrev pub later_limit : ℕ → Option Rank → ℕ
-later_limit threshold None = threshold
-later_limit threshold (Some r) = r.cost
+-- no later request can be better, since each costs as much before its distance is added
+abbrev pub is_settled : ℕ → Option Rank → Bool
+is_settled demoted None = false
+is_settled demoted (Some r) = nat_le r.cost demoted
 
--- what a rank has to cost less than, if it is to be less
-abbrev pub limit : ℕ → Option Rank → ℕ
-limit threshold None = threshold
-limit threshold (Some r) = r.cost + 1
+-- what the distance from a request that costs so much has to be less than, to be the best
+abbrev pub limit : ℕ → ℕ → Option Rank → ℕ
+limit threshold demoted None = threshold
+limit threshold demoted (Some r) = min (r.cost + 1 - demoted) threshold
 
 -- the lesser of two ranks, of which the first may be missing
 abbrev pub lesser : Option Rank → Rank → Rank

@@ -1,4 +1,4 @@
-use Rattle.std.proofs.Common.{◌≤◌, ◌-◌, subst, List, refl, arith}
+use Rattle.std.proofs.Common.{◌≤◌, subst, List, refl, arith}
 use Rattle.icu_locale.specs.LikelyTable.{likely}
 use Rattle.icu_locale_matching.specs.Nearest.{candidate_of}
 use Rattle.icu_locale_matching.specs.inner.Asked.{asked_of, BeatsEach, limit}
@@ -14,8 +14,8 @@ best_among-requires-clause-part c =
     (rows_known (likely m.expander) m.matching.now m.candidates.now.identifiers.items m.candidates.now.forms.items c.requires.made.forms)
 
 -- all are looked at
-pub returns-then-others-saturating_sub-clause-beats : goal.returns-then-others-saturating_sub-clause-beats
-returns-then-others-saturating_sub-clause-beats c = λ s o.
+pub returns-then-others-limit-clause-beats : goal.returns-then-others-limit-clause-beats
+returns-then-others-limit-clause-beats c = λ s o.
     let m = c.args.self.now in
     let a = c.args.asked.now in
     let q = asked_of m a.requests.now in
@@ -24,11 +24,11 @@ returns-then-others-saturating_sub-clause-beats c = λ s o.
     (candidate_of (likely m.expander) m.matching.now s.available o.offer.identifier) (offer_row m a c.requires.asked c.requires.made.forms s o) s o refl
 
 -- the others cost too much
-pub returns-else-others-saturating_sub : goal.returns-else-others-saturating_sub
-returns-else-others-saturating_sub c =
+pub returns-else-others-limit : goal.returns-else-others-limit
+returns-else-others-limit c =
     let m = c.args.self.now in
-    let far : limit m.limits.threshold c.best_near-near.result - c.args.asked.now.demoted ≤ m.matching.now.other_language = omega
-    (arith, c.limit.ensures, c.saturating_sub.ensures, c.from-others.ensures, c.if-others-saturating_sub.false) in
+    let far : limit m.limits.threshold c.args.asked.now.demoted c.best_near-near.result ≤ m.matching.now.other_language = omega
+    (arith, c.limit.ensures.value, c.from-others.ensures, c.if-others-limit.false) in
     record {
       improves = c.best_near-near.ensures.improves;
       beats = near_beats m c.args.asked.now c.requires.asked c.requires.made.forms c.best_near-near.result far c.best_near-near.ensures.own
