@@ -66,12 +66,13 @@ enum {
        done. */
     ICU_LOCALE_DONE = 0,
 
-    /* icu_locale_answer: the line is accepted, and `out` begins with the answer. */
+    /* icu_locale_answer: the line is accepted, and `out` begins with the answer. icu_locale_fault: the text is a locale
+       identifier. */
     ICU_LOCALE_ACCEPTED = 0,
 
     /* icu_locale_answer: the line is refused, and `out` begins with the program's answer to that: `?`, a tab and the name
        of the refusal, as `InvalidLanguage`, `InvalidSubtag`, `NoFixedPoint`, `NoSubdivisionFixedPoint`,
-       `NoValueFixedPoint`, `NoFieldFixedPoint`, `Circle` or `IdentifierNotFound`. */
+       `NoValueFixedPoint`, `NoFieldFixedPoint`, `Circle` or `IdentifierNotFound`. icu_locale_fault: the text is none. */
     ICU_LOCALE_REFUSED = 1,
 
     /* icu_locale_is_settled. */
@@ -244,6 +245,15 @@ int32_t icu_locale_negotiate_in(struct icu_locale *negotiator, const uint8_t *sy
  */
 int32_t icu_locale_list_fault(const uint8_t *syntax, size_t syntax_length, const uint8_t *list, size_t list_length,
                               size_t *place);
+
+/*
+ * Tells where a text is wrong that is no locale identifier of UTS #35, as a line is read behind `locales`. It asks no handle.
+ *
+ * ICU_LOCALE_REFUSED: `from` and `to` are the first byte, and the byte after the last, of the first piece that no locale
+ * identifier can have there, whatever follows: 6 and 10 of `en-US-Latn`. Where each piece can be, both are the text's end.
+ * ICU_LOCALE_ACCEPTED: the text is a locale identifier. ICU_LOCALE_MEMORY. `from` and `to` are as they were.
+ */
+int32_t icu_locale_fault(const uint8_t *text, size_t length, size_t *from, size_t *to);
 
 /* Lets the tables and the list go, and makes the handle zero. It may be opened again. A second call does nothing. */
 void icu_locale_close(struct icu_locale *handle);

@@ -72,6 +72,19 @@ static void fault(const char *syntax, const char *list, int32_t number, size_t w
     free(bytes);
 }
 
+// The bytes of the first piece of a text that no locale identifier can have there. Nothing is told of one.
+static void placed(const char *text, int32_t number, size_t from, size_t to) {
+    uint8_t *bytes = copy_of(text);
+    size_t first = STAYS, behind = STAYS;
+    int32_t told = icu_locale_fault(bytes, strlen(text), &first, &behind);
+    if (number != ICU_LOCALE_REFUSED) from = to = STAYS;
+    if (told != number || first != from || behind != to) {
+        printf("fault: %s: %d %zu %zu, and not %d %zu %zu\n", text, told, first, behind, number, from, to);
+        faults += 1;
+    }
+    free(bytes);
+}
+
 static void refuses(struct icu_locale *handle, const char *requests, int32_t number) {
     meets(handle, requests, number, 0, 0);
 }

@@ -341,6 +341,23 @@ static void list_faults(void) {
     fault("tags", "en-", ICU_LOCALE_COMMAND, 0);
 }
 
+// By the grammar of UTS #35 Part 1, section 3.2, by hand.
+static void places(void) {
+    placed("en", ICU_LOCALE_ACCEPTED, 0, 0);
+    placed("de-DE-u-co-phonebk-x-a", ICU_LOCALE_ACCEPTED, 0, 0);
+    placed("", ICU_LOCALE_REFUSED, 0, 0);
+    placed("1en", ICU_LOCALE_REFUSED, 0, 3);
+    placed("en-Latm1-US", ICU_LOCALE_REFUSED, 9, 11); // `latm1` may be a variant
+    placed("en-US-Latn", ICU_LOCALE_REFUSED, 6, 10);
+    placed("en_Latn_US_", ICU_LOCALE_REFUSED, 11, 11);
+    placed("en-u", ICU_LOCALE_REFUSED, 4, 4);
+    placed("en-u-ca-buddhist-u-nu-thai", ICU_LOCALE_REFUSED, 17, 18);
+    placed("de-1996-1996", ICU_LOCALE_REFUSED, 8, 12);
+    placed("en-t-de-m0", ICU_LOCALE_REFUSED, 10, 10);
+    placed("en-x", ICU_LOCALE_REFUSED, 4, 4);
+    placed("en-a-b", ICU_LOCALE_REFUSED, 5, 6);
+}
+
 int main(int count, char **names) {
     size_t length;
     struct icu_locale one = {0}, other = {0};
@@ -359,6 +376,7 @@ int main(int count, char **names) {
     supplements(json, length);
     unsettled();
     list_faults();
+    places();
     free(json);
     commands(&other);
     wrong_words(&one);

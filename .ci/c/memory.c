@@ -104,6 +104,18 @@ static int list_fault(void) {
     return 1;
 }
 
+// Where a text is wrong, and the same once more where memory was refused. Nothing is told then.
+static int place(void) {
+    static const char text[] = "de-1996-fonipa-u-co-phonebk-u-nu-thai";
+    size_t from = 77, to = 77;
+    int32_t number = icu_locale_fault((const uint8_t *)text, sizeof text - 1, &from, &to);
+    want(number == ICU_LOCALE_REFUSED ? from == 28 && to == 29 : number == ICU_LOCALE_MEMORY && from == 77 && to == 77, "a place");
+    if (number == ICU_LOCALE_REFUSED) return 0;
+    number = icu_locale_fault((const uint8_t *)text, sizeof text - 1, &from, &to);
+    want(number == ICU_LOCALE_REFUSED && from == 28 && to == 29, "the next place");
+    return 1;
+}
+
 // A supplement, and the same once more where memory was refused.
 static int supplement(struct icu_locale *handle) {
     static const char parents[] = "{\"parents\":{\"en-AU\":\"en-001\"}}";
@@ -130,6 +142,7 @@ static int run(void) {
     }
     refusals += negotiations(&one);
     refusals += list_fault();
+    refusals += place();
     long before = requests;
     number = icu_locale_share(&one, &other);
     want(requests == before + 1, "a share asks for memory once");

@@ -4,6 +4,7 @@
 ghost use Rattle.std.specs.Prelude.{◌≡◌, None, Bool, Result};
 ghost use Rattle.icu_locale_c.specs.Calls.{IsCall, IsOpened, IsShared, IsSupplemented, IsSettledCall, done_number, answer_number, yes_number};
 ghost use Rattle.icu_locale_c.specs.Negotiations.{IsAvailableCall, IsAvailableIn, IsListFaultIn, IsNegotiatedCall, IsNegotiatedIn};
+ghost use Rattle.icu_locale_c.specs.Places.{IsPlaced};
 ghost use Rattle.icu_locale_c.specs.declared.refusal.Refusal.{Refusal};
 
 mod handle;
@@ -12,12 +13,14 @@ mod kept_list;
 mod lines;
 mod loose;
 mod negotiations;
+mod place;
 mod refusal;
 mod shared;
 mod words;
 
 use crate::handle::Handle;
 use crate::negotiations::put_fault;
+use crate::place::put_place;
 use crate::refusal::{Refusal, answer_number, done_number, yes_number};
 use crate::shared::Shared;
 use crate::words::read_syntax;
@@ -153,6 +156,20 @@ pub extern "C" fn icu_locale_list_fault(
         × IsListFaultIn syntax.now list.now place.old place.new outcome }
 {
     done_number(list_fault(alloc, syntax, list, place))
+}
+
+/// Whether a text is a locale identifier, and else the bytes of the first piece that none can have there.
+#[unsafe(no_mangle)]
+pub extern "C" fn icu_locale_fault(
+    alloc: Global,
+    text: &[u8],
+    from: &mut usize,
+    to: &mut usize,
+) -> i32
+    ensures { (outcome : Result Bool Refusal) × (result ≡ answer_number outcome)
+        × IsPlaced text.now (from.old, to.old) (from.new, to.new) outcome }
+{
+    answer_number(put_place(alloc, text, from, to))
 }
 
 /// Whether the likely tables are settled.
