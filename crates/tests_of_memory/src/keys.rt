@@ -3,7 +3,7 @@ use crate::budget::{Answered, Call, stands};
 use icu_locale::{CanonicalizeError, CanonicalizerRef, LocaleExpander, ReadRules};
 use icu_locale_core::LanguageIdentifier;
 use icu_locale_extensions::LocaleIdentifier;
-use icu_locale_key::{bring_to_stable_key, is_own_key, key_of_whole};
+use icu_locale_key::{bring_to_stable_key, is_own_key, key_of_identifier, key_of_whole};
 use icu_locale_values::{ValueAliases, WholeCanonicalizer, WholeError};
 use icu_provider::DataProvider;
 use std::alloc::Global;
@@ -59,6 +59,24 @@ impl Call for KeyOfWhole<'_> {
     }
 }
 
+// The same of an identifier alone.
+#[derive(Drop)]
+struct KeyOfIdentifier<'d>(
+    WholeCanonicalizer<'d>,
+    &'d LanguageIdentifier,
+    &'d LanguageIdentifier,
+);
+
+impl Call for KeyOfIdentifier<'_> {
+    fn answer(&self, _alloc: Global) -> Answered {
+        match key_of_identifier(&self.0, self.1) {
+            Ok(key) => told(key == *self.2),
+            Err(WholeError::Memory) => Answered::Refused,
+            Err(_) => Answered::Wrong,
+        }
+    }
+}
+
 fn told(is_wanted: bool) -> Answered {
     if is_wanted {
         Answered::Whole
@@ -85,8 +103,11 @@ fn whole_keys_stand(rt: &impl Abort, alloc: Global, rules: CanonicalizerRef<'_>)
     let from = from.expect(rt, "whole identifier");
     let to = whole_identifier(alloc, "en-t-m0-prprname-u-ca-islamic-civil-ka-three");
     let to = to.expect(rt, "whole identifier");
-    let call = KeyOfWhole(WholeCanonicalizer { rules, values }, &from, &to);
-    stands(rt, alloc, &call);
+    let canonicalizer = WholeCanonicalizer { rules, values };
+    stands(rt, alloc, &KeyOfWhole(canonicalizer, &from, &to));
+    let from = identifier(alloc, "ja-Latn-hepburn-heploc").expect(rt, "identifier");
+    let to = identifier(alloc, "ja-Latn-alalc97").expect(rt, "identifier");
+    stands(rt, alloc, &KeyOfIdentifier(canonicalizer, &from, &to));
 }
 
 #[test]

@@ -2,6 +2,7 @@
 use crate::budget::{Answered, Call, asks_nothing, stands, take_all};
 use icu_locale_core::ParseError;
 use icu_locale_extensions::{LocaleIdentifier, Syntax};
+use icu_locale_places::{Fault, read_at};
 use std::alloc::Global;
 
 // Texts that keep something.
@@ -55,6 +56,42 @@ fn locale_identifiers(rt: HostRuntime) {
     for (syntax, text) in NOTHING_KEPT {
         asks_nothing(&rt, alloc, &ReadAndCopy(syntax, text));
     }
+}
+
+// Telling where a text is wrong: at the wanted bytes.
+#[derive(Drop)]
+struct ReadAt(&'static str, usize, usize);
+
+impl Call for ReadAt {
+    fn answer(&self, alloc: Global) -> Answered {
+        match read_at(alloc, self.0.as_bytes()) {
+            Err(
+                Fault::At {
+                    refusal: _,
+                    from,
+                    to,
+                },
+            ) => is_wanted(from == self.1 && to == self.2),
+            Err(Fault::Memory) => Answered::Refused,
+            Ok(_) => Answered::Wrong,
+        }
+    }
+}
+
+fn is_wanted(wanted: bool) -> Answered {
+    if wanted {
+        Answered::Whole
+    } else {
+        Answered::Wrong
+    }
+}
+
+#[test]
+fn places(rt: HostRuntime) {
+    let alloc = rt.alloc();
+    stands(&rt, alloc, &ReadAt("de-1901-u-co-phonebk-u-nu", 21, 22));
+    stands(&rt, alloc, &ReadAt("en-a-bcd-x", 10, 10));
+    asks_nothing(&rt, alloc, &ReadAt("1en-US", 0, 3));
 }
 
 // Writing a locale identifier after a text, which stays as it was where memory was refused.
