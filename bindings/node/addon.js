@@ -30,5 +30,6 @@ module.exports = {
   available: (held, syntax, list) => calls.available(held, wordsOf(syntax), bytes(list)),
   negotiate: (held, syntax, requests) => calls.negotiate(held, wordsOf(syntax), bytes(requests)),
   listFault: (syntax, list) => calls.listFault(wordsOf(syntax), bytes(list)),
+  fault: (text) => calls.fault(bytes(text)),
   answer: (held, command, line) => calls.answer(held, wordsOf(command), bytes(line)),
 };

@@ -112,18 +112,29 @@ function overList(call, held, word, list) {
   return told;
 }
 
+/** The refusal of a line. Of what is no locale identifier it has the first piece that none can have there, and its bounds. */
+function lineRefusal(words, name, line) {
+  const refused = ofLine(name, line);
+  const bounds = words.startsWith('locales ') && name.startsWith('Invalid') ? behind.calls.fault(line) : undefined;
+  if (!Array.isArray(bounds)) return refused;
+  const octets = typeof line === 'string' ? new TextEncoder().encode(line) : line;
+  const part = (from, to) => new TextDecoder('utf-8', { ignoreBOM: true }).decode(octets.subarray(from, to));
+  const [start, end] = typeof line === 'string' ? bounds.map((bound) => part(0, bound).length) : bounds;
+  return Object.assign(refused, { start, end, subtag: part(...bounds) });
+}
+
 /** What a handle answers to a line, by the words of a command. */
 function answered(held, command, line) {
   const told = behind.calls.answer(held, text(command), text(line));
   if (typeof told === 'string') return told;
   const [number, answer] = told;
-  if (number === LINE_REFUSED) throw ofLine(answer.split('\t')[1], line);
   const words = typeof command === 'string' ? command : new TextDecoder().decode(command);
+  if (number === LINE_REFUSED) throw lineRefusal(words, answer.split('\t')[1], line);
   if (number === TABLE) throw leftOut(words, leavesOut(held));
   throw numbered(number);
 }
 
 module.exports = {
-  DONE, TABLE, LIST, behind, stand, text, string, optionsOf, wordsIn, wordOf, made, listed, joined, headerOf,
+  DONE, LINE_REFUSED, TABLE, LIST, behind, stand, text, string, optionsOf, wordsIn, wordOf, made, listed, joined, headerOf,
   listRefusal, leavesOut, overList, answered,
 };

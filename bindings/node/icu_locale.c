@@ -218,6 +218,24 @@ static napi_value list_fault(napi_env env, napi_callback_info info) {
     return list;
 }
 
+// fault(text): the bytes of the first piece that no locale identifier can have there, in a list, or the number where there is
+// none.
+static napi_value fault(napi_env env, napi_callback_info info) {
+    size_t count = 1, length, bounds[2];
+    napi_value values[1], list = NULL, bound = NULL;
+    const uint8_t *text;
+    if (napi_get_cb_info(env, info, &count, values, NULL, NULL) != napi_ok || count < 1) return wrong(env);
+    if (!bytes_of(env, values[0], &text, &length)) return wrong(env);
+    int32_t number = icu_locale_fault(text, length, &bounds[0], &bounds[1]);
+    if (number != ICU_LOCALE_REFUSED) return number_of(env, number);
+    napi_create_array_with_length(env, 2, &list);
+    for (uint32_t at = 0; at < 2; at++) {
+        napi_create_int64(env, (int64_t)bounds[at], &bound);
+        napi_set_element(env, list, at, bound);
+    }
+    return list;
+}
+
 // answer(tables, command, line): the text of an accepted line, and else a list of a number and a text.
 static napi_value answer(napi_env env, napi_callback_info info) {
     size_t count = 3, command_length, line_length, written = 0;
@@ -273,8 +291,8 @@ NAPI_MODULE_INIT() {
         const char *name;
         napi_callback call;
     } calls[] = {{"open", open_tables}, {"supplement", supplement}, {"share", share_tables}, {"available", available_of}, {"answer", answer},
-                 {"negotiate", negotiate}, {"listFault", list_fault}, {"isSettled", is_settled}, {"lend", lend}, {"borrow", borrow},
-                 {"close", close_tables}};
+                 {"negotiate", negotiate}, {"listFault", list_fault}, {"fault", fault}, {"isSettled", is_settled}, {"lend", lend},
+                 {"borrow", borrow}, {"close", close_tables}};
     for (size_t place = 0; place < sizeof calls / sizeof *calls; place++) {
         napi_value call;
         napi_create_function(env, calls[place].name, NAPI_AUTO_LENGTH, calls[place].call, NULL, &call);

@@ -41,6 +41,11 @@ export class Refused extends Error {
   readonly code: Code;
   /** Where the code is `List`: the place of what is no identifier, counted from 0. */
   readonly place?: number;
+  /** Of a text that is no locale identifier: the first piece that none can have there, empty where the text ends too early. */
+  readonly subtag?: string;
+  /** Where that piece begins, and where it ends. */
+  readonly start?: number;
+  readonly end?: number;
 }
 
 /** A language of a menu: its locale as it was handed in, its name in the language of the menu, and its own name. */

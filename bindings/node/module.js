@@ -1,7 +1,7 @@
 'use strict';
 // The calls of icu_locale.h by the module for WebAssembly, as the addon has them: over the memory of one instance. A handle
 // is a block of that memory, which an object stands for.
-const { LIST } = require('./asking.js');
+const { LINE_REFUSED, LIST } = require('./asking.js');
 
 const [ROOM, MEMORY, NO_LOAN] = [3, 4, -1];
 const HANDLE = 8n;
@@ -169,6 +169,13 @@ class Module {
     const number = this.#over(list, (place, length) => (
       this.#its.icu_locale_list_fault(...word, place, length, this.#numbers)));
     return number === LIST ? [this.#number(this.#numbers)] : number;
+  }
+
+  /** The bytes of the first piece of a text that no locale identifier can have there, or the number where there is none. */
+  fault(text) {
+    const other = this.#numbers + 8n;
+    const number = this.#over(text, (place, length) => this.#its.icu_locale_fault(place, length, this.#numbers, other));
+    return number === LINE_REFUSED ? [this.#number(this.#numbers), this.#number(other)] : number;
   }
 
   /** The text of an accepted line, and else a number and a text. */

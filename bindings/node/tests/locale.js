@@ -52,6 +52,11 @@ assert.strictEqual(String(new Locale('de_DE.UTF-8', { syntax: 'posix' })), 'de-D
 assert.strictEqual(String(new Locale(Buffer.from('fr-ca'))), 'fr-CA');
 refuses(() => new Locale(''), 'InvalidLanguage');
 refuses(() => new Locale('en-u'), 'InvalidSubtag');
+// where a text is wrong, by the grammar of UTS #35 Part 1, section 3.2; five letters and digits are a variant
+for (const [text, start, end, subtag] of [
+  ['', 0, 0, ''], ['1-US', 0, 1, '1'], ['en-Latm1-US', 9, 11, 'US'], ['de-u', 4, 4, ''], ['en-\u{1f310}-US', 3, 5, '\u{1f310}'],
+]) assert.throws(() => new Locale(text), { start, end, subtag });
+assert.throws(() => new Locale('en-', { syntax: 'bcp47' }), (refused) => refused.code === 'InvalidSubtag' && !('subtag' in refused));
 assert.throws(() => new Locale(5), TypeError);
 assert.throws(() => new Locale('en', { syntax: 'utf8' }), RangeError);
 assert.throws(() => { locale.region = 'HK'; }, TypeError);

@@ -1,8 +1,10 @@
 // The package for `import`.
 import assert from 'assert';
-import calls, { Locale, Negotiator, Refused, Switcher, Tables, implementation, load } from 'icu_locale';
+import * as module from 'icu_locale';
 
-assert.deepStrictEqual({ Tables, Locale, Negotiator, Switcher, Refused, implementation, load }, { ...calls });
+const { default: calls, ...others } = module;
+const { Refused, Tables, load } = others;
+assert.deepStrictEqual(others, { ...calls });
 assert.strictEqual((await load()).Tables, Tables);
 assert.throws(() => Tables.fromJson('{'), Refused);
 console.log('module: as it should be');

@@ -35,8 +35,7 @@ class Calls:
         self.available = _call(long.icu_locale_available_in, _HANDLE, *_TEXT, *_TEXT, _HANDLE)
         self.negotiate = _call(short.icu_locale_negotiate_in, _HANDLE, *_TEXT, *_TEXT, size_at, size_at)
         self.list_fault = _call(short.icu_locale_list_fault, *_TEXT, *_TEXT, size_at)
-        fault = getattr(short, "icu_locale_fault", None)  # which an older library has not
-        self.fault = fault and _call(fault, *_TEXT, size_at, size_at)
+        self.fault = _call(short.icu_locale_fault, *_TEXT, size_at, size_at)
         self.close = _call(short.icu_locale_close, _HANDLE)
         short.icu_locale_close.restype = None
 
@@ -65,9 +64,9 @@ def calls() -> Calls:
 
 
 def fault_of(text: bytes) -> Optional[Tuple[int, int]]:
-    """Where a text is wrong that is no locale identifier; None where it is one, or the library does not tell."""
-    ask, start, end = calls().fault, SIZE(), SIZE()
-    return (start.value, end.value) if ask and ask(text, len(text), start, end) == REFUSED else None
+    """Where a text is wrong that is no locale identifier; None where it is one."""
+    start, end = SIZE(), SIZE()
+    return (start.value, end.value) if calls().fault(text, len(text), start, end) == REFUSED else None
 
 
 def version() -> str:

@@ -4,7 +4,6 @@ import pickle
 import unittest
 
 from icu_locale import InvalidLanguage, InvalidSubtag, LineRefused, Locale, Tables
-from icu_locale._calls import calls
 from icu_locale.example import TABLES
 
 
@@ -51,7 +50,6 @@ class Locales(unittest.TestCase):
                 Locale(text)
         self.assertEqual(Locale.parse("i-klingon", syntax="bcp47"), Locale("tlh"))
 
-    @unittest.skipUnless(calls().fault, "the library does not tell where a text is wrong")
     def test_where(self):
         for text, where in (
                 ("en-US-Latn", (6, 10, "Latn")), ("", (0, 0, "")), ("e-US", (0, 1, "e")), ("de-u", (4, 4, "")),

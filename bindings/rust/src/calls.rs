@@ -67,5 +67,6 @@ extern "C" {
         request: *mut usize,
         available: *mut usize,
     ) -> i32;
+    pub fn icu_locale_fault(text: *const u8, length: usize, from: *mut usize, to: *mut usize) -> i32;
     pub fn icu_locale_close(handle: *mut Handle);
 }
