@@ -13,7 +13,7 @@ use Rattle.icu_locale_core.specs.declared.langid.LanguageIdentifier.{LanguageIde
 use Rattle.icu_locale_core.specs.laws.Classes.{part_language, part_script, part_region, part_variant, part_key}
 use Rattle.icu_locale_core.specs.laws.Identifiers.{same_text, values_decide}
 use Rattle.icu_locale_extensions.specs.Extensions.{is_piece, is_singleton, is_x, is_tkey}
-use Rattle.icu_locale_extensions.specs.Syntaxes.{legacy, same_pieces, value_of, preferred, is_private, is_extended, is_registered, tag_text, marks_modifier, ends_base, is_standard, base_text}
+use Rattle.icu_locale_extensions.specs.Syntaxes.{legacy, same_pieces, value_of, preferred, is_private, is_extended, is_registered, is_root, root_text, tag_text, marks_modifier, ends_base, is_standard, base_text}
 use Rattle.icu_locale_extensions.specs.declared.identifier.LocaleIdentifier.{LocaleIdentifier}
 use Rattle.icu_locale_extensions.specs.declared.syntax.Syntax.{Syntax}
 use Rattle.icu_locale_extensions.specs.declared.syntax.Syntax.TheVariants.{Unicode, Bcp47, Posix}
@@ -314,6 +314,18 @@ private-strict [] begins = refl
 private-strict (p ∷ []) begins = language_no_x p begins
 private-strict (p ∷ q ∷ ps) begins = language_no_x p (and_parts (is_language p) _ begins).0
 
+-- root has four letters
+language_no_root : (p : List ℕ) → is_language p ≡ true → same_text (lowercase p) (codes "root") ≡ false
+language_no_root p is = false_from_ne_true _ (λ root. short p is (sym (length-lowercase p) ∙ ap length ((bytes_eq-Decides (lowercase p) (codes "root")).0 root)))
+  where
+    short : (p : List ℕ) → is_language p ≡ true → length p ≡ 4 → ⊥
+    short p is four = grind (arith, nat_tests)
+
+root-strict : (ps : List (List ℕ)) → may_begin ps ≡ true → is_root ps ≡ false
+root-strict [] begins = refl
+root-strict (p ∷ []) begins = language_no_root p begins
+root-strict (p ∷ q ∷ ps) begins = ap (λ b. b && is_singleton q) (language_no_root p (and_parts (is_language p) _ begins).0)
+
 extended-strict : (ps : List (List ℕ)) → may_begin ps ≡ true → is_extended ps ≡ false
 extended-strict [] begins = refl
 extended-strict (p ∷ []) begins = refl
@@ -327,7 +339,8 @@ module _ (t : List ℕ) (begins : may_begin (pieces t) ≡ true) where
   tag_is_text : tag_text t ≡ t
   tag_is_text =
       λ i. unwrap_or (preferred-strict (pieces t) begins i) (
-      if private-strict (pieces t) begins i then codes "und-" ++ t else (if extended-strict (pieces t) begins i then after_first is_separator t else t))
+      if private-strict (pieces t) begins i then codes "und-" ++ t else (if root-strict (pieces t) begins i then root_text t
+      else (if extended-strict (pieces t) begins i then after_first is_separator t else t)))
 
   another : (name : List ℕ) → may_begin (pieces name) ≡ false → same_text t name ≡ false
   another name other = false_from_ne_true _ (λ same. false≢true (sym (ap (λ u. may_begin (pieces u)) ((bytes_eq-Decides t name).0 same) ∙ other) ∙ begins))
@@ -336,11 +349,17 @@ module _ (t : List ℕ) (begins : may_begin (pieces t) ≡ true) where
   not_standard : is_standard t ≡ false
   not_standard = (λ i. another (codes "C") refl i || another (codes "POSIX") refl i)
 
+  -- and is not root
+  not_root : same_text t (codes "root") ≡ false
+  not_root = another (codes "root") refl
+
 base_is_text : (t : List ℕ) (x : LocaleIdentifier) → read (pieces t) ≡ Ok x → base_text t ≡ t
 base_is_text t x is =
     let whole = plain_base t (read_plain (pieces t) x is) in
-    let other = ap is_standard whole ∙ not_standard t (strict_begins (pieces t) x is) in
-    λ i. if other i then codes "en-US-u-va-posix" else whole i
+    let begins = strict_begins (pieces t) x is in
+    let other = ap is_standard whole ∙ not_standard t begins in
+    let no_root = ap (λ u. same_text u (codes "root")) whole ∙ not_root t begins in
+    λ i. if other i then codes "en-US-u-va-posix" else (if no_root i then codes "und" else whole i)
 
 pub strict_alike : (s : Syntax) (t : List ℕ) (x : LocaleIdentifier) → read (pieces t) ≡ Ok x → read_by s t ≡ Ok x
 strict_alike Unicode t x is = is

@@ -1,10 +1,12 @@
 -- Legacy tags: texts with the same pieces, and rows of tags.
 use Rattle.std.specs.Prelude.{◌≡◌, ℕ, ◌<◌, Bool, true, false, if◌then◌else◌, zero, suc, codes, List, [], ◌∷◌, ◌++◌, map, length, get_or, unwrap_or}
-use Rattle.std.specs.Prelude.{Option, Some, None}
+use Rattle.std.specs.Prelude.{Option, Some, None, IfSome, ◌&&◌, ◌==◌}
+use denote.Ref.{Bor}
 use Rattle.std.proofs.Common.{refl, ap, sym, ◌∙◌, arith}
 use Rattle.std.specs.List.{after_first, list_all}
 use Rattle.std.specs.Cmp.Lexicographic.{pointwise}
 use Rattle.std.proofs.lemmas.Bool.{and_parts, false_from_ne_true, false≢true}
+use Rattle.std.proofs.lemmas.Bool.Decides.{nat_tests}
 use Rattle.std.proofs.Math.Bool.{and-false}
 use Rattle.std.proofs.lemmas.List.{length-map}
 use Rattle.std.proofs.lemmas.Slice.Eq.{bytes_eq-Decides}
@@ -12,10 +14,12 @@ use Rattle.icu_locale_core.specs.Identifier.{is_separator, pieces}
 use Rattle.icu_locale_core.specs.Subtag.{lowercase}
 use Rattle.icu_locale_core.specs.Value.{written_value}
 use Rattle.icu_locale_core.specs.laws.Identifiers.{same_text, values_decide}
-use Rattle.icu_locale_extensions.specs.Extensions.{is_x}
-use Rattle.icu_locale_extensions.specs.Syntaxes.{is_extended, is_private, legacy, preferred, same_pieces, tag_text, value_of}
+use Rattle.icu_locale_extensions.specs.Extensions.{any_piece, is_singleton, is_x}
+use Rattle.icu_locale_extensions.specs.Syntaxes.{is_extended, is_private, is_root, legacy, preferred, root_text, same_pieces, tag_text, value_of}
+use Rattle.icu_locale_extensions.specs.Reader.{first_is}
+use Rattle.icu_locale_extensions.specs.inner.Lent.{pieces_of, und_before}
 use Rattle.icu_locale_extensions.specs.inner.Texts.{spelled}
-use Rattle.icu_locale_extensions.proofs.Spellings.{joined-spelled, pieces-spelled}
+use Rattle.icu_locale_extensions.proofs.Spellings.{any_piece-pieces, joined-spelled, pieces-spelled}
 
 -- ---- the same pieces
 
@@ -102,11 +106,54 @@ preferred-one f = value_none (λ row. more_than_one (pieces row.0)) legacy (f �
 
 -- ---- what a tag stands for
 
--- without a legacy tag and private use it is the tag, or what follows the prefix
+-- root is alone, or a singleton is next
+pub root_before : (p : List ℕ) (ps : List (List ℕ)) → any_piece ps ≡ true
+    → is_root (p ∷ ps) ≡ (same_text (lowercase p) (codes "root") && first_is is_singleton ps)
+root_before p [] some = absurd (false≢true some)
+root_before p (q ∷ ps) some = refl
+
+pub root_marks : (p : List ℕ) (behind : Option (Bor (List ℕ))) → is_root (p ∷ pieces_of behind) ≡ true
+    → IfSome behind (λ rest. first_is is_singleton (pieces rest.now) ≡ true)
+root_marks p None root = tt
+root_marks p (Some r) root =
+    let marks = first_is is_singleton (pieces r.now) in
+    (and_parts (same_text (lowercase p) (codes "root")) marks (sym (root_before p (pieces r.now) (any_piece-pieces r.now)) ∙ root)).1
+
+two : (p : List ℕ) (ps : List (List ℕ)) → any_piece ps ≡ true → (length (p ∷ ps) == 1) ≡ false
+two p [] some = absurd (false≢true some)
+two p (q ∷ ps) some = grind (arith, nat_tests)
+
+-- what it stands for by its pieces
+tag_cut : (t : List ℕ) (ps : List (List ℕ)) → pieces t ≡ ps → tag_text t ≡ unwrap_or (preferred ps) (if is_private ps then codes "und-" ++ t
+    else (if is_root ps then root_text t else (if is_extended ps then after_first is_separator t else t)))
+tag_cut t ps cut = λ i. unwrap_or (preferred (cut i)) (if is_private (cut i) then codes "und-" ++ t
+    else (if is_root (cut i) then root_text t else (if is_extended (cut i) then after_first is_separator t else t)))
+
+-- und in the place of the first piece
+und_first : (t first : List ℕ) (behind : Option (Bor (List ℕ))) → pieces t ≡ first ∷ pieces_of behind
+    → IfSome behind (λ rest. rest.now ≡ after_first is_separator t) → root_text t ≡ und_before behind
+und_first t first None cut rest =
+    ap (λ ps. if length ps == 1 then codes "und" else codes "und-" ++ after_first is_separator t) cut
+und_first t first (Some r) cut rest =
+    let more : (length (first ∷ pieces r.now) == 1) ≡ false = two first (pieces r.now) (any_piece-pieces r.now) in
+    ap (λ ps. if length ps == 1 then codes "und" else codes "und-" ++ after_first is_separator t) cut
+    ∙ ap (λ b. if b then codes "und" else codes "und-" ++ after_first is_separator t) more
+    ∙ ap (λ u. codes "und-" ++ u) (sym rest)
+
+-- without a legacy tag, private use and root it is the tag, or what follows the prefix
 pub tag_extended : (t first : List ℕ) (ps : List (List ℕ)) → pieces t ≡ first ∷ ps → preferred (first ∷ ps) ≡ None → is_x first ≡ false
-    → is_extended (first ∷ ps) ≡ true
+    → is_root (first ∷ ps) ≡ false → is_extended (first ∷ ps) ≡ true
     → after_first is_separator t ≡ tag_text t
-tag_extended t first ps cut none other extended =
-    sym ((λ i. unwrap_or (preferred (cut i)) (if is_private (cut i) then codes "und-"
-    ++ t else (if is_extended (cut i) then after_first is_separator t else t)))
-    ∙ (λ i. unwrap_or (none i) (if other i then codes "und-" ++ t else (if extended i then after_first is_separator t else t))))
+tag_extended t first ps cut none other no_root extended =
+    sym (tag_cut t (first ∷ ps) cut
+    ∙ (λ i. unwrap_or (none i) (if other i then codes "und-" ++ t else (if no_root i then root_text t else (if extended i then after_first is_separator t else t)))))
+
+-- root stands for und, alone or before what follows it
+pub tag_root : (t first : List ℕ) (behind : Option (Bor (List ℕ))) → pieces t ≡ first ∷ pieces_of behind
+    → IfSome behind (λ rest. rest.now ≡ after_first is_separator t) → preferred (first ∷ pieces_of behind) ≡ None
+    → is_x first ≡ false → is_root (first ∷ pieces_of behind) ≡ true → und_before behind ≡ tag_text t
+tag_root t first behind cut rest none other root =
+    sym (tag_cut t (first ∷ pieces_of behind) cut
+    ∙ (λ i. unwrap_or (none i) (if other i then codes "und-" ++ t
+    else (if root i then root_text t else (if is_extended (first ∷ pieces_of behind) then after_first is_separator t else t))))
+    ∙ und_first t first behind cut rest)

@@ -1,6 +1,6 @@
 -- Texts of the world that name a locale: tags of BCP 47 (RFC 5646) and names of POSIX locales, by what each stands for
 -- in the strict grammar.
-use Rattle.std.specs.Prelude.{◌≡◌, ◌↔◌, ◌⊎◌, ℕ, Bool, false, not, ◌&&◌, ◌||◌, ◌==◌, IsTrue, List, [], ◌∷◌, ◌++◌, map, codes, Option, Some, None}
+use Rattle.std.specs.Prelude.{◌≡◌, ◌↔◌, ◌⊎◌, ℕ, Bool, false, not, ◌&&◌, ◌||◌, ◌==◌, IsTrue, List, [], ◌∷◌, ◌++◌, length, map, codes, Option, Some, None}
 use Rattle.std.specs.Prelude.{unwrap_or, Result, Ok, Err, IfOk, if◌then◌else◌}
 use Rattle.std.specs.List.{before_first, after_first, list_any}
 use Rattle.std.specs.Option.{option_or}
@@ -70,6 +70,18 @@ abbrev pub is_private : List (List ℕ) → Bool
 is_private [] = false
 is_private (p ∷ ps) = is_x p
 
+-- root of CLDR, in any case, alone or before extensions and private use: the language und of BCP 47
+-- (UTS #35 Part 1, section 3.3)
+abbrev pub is_root : List (List ℕ) → Bool
+is_root [] = false
+is_root (p ∷ []) = same_text (lowercase p) (codes "root")
+is_root (p ∷ q ∷ ps) = same_text (lowercase p) (codes "root") && is_singleton q
+
+-- und in the place of the first piece (section 3.3)
+abbrev pub root_text : List ℕ → List ℕ
+root_text t =
+    if length (pieces t) == 1 then codes "und" else codes "und-" ++ after_first is_separator t
+
 -- some row has a language with a prefix, case aside
 abbrev pub has_row : List (List ℕ × List ℕ) → (prefix language : List ℕ) → Bool
 has_row rows prefix language =
@@ -86,13 +98,14 @@ is_extended (p ∷ q ∷ ps) =
     (is_language p && (has_length 3 3 q && is_alphabetic q)) && is_registered p q
 is_extended ps = false
 
--- what a tag stands for: the value preferred to it; private use alone after `und`; an extended
--- language in the place of its prefix, and of these one; else the tag itself
+-- what a tag stands for: the value preferred to it; private use alone after `und`; `und` in the place
+-- of root; an extended language in the place of its prefix, and of these one; else the tag itself
 abbrev pub tag_text : List ℕ → List ℕ
 tag_text t =
     unwrap_or (preferred (pieces t)) (
     if is_private (pieces t) then codes "und-" ++ t
-    else (if is_extended (pieces t) then after_first is_separator t else t))
+    else (if is_root (pieces t) then root_text t
+    else (if is_extended (pieces t) then after_first is_separator t else t)))
 
 -- ---- POSIX
 
@@ -108,11 +121,12 @@ ends_base c = (c == 46) || marks_modifier c
 abbrev pub is_standard : List ℕ → Bool
 is_standard name = same_text name (codes "C") || same_text name (codes "POSIX")
 
--- what is before the codeset and the modifier (section 8.2)
+-- what is before the codeset and the modifier (section 8.2); root of CLDR is und there too
 abbrev pub base_text : List ℕ → List ℕ
 base_text t =
     let name = before_first ends_base t in
-    if is_standard name then codes "en-US-u-va-posix" else name
+    if is_standard name then codes "en-US-u-va-posix"
+    else (if same_text name (codes "root") then codes "und" else name)
 
 -- what follows the first `@`, or nothing
 abbrev pub modifier_text : List ℕ → List ℕ

@@ -3,11 +3,13 @@ ghost use Rattle.std.specs.Prelude.{◌≡◌, ◌∷◌, ◌++◌, ◌&&◌, co
 ghost use Rattle.icu_locale_core.specs.Identifier.{pieces};
 ghost use Rattle.icu_locale_core.specs.Subtag.{has_length, is_alphabetic, is_language, lowercase};
 ghost use Rattle.icu_locale_core.specs.laws.Identifiers.{same_text};
-ghost use Rattle.icu_locale_extensions.specs.Syntaxes.{has_row, is_extended, is_private, is_registered, tag_text, ReadsBy};
-ghost use Rattle.icu_locale_extensions.specs.inner.Lent.{pieces_of};
+ghost use Rattle.icu_locale_extensions.specs.Extensions.{is_singleton};
+ghost use Rattle.icu_locale_extensions.specs.Reader.{first_is};
+ghost use Rattle.icu_locale_extensions.specs.Syntaxes.{has_row, is_extended, is_registered, is_root, tag_text, ReadsBy};
+ghost use Rattle.icu_locale_extensions.specs.inner.Lent.{pieces_of, und_before};
 ghost use Rattle.icu_locale_extensions.specs.inner.Tables.{rows_of};
 
-use crate::cuts::{cut, is_named};
+use crate::cuts::{cut, is_named, is_spelled};
 use crate::extended_languages::EXTENDED_LANGUAGES;
 use crate::identifier::LocaleIdentifier;
 use crate::laws;
@@ -20,9 +22,10 @@ use std::alloc::Global;
 impl LocaleIdentifier {
     /// Reads a tag of BCP 47 (RFC 5646) in any case, its pieces apart by `-` or `_`, as the strict grammar reads what
     /// the tag stands for: of a legacy tag, as `i-klingon`, the value that is preferred to it; of private use alone, as
-    /// `x-whatever`, that after `und`; of an extended language that is registered with its prefix, as `zh-yue`,
-    /// that without the prefix; else the tag itself. Five legacy tags are spelled by the strict grammar too, and are
-    /// read so: `art-lojban`, `cel-gaulish`, `zh-guoyu`, `zh-hakka` and `zh-xiang`. It takes memory for variants, private use and extensions alone.
+    /// `x-whatever`, that after `und`; of CLDR's `root`, alone or before extensions or private use, `und` in its place;
+    /// of an extended language that is registered with its prefix, as `zh-yue`, that without the prefix; else the tag
+    /// itself. Five legacy tags are spelled by the strict grammar too, and are read so: `art-lojban`, `cel-gaulish`,
+    /// `zh-guoyu`, `zh-hakka` and `zh-xiang`. It takes memory for variants, private use and extensions alone.
     ///
     /// # Errors
     ///
@@ -45,7 +48,10 @@ fn read_tag(alloc: Global, text: &[u8]) -> Result<LocaleIdentifier, ParseError>
         return read_locale(alloc, value.as_bytes());
     }
     if is_named(first, b'x') {
-        return read_private(alloc, text);
+        return read_after_und(alloc, text);
+    }
+    if is_root(first, behind) {
+        return read_root(alloc, behind);
     }
     match without_prefix(first, behind) {
         Some(tag) => read_locale(alloc, tag),
@@ -53,9 +59,37 @@ fn read_tag(alloc: Global, text: &[u8]) -> Result<LocaleIdentifier, ParseError>
     }
 }
 
-// Private use alone, after `und`.
-fn read_private(alloc: Global, text: &[u8]) -> Result<LocaleIdentifier, ParseError>
-    requires { is_private (pieces text.now) ≡ true }
+// Whether a tag is `root`, alone or before what a singleton begins.
+fn is_root(first: &[u8], behind: Option<&[u8]>) -> bool
+    ensures { result ≡ is_root (first.now ∷ pieces_of behind.entry) }
+{
+    match behind {
+        Some(rest) => is_spelled(first, b"root") && is_singleton(rest),
+        None => is_spelled(first, b"root"),
+    }
+}
+
+// Whether the first piece of a text is a singleton.
+fn is_singleton(text: &[u8]) -> bool
+    ensures { result ≡ first_is is_singleton (pieces text.now) }
+{
+    cut(text).0.len() == 1
+}
+
+// `und`, alone or before what a singleton begins.
+fn read_root(alloc: Global, behind: Option<&[u8]>) -> Result<LocaleIdentifier, ParseError>
+    requires { IfSome behind (λ rest. first_is is_singleton (pieces rest.now) ≡ true) }
+    ensures { ReadsBy Syntax.Unicode (und_before behind.entry) result }
+{
+    match behind {
+        Some(rest) => read_after_und(alloc, rest),
+        None => read_locale(alloc, b"und"),
+    }
+}
+
+// What a singleton begins, after `und`.
+fn read_after_und(alloc: Global, text: &[u8]) -> Result<LocaleIdentifier, ParseError>
+    requires { first_is is_singleton (pieces text.now) ≡ true }
     ensures { ReadsBy Syntax.Unicode (codes "und-" ++ text.now) result }
 {
     laws::derived_is_read();

@@ -1,4 +1,4 @@
-//! The first piece of a text, and pieces of one letter.
+//! The first piece of a text, and what a piece spells.
 ghost use Rattle.std.specs.Prelude.{◌≡◌, ◌∷◌, [], IfSome};
 ghost use Rattle.std.specs.List.{after_first, position};
 ghost use Rattle.icu_locale_core.specs.Identifier.{is_separator, pieces};
@@ -14,6 +14,13 @@ pub fn is_named(piece: &[u8], name: u8) -> bool
         [only] => only.to_ascii_lowercase() == name,
         _ => false,
     }
+}
+
+// Whether a piece is a text, case aside.
+pub fn is_spelled(piece: &[u8], text: &[u8]) -> bool
+    ensures { result ≡ same_text (lowercase piece.now) (lowercase text.now) }
+{
+    piece.eq_ignore_ascii_case(text)
 }
 
 // The first piece of a text, and what follows its separator.

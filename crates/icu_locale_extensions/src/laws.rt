@@ -21,7 +21,8 @@ use std::cmp::PartialEq;
 
 /// The grammar derives a locale identifier from pieces exactly where they are read as it.
 pub fn derived_is_read()
-    ensures { (ps : List (List ℕ)) (x : LocaleIdentifier) → IsLocaleId ps x ↔ (read ps ≡ Ok x) }
+    ensures { (ps : List (List ℕ)) (x : LocaleIdentifier)
+        → IsLocaleId ps x ↔ (read ps ≡ Ok x) }
 {
     icu_locale_core::laws::pieces_are_read();
 }
@@ -125,7 +126,8 @@ pub fn refusals_are_faults()
 
 /// What the grammar derives is a well-formed tag of RFC 5646, section 2.1, with the same parts; so is what Display writes.
 pub fn texts_are_tags()
-    ensures derived { (ps : List (List ℕ)) (x : LocaleIdentifier) → IsLocaleId ps x → IsTagOf ps x }
+    ensures derived { (ps : List (List ℕ)) (x : LocaleIdentifier)
+        → IsLocaleId ps x → IsTagOf ps x }
     ensures written { (x : LocaleIdentifier) → IsLocaleIdentifier x
         → IsTagOf (pieces (written x)) x }
 {

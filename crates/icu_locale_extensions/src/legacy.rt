@@ -2,13 +2,11 @@
 ghost use Rattle.std.specs.Prelude.{◌≡◌, ◌∷◌};
 ghost use Rattle.std.specs.Option.{option_copied};
 ghost use Rattle.icu_locale_core.specs.Identifier.{pieces};
-ghost use Rattle.icu_locale_core.specs.Subtag.{lowercase};
-ghost use Rattle.icu_locale_core.specs.laws.Identifiers.{same_text};
 ghost use Rattle.icu_locale_extensions.specs.Syntaxes.{preferred, same_pieces, value_of};
 ghost use Rattle.icu_locale_extensions.specs.inner.Lent.{pieces_of};
 ghost use Rattle.icu_locale_extensions.specs.inner.Tables.{rows_of};
 
-use crate::cuts::is_named;
+use crate::cuts::{is_named, is_spelled};
 use crate::texts::spelled;
 
 // What follows the first piece of each legacy tag, and the value preferred to the tag.
@@ -59,13 +57,6 @@ pub fn preferred(first: &[u8], behind: Option<&[u8]>) -> Option<&'static str>
         return value_of(&BEHIND_ZH, behind);
     }
     None
-}
-
-// Whether a piece is a text, case aside.
-fn is_spelled(piece: &[u8], text: &[u8]) -> bool
-    ensures { result ≡ same_text (lowercase piece.now) (lowercase text.now) }
-{
-    piece.eq_ignore_ascii_case(text)
 }
 
 // The value of the first row whose text has the same pieces.

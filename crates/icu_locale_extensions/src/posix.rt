@@ -15,10 +15,10 @@ use std::alloc::Global;
 impl LocaleIdentifier {
     /// Reads a name of a POSIX locale (POSIX.1 Base Definitions, section 8.2), as `sr_RS.UTF-8@latin`: its base, up to
     /// the first `.` or `@`, as the strict grammar reads it, with what its modifier names, which follows the first `@`.
-    /// The names `C` and `POSIX` stand for `en-US-u-va-posix`. Of modifiers `latin`, `iqtelif`,
-    /// `cyrillic` and `devanagari` set the script, in place of one that the base has, and `valencia` adds that variant;
-    /// each other, as `euro`, is dropped, and so is the codeset. Names and modifiers are read in the case that is
-    /// written here, a base in any. It takes memory for variants, private use and extensions alone.
+    /// The names `C` and `POSIX` stand for `en-US-u-va-posix`, and CLDR's `root` for `und`. Of modifiers `latin`,
+    /// `iqtelif`, `cyrillic` and `devanagari` set the script, in place of one that the base has, and `valencia` adds
+    /// that variant; each other, as `euro`, is dropped, and so is the codeset. Names and modifiers are read in the case
+    /// that is written here, a base in any. It takes memory for variants, private use and extensions alone.
     ///
     /// # Errors
     ///
@@ -36,13 +36,16 @@ impl LocaleIdentifier {
     }
 }
 
-// What is before the codeset and the modifier, and for the locale of the standard its text.
+// What is before the codeset and the modifier: of the locale of the standard and of `root` what each stands for.
 fn base(text: &[u8]) -> &[u8]
     ensures { result.now ≡ base_text text.now }
 {
     let name = before_end(text);
     if is_text(name, b"C") || is_text(name, b"POSIX") {
         return b"en-US-u-va-posix";
+    }
+    if is_text(name, b"root") {
+        return b"und";
     }
     name
 }

@@ -6,23 +6,28 @@ use icu_locale_places::{Fault, read_at};
 use std::alloc::Global;
 
 // Texts that keep something.
-const KEPT: [(Syntax, &str); 7] = [
+const KEPT: [(Syntax, &str); 9] = [
     (Syntax::Unicode, "de-1901-1996-fonipa-posix"),
     (Syntax::Unicode, "en-u-attr-other-co-phonebk-hc-h12"),
     (Syntax::Unicode, "en-a-bcd-t-ja-1996-m0-names-x-mine"),
     (Syntax::Bcp47, "zh-cmn-Hans-u-co-pinyin"),
     (Syntax::Bcp47, "x-mine-and-yours"),
+    (Syntax::Bcp47, "root-u-cu-usd-x-mine"),
     (Syntax::Posix, "ca_ES.UTF-8@valencia"),
     (Syntax::Posix, "C"),
+    (Syntax::Posix, "root@valencia"),
 ];
 
 // Texts that keep nothing, and ask for no memory.
-const NOTHING_KEPT: [(Syntax, &str); 5] = [
+const NOTHING_KEPT: [(Syntax, &str); 8] = [
     (Syntax::Unicode, "de-Latn-DE"),
     (Syntax::Unicode, "en-t-ja-Jpan-JP"),
     (Syntax::Bcp47, "zh-cmn-Hans"),
     (Syntax::Bcp47, "i-klingon"),
+    (Syntax::Bcp47, "root"),
     (Syntax::Posix, "sr_RS.UTF-8@latin"),
+    (Syntax::Posix, "root"),
+    (Syntax::Posix, "root@latin"),
 ];
 
 // Reading a text in a syntax, and copying what was read.

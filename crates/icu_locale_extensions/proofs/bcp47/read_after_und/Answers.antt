@@ -3,7 +3,7 @@ use Rattle.icu_locale_core.specs.Identifier.{pieces}
 use Rattle.icu_locale_core.specs.Readings.{read_front}
 use Rattle.icu_locale_extensions.proofs.PrivateTags.{pieces-und, und_front}
 use Rattle.icu_locale_extensions.proofs.Whole.{behind_reads, front_read}
-use Rattle.icu_locale_extensions.proofs.bcp47.read_private.Goals as goal
+use Rattle.icu_locale_extensions.proofs.bcp47.read_after_und.Goals as goal
 
 pub returns : goal.returns
 returns c =
