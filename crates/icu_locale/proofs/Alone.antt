@@ -1,5 +1,5 @@
 -- What canonicalizing does of an identifier with no extensions.
-use Rattle.std.proofs.Common.{◌≡◌, ◌↔◌, false, ◌||◌, Option, None, Some, IsSome, is_some, unwrap_or, Ok, Err, inl, inr, refl, subst, sym}
+use Rattle.std.proofs.Common.{◌≡◌, ◌↔◌, Bool, true, false, ◌||◌, Option, None, Some, IsSome, is_some, not, unwrap_or, Ok, Err, inl, inr, refl, subst, sym, ◌∙◌}
 use Rattle.std.specs.Option.{option_map}
 use Rattle.std.proofs.lemmas.Bool.{false≢true}
 use Rattle.std.proofs.lemmas.Option.{none-some}
@@ -25,6 +25,14 @@ use Rattle.icu_locale.proofs.Canonicals.{refused_identifiers}
 pub nothing_next : {R X : Type 0} (f : R → X) (found : Option R) (next : Option X) → is_some found ≡ false → option_map f found ≡ next → next ≡ None
 nothing_next f None next none is = sym is
 nothing_next f (Some r) next none is = absurd (false≢true (sym none))
+
+-- a rewrite was found, or nothing is next
+pub is_last : {R X : Type 0} (f : R → X) (found : Option R) (next : Option X) (told : Bool) → is_some found ≡ not told → option_map f found ≡ next
+    → (told ≡ true) ↔ (next ≡ None)
+is_last f None next true some is = (λ yes. sym is, λ last. refl)
+is_last f None next false some is = absurd (false≢true some)
+is_last f (Some r) next true some is = absurd (false≢true (sym some))
+is_last f (Some r) next false some is = (λ yes. absurd (false≢true yes), λ last. absurd (none-some _ (sym (is ∙ last))))
 
 module _ (likely : LikelySubtags) (rules : Rules) (id : LanguageIdentifier) where
   -- the identifier is all that is changed

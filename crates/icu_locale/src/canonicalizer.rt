@@ -1,5 +1,5 @@
 //! Canonicalization of locales (UTS #35 Part 1, Annex C, "LocaleId Canonicalization").
-ghost use Rattle.std.specs.Prelude.{◌≡◌, Some};
+ghost use Rattle.std.specs.Prelude.{◌≡◌, ◌↔◌, Some, None, IsTrue};
 ghost use Rattle.icu_locale.specs.LikelyTable.{likely};
 ghost use Rattle.icu_locale.specs.RuleSet.{lent, rules_over};
 ghost use Rattle.icu_locale.specs.Canonical.{without_extensions};
@@ -91,6 +91,15 @@ impl<'d, E: AsExpander<'d>> LocaleCanonicalizer<'d, E> {
             rules: self.rules.lend(),
             expander: self.expander.as_expander(),
         }
+    }
+
+    /// Whether an identifier is its own canonical form: no rule matches it. It takes no memory.
+    #[inline(always)]
+    pub fn is_canonical(&self, id: &LanguageIdentifier) -> bool
+        ensures { IsTrue result
+            ↔ (next (E.table self.now.expander) self.now.rules id.now ≡ None) }
+    {
+        self.lend().is_canonical(id)
     }
 
     /// Brings a locale to its canonical form (UTS #35 Part 1, Annex C): its identifier to the end of its run, its

@@ -71,10 +71,11 @@ fn over_what_was_read(rt: &impl Abort, alloc: Global, tables: &Tables) {
     let read = ReadRules::read(alloc, aliases).expect(rt, "tables");
     let mut id = identifier(alloc, "sgn-DD").expect(rt, "identifier");
     let lent = CanonicalizerRef::over(&read, aliases, expander);
+    assert!(rt; !lent.is_canonical(&id));
     let changed = lent.canonicalize_identifier(&mut id).ok();
     assert!(rt; changed == Some(TransformResult::Modified));
     let wanted = identifier(alloc, "gsg").expect(rt, "identifier");
-    assert!(rt; id == wanted);
+    assert!(rt; id == wanted && lent.is_canonical(&id));
     let owned = LocaleCanonicalizer::over(read, aliases, expander);
     canonicalizes(rt, alloc, &owned);
     let again = LocaleCanonicalizer::over(owned.into_rules(), aliases, expander);

@@ -1,5 +1,5 @@
 //! Canonicalization by rules and an expander that are lent: all the work.
-ghost use Rattle.std.specs.Prelude.{◌≡◌, Some, IfOk, IfErr, IfSome};
+ghost use Rattle.std.specs.Prelude.{◌≡◌, ◌↔◌, Some, None, IsTrue, IfOk, IfErr, IfSome};
 ghost use Rattle.icu_locale.specs.Kinds.{by_language_alias, next};
 ghost use Rattle.icu_locale.specs.LikelyTable.{likely};
 ghost use Rattle.icu_locale.specs.RuleSet.{lent, rules_over};
@@ -43,6 +43,15 @@ impl<'r> CanonicalizerRef<'r> {
             rules: RulesRef { read, aliases },
             expander,
         }
+    }
+
+    /// Whether an identifier is its own canonical form: no rule matches it. It takes no memory.
+    #[inline(always)]
+    pub fn is_canonical(&self, id: &LanguageIdentifier) -> bool
+        ensures { IsTrue result
+            ↔ (next (likely self.now.expander) (lent self.now.rules) id.now ≡ None) }
+    {
+        matching(self, id, false, &mut Turns::new()).is_none()
     }
 
     /// Brings a locale to its canonical form, as `LocaleCanonicalizer::canonicalize` says.
