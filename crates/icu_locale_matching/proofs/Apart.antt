@@ -18,7 +18,9 @@ use Rattle.icu_locale_core.specs.Maps.{value_at}
 use Rattle.icu_locale_core.specs.laws.TextSets.{text_same}
 use Rattle.icu_locale_core.specs.laws.Identifiers.{options_tell, Tells}
 use Rattle.icu_provider.specs.declared.data_locale.DataLocale.{DataLocale}
-use Rattle.icu_locale_matching.specs.Distance.{fits, fits_pattern, Level, Levels, Macros, level_distance, levels_of, row_of, with_region, stands_for, greatest, greatest_to, region_distance, distance_by, distance, AreApart, HasApart, TellsApart, AgreeAt}
+use Rattle.icu_locale_matching.specs.Distance.{fits, fits_pattern, Level, Levels, Macros, level_distance, levels_of, row_of, with_region, stands_for, greatest, greatest_to, region_distance, distance_by, distance, share, AreApart, HasApart, TellsApart, AgreeAt}
+use Rattle.icu_locale_matching.specs.inner.Levels.{distance_favoring}
+use Rattle.icu_locale_matching.specs.declared.limits.FavorSubtag.{FavorSubtag}
 use Rattle.icu_provider.specs.declared.matching.MatchRule.{MatchRule}
 use Rattle.icu_provider.specs.declared.matching.MatchRules.{MatchRules}
 use Rattle.icu_provider.specs.declared.matching.LanguageMatching.{LanguageMatching}
@@ -209,14 +211,14 @@ other_part true n m is same = absurd (false≢true (sym is))
 other_part false n m is same = same
 
 -- then the distance is that of no rule at least
-pub other_at_least : (levels : Levels) (d s : DataLocale) → bytes_eq d.language s.language ≡ false
+pub other_at_least : (favor : FavorSubtag) (levels : Levels) (d s : DataLocale) → bytes_eq d.language s.language ≡ false
     → ((k : ℕ) (r : MatchRule) → slice_get levels.language.rules k ≡ Some r → r.language ≡ s.language → ⊥)
-    → levels.language.other ≤ distance_by levels d s
-other_at_least levels d s differ none =
+    → share favor levels.language.other ≤ distance_favoring favor levels d s
+other_at_least favor levels d s differ none =
     let found = none_fits d s levels.language.rules none in
     let far : level_distance levels.language d s ≡ levels.language.other = ap (λ o. option_map_or (λ r. r.distance) o levels.language.other) found in
     let part = other_part (bytes_eq d.language s.language) (level_distance levels.language d s) levels.language.other differ far in
-    omega (arith, part)
+    omega (arith, ap (share favor) part)
 
 -- the place of a rule that names a language
 pub record IsNamed (l : List ℕ) (rules : List MatchRule) : Type 0 where

@@ -1,6 +1,7 @@
 pub mod Apart
 pub mod Brought
 pub mod Choices
+pub mod Favors
 pub mod Fewer
 pub mod Firsts
 pub mod Greatest
@@ -9,6 +10,7 @@ pub mod Inserts
 pub mod Near
 pub mod OneService
 mod Ranks
+pub mod Resolving
 pub mod Serving
 pub mod Spelled
 pub mod Trims

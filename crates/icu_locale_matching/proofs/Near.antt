@@ -9,7 +9,7 @@ use Rattle.icu_locale_core.specs.TextSet.{text_cmp}
 use Rattle.icu_locale_core.specs.declared.langid.LanguageIdentifier.{LanguageIdentifier}
 use Rattle.icu_locale_core.specs.Maps.{value_at}
 use Rattle.icu_locale.specs.LikelyTable.{likely}
-use Rattle.icu_locale_matching.specs.Distance.{Levels, distance, levels_of}
+use Rattle.icu_locale_matching.specs.Distance.{Levels, distance, levels_of, share}
 use Rattle.icu_locale_matching.specs.Nearest.{Question, candidate_of, candidates_of, demotion_at, form_of, has_language}
 use Rattle.icu_locale_matching.specs.inner.Levels.{shown}
 use Rattle.icu_locale_matching.specs.inner.Asked.{asked_of, IsAsked, IsOfferAt, Beats, BeatsEach, limit}
@@ -46,7 +46,7 @@ module _ (m : Search) (a : Asked) (known : IsAsked m a)
       s.available o.offer.identifier o.offer.offered
 
   -- what is of no language that is looked at costs too much
-  far_beaten : (best : Option Rank) → limit m.limits.threshold a.demoted best ≤ m.matching.now.other_language
+  far_beaten : (best : Option Rank) → limit m.limits.threshold a.demoted best ≤ share m.limits.favor m.matching.now.other_language
       → (s : Rank) (o : IsOfferAt (asked_of m a.requests.now) a.place s)
       → bytes_eq (form_of (likely m.expander) o.offer.identifier).language a.form.language ≡ false
       → ((k : ℕ) (r : MatchRule) → slice_get a.levels.language.rules.now k ≡ Some r → r.language ≡ (form_of (likely m.expander) o.offer.identifier).language → ⊥)
@@ -55,16 +55,16 @@ module _ (m : Search) (a : Asked) (known : IsAsked m a)
       let q = asked_of m a.requests.now in
       let y = o.offer.identifier in
       let d = form_of (likely m.expander) y in
-      let least = other_at_least (shown a.levels) a.form d (other_way d.language a.form.language _ refl differ) none in
-      let other : a.levels.language.other ≡ m.matching.now.other_language = ap (λ (l : Levels). l.language.other) known.levels
-      ∙ same_other m.matching.now (value_at text_cmp m.matching.now.rules a.form.language) in
+      let least = other_at_least m.limits.favor (shown a.levels) a.form d (other_way d.language a.form.language _ refl differ) none in
+      let other : share m.limits.favor a.levels.language.other ≡ share m.limits.favor m.matching.now.other_language = ap (λ (l : Levels). share m.limits.favor l.language.other) known.levels
+      ∙ ap (share m.limits.favor) (same_other m.matching.now (value_at text_cmp m.matching.now.rules a.form.language)) in
       let is = asked_distance m a y d known refl in
       let request : a.request.now ≡ o.offer.request = same_Some _ _ (sym known.stands ∙ ap (slice_get a.requests.now) (sym o.at) ∙ o.offer.requested) in
-      let asked = ap (λ (x : LanguageIdentifier). distance m.matching.now (form_of (likely m.expander) x) d) request in
+      let asked = ap (λ (x : LanguageIdentifier). distance q.matching (form_of (likely m.expander) x) d) request in
       let limits = ap (λ n. limit m.limits.threshold n best) (known.demoted ∙ ap (demotion_at m.limits.demotion) (sym o.at)) in
       dear_beaten q best s o.offer (omega (arith, least, other, is, asked, limits, far))
 
-  module _ (best : Option Rank) (far : limit m.limits.threshold a.demoted best ≤ m.matching.now.other_language)
+  module _ (best : Option Rank) (far : limit m.limits.threshold a.demoted best ≤ share m.limits.favor m.matching.now.other_language)
       (own : BeatsEach (asked_of m a.requests.now) a.place (filter (has_language a.form.language) m.candidates.now.forms.items) best)
       (named : (k : ℕ) (r : MatchRule) → slice_get a.levels.language.rules.now k ≡ Some r
       → BeatsEach (asked_of m a.requests.now) a.place (filter (has_language r.language) m.candidates.now.forms.items) best) where

@@ -1,6 +1,7 @@
 -- The best of a growing set of ranks.
-use Rattle.std.proofs.Common.{◌≡◌, ◌⊎◌, ℕ, zero, suc, ◌+◌, ◌-◌, ◌<◌, ◌≤◌, Bool, true, false, List, length, Option, Some, None, refl, ap, sym, ◌∙◌, subst, inl, inr, ⊎_elim, arith, if◌then◌else◌}
+use Rattle.std.proofs.Common.{◌≡◌, ◌⊎◌, ℕ, ◌+◌, ◌<◌, ◌≤◌, Bool, true, false, List, length, Option, Some, None, refl, ap, sym, ◌∙◌, subst, inl, inr, ⊎_elim, arith, if◌then◌else◌}
 use Rattle.std.specs.List.{slice_get}
+use Rattle.std.proofs.Math.Nat.{mul-le-mul_left}
 use Rattle.std.specs.declared.cmp.Ordering.{Ordering}
 use Rattle.std.specs.declared.cmp.Ordering.TheVariants.{Less, Equal, Greater}
 use Rattle.std.specs.Ordering.{is_lt, is_le, is_gt, ordering_reverse, ordering_then, MatchOrdering}
@@ -13,12 +14,13 @@ use Rattle.icu_locale_matching.specs.Nearest.{Question, IsOffer, IsLeastOf, demo
 use Rattle.icu_locale_matching.specs.inner.Asked.{IsAsked, IsOfferBefore, IsOfferAt, Beats, Improves, BeatsUpto, IsWithin, is_settled, limit, lesser}
 use Rattle.icu_locale.specs.LikelyTable.{likely}
 use Rattle.icu_provider.specs.declared.data_locale.DataLocale.{DataLocale}
-use Rattle.icu_locale_matching.specs.Distance.{distance, distance_by}
-use Rattle.icu_locale_matching.specs.inner.Levels.{shown}
+use Rattle.icu_locale_matching.specs.Distance.{distance, favored}
+use Rattle.icu_locale_matching.specs.inner.Levels.{shown, distance_favoring}
 use Rattle.icu_locale_matching.specs.declared.search.Asked.{Asked}
 use Rattle.icu_locale_matching.specs.declared.search.Search.{Search}
 use Rattle.icu_locale_matching.specs.declared.rank.Rank.{Rank}
 use Rattle.icu_locale_matching.specs.declared.candidates.Candidate.{Candidate}
+use Rattle.icu_locale_matching.proofs.Favors.{distance_favored}
 
 -- ---- the order
 
@@ -100,25 +102,11 @@ improves_through q i a b c first second = record {
 
 -- the demotion of a request is small
 pub demoted_small : (demotion i : ℕ) → demotion_at demotion i ≤ 65535
-demoted_small demotion zero = omega arith
-demoted_small demotion (suc i) = omega arith
+demoted_small demotion i = omega arith
 
--- and rises
-demoted_more : (demotion i : ℕ) → demotion_at demotion i ≤ demotion_at demotion (suc i)
-demoted_more demotion i = omega (arith, demoted_small demotion i)
-
-demoted_rises : (demotion i d : ℕ) → demotion_at demotion i ≤ demotion_at demotion (d + i)
-demoted_rises demotion i zero =
-    let e : i ≡ 0 + i = omega arith in
-    omega (arith, ap (demotion_at demotion) e)
-demoted_rises demotion i (suc d) =
-    let e : suc (d + i) ≡ suc d + i = omega arith in
-    omega (arith, demoted_rises demotion i d, demoted_more demotion (d + i), ap (demotion_at demotion) e)
-
+-- and it rises
 pub demoted_mono : (demotion i j : ℕ) → i ≤ j → demotion_at demotion i ≤ demotion_at demotion j
-demoted_mono demotion i j upto =
-    let e : (j - i) + i ≡ j = omega (arith, upto) in
-    subst (λ n. demotion_at demotion i ≤ demotion_at demotion n) e (demoted_rises demotion i (j - i))
+demoted_mono demotion i j upto = omega (arith, mul-le-mul_left demotion upto)
 
 -- the cost of an offer
 pub offer_cost : (q : Question) (r : Rank) (o : IsOffer q r)
@@ -281,5 +269,8 @@ limit_within t d (Some r) = omega arith
 
 -- the distance over what is known of a request
 pub asked_distance : (m : Search) (a : Asked) (y : LanguageIdentifier) (d : DataLocale) → IsAsked m a → d ≡ form_of (likely m.expander) y
-    → distance_by (shown a.levels) a.form d ≡ distance m.matching.now (form_of (likely m.expander) a.request.now) (form_of (likely m.expander) y)
-asked_distance m a y d known is = (λ k. distance_by (known.levels k) a.form d) ∙ (λ k. distance m.matching.now (known.form k) (is k))
+    → distance_favoring m.limits.favor (shown a.levels) a.form d
+    ≡ distance (favored m.limits.favor m.matching.now) (form_of (likely m.expander) a.request.now) (form_of (likely m.expander) y)
+asked_distance m a y d known is = (λ k. distance_favoring m.limits.favor (known.levels k) a.form d)
+    ∙ distance_favored m.limits.favor m.matching.now a.form d
+    ∙ (λ k. distance (favored m.limits.favor m.matching.now) (known.form k) (is k))

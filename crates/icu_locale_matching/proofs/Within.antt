@@ -50,3 +50,16 @@ pub nearest_within : (s : Service) (requests : List LanguageIdentifier) (m : Mat
 nearest_within s requests m is =
     subst (λ n. m.available < n) (canonical_long (likely s.expander) s.rules s.available is.canonical is.canonicalized)
     (within_by _ m is.nearest.best is.nearest.least is.nearest.is)
+
+request_by : (q : Question) (m : Match) (best : Option Rank) → IsLeastOf (IsOffer q) best → Some m ≡ option_map match_of best
+    → m.request < length q.requests
+request_by q m None least is = absurd (none-some m (sym is))
+request_by q m (Some r) least is =
+    let same = ap (λ (n : Match). n.request) (same_Some m (match_of r) is) in
+    subst (λ k. k < length q.requests) (sym same) (slice_get_within q.requests r.request least.0.request least.0.requested)
+
+-- and the request that it serves is among those that ask
+pub asked_within : (s : Service) (requests : List LanguageIdentifier) (m : Match) → IsNearestTo s requests (Some m) → m.request < length requests
+asked_within s requests m is =
+    subst (λ n. m.request < n) (canonical_long (likely s.expander) s.rules requests is.asked is.requested)
+    (request_by _ m is.nearest.best is.nearest.least is.nearest.is)

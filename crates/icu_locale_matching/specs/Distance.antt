@@ -1,9 +1,10 @@
 -- The distance of a supported form from a desired one, by match rules (UTS #35 Part 1, section 4.4, Language Matching).
-use Rattle.std.specs.Prelude.{◌≡◌, ℕ, ◌+◌, ◌<◌, Bool, true, false, ◌&&◌, not, max, List, [], ◌∷◌, map, length, Option, Some, None, is_some, Vec, if◌then◌else◌}
+use Rattle.std.specs.Prelude.{◌≡◌, ℕ, ◌+◌, ◌/◌, ◌<◌, Bool, true, false, ◌&&◌, not, max, List, [], ◌∷◌, map, length, Option, Some, None, is_some, Vec, if◌then◌else◌}
 use Rattle.std.specs.Global.{Global}
 use Rattle.std.specs.List.{All, find, slice_get}
 use Rattle.std.specs.Option.{option_eq, option_map_or}
 use Rattle.std.specs.Str.{bytes_eq}
+use Rattle.std.specs.Vec.{with_items}
 use Rattle.icu_locale_core.specs.TextSet.{text_cmp}
 use Rattle.icu_locale_core.specs.Maps.{value_at}
 use Rattle.icu_provider.specs.SortedMaps.{is_listed, regions_at}
@@ -14,6 +15,8 @@ use Rattle.icu_provider.specs.declared.matching.MatchPattern.{MatchPattern}
 use Rattle.icu_provider.specs.declared.matching.MatchRule.{MatchRule}
 use Rattle.icu_provider.specs.declared.matching.MatchRules.{MatchRules}
 use Rattle.icu_provider.specs.declared.matching.LanguageMatching.{LanguageMatching}
+use Rattle.icu_locale_matching.specs.declared.limits.FavorSubtag.{FavorSubtag}
+use Rattle.icu_locale_matching.specs.declared.limits.FavorSubtag.TheVariants.{Language, Script}
 
 -- `*` fits any script and none; a script fits itself
 abbrev pub fits_script : Option (List ℕ) → Option (List ℕ) → Bool
@@ -140,6 +143,33 @@ levels_for t l = levels_of t (value_at text_cmp t.rules l)
 -- the distance of a supported form from a desired one
 abbrev pub distance : LanguageMatching → DataLocale → DataLocale → ℕ
 distance t desired supported = distance_by (levels_for t desired.language) desired supported
+
+-- ---- favor of script: ICU's FavorSubtag
+
+-- what a distance of two languages counts: where the script is favored, a quarter, rounded down
+abbrev pub share : FavorSubtag → ℕ → ℕ
+share Language n = n
+share Script n = n / 4
+
+-- a rule with a quarter of its distance
+abbrev pub quartered : MatchRule → MatchRule
+quartered r = record r { distance = r.distance / 4 }
+
+-- the rules for a language, of which those of languages have a quarter
+abbrev pub with_quarters : MatchRules → MatchRules
+with_quarters r = record r { language = with_items r.language (map quartered r.language.items) }
+
+-- the rules for each language, by what is favored
+abbrev pub favored_rules : FavorSubtag → List (List ℕ × MatchRules) → List (List ℕ × MatchRules)
+favored_rules Language rows = rows
+favored_rules Script rows = map (λ row. (row.0, with_quarters row.1)) rows
+
+-- match rules, by what is favored: the distances of two languages count so, and nothing else is changed
+abbrev pub favored : FavorSubtag → LanguageMatching → LanguageMatching
+favored favor t = record t {
+  rules = favored_rules favor t.rules;
+  other_language = share favor t.other_language;
+}
 
 -- ---- what laws ask of tables
 

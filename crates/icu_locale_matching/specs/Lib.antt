@@ -2,6 +2,7 @@ pub mod Distance
 pub mod Header
 pub mod Nearest
 pub mod Requests
+pub mod Resolved
 pub mod Service
 pub mod Spelled
 pub mod Weights

@@ -1,5 +1,5 @@
 -- The nearest available locale (UTS #35 Part 1, section 4.4, Language Matching).
-use Rattle.std.specs.Prelude.{◌≡◌, ℕ, zero, suc, ◌+◌, ◌<◌, ◌≤◌, min, Bool, true, false, ◌&&◌, not, List, map, Option, Some, None, IsSome, Vec, length, if◌then◌else◌}
+use Rattle.std.specs.Prelude.{◌≡◌, ℕ, ◌+◌, ◌*◌, ◌<◌, ◌≤◌, min, Bool, true, false, ◌&&◌, not, List, map, Option, Some, None, IsSome, Vec, length, if◌then◌else◌}
 use Rattle.std.specs.List.{All, enumerate_from, filter, list_any, slice_get}
 use Rattle.std.specs.Global.{Global}
 use Rattle.std.specs.Str.{bytes_eq}
@@ -15,7 +15,7 @@ use Rattle.icu_locale.specs.LikelySubtags.{LikelySubtags, maximal_locale, subtag
 use Rattle.icu_locale.specs.LikelyTable.{likely}
 use Rattle.icu_locale.specs.declared.expander.LocaleExpander.{LocaleExpander}
 use Rattle.icu_locale_matching.specs.Spelled.{AreSpelled}
-use Rattle.icu_locale_matching.specs.Distance.{distance, is_macro, levels_for, serving_of, AgreeAt}
+use Rattle.icu_locale_matching.specs.Distance.{distance, favored, is_macro, levels_for, serving_of, AgreeAt}
 use Rattle.icu_provider.specs.declared.matching.LanguageMatching.{LanguageMatching}
 use Rattle.icu_locale_matching.specs.declared.limits.MatchLimits.{MatchLimits}
 use Rattle.icu_locale_matching.specs.declared.candidates.Candidate.{Candidate}
@@ -123,11 +123,11 @@ is_true (Some b) = b
 abbrev pub may_of : List Bool → ℕ → Bool
 may_of may j = is_true (slice_get may j)
 
--- what a matcher is asked by requests
+-- what a matcher is asked by requests, over its match rules by what is favored
 abbrev pub question : Matching → List LanguageIdentifier → (ℕ → Bool) → Question
 question m requests may = record {
   likely = likely m.expander;
-  matching = m.matching;
+  matching = favored m.limits.favor m.matching;
   limits = m.limits;
   requests = requests;
   available = m.available;
@@ -150,8 +150,7 @@ rank_at q cost i request j identifier =
 
 -- what a request costs for those before it: the demotion for each, and 65,535 at most
 abbrev pub demotion_at : ℕ → ℕ → ℕ
-demotion_at demotion zero = 0
-demotion_at demotion (suc i) = min (demotion_at demotion i + demotion) 65535
+demotion_at demotion i = min (demotion * i) 65535
 
 -- the cost: the distance of the maximal forms, and what the request costs for those before it
 abbrev pub rank_of : Question → ℕ → LanguageIdentifier → ℕ → LanguageIdentifier → Rank

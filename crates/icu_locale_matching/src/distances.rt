@@ -8,10 +8,11 @@ ghost use Rattle.icu_locale.specs.LikelyTable.{likely};
 ghost use Rattle.icu_locale_matching.specs.Nearest.{form_of};
 ghost use Rattle.icu_locale_matching.specs.Distance.{fits, serves_at, serving_of, level_distance, distance_by, distance, levels_over, levels_for, is_macro, with_region, greatest, greatest_to, region_distance};
 ghost use Rattle.icu_locale_matching.specs.inner.Known.{AreKnown, AreServing, fits_at};
-ghost use Rattle.icu_locale_matching.specs.inner.Levels.{shown_level, shown, IsBelow};
+ghost use Rattle.icu_locale_matching.specs.inner.Levels.{shown_level, shown, distance_favoring, IsBelow};
 
 use crate::candidates::form_of;
-use crate::macros::{Macros, is_macro, row_of};
+use crate::limits::{FavorSubtag, share};
+use crate::macros::{Macros, at_region, greater, is_macro, row_of};
 use crate::patterns::{fits, fits_known, fits_pattern, serves};
 use icu_locale::LocaleExpander;
 use icu_locale_core::{Language, LanguageIdentifier, Region};
@@ -124,7 +125,7 @@ impl<'d> LentLevel<'d> {
     {
         let mut least = self.other;
         for rule in self.rules {
-            least = smaller(least, rule.distance);
+            least = least.min(rule.distance);
         }
         least
     }
@@ -238,9 +239,10 @@ impl<'d> LentLevels<'d> {
             + self.region_part(any_macro, &[], &[], desired, supported)
     }
 
-    // The distance, if it is below a limit.
+    // The distance by what is favored, if it is below a limit.
     pub(crate) fn distance_below(
         &self,
+        favor: FavorSubtag,
         any_macro: bool,
         known: &[bool],
         serving: &[bool],
@@ -255,10 +257,11 @@ impl<'d> LentLevels<'d> {
         requires serving { AreServing self.now.region.rules.now supported.now serving.now }
         requires least { (d s : TheLocale)
             → least ≤ level_distance (shown_level self.now.region) d s }
-        ensures { IsBelow limit (distance_by (shown self.now) desired.now supported.now) result }
+        ensures { IsBelow limit
+            (distance_favoring favor (shown self.now) desired.now supported.now) result }
     {
         let same_language = desired.language == supported.language;
-        let language = self.language.part(same_language, desired, supported);
+        let language = share(favor, self.language.part(same_language, desired, supported));
         if language >= limit {
             return None;
         }
@@ -389,31 +392,5 @@ fn mark_at(marks: &[bool], place: usize) -> Option<bool>
     match marks.get(place) {
         Some(mark) => Some(*mark),
         None => None,
-    }
-}
-
-// The smaller of two numbers.
-fn smaller(one: u16, other: u16) -> u16
-    ensures one { result ≤ one }
-    ensures other { result ≤ other }
-{
-    if one < other { one } else { other }
-}
-
-// The greater of two numbers.
-fn greater(one: u16, other: u16) -> u16
-    ensures { result ≡ max one other }
-{
-    if one < other { other } else { one }
-}
-
-// A form with another region.
-fn at_region(form: &DataLocale, region: Region) -> DataLocale
-    ensures { result ≡ with_region form.now (Some region) }
-{
-    DataLocale {
-        language: form.language,
-        script: form.script,
-        region: Some(region),
     }
 }

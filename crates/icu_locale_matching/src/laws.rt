@@ -1,11 +1,16 @@
 //! Laws of language matching: what follows from the definitions alone, over every table. Their functions do nothing.
-ghost use Rattle.std.specs.Prelude.{◌≡◌, ◌↔◌, ◌+◌, ◌<◌, ℕ, Bool, true, false, List, codes, length, Option, Some, IsSome, IsSomeAnd};
+ghost use Rattle.std.specs.Prelude.{◌≡◌, ◌↔◌, ◌+◌, ◌<◌, ◌≤◌, ℕ, Bool, true, false, List, codes, length, Option, Some, IsSome, IsSomeAnd};
 ghost use Rattle.std.specs.List.{slice_get};
 ghost use Rattle.icu_locale.specs.Negotiation.{IsMatch};
 ghost use Rattle.icu_provider.specs.declared.data_locale.DataLocale.{DataLocale};
-ghost use Rattle.icu_locale_matching.specs.Distance.{distance, TellsApart, AgreeAt};
-ghost use Rattle.icu_locale_matching.specs.Nearest.{Matching, may_of, Question, AgreeOn, with_matching, IsNearest, ServesFirst, IsSpelledFirst, IsFormedFirst, IsPart, IsNoFarther, moved_to, ScriptsAreFar, KeepsScript, demotion_at, form_of};
+ghost use Rattle.icu_locale_matching.specs.Distance.{distance, favored, TellsApart, AgreeAt};
+ghost use Rattle.icu_locale_matching.specs.Nearest.{Matching, may_of, Question, question, AgreeOn, with_matching, IsNearest, ServesFirst, IsSpelledFirst, IsFormedFirst, IsPart, IsNoFarther, moved_to, ScriptsAreFar, KeepsScript, demotion_at, form_of};
+ghost use Rattle.icu_locale_matching.specs.Resolved.{is_varied, resolved};
+ghost use Rattle.icu_locale_extensions.specs.Built.{with_id};
+ghost use Rattle.icu_locale_extensions.specs.declared.identifier.LocaleIdentifier.{LocaleIdentifier};
 ghost use Rattle.icu_locale_matching.specs.Service.{Service, IsChoice, IsServed, IsNearestTo, IsRefusedIn, IsCanonicalAt, IsUnread, refuses, first_place};
+ghost use Rattle.icu_locale_matching.specs.declared.limits.FavorSubtag.{FavorSubtag};
+ghost use Rattle.icu_locale_matching.specs.declared.limits.FavorSubtag.TheVariants.{Language};
 ghost use Rattle.icu_locale_matching.specs.declared.matcher.Match.{Match};
 ghost use Rattle.icu_locale_core.specs.declared.langid.LanguageIdentifier.{LanguageIdentifier};
 ghost use Rattle.icu_provider.specs.declared.matching.LanguageMatching.{LanguageMatching};
@@ -24,6 +29,21 @@ pub fn only_equal_forms_have_no_distance()
 pub fn other_languages_do_not_count()
     ensures { (t u : LanguageMatching) (d s : DataLocale) → AgreeAt d.language t u
         → distance t d s ≡ distance u d s }
+{}
+
+/// Where languages are favored, the match rules count as they are, and a matcher is asked over those.
+pub fn favor_of_languages_changes_nothing()
+    ensures rules { (t : LanguageMatching) → favored Language t ≡ t }
+    ensures question { (m : Matching) (requests : List LanguageIdentifier) (may : ℕ → Bool)
+        → m.limits.favor ≡ Language → (question m requests may).matching ≡ m.matching }
+{}
+
+/// What is favored brings nothing farther, and within a language nothing nearer.
+pub fn what_is_favored_is_no_farther()
+    ensures farther { (favor : FavorSubtag) (t : LanguageMatching) (d s : DataLocale)
+        → distance (favored favor t) d s ≤ distance t d s }
+    ensures within { (favor : FavorSubtag) (t : LanguageMatching) (d s : DataLocale)
+        → d.language ≡ s.language → distance (favored favor t) d s ≡ distance t d s }
 {}
 
 /// A question has one answer.
@@ -158,10 +178,33 @@ pub fn the_nearest_to_requests_is_one()
         → IsNearestTo s requests a → IsNearestTo s requests b → a ≡ b }
 {}
 
-/// What is served for a header, or for requests, is available.
+/// What is served for a header, or for requests, is available, and the request that it serves is one of them.
 pub fn what_is_served_is_available()
     ensures header { (s : Service) (header : List ℕ) (place : ℕ)
         → IsServed s header (Some place) → place < length s.available }
     ensures requests { (s : Service) (requests : List LanguageIdentifier) (m : Match)
         → IsNearestTo s requests (Some m) → m.available < length s.available }
+    ensures asked { (s : Service) (requests : List LanguageIdentifier) (m : Match)
+        → IsNearestTo s requests (Some m) → m.request < length requests }
+{}
+
+/// What is served is resolved to a locale with its own language and script, and with the region, the variants and the
+/// extensions of what was wanted, where there are such. To resolve again gives the same. What is served for itself is
+/// itself.
+pub fn what_is_resolved_keeps_both()
+    ensures language { (served : LanguageIdentifier) (wanted : LocaleIdentifier)
+        → (resolved served wanted).locale.id.language ≡ served.language }
+    ensures script { (served : LanguageIdentifier) (wanted : LocaleIdentifier)
+        → (resolved served wanted).locale.id.script ≡ served.script }
+    ensures region { (served : LanguageIdentifier) (wanted : LocaleIdentifier)
+        → IsSome wanted.locale.id.region
+        → (resolved served wanted).locale.id.region ≡ wanted.locale.id.region }
+    ensures variants { (served : LanguageIdentifier) (wanted : LocaleIdentifier)
+        → is_varied wanted.locale.id ≡ true
+        → (resolved served wanted).locale.id.variants ≡ wanted.locale.id.variants }
+    ensures extensions { (served : LanguageIdentifier) (wanted : LocaleIdentifier)
+        → with_id (resolved served wanted) wanted.locale.id ≡ wanted }
+    ensures again { (served : LanguageIdentifier) (wanted : LocaleIdentifier)
+        → resolved served (resolved served wanted) ≡ resolved served wanted }
+    ensures itself { (wanted : LocaleIdentifier) → resolved wanted.locale.id wanted ≡ wanted }
 {}

@@ -1,11 +1,11 @@
 //! What a macro region stands for.
-ghost use Rattle.std.specs.Prelude.{◌≡◌};
+ghost use Rattle.std.specs.Prelude.{◌≡◌, max, Some};
 ghost use Rattle.std.specs.Option.{option_map};
 ghost use Rattle.icu_provider.specs.SortedMaps.{regions_at};
-ghost use Rattle.icu_locale_matching.specs.Distance.{is_macro, row_of};
+ghost use Rattle.icu_locale_matching.specs.Distance.{is_macro, row_of, with_region};
 
 use icu_locale_core::Region;
-use icu_provider::SortedMap;
+use icu_provider::{DataLocale, SortedMap};
 
 // The macro regions of a table, and what each stands for.
 pub(crate) type Macros = SortedMap<Region, Vec<Region>>;
@@ -38,4 +38,22 @@ fn row_at<'m>(macros: &'m Macros, region: &Region) -> Option<&'m [Region]>
         Some(row) => Some(row),
         None => None,
     }
+}
+
+// A form with another region.
+pub(crate) fn at_region(form: &DataLocale, region: Region) -> DataLocale
+    ensures { result ≡ with_region form.now (Some region) }
+{
+    DataLocale {
+        language: form.language,
+        script: form.script,
+        region: Some(region),
+    }
+}
+
+// The greater of two numbers.
+pub(crate) fn greater(one: u16, other: u16) -> u16
+    ensures { result ≡ max one other }
+{
+    if one < other { other } else { one }
 }

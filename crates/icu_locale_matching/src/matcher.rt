@@ -23,7 +23,7 @@ pub struct Match {
     pub request: usize,
     /// The place of the available identifier.
     pub available: usize,
-    /// The distance of their maximal forms, and the demotion for each request before, 65,535 at most.
+    /// The distance of their maximal forms, by what is favored, and a demotion for each request before, 65,535 at most.
     pub distance: u32,
 }
 

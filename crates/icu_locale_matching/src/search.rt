@@ -13,7 +13,7 @@ ghost use Rattle.icu_locale_matching.specs.declared.rank.Rank.{Rank as TheRank};
 
 use crate::candidates::{Candidate, Candidates, form_of};
 use crate::distances::{LentLevels, levels_for};
-use crate::limits::MatchLimits;
+use crate::limits::{MatchLimits, share};
 use crate::macros::is_macro;
 use crate::rank::Rank;
 use crate::spellings::place_spelled;
@@ -174,7 +174,7 @@ impl<'r> Search<'r> {
             → Beats result s }
     {
         let near = self.best_near(asked, best);
-        let others = u32::from(self.matching.other_language);
+        let others = share(self.limits.favor, u32::from(self.matching.other_language));
         if others < self.limit(asked.demoted, &near) {
             self.best_among(asked, &self.candidates.forms, near)
         } else {
@@ -255,6 +255,7 @@ impl<'r> Search<'r> {
         let any_macro = asked.is_macro || candidate.is_macro;
         let serving = serving_for(&asked.form, candidate);
         match asked.levels.distance_below(
+            self.limits.favor,
             any_macro,
             &asked.known,
             serving,

@@ -4,6 +4,7 @@ use crate::numbers::{Drawn, Numbers};
 use crate::plain::Plain;
 use crate::subtags::Subtags;
 use icu_locale_core::{Language, Region, Script};
+use icu_locale_matching::FavorSubtag;
 use icu_provider::{
     DataError, LanguageMatching, MatchPattern, MatchRule, MatchRules, RegionPattern, SortedMap,
 };
@@ -265,13 +266,18 @@ impl Matching {
         greatest
     }
 
-    /// The distance of a supported form from a desired one: the sum of what differs.
-    pub fn distance(&self, subtags: &Subtags, desired: &Plain, supported: &Plain) -> u64 {
-        let mut sum: u64 = 0;
-        if desired.language != supported.language {
-            let level = (Level::Language, self.others[0]);
-            sum = sum.saturating_add(self.level_distance(subtags, level, desired, supported));
+    // The distance of the languages.
+    fn language_part(&self, subtags: &Subtags, desired: &Plain, supported: &Plain) -> u64 {
+        if desired.language == supported.language {
+            return 0;
         }
+        let level = (Level::Language, self.others[0]);
+        self.level_distance(subtags, level, desired, supported)
+    }
+
+    // The distance of the scripts and of the regions.
+    fn other_parts(&self, subtags: &Subtags, desired: &Plain, supported: &Plain) -> u64 {
+        let mut sum: u64 = 0;
         if desired.script != supported.script {
             let level = (Level::Script, self.others[1]);
             sum = sum.saturating_add(self.level_distance(subtags, level, desired, supported));
@@ -280,6 +286,29 @@ impl Matching {
             sum = sum.saturating_add(self.region_distance(subtags, desired, supported));
         }
         sum
+    }
+
+    /// The distance of a supported form from a desired one: the sum of what differs.
+    pub fn distance(&self, subtags: &Subtags, desired: &Plain, supported: &Plain) -> u64 {
+        self.language_part(subtags, desired, supported)
+            .saturating_add(self.other_parts(subtags, desired, supported))
+    }
+
+    /// The same, where a difference of languages weighs a quarter if the script is favored.
+    pub fn distance_by(
+        &self,
+        favor: FavorSubtag,
+        subtags: &Subtags,
+        desired: &Plain,
+        supported: &Plain,
+    ) -> u64 {
+        match favor {
+            FavorSubtag::Language => self.distance(subtags, desired, supported),
+            FavorSubtag::Script => {
+                let quarter = self.language_part(subtags, desired, supported) / 4;
+                quarter.saturating_add(self.other_parts(subtags, desired, supported))
+            }
+        }
     }
 
     fn held_level(

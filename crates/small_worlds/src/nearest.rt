@@ -12,8 +12,8 @@ use crate::subtags::Subtags;
 use icu_locale::{CanonicalizerRef, LocaleCanonicalizer};
 use icu_locale_core::LanguageIdentifier;
 use icu_locale_matching::{
-    Candidates, LocaleMatcher, LocaleServer, Match, MatchLimits, ServedLocales, distance,
-    distance_of,
+    Candidates, FavorSubtag, LocaleMatcher, LocaleServer, Match, MatchLimits, ServedLocales,
+    distance, distance_of,
 };
 use icu_provider::LanguageMatching;
 use std::alloc::Global;
@@ -60,6 +60,11 @@ impl Drawn for Wants {
             limits: MatchLimits {
                 threshold: numbers.one_of(&[10, 50, u16::MAX]),
                 demotion: numbers.one_of(&[0, 5, u16::MAX]),
+                favor: numbers.one_of(&[
+                    FavorSubtag::Language,
+                    FavorSubtag::Language,
+                    FavorSubtag::Script,
+                ]),
             },
             available: Drawn::draw(numbers, subtags),
             askings: Drawn::draw(numbers, subtags),

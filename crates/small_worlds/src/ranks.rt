@@ -108,7 +108,10 @@ impl Question<'_> {
         asked: (usize, &Plain, &Plain),
         offered: (usize, &Plain, &Plain),
     ) -> Rank {
-        let distance = self.matching.distance(self.subtags, asked.2, offered.2);
+        let favor = self.limits.favor;
+        let distance = self
+            .matching
+            .distance_by(favor, self.subtags, asked.2, offered.2);
         Rank {
             cost: distance.saturating_add(demotion),
             request: asked.0,

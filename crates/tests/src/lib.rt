@@ -30,6 +30,8 @@ mod places;
 #[cfg(test)]
 mod providers;
 #[cfg(test)]
+mod resolved;
+#[cfg(test)]
 mod serving;
 #[cfg(test)]
 mod shown;

@@ -1,7 +1,10 @@
 //! What is served for headers, over the sample tables and match rules that are made here.
 use icu_locale::{CanonicalizerRef, LocaleExpander, ReadRules};
 use icu_locale_core::{LanguageIdentifier, Region};
-use icu_locale_matching::{LocaleServer, MatchLimits, ServedLocales, distance};
+use icu_locale_matching::{
+    Candidates, FavorSubtag, LocaleMatcher, LocaleServer, Match, MatchLimits, ServedLocales,
+    distance,
+};
 use icu_provider::{
     DataLocale, DataProvider, LanguageMatching, MatchPattern, MatchRule, MatchRules, RegionPattern,
     SortedMap,
@@ -128,4 +131,62 @@ fn macro_regions(rt: HostRuntime) {
     assert!(rt; distance(&matching, &de, &europe) == 7);
     assert!(rt; distance(&matching, &europe, &at) == 4);
     assert!(rt; distance(&matching, &europe, &europe) == 0);
+}
+
+// What is available, what is wanted, and which is served where languages are favored and where scripts are: as ICU4C 72
+// answers over CLDR's rules, of which none is for these pairs.
+const FAVORS: [(&[&str], &str, Option<usize>, Option<usize>); 7] = [
+    (&["tr-Latn-TR", "ru-Cyrl-RU"], "tr-Cyrl-TR", None, Some(1)),
+    (&["de-Latn-DE", "ru-Cyrl-RU"], "fr-Latn-FR", None, Some(0)),
+    (
+        &["el-Grek-GR", "ru-Cyrl-RU", "de-Latn-DE"],
+        "el-Latn-GR",
+        None,
+        Some(2),
+    ),
+    (
+        &["ru-Cyrl-RU", "tr-Latn-TR"],
+        "tr-Latn-DE",
+        Some(1),
+        Some(1),
+    ),
+    (&["ja-Jpan-JP", "ru-Cyrl-RU"], "fr-Latn-FR", None, None),
+    (&["it-Latn-CH", "fr-Cyrl-CH"], "fr-Latn-CH", None, Some(0)),
+    (
+        &["fr-Latn-CA", "it-Latn-CH", "fr-Cyrl-CH"],
+        "fr-Latn-CH",
+        Some(0),
+        Some(0),
+    ),
+];
+
+fn favoring(favor: FavorSubtag) -> MatchLimits {
+    MatchLimits {
+        favor,
+        ..MatchLimits::default()
+    }
+}
+
+fn place(found: Option<Match>) -> Option<usize> {
+    Some(found?.available)
+}
+
+#[test]
+fn favors(rt: HostRuntime) {
+    let alloc = rt.alloc();
+    let tables = sample(alloc).expect(&rt, "sample");
+    let expander = LocaleExpander::try_new_common_unstable(&tables).expect(&rt, "tables");
+    let matching = LanguageMatching::new(alloc, 80, 50, 4);
+    for (available, wanted, by_language, by_script) in &FAVORS {
+        let available = identifiers(alloc, available).expect(&rt, "identifiers");
+        let wanted = identifiers(alloc, &[*wanted]).expect(&rt, "identifiers");
+        let made = Candidates::try_new(alloc, &expander, &matching, available);
+        let candidates = made.expect(&rt, "memory");
+        let languages = favoring(FavorSubtag::Language);
+        let matcher = LocaleMatcher::over(expander, &matching, languages, &candidates);
+        assert!(&rt; place(matcher.nearest(&wanted)) == *by_language);
+        let scripts = favoring(FavorSubtag::Script);
+        let matcher = LocaleMatcher::over(expander, &matching, scripts, &candidates);
+        assert!(&rt; place(matcher.nearest(&wanted)) == *by_script);
+    }
 }

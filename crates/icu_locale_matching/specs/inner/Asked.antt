@@ -7,7 +7,7 @@ use Rattle.icu_locale.specs.LikelySubtags.{LikelySubtags}
 use Rattle.icu_locale.specs.LikelyTable.{likely}
 use Rattle.icu_provider.specs.declared.data_locale.DataLocale.{DataLocale}
 use Rattle.icu_provider.specs.declared.matching.LanguageMatching.{LanguageMatching}
-use Rattle.icu_locale_matching.specs.Distance.{levels_for, level_distance, is_macro}
+use Rattle.icu_locale_matching.specs.Distance.{favored, levels_for, level_distance, is_macro}
 use Rattle.icu_locale_matching.specs.Nearest.{Question, all_may, may_of, IsOffer, candidate_of, form_of, rank_cmp, rank_at, demotion_at}
 use Rattle.icu_locale_matching.specs.inner.Known.{AreKnown}
 use Rattle.icu_locale_matching.specs.inner.Levels.{shown, shown_level}
@@ -22,11 +22,11 @@ abbrev pub may_shown : Option (Bor (List Bool)) → ℕ → Bool
 may_shown None = all_may
 may_shown (Some may) = may_of may.now
 
--- what a search is asked by requests
+-- what a search is asked by requests, over its match rules by what is favored
 abbrev pub asked_of : Search → List LanguageIdentifier → Question
 asked_of m requests = record {
   likely = likely m.expander;
-  matching = m.matching.now;
+  matching = favored m.limits.favor m.matching.now;
   limits = m.limits;
   requests = requests;
   available = m.candidates.now.identifiers.items;

@@ -1,5 +1,6 @@
-use Rattle.std.proofs.Common.{◌≤◌, subst, List, refl, arith}
+use Rattle.std.proofs.Common.{◌≤◌, ap, subst, List, refl, arith}
 use Rattle.icu_locale.specs.LikelyTable.{likely}
+use Rattle.icu_locale_matching.specs.Distance.{share}
 use Rattle.icu_locale_matching.specs.Nearest.{candidate_of}
 use Rattle.icu_locale_matching.specs.inner.Asked.{asked_of, BeatsEach, limit}
 use Rattle.icu_locale_matching.specs.declared.candidates.Candidate.{Candidate}
@@ -27,8 +28,8 @@ returns-then-others-limit-clause-beats c = λ s o.
 pub returns-else-others-limit : goal.returns-else-others-limit
 returns-else-others-limit c =
     let m = c.args.self.now in
-    let far : limit m.limits.threshold c.args.asked.now.demoted c.best_near-near.result ≤ m.matching.now.other_language = omega
-    (arith, c.limit.ensures.value, c.from-others.ensures, c.if-others-limit.false) in
+    let far : limit m.limits.threshold c.args.asked.now.demoted c.best_near-near.result ≤ share m.limits.favor m.matching.now.other_language = omega
+    (arith, c.limit.ensures.value, c.share-others.ensures.value, ap (share m.limits.favor) c.from.ensures, c.if-others-limit.false) in
     record {
       improves = c.best_near-near.ensures.improves;
       beats = near_beats m c.args.asked.now c.requires.asked c.requires.made.forms c.best_near-near.result far c.best_near-near.ensures.own
