@@ -1,6 +1,6 @@
 -- Keys that stay at once: what lacks a script or a region had nothing filled in, and what has all three subtags known has
 -- nothing to be filled in.
-use Rattle.std.proofs.Common.{◌≡◌, ◌⊎◌, ℕ, Bool, true, false, cond, List, Option, Some, None, refl, ap, sym, ◌∙◌, subst, inl, inr}
+use Rattle.std.proofs.Common.{◌≡◌, ◌≢◌, ◌↔◌, ◌⊎◌, ℕ, Bool, true, false, cond, List, Option, Some, None, OnSome, IfSome, refl, ap, sym, ◌∙◌, subst, inl, inr}
 use Rattle.std.specs.List.Sorted.{IsStrictlySortedBy}
 use Rattle.std.specs.Str.{bytes_eq}
 use Rattle.std.proofs.lemmas.Bool.{false≢true}
@@ -19,14 +19,21 @@ use Rattle.icu_locale.specs.declared.canonicalizer.CanonicalizeError.{Canonicali
 use Rattle.icu_locale.specs.declared.canonicalizer.CanonicalizeError.TheVariants.{Memory, NoFixedPoint, NoSubdivisionFixedPoint}
 use Rattle.icu_locale.specs.declared.canonicalizer.rules.Rules.{Rules}
 use Rattle.icu_locale.specs.declared.expander.Favor.TheVariants.{RegionFirst}
+use Rattle.icu_locale.specs.declared.expander.TransformResult.{TransformResult}
+use Rattle.icu_locale.specs.declared.expander.TransformResult.TheVariants.{Modified}
 use Rattle.icu_provider.specs.declared.data_locale.DataLocale.{DataLocale}
-use Rattle.icu_locale_extensions.specs.Built.{bare}
+use Rattle.icu_locale_core.specs.Maps.{IsSortedMap}
+use Rattle.icu_locale_core.specs.TextSet.{text_cmp}
+use Rattle.icu_locale.specs.Canonical.{IsCanonicalTransform}
+use Rattle.icu_locale_runs.specs.laws.LaterEnds.{alone}
+use Rattle.icu_locale_values.specs.Aliases.{next_field, next_whole}
+use Rattle.icu_locale_extensions.specs.Built.{bare, with_id}
 use Rattle.icu_locale_extensions.specs.declared.identifier.LocaleIdentifier.{LocaleIdentifier}
-use Rattle.icu_locale_values.specs.Whole.{WholeRules, IsWhole, AreMaps}
+use Rattle.icu_locale_values.specs.Whole.{BecomeEnds, WholeRules, IsWhole, AreMaps}
 use Rattle.icu_locale_key.specs.Keys.{IsKey, IsKeyRefusal, HasClass, IsPart}
 use Rattle.icu_locale_key.specs.Stable.{IsStableKey, IsStuck, ComesRound, IsStableKeyRefusal}
 use Rattle.icu_locale_key.specs.Whole.{IsWholeKey, IsWholeKeyRefusal}
-use Rattle.icu_locale_key.specs.inner.AtOnce.{AreKnown, IsOpenOrKnown, of_identifier}
+use Rattle.icu_locale_key.specs.inner.AtOnce.{AreKnown, HasNoValues, IsOpenOrKnown, of_identifier}
 use Rattle.icu_locale_key.proofs.Forms.{stable_has_class, unmatched_is_own_key}
 use Rattle.icu_locale_key.proofs.Parts.{part_unmatched}
 
@@ -36,7 +43,7 @@ unequal : (a b : List ℕ) → (a ≡ b → ⊥) → (test : Bool) → bytes_eq 
 unequal a b other true e = absurd (other ((bytes_eq-Decides a b).0 e))
 unequal a b other false e = e
 
-differ : (a b : List ℕ) → (a ≡ b → ⊥) → bytes_eq a b ≡ false
+pub differ : (a b : List ℕ) → (a ≡ b → ⊥) → bytes_eq a b ≡ false
 differ a b other = unequal a b other (bytes_eq a b) refl
 
 known_is : (u s : List ℕ) → bytes_eq s u ≡ false → known_subtag u (Some s) ≡ Some s
@@ -127,6 +134,12 @@ stable_at_once likely rules x c k ends minimal class part =
     stable_of_own likely rules x k (record { canonical = c; end = ends; minimal = minimal })
     (unmatched_is_own_key RegionFirst likely rules c k class minimal (part_unmatched likely rules k c part ends.last))
 
+pub if_stable_at_once : {X : Type 0} (likely : LikelySubtags) (rules : Rules) (c k : LanguageIdentifier) → EndsAt (next likely rules) c c
+    → (told : Option X) → OnSome told (IsMinimalForm RegionFirst likely c k) → OnSome told (HasClass likely c) → OnSome told (IsPart k c)
+    → OnSome told (IsStableKey RegionFirst likely rules c k)
+if_stable_at_once likely rules c k ends (Some x) minimal class part = stable_at_once likely rules c c k ends minimal class part
+if_stable_at_once likely rules c k ends None minimal class part = tt
+
 -- an identifier that has no key has none that stays
 pub refused_first : (likely : LikelySubtags) (rules : Rules) (x : LanguageIdentifier) (e : CanonicalizeError) → IsKeyRefusal likely rules x e
     → IsStableKeyRefusal RegionFirst likely rules x e
@@ -181,3 +194,45 @@ bare_key by x c k ends stays = record {
   stays = stays;
   is = refl;
 }
+
+-- ---- a locale identifier without values
+
+module _ (by : WholeRules) (x : LocaleIdentifier) (none : HasNoValues x) where
+  own_maps : AreMaps x
+  unfolding IsStrictlySortedBy
+  own_maps = record {
+    keywords = subst (IsSortedMap text_cmp) (sym none.keywords) tt;
+    fields = subst (IsSortedMap text_cmp) (sym none.fields) tt;
+  }
+
+  own_whole : next by.likely by.rules x.locale.id ≡ None → IsWhole by x x
+  own_whole last = record {
+    locale = record {
+      id = alone (next by.likely by.rules) x.locale.id last;
+      transform = subst (λ o. IsCanonicalTransform by.rules o o) (sym none.transform) refl;
+      keywords = subst (λ rows. BecomeEnds (next_whole by.rules by.keywords) rows rows) (sym none.keywords) (λ key. refl);
+    };
+    fields = subst (λ rows. BecomeEnds (next_field by.fields) rows rows) (sym none.fields) (λ key. refl);
+    attributes = refl;
+    others = refl;
+    private_use = refl;
+  }
+
+  whole_key_at_once : (k : LanguageIdentifier) → next by.likely by.rules x.locale.id ≡ None
+      → IsStableKey RegionFirst by.likely by.rules x.locale.id k → IsWholeKey by x (with_id x k)
+  whole_key_at_once k last stays =
+      record { canonical = x; maps = own_maps; whole = own_whole last; key = k; stays = stays; is = refl }
+
+  pub if_whole_at_once : {X : Type 0} (k : LanguageIdentifier) (told : Option X) → OnSome told (next by.likely by.rules x.locale.id ≡ None)
+      → OnSome told (IsStableKey RegionFirst by.likely by.rules x.locale.id k) → OnSome told (IsWholeKey by x (with_id x k))
+  if_whole_at_once k (Some told) last stays = whole_key_at_once k last stays
+  if_whole_at_once k None last stays = tt
+
+-- it is changed where its identifier is
+pub if_whole_told : (x : LocaleIdentifier) (k : LanguageIdentifier) (told : Option TransformResult)
+    → IfSome told (λ r. (r ≡ Modified) ↔ (k ≢ x.locale.id)) → IfSome told (λ r. (r ≡ Modified) ↔ (with_id x k ≢ x))
+if_whole_told x k None is = tt
+if_whole_told x k (Some r) is = (
+  λ modified same. is.0 modified (ap (λ (y : LocaleIdentifier). y.locale.id) same),
+  λ other. is.1 (λ same. other (ap (with_id x) same)),
+)

@@ -3,6 +3,7 @@ pub mod Ends
 pub mod Filled
 pub mod Forms
 pub mod KeyRuns
+pub mod Lone
 pub mod Meaning
 pub mod Members
 pub mod MinimalForms

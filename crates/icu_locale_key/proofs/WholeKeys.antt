@@ -1,8 +1,6 @@
 -- Keys of locale identifiers are one, and their own.
-use Rattle.std.proofs.Common.{◌≡◌, ◌⊎◌, Bool, true, false, refl, ap, sym, ◌∙◌, subst, inl, inr}
-use Rattle.std.proofs.lemmas.Bool.{false≢true}
+use Rattle.std.proofs.Common.{◌≡◌, ◌⊎◌, refl, ap, sym, ◌∙◌, subst, inl, inr}
 use Rattle.icu_locale_core.specs.declared.langid.LanguageIdentifier.{LanguageIdentifier}
-use Rattle.icu_locale_core.specs.laws.Identifiers.{same_parts, identifiers_decide}
 use Rattle.icu_locale_runs.specs.laws.LaterEnds.{alone}
 use Rattle.icu_locale.specs.Kinds.{next}
 use Rattle.icu_locale.specs.LikelySubtags.{LikelySubtags, maximal}

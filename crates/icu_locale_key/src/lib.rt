@@ -10,4 +10,4 @@ mod whole;
 
 pub use keys::{bring_to_key, bring_to_key_favor_script, is_own_key, keys_are_stable};
 pub use stable::{bring_to_stable_key, bring_to_stable_key_counted};
-pub use whole::{key_of_identifier, key_of_whole};
+pub use whole::{bring_identifier_to_key, bring_whole_to_key};

@@ -10,7 +10,7 @@ ghost use Rattle.icu_locale_key.specs.Stable.{IsStableKey, IsStuck, ComesRound, 
 ghost use Rattle.icu_locale_key.specs.inner.KeyRun.{key_step, other_than, IsRepeatOf};
 ghost use Rattle.icu_locale_key.specs.inner.Universe.{key_universe};
 
-use crate::at_once::stays_at_once;
+use crate::at_once::minimize_at_once;
 use crate::keys::{bring_to_key, canonical_copy};
 use crate::laws as own;
 use icu_locale::{CanonicalizeError, CanonicalizerRef, Turns, laws};
@@ -131,11 +131,13 @@ pub fn bring_to_stable_key(
         Ok(key) => key,
         Err(refusal) => return Err(refusal),
     };
-    if stays_at_once(&canonicalizer.expander, &mut key) {
-        *id = key;
-        return Ok(());
+    match minimize_at_once(&canonicalizer.expander, &mut key) {
+        Some(_) => {
+            *id = key;
+            Ok(())
+        }
+        None => bring_to_stable_key_counted(canonicalizer, id, &mut Turns::new()),
     }
-    bring_to_stable_key_counted(canonicalizer, id, &mut Turns::new())
 }
 
 /// The same as `bring_to_stable_key`, with a count of the keys that are made: at most six for each different identifier

@@ -1,9 +1,11 @@
 //! Keys in a store.
 use crate::budget::{Answered, Call, stands};
-use icu_locale::{CanonicalizeError, CanonicalizerRef, LocaleExpander, ReadRules};
+use icu_locale::{CanonicalizeError, CanonicalizerRef, LocaleExpander, ReadRules, TransformResult};
 use icu_locale_core::LanguageIdentifier;
 use icu_locale_extensions::LocaleIdentifier;
-use icu_locale_key::{bring_to_stable_key, is_own_key, key_of_identifier, key_of_whole};
+use icu_locale_key::{
+    bring_identifier_to_key, bring_to_stable_key, bring_whole_to_key, is_own_key,
+};
 use icu_locale_values::{ValueAliases, WholeCanonicalizer, WholeError};
 use icu_provider::DataProvider;
 use std::alloc::Global;
@@ -41,38 +43,46 @@ fn is_stable(rules: &CanonicalizerRef<'_>, key: &LanguageIdentifier) -> Answered
     }
 }
 
-// The key of a locale identifier, which is the wanted one.
+// Bringing a copy of a locale identifier to its key: the key is the wanted one and told as changed, or the locale identifier
+// is as it was.
 #[derive(Drop)]
-struct KeyOfWhole<'d>(
+struct BringWholeToKey<'d>(
     WholeCanonicalizer<'d>,
     &'d LocaleIdentifier,
     &'d LocaleIdentifier,
 );
 
-impl Call for KeyOfWhole<'_> {
+impl Call for BringWholeToKey<'_> {
     fn answer(&self, _alloc: Global) -> Answered {
-        match key_of_whole(&self.0, self.1) {
-            Ok(key) => told(key == *self.2),
-            Err(WholeError::Memory) => Answered::Refused,
-            Err(_) => Answered::Wrong,
+        let Ok(mut locale) = self.1.try_clone() else {
+            return Answered::Refused;
+        };
+        match bring_whole_to_key(&self.0, &mut locale) {
+            Ok(TransformResult::Modified) => told(locale == *self.2),
+            Err(WholeError::Memory) if locale == *self.1 => Answered::Refused,
+            _ => Answered::Wrong,
         }
     }
 }
 
-// The same of an identifier alone.
+// Bringing a copy of an identifier alone to its key: the key is the wanted one and told as changed, or the identifier is as
+// it was.
 #[derive(Drop)]
-struct KeyOfIdentifier<'d>(
+struct BringIdentifierToKey<'d>(
     WholeCanonicalizer<'d>,
     &'d LanguageIdentifier,
     &'d LanguageIdentifier,
 );
 
-impl Call for KeyOfIdentifier<'_> {
+impl Call for BringIdentifierToKey<'_> {
     fn answer(&self, _alloc: Global) -> Answered {
-        match key_of_identifier(&self.0, self.1) {
-            Ok(key) => told(key == *self.2),
-            Err(WholeError::Memory) => Answered::Refused,
-            Err(_) => Answered::Wrong,
+        let Ok(mut id) = self.1.try_clone() else {
+            return Answered::Refused;
+        };
+        match bring_identifier_to_key(&self.0, &mut id) {
+            Ok(TransformResult::Modified) => told(id == *self.2),
+            Err(WholeError::Memory) if id == *self.1 => Answered::Refused,
+            _ => Answered::Wrong,
         }
     }
 }
@@ -104,10 +114,10 @@ fn whole_keys_stand(rt: &impl Abort, alloc: Global, rules: CanonicalizerRef<'_>)
     let to = whole_identifier(alloc, "en-t-m0-prprname-u-ca-islamic-civil-ka-three");
     let to = to.expect(rt, "whole identifier");
     let canonicalizer = WholeCanonicalizer { rules, values };
-    stands(rt, alloc, &KeyOfWhole(canonicalizer, &from, &to));
+    stands(rt, alloc, &BringWholeToKey(canonicalizer, &from, &to));
     let from = identifier(alloc, "ja-Latn-hepburn-heploc").expect(rt, "identifier");
     let to = identifier(alloc, "ja-Latn-alalc97").expect(rt, "identifier");
-    stands(rt, alloc, &KeyOfIdentifier(canonicalizer, &from, &to));
+    stands(rt, alloc, &BringIdentifierToKey(canonicalizer, &from, &to));
 }
 
 #[test]

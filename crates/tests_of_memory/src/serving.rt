@@ -2,12 +2,13 @@
 use crate::budget::{Answered, Call, stands};
 use icu_locale::{CanonicalizerRef, LocaleExpander, ReadRules};
 use icu_locale_core::LanguageIdentifier;
-use icu_locale_matching::{LocaleServer, MatchLimits, ServedLocales};
+use icu_locale_extensions::LocaleIdentifier;
+use icu_locale_matching::{LocaleServer, MatchLimits, ServedLocales, bring_to_resolved};
 use icu_provider::{DataProvider, LanguageMatching};
 use icu_tables::Tables;
 use std::alloc::Global;
 use std::process::Abort;
-use tests_shared::known::{identifiers, sample};
+use tests_shared::known::{identifier, identifiers, sample};
 
 // Serving a header, of which a range is refused.
 #[derive(Drop)]
@@ -38,6 +39,24 @@ impl Call for Nearest<'_> {
     }
 }
 
+// Resolving what is served, which has a variant, for one who wants none.
+#[derive(Drop)]
+struct Resolve(LanguageIdentifier);
+
+impl Call for Resolve {
+    fn answer(&self, alloc: Global) -> Answered {
+        let Some(wanted) = identifier(alloc, "sl") else {
+            return Answered::Wrong;
+        };
+        let mut wanted = LocaleIdentifier::new(alloc, wanted);
+        match bring_to_resolved(&self.0, &mut wanted) {
+            Ok(()) if wanted.locale.id == self.0 => Answered::Whole,
+            Err(_) if wanted.locale.id.variants.is_empty() => Answered::Refused,
+            _ => Answered::Wrong,
+        }
+    }
+}
+
 fn over_tables(rt: &impl Abort, alloc: Global, tables: &Tables) {
     let expander = LocaleExpander::try_new_common_unstable(tables).expect(rt, "tables");
     let aliases = tables.load_aliases().expect(rt, "aliases");
@@ -59,4 +78,11 @@ fn served_without_memory(rt: HostRuntime) {
     let alloc = rt.alloc();
     let tables = sample(alloc).expect(&rt, "sample");
     over_tables(&rt, alloc, &tables);
+}
+
+#[test]
+fn resolved_without_memory(rt: HostRuntime) {
+    let alloc = rt.alloc();
+    let served = identifier(alloc, "sl-nedis").expect(&rt, "identifier");
+    stands(&rt, alloc, &Resolve(served));
 }

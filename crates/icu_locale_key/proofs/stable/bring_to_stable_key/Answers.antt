@@ -26,16 +26,16 @@ returns-in-Err-clause-names c z why =
     (refused_first table rules c.args.id.now c.in-Err.refusal c.in-Err.ensures.refused) why
 
 -- the key stays at once
-pub returns-then-stays_at_once-clause-key : goal.returns-then-stays_at_once-clause-key
-returns-then-stays_at_once-clause-key c =
-    let told = c.stays_at_once.ensures in
-    stable_at_once (likely c.args.canonicalizer.now.expander) (lent c.args.canonicalizer.now.rules) c.args.id.now c.in-Ok.key c.stays_at_once.new.id
-    c.in-Ok.ensures.end (told.minimal c.if-stays_at_once.true) (told.class c.if-stays_at_once.true) (told.part c.if-stays_at_once.true)
+pub returns-in-Some-clause-key : goal.returns-in-Some-clause-key
+returns-in-Some-clause-key c =
+    let told = c.in-Some.ensures in
+    stable_at_once (likely c.args.canonicalizer.now.expander) (lent c.args.canonicalizer.now.rules) c.args.id.now c.in-Ok.key c.minimize_at_once.new.id
+    c.in-Ok.ensures.end told.minimal told.class told.part
 
-pub returns-then-stays_at_once-clause-names : goal.returns-then-stays_at_once-clause-names
-returns-then-stays_at_once-clause-names c z why =
+pub returns-in-Some-clause-names : goal.returns-in-Some-clause-names
+returns-in-Some-clause-names c z why =
     let rules = lent c.args.canonicalizer.now.rules in
     let table = likely c.args.canonicalizer.now.expander in
-    let told = c.stays_at_once.ensures in
-    let stable = stable_at_once table rules c.args.id.now c.in-Ok.key c.stays_at_once.new.id c.in-Ok.ensures.end (told.minimal c.if-stays_at_once.true) (told.class c.if-stays_at_once.true) (told.part c.if-stays_at_once.true) in
-    absurd (c.stable_key_is_one.ensures.not_both table rules c.args.id.now c.stays_at_once.new.id z stable why)
+    let told = c.in-Some.ensures in
+    let stable = stable_at_once table rules c.args.id.now c.in-Ok.key c.minimize_at_once.new.id c.in-Ok.ensures.end told.minimal told.class told.part in
+    absurd (c.stable_key_is_one.ensures.not_both table rules c.args.id.now c.minimize_at_once.new.id z stable why)

@@ -1,9 +1,7 @@
 use Rattle.std.proofs.Common.{inr, sym, subst}
 use Rattle.icu_locale_extensions.specs.Built.{bare}
 use Rattle.icu_locale_values.specs.Whole.{whole_rules}
-use Rattle.icu_locale_values.specs.declared.error.WholeError.{WholeError}
 use Rattle.icu_locale_key.specs.Whole.{IsWholeKeyRefusal}
-use Rattle.icu_locale_key.specs.inner.AtOnce.{of_identifier}
 use Rattle.icu_locale_key.proofs.AtOnce.{bare_key, bare_maps, bare_whole, refusal_of_bare, refusal_of_canonical}
 use Rattle.icu_locale_key.proofs.whole.key_of_identifier.Goals as goal
 
