@@ -1,7 +1,7 @@
 -- A line that holds identifiers alone is answered alike with a syntax and without.
-use Rattle.std.proofs.Common.{◌≡◌, ◌↔◌, ℕ, Bool, false, List, [], ◌∷◌, ◌++◌, Option, None, Some, refl, ap, sym, subst, ◌∙◌, inl, inr, append-nil}
+use Rattle.std.proofs.Common.{◌≡◌, ◌↔◌, ℕ, Bool, false, List, [], ◌∷◌, ◌++◌, map, Option, None, Some, refl, ap, sym, subst, ◌∙◌, inl, inr, append-nil}
 use Rattle.std.specs.Prelude.{codes}
-use Rattle.std.specs.List.{join_by, list_any, position}
+use Rattle.std.specs.List.{AllZip, join_by, list_any, position}
 use Rattle.std.specs.List.Sorted.{IsStrictlySortedBy}
 use Rattle.icu_locale_core.specs.Identifier.{IsIdentifier, Spells, pieces, subtags}
 use Rattle.icu_locale_core.specs.Identifier as core
@@ -32,7 +32,7 @@ use Rattle.icu_locale.specs.LikelySubtags.{LikelySubtags}
 use Rattle.icu_locale.specs.LikelyTable.{likely}
 use Rattle.icu_locale.specs.declared.canonicalizer.rules.Rules.{Rules}
 use Rattle.icu_locale.specs.declared.expander.TransformResult.{TransformResult}
-use Rattle.icu_locale_lines.specs.Answers.{IsAnswerBy, IsIdentifierAnswer, IsLocaleAnswer, IsSpelledAnswer, IsCanonicalized, IsParted, IsWholeParted}
+use Rattle.icu_locale_lines.specs.Answers.{IsAnswerBy, IsIdentifierAnswer, IsLocaleAnswer, IsSpelledAnswer, IsCanonicalized, IsParted, IsWholeParted, WishesIdentifiers}
 use Rattle.icu_locale_lines.specs.Answers.{IsDirected, IsNamed, IsWholeNamed, IsTransformed, IsWholeTransformed}
 use Rattle.icu_locale_lines.specs.Answers.{HoldsIdentifiers}
 use Rattle.icu_locale_lines.specs.Names.{answers_in, name_asked, name_asked_with, IsNamedLine}
@@ -45,16 +45,19 @@ use Rattle.icu_locale_names.specs.declared.options.LanguageDisplay.TheVariants.{
 use Rattle.icu_provider.specs.declared.extension_names.ExtensionNames.{ExtensionNames}
 use Rattle.std.specs.Borrow.{Bor}
 use Rattle.icu_locale_lines.specs.Chains.{IsChained}
-use Rattle.icu_locale_lines.specs.Lists.{IsListedAnswer, IsNegotiatedLine, SpellsAll, SpellsIn, SpellsWhole, listed}
-use Rattle.icu_locale_lines.specs.Serving.{IsNearestLine, IsDistanceLine}
-use Rattle.icu_locale_lines.specs.declared.command.Wishes.TheVariants.{Header, Requests}
+use Rattle.icu_locale_lines.specs.Lists.{IsListedAnswer, IsNegotiatedLine, IsWantedAnswer, SpellsAll, SpellsIn, SpellsWanted, SpellsWhole, listed}
+use Rattle.icu_locale_lines.specs.Serving.{IsNearestLine, IsResolvedLine, IsDistanceLine, IsWishAnswerTo}
+use Rattle.icu_locale_lines.specs.declared.command.ServeTask.{ServeTask}
+use Rattle.icu_locale_lines.specs.declared.command.Wishes.{Wishes}
+use Rattle.icu_locale_lines.specs.declared.command.Wishes.TheVariants.{Header, Requests, Resolved}
+use Rattle.icu_locale_matching.specs.Service.{Service}
 use Rattle.icu_locale_lines.specs.Locales.{is_tab}
 use Rattle.icu_locale_lines.specs.Texts.{canonical_line, transformed_line, whole_line, mark}
 use Rattle.icu_locale_lines.specs.declared.work.form.Transform.{Transform}
 use Rattle.icu_locale_lines.specs.declared.work.Tools.{Tools}
 use Rattle.icu_locale_lines.specs.declared.work.Tools.TheVariants as tools
 use Rattle.icu_locale_lines.proofs.LineAnswers.{spelled_alone}
-use Rattle.icu_locale_lines.proofs.Readings.{SpellingFacts, read_alike, alone_once, whole_once, listed_once, locale_once}
+use Rattle.icu_locale_lines.proofs.Readings.{SpellingFacts, read_alike, alone_once, whole_once, listed_once, locale_once, wanted_once}
 
 -- ---- how an identifier is written
 
@@ -202,6 +205,33 @@ module _ (facts : SyntaxFacts) (s : Syntax) (line text : List ℕ) (a : Bool) wh
   lists_alike IsLine xs each = read_alike (listed_once facts.spelling (Some s)) (listed_once facts.spelling None) IsLine IsLine line text a xs xs
       (in_syntax (listed line) xs each) each (λ h. h, λ h. h)
 
+  -- and so is a list of what is wanted
+  wanted_in_syntax : (texts : List (List ℕ)) (xs : List LanguageIdentifier) → SpellsAll None texts xs → AllZip (SpellsWanted (Some s)) texts (map bare xs)
+  wanted_in_syntax [] [] each = tt
+  wanted_in_syntax [] (x ∷ xs) each = absurd each
+  wanted_in_syntax (t ∷ ts) [] each = absurd each
+  wanted_in_syntax (t ∷ ts) (x ∷ xs) each = (spells_bare_text t x each.0, wanted_in_syntax ts xs each.1)
+    where
+      spells_bare_text : (t : List ℕ) (x : LanguageIdentifier) → SpellsIn None t x → SpellsWhole s t (bare x)
+      spells_bare_text t x spells = (facts.known x spells.0, facts.alike s t x spells.0 spells.1)
+
+  wanted_alone : (texts : List (List ℕ)) (xs : List LanguageIdentifier) → SpellsAll None texts xs → AllZip (SpellsWanted None) texts (map bare xs)
+  wanted_alone [] [] each = tt
+  wanted_alone [] (x ∷ xs) each = absurd each
+  wanted_alone (t ∷ ts) [] each = absurd each
+  wanted_alone (t ∷ ts) (x ∷ xs) each = ((each.0, refl), wanted_alone ts xs each.1)
+
+  pub wanted_alike : (IsLine : List LocaleIdentifier → List ℕ → Bool → Type 0) (xs : List LanguageIdentifier) → SpellsAll None (listed line) xs
+      → IsWantedAnswer (Some s) IsLine line text a ↔ IsWantedAnswer None IsLine line text a
+  wanted_alike IsLine xs each = read_alike (wanted_once facts.spelling (Some s)) (wanted_once facts.spelling None) IsLine IsLine line text a
+      (map bare xs) (map bare xs) (wanted_in_syntax (listed line) xs each) (wanted_alone (listed line) xs each) (λ h. h, λ h. h)
+
+  wishes_alike : (wishes : Wishes) (how : ServeTask) (t : Service) (ws : List LocaleIdentifier) → WishesIdentifiers wishes line
+      → IsWishAnswerTo wishes (Some s) how t ws line text a ↔ IsWishAnswerTo wishes None how t ws line text a
+  wishes_alike Header how t ws holds = (λ h. h, λ h. h)
+  wishes_alike Requests how t ws (xs, each) = lists_alike (IsNearestLine how t ws) xs each
+  wishes_alike Resolved how t ws (xs, each) = wanted_alike (IsResolvedLine how t ws) xs each
+
   pub answers_alike : (work : Tools) → HoldsIdentifiers work line → IsAnswerBy (Some s) work line text a ↔ IsAnswerBy None work line text a
   answers_alike (tools.Transform form e) (none, x, is, spells) = each_alike x (is, spells) (IsWholeTransformed form (likely e))
       (IsTransformed form (likely e)) (transformed_alike x (is, spells) form (likely e))
@@ -209,8 +239,7 @@ module _ (facts : SyntaxFacts) (s : Syntax) (line text : List ℕ) (a : Bool) wh
   answers_alike (tools.Direction d) (none, x, is, spells) =
       each_alike x (is, spells) (λ w. IsDirected d w.locale.id) (IsDirected d) (λ h. h, λ h. h)
   answers_alike (tools.Negotiate n o) (xs, each) = lists_alike (IsNegotiatedLine n o.now.wholes.items) xs each
-  answers_alike (tools.Serve Header t o) holds = (λ h. h, λ h. h)
-  answers_alike (tools.Serve Requests t o) (xs, each) = lists_alike (IsNearestLine t o.now.wholes.items) xs each
+  answers_alike (tools.Serve how t o) holds = wishes_alike how.wishes how t o.now.wholes.items holds
   answers_alike (tools.Distance d) (xs, each) = lists_alike (IsDistanceLine d.matching.now (likely d.expander)) xs each
   answers_alike (tools.Name n) (none, x, is, spells) = each_alike x (is, spells) (IsWholeNamed n) (IsNamed n) (named_alike x (is, spells) n)
   answers_alike (tools.Fallback f) (none, x, is, spells) =

@@ -18,7 +18,7 @@ use Rattle.icu_locale_core.specs.declared.parse_error.ParseError.{ParseError}
 use Rattle.icu_locale_names.specs.LanguageChains.{chain_word}
 use Rattle.icu_locale_names.specs.declared.name_chain.NameChain.{NameChain}
 use Rattle.icu_locale_lines.specs.laws.Grammar.{chain_found}
-use Rattle.icu_locale_lines.specs.Grammar.{named, chains, chain_at, is_bound, bound_of, preferences_of, preferences_at}
+use Rattle.icu_locale_lines.specs.Grammar.{named, chains, chain_at, is_number, number_of, preferences_of, preferences_at}
 
 -- a word that is that of nothing names nothing
 module _ {X : Type 0} (word_of : X → List ℕ) where
@@ -35,24 +35,24 @@ pub chain_named : (word : List ℕ) (r : Option NameChain) → IfSome r (λ c. w
 chain_named word (Some c) is only = sym (ap chain_at is ∙ chain_found c)
 chain_named word None is only = sym (named_none chain_word chains word (λ c same. let found = only c same in absurd (cc)))
 
--- ---- a bound
+-- ---- a number
 
-bound_told : (ds : List ℕ) → Decides (is_bound ds) ((0 < length ds) × (AllDigits 10 ds × (digits_value 10 ds < 2 ^ 64)))
-bound_told ds = Decides-and _ _ (Decides-ltb 0 (length ds)) (Decides-and _ _ (digits ds) (Decides-ltb (digits_value 10 ds) (2 ^ 64)))
+number_told : (bits : ℕ) (ds : List ℕ) → Decides (is_number bits ds) ((0 < length ds) × (AllDigits 10 ds × (digits_value 10 ds < 2 ^ bits)))
+number_told bits ds = Decides-and _ _ (Decides-ltb 0 (length ds)) (Decides-and _ _ (digits ds) (Decides-ltb (digits_value 10 ds) (2 ^ bits)))
   where
     digits : (ds : List ℕ) → Decides (all_ascii_digits ds) (AllDigits 10 ds)
     digits ds = let own = numerals_by_value _ tells_all_ascii_digits in (own.to ds, own.from ds)
 
-pub bound_parsed : {E : Type 0} (ds : List ℕ) (r : Result ℕ E)
-    → OkIff r (IsNumeral 10 ds × (digits_value 10 ds < 2 ^ 64)) (digits_value 10 ds) → result_ok r ≡ bound_of ds
-bound_parsed ds (Ok n) h = ap Some h.1 ∙ sym (told ((bound_told ds).1 (h.0.0.0, (h.0.0.1, h.0.1))))
+pub number_parsed : {E : Type 0} (bits : ℕ) (ds : List ℕ) (r : Result ℕ E)
+    → OkIff r (IsNumeral 10 ds × (digits_value 10 ds < 2 ^ bits)) (digits_value 10 ds) → result_ok r ≡ number_of bits ds
+number_parsed bits ds (Ok n) h = ap Some h.1 ∙ sym (told ((number_told bits ds).1 (h.0.0.0, (h.0.0.1, h.0.1))))
   where
-    told : is_bound ds ≡ true → bound_of ds ≡ Some (digits_value 10 ds)
+    told : is_number bits ds ≡ true → number_of bits ds ≡ Some (digits_value 10 ds)
     told is = rw is refl
-bound_parsed ds (Err e) none = by (is_bound ds) refl
+number_parsed bits ds (Err e) none = by (is_number bits ds) refl
   where
-    by : (b : Bool) → is_bound ds ≡ b → None ≡ bound_of ds
-    by true is = let told = (bound_told ds).0 is in absurd (none ((told.0, told.1.0), told.1.1))
+    by : (b : Bool) → is_number bits ds ≡ b → None ≡ number_of bits ds
+    by true is = let told = (number_told bits ds).0 is in absurd (none ((told.0, told.1.0), told.1.1))
     by false is = rw is refl
 
 -- ---- preferences

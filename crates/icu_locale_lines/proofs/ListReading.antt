@@ -12,7 +12,7 @@ use Rattle.icu_locale_core.specs.declared.parse_error.ParseError.TheVariants.{In
 use Rattle.icu_locale_extensions.specs.Syntaxes.{ReadsBy, IsFaultBy}
 use Rattle.icu_locale_extensions.specs.declared.identifier.LocaleIdentifier.{LocaleIdentifier}
 use Rattle.icu_locale_extensions.specs.declared.syntax.Syntax.{Syntax}
-use Rattle.icu_locale_lines.specs.Lists.{is_space, listed, ids_of, IsAvailable, SpellsAll, SpellsIn, SpellsWhole, SpellsWholes, IsFault, IsFaultAt, IsFaultIn, IsFirstFault, TellsFault}
+use Rattle.icu_locale_lines.specs.Lists.{is_space, listed, ids_of, IsAvailable, SpellsAll, SpellsIn, SpellsWanted, IsFault, IsFaultAt, IsFaultIn, IsFirstFault, TellsFault}
 
 -- one more at the end of both lists
 pub AllZip-push : {A B : Type 0} (P : A → B → Type 0) (xs : List A) (ys : List B) (x : A) (y : B) → AllZip P xs ys → P x y
@@ -103,30 +103,28 @@ fault_told syntax texts place e other (inr at) = (e, at)
 -- ---- the locale identifiers of texts
 
 -- one more text is read
-pub SpellsWholes-push : (syntax : Syntax) (texts : List (Bor (List ℕ))) (old new : List LocaleIdentifier) (text : Bor (List ℕ))
-    (x : LocaleIdentifier) → SpellsWholes syntax (map (λ t. t.now) texts) old → SpellsWhole syntax text.now x → new ≡ old ++ x ∷ []
-    → SpellsWholes syntax (map (λ t. t.now) (texts ++ text ∷ [])) new
-SpellsWholes-push syntax texts old new text x each one pushed =
-    subst (λ ts. SpellsWholes syntax ts new) (sym (map-append (λ (t : Bor (List ℕ)). t.now) texts (text ∷ [])))
-    (subst (SpellsWholes syntax (map (λ t. t.now) texts ++ text.now ∷ [])) (sym pushed)
-    (AllZip-push (SpellsWhole syntax) (map (λ t. t.now) texts) old text.now x each one))
+pub SpellsWanted-push : (syntax : Option Syntax) (texts : List (Bor (List ℕ))) (old new : List LocaleIdentifier) (text : Bor (List ℕ))
+    (x : LocaleIdentifier) → AllZip (SpellsWanted syntax) (map (λ t. t.now) texts) old → SpellsWanted syntax text.now x → new ≡ old ++ x ∷ []
+    → AllZip (SpellsWanted syntax) (map (λ t. t.now) (texts ++ text ∷ [])) new
+SpellsWanted-push syntax texts old new text x each one pushed =
+    subst (λ ts. AllZip (SpellsWanted syntax) ts new) (sym (map-append (λ (t : Bor (List ℕ)). t.now) texts (text ∷ [])))
+    (subst (AllZip (SpellsWanted syntax) (map (λ t. t.now) texts ++ text.now ∷ [])) (sym pushed)
+    (AllZip-push (SpellsWanted syntax) (map (λ t. t.now) texts) old text.now x each one))
 
--- texts that spell locale identifiers spell their identifiers
-pub ids_spelled : (syntax : Syntax) (texts : List (List ℕ)) (wholes : List LocaleIdentifier) → SpellsWholes syntax texts wholes
-    → SpellsAll (Some syntax) texts (ids_of wholes)
-ids_spelled syntax [] [] each = tt
-ids_spelled syntax [] (x ∷ xs) each = absurd each
-ids_spelled syntax (t ∷ ts) [] each = absurd each
-ids_spelled syntax (t ∷ ts) (x ∷ xs) each = ((x, each.0.0, each.0.1, refl), ids_spelled syntax ts xs each.1)
+-- a text that spells what is wanted spells its identifier
+wanted_in : (syntax : Option Syntax) (t : List ℕ) (w : LocaleIdentifier) → SpellsWanted syntax t w → SpellsIn syntax t w.locale.id
+wanted_in None t w is = is.0
+wanted_in (Some s) t w is = (w, is.0, is.1, refl)
+
+pub wanted_spelled : (syntax : Option Syntax) (texts : List (List ℕ)) (wanted : List LocaleIdentifier) → AllZip (SpellsWanted syntax) texts wanted
+    → SpellsAll syntax texts (ids_of wanted)
+wanted_spelled syntax [] [] each = tt
+wanted_spelled syntax [] (x ∷ xs) each = absurd each
+wanted_spelled syntax (t ∷ ts) [] each = absurd each
+wanted_spelled syntax (t ∷ ts) (x ∷ xs) each = (wanted_in syntax t x each.0, wanted_spelled syntax ts xs each.1)
 
 -- what is available is spelled
-all_spelled : (s : Syntax) (texts : List (List ℕ)) (ws : List LocaleIdentifier) → SpellsWholes s texts ws → SpellsAll (Some s) texts (ids_of ws)
-all_spelled s [] [] each = tt
-all_spelled s [] (w ∷ ws) each = absurd each
-all_spelled s (t ∷ ts) [] each = absurd each
-all_spelled s (t ∷ ts) (w ∷ ws) each = ((w, each.0.0, each.0.1, refl), all_spelled s ts ws each.1)
-
 pub some_spelled : (syntax : Option Syntax) (texts : List (List ℕ)) (xs : List LanguageIdentifier) (ws : List LocaleIdentifier)
     → IsAvailable syntax texts xs ws → (ys : List LanguageIdentifier) × SpellsAll syntax texts ys
 some_spelled None texts xs ws is = (xs, is.0)
-some_spelled (Some s) texts xs ws is = (ids_of ws, all_spelled s texts ws is.0)
+some_spelled (Some s) texts xs ws is = (ids_of ws, wanted_spelled (Some s) texts ws is.0)

@@ -16,6 +16,7 @@ use Rattle.icu_locale_lines.specs.Lists.{listed, IsAvailable}
 use Rattle.icu_locale_lines.specs.Loads.{IsExpanderOf}
 use Rattle.icu_locale_lines.specs.Refusals.{IsRefusedList, IsFaultyList}
 use Rattle.icu_locale_lines.specs.declared.command.LineCommand.{LineCommand}
+use Rattle.icu_locale_lines.specs.declared.command.ServeTask.{ServeTask}
 use Rattle.icu_locale_lines.specs.declared.command.Task.{Task}
 use Rattle.icu_locale_lines.specs.declared.command.Task.TheVariants.{Transform, Canonicalize, Direction, Negotiate, Name, Fallback, Serve, Distance, Parts, Key}
 use Rattle.icu_locale_lines.specs.declared.error.CliError.{CliError}
@@ -91,8 +92,8 @@ module _ (syntax : Option Syntax) (t : Tables) (input : List ℕ) where
   negotiate_tools Parts e n offered h same spelled = absurd h
   negotiate_tools (Key of) e n offered h same spelled = absurd h
 
-  serve_tools : (task : Task) (how : _) (k : _) (m : _) (s : Service) (offered : Bor Offered) → ListsBy task t (over.Serve how k m)
-      → s.expander ≡ k.expander → s.rules ≡ lent k.rules → s.matching ≡ m.now → s.limits ≡ record { threshold = 50; demotion = 5 }
+  serve_tools : (task : Task) (how : ServeTask) (k : _) (m : _) (s : Service) (offered : Bor Offered) → ListsBy task t (over.Serve how k m)
+      → s.expander ≡ k.expander → s.rules ≡ lent k.rules → s.matching ≡ m.now → s.limits ≡ how.limits
       → IsAvailable syntax (listed (first_line input)) s.available offered.now.wholes.items
       → AreToolsOf syntax task t input (tools.Serve how s offered)
   serve_tools (Transform form) how k m s offered h expander rules matching limits spelled = absurd h
@@ -107,7 +108,7 @@ module _ (syntax : Option Syntax) (t : Tables) (input : List ℕ) where
       expander = subst (IsExpanderOf t) (sym expander) h.1.expander;
       rules = subst (λ r. IsSomeAnd t.aliases (λ table. AreRules table r)) (sym rules) h.1.rules;
       matching = h.2 ∙ ap (λ x. Some x) (sym matching);
-      limits = limits;
+      limits = limits ∙ ap (λ (x : ServeTask). x.limits) h.0;
     },
     spelled,
   )
@@ -143,8 +144,8 @@ module _ (c : LineCommand) (t : Tables) (input : List ℕ) (o : Offered) where
       by tools.Parts lends = absurd lends
       by (tools.Key of k) lends = absurd lends
 
-  pub listed_service : (how : _) (k : _) (m : _) (s : Service) → ListsBy c.task t (over.Serve how k m) → s.expander ≡ k.expander
-      → s.rules ≡ lent k.rules → s.matching ≡ m.now → s.limits ≡ record { threshold = 50; demotion = 5 }
+  pub listed_service : (how : ServeTask) (k : _) (m : _) (s : Service) → ListsBy c.task t (over.Serve how k m) → s.expander ≡ k.expander
+      → s.rules ≡ lent k.rules → s.matching ≡ m.now → s.limits ≡ how.limits
       → IsAvailable c.syntax (listed (first_line input)) s.available o.wholes.items
       → IsListedOf c t input (record { syntax = c.syntax; over = owner.Serve how s; offered = o })
   listed_service how k m s h expander rules matching limits spelled work lends = record { syntax = lends.syntax; tools = by work.tools lends.tools }

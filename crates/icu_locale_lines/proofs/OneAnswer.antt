@@ -38,10 +38,13 @@ use Rattle.icu_locale_values.specs.declared.error.WholeError.{WholeError}
 use Rattle.icu_locale_values.specs.declared.error.WholeError.TheVariants as whole_error
 use Rattle.icu_locale_key.specs.Whole.{IsWholeKey, IsWholeKeyRefusal}
 use Rattle.icu_locale_lines.specs.Wholes.{IsKeyed, IsWholeCanonicalized, TellsWholeRefusal, keyed}
-use Rattle.icu_locale_lines.specs.Serving.{TellsServed, IsNearestLine, IsDistanceLine, IsWishAnswer}
+use Rattle.icu_locale_lines.specs.Serving.{TellsResolved, TellsServed, IsNearestLine, IsResolvedLine, IsDistanceLine, IsWishAnswerTo, place_or_first}
+use Rattle.icu_locale_lines.specs.declared.command.ServeTask.{ServeTask}
 use Rattle.icu_locale_lines.specs.declared.command.Wishes.{Wishes}
-use Rattle.icu_locale_lines.specs.declared.command.Wishes.TheVariants.{Header, Requests}
-use Rattle.icu_locale_lines.specs.Lists.{IsNegotiatedLine, TellsMatch, shown_at}
+use Rattle.icu_locale_matching.specs.Resolved.{resolved}
+use Rattle.std.specs.List.{slice_get}
+use Rattle.icu_locale_lines.specs.declared.command.Wishes.TheVariants.{Header, Requests, Resolved}
+use Rattle.icu_locale_lines.specs.Lists.{ids_of, IsNegotiatedLine, TellsMatch, shown_at}
 use Rattle.icu_locale_lines.specs.declared.work.form.Transform.{Transform}
 use Rattle.icu_locale_lines.specs.declared.work.form.Transform.TheVariants.{Maximize, Minimize, MinimizeScript}
 use Rattle.icu_locale_lines.specs.Answers.{IsAnswer, IsAnswerBy, IsAnswerOf, IsCanonicalAnswer, IsForm, IsFormedLine, IsTransformed, IsDirected, IsNamed, IsParted, IsWholeParted}
@@ -51,7 +54,7 @@ use Rattle.icu_locale_lines.specs.Names.{IsNamedLine, name_asked, whole_name_ask
 use Rattle.icu_locale_lines.specs.Texts.{changed_line, canonical_line, whole_line, refused_line, matched_line}
 use Rattle.icu_locale_fallback.specs.declared.fallbacker.LocaleFallbackerWithConfig.{LocaleFallbackerWithConfig}
 use Rattle.icu_locale_lines.proofs.Chains.{chained_one}
-use Rattle.icu_locale_lines.proofs.Readings.{SameAnswer, SpellingFacts, same, read_one, alone_once, whole_once, listed_once, locale_once}
+use Rattle.icu_locale_lines.proofs.Readings.{SameAnswer, SpellingFacts, same, read_one, alone_once, whole_once, listed_once, locale_once, wanted_once}
 
 -- whether something was changed is told by what that means
 result_one : {P : Type 0} (m n : TransformResult) → (m ≡ Modified) ↔ P → (n ≡ Modified) ↔ P → m ≡ n
@@ -180,6 +183,18 @@ module _ (available : List LanguageIdentifier) (wholes : List LocaleIdentifier) 
       let e = same_Some h.0 k.0 (sym h.1 ∙ ap (shown_at available wholes) place ∙ k.1) in
       h.2 ∙ (λ n. matched_line (place n) (e n)) ∙ sym k.2
 
+  -- so is what is resolved
+  resolved_one : (how : ServeTask) (wanted : List LocaleIdentifier) (found other : Option Match) → found ≡ other
+      → TellsResolved how available wholes wanted found one → TellsResolved how available wholes wanted other two → one ≡ two
+  resolved_one how wanted None None same h k = told_one (place_or_first how available None) (place_or_first how available None) refl h k
+  resolved_one how wanted None (Some n) same h k = absurd (none-some n same)
+  resolved_one how wanted (Some m) None same h k = absurd (none-some m (sym same))
+  resolved_one how wanted (Some m) (Some n) same h k =
+      let found = same_Some m n same in
+      let served = same_Some h.0 k.0 (sym h.1 ∙ ap (λ (x : Match). slice_get available x.available) found ∙ k.1) in
+      let own = same_Some h.2 k.2 (sym h.3 ∙ ap (λ (x : Match). slice_get wanted x.request) found ∙ k.3) in
+      h.4 ∙ (λ i. matched_line (found i).available (extended.written (resolved (served i) (own i)))) ∙ sym k.4
+
 -- what is negotiated is one
 module _ (table : LikelySubtags) (requests available : List LanguageIdentifier) (wholes : List LocaleIdentifier) (one two : List ℕ) where
   negotiated_one : (found other : Option (ℕ × ℕ)) → IsNegotiated table requests available found
@@ -206,11 +221,20 @@ module _ (spelling : SpellingFacts) (minimal_one : (favor : Favor) (table : Like
   negotiated_line_one n ws xs h k =
       record { text = negotiated_one (likely n.expander) xs n.available ws one two h.0 k.0 h.1 k.1 h.2 k.2; accepted = h.3 ∙ sym k.3 }
 
-  nearest_line_one : (s : Service) (ws : List LocaleIdentifier) (xs : List LanguageIdentifier) → IsNearestLine s ws xs one a
-      → IsNearestLine s ws xs two b → SameAnswer one two a b
-  nearest_line_one s ws xs h k =
-      let found = ap place_of (nearest_once s xs h.0 k.0 h.1 k.1) in
-      record { text = told_one s.available ws one two (place_of h.0) (place_of k.0) found h.2 k.2; accepted = h.3 ∙ sym k.3 }
+  nearest_line_one : (how : ServeTask) (s : Service) (ws : List LocaleIdentifier) (xs : List LanguageIdentifier) → IsNearestLine how s ws xs one a
+      → IsNearestLine how s ws xs two b → SameAnswer one two a b
+  nearest_line_one how s ws xs h k =
+      let found = ap (λ m. place_or_first how s.available (place_of m)) (nearest_once s xs h.0 k.0 h.1 k.1) in record {
+        text = told_one s.available ws one two (place_or_first how s.available (place_of h.0)) (place_or_first how s.available (place_of k.0)) found h.2 k.2;
+        accepted = h.3 ∙ sym k.3;
+      }
+
+  resolved_line_one : (how : ServeTask) (s : Service) (ws wanted : List LocaleIdentifier) → IsResolvedLine how s ws wanted one a
+      → IsResolvedLine how s ws wanted two b → SameAnswer one two a b
+  resolved_line_one how s ws wanted h k = record {
+    text = resolved_one s.available ws one two how wanted h.0 k.0 (nearest_once s (ids_of wanted) h.0 k.0 h.1 k.1) h.2 k.2;
+    accepted = h.3 ∙ sym k.3;
+  }
 
   distance_line_one : (t : LanguageMatching) (table : LikelySubtags) (xs : List LanguageIdentifier) → IsDistanceLine t table xs one a
       → IsDistanceLine t table xs two b → SameAnswer one two a b
@@ -219,11 +243,17 @@ module _ (spelling : SpellingFacts) (minimal_one : (favor : Favor) (table : Like
   distance_line_one t table (d ∷ s ∷ []) h k = same h.0 k.0 refl h.1 k.1
   distance_line_one t table (d ∷ s ∷ x ∷ xs) h k = same h.0 k.0 refl h.1 k.1
 
-  wish_one : (syntax : Option Syntax) (wishes : Wishes) (s : Service) (ws : List LocaleIdentifier) → IsWishAnswer syntax wishes s ws line one a
-      → IsWishAnswer syntax wishes s ws line two b → SameAnswer one two a b
-  wish_one syntax Header s ws h k =
-      record { text = told_one s.available ws one two h.0 k.0 (served_once s line h.0 k.0 h.1 k.1) h.2 k.2; accepted = h.3 ∙ sym k.3 }
-  wish_one syntax Requests s ws h k = read_one (listed_once spelling syntax) one two a b (IsNearestLine s ws) (nearest_line_one s ws) line h k
+  wish_one : (wishes : Wishes) (syntax : Option Syntax) (how : ServeTask) (s : Service) (ws : List LocaleIdentifier)
+      → IsWishAnswerTo wishes syntax how s ws line one a → IsWishAnswerTo wishes syntax how s ws line two b → SameAnswer one two a b
+  wish_one Header syntax how s ws h k =
+      let place = ap (place_or_first how s.available) (served_once s line h.0 k.0 h.1 k.1) in record {
+        text = told_one s.available ws one two (place_or_first how s.available h.0) (place_or_first how s.available k.0) place h.2 k.2;
+        accepted = h.3 ∙ sym k.3;
+      }
+  wish_one Requests syntax how s ws h k =
+      read_one (listed_once spelling syntax) one two a b (IsNearestLine how s ws) (nearest_line_one how s ws) line h k
+  wish_one Resolved syntax how s ws h k =
+      read_one (wanted_once spelling syntax) one two a b (IsResolvedLine how s ws) (resolved_line_one how s ws) line h k
 
   -- the answer to an identifier, alone or with extensions, is one where its line is
   answer_of_one : (syntax : Option Syntax) (IsLine : LanguageIdentifier → List ℕ → Bool → Type 0)
@@ -250,7 +280,7 @@ module _ (spelling : SpellingFacts) (minimal_one : (favor : Favor) (table : Like
       (λ x p q. same p.0 q.0 refl p.1 q.1) (λ x p q. same p.0 q.0 refl p.1 q.1) h k
   answer_by_one syntax (tools.Negotiate n o) h k = read_one (listed_once spelling syntax) one two a b
       (IsNegotiatedLine n o.now.wholes.items) (negotiated_line_one n o.now.wholes.items) line h k
-  answer_by_one syntax (tools.Serve wishes s o) h k = wish_one syntax wishes s o.now.wholes.items h k
+  answer_by_one syntax (tools.Serve how s o) h k = wish_one how.wishes syntax how s o.now.wholes.items h k
   answer_by_one syntax (tools.Distance d) h k = read_one (listed_once spelling syntax) one two a b
       (IsDistanceLine d.matching.now (likely d.expander)) (distance_line_one d.matching.now (likely d.expander)) line h k
   answer_by_one syntax (tools.Name n) h k = answer_of_one syntax (IsNamed n) (IsWholeNamed n)

@@ -1,6 +1,5 @@
 -- A line without a piece of one character is answered alike in the syntax of UTS #35 and without one.
-use Rattle.std.proofs.Common.{◌≡◌, ◌↔◌, ◌⊎◌, ℕ, Bool, true, false, ◌||◌, List, [], ◌∷◌, ◌++◌, Option, None, Some, Result, Ok, Err, map, refl, ap, sym, subst, ◌∙◌, inl, inr}
-use Rattle.std.specs.Prelude.{if◌then◌else◌}
+use Rattle.std.proofs.Common.{◌≡◌, ◌↔◌, ◌⊎◌, ℕ, Bool, true, false, ◌||◌, List, [], ◌∷◌, ◌++◌, Option, None, Some, Result, Ok, Err, refl, ap, sym, subst, ◌∙◌, inl, inr}
 use Rattle.std.specs.List.{list_any, position}
 use Rattle.std.proofs.lemmas.Bool.{false≢true}
 use Rattle.icu_locale_core.specs.Identifier.{IsIdentifier, pieces, starts_with_language}
@@ -8,7 +7,6 @@ use Rattle.icu_locale_core.specs.Identifier as core
 use Rattle.icu_locale_core.specs.declared.langid.LanguageIdentifier.{LanguageIdentifier}
 use Rattle.icu_locale_core.specs.declared.parse_error.ParseError.{ParseError}
 use Rattle.icu_locale_core.specs.declared.parse_error.ParseError.TheVariants.{InvalidLanguage, InvalidSubtag, Memory}
-use Rattle.icu_locale_extensions.specs.Extensions.{is_singleton}
 use Rattle.icu_locale_extensions.specs.Built.{bare}
 use Rattle.icu_locale_extensions.specs.Syntaxes.{IsFaultBy, read_by}
 use Rattle.icu_locale_extensions.specs.declared.identifier.LocaleIdentifier.{LocaleIdentifier}
@@ -16,21 +14,25 @@ use Rattle.icu_locale_extensions.specs.declared.syntax.Syntax.{Syntax}
 use Rattle.icu_locale_extensions.specs.declared.syntax.Syntax.TheVariants.{Unicode}
 use Rattle.icu_locale.specs.LikelyTable.{likely}
 use Rattle.icu_locale_values.specs.Whole.{WholeRules, whole_rules}
-use Rattle.icu_locale_lines.specs.Answers.{IsAnswerBy, IsCanonicalized, IsIdentifierAnswer, IsLocaleAnswer, IsSpelledAnswer, IsTransformed, IsWholeTransformed, IsParted, IsWholeParted}
+use Rattle.icu_locale_lines.specs.Answers.{IsAnswerBy, IsCanonicalized, IsIdentifierAnswer, IsLocaleAnswer, IsSpelledAnswer, IsTransformed, IsWholeTransformed, IsParted, IsWholeParted, WishesNoSingleton}
 use Rattle.icu_locale_lines.specs.Answers.{IsDirected, IsNamed, IsWholeNamed, has_singleton, HasNoSingleton}
 use Rattle.icu_locale_lines.specs.Chains.{IsChained}
-use Rattle.icu_locale_lines.specs.Lists.{IsFault, IsFirstFault, IsListedAnswer, IsNegotiatedLine, SpellsAll, SpellsIn, SpellsWhole, listed}
+use Rattle.icu_locale_lines.specs.Lists.{ids_of, IsFault, IsFirstFault, IsListedAnswer, IsNegotiatedLine, IsWantedAnswer, SpellsAll, SpellsIn, SpellsWhole, listed}
 use Rattle.icu_locale_lines.specs.Locales.{is_tab, is_readable, identifier_text, value_text, IsLocaleFault, IsValueFault, SpellsSome}
-use Rattle.icu_locale_lines.specs.Serving.{IsNearestLine, IsDistanceLine}
+use Rattle.icu_locale_lines.specs.Serving.{IsNearestLine, IsResolvedLine, IsDistanceLine, IsWishAnswerTo}
 use Rattle.icu_locale_lines.specs.Wholes.{IsKeyed, IsWholeCanonicalized, keyed}
-use Rattle.icu_locale_lines.specs.declared.command.Wishes.TheVariants.{Header, Requests}
+use Rattle.icu_locale_lines.specs.declared.command.ServeTask.{ServeTask}
+use Rattle.icu_locale_lines.specs.declared.command.Wishes.{Wishes}
+use Rattle.icu_locale_lines.specs.declared.command.Wishes.TheVariants.{Header, Requests, Resolved}
+use Rattle.icu_locale_matching.specs.Service.{Service}
+use Rattle.icu_locale_lines.proofs.ListReading.{wanted_spelled}
 use Rattle.icu_locale_lines.specs.declared.work.Tools.{Tools}
 use Rattle.icu_locale_lines.specs.declared.work.Tools.TheVariants as tools
-use Rattle.icu_locale_lines.proofs.Alike.{SyntaxFacts, each_alike, transformed_alike, named_alike, canonical_answers_alike, in_syntax, lists_alike, keyed_alike, parted_alike}
+use Rattle.icu_locale_lines.proofs.Alike.{SyntaxFacts, each_alike, transformed_alike, named_alike, canonical_answers_alike, in_syntax, lists_alike, keyed_alike, parted_alike, wanted_alike}
 use Rattle.icu_locale_lines.proofs.LineAnswers.{locale_fault}
 use Rattle.icu_locale_lines.proofs.LineCuts.{before_first-no_position}
 use Rattle.icu_locale_lines.proofs.LocaleLines.{value_text-no_position}
-use Rattle.icu_locale_lines.proofs.Readings.{answered_alike, alone_once, whole_once, listed_once, locale_once}
+use Rattle.icu_locale_lines.proofs.Readings.{answered_alike, alone_once, whole_once, listed_once, locale_once, wanted_once}
 
 -- none of two passes
 neither : (a b : Bool) → (a || b) ≡ false → (a ≡ false) × (b ≡ false)
@@ -161,6 +163,22 @@ module _ (facts : SyntaxFacts) (line text : List ℕ) (a : Bool) where
             → IsListedAnswer (Some Unicode) IsLine line text a ↔ IsListedAnswer None IsLine line text a
         by xs each = lists_alike facts Unicode line text a IsLine xs each
 
+    wanted_plain : (IsLine : List LocaleIdentifier → List ℕ → Bool → Type 0)
+        → IsWantedAnswer (Some Unicode) IsLine line text a ↔ IsWantedAnswer None IsLine line text a
+    wanted_plain IsLine = answered_alike (wanted_once facts.spelling (Some Unicode)) (wanted_once facts.spelling None) IsLine IsLine line text a
+        (λ ws reads. by (ids_of ws) (spells_alone (listed line) (ids_of ws) plain (wanted_spelled (Some Unicode) (listed line) ws reads)))
+        (λ ws reads. by (ids_of ws) (wanted_spelled None (listed line) ws reads)) (λ e. (first_alone e, first_whole e))
+      where
+        by : (xs : List LanguageIdentifier) → SpellsAll None (listed line) xs
+            → IsWantedAnswer (Some Unicode) IsLine line text a ↔ IsWantedAnswer None IsLine line text a
+        by xs each = wanted_alike facts Unicode line text a IsLine xs each
+
+  plain_wishes_alike : (wishes : Wishes) (how : ServeTask) (t : Service) (ws : List LocaleIdentifier) → WishesNoSingleton wishes line
+      → IsWishAnswerTo wishes (Some Unicode) how t ws line text a ↔ IsWishAnswerTo wishes None how t ws line text a
+  plain_wishes_alike Header how t ws plain = (λ h. h, λ h. h)
+  plain_wishes_alike Requests how t ws plain = lists_plain plain (IsNearestLine how t ws)
+  plain_wishes_alike Resolved how t ws plain = wanted_plain plain (IsResolvedLine how t ws)
+
   pub plain_answers_alike : (work : Tools) → HasNoSingleton work line
       → IsAnswerBy (Some Unicode) work line text a ↔ IsAnswerBy None work line text a
   plain_answers_alike (tools.Transform form e) plain = each_plain plain (IsWholeTransformed form (likely e)) (IsTransformed form (likely e))
@@ -169,8 +187,7 @@ module _ (facts : SyntaxFacts) (line text : List ℕ) (a : Bool) where
   plain_answers_alike (tools.Direction d) plain =
       each_plain plain (λ w. IsDirected d w.locale.id) (IsDirected d) (λ x spells. (λ h. h, λ h. h))
   plain_answers_alike (tools.Negotiate n o) plain = lists_plain plain (IsNegotiatedLine n o.now.wholes.items)
-  plain_answers_alike (tools.Serve Header t o) plain = (λ h. h, λ h. h)
-  plain_answers_alike (tools.Serve Requests t o) plain = lists_plain plain (IsNearestLine t o.now.wholes.items)
+  plain_answers_alike (tools.Serve how t o) plain = plain_wishes_alike how.wishes how t o.now.wholes.items plain
   plain_answers_alike (tools.Distance d) plain = lists_plain plain (IsDistanceLine d.matching.now (likely d.expander))
   plain_answers_alike (tools.Name n) plain = each_plain plain (IsWholeNamed n) (IsNamed n)
       (λ x spells. named_alike facts Unicode line text a x spells n)

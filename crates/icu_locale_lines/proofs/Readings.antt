@@ -1,5 +1,5 @@
 -- A line is read as one thing at most, and a line that is read is not refused.
-use Rattle.std.proofs.Common.{◌≡◌, ◌↔◌, ◌⊎◌, ℕ, Bool, true, false, ◌&&◌, List, [], ◌∷◌, ◌++◌, map, Option, Some, None, Ok, Err, refl, ap, sym, subst, ◌∙◌}
+use Rattle.std.proofs.Common.{◌≡◌, ◌↔◌, ◌⊎◌, ℕ, Bool, true, false, ◌&&◌, List, [], ◌∷◌, ◌++◌, map, Option, Some, None, Ok, refl, ap, sym, subst, ◌∙◌}
 use Rattle.std.proofs.Common.{inl, inr, arith}
 use Rattle.std.specs.Prelude.{slice_index_or, nat_le}
 use Rattle.std.specs.List.{AllZip, list_all}
@@ -13,15 +13,16 @@ use Rattle.icu_locale_core.specs.declared.langid.LanguageIdentifier.{LanguageIde
 use Rattle.icu_locale_core.specs.declared.locale.Locale.{Locale}
 use Rattle.icu_locale_core.specs.declared.parse_error.ParseError.{ParseError}
 use Rattle.icu_locale_core.specs.declared.parse_error.ParseError.TheVariants.{InvalidLanguage, InvalidSubtag, Memory}
-use Rattle.icu_locale_extensions.specs.Locales.{IsLocaleIdentifier}
 use Rattle.icu_locale_extensions.specs.Syntaxes.{SpellsBy, IsFaultBy, read_by}
 use Rattle.icu_locale_extensions.specs.declared.identifier.LocaleIdentifier.{LocaleIdentifier}
 use Rattle.icu_locale_extensions.specs.declared.syntax.Syntax.{Syntax}
-use Rattle.icu_locale_lines.specs.Lists.{listed, SpellsAll, SpellsIn, SpellsWhole, IsFault, IsFaultIn, IsFirstFault}
+use Rattle.icu_locale_extensions.specs.Built.{bare}
+use Rattle.icu_locale_lines.specs.Lists.{listed, ids_of, SpellsAll, SpellsIn, SpellsWanted, SpellsWhole, IsFault, IsFaultIn, IsFirstFault}
 use Rattle.icu_locale_lines.specs.Locales.{SpellsLocale, SpellsSome, IsLocaleFault, IsValueFault, identifier_text, value_text}
 use Rattle.icu_locale_lines.specs.Readings.{IsReadAnswer}
 use Rattle.icu_locale_lines.specs.Texts.{refused_line}
 use Rattle.icu_locale_lines.specs.inner.Words.{first_of, others_of}
+use Rattle.icu_locale_lines.proofs.ListReading.{wanted_spelled}
 
 -- two answers are the same
 pub record SameAnswer (one two : List ℕ) (a b : Bool) : Type 0 where
@@ -203,6 +204,26 @@ module _ (facts : SpellingFacts) where
     apart = λ t xs e p f. no_fault once f.earlier f.text f.later e xs (subst (λ ts. SpellsAll syntax ts xs) f.parted p) f.refused;
     fault = λ t e f p q. fault_one once p.earlier p.text p.later q.earlier q.text q.later e f p.identifiers q.identifiers
         (sym p.parted ∙ q.parted) p.spelled q.spelled p.refused q.refused;
+  }
+
+  -- what a reader wants, and a list of that
+  wanted_one : (syntax : Option Syntax) → ReadsOnce (SpellsWanted syntax) (IsFaultIn syntax)
+  wanted_one None = record {
+    one = λ t x y p q. p.1 ∙ ap bare (alone_once.one t x.locale.id y.locale.id p.0 q.0) ∙ sym q.1;
+    apart = λ t x e p fault. alone_once.apart t x.locale.id e p.0 fault;
+    fault = alone_once.fault;
+  }
+  wanted_one (Some s) = record {
+    one = (whole_once s).one;
+    apart = (whole_once s).apart;
+    fault = (whole_once s).fault;
+  }
+
+  pub wanted_once : (syntax : Option Syntax) → ReadsOnce (λ t xs. AllZip (SpellsWanted syntax) (listed t) xs) (λ t e. IsFirstFault syntax (listed t) e)
+  wanted_once syntax = let once = wanted_one syntax in record {
+    one = λ t xs ys p q. all_one once (listed t) xs ys p q;
+    apart = λ t xs e p f. (listed_once syntax).apart t (ids_of xs) e (wanted_spelled syntax (listed t) xs p) f;
+    fault = (listed_once syntax).fault;
   }
 
   -- a locale

@@ -27,7 +27,8 @@ use Rattle.icu_locale_lines.specs.Lists.{listed, SpellsAll, SpellsIn, SpellsWhol
 use Rattle.icu_locale_lines.specs.Serving.{IsWishAnswer, IsDistanceLine}
 use Rattle.icu_locale_lines.specs.Wholes.{IsKeyed, IsWholeCanonicalized, keyed}
 use Rattle.icu_locale_values.specs.Whole.{WholeRules, whole_rules}
-use Rattle.icu_locale_lines.specs.declared.command.Wishes.TheVariants.{Header, Requests}
+use Rattle.icu_locale_lines.specs.declared.command.Wishes.{Wishes}
+use Rattle.icu_locale_lines.specs.declared.command.Wishes.TheVariants.{Header}
 use Rattle.icu_locale_lines.specs.Locales.{is_tab, SpellsLocale, IsLocaleFault}
 use Rattle.icu_locale_lines.specs.Names.{name_asked, whole_name_asked, IsNamedLine}
 use Rattle.icu_locale_lines.specs.Readings.{IsReadAnswer}
@@ -185,8 +186,8 @@ IsAnswerBy syntax (tools.Name n) line text accepted =
     IsAnswerOf syntax (IsNamed n) (IsWholeNamed n) line text accepted
 IsAnswerBy syntax (tools.Fallback f) line text accepted =
     IsAnswerOf syntax (IsChained f) (λ x. IsChained f x.locale.id) line text accepted
-IsAnswerBy syntax (tools.Serve wishes s offered) line text accepted =
-    IsWishAnswer syntax wishes s offered.now.wholes.items line text accepted
+IsAnswerBy syntax (tools.Serve how s offered) line text accepted =
+    IsWishAnswer syntax how s offered.now.wholes.items line text accepted
 IsAnswerBy syntax (tools.Distance d) line text accepted =
     IsListedAnswer syntax (IsDistanceLine d.matching.now (likely d.expander)) line text accepted
 IsAnswerBy syntax tools.Parts line text accepted =
@@ -203,12 +204,15 @@ IsAnswer work line text accepted = IsAnswerBy work.syntax work.tools line text a
 abbrev pub ListsIdentifiers : List ℕ → Type 0
 ListsIdentifiers line = (xs : List LanguageIdentifier) × SpellsAll None (listed line) xs
 
--- a line holds identifiers alone, without a value: one, or any number where the task takes a list;
--- a header is one in each syntax
+-- a line wishes identifiers alone; a header is one in each syntax
+abbrev pub WishesIdentifiers : Wishes → List ℕ → Type 0
+WishesIdentifiers Header line = Unit {0}
+WishesIdentifiers wishes line = ListsIdentifiers line
+
+-- a line holds identifiers alone, without a value: one, or any number where the task takes a list
 abbrev pub HoldsIdentifiers : Tools → List ℕ → Type 0
 HoldsIdentifiers (tools.Negotiate negotiation offered) line = ListsIdentifiers line
-HoldsIdentifiers (tools.Serve Header s offered) line = Unit {0}
-HoldsIdentifiers (tools.Serve Requests s offered) line = ListsIdentifiers line
+HoldsIdentifiers (tools.Serve how s offered) line = WishesIdentifiers how.wishes line
 HoldsIdentifiers (tools.Distance d) line = ListsIdentifiers line
 HoldsIdentifiers tools line = (position is_tab line ≡ None)
     × (x : LanguageIdentifier) × IsIdentifier x × Spells line x
@@ -221,12 +225,16 @@ has_singleton text = list_any is_singleton (pieces text)
 abbrev pub ListsNoSingleton : List ℕ → Type 0
 ListsNoSingleton line = list_any has_singleton (listed line) ≡ false
 
+-- no text that a line wishes has one; a header may have any
+abbrev pub WishesNoSingleton : Wishes → List ℕ → Type 0
+WishesNoSingleton Header line = Unit {0}
+WishesNoSingleton wishes line = ListsNoSingleton line
+
 -- a line has no piece of one character, nor has a text of a line that the task takes for a list, and
--- at `canonicalize` it has no tab; a header may have any
+-- at `canonicalize` it has no tab
 abbrev pub HasNoSingleton : Tools → List ℕ → Type 0
 HasNoSingleton (tools.Negotiate negotiation offered) line = ListsNoSingleton line
-HasNoSingleton (tools.Serve Header s offered) line = Unit {0}
-HasNoSingleton (tools.Serve Requests s offered) line = ListsNoSingleton line
+HasNoSingleton (tools.Serve how s offered) line = WishesNoSingleton how.wishes line
 HasNoSingleton (tools.Distance d) line = ListsNoSingleton line
 HasNoSingleton (tools.Canonicalize k) line =
     (position is_tab line ≡ None) × (has_singleton line ≡ false)

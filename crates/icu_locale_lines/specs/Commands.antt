@@ -22,6 +22,7 @@ use Rattle.icu_locale_lines.specs.Lines.{first_line, after_first_line}
 use Rattle.icu_locale_lines.specs.Lists.{listed, IsAvailable}
 use Rattle.icu_locale_lines.specs.Loads.{AreRulesOf, IsCanonicalizerOf, IsExpanderOf, IsWholeOf, has_likely}
 use Rattle.icu_locale_matching.specs.Service.{Service}
+use Rattle.icu_locale_matching.specs.declared.limits.MatchLimits.{MatchLimits}
 use Rattle.icu_locale_lines.specs.declared.work.listing.Listed.{Listed}
 use Rattle.icu_locale_lines.specs.declared.work.listing.ListedOver.{ListedOver}
 use Rattle.icu_locale_lines.specs.declared.work.listing.ListedOver.TheVariants as owner
@@ -50,7 +51,7 @@ holds_for Canonicalize t = has_likely t && is_some t.aliases
 holds_for (Key of) t = has_likely t && is_some t.aliases
 holds_for Direction t = has_likely t && is_some t.script_direction
 holds_for (Name chain preferences) t = true
-holds_for (Serve wishes) t = has_matching t && (has_likely t && is_some t.aliases)
+holds_for (Serve served) t = has_matching t && (has_likely t && is_some t.aliases)
 holds_for Distance t = has_matching t && has_likely t
 holds_for Parts t = true
 holds_for task t = has_likely t
@@ -64,7 +65,7 @@ has_tables (Lines c) t = holds_for c.task t
 abbrev pub reads_rules : Task → Bool
 reads_rules Canonicalize = true
 reads_rules (Key of) = true
-reads_rules (Serve wishes) = true
+reads_rules (Serve served) = true
 reads_rules task = false
 
 -- the rules that a task asks for are there, read of the aliases
@@ -99,15 +100,15 @@ HoldsSettled t = (e : LocaleExpander) × IsExpanderOf t e × AreSettled (likely 
 -- a task takes its first line for what is available, over tables that may be asked for it
 abbrev pub ListsOver : Task → Tables → Type 0
 ListsOver Negotiate t = HoldsSettled t
-ListsOver (Serve wishes) t = holds_for (Serve wishes) t ≡ true
+ListsOver (Serve served) t = holds_for (Serve served) t ≡ true
 ListsOver task t = ⊥
 
--- a server over tables: their likely tables, rules and match rules, within the limits of ICU
-pub record IsServerOf (t : Tables) (s : Service) : Type 0 where
+-- a server over tables: their likely tables, rules and match rules, within limits
+pub record IsServerOf (t : Tables) (limits_are : MatchLimits) (s : Service) : Type 0 where
   pub expander : IsExpanderOf t s.expander
   pub rules : IsSomeAnd t.aliases (λ table. AreRules table s.rules)
   pub matching : t.supplement.matching ≡ Some s.matching
-  pub limits : s.limits ≡ record { threshold = 50; demotion = 5 }
+  pub limits : s.limits ≡ limits_are
 
 -- what gives names by a chain and in the language of preferences, over tables
 pub record IsNamingOf (chain : NameChain) (preferences : DisplayNamesPreferences) (t : Tables)
@@ -119,8 +120,8 @@ pub record IsNamingOf (chain : NameChain) (preferences : DisplayNamesPreferences
   pub extensions : option_copied n.extensions
       ≡ value_at locale_cmp t.supplement.extension_names preferences.locale
 
--- the tools of a task over tables; for `negotiate` these are settled. Of `negotiate`, `serve` and
--- `nearest` the first line of the input lists what is available, each text read as the lines are
+-- the tools of a task over tables; for `negotiate` these are settled. Of `negotiate` and those that
+-- serve readers the first line of the input lists what is available, each text read as the lines are
 abbrev pub AreToolsOf : Option Syntax → Task → Tables → List ℕ → Tools → Type 0
 AreToolsOf syntax (Transform form) t input (tools.Transform other e) =
     (other ≡ form) × IsExpanderOf t e
@@ -134,8 +135,8 @@ AreToolsOf syntax (Name chain preferences) t input (tools.Name n) =
     IsNamingOf chain preferences t n
 AreToolsOf syntax Fallback t input (tools.Fallback f) = IsExpanderOf t f.fallbacker.expander
     × (f.fallbacker.parents.now ≡ t.supplement.parents) × (f.config.priority ≡ Language)
-AreToolsOf syntax (Serve wishes) t input (tools.Serve how s offered) =
-    (how ≡ wishes) × IsServerOf t s
+AreToolsOf syntax (Serve served) t input (tools.Serve how s offered) =
+    (how ≡ served) × IsServerOf t served.limits s
     × IsAvailable syntax (listed (first_line input)) s.available offered.now.wholes.items
 AreToolsOf syntax Distance t input (tools.Distance d) =
     IsExpanderOf t d.expander × (t.supplement.matching ≡ Some d.matching.now)
@@ -151,7 +152,7 @@ pub record IsWorkOf (c : LineCommand) (t : Tables) (input : List ℕ) (work : Wo
 -- the text whose lines a task answers: without the first, where that lists what is available
 abbrev pub text_left : Task → List ℕ → List ℕ
 text_left Negotiate input = after_first_line input
-text_left (Serve wishes) input = after_first_line input
+text_left (Serve served) input = after_first_line input
 text_left task input = input
 
 abbrev pub text_answered : LineCommand → List ℕ → List ℕ
@@ -160,8 +161,8 @@ text_answered c input = text_left c.task input
 -- what a task lists its first line over: settled tables, or all that a server asks
 abbrev pub ListsBy : Task → Tables → ListOver → Type 0
 ListsBy Negotiate t (over.Negotiate e) = IsExpanderOf t e × AreSettled (likely e)
-ListsBy (Serve wishes) t (over.Serve how k m) =
-    (how ≡ wishes) × IsCanonicalizerOf t k × (t.supplement.matching ≡ Some m.now)
+ListsBy (Serve served) t (over.Serve how k m) =
+    (how ≡ served) × IsCanonicalizerOf t k × (t.supplement.matching ≡ Some m.now)
 ListsBy task t other = ⊥
 
 -- what waits for the first line of a command

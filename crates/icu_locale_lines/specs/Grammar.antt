@@ -1,5 +1,6 @@
--- What words ask for: `[longest N] [locales | bcp47 | posix] COMMAND [json [supplement]]`.
-use Rattle.std.specs.Prelude.{◌^◌, ◌&&◌, ◌==◌, not, nat_lt, ℕ, Bool, true, false, List, [], ◌∷◌, length, codes, Option, None, Some, Result, Ok, Err, is_some, if◌then◌else◌}
+-- What words ask for: `[longest N] [threshold N] [demotion N] [favor-script] [or-first] [locales | bcp47 | posix] COMMAND
+-- [json [supplement]]`.
+use Rattle.std.specs.Prelude.{◌^◌, ◌&&◌, ◌==◌, not, nat_lt, ℕ, Bool, true, false, List, [], ◌∷◌, length, codes, Option, None, Some, Result, Ok, Err, is_some, unwrap_or, if◌then◌else◌}
 use Rattle.std.specs.List.{find}
 use Rattle.std.specs.Option.{option_map, option_and_then}
 use Rattle.std.specs.Str.{all_ascii_digits, bytes_eq}
@@ -15,15 +16,20 @@ use Rattle.icu_locale_names.specs.LanguageChains.{chain_word}
 use Rattle.icu_locale_names.specs.declared.name_chain.NameChain.{NameChain}
 use Rattle.icu_locale_names.specs.declared.name_chain.NameChain.TheVariants as chain
 use Rattle.icu_locale_names.specs.declared.options.DisplayNamesPreferences.{DisplayNamesPreferences}
+use Rattle.icu_locale_matching.specs.declared.limits.FavorSubtag.TheVariants.{Language, Script}
+use Rattle.icu_locale_matching.specs.declared.limits.MatchLimits.{MatchLimits}
 use Rattle.icu_locale_lines.specs.declared.asked.Asked.{Asked}
 use Rattle.icu_locale_lines.specs.declared.asked.Source.{Source}
 use Rattle.icu_locale_lines.specs.declared.asked.Source.TheVariants.{Sample, Json, JsonAndSupplement}
 use Rattle.icu_locale_lines.specs.declared.command.Command.{Command}
 use Rattle.icu_locale_lines.specs.declared.command.Command.TheVariants.{Settled, Lines}
+use Rattle.icu_locale_lines.specs.declared.command.ServeTask.{ServeTask}
 use Rattle.icu_locale_lines.specs.declared.command.Task.{Task}
 use Rattle.icu_locale_lines.specs.declared.command.Task.TheVariants.{Transform, Canonicalize, Direction, Negotiate, Name, Fallback, Serve, Distance, Parts, Key}
 use Rattle.icu_locale_lines.specs.declared.command.KeyOf.TheVariants.{Whole, Identifier}
-use Rattle.icu_locale_lines.specs.declared.command.Wishes.TheVariants.{Header, Requests}
+use Rattle.icu_locale_lines.specs.declared.command.Wishes.{Wishes}
+use Rattle.icu_locale_lines.specs.declared.command.Wishes.TheVariants.{Header, Requests, Resolved}
+use Rattle.icu_locale_lines.specs.declared.given.Given.{Given}
 use Rattle.icu_locale_lines.specs.declared.work.form.Transform.TheVariants.{Maximize, Minimize, MinimizeScript}
 
 -- ---- what one word names
@@ -31,6 +37,20 @@ use Rattle.icu_locale_lines.specs.declared.work.form.Transform.TheVariants.{Maxi
 -- the first of some things whose word it is
 abbrev pub named : {X : Type 0} → (X → List ℕ) → List X → List ℕ → Option X
 named word_of things word = find (λ x. bytes_eq word (word_of x)) things
+
+-- the word of how wishes are said and answered
+abbrev pub wishes_word : Wishes → List ℕ
+wishes_word Header = codes "serve"
+wishes_word Requests = codes "nearest"
+wishes_word Resolved = codes "resolved"
+
+-- within the limits of ICU, and with nothing where nothing is near
+abbrev pub usual : Wishes → ServeTask
+usual wishes = record {
+  wishes = wishes;
+  limits = record { threshold = 50; demotion = 5; favor = Language };
+  or_first = false;
+}
 
 -- the word of each task; `name` alone has arguments
 abbrev pub task_word : Task → List ℕ
@@ -42,17 +62,16 @@ task_word Direction = codes "direction"
 task_word Negotiate = codes "negotiate"
 task_word (Name chain preferences) = codes "name"
 task_word Fallback = codes "fallback"
-task_word (Serve Header) = codes "serve"
-task_word (Serve Requests) = codes "nearest"
+task_word (Serve served) = wishes_word served.wishes
 task_word Distance = codes "distance"
 task_word Parts = codes "parts"
 task_word (Key Whole) = codes "key"
 task_word (Key Identifier) = codes "identifier-key"
 
 abbrev pub tasks : List Task
-tasks = Transform Maximize ∷ Transform Minimize ∷ Transform MinimizeScript ∷ Canonicalize ∷ Direction
-    ∷ Negotiate ∷ Fallback ∷ Serve Header ∷ Serve Requests ∷ Distance ∷ Parts
-    ∷ Key Whole ∷ Key Identifier ∷ []
+tasks = Transform Maximize ∷ Transform Minimize ∷ Transform MinimizeScript ∷ Canonicalize
+    ∷ Direction ∷ Negotiate ∷ Fallback ∷ Serve (usual Header) ∷ Serve (usual Requests)
+    ∷ Serve (usual Resolved) ∷ Distance ∷ Parts ∷ Key Whole ∷ Key Identifier ∷ []
 
 abbrev pub task_at : List ℕ → Option Task
 task_at = named task_word tasks
@@ -86,16 +105,19 @@ preferences_of (Err e) = None
 abbrev pub preferences_at : List ℕ → Option DisplayNamesPreferences
 preferences_at text = preferences_of (read_pieces (pieces text))
 
--- decimal digits, before which a plus may stand
-abbrev pub is_bound : List ℕ → Bool
-is_bound digits =
-    nat_lt 0 (length digits) && (all_ascii_digits digits && nat_lt (digits_value 10 digits) (2 ^ 64))
+-- decimal digits of a number of so many bits, before which a plus may stand
+abbrev pub is_number : ℕ → List ℕ → Bool
+is_number bits digits = nat_lt 0 (length digits)
+    && (all_ascii_digits digits && nat_lt (digits_value 10 digits) (2 ^ bits))
 
-abbrev pub bound_of : List ℕ → Option ℕ
-bound_of digits = if is_bound digits then Some (digits_value 10 digits) else None
+abbrev pub number_of : ℕ → List ℕ → Option ℕ
+number_of bits digits = if is_number bits digits then Some (digits_value 10 digits) else None
 
 abbrev pub bound_at : List ℕ → Option ℕ
-bound_at text = bound_of (without_leading_plus text)
+bound_at text = number_of 64 (without_leading_plus text)
+
+abbrev pub limit_at : List ℕ → Option ℕ
+limit_at text = number_of 16 (without_leading_plus text)
 
 -- ---- words
 
@@ -148,18 +170,90 @@ abbrev pub parse_lines : Option ℕ → List (List ℕ) → Option Asked
 parse_lines longest [] = None
 parse_lines longest (w ∷ ws) = parse_behind longest (syntax_at w) w ws
 
+-- whether the next word is this one, and the words that follow it then
+abbrev pub word_next : List ℕ → List (List ℕ) → Bool × List (List ℕ)
+word_next name [] = (false, [])
+word_next name (w ∷ ws) = if bytes_eq w name then (true, ws) else (false, w ∷ ws)
+
+-- the number that the first word says
+abbrev pub said_first : (List ℕ → Option ℕ) → List (List ℕ) → Option (Option ℕ × List (List ℕ))
+said_first at [] = None
+said_first at (w ∷ ws) = option_map (λ n. (Some n, ws)) (at w)
+
+-- the number that follows this word, where that is the next
+abbrev pub number_next : (List ℕ → Option ℕ) → List ℕ → List (List ℕ)
+    → Option (Option ℕ × List (List ℕ))
+number_next at name ws =
+    if (word_next name ws).0 then said_first at (word_next name ws).1 else Some (None, ws)
+
+-- the bound of a line, and a limit of a match
+abbrev pub longest_next : List (List ℕ) → Option (Option ℕ × List (List ℕ))
+longest_next = number_next bound_at (codes "longest")
+
+abbrev pub limit_next : List ℕ → List (List ℕ) → Option (Option ℕ × List (List ℕ))
+limit_next = number_next limit_at
+
+-- how readers are served
+abbrev pub given_flags : (threshold demotion : Option ℕ) → List (List ℕ) → Given × List (List ℕ)
+given_flags threshold demotion ws =
+    let favor = word_next (codes "favor-script") ws in
+    let first = word_next (codes "or-first") favor.1 in (
+      record {
+        threshold = threshold;
+        demotion = demotion;
+        favor_script = favor.0;
+        or_first = first.0;
+      },
+      first.1,
+    )
+
+abbrev pub given_next : List (List ℕ) → Option (Given × List (List ℕ))
+given_next ws = option_and_then (λ threshold. option_map
+    (λ demotion. given_flags threshold.0 demotion.0 demotion.1)
+    (limit_next (codes "demotion") threshold.1)) (limit_next (codes "threshold") ws)
+
+-- nothing is said of that
+abbrev pub is_unsaid : Given → Bool
+is_unsaid given = not (is_some given.threshold)
+    && (not (is_some given.demotion) && (not given.favor_script && not given.or_first))
+
+-- what is not said is as ICU has it
+abbrev pub limits_by : Given → MatchLimits
+limits_by given = record {
+  threshold = unwrap_or given.threshold 50;
+  demotion = unwrap_or given.demotion 5;
+  favor = if given.favor_script then Script else Language;
+}
+
+-- a task that serves readers does so; of another, nothing is said
+abbrev pub task_by : Given → Task → Option Task
+task_by given (Serve served) = Some (Serve (record served {
+  limits = limits_by given;
+  or_first = given.or_first;
+}))
+task_by given task = if is_unsaid given then Some task else None
+
+abbrev pub command_by : Given → Command → Option Command
+command_by given Settled = if is_unsaid given then Some Settled else None
+command_by given (Lines c) = option_map (lines_of c.syntax) (task_by given c.task)
+
+abbrev pub asked_by : Given → Asked → Option Asked
+asked_by given asked =
+    option_map (λ c. record asked { command = c }) (command_by given asked.command)
+
 -- the words of a stream
-abbrev pub parse : List (List ℕ) → Option Asked
-parse (w ∷ n ∷ ws) = if bytes_eq w (codes "longest")
-    then option_and_then (λ longest. parse_lines (Some longest) ws) (bound_at n)
-    else parse_lines None (w ∷ n ∷ ws)
-parse ws = parse_lines None ws
+abbrev pub parse_served : Option ℕ → List (List ℕ) → Option Asked
+parse_served longest ws =
+    option_and_then (λ g. option_and_then (asked_by g.0) (parse_lines longest g.1)) (given_next ws)
+
+unfoldable pub parse : List (List ℕ) → Option Asked
+parse ws = option_and_then (λ longest. parse_served longest.0 longest.1) (longest_next ws)
 
 -- ---- the words of a run: of no bound, no syntax, no supplement and no task for streams alone
 
 abbrev pub is_streamed_task : Task → Bool
 is_streamed_task Fallback = true
-is_streamed_task (Serve wishes) = true
+is_streamed_task (Serve served) = true
 is_streamed_task Distance = true
 is_streamed_task Parts = true
 is_streamed_task (Key of) = true

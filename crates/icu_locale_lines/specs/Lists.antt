@@ -7,6 +7,7 @@ use Rattle.icu_locale_core.specs.declared.langid.LanguageIdentifier.{LanguageIde
 use Rattle.icu_locale_core.specs.declared.parse_error.ParseError.{ParseError}
 use Rattle.icu_locale_core.specs.declared.parse_error.ParseError.TheVariants.{InvalidLanguage, InvalidSubtag, Memory}
 use Rattle.icu_locale.specs.LikelyTable.{likely}
+use Rattle.icu_locale_extensions.specs.Built.{bare}
 use Rattle.icu_locale_extensions.specs.Locales.{IsLocaleIdentifier}
 use Rattle.icu_locale_extensions.specs.Locales as extended
 use Rattle.icu_locale_extensions.specs.Syntaxes.{SpellsBy, IsFaultBy}
@@ -86,6 +87,18 @@ SpellsWhole syntax text x = IsLocaleIdentifier x × SpellsBy syntax text x
 -- each text spells its locale identifier, in order
 abbrev pub SpellsWholes : Syntax → List (List ℕ) → List LocaleIdentifier → Type 0
 SpellsWholes syntax texts wholes = AllZip (SpellsWhole syntax) texts wholes
+
+-- a text spells what a reader wants: a locale identifier in a syntax, or an identifier alone
+abbrev pub SpellsWanted : Option Syntax → List ℕ → LocaleIdentifier → Type 0
+SpellsWanted None text x = SpellsIn None text x.locale.id × (x ≡ bare x.locale.id)
+SpellsWanted (Some syntax) text x = SpellsWhole syntax text x
+
+-- a line that lists what a reader wants gives its line; every other gives the refusal of its first fault
+abbrev pub IsWantedAnswer : Option Syntax → (List LocaleIdentifier → List ℕ → Bool → Type 0)
+    → List ℕ → List ℕ → Bool → Type 0
+IsWantedAnswer syntax IsLine line text accepted = IsReadAnswer
+    (λ t xs. AllZip (SpellsWanted syntax) (listed t) xs)
+    (λ t e. IsFirstFault syntax (listed t) e) IsLine line text accepted
 
 -- the identifiers of locale identifiers
 abbrev pub ids_of : List LocaleIdentifier → List LanguageIdentifier

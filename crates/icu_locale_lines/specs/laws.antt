@@ -2,3 +2,4 @@
 pub mod Expanders
 pub mod Grammar
 pub mod Parts
+pub mod Words

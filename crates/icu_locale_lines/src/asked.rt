@@ -1,9 +1,11 @@
 //! What the words of a stream ask for.
 ghost use Rattle.std.specs.Prelude.{◌≡◌, ◌∷◌};
-ghost use Rattle.icu_locale_lines.specs.Grammar.{asked_for, bound_at, chain_at, parse, parse_behind, parse_command, parse_lines, parse_name, parse_source, parse_supplement, parse_word};
+ghost use Rattle.std.specs.Option.{option_map};
+ghost use Rattle.icu_locale_lines.specs.Grammar.{asked_for, bound_at, chain_at, longest_next, parse, parse_behind, parse_command, parse_lines, parse_name, parse_source, parse_supplement, parse_word};
 
 use crate::command::{Command, LineCommand, Task, is_word, syntax_of, task_of};
 use crate::cursor::Words;
+use crate::given::Given;
 use crate::work::name::read_preferences;
 use icu_locale_extensions::Syntax;
 use icu_locale_names::NameChain;
@@ -32,20 +34,33 @@ pub enum Source {
 }
 
 impl Asked {
-    /// What the words of a stream ask for, if they are those of one: `longest` and a number may come first, then the word
-    /// of a syntax, `locales`, `bcp47` or `posix`, and at the end `json` or `json supplement`. What is answered does not
-    /// depend on memory: only preferences with variants take some, and these are refused either way.
+    /// What the words of a stream ask for, if they are those of one: `longest` and a number may come first, then how
+    /// readers are served, as `Given` says, then the word of a syntax, `locales`, `bcp47` or `posix`, and at the end
+    /// `json` or `json supplement`. What is answered does not depend on memory: only preferences with variants take
+    /// some, and these are refused either way.
+    #[tactic(auto, unfolding(crate::specs::Grammar::parse))]
     pub fn from_words(alloc: Global, mut words: Words<'_>) -> Option<Asked>
         ensures { result ≡ parse words.entry }
     {
+        let longest = longest_next(&mut words)?;
+        let given = Given::next(&mut words)?;
         let word = words.take()?;
-        if is_word(word.as_bytes(), "longest") {
-            let longest = bound_of(words.take()?)?;
-            let word = words.take()?;
-            return lines(alloc, Some(longest), word, words);
+        match lines(alloc, longest, word, words) {
+            Some(asked) => given.asked(asked),
+            None => None,
         }
-        lines(alloc, None, word, words)
     }
+}
+
+// The bound of a line, where it is the next to be said.
+fn longest_next(words: &mut Words<'_>) -> Option<Option<usize>>
+    ensures { longest_next words.old ≡ option_map (λ longest. (longest, words.new)) result }
+{
+    if !words.take_if("longest") {
+        return Some(None);
+    }
+    let longest = bound_of(words.take()?)?;
+    Some(Some(longest))
 }
 
 // A command after the word of a syntax, or without one.

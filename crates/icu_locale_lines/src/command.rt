@@ -4,13 +4,14 @@ ghost use Rattle.std.specs.Option.{ok_or};
 ghost use Rattle.std.specs.Str.{bytes_eq};
 ghost use Rattle.std.specs.String.{string_bytes};
 ghost use Rattle.icu_locale_lines.specs.Commands.{plain};
-ghost use Rattle.icu_locale_lines.specs.Grammar.{is_for_runs, is_streamed_task, parse_run, run_of, syntax_at, task_at};
+ghost use Rattle.icu_locale_lines.specs.Grammar.{is_for_runs, is_streamed_task, parse_run, run_of, syntax_at, task_at, usual};
 
 use crate::asked::{Asked, Source};
 use crate::cursor::Words;
 use crate::error::CliError;
 use crate::work::form::Transform;
 use icu_locale_extensions::Syntax;
+use icu_locale_matching::MatchLimits;
 use icu_locale_names::{DisplayNamesPreferences, NameChain};
 use std::alloc::Global;
 
@@ -50,7 +51,7 @@ pub enum Task {
     Fallback,
     /// Which of the available identifiers, which the first line lists, is served for what a line wishes. Streams alone
     /// have it.
-    Serve(Wishes),
+    Serve(ServeTask),
     /// How far the second identifier of a line is from the first. Streams alone have it.
     Distance,
     /// The parts of each locale, each in a place of its own. It asks no table. Streams alone have it.
@@ -69,13 +70,39 @@ pub enum KeyOf {
     Identifier,
 }
 
-/// How a line says what it wishes.
+/// How readers are served.
+#[derive(Clone, Copy, Debug, PartialEq, Eq)]
+pub struct ServeTask {
+    /// How a line says what it wishes, and what it is answered.
+    pub wishes: Wishes,
+    /// How far a match may go.
+    pub limits: MatchLimits,
+    /// The first that is available is served where nothing else is.
+    pub or_first: bool,
+}
+
+/// How a line says what it wishes, and what it is answered.
 #[derive(Clone, Copy, Debug, PartialEq, Eq)]
 pub enum Wishes {
-    /// As the header Accept-Language (RFC 9110, section 12.5.4).
+    /// As the header Accept-Language (RFC 9110, section 12.5.4): what is served.
     Header,
-    /// As a list of identifiers, the one that is wished most first.
+    /// As a list of locales, the one that is wished most first: what is served.
     Requests,
+    /// As such a list: what is served, with the region, the variants and the extensions of the locale that wished it.
+    Resolved,
+}
+
+impl ServeTask {
+    /// Within the limits of ICU, and with nothing where nothing is near.
+    pub fn usual(wishes: Wishes) -> Self
+        ensures { result ≡ usual wishes }
+    {
+        ServeTask {
+            wishes,
+            limits: MatchLimits::default(),
+            or_first: false,
+        }
+    }
 }
 
 impl LineCommand {
@@ -165,9 +192,11 @@ pub fn task_of(word: &[u8]) -> Option<Task>
     } else if is_word(word, "fallback") {
         Some(Task::Fallback)
     } else if is_word(word, "serve") {
-        Some(Task::Serve(Wishes::Header))
+        Some(Task::Serve(ServeTask::usual(Wishes::Header)))
     } else if is_word(word, "nearest") {
-        Some(Task::Serve(Wishes::Requests))
+        Some(Task::Serve(ServeTask::usual(Wishes::Requests)))
+    } else if is_word(word, "resolved") {
+        Some(Task::Serve(ServeTask::usual(Wishes::Resolved)))
     } else if is_word(word, "distance") {
         Some(Task::Distance)
     } else if is_word(word, "parts") {

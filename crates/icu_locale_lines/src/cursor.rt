@@ -2,9 +2,11 @@
 ghost use Rattle.std.specs.Prelude.{◌≡◌, ◌∷◌, ◌++◌, [], List, ℕ, MatchOption, map};
 ghost use Rattle.std.specs.List.{slice_split};
 ghost use Rattle.std.specs.String.{string_bytes};
+ghost use Rattle.icu_locale_lines.specs.Grammar.{word_next};
 ghost use Rattle.icu_locale_lines.specs.Lists.{is_space};
 ghost use Rattle.icu_locale_lines.specs.inner.Words.{words_of};
 
+use crate::command::is_word;
 use std::marker::Model;
 
 /// The words that are left: those of a text, cut at each space, and then those of a list. It takes no memory.
@@ -51,6 +53,23 @@ impl<'a> Words<'a> {
         let (word, rest) = self.list.split_first()?;
         self.list = rest;
         Some(word.as_str())
+    }
+
+    /// Takes the next word where it is this one, and tells whether it was.
+    pub fn take_if(&mut self, name: &str) -> bool
+        ensures { word_next name.now self.old ≡ (result, self.new) }
+    {
+        let mut rest = Words {
+            text: self.text,
+            list: self.list,
+        };
+        match rest.take() {
+            Some(word) if is_word(word.as_bytes(), name) => {
+                *self = rest;
+                true
+            }
+            _ => false,
+        }
     }
 }
 

@@ -18,7 +18,7 @@ pub mod serve;
 pub mod serving;
 pub mod value;
 
-use crate::command::{KeyOf, Wishes};
+use crate::command::{KeyOf, ServeTask};
 use crate::error::CliError;
 use crate::work::direction::add_direction;
 use crate::work::fallback::add_chain;
@@ -62,7 +62,7 @@ pub enum Tools<'r> {
     /// The chain of each identifier is written.
     Fallback(LocaleFallbackerWithConfig<'r>),
     /// Each line says what is wished, and has what is served as it is written.
-    Serve(Wishes, LocaleServer<'r>, &'r Offered),
+    Serve(ServeTask, LocaleServer<'r>, &'r Offered),
     /// The distance of two identifiers is told.
     Distance(Distances<'r>),
     /// The parts of each locale are told.
@@ -127,8 +127,8 @@ impl<'r> Work<'r> {
             }
             Tools::Name(naming) => add_name(text, naming, syntax, line),
             Tools::Fallback(fallbacker) => add_chain(text, fallbacker, syntax, line),
-            Tools::Serve(wishes, server, offered) => {
-                add_served(text, server, offered, *wishes, syntax, line)
+            Tools::Serve(how, server, offered) => {
+                add_served(text, server, offered, *how, syntax, line)
             }
             Tools::Distance(distances) => add_distance(text, distances, syntax, line),
             Tools::Parts => add_parts(text, syntax, line),

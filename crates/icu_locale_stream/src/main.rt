@@ -10,16 +10,21 @@ use std::process::ExitCode;
 
 // What `--help` writes.
 const HELP: &str = "\
-usage: icu_locale_stream [longest N] [locales | bcp47 | posix] COMMAND [json [supplement]]
+usage: icu_locale_stream [longest N] [threshold N] [demotion N] [favor-script] [or-first]
+                         [locales | bcp47 | posix] COMMAND [json [supplement]]
        icu_locale_stream -h | --help | --version
 
 Answers each line of standard input before it reads more. With json, the first line holds the tables, and with json
 supplement the second their supplement; without json both are a small sample.
 
   locales                  lines hold locale identifiers with extensions, which are written with the answer
-  bcp47                    the same, and tags as browsers send them: i-klingon, zh-cmn-Hans, x-private
-  posix                    the same, and names of POSIX locales: en_US.UTF-8, sr_RS@latin, C
+  bcp47                    the same, and root, and tags as browsers send them: i-klingon, zh-cmn-Hans, x-private
+  posix                    the same, and root, and names of POSIX locales: en_US.UTF-8, sr_RS@latin, C
   longest N                the first line longer than N bytes ends the run as a failed read does
+  threshold N              before serve, nearest, resolved: what is served has a distance below N; without it below 50
+  demotion N               the same: each request after the first counts N more; without it 5
+  favor-script             the same: a difference of languages counts a quarter, so that scripts weigh more
+  or-first                 the same: the first that is available is served where nothing else is
 
   maximize                 the maximal form of each identifier
   minimize                 the minimal form, with the region kept before the script
@@ -31,6 +36,7 @@ supplement the second their supplement; without json both are a small sample.
   fallback                 the chain of identifiers that are asked after each one, up to und
   serve                    what is served for each header Accept-Language; the first line lists what is available
   nearest                  the nearest available identifier for each line of requests; the first line lists them
+  resolved                 the same, as the locale that formats for the reader: with the request's region and extensions
   distance                 how far the second identifier of a line is from the first
   parts                    each part of a locale in a place of its own, a tab between two places
   key                      the key of each locale in a store: locales that mean the same have one
@@ -45,7 +51,8 @@ gone.
 
 // What standard error says of words that are no command.
 const USAGE: &str =
-    "usage: icu_locale_stream [longest N] [locales | bcp47 | posix] COMMAND [json [supplement]]";
+    "usage: icu_locale_stream [longest N] [threshold N] [demotion N] [favor-script] [or-first] \
+    [locales | bcp47 | posix] COMMAND [json [supplement]]";
 
 // What a terminal is told where the answers are those of the sample.
 const OVER_SAMPLE: &str =

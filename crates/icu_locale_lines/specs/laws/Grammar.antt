@@ -1,20 +1,17 @@
 -- Words are those of what they ask for, and of nothing else.
-use Rattle.std.specs.Prelude.{◌≡◌, ℕ, Bool, true, false, List, [], ◌∷◌, ◌++◌, codes, Option, None, Some, is_some, if◌then◌else◌}
-use Rattle.std.proofs.Common.{refl, ap, sym, subst, ◌∙◌}
-use Rattle.std.specs.List.{list_all, slice_split}
+use Rattle.std.specs.Prelude.{◌≡◌, ℕ, Bool, true, false, ◌||◌, List, [], ◌∷◌, ◌++◌, codes, Option, None, Some, if◌then◌else◌}
+use Rattle.std.proofs.Common.{refl, ap, sym, ◌∙◌}
 use Rattle.std.specs.Option.{option_and_then, option_map}
 use Rattle.std.specs.Str.{bytes_eq}
-use Rattle.std.proofs.lemmas.Bool.{and_parts, false≢true}
-use Rattle.std.proofs.lemmas.Option.{none-some, same_Some}
+use Rattle.std.proofs.lemmas.Bool.{false≢true}
 use Rattle.std.proofs.lemmas.Slice.Eq.{bytes_eq-Decides}
 use Rattle.icu_locale_extensions.specs.declared.syntax.Syntax.{Syntax}
 use Rattle.icu_locale_extensions.specs.declared.syntax.Syntax.TheVariants.{Unicode, Bcp47, Posix}
 use Rattle.icu_locale_names.specs.LanguageChains.{chain_word}
 use Rattle.icu_locale_names.specs.declared.name_chain.NameChain.{NameChain}
 use Rattle.icu_locale_names.specs.declared.name_chain.NameChain.TheVariants as chain
-use Rattle.icu_locale_names.specs.declared.options.DisplayNamesPreferences.{DisplayNamesPreferences}
-use Rattle.icu_locale_lines.specs.Grammar.{asked_for, bound_at, chain_at, lines_of, named, parse, parse_behind, parse_command, parse_lines, parse_name, parse_source, parse_supplement, parse_word, preferences_at, chains, syntax_at, syntax_word, syntaxes, task_at, task_word, tasks}
-use Rattle.icu_locale_lines.specs.Lists.{is_space}
+use Rattle.icu_locale_lines.specs.Grammar.{asked_by, asked_for, bound_at, chain_at, command_by, given_flags, given_next, limit_at, limit_next, lines_of, number_next, parse, parse_behind, parse_command, parse_lines}
+use Rattle.icu_locale_lines.specs.Grammar.{parse_served, parse_source, preferences_at, said_first, syntax_at, syntax_word, task_by, task_word, usual, wishes_word, word_next}
 use Rattle.icu_locale_lines.specs.declared.asked.Asked.{Asked}
 use Rattle.icu_locale_lines.specs.declared.asked.Source.{Source}
 use Rattle.icu_locale_lines.specs.declared.asked.Source.TheVariants.{Sample, Json, JsonAndSupplement}
@@ -23,7 +20,9 @@ use Rattle.icu_locale_lines.specs.declared.command.Command.TheVariants.{Settled,
 use Rattle.icu_locale_lines.specs.declared.command.Task.{Task}
 use Rattle.icu_locale_lines.specs.declared.command.Task.TheVariants.{Transform, Canonicalize, Direction, Negotiate, Name, Fallback, Serve, Distance, Parts, Key}
 use Rattle.icu_locale_lines.specs.declared.command.KeyOf.TheVariants.{Whole, Identifier}
-use Rattle.icu_locale_lines.specs.declared.command.Wishes.TheVariants.{Header, Requests}
+use Rattle.icu_locale_lines.specs.declared.command.Wishes.{Wishes}
+use Rattle.icu_locale_lines.specs.declared.given.Given.{Given}
+use Rattle.icu_locale_lines.specs.declared.command.Wishes.TheVariants.{Header, Requests, Resolved}
 use Rattle.icu_locale_lines.specs.declared.work.form.Transform.TheVariants.{Maximize, Minimize, MinimizeScript}
 
 -- the arguments of a task: `text` is that of its preferences
@@ -53,23 +52,43 @@ abbrev pub CommandHas : Command → List ℕ → Type 0
 CommandHas Settled text = Unit {0}
 CommandHas (Lines c) text = HasPreferences c.task text
 
--- the words of a bound, which `number` says
-abbrev pub bound_words : Option ℕ → List ℕ → List (List ℕ)
-bound_words None number = []
-bound_words (Some n) number = codes "longest" ∷ number ∷ []
+-- the words of a number, which `text` says
+abbrev pub number_words : List ℕ → Option ℕ → List ℕ → List (List ℕ) → List (List ℕ)
+number_words name None text ws = ws
+number_words name (Some n) text ws = name ∷ text ∷ ws
 
-abbrev pub IsSaid : Option ℕ → List ℕ → Type 0
-IsSaid None number = Unit {0}
-IsSaid (Some n) number = bound_at number ≡ Some n
+abbrev pub IsSaid : (List ℕ → Option ℕ) → Option ℕ → List ℕ → Type 0
+IsSaid at None text = Unit {0}
+IsSaid at (Some n) text = at text ≡ Some n
 
--- words have the form of what is asked for
+-- a word, where it is said
+abbrev pub word_said : List ℕ → Bool → List (List ℕ) → List (List ℕ)
+word_said name true ws = name ∷ ws
+word_said name false ws = ws
+
+-- the words of how readers are served, and what follows them
+abbrev pub given_words : Given → (threshold demotion : List ℕ) → List (List ℕ) → List (List ℕ)
+given_words given threshold demotion ws =
+    number_words (codes "threshold") given.threshold threshold
+    (number_words (codes "demotion") given.demotion demotion
+    (word_said (codes "favor-script") given.favor_script
+    (word_said (codes "or-first") given.or_first ws)))
+
+-- words have the form of what is asked for: of a bound, of how readers are served, and of a command that does so
 pub record AreWordsOf (asked : Asked) (words : List (List ℕ)) : Type 0 where
   pub number : List ℕ
+  pub threshold : List ℕ
+  pub demotion : List ℕ
   pub text : List ℕ
-  pub said : IsSaid asked.longest number
-  pub spelled : CommandHas asked.command text
-  pub whole : words ≡ bound_words asked.longest number
-      ++ command_words asked.command text (source_words asked.source)
+  pub given : Given
+  pub command : Command
+  pub said : IsSaid bound_at asked.longest number
+  pub threshold_said : IsSaid limit_at given.threshold threshold
+  pub demotion_said : IsSaid limit_at given.demotion demotion
+  pub spelled : CommandHas command text
+  pub served : command_by given command ≡ Some asked.command
+  pub whole : words ≡ number_words (codes "longest") asked.longest number
+      (given_words given threshold demotion (command_words command text (source_words asked.source)))
 
 -- ---- they are parsed as it
 
@@ -91,8 +110,18 @@ source_parsed Sample = refl
 source_parsed Json = refl
 source_parsed JsonAndSupplement = refl
 
--- the word of a task begins nothing else
-apart : (t : Task) → (syntax_at (task_word t) ≡ None) × (bytes_eq (task_word t) (codes "longest") ≡ false)
+-- the words that may stand before a command, but that of a syntax
+abbrev is_before : List ℕ → Bool
+is_before w = bytes_eq w (codes "longest") || (bytes_eq w (codes "threshold") || (bytes_eq w (codes "demotion")
+    || (bytes_eq w (codes "favor-script") || bytes_eq w (codes "or-first"))))
+
+wish_apart : (w : Wishes) → (syntax_at (wishes_word w) ≡ None) × (is_before (wishes_word w) ≡ false)
+wish_apart Header = (refl, refl)
+wish_apart Requests = (refl, refl)
+wish_apart Resolved = (refl, refl)
+
+-- the word of a task is none of them, and that of no syntax
+apart : (t : Task) → (syntax_at (task_word t) ≡ None) × (is_before (task_word t) ≡ false)
 apart (Transform Maximize) = (refl, refl)
 apart (Transform Minimize) = (refl, refl)
 apart (Transform MinimizeScript) = (refl, refl)
@@ -101,12 +130,20 @@ apart Direction = (refl, refl)
 apart Negotiate = (refl, refl)
 apart (Name chain preferences) = (refl, refl)
 apart Fallback = (refl, refl)
-apart (Serve Header) = (refl, refl)
-apart (Serve Requests) = (refl, refl)
+apart (Serve served) = wish_apart served.wishes
 apart Distance = (refl, refl)
 apart Parts = (refl, refl)
 apart (Key Whole) = (refl, refl)
 apart (Key Identifier) = (refl, refl)
+
+-- a command as its word has it: readers are served as ICU does
+abbrev usual_task : Task → Task
+usual_task (Serve served) = Serve (usual served.wishes)
+usual_task t = t
+
+abbrev usually : Command → Command
+usually Settled = Settled
+usually (Lines c) = lines_of c.syntax (usual_task c.task)
 
 module _ (longest : Option ℕ) (s : Source) (text : List ℕ) where
   abbrev asks : Command → Option Asked
@@ -115,8 +152,13 @@ module _ (longest : Option ℕ) (s : Source) (text : List ℕ) where
   alone : (c : Command) → asked_for longest (Some c) (parse_source (source_words s)) ≡ asks c
   alone c = ap (asked_for longest (Some c)) (source_parsed s)
 
+  wish_parsed : (syntax : Option Syntax) (w : Wishes) → parse_command longest syntax (wishes_word w) (source_words s) ≡ asks (lines_of syntax (Serve (usual w)))
+  wish_parsed syntax Header = alone (lines_of syntax (Serve (usual Header)))
+  wish_parsed syntax Requests = alone (lines_of syntax (Serve (usual Requests)))
+  wish_parsed syntax Resolved = alone (lines_of syntax (Serve (usual Resolved)))
+
   task_parsed : (syntax : Option Syntax) (t : Task) → HasPreferences t text
-      → parse_command longest syntax (task_word t) (arguments t text ++ source_words s) ≡ asks (lines_of syntax t)
+      → parse_command longest syntax (task_word t) (arguments t text ++ source_words s) ≡ asks (lines_of syntax (usual_task t))
   task_parsed syntax (Transform Maximize) has = alone (lines_of syntax (Transform Maximize))
   task_parsed syntax (Transform Minimize) has = alone (lines_of syntax (Transform Minimize))
   task_parsed syntax (Transform MinimizeScript) has = alone (lines_of syntax (Transform MinimizeScript))
@@ -124,8 +166,7 @@ module _ (longest : Option ℕ) (s : Source) (text : List ℕ) where
   task_parsed syntax Direction has = alone (lines_of syntax Direction)
   task_parsed syntax Negotiate has = alone (lines_of syntax Negotiate)
   task_parsed syntax Fallback has = alone (lines_of syntax Fallback)
-  task_parsed syntax (Serve Header) has = alone (lines_of syntax (Serve Header))
-  task_parsed syntax (Serve Requests) has = alone (lines_of syntax (Serve Requests))
+  task_parsed syntax (Serve served) has = wish_parsed syntax served.wishes
   task_parsed syntax Distance has = alone (lines_of syntax Distance)
   task_parsed syntax Parts has = alone (lines_of syntax Parts)
   task_parsed syntax (Key Whole) has = alone (lines_of syntax (Key Whole))
@@ -134,258 +175,170 @@ module _ (longest : Option ℕ) (s : Source) (text : List ℕ) where
       (λ i. asked_for longest (option_and_then (λ c. option_map (λ q. lines_of syntax (Name c q)) (has i)) (chain_found chain i))
       (parse_source (source_words s))) ∙ alone (lines_of syntax (Name chain p))
 
-  command_parsed : (c : Command) → CommandHas c text → parse_lines longest (command_words c text (source_words s)) ≡ asks c
+  command_parsed : (c : Command) → CommandHas c text → parse_lines longest (command_words c text (source_words s)) ≡ asks (usually c)
   command_parsed Settled has = alone Settled
   command_parsed (Lines c) has = by c.syntax (task_parsed c.syntax c.task has)
     where
-      by : (syntax : Option Syntax) → parse_command longest syntax (task_word c.task) (arguments c.task text ++ source_words s) ≡ asks (lines_of syntax c.task)
-          → parse_lines longest (syntax_words syntax ++ (task_word c.task ∷ arguments c.task text ++ source_words s)) ≡ asks (lines_of syntax c.task)
+      by : (syntax : Option Syntax) → parse_command longest syntax (task_word c.task) (arguments c.task text ++ source_words s) ≡ asks (lines_of syntax (usual_task c.task))
+          → parse_lines longest (syntax_words syntax ++ (task_word c.task ∷ arguments c.task text ++ source_words s)) ≡ asks (lines_of syntax (usual_task c.task))
       by None parsed = ap (λ o. parse_behind longest o (task_word c.task) (arguments c.task text ++ source_words s)) (apart c.task).0 ∙ parsed
       by (Some Unicode) parsed = parsed
       by (Some Bcp47) parsed = parsed
       by (Some Posix) parsed = parsed
 
-unbounded : (w : List ℕ) (ws : List (List ℕ)) → bytes_eq w (codes "longest") ≡ false → parse (w ∷ ws) ≡ parse_lines None (w ∷ ws)
-unbounded w [] other = refl
-unbounded w (n ∷ ws) other = ap (λ b. if b then option_and_then (λ longest. parse_lines (Some longest) ws) (bound_at n) else parse_lines None (w ∷ n ∷ ws)) other
+-- what is given overrides what is usual
+task_usually : (given : Given) (t : Task) → task_by given (usual_task t) ≡ task_by given t
+task_usually given (Transform form) = refl
+task_usually given Canonicalize = refl
+task_usually given Direction = refl
+task_usually given Negotiate = refl
+task_usually given (Name chain preferences) = refl
+task_usually given Fallback = refl
+task_usually given (Serve served) = refl
+task_usually given Distance = refl
+task_usually given Parts = refl
+task_usually given (Key of) = refl
 
-begun : (c : Command) (text : List ℕ) (ws : List (List ℕ)) → parse (command_words c text ws) ≡ parse_lines None (command_words c text ws)
-begun Settled text ws = unbounded (codes "settled") ws refl
-begun (Lines c) text ws = by c.syntax
+command_usually : (given : Given) (c : Command) → command_by given (usually c) ≡ command_by given c
+command_usually given Settled = refl
+command_usually given (Lines c) = ap (option_map (lines_of c.syntax)) (task_usually given c.task)
+
+-- words that do not begin with this one
+abbrev Skips : List ℕ → List (List ℕ) → Type 0
+Skips name ws = word_next name ws ≡ (false, ws)
+
+skipped : (name w : List ℕ) (ws : List (List ℕ)) → bytes_eq w name ≡ false → Skips name (w ∷ ws)
+skipped name w ws other = ap (λ b. if b then (true, ws) else (false, w ∷ ws)) other
+
+taken : (name : List ℕ) (ws : List (List ℕ)) → word_next name (name ∷ ws) ≡ (true, ws)
+taken name ws = ap (λ b. if b then (true, ws) else (false, name ∷ ws)) ((bytes_eq-Decides name name).1 refl)
+
+-- words that begin with none of those before a command
+record AreBehind (ws : List (List ℕ)) : Type 0 where
+  longest : Skips (codes "longest") ws
+  threshold : Skips (codes "threshold") ws
+  demotion : Skips (codes "demotion") ws
+  favor : Skips (codes "favor-script") ws
+  first : Skips (codes "or-first") ws
+
+neither : (a b : Bool) → (a || b) ≡ false → (a ≡ false) × (b ≡ false)
+neither true b is = absurd (false≢true (sym is))
+neither false b is = (refl, is)
+
+are_behind : (w : List ℕ) (ws : List (List ℕ)) → is_before w ≡ false → AreBehind (w ∷ ws)
+are_behind w ws none =
+    let a = neither _ _ none in
+    let b = neither _ _ a.1 in
+    let c = neither _ _ b.1 in
+    let d = neither _ _ c.1 in
+    record {
+      longest = skipped (codes "longest") w ws a.0;
+      threshold = skipped (codes "threshold") w ws b.0;
+      demotion = skipped (codes "demotion") w ws c.0;
+      favor = skipped (codes "favor-script") w ws d.0;
+      first = skipped (codes "or-first") w ws d.1;
+    }
+
+command_behind : (c : Command) (text : List ℕ) (ws : List (List ℕ)) → AreBehind (command_words c text ws)
+command_behind Settled text ws = are_behind (codes "settled") ws refl
+command_behind (Lines c) text ws = by c.syntax
   where
-    by : (syntax : Option Syntax) → parse (syntax_words syntax ++ (task_word c.task ∷ arguments c.task text ++ ws))
-        ≡ parse_lines None (syntax_words syntax ++ (task_word c.task ∷ arguments c.task text ++ ws))
-    by None = unbounded (task_word c.task) (arguments c.task text ++ ws) (apart c.task).1
-    by (Some Unicode) = unbounded (codes "locales") (task_word c.task ∷ arguments c.task text ++ ws) refl
-    by (Some Bcp47) = unbounded (codes "bcp47") (task_word c.task ∷ arguments c.task text ++ ws) refl
-    by (Some Posix) = unbounded (codes "posix") (task_word c.task ∷ arguments c.task text ++ ws) refl
+    by : (syntax : Option Syntax) → AreBehind (syntax_words syntax ++ (task_word c.task ∷ arguments c.task text ++ ws))
+    by None = are_behind (task_word c.task) (arguments c.task text ++ ws) (apart c.task).1
+    by (Some Unicode) = are_behind (codes "locales") (task_word c.task ∷ arguments c.task text ++ ws) refl
+    by (Some Bcp47) = are_behind (codes "bcp47") (task_word c.task ∷ arguments c.task text ++ ws) refl
+    by (Some Posix) = are_behind (codes "posix") (task_word c.task ∷ arguments c.task text ++ ws) refl
+
+-- and so do others before them
+behind_number : (name other : List ℕ) (o : Option ℕ) (text : List ℕ) (ws : List (List ℕ)) → bytes_eq other name ≡ false → Skips name ws
+    → Skips name (number_words other o text ws)
+behind_number name other None text ws apart rest = rest
+behind_number name other (Some n) text ws apart rest = skipped name other (text ∷ ws) apart
+
+behind_word : (name other : List ℕ) (said : Bool) (ws : List (List ℕ)) → bytes_eq other name ≡ false → Skips name ws → Skips name (word_said other said ws)
+behind_word name other true ws apart rest = skipped name other ws apart
+behind_word name other false ws apart rest = rest
+
+-- a number and a word, where they are said
+number_parsed : (at : List ℕ → Option ℕ) (name : List ℕ) (o : Option ℕ) (text : List ℕ) (ws : List (List ℕ)) → IsSaid at o text → Skips name ws
+    → number_next at name (number_words name o text ws) ≡ Some (o, ws)
+number_parsed at name None text ws said other = ap (λ (p : Bool × List (List ℕ)). if p.0 then said_first at p.1 else Some (None, ws)) other
+number_parsed at name (Some n) text ws said other =
+    ap (λ (p : Bool × List (List ℕ)). if p.0 then said_first at p.1 else Some (None, name ∷ text ∷ ws)) (taken name (text ∷ ws))
+    ∙ ap (option_map (λ m. (Some m, ws))) said
+
+word_taken : (name : List ℕ) (said : Bool) (ws : List (List ℕ)) → Skips name ws → word_next name (word_said name said ws) ≡ (said, ws)
+word_taken name true ws other = taken name ws
+word_taken name false ws other = other
+
+module _ (given : Given) (threshold demotion : List ℕ) (ws : List (List ℕ)) (behind : AreBehind ws) where
+  abbrev firsts : List (List ℕ)
+  firsts = word_said (codes "or-first") given.or_first ws
+
+  abbrev favors : List (List ℕ)
+  favors = word_said (codes "favor-script") given.favor_script firsts
+
+  abbrev demotions : List (List ℕ)
+  demotions = number_words (codes "demotion") given.demotion demotion favors
+
+  before_favors : (name : List ℕ) → bytes_eq (codes "favor-script") name ≡ false → bytes_eq (codes "or-first") name ≡ false → Skips name ws
+      → Skips name favors
+  before_favors name favor first rest =
+      behind_word name (codes "favor-script") given.favor_script firsts favor (behind_word name (codes "or-first") given.or_first ws first rest)
+
+  flags_parsed : given_flags given.threshold given.demotion favors ≡ (given, ws)
+  flags_parsed =
+      let favor = word_taken (codes "favor-script") given.favor_script firsts
+      (behind_word (codes "favor-script") (codes "or-first") given.or_first ws refl behind.favor) in
+      let first = word_taken (codes "or-first") given.or_first ws behind.first in
+      (λ i. (
+        record {
+          threshold = given.threshold;
+          demotion = given.demotion;
+          favor_script = (favor i).0;
+          or_first = (word_next (codes "or-first") (favor i).1).0;
+        },
+        (word_next (codes "or-first") (favor i).1).1,
+      ))
+      ∙ (λ i. (
+        record {
+          threshold = given.threshold;
+          demotion = given.demotion;
+          favor_script = given.favor_script;
+          or_first = (first i).0;
+        },
+        (first i).1,
+      ))
+
+  given_parsed : IsSaid limit_at given.threshold threshold → IsSaid limit_at given.demotion demotion
+      → given_next (given_words given threshold demotion ws) ≡ Some (given, ws)
+  given_parsed t d =
+      ap (option_and_then (λ (p : Option ℕ × List (List ℕ)). option_map
+      (λ (q : Option ℕ × List (List ℕ)). given_flags p.0 q.0 q.1) (limit_next (codes "demotion") p.1)))
+      (number_parsed limit_at (codes "threshold") given.threshold threshold demotions t
+      (behind_number (codes "threshold") (codes "demotion") given.demotion demotion favors refl
+      (before_favors (codes "threshold") refl refl behind.threshold)))
+      ∙ ap (option_map (λ (q : Option ℕ × List (List ℕ)). given_flags given.threshold q.0 q.1))
+      (number_parsed limit_at (codes "demotion") given.demotion demotion favors d (before_favors (codes "demotion") refl refl behind.demotion))
+      ∙ ap (λ p. Some p) flags_parsed
+
+  unbounded : Skips (codes "longest") (given_words given threshold demotion ws)
+  unbounded =
+      behind_number (codes "longest") (codes "threshold") given.threshold threshold demotions refl
+      (behind_number (codes "longest") (codes "demotion") given.demotion demotion favors refl
+      (before_favors (codes "longest") refl refl behind.longest))
 
 pub words_parsed : (asked : Asked) (words : List (List ℕ)) → AreWordsOf asked words → parse words ≡ Some asked
-words_parsed asked words are = ap parse are.whole ∙ by asked.longest are.said
-  where
-    by : (longest : Option ℕ) → IsSaid longest are.number
-        → parse (bound_words longest are.number ++ command_words asked.command are.text (source_words asked.source))
-        ≡ Some (record { longest = longest; command = asked.command; source = asked.source })
-    by None said = begun asked.command are.text (source_words asked.source)
-        ∙ command_parsed None asked.source are.text asked.command are.spelled
-    by (Some n) said = ap (option_and_then (λ l. parse_lines (Some l) (command_words asked.command are.text (source_words asked.source)))) said
-        ∙ command_parsed (Some n) asked.source are.text asked.command are.spelled
-
--- ---- and nothing else is
-
-module _ {X : Type 0} (word_of : X → List ℕ) where
-  taken : (y : X) (ys : List X) (w : List ℕ) → bytes_eq w (word_of y) ≡ true → named word_of (y ∷ ys) w ≡ Some y
-  taken y ys w is = rw is refl
-
-  passed : (y : X) (ys : List X) (w : List ℕ) → bytes_eq w (word_of y) ≡ false → named word_of (y ∷ ys) w ≡ named word_of ys w
-  passed y ys w is = rw is refl
-
-  -- what a word names has that word, and passes a test that all pass
-  named_sound : (p : X → Bool) (xs : List X) (w : List ℕ) (x : X) → list_all p xs ≡ true → named word_of xs w ≡ Some x
-      → (w ≡ word_of x) × (p x ≡ true)
-  named_sound p [] w x all e = absurd (none-some x e)
-  named_sound p (y ∷ ys) w x all e =
-      by (and_parts (p y) (list_all p ys) all).0 (named_sound p ys w x (and_parts (p y) (list_all p ys) all).1) (bytes_eq w (word_of y)) refl
-    where
-      by : p y ≡ true → (named word_of ys w ≡ Some x → (w ≡ word_of x) × (p x ≡ true)) → (b : Bool) → bytes_eq w (word_of y) ≡ b
-          → (w ≡ word_of x) × (p x ≡ true)
-      by here rest true is =
-          let same = same_Some y x (sym (taken y ys w is) ∙ e) in
-          ((bytes_eq-Decides w (word_of y)).0 is ∙ ap word_of same, subst (λ z. p z ≡ true) same here)
-      by here rest false is = rest (sym (passed y ys w is) ∙ e)
-
-supplement_sound : (ws : List (List ℕ)) (s : Source) → parse_supplement ws ≡ Some s → codes "json" ∷ ws ≡ source_words s
-supplement_sound [] s e = ap source_words (same_Some Json s e)
-supplement_sound (w ∷ []) s e = by (bytes_eq w (codes "supplement")) refl
-  where
-    by : (b : Bool) → bytes_eq w (codes "supplement") ≡ b → codes "json" ∷ w ∷ [] ≡ source_words s
-    by true is = ap (λ v. codes "json" ∷ v ∷ []) ((bytes_eq-Decides w (codes "supplement")).0 is)
-        ∙ ap source_words (same_Some JsonAndSupplement s (sym (ap (λ b. if b then Some JsonAndSupplement else None) is) ∙ e))
-    by false is = absurd (none-some s (sym (ap (λ b. if b then Some JsonAndSupplement else None) is) ∙ e))
-supplement_sound (w ∷ v ∷ ws) s e = absurd (none-some s e)
-
-source_sound : (ws : List (List ℕ)) (s : Source) → parse_source ws ≡ Some s → ws ≡ source_words s
-source_sound [] s e = ap source_words (same_Some Sample s e)
-source_sound (w ∷ ws) s e = by (bytes_eq w (codes "json")) refl
-  where
-    by : (b : Bool) → bytes_eq w (codes "json") ≡ b → w ∷ ws ≡ source_words s
-    by true is = ap (λ v. v ∷ ws) ((bytes_eq-Decides w (codes "json")).0 is)
-        ∙ supplement_sound ws s (sym (ap (λ b. if b then parse_supplement ws else None) is) ∙ e)
-    by false is = absurd (none-some s (sym (ap (λ b. if b then parse_supplement ws else None) is) ∙ e))
-
-asked_sound : (longest : Option ℕ) (c : Option Command) (s : Option Source) (a : Asked) → asked_for longest c s ≡ Some a
-    → (a.longest ≡ longest) × (c ≡ Some a.command) × (s ≡ Some a.source)
-asked_sound longest None s a e = absurd (none-some a e)
-asked_sound longest (Some c) None a e = absurd (none-some a e)
-asked_sound longest (Some c) (Some s) a e =
-    let same = same_Some (record { longest = longest; command = c; source = s }) a e in (
-      sym (ap (λ (x : Asked). x.longest) same),
-      ap (λ (x : Asked). Some x.command) same,
-      ap (λ (x : Asked). Some x.source) same,
-    )
-
--- words are those of a command, after a syntax, and others
-abbrev Told : Option Syntax → Command → List (List ℕ) → List (List ℕ) → Type 0
-Told syntax c ws rest = (text : List ℕ) × CommandHas c text × (syntax_words syntax ++ ws ≡ command_words c text rest)
-
-abbrev is_alone : Task → Bool
-is_alone (Name chain preferences) = false
-is_alone task = true
-
--- a task that is no name has no arguments
-lone : (t : Task) → is_alone t ≡ true → HasPreferences t [] × (arguments t [] ≡ [])
-lone (Transform form) is = (tt, refl)
-lone Canonicalize is = (tt, refl)
-lone Direction is = (tt, refl)
-lone Negotiate is = (tt, refl)
-lone Fallback is = (tt, refl)
-lone (Serve wishes) is = (tt, refl)
-lone Distance is = (tt, refl)
-lone Parts is = (tt, refl)
-lone (Key of) is = (tt, refl)
-lone (Name chain preferences) is = absurd (false≢true is)
-
-word_told : (syntax : Option Syntax) (w : List ℕ) (c : Command) (ws : List (List ℕ)) → parse_word syntax w ≡ Some c → Told syntax c (w ∷ ws) ws
-word_told syntax w c ws e = by (bytes_eq w (codes "settled")) refl
-  where
-    settled : (o : Option Syntax) → (if is_some o then None else Some Settled) ≡ Some c → w ≡ codes "settled" → Told o c (w ∷ ws) ws
-    settled None f is = subst (λ (k : Command). Told None k (w ∷ ws) ws) (same_Some Settled c f) ([], tt, ap (λ v. v ∷ ws) is)
-    settled (Some s) f is = absurd (none-some c f)
-
-    task : (o : Option Task) → task_at w ≡ o → option_map (lines_of syntax) o ≡ Some c → Told syntax c (w ∷ ws) ws
-    task None is f = absurd (none-some c f)
-    task (Some t) is f =
-        let sound = named_sound task_word is_alone tasks w t refl is in
-        let alone = lone t sound.1 in
-        subst (λ (k : Command). Told syntax k (w ∷ ws) ws) (same_Some (lines_of syntax t) c f) (
-          [],
-          alone.0,
-          λ i. syntax_words syntax ++ (sound.0 i ∷ sym alone.1 i ++ ws),
-        )
-
-    by : (b : Bool) → bytes_eq w (codes "settled") ≡ b → Told syntax c (w ∷ ws) ws
-    by true is = settled syntax (sym (ap (λ b. if b then (if is_some syntax then None else Some Settled) else option_map (lines_of syntax) (task_at w)) is) ∙ e)
-        ((bytes_eq-Decides w (codes "settled")).0 is)
-    by false is = task (task_at w) refl (sym (ap (λ b. if b then (if is_some syntax then None else Some Settled) else option_map (lines_of syntax) (task_at w)) is) ∙ e)
-
-name_told : (syntax : Option Syntax) (first second : List ℕ) (c : Command) (ws : List (List ℕ))
-    → option_and_then (λ k. option_map (λ p. lines_of syntax (Name k p)) (preferences_at second)) (chain_at first) ≡ Some c
-    → Told syntax c (codes "name" ∷ first ∷ second ∷ ws) ws
-name_told syntax first second c ws e = by (chain_at first) refl (preferences_at second) refl e
-  where
-    by : (o : Option NameChain) → chain_at first ≡ o → (q : Option DisplayNamesPreferences) → preferences_at second ≡ q
-        → option_and_then (λ k. option_map (λ p. lines_of syntax (Name k p)) q) o ≡ Some c
-        → Told syntax c (codes "name" ∷ first ∷ second ∷ ws) ws
-    by None is q has f = absurd (none-some c f)
-    by (Some k) is None has f = absurd (none-some c f)
-    by (Some k) is (Some p) has f =
-        let word = (named_sound chain_word (λ k. true) chains first k refl is).0 in
-        subst (λ (d : Command). Told syntax d (codes "name" ∷ first ∷ second ∷ ws) ws) (same_Some (lines_of syntax (Name k p)) c f) (
-          second,
-          has,
-          λ i. syntax_words syntax ++ (codes "name" ∷ word i ∷ second ∷ ws),
-        )
-
--- words are those of a command, after a syntax, and of where its tables come from
-abbrev AreTold : Option ℕ → Option Syntax → List (List ℕ) → Asked → Type 0
-AreTold longest syntax ws a = (a.longest ≡ longest) × Told syntax a.command ws (source_words a.source)
-
-both_told : (longest : Option ℕ) (syntax : Option Syntax) (c : Option Command) (ws rest : List (List ℕ)) (a : Asked)
-    → ((k : Command) → c ≡ Some k → Told syntax k ws rest) → asked_for longest c (parse_source rest) ≡ Some a → AreTold longest syntax ws a
-both_told longest syntax c ws rest a told e =
-    let parts = asked_sound longest c (parse_source rest) a e in
-    (parts.0, subst (λ r. Told syntax a.command ws r) (source_sound rest a.source parts.2) (told a.command parts.1))
-
-command_told : (longest : Option ℕ) (syntax : Option Syntax) (w : List ℕ) (ws : List (List ℕ)) (a : Asked)
-    → parse_command longest syntax w ws ≡ Some a → AreTold longest syntax (w ∷ ws) a
-command_told longest syntax w ws a e = by (bytes_eq w (codes "name")) refl
-  where
-    name : (vs : List (List ℕ)) → parse_name longest syntax vs ≡ Some a → AreTold longest syntax (codes "name" ∷ vs) a
-    name [] f = absurd (none-some a f)
-    name (first ∷ []) f = absurd (none-some a f)
-    name (first ∷ second ∷ vs) f = both_told longest syntax _ (codes "name" ∷ first ∷ second ∷ vs) vs a (λ k. name_told syntax first second k vs) f
-
-    by : (b : Bool) → bytes_eq w (codes "name") ≡ b → AreTold longest syntax (w ∷ ws) a
-    by true is = subst (λ v. AreTold longest syntax (v ∷ ws) a) (sym ((bytes_eq-Decides w (codes "name")).0 is))
-        (name ws (sym (ap (λ b. if b then parse_name longest syntax ws else asked_for longest (parse_word syntax w) (parse_source ws)) is) ∙ e))
-    by false is = both_told longest syntax (parse_word syntax w) (w ∷ ws) ws a (λ k. word_told syntax w k ws)
-        (sym (ap (λ b. if b then parse_name longest syntax ws else asked_for longest (parse_word syntax w) (parse_source ws)) is) ∙ e)
-
-lines_told : (longest : Option ℕ) (ws : List (List ℕ)) (a : Asked) → parse_lines longest ws ≡ Some a → AreTold longest None ws a
-lines_told longest [] a e = absurd (none-some a e)
-lines_told longest (w ∷ ws) a e = by (syntax_at w) refl e
-  where
-    after : (s : Syntax) (vs : List (List ℕ)) → w ≡ syntax_word s → parse_behind longest (Some s) w vs ≡ Some a → AreTold longest None (w ∷ vs) a
-    after s [] is f = absurd (none-some a f)
-    after s (v ∷ vs) is f =
-        let told = command_told longest (Some s) v vs a f in
-        (told.0, (told.1.0, told.1.1, ap (λ u. u ∷ v ∷ vs) is ∙ told.1.2))
-
-    by : (o : Option Syntax) → syntax_at w ≡ o → parse_behind longest o w ws ≡ Some a → AreTold longest None (w ∷ ws) a
-    by None is f = command_told longest None w ws a f
-    by (Some s) is f = after s ws (named_sound syntax_word (λ s. true) syntaxes w s refl is).0 f
-
-without : (a : Asked) (words : List (List ℕ)) → AreTold None None words a → AreWordsOf a words
-without a words told = record {
-  number = [];
-  text = told.1.0;
-  said = subst (λ (l : Option ℕ). IsSaid l []) (sym told.0) tt;
-  spelled = told.1.1;
-  whole = told.1.2 ∙ ap (λ (l : Option ℕ). bound_words l [] ++ command_words a.command told.1.0 (source_words a.source)) (sym told.0);
-}
-
-pub words_told : (a : Asked) (words : List (List ℕ)) → parse words ≡ Some a → AreWordsOf a words
-words_told a [] e = absurd (none-some a e)
-words_told a (w ∷ []) e = without a (w ∷ []) (lines_told None (w ∷ []) a e)
-words_told a (w ∷ n ∷ ws) e = by (bytes_eq w (codes "longest")) refl
-  where
-    bounded : (o : Option ℕ) → bound_at n ≡ o → option_and_then (λ l. parse_lines (Some l) ws) o ≡ Some a → w ≡ codes "longest" → AreWordsOf a (w ∷ n ∷ ws)
-    bounded None is f word = absurd (none-some a f)
-    bounded (Some k) is f word =
-        let told = lines_told (Some k) ws a f in
-        record {
-          number = n;
-          text = told.1.0;
-          said = subst (λ (l : Option ℕ). IsSaid l n) (sym told.0) is;
-          spelled = told.1.1;
-          whole = (λ i. word i ∷ n ∷ told.1.2 i) ∙ ap (λ (l : Option ℕ). bound_words l n ++ command_words a.command told.1.0 (source_words a.source)) (sym told.0);
-        }
-
-    by : (b : Bool) → bytes_eq w (codes "longest") ≡ b → AreWordsOf a (w ∷ n ∷ ws)
-    by true is = bounded (bound_at n) refl
-        (sym (ap (λ b. if b then option_and_then (λ l. parse_lines (Some l) ws) (bound_at n) else parse_lines None (w ∷ n ∷ ws)) is) ∙ e)
-        ((bytes_eq-Decides w (codes "longest")).0 is)
-    by false is = without a (w ∷ n ∷ ws) (lines_told None (w ∷ n ∷ ws) a
-        (sym (ap (λ b. if b then option_and_then (λ l. parse_lines (Some l) ws) (bound_at n) else parse_lines None (w ∷ n ∷ ws)) is) ∙ e))
-
--- a text that is the word of a task has no space
-one_word : (t : Task) → slice_split is_space (task_word t) ≡ task_word t ∷ []
-one_word (Transform Maximize) = refl
-one_word (Transform Minimize) = refl
-one_word (Transform MinimizeScript) = refl
-one_word Canonicalize = refl
-one_word Direction = refl
-one_word Negotiate = refl
-one_word (Name chain preferences) = refl
-one_word Fallback = refl
-one_word (Serve Header) = refl
-one_word (Serve Requests) = refl
-one_word Distance = refl
-one_word Parts = refl
-one_word (Key Whole) = refl
-one_word (Key Identifier) = refl
-
--- so it asks for that task alone
-pub word_parsed : (word : List ℕ) (t : Task) → task_at word ≡ Some t → parse (slice_split is_space word)
-    ≡ Some (record { longest = None; command = lines_of None t; source = Sample })
-word_parsed word t is =
-    let sound = named_sound task_word is_alone tasks word t refl is in
-    let alone = lone t sound.1 in
-    ap (λ w. parse (slice_split is_space w)) sound.0 ∙ words_parsed (record { longest = None; command = lines_of None t; source = Sample })
-    (slice_split is_space (task_word t)) (record {
-      number = [];
-      text = [];
-      said = tt;
-      spelled = alone.0;
-      whole = one_word t ∙ (λ i. task_word t ∷ (sym alone.1 i ++ []));
-    })
+unfolding parse
+words_parsed asked words are =
+    let commands = command_words are.command are.text (source_words asked.source) in
+    let behind = command_behind are.command are.text (source_words asked.source) in
+    ap parse are.whole
+    ∙ ap (option_and_then (λ (l : Option ℕ × List (List ℕ)). parse_served l.0 l.1))
+    (number_parsed bound_at (codes "longest") asked.longest are.number (given_words are.given are.threshold are.demotion commands) are.said
+    (unbounded are.given are.threshold are.demotion commands behind))
+    ∙ ap (option_and_then (λ (g : Given × List (List ℕ)). option_and_then (asked_by g.0) (parse_lines asked.longest g.1)))
+    (given_parsed are.given are.threshold are.demotion commands behind are.threshold_said are.demotion_said)
+    ∙ ap (option_and_then (asked_by are.given)) (command_parsed asked.longest asked.source are.text are.command are.spelled)
+    ∙ ap (option_map (λ (c : Command). record { longest = asked.longest; command = c; source = asked.source }))
+    (command_usually are.given are.command ∙ are.served)

@@ -14,7 +14,7 @@ use crate::work::locale::add_refusal;
 use icu_locale::TransformResult;
 use icu_locale_core::LanguageIdentifier;
 use icu_locale_extensions::{LocaleIdentifier, Syntax, laws};
-use icu_locale_key::{key_of_identifier, key_of_whole};
+use icu_locale_key::{bring_identifier_to_key, bring_whole_to_key};
 use icu_locale_values::WholeCanonicalizer;
 
 // What is brought to a key, and by what.
@@ -34,8 +34,8 @@ impl<'d> Answering for Keying<'d> {
         text: &mut Vec<u8>,
         identifier: &mut LanguageIdentifier,
     ) -> Result<bool, CliError> {
-        match key_of_identifier(&self.canonicalizer, identifier) {
-            Ok(key) => add_changed(text, &key, changed_from(identifier, &key)),
+        match bring_identifier_to_key(&self.canonicalizer, identifier) {
+            Ok(changed) => add_changed(text, identifier, changed),
             Err(refusal) => add_refusal(text, refusal),
         }
     }
@@ -70,42 +70,19 @@ pub fn add_key(
     add_read(text, &Keying { of, canonicalizer }, syntax, line)
 }
 
-// The line of the key of a locale identifier.
+// The line of the key of a locale identifier, which is brought to it.
 fn add_key_of(
     text: &mut Vec<u8>,
     canonicalizer: &WholeCanonicalizer<'_>,
-    locale: &LocaleIdentifier,
+    locale: &mut LocaleIdentifier,
 ) -> Result<bool, CliError>
-    ensures answer { IfOk result (AddsLine (IsKeyed (whole_rules canonicalizer.now) locale.now)
+    ensures answer { IfOk result (AddsLine (IsKeyed (whole_rules canonicalizer.now) locale.old)
         text.old.items text.new.items) }
     ensures refused { IfErr result (λ e. e ≡ CliError.Memory) }
     ensures kept { OnErr result (Keeps text.old.items text.new.items) }
 {
-    match key_of_whole(canonicalizer, locale) {
-        Ok(key) => add_changed(text, &key, changed_to(locale, &key)),
+    match bring_whole_to_key(canonicalizer, locale) {
+        Ok(changed) => add_changed(text, locale, changed),
         Err(refusal) => add_refusal(text, refusal),
-    }
-}
-
-// Whether a locale identifier differs from its key.
-fn changed_to(locale: &LocaleIdentifier, key: &LocaleIdentifier) -> TransformResult
-    ensures { (result ≡ Modified) ↔ (key.now ≢ locale.now) }
-{
-    laws::equality_is_told();
-    if key == locale {
-        TransformResult::Unmodified
-    } else {
-        TransformResult::Modified
-    }
-}
-
-// Whether an identifier differs from its key.
-fn changed_from(identifier: &LanguageIdentifier, key: &LanguageIdentifier) -> TransformResult
-    ensures { (result ≡ Modified) ↔ (key.now ≢ identifier.now) }
-{
-    if key == identifier {
-        TransformResult::Unmodified
-    } else {
-        TransformResult::Modified
     }
 }

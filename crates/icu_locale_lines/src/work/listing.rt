@@ -10,7 +10,7 @@ ghost use Rattle.icu_locale_lines.specs.Refusals.{IsFaultyList, IsRefusedList};
 ghost use Rattle.icu_locale_lines.specs.WholeRuns.{IsUnlisted};
 ghost use Rattle.icu_locale_lines.specs.declared.command.LineCommand.{LineCommand};
 
-use crate::command::Wishes;
+use crate::command::ServeTask;
 use crate::error::CliError;
 use crate::work::offered::{Offered, read_available};
 use crate::work::serving::Serving;
@@ -18,6 +18,7 @@ use crate::work::{Tools, Work};
 use icu_locale::{CanonicalizerRef, LocaleExpander, Negotiator, NegotiatorError};
 use icu_locale_core::{LanguageIdentifier, ParseError};
 use icu_locale_extensions::Syntax;
+use icu_locale_matching::MatchLimits;
 use icu_provider::LanguageMatching;
 use std::alloc::Global;
 
@@ -36,7 +37,7 @@ pub enum ListOver<'r> {
     /// An expander over settled tables.
     Negotiate(LocaleExpander<'r>),
     /// Rules and match rules.
-    Serve(Wishes, CanonicalizerRef<'r>, &'r LanguageMatching),
+    Serve(ServeTask, CanonicalizerRef<'r>, &'r LanguageMatching),
 }
 
 /// What is available, which work borrows.
@@ -56,7 +57,7 @@ pub enum ListedOver<'r> {
     /// Which of them means what some request means.
     Negotiate(Negotiator<'r>),
     /// Which of them is served.
-    Serve(Wishes, Serving<'r>),
+    Serve(ServeTask, Serving<'r>),
 }
 
 impl<'r> Listing<'r> {
@@ -79,9 +80,10 @@ impl<'r> Listing<'r> {
                 let (negotiator, offered) = list_available(alloc, expander, syntax, line)?;
                 (ListedOver::Negotiate(negotiator), offered)
             }
-            ListOver::Serve(wishes, rules, matching) => {
-                let (serving, offered) = list_served(alloc, rules, matching, syntax, line)?;
-                (ListedOver::Serve(wishes, serving), offered)
+            ListOver::Serve(how, rules, matching) => {
+                let limits = how.limits;
+                let (serving, offered) = list_served(alloc, rules, matching, limits, syntax, line)?;
+                (ListedOver::Serve(how, serving), offered)
             }
         };
         Ok(Listed {
@@ -101,9 +103,7 @@ impl<'r> Listed<'r> {
             ListedOver::Negotiate(negotiator) => {
                 Tools::Negotiate(negotiator.lend(), &self.offered)
             }
-            ListedOver::Serve(wishes, serving) => {
-                Tools::Serve(*wishes, serving.lend(), &self.offered)
-            }
+            ListedOver::Serve(how, serving) => { Tools::Serve(*how, serving.lend(), &self.offered) }
         };
         Work {
             syntax: self.syntax,
@@ -143,19 +143,20 @@ fn list_served<'r>(
     alloc: Global,
     rules: CanonicalizerRef<'r>,
     matching: &'r LanguageMatching,
+    limits: MatchLimits,
     syntax: Option<Syntax>,
     line: &[u8],
 ) -> Result<(Serving<'r>, Offered), CliError>
     ensures expander { IfOk result (λ s. s.0.expander ≡ rules.entry.expander) }
     ensures rules { IfOk result (λ s. s.0.rules ≡ lent rules.entry.rules) }
     ensures matching { IfOk result (λ s. s.0.matching ≡ matching.now) }
-    ensures limits { IfOk result (λ s. s.0.limits ≡ record { threshold = 50; demotion = 5 }) }
+    ensures limits { IfOk result (λ s. s.0.limits ≡ limits) }
     ensures available { IfOk result (λ s.
         IsAvailable syntax (listed line.now) s.0.available s.1.wholes.items) }
     ensures refused { IfErr result (IsFaultyList syntax line.now) }
 {
     let (available, offered) = listed_in(alloc, syntax, line)?;
-    match Serving::try_new(alloc, rules, matching, available) {
+    match Serving::try_new(alloc, rules, matching, limits, available) {
         Ok(serving) => Ok((serving, offered)),
         Err(_) => Err(CliError::Memory),
     }

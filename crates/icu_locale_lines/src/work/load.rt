@@ -121,9 +121,9 @@ impl<'r> Loaded<'r> {
                 let over = ListOver::Negotiate(expander);
                 return Ok(Loaded::Listing(Listing { syntax, over }));
             }
-            Task::Serve(wishes) => {
+            Task::Serve(how) => {
                 let matching = load_matching(tables)?;
-                let over = ListOver::Serve(wishes, load_canonicalizer(tables, rules)?, matching);
+                let over = ListOver::Serve(how, load_canonicalizer(tables, rules)?, matching);
                 return Ok(Loaded::Listing(Listing { syntax, over }));
             }
         };

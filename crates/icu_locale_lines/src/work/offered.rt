@@ -1,7 +1,7 @@
 //! What is available, as a line lists it and as it is written.
 ghost use Rattle.std.specs.Prelude.{◌≡◌, ◌⊎◌, Some, IfOk, IfErr};
-ghost use Rattle.icu_locale_lines.specs.Lists.{listed, ids_of, IsAvailable, IsFirstFault, SpellsWhole, SpellsWholes};
-ghost use Rattle.icu_locale_extensions.specs.Syntaxes.{IsFaultBy};
+ghost use Rattle.std.specs.List.{AllZip};
+ghost use Rattle.icu_locale_lines.specs.Lists.{listed, ids_of, IsAvailable, IsFaultIn, IsFirstFault, SpellsWanted};
 
 use crate::work::list::read_list;
 use icu_locale_core::{LanguageIdentifier, ParseError};
@@ -43,44 +43,66 @@ pub fn read_available(
             Ok((identifiers, Offered { wholes }))
         }
         Some(syntax) => {
-            let wholes = read_wholes(alloc, syntax, line)?;
+            let wholes = read_wanted(alloc, Some(syntax), line)?;
             let identifiers = ids_of(alloc, &wholes)?;
             Ok((identifiers, Offered { wholes }))
         }
     }
 }
 
-// The locale identifiers that a line lists.
-fn read_wholes(
+/// The locale identifiers that a line lists, in a syntax, or as identifiers alone.
+///
+/// # Errors
+///
+/// The refusal of the first text that spells none, or `Memory` where memory was refused.
+pub fn read_wanted(
     alloc: Global,
-    syntax: Syntax,
+    syntax: Option<Syntax>,
     line: &[u8],
 ) -> Result<Vec<LocaleIdentifier>, ParseError>
-    ensures read { IfOk result (λ list. SpellsWholes syntax (listed line.now) list.items) }
+    ensures read { IfOk result (λ list.
+        AllZip (SpellsWanted syntax) (listed line.now) list.items) }
     ensures refused { IfErr result (λ e. (e ≡ ParseError.Memory)
-        ⊎ IsFirstFault (Some syntax) (listed line.now) e) }
+        ⊎ IsFirstFault syntax (listed line.now) e) }
 {
     let mut list = Vec::new(alloc);
     if line.is_empty() {
         return Ok(list);
     }
     for piece in line.split(|byte| *byte == b' ') {
-        list.push(read_whole(alloc, syntax, piece)?)?;
+        list.push(read_one(alloc, syntax, piece)?)?;
     }
     Ok(list)
 }
 
 // The locale identifier of a text.
-fn read_whole(alloc: Global, syntax: Syntax, text: &[u8]) -> Result<LocaleIdentifier, ParseError>
-    ensures read { IfOk result (SpellsWhole syntax text.now) }
+fn read_one(
+    alloc: Global,
+    syntax: Option<Syntax>,
+    text: &[u8],
+) -> Result<LocaleIdentifier, ParseError>
+    ensures read { IfOk result (SpellsWanted syntax text.now) }
     ensures refused { IfErr result (λ e. (e ≡ ParseError.Memory)
-        ⊎ IsFaultBy syntax text.now e) }
+        ⊎ IsFaultIn syntax text.now e) }
 {
-    LocaleIdentifier::read(alloc, syntax, text)
+    match syntax {
+        None => match LanguageIdentifier::try_from_utf8(alloc, text) {
+            Ok(id) => Ok(LocaleIdentifier::new(alloc, id)),
+            Err(refusal) => Err(refusal),
+        },
+        Some(syntax) => LocaleIdentifier::read(alloc, syntax, text),
+    }
 }
 
-// Their identifiers, once more.
-fn ids_of(alloc: Global, wholes: &[LocaleIdentifier]) -> Result<Vec<LanguageIdentifier>, ParseError>
+/// Their identifiers, once more.
+///
+/// # Errors
+///
+/// `Memory` where memory was refused.
+pub fn ids_of(
+    alloc: Global,
+    wholes: &[LocaleIdentifier],
+) -> Result<Vec<LanguageIdentifier>, ParseError>
     ensures same { IfOk result (λ list. list.items ≡ ids_of wholes.now) }
     ensures refused { IfErr result (λ e. e ≡ ParseError.Memory) }
 {

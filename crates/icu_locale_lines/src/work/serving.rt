@@ -13,11 +13,12 @@ use icu_provider::LanguageMatching;
 use std::alloc::{AllocError, Global};
 use std::marker::Model;
 
-/// What is available, and the tables over which it is served. Contracts see it as a `LocaleServer`.
+/// What is available, and over what it is served. Contracts see it as a `LocaleServer`.
 #[derive(Debug, Drop)]
 pub struct Serving<'r> {
     rules: CanonicalizerRef<'r>,
     matching: &'r LanguageMatching,
+    limits: MatchLimits,
     served: ServedLocales,
 }
 
@@ -30,7 +31,7 @@ impl<'r> Model for Serving<'r> {
       expander = s.rules.expander;
       rules = lent s.rules.rules;
       matching = s.matching.now;
-      limits = record { threshold = 50; demotion = 5 };
+      limits = s.limits;
       available = identifiers_of s.served;
     } };
 
@@ -39,7 +40,7 @@ impl<'r> Model for Serving<'r> {
 }
 
 impl<'r> Serving<'r> {
-    /// Over rules, match rules and what is available, within the limits of ICU.
+    /// Over rules, match rules, limits and what is available.
     ///
     /// # Errors
     ///
@@ -48,18 +49,20 @@ impl<'r> Serving<'r> {
         alloc: Global,
         rules: CanonicalizerRef<'r>,
         matching: &'r LanguageMatching,
+        limits: MatchLimits,
         available: Vec<LanguageIdentifier>,
     ) -> Result<Self, AllocError>
         ensures expander { IfOk result (λ s. s.expander ≡ rules.entry.expander) }
         ensures rules { IfOk result (λ s. s.rules ≡ lent rules.entry.rules) }
         ensures matching { IfOk result (λ s. s.matching ≡ matching.now) }
-        ensures limits { IfOk result (λ s. s.limits ≡ record { threshold = 50; demotion = 5 }) }
+        ensures limits { IfOk result (λ s. s.limits ≡ limits) }
         ensures available { IfOk result (λ s. s.available ≡ available.items) }
     {
         let served = ServedLocales::try_new(alloc, &rules, matching, available)?;
         Ok(Serving {
             rules,
             matching,
+            limits,
             served,
         })
     }
@@ -68,12 +71,7 @@ impl<'r> Serving<'r> {
     pub fn lend(&self) -> LocaleServer<'_>
         ensures { result ≡ self.now }
     {
-        LocaleServer::over(
-            self.rules,
-            self.matching,
-            MatchLimits::default(),
-            &self.served,
-        )
+        LocaleServer::over(self.rules, self.matching, self.limits, &self.served)
     }
 }
 

@@ -4,7 +4,7 @@ use Rattle.icu_locale_lines.proofs.work.key.add_key_of.Goals as goal
 
 -- the line of the key
 pub returns-in-Ok-clause-answer : goal.returns-in-Ok-clause-answer
-returns-in-Ok-clause-answer c = if_adds _ _ (λ t a h. inl (c.in-Ok.key, c.changed_to.result, c.in-Ok.ensures.key, c.changed_to.ensures, h.0, h.1))
+returns-in-Ok-clause-answer c = if_adds _ _ (λ t a h. inl (c.bring_whole_to_key.new.locale, c.in-Ok.changed, c.in-Ok.ensures.key, c.in-Ok.ensures.told, h.0, h.1))
     _ _ c.add_changed.result c.add_changed.ensures.answer
 
 -- and of why there is none

@@ -9,7 +9,7 @@ returns-in-Ok-clause-answer c =
     if_adds _ _ (λ t a h. inl (
       c.in-Ok.requests.items,
       c.in-Ok.ensures.read,
-      subst (λ list. IsNearestLine c.args.server.now c.args.offered.now.wholes.items list t a) c.deref.ensures.value h,
+      subst (λ list. IsNearestLine c.args.how c.args.server.now c.args.offered.now.wholes.items list t a) c.deref.ensures.value h,
     )) _ _ c.add_nearest_to.result c.add_nearest_to.ensures.answer
 
 pub returns-in-Err-clause-answer : goal.returns-in-Err-clause-answer

@@ -8,17 +8,17 @@ use Rattle.icu_locale_lines.proofs.work.key.KeyingAnswering.add_line.Goals as go
 -- the line of the key, which is that of the locale identifier that has it alone
 pub returns-in-Ok-clause-answer : goal.returns-in-Ok-clause-answer
 returns-in-Ok-clause-answer c =
-    let key = c.in-Ok.key in
-    let changed = c.changed_from.ensures in
+    let key = c.bring_identifier_to_key.new.id in
+    let changed = c.in-Ok.ensures.told in
     if_adds _ _ (λ t a h. inl (
       bare key,
-      c.changed_from.result,
+      c.in-Ok.changed,
       c.in-Ok.ensures.key,
       (
         λ modified same. changed.0 modified (ap (λ (x : LocaleIdentifier). x.locale.id) same),
         λ other. changed.1 (λ same. other (ap bare same)),
       ),
-      h.0 ∙ sym (line_bare key c.changed_from.result),
+      h.0 ∙ sym (line_bare key c.in-Ok.changed),
       h.1,
     )) _ _ c.add_changed.result c.add_changed.ensures.answer
 

@@ -1,7 +1,0 @@
-use Rattle.std.proofs.Common.{map}
-use Rattle.icu_locale_lines.specs.Lists.{SpellsWholes}
-use Rattle.icu_locale_lines.proofs.work.offered.read_wholes.Given as goal
-
--- each text so far was read
-abbrev pub invariant-loop-piece : goal.invariant-loop-piece
-invariant-loop-piece l = SpellsWholes l.initial.syntax (map (λ piece. piece.now) l.yielded) l.list.items

@@ -1,0 +1,122 @@
+//! What words say of how readers are served, before the command.
+ghost use Rattle.std.specs.Prelude.{◌≡◌};
+ghost use Rattle.std.specs.Option.{option_map};
+ghost use Rattle.icu_locale_lines.specs.Grammar.{asked_by, command_by, given_next, is_unsaid, limit_at, limit_next, limits_by, task_by};
+
+use crate::asked::Asked;
+use crate::command::{Command, LineCommand, ServeTask, Task};
+use crate::cursor::Words;
+use icu_locale_matching::{FavorSubtag, MatchLimits};
+
+/// What words say of how readers are served. What is not said is as ICU has it.
+#[derive(Clone, Copy, Debug, PartialEq, Eq)]
+pub struct Given {
+    /// What is served has a lesser distance.
+    pub threshold: Option<u16>,
+    /// What each request before it adds to the cost of a request.
+    pub demotion: Option<u16>,
+    /// The script weighs more than the language.
+    pub favor_script: bool,
+    /// The first that is available is served where nothing else is.
+    pub or_first: bool,
+}
+
+impl Given {
+    /// What the next words say, if they are those of numbers where numbers are to come.
+    pub fn next(words: &mut Words<'_>) -> Option<Self>
+        ensures { given_next words.old ≡ option_map (λ given. (given, words.new)) result }
+    {
+        let threshold = limit_next(words, "threshold")?;
+        let demotion = limit_next(words, "demotion")?;
+        let favor_script = words.take_if("favor-script");
+        let or_first = words.take_if("or-first");
+        Some(Given {
+            threshold,
+            demotion,
+            favor_script,
+            or_first,
+        })
+    }
+
+    /// What is asked for, served so. Where that serves no reader, only if nothing is said.
+    pub fn asked(self, asked: Asked) -> Option<Asked>
+        ensures { result ≡ asked_by self asked }
+    {
+        let command = self.command(asked.command)?;
+        Some(Asked {
+            longest: asked.longest,
+            command,
+            source: asked.source,
+        })
+    }
+
+    // The same of a command.
+    fn command(self, command: Command) -> Option<Command>
+        ensures { result ≡ command_by self command }
+    {
+        match command {
+            Command::Lines(LineCommand { syntax, task }) => {
+                let task = self.task(task)?;
+                Some(Command::Lines(LineCommand { syntax, task }))
+            }
+            Command::Settled if self.is_unsaid() => Some(command),
+            Command::Settled => None,
+        }
+    }
+
+    // The same of a task.
+    fn task(self, task: Task) -> Option<Task>
+        ensures { result ≡ task_by self task }
+    {
+        match task {
+            Task::Serve(served) => Some(Task::Serve(ServeTask {
+                wishes: served.wishes,
+                limits: self.limits(),
+                or_first: self.or_first,
+            })),
+            _ if self.is_unsaid() => Some(task),
+            _ => None,
+        }
+    }
+
+    // Whether nothing is said.
+    fn is_unsaid(self) -> bool
+        ensures { result ≡ is_unsaid self }
+    {
+        self.threshold.is_none()
+            && (self.demotion.is_none() && (!self.favor_script && !self.or_first))
+    }
+
+    // How far a match may go.
+    fn limits(self) -> MatchLimits
+        ensures { result ≡ limits_by self }
+    {
+        MatchLimits {
+            threshold: self.threshold.unwrap_or(50),
+            demotion: self.demotion.unwrap_or(5),
+            favor: if self.favor_script {
+                FavorSubtag::Script
+            } else {
+                FavorSubtag::Language
+            },
+        }
+    }
+}
+
+// The number of a name, where that is the next word: none, where it is not.
+fn limit_next(words: &mut Words<'_>, name: &str) -> Option<Option<u16>>
+    ensures { limit_next name.now words.old ≡ option_map (λ limit. (limit, words.new)) result }
+{
+    if !words.take_if(name) {
+        return Some(None);
+    }
+    let limit = limit_of(words.take()?)?;
+    Some(Some(limit))
+}
+
+// The limit that a text says.
+fn limit_of(text: &str) -> Option<u16>
+    ensures { result ≡ limit_at text.now }
+{
+    text.parse().ok()
+}
