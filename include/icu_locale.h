@@ -109,8 +109,8 @@ enum {
        is needed. */
     ICU_LOCALE_TABLE = 8,
 
-    /* icu_locale_negotiate and icu_locale_negotiate_in, and icu_locale_answer at `negotiate`, `serve` and `nearest`: the handle
-       holds no list of what is available. This is told before a table that is left out. */
+    /* icu_locale_negotiate and icu_locale_negotiate_in, and icu_locale_answer at `negotiate`, `serve`, `nearest` and `resolved`:
+       the handle holds no list of what is available. This is told before a table that is left out. */
     ICU_LOCALE_NEGOTIATE = 9,
 
     /* icu_locale_available, icu_locale_negotiate, both in a syntax, and icu_locale_list_fault: the text lists something that
@@ -135,9 +135,9 @@ int32_t icu_locale_open(const uint8_t *json, size_t json_length, struct icu_loca
 
 /*
  * Reads the supplement of the handle's tables of a JSON text, in place of the one that they have: the parents of locales,
- * which `fallback` asks, rules of language matching, which `serve`, `nearest` and `distance` ask, and aliases of values,
- * which `canonicalize` in a syntax asks. It comes before the first icu_locale_share and icu_locale_available on the handle.
- * Nothing of the text is kept. docs/supplement.schema.json says what it looks like.
+ * which `fallback` asks, rules of language matching, which `serve`, `nearest`, `resolved` and `distance` ask, and aliases of
+ * values, which `canonicalize` in a syntax asks. It comes before the first icu_locale_share and icu_locale_available on the
+ * handle. Nothing of the text is kept. docs/supplement.schema.json says what it looks like.
  *
  * ICU_LOCALE_DONE: the tables have this supplement. What the handle holds besides is as it was.
  * ICU_LOCALE_CLOSED, ICU_LOCALE_JSON, ICU_LOCALE_SHAPE, ICU_LOCALE_SHARED, ICU_LOCALE_MEMORY: all is as it was. A closed
@@ -157,13 +157,22 @@ int32_t icu_locale_share(struct icu_locale *from, struct icu_locale *to);
 /*
  * Answers one line. `command` is the program's words, one space between two: `maximize`, `minimize`, `minimize-script`,
  * `canonicalize`, `key`, `identifier-key`, `direction`, `fallback`, `distance`, `parts`, `name CHAIN PREFERENCES` as in
- * `name light en`, or `negotiate`, `serve` or `nearest` where the handle holds a list of what is available. `line` is one
- * line of the program's input without its line feed: an identifier, or at `canonicalize` an identifier, or an identifier, a
- * tab and a value; at `distance` two identifiers, at `negotiate` and `nearest` the requests of one reader, and at `serve` a
- * header Accept-Language. `serve`, `nearest` and `distance` ask the rules of language matching of the tables' supplement.
+ * `name light en`, or `negotiate`, `serve`, `nearest` or `resolved` where the handle holds a list of what is available. `line`
+ * is one line of the program's input without its line feed: an identifier, or at `canonicalize` an identifier, or an
+ * identifier, a tab and a value; at `distance` two identifiers, at `negotiate`, `nearest` and `resolved` the requests of one
+ * reader, and at `serve` a header Accept-Language. `serve`, `nearest`, `resolved` and `distance` ask the rules of language
+ * matching of the tables' supplement.
  *
  * Before these words may come `locales`, `bcp47` or `posix`, as in `locales maximize`: the line holds locale identifiers
  * with extensions, or such tags of RFC 5646, or such names of POSIX locales, and the answer has their extensions.
+ *
+ * At `serve`, `nearest` and `resolved` what is near enough may come before all these, each once and in this order, as in
+ * `threshold 40 or-first locales resolved`. N is a number from 0 to 65,535.
+ *
+ * - `threshold N`: what is served has a distance below N; without it below 50.
+ * - `demotion N`: each request after the first counts N more; without it 5. By 0 the nearest of all requests is served.
+ * - `favor-script`: a difference of languages counts a quarter, so that one of scripts weighs more.
+ * - `or-first`: the first of what is available is served where nothing else is, even if the header refuses it.
  *
  * The answer is the program's line without its line feed, with the marks that it has: `zh-Hant-TW`, a tab and `M`.
  *
@@ -176,8 +185,8 @@ int32_t icu_locale_share(struct icu_locale *from, struct icu_locale *to);
  * The tables stay. The answer is made in a list that the handle keeps, and then copied to `out`: the first calls take
  * memory for it, and later ones where they want a longer one, or come after a call that found no memory. What is taken
  * besides is what the program takes: memory for an identifier's variants, for a value and for a list of requests. The
- * first `canonicalize`, `key`, `serve` or `nearest` on a handle also reads the rules, which takes about as long as some hundred
- * calls, and the first `serve` or `nearest` prepares the list; both are kept until the handle is closed.
+ * first `canonicalize`, `key`, `serve`, `nearest` or `resolved` on a handle also reads the rules, which takes about as long as
+ * some hundred calls, and the first of the last three prepares the list; both are kept until the handle is closed.
  */
 int32_t icu_locale_answer(struct icu_locale *handle, const uint8_t *command, size_t command_length, const uint8_t *line,
                           size_t line_length, uint8_t *out, size_t room, size_t *written);
@@ -200,8 +209,8 @@ int32_t icu_locale_is_settled(struct icu_locale *handle);
  * was.
  * ICU_LOCALE_CLOSED: `from` is closed. ICU_LOCALE_TABLE: a likely table is left out. ICU_LOCALE_LIST,
  * ICU_LOCALE_MEMORY. Both handles are as they were. Where several of these hold, the number is that of the closed handle
- * first, then of the table, and of the list. Tables need not be settled: a list over those that are not is for `serve`
- * and `nearest`.
+ * first, then of the table, and of the list. Tables need not be settled: a list over those that are not is for `serve`,
+ * `nearest` and `resolved`.
  */
 int32_t icu_locale_available(struct icu_locale *from, const uint8_t *list, size_t list_length,
                              struct icu_locale *negotiator);
@@ -226,7 +235,7 @@ int32_t icu_locale_negotiate(struct icu_locale *negotiator, const uint8_t *reque
  * The same two calls of lists in a syntax, which `syntax` names by its word, as before a command of icu_locale_answer:
  * `locales`, `bcp47` or `posix`. An empty text names none, and the call does what that without a syntax does. Extensions
  * have no part in what is met; at `negotiate`, `serve` and `nearest` icu_locale_answer writes with them what such a list
- * has, as `0`, a tab and `en-u-hc-h12`, whatever the syntax of its own words.
+ * has, as `0`, a tab and `en-u-hc-h12`, whatever the syntax of its own words. At `resolved` they are the request's.
  *
  * ICU_LOCALE_COMMAND: the word is that of no syntax, which is told before all else, and all is as it was. The other
  * numbers are those of the calls above, in their order.

@@ -1,7 +1,7 @@
 // The program over C's calls: `lines TABLES COMMAND [SUPPLEMENT]` answers each line of its input, and ends with the status
 // of the program: 0, 1 where a line is refused, and 2 with a number on standard error where there is no answer. At
-// `negotiate`, `serve` and `nearest` the first line is the list, and the places of each negotiation have to tell what the
-// line of its answer tells: where they do not, the status is 3.
+// `negotiate`, `serve`, `nearest` and `resolved` the first line is the list, and the places of each negotiation have to tell
+// what the line of its answer tells: where they do not, the status is 3.
 #include "shared.h"
 #include <ctype.h>
 
@@ -105,6 +105,14 @@ static int32_t opened(const char *path, const char *supplement) {
     return number;
 }
 
+// Whether the last of some words is that of a command over a list.
+static int is_over_list(const char *command) {
+    const char *tasks[] = {"negotiate", "serve", "nearest", "resolved"}, *behind = strrchr(command, ' ');
+    for (size_t place = 0; place < sizeof tasks / sizeof *tasks; place++)
+        if (!strcmp(behind ? behind + 1 : command, tasks[place])) return 1;
+    return 0;
+}
+
 int main(int count, char **names) {
     if (count != 3 && count != 4) return 3;
     int32_t number = opened(names[1], count == 4 ? names[3] : NULL);
@@ -113,7 +121,7 @@ int main(int count, char **names) {
         status = refuse(number);
     else if (!strcmp(names[2], "settled"))
         status = settled();
-    else if (!strcmp(names[2], "negotiate") || !strcmp(names[2], "serve") || !strcmp(names[2], "nearest"))
+    else if (is_over_list(names[2]))
         status = over_list(names[2]);
     else
         status = answers(&tables, names[2], NULL);

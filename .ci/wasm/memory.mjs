@@ -25,6 +25,8 @@ const SERVED = [
     ["serve", "1\tzh-Hant", "fr;q=0.9, zh-TW;q=0.8, de-1996;q=0"],
     ["nearest", "1\tzh-Hant", "fr zh-TW"],
     ["locales nearest", "none", "fr-u-ca-buddhist"],
+    ["or-first locales nearest", "0\ten-US", "fr-u-ca-buddhist"],
+    ["locales resolved", "1\tzh-Hant-TW-u-nu-hanidec", "fr zh-TW-u-nu-hanidec"],
     ["negotiate", "1\tzh-Hant", "fr zh-TW"],
 ].map(placed);
 const WHOLE = placed(["negotiate", "1\tzh-TW-t-ja-u-nu-hanidec", "fr zh-Hant"]);

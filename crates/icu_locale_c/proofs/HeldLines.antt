@@ -12,7 +12,7 @@ use Rattle.icu_locale_lines.specs.Lists.{listed, IsAvailable}
 use Rattle.icu_locale_lines.specs.Commands.{IsWorkOf, AreToolsOf, text_answered, text_left}
 use Rattle.icu_locale_lines.specs.Lines.{after_first_line}
 use Rattle.icu_locale_lines.specs.declared.command.LineCommand.{LineCommand}
-use Rattle.icu_locale_lines.specs.declared.command.Wishes.{Wishes}
+use Rattle.icu_locale_lines.specs.declared.command.ServeTask.{ServeTask}
 use Rattle.icu_locale_lines.specs.declared.work.Work.{Work}
 use Rattle.icu_locale_extensions.specs.declared.identifier.LocaleIdentifier.{LocaleIdentifier}
 use Rattle.icu_locale_lines.specs.laws.Expanders.{same_likely}
@@ -77,7 +77,7 @@ pub no_list : (h : Held) (asked : LineCommand) (k : Task) → asked.task ≡ k �
 no_list h asked k task none asks = absurd (false≢true (sym none ∙ (sym (ap asks_list task) ∙ asks)))
 
 -- a task that does not list asks for no list
-pub asks_none : (k : Task) → (k ≡ task.Negotiate → ⊥) → ((w : Wishes) → k ≡ task.Serve w → ⊥) → asks_list k ≡ false
+pub asks_none : (k : Task) → (k ≡ task.Negotiate → ⊥) → ((w : ServeTask) → k ≡ task.Serve w → ⊥) → asks_list k ≡ false
 asks_none (task.Transform form) negotiates serves = refl
 asks_none task.Canonicalize negotiates serves = refl
 asks_none task.Direction negotiates serves = refl

@@ -20,7 +20,8 @@ use Rattle.icu_locale_lines.specs.laws.Expanders.{same_likely}
 use Rattle.icu_locale_lines.specs.declared.command.Task.{Task}
 use Rattle.icu_locale_lines.specs.declared.command.Task.TheVariants.{Transform, Canonicalize, Direction, Negotiate, Name, Fallback, Serve, Distance, Parts, Key}
 use Rattle.icu_locale_lines.specs.declared.command.KeyOf.{KeyOf}
-use Rattle.icu_locale_lines.specs.declared.command.Wishes.{Wishes}
+use Rattle.icu_locale_lines.specs.declared.command.ServeTask.{ServeTask}
+use Rattle.icu_locale_matching.specs.declared.limits.MatchLimits.{MatchLimits}
 use Rattle.icu_locale_c.specs.Held.{AreKept, HasKept, IsServedOver, IsServerOver, held, identifiers_of_list}
 use Rattle.icu_locale_c.specs.declared.kept.Kept.{Kept}
 use Rattle.icu_locale_c.specs.declared.kept_list.KeptList.{KeptList}
@@ -105,15 +106,15 @@ module _ (t : Tables) (list : Option KeptList) (ws : List LocaleIdentifier) (k :
   of_list None over same = absurd over
   of_list (Some a) over same = ap Some (sym (same ∙ over.available))
 
-  pub server_of_kept : IsExpanderOf t c.expander → Lends t read c → t.supplement.matching ≡ Some m → v.expander ≡ c.expander
-      → v.rules ≡ lent c.rules → v.matching ≡ m → v.limits ≡ record { threshold = 50; demotion = 5 }
-      → v.available ≡ service.identifiers_of s → IsServerOver (held t list ws) v
-  server_of_kept over lends matching same_expander same_rules same_matching limits available = record {
+  pub server_of_kept : (limits : MatchLimits) → IsExpanderOf t c.expander → Lends t read c → t.supplement.matching ≡ Some m → v.expander ≡ c.expander
+      → v.rules ≡ lent c.rules → v.matching ≡ m → v.limits ≡ limits
+      → v.available ≡ service.identifiers_of s → IsServerOver (held t list ws) limits v
+  server_of_kept limits over lends matching same_expander same_rules same_matching within available = record {
     tables = record {
       expander = subst (IsExpanderOf t) (sym same_expander) over;
       rules = of_rules t.aliases lends (subst (λ (o : Option ReadRules). IfSome o (AreRulesOf t)) rules kept.rules) same_rules;
       matching = matching ∙ ap Some (sym same_matching);
-      limits = limits;
+      limits = within;
     };
     available = of_list list (kept_served t list k read s kept rules served) available;
   }
@@ -132,7 +133,7 @@ lent_of_kept t list k read c kept rules over lends = record {
     by (Some table) lends are = subst (AreRules table) (sym lends) are
 
 -- a task that asks for nothing beside the tables has what it asks for
-pub nothing_kept : (task : Task) (kept : Kept) → (task ≡ Canonicalize → ⊥) → ((w : Wishes) → task ≡ Serve w → ⊥)
+pub nothing_kept : (task : Task) (kept : Kept) → (task ≡ Canonicalize → ⊥) → ((w : ServeTask) → task ≡ Serve w → ⊥)
     → ((of : KeyOf) → task ≡ Key of → ⊥) → HasKept task kept
 nothing_kept (Transform form) kept rules served keyed = tt
 nothing_kept Canonicalize kept rules served keyed = absurd (rules refl)

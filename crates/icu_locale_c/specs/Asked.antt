@@ -6,7 +6,7 @@ use Rattle.icu_locale_lines.specs.declared.command.Command.TheVariants.{Lines}
 use Rattle.icu_locale_lines.specs.declared.command.LineCommand.{LineCommand}
 use Rattle.icu_locale_lines.specs.declared.command.Task.{Task}
 use Rattle.icu_locale_lines.specs.declared.command.Task.TheVariants.{Negotiate, Serve}
-use Rattle.icu_locale_lines.specs.declared.command.Wishes.{Wishes}
+use Rattle.icu_locale_lines.specs.declared.command.ServeTask.{ServeTask}
 use Rattle.icu_locale_lines.specs.declared.work.Work.{Work}
 use Rattle.icu_tables.specs.declared.tables.Tables.{Tables}
 use Rattle.icu_locale_c.specs.Held.{Held, IsWorkOver}
@@ -23,7 +23,7 @@ pub record IsLineOf (h : Held) (asked : LineCommand) (line whole : List ℕ) (ac
 -- a task asks for a list of what is available
 abbrev pub asks_list : Task → Bool
 asks_list Negotiate = true
-asks_list (Serve wishes) = true
+asks_list (Serve served) = true
 asks_list task = false
 
 -- the list is there that the task asks for, if it asks for one
@@ -32,7 +32,7 @@ HasList h asked = asks_list asked.task ≡ true → IsSome h.available
 
 -- a task serves
 abbrev pub IsServeTask : Task → Type 0
-IsServeTask task = (wishes : Wishes) × (task ≡ Serve wishes)
+IsServeTask task = (served : ServeTask) × (task ≡ Serve served)
 
 -- why nothing is lent of the tables: what is asked for is not held
 abbrev pub IsNotHeld : Bool → Refusal → Type 0

@@ -12,7 +12,8 @@ use Rattle.icu_locale.specs.LikelyTable.{likely}
 use Rattle.icu_locale.specs.LikelySubtags.{LikelySubtags, AreSettled}
 use Rattle.icu_locale.specs.declared.expander.LocaleExpander.{LocaleExpander}
 use Rattle.icu_locale_matching.specs.Service.{Service, IsPreparedOver}
-use Rattle.icu_locale_matching.specs.Service as served
+use Rattle.icu_locale_matching.specs.Service as service
+use Rattle.icu_locale_matching.specs.declared.limits.MatchLimits.{MatchLimits}
 use Rattle.icu_locale_matching.specs.declared.server.ServedLocales.{ServedLocales}
 use Rattle.icu_provider.specs.declared.aliases.Aliases.{Aliases}
 use Rattle.icu_provider.specs.declared.matching.LanguageMatching.{LanguageMatching}
@@ -77,7 +78,7 @@ pub record IsListOver (t : Tables) (list : KeptList) : Type 0 where
 -- what is served was prepared of a list, over the tables and the rules that were read of them
 pub record IsServedOver (t : Tables) (read : ReadRules) (list : KeptList) (s : ServedLocales)
     : Type 0 where
-  pub available : served.identifiers_of s ≡ identifiers_of_list list
+  pub available : service.identifiers_of s ≡ identifiers_of_list list
   pub over : (e : LocaleExpander) (table : Aliases) (m : LanguageMatching) → IsExpanderOf t e
       → t.aliases ≡ Some table → t.supplement.matching ≡ Some m
       → IsPreparedOver (likely e) (rules_over read table) m s
@@ -92,7 +93,7 @@ pub record AreKept (t : Tables) (list : Option KeptList) (kept : Kept) : Type 0 
 abbrev pub HasKept : Task → Kept → Type 0
 HasKept Canonicalize kept = IsSome kept.rules
 HasKept (Key of) kept = IsSome kept.rules
-HasKept (Serve wishes) kept = IsSome kept.rules × IsSome kept.served
+HasKept (Serve served) kept = IsSome kept.rules × IsSome kept.served
 HasKept task kept = Unit {0}
 
 -- what was kept is kept still
@@ -106,18 +107,18 @@ pub record IsNegotiationOf (h : Held) (n : Negotiation) : Type 0 where
   pub settled : AreSettled (likely n.expander)
   pub available : h.available ≡ Some n.available
 
--- a server over what is held: over its tables, and its list
-pub record IsServerOver (h : Held) (s : Service) : Type 0 where
-  pub tables : IsServerOf h.tables s
+-- a server over what is held, within limits: over its tables, and its list
+pub record IsServerOver (h : Held) (limits : MatchLimits) (s : Service) : Type 0 where
+  pub tables : IsServerOf h.tables limits s
   pub available : h.available ≡ Some s.available
 
--- the tools of a task over what is held; those of `negotiate`, `serve` and `nearest` are over the
+-- the tools of a task over what is held; those of `negotiate` and of tasks that serve are over the
 -- list, and write it as it was read
 abbrev pub AreToolsOver : Option Syntax → Task → Held → Tools → Type 0
 AreToolsOver syntax Negotiate h (tools.Negotiate n offered) =
     IsNegotiationOf h n × (offered.now.wholes.items ≡ h.wholes)
-AreToolsOver syntax (Serve wishes) h (tools.Serve how s offered) =
-    (how ≡ wishes) × IsServerOver h s × (offered.now.wholes.items ≡ h.wholes)
+AreToolsOver syntax (Serve served) h (tools.Serve how s offered) = (how ≡ served)
+    × IsServerOver h served.limits s × (offered.now.wholes.items ≡ h.wholes)
 AreToolsOver syntax task h w = AreToolsOf syntax task h.tables [] w
 
 -- the work of a command over what is held

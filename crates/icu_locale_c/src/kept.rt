@@ -181,20 +181,24 @@ fn lend_service<'r>(
     }
 }
 
-// The server over what is kept.
-pub fn server_over<'r>(tables: &'r Tables, kept: &'r Kept) -> Result<LocaleServer<'r>, Refusal>
+// The server over what is kept, within limits.
+pub fn server_over<'r>(
+    tables: &'r Tables,
+    kept: &'r Kept,
+    limits: MatchLimits,
+) -> Result<LocaleServer<'r>, Refusal>
     requires rules { IsSome kept.now.rules }
     requires served { IsSome kept.now.served }
     requires kept { (list : Option KeptList) × AreKept tables.now list kept.now }
     ensures over { (list : Option KeptList) (wholes : List LocaleIdentifier)
         → AreKept tables.now list kept.now
-        → IfOk result (IsServerOver (held tables.now list wholes)) }
+        → IfOk result (IsServerOver (held tables.now list wholes) limits) }
     ensures held { IfOk result (λ _. (has_matching tables.now && has_rules tables.now) ≡ true) }
     ensures refused { IfErr result (IsNotHeld (has_matching tables.now && has_rules tables.now)) }
 {
     let (rules, matching) = lend_service(tables, &kept.rules)?;
     match &kept.served {
-        Some(served) => Ok(LocaleServer::over(rules, matching, MatchLimits::default(), served)),
+        Some(served) => Ok(LocaleServer::over(rules, matching, limits, served)),
         None => unreachable!(),
     }
 }

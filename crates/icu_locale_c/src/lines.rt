@@ -102,8 +102,8 @@ fn further_line<'r>(
             let tools = Tools::Negotiate(negotiator_over(tables, list)?, offered);
             answer(&Work { syntax, tools }, room, line)
         }
-        Task::Serve(wishes) => {
-            let tools = Tools::Serve(wishes, server_over(tables, kept)?, offered);
+        Task::Serve(how) => {
+            let tools = Tools::Serve(how, server_over(tables, kept, how.limits)?, offered);
             answer(&Work { syntax, tools }, room, line)
         }
         _ => answer(&loaded_work(tables, kept, asked)?, room, line),

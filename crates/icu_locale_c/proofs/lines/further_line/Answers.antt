@@ -43,10 +43,10 @@ returns-in_ok-server_over-in-Serve-clause-answered c =
     let h = held c.args.tables.now c.args.list.now ws in
     let asked = c.args.asked.now in
     let made = c.in_ok-server_over-in-Serve in
-    let wishes = c.in-Serve.wishes in
+    let how = c.in-Serve.how in
     let told = c.answer-in-Serve in
-    line_over h asked (record { syntax = asked.syntax; tools = tools.Serve wishes made.field-0 c.args.offered }) c.args.line.now told.new.room.items
-    told.result (work_over h asked (task.Serve wishes) (tools.Serve wishes made.field-0 c.args.offered) c.in-Serve.is
+    line_over h asked (record { syntax = asked.syntax; tools = tools.Serve how made.field-0 c.args.offered }) c.args.line.now told.new.room.items
+    told.result (work_over h asked (task.Serve how) (tools.Serve how made.field-0 c.args.offered) c.in-Serve.is
     (refl, made.ensures.over c.args.list.now ws c.requires.kept, refl)) told.ensures.answered
 
 -- of a task that asks for no list

@@ -5,7 +5,7 @@ use Rattle.std.proofs.lemmas.Result.{IfErr-weaker}
 use Rattle.icu_locale_lines.specs.Grammar.{parse}
 use Rattle.icu_locale_lines.specs.Lists.{is_space}
 use Rattle.icu_locale_lines.specs.declared.command.LineCommand.{LineCommand}
-use Rattle.icu_locale_lines.specs.laws.Grammar.{word_parsed}
+use Rattle.icu_locale_lines.specs.laws.Words.{word_parsed}
 use Rattle.icu_locale_c.specs.Calls.{plainly}
 use Rattle.icu_locale_c.proofs.words.read_command.Goals as goal
 
