@@ -7,6 +7,7 @@ const LINE_REFUSED = 1;
 const TABLE = 8;
 const LIST = 10;
 const SYNTAXES = ['locales', 'bcp47', 'posix'];
+const LARGEST = 65535; // threshold, and demotion
 
 // What the package asks: the calls of icu_locale.h, and what a platform does in its own way.
 const behind = { calls: null, textsOfCldr: null, toldOfCldr: null, mark: () => {} };
@@ -52,6 +53,22 @@ function wordsIn(command, options) {
 function wordOf(options) {
   const { syntax } = optionsOf(options, 'syntax');
   return syntax === undefined ? '' : known(syntax);
+}
+
+// A threshold or a demotion.
+function limit(name, number) {
+  if (typeof number !== 'number') throw new TypeError(`${name} is a number`);
+  if (!Number.isInteger(number) || number < 0 || number > LARGEST) {
+    throw new RangeError(`${name} is a whole number from 0 to ${LARGEST}, and ${number} is none`);
+  }
+  return `${name} ${number} `;
+}
+
+/** The words that say what is near enough, each with a space after it, before a command that serves a reader. */
+function matchingWords({ threshold, demotion, favorScript = false, orFirst = false }) {
+  const limits = Object.entries({ threshold, demotion }).filter(([, number]) => number !== undefined);
+  const words = limits.map(([name, number]) => limit(name, number)).join('');
+  return `${words}${favorScript ? 'favor-script ' : ''}${orFirst ? 'or-first ' : ''}`;
 }
 
 function made(told) {
@@ -135,6 +152,6 @@ function answered(held, command, line) {
 }
 
 module.exports = {
-  DONE, LINE_REFUSED, TABLE, LIST, behind, stand, text, string, optionsOf, wordsIn, wordOf, made, listed, joined, headerOf,
-  listRefusal, leavesOut, overList, answered,
+  DONE, LINE_REFUSED, TABLE, LIST, behind, stand, text, string, optionsOf, wordsIn, wordOf, matchingWords, made, listed,
+  joined, headerOf, listRefusal, leavesOut, overList, answered,
 };

@@ -61,6 +61,24 @@ export interface Match {
   available: number;
 }
 
+/** What is served to a reader: its place, counted from 0, and the locale that formats for the reader. */
+export interface Resolved {
+  available: number;
+  locale: string;
+}
+
+/** What is near enough to be served. */
+export interface Matching {
+  /** The distance that is too far, 65535 at most; 50 where none is named. */
+  threshold?: number;
+  /** What each request after the first counts more, 65535 at most; 5 where none is named. By 0 the nearest of all is served. */
+  demotion?: number;
+  /** A difference of languages counts a quarter, so that one of scripts weighs more. */
+  favorScript?: boolean;
+  /** The first of what is available is served where nothing else is, even if the header refuses it. */
+  orFirst?: boolean;
+}
+
 /** Tables, by `Tables.cldr` or `Tables.fromJson`. A worker has its own, or borrows what another one lends. */
 export class Tables {
   private constructor();
@@ -94,7 +112,9 @@ export class Tables {
    * What serves a reader by the headers Accept-Language of a request. It holds these tables too. What it serves is one of
    * the available identifiers as it was handed in, or the default where none is near enough: null if none is named.
    */
-  switcher<Default = null>(available: readonly string[], options?: { default?: Default }): Switcher<Default>;
+  switcher<Default = null>(
+    available: readonly string[], options?: Matching & { default?: Default },
+  ): Switcher<Default>;
   /**
    * What is served of the available identifiers, in their own spelling, for the headers Accept-Language of a request: one,
    * several or none. The default where none is near enough. The tables need match rules, which a supplement has. What was
@@ -279,6 +299,11 @@ export class Switcher<Default = null> {
   serve(headers: Headers): string | Default;
   /** What is nearest to requests, the most wanted first; the default where nothing is near enough. */
   nearest(requests: readonly string[]): string | Default;
+  /**
+   * What is nearest to requests, with the region, the variants and the extensions of the one that wished it: the locale by
+   * which numbers and dates are written for this reader. Null where nothing is near enough, whatever the default.
+   */
+  resolved(requests: readonly string[]): Resolved | null;
   /** Lets the list and the tables go. A second call does nothing. */
   close(): void;
 }

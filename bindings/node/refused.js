@@ -42,6 +42,7 @@ const WANTS = {
   distance: ['maximize', MATCH_RULES],
   serve: ['canonicalize', MATCH_RULES],
   nearest: ['canonicalize', MATCH_RULES],
+  resolved: ['canonicalize', MATCH_RULES],
 };
 
 /** A call that gives no answer. `code` names the refusal; `place` is that of what is no identifier in a list. */

@@ -3,6 +3,7 @@
 const { behind, listed, made, headerOf, listRefusal, overList, answered } = require('./asking.js');
 
 const NOT_MET = 1;
+const NONE = 'none'; // what is told where nothing is served
 const OWN = Symbol('made by the package');
 
 // How Node.js shows an object.
@@ -57,11 +58,13 @@ class Negotiator {
 class Switcher {
   #negotiator;
   #otherwise;
+  #words;
 
-  constructor(own, negotiator, otherwise) {
+  constructor(own, negotiator, otherwise, words = '') {
     if (own !== OWN) throw new TypeError('a switcher is made by tables.switcher');
     this.#negotiator = negotiator;
     this.#otherwise = otherwise;
+    this.#words = words;
   }
 
   /** The identifiers that are available, as they were handed in. */
@@ -71,17 +74,23 @@ class Switcher {
 
   /** What is served for one header Accept-Language, for several or for none; the default where nothing is near enough. */
   serve(headers) {
-    return this.#told('serve', headerOf(headers));
+    return this.#served(this.#told('serve', headerOf(headers)));
   }
 
   /** What is nearest to requests, the most wanted first; the default where nothing is near enough. */
   nearest(requests) {
-    const list = listed(requests);
-    try {
-      return this.#told('locales nearest', list.join(' '));
-    } catch (refused) {
-      throw /^Invalid/.test(refused.code) ? listRefusal('locales', list) : refused;
-    }
+    return this.#served(this.#asked('locales nearest', requests));
+  }
+
+  /**
+   * What is nearest to requests, as `{ available, locale }`: its place, and the locale that formats for the reader, with the
+   * region, the variants and the extensions of the request; null where nothing is near enough.
+   */
+  resolved(requests) {
+    const told = this.#asked('locales resolved', requests);
+    if (told === NONE) return null;
+    const [place, locale] = told.split('\t');
+    return { available: Number(place), locale };
   }
 
   [SHOWN](depth, options, inspect) {
@@ -89,8 +98,20 @@ class Switcher {
   }
 
   #told(command, line) {
-    const told = this.#negotiator.answer(command, line);
-    return told === 'none' ? this.#otherwise : this.available[Number(told.split('\t')[0])];
+    return this.#negotiator.answer(`${this.#words}${command}`, line);
+  }
+
+  #asked(command, requests) {
+    const list = listed(requests);
+    try {
+      return this.#told(command, list.join(' '));
+    } catch (refused) {
+      throw /^Invalid/.test(refused.code) ? listRefusal('locales', list) : refused;
+    }
+  }
+
+  #served(told) {
+    return told === NONE ? this.#otherwise : this.available[Number(told.split('\t')[0])];
   }
 
   /** Lets the list and the tables go. A second call does nothing. */

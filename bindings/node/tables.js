@@ -2,13 +2,17 @@
 // Tables of locale identifiers, over the calls of the package. index.d.ts says what each call takes.
 const { refusal, numbered, ofLine, shown, leftOut } = require('./refused.js');
 const {
-  DONE, TABLE, behind, text, string, optionsOf, wordsIn, wordOf, made, listed, joined, leavesOut, overList, answered,
+  DONE, TABLE, behind, text, string, optionsOf, wordsIn, wordOf, matchingWords, made, listed, joined, leavesOut, overList,
+  answered,
 } = require('./asking.js');
 const { OWN, Negotiator, Switcher } = require('./served.js');
 const { inOrder } = require('./menu.js');
 const { LOCALES, refuseLocale, damaged, spelled } = require('./cldr.js');
 
 const CHAINS = ['tiny', ...['', 'short-', 'long-', 'menu-', 'short-menu-'].flatMap((it) => [`${it}light`, `${it}heavy`])];
+
+// The options that say what is near enough.
+const MATCHING = ['threshold', 'demotion', 'favorScript', 'orFirst'];
 
 // What is before the mark of an answer.
 function beforeMark(answer) {
@@ -158,10 +162,11 @@ class Tables {
 
   /**
    * What serves a reader by the headers Accept-Language of a request. It holds these tables too. What it serves is one of
-   * the available identifiers as it was handed in, or the default where none is near enough.
+   * the available identifiers as it was handed in, or the default where none is near enough, as further options say.
    */
   switcher(available, options) {
-    return new Switcher(OWN, this.negotiator(available), defaultOf(options));
+    const { default: otherwise = null, ...others } = optionsOf(options, 'default', ...MATCHING);
+    return new Switcher(OWN, this.negotiator(available), otherwise, matchingWords(others));
   }
 
   /**

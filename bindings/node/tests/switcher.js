@@ -59,6 +59,46 @@ for (const faulty of ['', ' ', 'en ', 'e', 'en-', 'en\n', 'en\0', '\u00e9n', 'i-
 }
 for (const wrong of ['en', 5, null, undefined, [5]]) assert.throws(() => switcher.nearest(wrong), TypeError);
 
+// what is near enough
+for (const [options, available, requests, wanted] of [
+  [{ threshold: 8 }, ['en', 'de'], ['gsw'], null], [{ threshold: 9 }, ['en', 'de'], ['gsw'], 'de'],
+  [{ threshold: 54 }, ['zh-TW'], ['zh'], null], [{ threshold: 55 }, ['zh-TW'], ['zh'], 'zh-TW'],
+  [{ threshold: 0 }, ['en'], ['en'], null], [{ threshold: 65535 }, ['ar'], ['en'], 'ar'],
+  [{ demotion: undefined }, ['en-GB', 'de'], ['en-AU', 'de'], 'en-GB'], [{ demotion: 0 }, ['en-GB', 'de'], ['en-AU', 'de'], 'de'],
+  [{ demotion: 2 }, ['en-GB', 'de'], ['en-AU', 'de'], 'de'], [{ demotion: 3 }, ['en-GB', 'de'], ['en-AU', 'de'], 'en-GB'],
+  [{ favorScript: true }, ['de'], ['en'], 'de'], [{ favorScript: true }, ['zh-TW'], ['zh'], null],
+  [{ favorScript: true, threshold: 5 }, ['de'], ['gsw'], null], [{ favorScript: true, threshold: 6 }, ['de'], ['gsw'], 'de'],
+  [{ orFirst: true }, ['de', 'en'], ['fr'], 'de'], [{ orFirst: true }, ['de', 'en'], ['en'], 'en'],
+  [{ orFirst: true }, ['de'], [], 'de'], [{ orFirst: true }, [], ['de'], null],
+  [{ orFirst: true, threshold: 0 }, ['de', 'en'], ['en'], 'de'],
+]) {
+  const near = tables.switcher(available, options);
+  assert.strictEqual(near.nearest(requests), wanted);
+  assert.strictEqual(near.serve(requests), wanted);
+}
+assert.strictEqual(tables.switcher(['de', 'en'], { orFirst: true }).serve('*;q=0'), 'de');
+assert.strictEqual(tables.switcher([], { orFirst: true, default: 'en' }).serve('de'), 'en');
+for (const name of ['threshold', 'demotion']) {
+  for (const wrong of ['5', null, 5n, true]) assert.throws(() => tables.switcher(['en'], { [name]: wrong }), TypeError);
+  for (const wrong of [-1, 0.5, NaN, 65536]) assert.throws(() => tables.switcher(['en'], { [name]: wrong }), RangeError);
+}
+
+// the locale that formats for a reader
+const formats = tables.switcher(['de', 'en-GB', 'zh_hant']);
+for (const [requests, ...wanted] of [
+  [['de-CH'], 0, 'de-CH'], [['en-AU-u-ca-buddhist'], 1, 'en-AU-u-ca-buddhist'], [['gsw-CH'], 0, 'de-CH'],
+  [['zh-TW'], 2, 'zh-Hant-TW'], [['fr-x-a', 'DE_1996'], 0, 'de-1996'], [['en'], 1, 'en-GB'], [['gsw-u-nu-latn'], 0, 'de-u-nu-latn'],
+]) {
+  assert.deepStrictEqual(formats.resolved(requests), { available: wanted[0], locale: wanted[1] });
+}
+for (const requests of [['fr'], []]) assert.strictEqual(formats.resolved(requests), null);
+assert.throws(() => formats.resolved(['en', 'en-']), { code: 'List', place: 1 });
+for (const wrong of ['en', 5, null, undefined, [5]]) assert.throws(() => formats.resolved(wrong), TypeError);
+const first = tables.switcher(['zh_hant', 'de'], { default: 'en', threshold: 8, orFirst: true });
+assert.deepStrictEqual(first.resolved(['gsw-CH']), { available: 0, locale: 'zh-Hant' });
+assert.deepStrictEqual(first.resolved(['de-CH']), { available: 1, locale: 'de-CH' });
+assert.strictEqual(tables.switcher([], { default: 'en', orFirst: true }).resolved(['de']), null);
+
 // distances, and whether two are the same
 for (const [desired, supported, wanted] of [['en-AU', 'en-GB', 3], ['en', Buffer.from('EN_gb'), 5], ['zh', 'zh-TW', 54],
   ['en', 'de', 84], ['de-u-co-phonebk', 'de-x-a', 0], ['gsw', 'de', 8]]) {
@@ -96,4 +136,5 @@ switcher.close();
 switcher.close();
 assert.throws(() => switcher.serve('de'), { code: 'Closed' });
 assert.throws(() => switcher.nearest(['de']), { code: 'Closed' });
+assert.throws(() => switcher.resolved(['de']), { code: 'Closed' });
 console.log('switcher: as it should be');

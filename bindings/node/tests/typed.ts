@@ -1,7 +1,7 @@
 // Each call with the types that it takes and gives, for tsc --strict.
 import {
-  Chain, DisplayNames, Headers, Locale, Match, MenuRow, Negotiator, Refused, Switcher, Tables, cldrLocales, cldrVersion,
-  implementation, load,
+  Chain, DisplayNames, Headers, Locale, Match, Matching, MenuRow, Negotiator, Refused, Resolved, Switcher, Tables, cldrLocales,
+  cldrVersion, implementation, load,
 } from 'icu_locale';
 
 const tables: Tables = Tables.fromJson('{}');
@@ -20,6 +20,9 @@ const headers: Headers[] = [null, undefined, 'fr', new Uint8Array(2), ['fr', new
 const sure: Switcher<string> = tables.switcher(['en'], { default: 'en' });
 const always: string[] = [...headers.map((it) => sure.serve(it)), sure.nearest(['fr']), tables.serve(null, ['en'], { default: 'en' })];
 const other: string | number = tables.nearest(['fr'], ['en'], { default: 5 });
+const matching: Matching = { threshold: 40, demotion: 0, favorScript: true, orFirst: true };
+const near: Switcher<string> = tables.switcher(['en'], { ...matching, default: 'en' });
+const resolved: Resolved | null = tables.switcher(['en'], matching).resolved(['fr', near.serve(null)]);
 const distance: number = tables.distance('en-AU', new Uint8Array(2), { syntax: 'bcp47' });
 const same: boolean = tables.areSame('sh', 'sr-Latn');
 const locale: Locale = new Locale('zh-Hant-TW', { syntax: 'bcp47' });
@@ -48,6 +51,10 @@ Tables.cldr('en');
 tables.serve(5, ['zh']);
 // @ts-expect-error: without a default there may be none
 tables.serve('yue', ['zh']).length;
+// @ts-expect-error: a threshold is a number
+tables.switcher(['de'], { threshold: '40' });
+// @ts-expect-error: there may be none
+near.resolved(['de']).locale;
 // @ts-expect-error: a syntax is an option
 tables.maximize('de', 'posix');
 // @ts-expect-error: no syntax is called so
@@ -62,4 +69,4 @@ tables.name('it', 'en', 'lihgt');
 new DisplayNames('de', { type: 'currency' });
 // @ts-expect-error: no refusal is called so
 new Refused('Nothing');
-export { opened, forms, canonical, both, direction, settled, match, extended, served, always, other, distance, same, parts, runs, short, region, menu, by };
+export { opened, forms, canonical, both, direction, settled, match, extended, served, always, other, resolved, distance, same, parts, runs, short, region, menu, by };

@@ -29,14 +29,14 @@ from ._negotiator import Match, Negotiator
 from ._refusals import (Circle, Closed, InvalidLanguage, InvalidList, InvalidSubtag, LineRefused, MemoryRefused, NameMissing,
                         NoCldr, NoCommand, NoFieldFixedPoint, NoFixedPoint, NoJson, NoList, NoSubdivisionFixedPoint,
                         NoTables, NotSettled, NoValueFixedPoint, Refused, TableMissing, TablesShared, Text)
-from ._switcher import Headers, Switcher
+from ._switcher import Headers, Resolved, Switcher
 from ._tables import Tables
 
-__all__ = ["Tables", "Locale", "Negotiator", "Switcher", "Match", "MenuRow", "Canonical", "Named", "Direction", "Syntax",
-           "Chain", "CHAINS", "Headers", "Text", "cldr_version", "cldr_locales", "Refused", "Closed", "MemoryRefused",
-           "NoJson", "NoTables", "NoCommand", "TableMissing", "NoList", "InvalidList", "NotSettled", "TablesShared",
-           "NoCldr", "LineRefused", "InvalidLanguage", "InvalidSubtag", "NoFixedPoint", "NoSubdivisionFixedPoint",
-           "NoValueFixedPoint", "NoFieldFixedPoint", "Circle", "NameMissing"]
+__all__ = ["Tables", "Locale", "Negotiator", "Switcher", "Match", "Resolved", "MenuRow", "Canonical", "Named", "Direction",
+           "Syntax", "Chain", "CHAINS", "Headers", "Text", "cldr_version", "cldr_locales", "Refused", "Closed",
+           "MemoryRefused", "NoJson", "NoTables", "NoCommand", "TableMissing", "NoList", "InvalidList", "NotSettled",
+           "TablesShared", "NoCldr", "LineRefused", "InvalidLanguage", "InvalidSubtag", "NoFixedPoint",
+           "NoSubdivisionFixedPoint", "NoValueFixedPoint", "NoFieldFixedPoint", "Circle", "NameMissing"]
 
 __version__ = version()
 

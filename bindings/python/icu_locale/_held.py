@@ -20,7 +20,8 @@ ROOM = 3
 LARGEST = 1 << 16  # bytes of room that a handle keeps
 # What else a command needs of the tables comes first: another command that needs the rest, and then what it needs itself.
 NEEDS_FIRST = {b"canonicalize": b"maximize", b"direction": b"maximize", b"distance": b"maximize", b"serve": b"canonicalize",
-               b"nearest": b"canonicalize", b"key": b"maximize", b"identifier-key": b"maximize"}
+               b"nearest": b"canonicalize", b"resolved": b"canonicalize", b"key": b"maximize",
+               b"identifier-key": b"maximize"}
 NO_ALIASES = "The tables leave out `aliases`, which are needed."
 NEEDS = {b"canonicalize": NO_ALIASES, b"key": NO_ALIASES, b"identifier-key": NO_ALIASES,
          b"direction": "The tables leave out `direction`, which is needed."}

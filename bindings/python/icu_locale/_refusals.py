@@ -60,8 +60,8 @@ class TableMissing(Refused, LookupError):
 
 
 class NoList(Refused, ValueError):
-    """The command is `negotiate`, `serve` or `nearest`, and there is no list of what is available: `Tables.negotiator` is
-    given one."""
+    """The command is `negotiate`, `serve`, `nearest` or `resolved`, and there is no list of what is available:
+    `Tables.negotiator` is given one."""
 
     number = 9
 

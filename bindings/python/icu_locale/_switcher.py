@@ -1,6 +1,7 @@
 """What is available, and which of it is served to a reader."""
+from operator import index
 from types import TracebackType
-from typing import Generic, Iterable, Optional, Tuple, Type, TypeVar, Union
+from typing import Generic, Iterable, NamedTuple, Optional, Tuple, Type, TypeVar, Union
 
 from ._held import NoCopies
 from ._negotiator import Negotiator, Tag, line_of, listed
@@ -9,6 +10,29 @@ from ._refusals import TEXTS, LineRefused, Text, Written, as_bytes
 # The header Accept-Language of a request, the lines of several, or None where there is none.
 Headers = Union[None, Text, Iterable[Text]]
 Default = TypeVar("Default")
+NONE = "none"  # what is told where nothing is served
+# The largest threshold, and the largest demotion.
+LARGEST = 65_535
+
+
+class Resolved(NamedTuple):
+    """What is served to a reader: its place in what is available, counted from 0, and the locale that formats for the
+    reader."""
+
+    available: int
+    locale: str
+
+
+def option_words(threshold: Optional[int], demotion: Optional[int], favor_script: bool, or_first: bool) -> bytes:
+    """The words of options, each with a space after it, before a command that serves a reader."""
+    words = []
+    for name, option in (("threshold", threshold), ("demotion", demotion)):
+        if option is not None:
+            number = index(option)
+            if not 0 <= number <= LARGEST:
+                raise ValueError(f"{name} is a number from 0 to {LARGEST}, and {number} is none")
+            words.append(f"{name} {number} ")
+    return "".join(words + ["favor-script "] * bool(favor_script) + ["or-first "] * bool(or_first)).encode()
 
 
 def header_of(headers: Headers) -> bytes:
@@ -29,9 +53,9 @@ class Switcher(NoCopies, Generic[Tag, Default]):
     ('sr_latn', 'zh_hant', 'en')
     """
 
-    def __init__(self, negotiator: Negotiator, available: Tuple[Tag, ...], default: Default) -> None:
-        """`negotiator` holds what is available; `Tables.switcher` makes both."""
-        self._negotiator, self._available, self._default = negotiator, available, default
+    def __init__(self, negotiator: Negotiator, available: Tuple[Tag, ...], default: Default, options: bytes = b"") -> None:
+        """`negotiator` holds what is available; `Tables.switcher` makes both, and the words of options."""
+        self._negotiator, self._available, self._default, self._options = negotiator, available, default, options
 
     @property
     def available(self) -> Tuple[Tag, ...]:
@@ -40,7 +64,7 @@ class Switcher(NoCopies, Generic[Tag, Default]):
 
     def serve(self, headers: Headers) -> Union[Tag, Default]:
         """What is served for one header Accept-Language, or for several; the default where nothing is near enough."""
-        return self._told(b"serve", header_of(headers))
+        return self._served(self._told(b"serve", header_of(headers)))
 
     def nearest(self, requests: Iterable[Text]) -> Union[Tag, Default]:
         """What is nearest to requests, the most wanted first; the default where nothing is near enough.
@@ -54,15 +78,37 @@ class Switcher(NoCopies, Generic[Tag, Default]):
             ...
         icu_locale.InvalidList: what stands at place 1 is no identifier: 'en-'
         """
+        return self._served(self._asked(b"locales nearest", requests))
+
+    def resolved(self, requests: Iterable[Text]) -> Optional[Resolved]:
+        """What is nearest to requests, with the region, the variants and the extensions of the one that wished it: the
+        locale by which numbers and dates are written for this reader. None where nothing is near enough.
+
+        >>> from icu_locale.example import SUPPLEMENT, TABLES
+        >>> switcher = Tables.from_json(TABLES, SUPPLEMENT).switcher(["de", "en-GB", "zh_hant"])
+        >>> switcher.resolved(["fr", "en-AU-u-ca-buddhist"]), switcher.resolved(["zh-TW"])
+        (Resolved(available=1, locale='en-AU-u-ca-buddhist'), Resolved(available=2, locale='zh-Hant-TW'))
+        >>> switcher.resolved(["gsw-CH"]), switcher.resolved(["fr"])
+        (Resolved(available=0, locale='de-CH'), None)
+        """
+        told = self._asked(b"locales resolved", requests)
+        if told == NONE:
+            return None
+        place, _, locale = told.partition("\t")
+        return Resolved(int(place), locale)
+
+    def _told(self, command: bytes, line: Text) -> str:
+        return self._negotiator.answer(self._options + command, line)
+
+    def _asked(self, command: bytes, requests: Iterable[Text]) -> str:
         asked = listed(requests)
         try:
-            return self._told(b"locales nearest", line_of(asked))
+            return self._told(command, line_of(asked))
         except LineRefused:
             raise self._negotiator._list_refusal(asked, b"locales") from None
 
-    def _told(self, command: bytes, line: bytes) -> Union[Tag, Default]:
-        told = self._negotiator.answer(command, line)
-        return self._default if told == "none" else self._available[int(told.partition("\t")[0])]
+    def _served(self, told: str) -> Union[Tag, Default]:
+        return self._default if told == NONE else self._available[int(told.partition("\t")[0])]
 
     def close(self) -> None:
         """Lets the list and the tables go. A second call does nothing."""

@@ -6,7 +6,7 @@ from ._answers import Answers, Syntax
 from ._data import Locales, damaged, data_folder, texts_of
 from ._negotiator import Negotiator, Tag, gathered, line_of, listed
 from ._refusals import InvalidList, LineRefused, NoJson, NoTables, Text, as_bytes, refuse
-from ._switcher import Default, Headers, Switcher
+from ._switcher import Default, Headers, Resolved, Switcher, option_words
 
 DEBIAN_CLDR = "/usr/share/unicode/cldr/common"
 
@@ -138,14 +138,23 @@ class Tables(Answers):
         return kept
 
     @overload
-    def switcher(self, available: Iterable[Tag]) -> Switcher[Tag, None]: ...
+    def switcher(self, available: Iterable[Tag], *, threshold: Optional[int] = None, demotion: Optional[int] = None,
+                 favor_script: bool = False, or_first: bool = False) -> Switcher[Tag, None]: ...
 
     @overload
-    def switcher(self, available: Iterable[Tag], *, default: Default) -> Switcher[Tag, Default]: ...
+    def switcher(self, available: Iterable[Tag], *, default: Default, threshold: Optional[int] = None,
+                 demotion: Optional[int] = None, favor_script: bool = False, or_first: bool = False
+                 ) -> Switcher[Tag, Default]: ...
 
-    def switcher(self, available: Iterable[Tag], *, default: Any = None) -> Switcher[Tag, Any]:
+    def switcher(self, available: Iterable[Tag], *, default: Any = None, threshold: Optional[int] = None,
+                 demotion: Optional[int] = None, favor_script: bool = False, or_first: bool = False) -> Switcher[Tag, Any]:
         """What serves a reader by the headers Accept-Language of a request. It holds these tables too. What it serves is one
         of the available identifiers as it was handed in, or the default where none is near enough.
+
+        Near enough is a distance below `threshold`, or below 50. Each request after the first counts `demotion` more, or 5;
+        by 0 the nearest of all is served. With `favor_script` a difference of languages counts a quarter, so that one of
+        scripts weighs more. With `or_first` the first of what is available is served where nothing else is, even if the
+        header refuses it.
 
         >>> from icu_locale.example import SUPPLEMENT, TABLES
         >>> tables = Tables.from_json(TABLES, SUPPLEMENT)
@@ -154,9 +163,13 @@ class Tables(Answers):
         ('zh-Hant', None)
         >>> tables.switcher(["en", "zh-Hant"], default="en").serve("fr")
         'en'
+        >>> tables.switcher(["en", "de"], threshold=8).serve("gsw"), tables.distance("gsw", "de")
+        (None, 8)
+        >>> tables.switcher(["en", "de"], or_first=True).serve("fr, en;q=0")
+        'en'
         """
-        found = listed(available)
-        return Switcher(self._negotiator_over(found), found, default)
+        options, found = option_words(threshold, demotion, favor_script, or_first), listed(available)
+        return Switcher(self._negotiator_over(found), found, default, options)
 
     @overload
     def serve(self, headers: Headers, available: Iterable[Tag]) -> Optional[Tag]: ...

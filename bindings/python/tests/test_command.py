@@ -44,6 +44,15 @@ ANSWERS = [
     ("serve --available en,de,fr 'de-CH, fr;q=0.5' gsw '*'", "de\nde\nen\n"),
     ("serve --available 'en, zh_Hant, he' 'fr-CH, iw;q=0.9, *;q=0.1' ja", "he\nnone\n"),
     ("serve --available en --default en ja", "en\n"),
+    ("serve --available en,de --threshold 8 gsw", "none\n"),
+    ("serve --available en,de --threshold 9 gsw", "de\n"),
+    ("serve --available fr,de-CH,it 'fr-CH, de-CH, it'", "fr\n"),  # both rows are a test of ICU's
+    ("serve --available fr,de-CH,it --demotion 0 'fr-CH, de-CH, it'", "de-CH\n"),
+    ("serve --available en --favor-script fr ja", "en\nnone\n"),
+    ("serve --available en,de --or-first ja '*;q=0'", "en\nen\n"),
+    ("resolved --available de,en-GB,zh-Hant de-CH 'fr en-AU-u-ca-buddhist' gsw-CH zh-TW ja",
+     "de-CH\nen-AU-u-ca-buddhist\nde-CH\nzh-Hant-TW\nnone\n"),
+    ("resolved --available zh_Hant,de --or-first ja --json", '{"input": "ja", "answer": "zh-Hant"}\n'),
     ("menu --in en ja fr zh-Hant", "fr\tfrançais\tFrench\nja\t日本語\tJapanese\nzh-Hant\t繁體中文\tTraditional Chinese\n"),
     ("menu --in en de-XX --json", '{"input": "de-XX", "answer": {"own": "Deutsch (XX)", "name": "German (XX)"}}\n'),
     ("menu --in en de --tsv", "de\tDeutsch\tGerman\tok\n"),
@@ -55,6 +64,7 @@ REFUSED = [
     ("name --in en en-", "\n", "icu-locale: en-: InvalidSubtag\n"),
     ("menu --in en en- de", "de\tDeutsch\tGerman\n", "icu-locale: en-: InvalidSubtag\n"),
     ("maximize --json ''", '{"input": "", "refusal": "InvalidLanguage"}\n', "icu-locale: '': InvalidLanguage\n"),
+    ("resolved --available de 'en en-' de-AT", "\nde-AT\n", "icu-locale: en en-: InvalidSubtag\n"),
     ("maximize --tsv 'e\tn'", "e\\tn\t\tInvalidLanguage\n", "icu-locale: e\\tn: InvalidLanguage\n"),
 ]
 # Wrong words, and what is told of those that there are.
@@ -65,7 +75,9 @@ WRONG = [
     ("maximize --json --tsv", "--tsv"), ("maximize --csv zh", "one word too many"), ("maximize --column 2", "--csv"),
     ("maximize --csv --column 0", "'0'"), ("version x", "--json"), ("version -- x", "--json"), ("maximize -x", "--json"),
     ("menu --in en --csv", "--tsv"), ("name --in xx de", "no names"), ("name --in e de", "no names"),
-    ("serve --available '' en", "place 0"), ("'a\nb'", "a\\nb"),
+    ("serve --available '' en", "place 0"), ("'a\nb'", "a\\nb"), ("resolved en", "--available"),
+    ("serve --available en --threshold -1 en", "0 to 65535"), ("resolved --available en --demotion 65536 en", "0 to 65535"),
+    ("resolved --available en --threshold few en", "0 to 65535"), ("resolved --available en --default en en", "--or-first"),
 ]
 
 
@@ -184,6 +196,7 @@ class Words(unittest.TestCase):
         script = called("--completion bash")[1]
         for typed, wanted in [("icu-locale maxi", "maximize"), ("icu-locale serve --av", "--available"),
                               ("icu-locale name --syntax p", "posix"), ("icu-locale menu --cs", ""),
+                              ("icu-locale resolved --fa", "--favor-script"), ("icu-locale serve --d", "--demotion --default"),
                               ("icu-locale --ver", "--version")]:
             words = typed.split()
             asked = f'{script}\nCOMP_WORDS=({typed}) COMP_CWORD={len(words) - 1}; _icu_locale; echo "${{COMPREPLY[*]}}"'

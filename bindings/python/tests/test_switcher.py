@@ -66,6 +66,7 @@ class Switchers(unittest.TestCase):
         switcher.close()
         self.assertRaises(ValueError, switcher.serve, "de")
         self.assertRaises(ValueError, switcher.nearest, ["de"])
+        self.assertRaises(ValueError, switcher.resolved, ["de"])
         self.assertRaises(ValueError, self.tables.serve, "de", AVAILABLE)
 
     def test_one_header_of_several(self):
@@ -99,6 +100,47 @@ class Switchers(unittest.TestCase):
                     self.assertEqual((told.exception.place, told.exception.identifier), (requests.index(faulty), faulty))
         for wrong in ("en", b"en", 5, [5], None):
             self.assertRaises(TypeError, switcher.nearest, wrong)
+
+    def test_options(self):
+        first = {"or_first": True}
+        for options, available, requests, wanted in [
+                ({"threshold": 8}, ["en", "de"], ["gsw"], None), ({"threshold": 9}, ["en", "de"], ["gsw"], "de"),
+                ({"threshold": 54}, ["zh-TW"], ["zh"], None), ({"threshold": 55}, ["zh-TW"], ["zh"], "zh-TW"),
+                ({"threshold": 0}, ["en"], ["en"], None), ({"threshold": 65535}, ["ar"], ["en"], "ar"),
+                ({}, ["en-GB", "de"], ["en-AU", "de"], "en-GB"), ({"demotion": 0}, ["en-GB", "de"], ["en-AU", "de"], "de"),
+                ({"demotion": 2}, ["en-GB", "de"], ["en-AU", "de"], "de"),
+                ({"demotion": 3}, ["en-GB", "de"], ["en-AU", "de"], "en-GB"),
+                ({"favor_script": True}, ["de"], ["en"], "de"), ({"favor_script": True}, ["zh-TW"], ["zh"], None),
+                ({"favor_script": True, "threshold": 5}, ["de"], ["gsw"], None),
+                ({"favor_script": True, "threshold": 6}, ["de"], ["gsw"], "de"),
+                (first, ["de", "en"], ["fr"], "de"), (first, ["de", "en"], ["en"], "en"), (first, ["de"], [], "de"),
+                (first, [], ["de"], None), ({**first, "threshold": 0}, ["de", "en"], ["en"], "de")]:
+            switcher = self.tables.switcher(available, **options)
+            self.assertEqual(switcher.nearest(requests), wanted, (options, requests))
+            self.assertEqual(switcher.serve(", ".join(requests)), wanted, (options, requests))
+        self.assertEqual(self.tables.switcher(["de", "en"], or_first=True).serve("*;q=0"), "de")
+        self.assertEqual(self.tables.switcher([], or_first=True, default="en").serve("de"), "en")
+        for name in ("threshold", "demotion"):
+            for wrong, refusal in (("5", TypeError), (5.0, TypeError), (-1, ValueError), (65536, ValueError)):
+                self.assertRaises(refusal, self.tables.switcher, ["en"], **{name: wrong})
+
+    def test_resolved(self):
+        switcher = self.tables.switcher(["de", "en-GB", b"zh_hant"])
+        for requests, wanted in [
+                (["de-CH"], (0, "de-CH")), (["en-AU-u-ca-buddhist"], (1, "en-AU-u-ca-buddhist")), (["gsw-CH"], (0, "de-CH")),
+                (["zh-TW"], (2, "zh-Hant-TW")), (["fr-x-a", b"DE_1996"], (0, "de-1996")), (["en"], (1, "en-GB")),
+                (["fr"], None), ([], None), (iter(["gsw-u-nu-latn"]), (0, "de-u-nu-latn"))]:
+            self.assertEqual(switcher.resolved(requests), wanted)
+        found = switcher.resolved(["en-AU"])
+        self.assertEqual((found.available, found.locale), (1, "en-AU"))
+        with self.assertRaises(InvalidList) as told:
+            switcher.resolved(["en", "en-"])
+        self.assertEqual(told.exception.place, 1)
+        for wrong in ("en", 5, [5], None):
+            self.assertRaises(TypeError, switcher.resolved, wrong)
+        near = self.tables.switcher(["zh_hant", "de"], default="en", threshold=8, or_first=True)
+        self.assertEqual((near.resolved(["gsw-CH"]), near.resolved(["de-CH"])), ((0, "zh-Hant"), (1, "de-CH")))
+        self.assertIs(self.tables.switcher([], default="en", or_first=True).resolved(["de"]), None)
 
     def test_refused(self):
         for place, available in enumerate((["e"], ["en", "x-mine"], ["en", "de", "en-"], ["en", "de", "ar", "sr-u-ka-noignore"])):
@@ -140,7 +182,8 @@ class Switchers(unittest.TestCase):
         for supplement in (None, "{}", '{"parents": {}}'):
             tables = Tables.from_json(TABLES, supplement)
             for call in (lambda: tables.serve("en", ["en"]), lambda: tables.serve(None, []), lambda: tables.nearest([], []),
-                         lambda: tables.distance("en", "de"), lambda: tables.switcher(["en"]).serve("en")):
+                         lambda: tables.distance("en", "de"), lambda: tables.switcher(["en"]).serve("en"),
+                         lambda: tables.switcher(["en"], threshold=9).resolved(["en"])):
                 with self.assertRaisesRegex(TableMissing, NO_RULES):
                     call()
         for tables in (Tables.from_json(without_aliases, SUPPLEMENT), Tables.from_json("{}", SUPPLEMENT)):

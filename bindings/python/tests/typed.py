@@ -1,8 +1,8 @@
 """Each call with the types that it takes and gives: mypy --strict reads it, and a run of it tries it."""
 from typing import List, Optional, Union
 
-from icu_locale import (Canonical, Chain, Direction, LineRefused, Match, MenuRow, Named, Negotiator, Refused, Switcher, Tables,
-                        Text, __version__, cldr_locales, cldr_version)
+from icu_locale import (Canonical, Chain, Direction, LineRefused, Match, MenuRow, Named, Negotiator, Refused, Resolved,
+                        Switcher, Tables, Text, __version__, cldr_locales, cldr_version)
 from icu_locale.example import SUPPLEMENT, TABLES
 
 
@@ -35,8 +35,10 @@ def served(tables: Tables, header: str) -> List[str]:
     other: Union[bytes, int] = tables.nearest([header[:5]], [b"zh-Hant"], default=5)
     distance: int = tables.distance("en-AU", b"en-GB", syntax="bcp47")
     same: bool = tables.are_same("sh", "sr-Latn")
+    near: Switcher[str, str] = tables.switcher(["de"], default="en", threshold=8, demotion=0, favor_script=True, or_first=True)
+    resolved: Optional[Resolved] = near.resolved(["fr", b"gsw-CH"])
     return [str(match and match.available), str(found), str(octets), always, str(at_once), by_default, str(other),
-            str(distance), str(same)]
+            str(distance), str(same), near.serve("gsw").lower(), str(resolved and resolved.locale)]
 
 
 def spot(refusal: LineRefused) -> str:
@@ -62,6 +64,7 @@ def wrong(tables: Tables) -> None:
     tables.serve("en", ["en"]).lower()  # type: ignore[union-attr]
     tables.name("en", "en", "lihgt")  # type: ignore[arg-type]
     tables.switcher([b"en"], default=b"en").serve("en").isidentifier()  # type: ignore[attr-defined]
+    tables.switcher(["en"], threshold="8")  # type: ignore[call-overload]
 
 
 def main() -> None:

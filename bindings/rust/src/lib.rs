@@ -50,6 +50,7 @@ mod locale;
 mod menu;
 mod names;
 mod negotiator;
+mod options;
 mod place;
 mod pool;
 mod refusal;
@@ -63,9 +64,10 @@ pub use locale::Locale;
 pub use menu::MenuRow;
 pub use names::{Chain, Name};
 pub use negotiator::{Match, Negotiator};
+pub use options::MatchOptions;
 pub use place::fault;
 pub use refusal::Refusal;
-pub use switcher::Switcher;
+pub use switcher::{Resolved, Switcher};
 pub use tables::Tables;
 
 /// Small tables, as the examples ask them.
@@ -104,9 +106,9 @@ pub enum Syntax {
     /// A locale identifier of UTS #35, with its extensions.
     #[default]
     Locales,
-    /// The same, or a tag of RFC 5646: an old tag, an extended language, private use alone.
+    /// The same, or a tag of RFC 5646: an old tag, an extended language, private use alone; or `root` of CLDR, which is `und`.
     Bcp47,
-    /// A locale identifier, or a name of a POSIX locale.
+    /// A locale identifier, or a name of a POSIX locale; or `root`.
     Posix,
 }
 

@@ -15,8 +15,8 @@ pub enum Refusal {
     Command,
     /// The tables leave out one that is needed. Match rules are in their supplement.
     Table,
-    /// The command is `negotiate`, `serve` or `nearest`, and there is no list of what is available: a `Negotiator` and a
-    /// `Switcher` have one.
+    /// The command is `negotiate`, `serve`, `nearest` or `resolved`, and there is no list of what is available: a `Negotiator`
+    /// and a `Switcher` have one.
     Negotiate,
     /// The list has something that is no identifier.
     List,

@@ -4,7 +4,7 @@ use crate::data::{self, texts_of};
 use crate::pool::Pool;
 use crate::switcher;
 use crate::headers::Headers;
-use crate::{Negotiator, Refusal, Switcher, Syntax};
+use crate::{MatchOptions, Negotiator, Refusal, Switcher, Syntax};
 
 const ACCEPTED: i32 = 0;
 
@@ -223,7 +223,29 @@ impl Tables {
         I: IntoIterator,
         I::Item: Into<String>,
     {
-        Switcher::over(self.pool.share()?, available.into_iter().map(Into::into).collect())
+        self.switcher_with(available, MatchOptions::default())
+    }
+
+    /// The same with what is near enough to be served.
+    ///
+    /// # Errors
+    ///
+    /// Those of `negotiator`.
+    ///
+    /// ```
+    /// use icu_locale_calls::{MatchOptions, Tables, EXAMPLE, EXAMPLE_SUPPLEMENT};
+    /// let tables = Tables::from_json_with(EXAMPLE.as_bytes(), EXAMPLE_SUPPLEMENT.as_bytes())?;
+    /// let (requests, nearest) = (["en-AU", "de"], MatchOptions { demotion: 0, ..MatchOptions::default() });
+    /// assert_eq!(tables.switcher(["en-GB", "de"])?.nearest(requests)?, Some("en-GB"));
+    /// assert_eq!(tables.switcher_with(["en-GB", "de"], nearest)?.nearest(requests)?, Some("de"));
+    /// # Ok::<(), icu_locale_calls::Refusal>(())
+    /// ```
+    pub fn switcher_with<I>(&self, available: I, options: MatchOptions) -> Result<Switcher, Refusal>
+    where
+        I: IntoIterator,
+        I::Item: Into<String>,
+    {
+        Switcher::over(self.pool.share()?, available.into_iter().map(Into::into).collect(), options)
     }
 
     /// What is served of the available identifiers, as it was handed in, for the header Accept-Language: for one, for several
@@ -249,7 +271,7 @@ impl Tables {
         I::Item: AsRef<str>,
     {
         let mut available: Vec<I::Item> = available.into_iter().collect();
-        let place = switcher::served(&self.listing(&available)?, headers)?;
+        let place = switcher::served(&self.listing(&available)?, "", headers)?;
         Ok(place.map(|place| available.swap_remove(place)))
     }
 
@@ -274,7 +296,7 @@ impl Tables {
         I::Item: AsRef<str>,
     {
         let mut available: Vec<I::Item> = available.into_iter().collect();
-        let place = switcher::nearest(&self.listing(&available)?, requests)?;
+        let place = switcher::nearest(&self.listing(&available)?, "", requests)?;
         Ok(place.map(|place| available.swap_remove(place)))
     }
 

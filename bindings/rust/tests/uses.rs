@@ -1,5 +1,7 @@
 //! Wrong uses, long answers, and threads, each with its own and all with one.
-use icu_locale_calls::{Direction, Match, Negotiator, Refusal, Switcher, Syntax, Tables, EXAMPLE, EXAMPLE_SUPPLEMENT};
+use icu_locale_calls::{
+    Direction, Match, MatchOptions, Negotiator, Refusal, Resolved, Switcher, Syntax, Tables, EXAMPLE, EXAMPLE_SUPPLEMENT,
+};
 
 const UNSETTLED: &str = r#"{"likely_language":{"und":["en","Latn","US"],"language":{"xx":["Zzzz","DE"]}},
  "likely_script_region":{}}"#;
@@ -15,10 +17,12 @@ fn refusals() {
     for preferences in ["en-fonipa", "", "e", "en en", "en-u-ca-roc"] {
         assert_eq!(tables.name("en", preferences), Err(Refusal::Preferences), "{preferences}");
     }
-    for command in ["negotiate", "serve", "nearest", "locales nearest"] {
+    for command in ["negotiate", "serve", "nearest", "locales nearest", "resolved", "threshold 9 or-first serve"] {
         assert_eq!(tables.answer(command, b"en"), Err(Refusal::Negotiate));
     }
-    assert_eq!(tables.answer("", b"\xff"), Err(Refusal::Command));
+    for command in ["", "threshold 65536 serve", "or-first demotion 0 serve", "favor-script negotiate", "threshold serve"] {
+        assert_eq!(tables.answer(command, b"\xff"), Err(Refusal::Command), "{command}");
+    }
 }
 
 #[test]
@@ -160,6 +164,66 @@ fn nearest() {
     }
 }
 
+// What is near enough, what is available, the requests, and what is served.
+type NearEnough<'a> = (MatchOptions, &'a [&'a str], &'a [&'a str], Option<&'a str>);
+
+#[test]
+fn near_enough() {
+    let tables = supplemented();
+    let usual = MatchOptions::default();
+    assert_eq!(usual, MatchOptions { threshold: 50, demotion: 5, favor_script: false, or_first: false });
+    let below = |threshold| MatchOptions { threshold, ..usual };
+    let demoted = |demotion| MatchOptions { demotion, ..usual };
+    let favoring = |threshold| MatchOptions { threshold, favor_script: true, ..usual };
+    let first = |threshold| MatchOptions { threshold, or_first: true, ..usual };
+    let none: [&str; 0] = [];
+    let rows: [NearEnough; 19] = [
+        (below(8), &["en", "de"], &["gsw"], None),
+        (below(9), &["en", "de"], &["gsw"], Some("de")),
+        (below(54), &["zh-TW"], &["zh"], None),
+        (below(55), &["zh-TW"], &["zh"], Some("zh-TW")),
+        (below(0), &["en"], &["en"], None),
+        (below(65535), &["ar"], &["en"], Some("ar")),
+        (usual, &["en-GB", "de"], &["en-AU", "de"], Some("en-GB")),
+        (demoted(0), &["en-GB", "de"], &["en-AU", "de"], Some("de")),
+        (demoted(2), &["en-GB", "de"], &["en-AU", "de"], Some("de")),
+        (demoted(3), &["en-GB", "de"], &["en-AU", "de"], Some("en-GB")),
+        (favoring(50), &["de"], &["en"], Some("de")),
+        (favoring(50), &["zh-TW"], &["zh"], None),
+        (favoring(5), &["de"], &["gsw"], None),
+        (favoring(6), &["de"], &["gsw"], Some("de")),
+        (first(50), &["de", "en"], &["fr"], Some("de")),
+        (first(50), &["de", "en"], &["en"], Some("en")),
+        (first(50), &["de"], &none, Some("de")),
+        (first(50), &none, &["de"], None),
+        (first(0), &["de", "en"], &["en"], Some("de")),
+    ];
+    for (options, available, requests, wanted) in rows {
+        let switcher = tables.switcher_with(available.iter().copied(), options).unwrap();
+        assert_eq!(switcher.nearest(requests), Ok(wanted), "{options:?} {requests:?}");
+        assert_eq!(switcher.serve(requests), Ok(wanted), "{options:?} {requests:?}");
+    }
+    assert_eq!(tables.switcher_with(["de", "en"], first(50)).unwrap().serve("*;q=0"), Ok(Some("de")));
+}
+
+#[test]
+fn resolved() {
+    let tables = supplemented();
+    let switcher = tables.switcher(["de", "en-GB", "zh_hant"]).unwrap();
+    let found = |available, locale: &str| Ok(Some(Resolved { available, locale: locale.to_owned() }));
+    assert_eq!(switcher.resolved(["de-CH"]), found(0, "de-CH"));
+    assert_eq!(switcher.resolved(["en-AU-u-ca-buddhist"]), found(1, "en-AU-u-ca-buddhist"));
+    assert_eq!(switcher.resolved(["gsw-CH"]), found(0, "de-CH"));
+    assert_eq!(switcher.resolved(["zh-TW"]), found(2, "zh-Hant-TW"));
+    assert_eq!(switcher.resolved(["fr-x-a", "DE_1996"]), found(0, "de-1996"));
+    assert_eq!(switcher.resolved(["fr"]), Ok(None));
+    assert_eq!(switcher.resolved(["en", "en-"]), Err(Refusal::List));
+    let first = MatchOptions { threshold: 8, or_first: true, ..MatchOptions::default() };
+    let switcher = tables.switcher_with(["zh_hant", "de"], first).unwrap();
+    assert_eq!(switcher.resolved(["gsw-CH"]), found(0, "zh-Hant"));
+    assert_eq!(switcher.resolved(["de-CH"]), found(1, "de-CH"));
+}
+
 #[test]
 fn distances_and_what_is_the_same() {
     let tables = supplemented();
@@ -184,6 +248,7 @@ fn missing_match_rules() {
     let none: [&str; 0] = [];
     assert_eq!(tables.serve(none, none), Err(Refusal::Table));
     assert_eq!(tables.switcher(["en"]).unwrap().nearest(["en"]), Err(Refusal::Table));
+    assert_eq!(tables.switcher(["en"]).unwrap().resolved(["en"]), Err(Refusal::Table));
     assert_eq!(tables.distance("en", "de"), Err(Refusal::Table));
     assert!(Refusal::Table.to_string().contains("match rules"));
 }

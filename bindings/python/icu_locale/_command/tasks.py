@@ -1,13 +1,14 @@
 """What each command of `icu-locale` asks the library."""
 from contextlib import contextmanager, suppress
-from typing import Any, Callable, Dict, Iterable, Iterator, List, Mapping, Tuple, Union
+from typing import Any, Callable, Dict, Iterable, Iterator, List, Mapping, Optional, Tuple, Union
 
 from .._data import cldr_locales, in_chain
 from .._locale import Locale
 from .._menu import MenuRow
 from .._refusals import InvalidList, LineRefused, NoCldr
+from .._switcher import NONE, Switcher
 from .._tables import Tables
-from .words import Stopped
+from .words import WITH_READERS, Stopped
 
 # An answer: a text, several, or some by their names; None where there is no answer, and none is refused.
 Answer = Union[None, str, List[str], Dict[str, Any]]
@@ -66,9 +67,13 @@ def task_of(chosen: Any) -> Iterator[Task]:
         tables, locale = with_names(chosen.language)
         with tables:
             yield lambda text: tables.name(text, locale, syntax=chosen.syntax)
-    elif chosen.command == "serve":
+    elif chosen.command in WITH_READERS:
         with opened() as tables:
-            yield _served(tables, chosen)
+            switcher = _switcher(tables, chosen)
+            if chosen.command == "serve":
+                yield switcher.serve
+            else:
+                yield lambda text: _resolved(switcher, text)
     else:
         with opened() as tables:
             yield _asked(tables, chosen)
@@ -86,12 +91,19 @@ def _asked(tables: Tables, chosen: Any) -> Task:
     return tasks[chosen.command]
 
 
-def _served(tables: Tables, chosen: Any) -> Task:
+def _switcher(tables: Tables, chosen: Any) -> Switcher[str, Optional[str]]:
     available = [each.strip() for each in chosen.available.split(",")]
     try:
-        return tables.switcher(available, default=chosen.default).serve
+        return tables.switcher(available, default=getattr(chosen, "default", None), threshold=chosen.threshold,
+                               demotion=chosen.demotion, favor_script=chosen.favor_script, or_first=chosen.or_first)
     except InvalidList as refusal:
         raise Stopped(f"--available: {refusal}") from None
+
+
+def _resolved(switcher: Switcher[str, Optional[str]], text: str) -> Answer:
+    """The locale for a reader whose wishes are in a text, a space between two: one that is none refuses the text."""
+    told = switcher._told(b"locales resolved", text)
+    return None if told == NONE else told.partition("\t")[2]
 
 
 def menu(texts: Iterable[str], language: str) -> Tuple[List[MenuRow], Dict[int, LineRefused]]:

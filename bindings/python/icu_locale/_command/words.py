@@ -4,6 +4,7 @@ from typing import Any, Dict, List, NamedTuple, NoReturn, Sequence
 
 from .._answers import SYNTAXES
 from .._calls import version
+from .._switcher import LARGEST
 
 NAME = "icu-locale"
 
@@ -31,6 +32,8 @@ COMMANDS: Dict[str, Command] = {
     "chain": Command("The locales that a loader asks, one after another.", "en-AU", "en-AU en-001 en und"),
     "serve": Command("What a reader is served by a header Accept-Language, or none where nothing is near enough.",
                      "--available en,de,fr 'de-CH, fr;q=0.5'", "de", "HEADER"),
+    "resolved": Command("The locale that formats for a reader: what is served, with the reader's region and extensions.",
+                        "--available en,de,fr 'de-CH-u-nu-latn fr'", "de-CH-u-nu-latn", "REQUESTS"),
     "menu": Command("The rows of a menu of languages: identifier, own name, and name in a language, in the order of the last.",
                     "--in de en de fr", "de\tDeutsch\tDeutsch\nen\tEnglish\tEnglisch\nfr\tfrançais\tFranzösisch"),
     "version": Command("The version of the package, and where its data of CLDR is.", "", "", ""),
@@ -38,6 +41,8 @@ COMMANDS: Dict[str, Command] = {
 # The commands whose calls take a syntax, and those that name something in a language.
 WITH_SYNTAX = ("canonicalize", "maximize", "minimize", "parts", "name", "direction", "chain")
 WITH_NAMES = ("name", "menu")
+# Those that serve a reader.
+WITH_READERS = ("serve", "resolved")
 SHELLS = ("bash",)
 
 HELP = f"""\
@@ -95,7 +100,16 @@ def above_zero(text: str) -> int:
     return number
 
 
-above_zero.__name__ = "number above 0"  # what a refusal by argparse calls it
+def limit(text: str) -> int:
+    """A threshold or a demotion."""
+    number = int(text)
+    if not 0 <= number <= LARGEST:
+        raise ValueError(text)
+    return number
+
+
+# What a refusal by argparse calls them.
+above_zero.__name__, limit.__name__ = "number above 0", f"number from 0 to {LARGEST}"
 
 
 def parser_of(name: str) -> Words:
@@ -114,11 +128,23 @@ def parser_of(name: str) -> Words:
                             help="how a text is read: as a locale identifier, a tag of BCP 47, or a POSIX name too")
     if name == "minimize":
         parser.add_argument("--favor-script", action="store_true", help="keep the script rather than the region")
+    if name in WITH_READERS:
+        add_matching(parser)
     if name == "serve":
-        parser.add_argument("--available", metavar="LIST", required=True, help="what may be served, as en,de,fr")
         parser.add_argument("--default", metavar="IDENTIFIER", help="what is served where nothing is near enough")
     add_forms(parser, has_columns=name != "menu")
     return parser
+
+
+def add_matching(parser: Words) -> None:
+    """The options that say what may be served, and what is near enough."""
+    parser.add_argument("--available", metavar="LIST", required=True, help="what may be served, as en,de,fr")
+    parser.add_argument("--threshold", metavar="N", type=limit, help="the distance that is too far; 50 without")
+    parser.add_argument("--demotion", metavar="N", type=limit,
+                        help="what each wish after the first counts more; 5 without, and by 0 the nearest of all is served")
+    parser.add_argument("--favor-script", action="store_true",
+                        help="let a difference of languages count a quarter, and so scripts more")
+    parser.add_argument("--or-first", action="store_true", help="serve the first of LIST where nothing is near enough")
 
 
 def add_forms(parser: Words, has_columns: bool) -> None:
