@@ -81,7 +81,7 @@ pub option_map-seen : {T A : Type 0} (f g : T → A) → ((x : T) → f x ≡ g 
 option_map-seen f g same None = refl
 option_map-seen f g same (Some x) = ap (λ y. Some y) (same x)
 
-option_map-same : {T : Type 0} (f : T → T) → ((x : T) → f x ≡ x) → (o : Option T) → option_map f o ≡ o
+pub option_map-same : {T : Type 0} (f : T → T) → ((x : T) → f x ≡ x) → (o : Option T) → option_map f o ≡ o
 option_map-same f same o = option_map-seen f (λ x. x) same o ∙ option_map_id o
 
 -- tables are seen as the rows that they hold

@@ -12,3 +12,4 @@ mod NameGroups
 mod Once
 mod Puts
 mod Supplements
+mod ValidityRows

@@ -16,7 +16,7 @@ use Rattle.icu_tables.specs.Shape.{Shape, applied}
 use Rattle.icu_tables.specs.Supplement.{alias_row}
 
 module _ {K V : Type 0} (compare : K → K → Ordering) where
-  put_all-append : (old first second : List (K × V)) → put_all compare old (first ++ second) ≡ put_all compare (put_all compare old first) second
+  pub put_all-append : (old first second : List (K × V)) → put_all compare old (first ++ second) ≡ put_all compare (put_all compare old first) second
   put_all-append old [] second = refl
   put_all-append old (row ∷ first) second = put_all-append (insert_entry compare old row.0 row.1) first second
 

@@ -1,6 +1,9 @@
 -- What a supplement holds of what was read.
 use Rattle.std.proofs.Common.{◌≡◌, ℕ, List, Some, Result, Ok, Err, IfOk, ap, ◌∙◌}
 use Rattle.serde_json.specs.Data.{Data}
+use Rattle.std.proofs.lemmas.Iterator.Adapters.{option_map_id}
+use Rattle.icu_locale_validity.specs.declared.table.KeyTypes.{KeyTypes}
+use Rattle.icu_locale_validity.specs.declared.table.Validity.{Validity}
 use Rattle.icu_provider.specs.declared.extension_names.ExtensionNames.{ExtensionNames}
 use Rattle.icu_provider.specs.declared.matching.LanguageMatching.{LanguageMatching}
 use Rattle.icu_provider.specs.declared.matching.MatchRules.{MatchRules}
@@ -9,9 +12,9 @@ use Rattle.icu_tables.specs.Rows.{seen_rows}
 use Rattle.icu_tables.specs.Supplement.{rule_rows, matching_rows, rows_of, rows_in, supplement}
 use Rattle.icu_tables.specs.declared.error.TableError.{TableError}
 use Rattle.icu_tables.specs.declared.supplement.Supplement.{Supplement}
-use Rattle.icu_tables.specs.inner.Further.{rules_seen, matching_seen, names_seen, supplement_seen}
+use Rattle.icu_tables.specs.inner.Further.{rules_seen, matching_seen, names_seen, key_types_seen, validity_seen, supplement_seen}
 use Rattle.icu_tables.specs.inner.Reads.{Reads}
-use Rattle.icu_tables.proofs.Files.{map-same, lists_seen-same, option_map-seen}
+use Rattle.icu_tables.proofs.Files.{map-same, lists_seen-same, option_map-same, option_map-seen}
 use Rattle.icu_tables.proofs.Members.{seen_rows-same}
 
 rules_seen-is : (rules : MatchRules) → rules_seen rules ≡ rule_rows rules
@@ -46,6 +49,30 @@ names_seen-same names = λ i. record {
 all_names_seen-same : {K : Type 0} (rows : List (K × ExtensionNames)) → seen_rows names_seen rows ≡ rows
 all_names_seen-same rows = (λ i. seen_rows (λ names. names_seen-same names i) rows) ∙ seen_rows-same rows
 
+key_types_seen-same : {V : Type 0} (key : KeyTypes V) → key_types_seen key ≡ key
+key_types_seen-same key = λ i. record {
+  status = key.status;
+  types = seen_rows-same key.types i;
+  kind = option_map_id key.kind i;
+  many = key.many;
+}
+
+-- what keys take is seen as it is
+all_key_types_seen-same : {K V : Type 0} (rows : List (K × KeyTypes V)) → seen_rows key_types_seen rows ≡ rows
+all_key_types_seen-same rows = (λ i. seen_rows (λ key. key_types_seen-same key i) rows) ∙ seen_rows-same rows
+
+validity_seen-same : (table : Validity) → validity_seen table ≡ table
+validity_seen-same table = λ i. record {
+  languages = seen_rows-same table.languages i;
+  scripts = seen_rows-same table.scripts i;
+  regions = seen_rows-same table.regions i;
+  variants = seen_rows-same table.variants i;
+  subdivisions = seen_rows-same table.subdivisions i;
+  currencies = seen_rows-same table.currencies i;
+  keywords = all_key_types_seen-same table.keywords i;
+  fields = all_key_types_seen-same table.fields i;
+}
+
 -- a supplement is seen as the rows that it holds
 supplement_seen-is : (s : Supplement) → supplement_seen s ≡ rows_of s
 supplement_seen-is s = λ i. record {
@@ -54,6 +81,8 @@ supplement_seen-is s = λ i. record {
   keywords = nested_seen-same s.keywords i;
   fields = nested_seen-same s.fields i;
   extension_names = all_names_seen-same s.extension_names i;
+  cldr = option_map_id s.cldr i;
+  validity = option_map-same validity_seen validity_seen-same s.validity i;
 }
 
 -- what was read of the value of a text are the rows of the text

@@ -10,4 +10,6 @@ pub mod Shape
 pub mod Subtags
 pub mod Supplement
 pub mod Tables
+pub mod Validity
+pub mod Values
 pub mod inner

@@ -1,12 +1,9 @@
 -- What a supplement may hold, and what a text says as one: explicit parents, rules of language matching, aliases of
--- values, and what parts of extensions are called.
+-- values, what parts of extensions are called, the name of the data, and a table of validity.
 use Rattle.std.specs.Prelude.{codes, ℕ, List, [], map, nat_le, if◌then◌else◌, Option, Some, None, option_map, option_and_then, Result}
 use Rattle.std.specs.Cmp.Lexicographic.{slice_cmp}
-use Rattle.icu_locale_core.specs.Identifier.{pieces}
-use Rattle.icu_locale_core.specs.Subtag.{is_key, lowercase}
 use Rattle.icu_locale_core.specs.TextSet.{text_cmp}
-use Rattle.icu_locale_core.specs.Value.{is_value, read_value}
-use Rattle.icu_locale_extensions.specs.Extensions.{is_tkey, are_pieces}
+use Rattle.icu_locale_validity.specs.declared.table.Validity.{Validity}
 use Rattle.icu_provider.specs.Requests.{locale_cmp}
 use Rattle.icu_provider.specs.declared.data_locale.DataLocale.{DataLocale}
 use Rattle.icu_provider.specs.declared.extension_names.ExtensionNames.{ExtensionNames}
@@ -24,7 +21,9 @@ use Rattle.icu_tables.specs.Names.{locale_key}
 use Rattle.icu_tables.specs.Puts.{map_by, put_all}
 use Rattle.icu_tables.specs.Rows.{seen_rows}
 use Rattle.icu_tables.specs.Shape.{Shape, text, text_as, triple_of, array_of, map_of}
-use Rattle.icu_tables.specs.Subtags.{in_class, key_of, language, script, region, language_key, region_key}
+use Rattle.icu_tables.specs.Subtags.{language, script, region, language_key, region_key}
+use Rattle.icu_tables.specs.Validity.{validity}
+use Rattle.icu_tables.specs.Values.{Pieces, keyword_key, field_key, keyword_value, field_value}
 use Rattle.icu_tables.specs.declared.error.TableError.{TableError}
 use Rattle.icu_tables.specs.declared.supplement.Supplement.{Supplement}
 use Rattle.serde_json.specs.Find.{as_number, as_u64}
@@ -37,6 +36,8 @@ no_supplement = record {
   keywords = [];
   fields = [];
   extension_names = [];
+  cldr = None;
+  validity = None;
 }
 
 -- the match rules for a desired language, by level
@@ -52,10 +53,6 @@ pub record MatchingRows : Type 0 where
   pub paradigms : List DataLocale
   pub rules : List (List ℕ × RuleRows)
 
--- the pieces of a value
-abbrev pub Pieces : Type 0
-Pieces = List (List ℕ)
-
 -- aliases by key: a value, and the one preferred to it
 abbrev pub AliasesByKey : Type 0
 AliasesByKey = List (List ℕ × List (Pieces × Pieces))
@@ -67,6 +64,8 @@ pub record SupplementRows : Type 0 where
   pub keywords : AliasesByKey
   pub fields : AliasesByKey
   pub extension_names : List (DataLocale × ExtensionNames)
+  pub cldr : Option (List ℕ)
+  pub validity : Option Validity
 
 -- the rules that a table has for a language
 abbrev pub rule_rows : MatchRules → RuleRows
@@ -93,6 +92,8 @@ rows_of supplement = record {
   keywords = supplement.keywords;
   fields = supplement.fields;
   extension_names = supplement.extension_names;
+  cldr = supplement.cldr;
+  validity = supplement.validity;
 }
 
 -- a locale in written form as a value
@@ -208,22 +209,6 @@ matching =
 abbrev pub locale_parent : List ℕ → Shape (List (DataLocale × DataLocale))
 locale_parent name = named_row (locale_key name) locale
 
--- a key of a keyword as a key
-abbrev pub keyword_key : List ℕ → Option (List ℕ)
-keyword_key = key_of (λ x. x) (in_class is_key lowercase)
-
--- a key of a field as a key
-abbrev pub field_key : List ℕ → Option (List ℕ)
-field_key = key_of (λ x. x) (in_class is_tkey lowercase)
-
--- a text as the value of a keyword, in any case
-abbrev pub keyword_value : List ℕ → Option Pieces
-keyword_value t = if is_value t then Some (read_value t) else None
-
--- a text as the value of a field, in any case
-abbrev pub field_value : List ℕ → Option Pieces
-field_value t = if are_pieces 3 (pieces t) then Some (map lowercase (pieces t)) else None
-
 -- the value that is preferred to the one that a member is named by; a name that is no value has none
 abbrev pub alias_row : {V : Type 0} → (List ℕ → Option V) → List ℕ → Shape (List (V × V))
 alias_row reads name = named_row (reads name) (text_as reads)
@@ -272,18 +257,22 @@ locale_extension_names name = named_row (locale_key name) extension_names
 abbrev pub supplement : Shape SupplementRows
 supplement =
     object_of (
-    fields (λ parents matching keywords fields extension_names. record {
+    fields (λ parents matching keywords fields extension_names cldr validity. record {
       parents = parents;
       matching = matching;
       keywords = keywords;
       fields = fields;
       extension_names = extension_names;
+      cldr = cldr;
+      validity = validity;
     })
     and rows (codes "parents") (map_by locale_cmp locale_parent)
     and optional (codes "matching") matching
     and rows (codes "keywords") (map_by text_cmp (aliases_of_key keyword_key keyword_value))
     and rows (codes "fields") (map_by text_cmp (aliases_of_key field_key field_value))
-    and rows (codes "extension_names") (map_by locale_cmp locale_extension_names))
+    and rows (codes "extension_names") (map_by locale_cmp locale_extension_names)
+    and optional (codes "cldr") text
+    and optional (codes "validity") validity)
 
 -- the rows in a text, or why there are none
 abbrev pub rows_in : List ℕ → Result SupplementRows TableError

@@ -23,6 +23,7 @@ mod objects;
 mod preferred;
 mod subtags;
 mod supplements;
+mod validity;
 pub(crate) mod values;
 
 use crate::from_json::exemplars::MarkedExemplars;

@@ -7,11 +7,12 @@ use crate::from_json::parse;
 use crate::from_json::values::FromValue;
 use icu_locale_core::{Key, Value};
 use icu_locale_extensions::{FieldKey, Subtags};
-use icu_provider::{DataLocale, ExtensionNames, LanguageMatching, SortedMap};
+use icu_locale_validity::Validity;
+use icu_provider::{DataLocale, ExtensionNames, LanguageMatching, SortedMap, TableText};
 use std::alloc::Global;
 
-/// What may be beside tables: the explicit parents of locales, rules of language matching, aliases of values, and what
-/// parts of extensions are called. It borrows nothing.
+/// What may be beside tables: the explicit parents of locales, rules of language matching, aliases of values, what parts
+/// of extensions are called, the name of the data, and a table of validity. It borrows nothing.
 #[derive(Debug)]
 pub struct Supplement {
     /// The explicit parent of a locale (UTS #35 Part 1, Parent Locales).
@@ -25,6 +26,10 @@ pub struct Supplement {
     /// What parts of extensions are called, by the locale in whose language (UTS #35 Part 2, "Locale Display Name
     /// Algorithm").
     pub extension_names: SortedMap<DataLocale, ExtensionNames>,
+    /// What the data calls itself, if it has a name.
+    pub cldr: Option<TableText>,
+    /// What the standard says of codes, if a table is held (UTS #35 Part 1, section 3.11).
+    pub validity: Option<Validity>,
 }
 
 impl Drop for Supplement {
@@ -35,6 +40,8 @@ impl Drop for Supplement {
             keywords: _,
             fields: _,
             extension_names: _,
+            cldr: _,
+            validity: _,
         } = self;
     }
 }
@@ -50,13 +57,16 @@ impl Supplement {
             keywords: SortedMap::new(alloc),
             fields: SortedMap::new(alloc),
             extension_names: SortedMap::new(alloc),
+            cldr: None,
+            validity: None,
         }
     }
 
-    /// The supplement of a JSON text: an object with the members `parents`, `matching`, `keywords`, `fields` and
-    /// `extension_names`, any of which may be left out. `specs/Supplement.antt` says what is in each. A row whose key is
-    /// not in written form is skipped, and so is an alias of what is no value. It takes memory for the JSON value and for
-    /// the tables.
+    /// The supplement of a JSON text: an object with the members `parents`, `matching`, `keywords`, `fields`,
+    /// `extension_names`, `cldr` and `validity`, any of which may be left out. `specs/Supplement.antt` says what is in
+    /// each, and `specs/Validity.antt` what a table of validity has. A row whose key is not in written form is skipped,
+    /// and so are an alias of what is no value, and a code that is none. It takes memory for the JSON value and for the
+    /// tables.
     ///
     /// # Errors
     ///

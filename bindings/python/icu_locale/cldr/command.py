@@ -31,8 +31,9 @@ The program looks up what it is asked and falls back from no locale to another. 
 from its parents up to `root`, is written as its own.
 
 With --supplement it writes the supplement of the tables, as JSON on one line: the parents of locales, the rules by which
-a reader is served the nearest locale, the aliases of values at the keys of `u` and of `t`, and for each LOCALE what parts
-of extensions are called, so that a name has what they say."""
+a reader is served the nearest locale, the aliases of values at the keys of `u` and of `t`, the version of CLDR, which
+codes it knows and what keys take, and for each LOCALE what parts of extensions are called, so that a name has what they
+say."""
 EPILOG = """\
 status: 0, or 2 where the words are wrong, or where the folder or a locale is not there
 example: ({name} /usr/share/unicode/cldr/common en; echo zh-TW) | icu_locale_cli name light en json"""

@@ -6,6 +6,7 @@ a region's. So `und-GB` would stay as it is, and `und-Latn-DE` would be English.
 """
 from .likely import first_row
 from .subtags import UNKNOWN_LANGUAGE
+from .validity import spelled
 
 # Whose subtags are asked for, of the states in a validity file. A row of a script that is special, such as `Zxxx`, would
 # come before every region's, and is left out.
@@ -19,13 +20,7 @@ def known(common, kind, states):
     for group in common.document(f"validity/{kind}.xml").iter("id"):
         if group.get("idStatus") in states:
             for word in group.text.split():
-                yield from spread(word)
-
-
-def spread(word):
-    """The subtags that a word of a validity file stands for: `AC~E` is AC, AD and AE."""
-    first, _, last = word.partition("~")
-    return [first[:-1] + chr(letter) for letter in range(ord(first[-1]), ord(last or first[-1]) + 1)]
+                yield from spelled(word)
 
 
 def questions(common):

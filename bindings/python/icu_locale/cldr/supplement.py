@@ -1,6 +1,6 @@
 """The supplement of the tables: the parents of locales (UTS #35 Part 1, section 4.2, Parent Locales), the rules by which
-a reader is served the nearest locale (section 4.4, Language Matching), the aliases of values, which `values.py` reads, and
-what parts of extensions are called, which `extension_names.py` reads.
+a reader is served the nearest locale (section 4.4, Language Matching), the aliases of values, which `values.py` reads, the
+table of validity, which `validity.py` reads, and what parts of extensions are called, which `extension_names.py` reads.
 
 A parent is written under the key by which chains come to it: without a script that the language and the region imply, but
 with the script where it depends on the region, as `zh-Hant-HK`.
@@ -17,6 +17,7 @@ from .likely import read_likely
 from .account import Account
 from .source import NoCldr
 from .subtags import UNKNOWN_LANGUAGE, UNKNOWN_REGION, UNKNOWN_SCRIPT, Identifier, read_locale, read_subtag
+from .validity import validity
 from .values import value_aliases
 
 TO_ROOT = "parents: those that are the root, to which a chain comes anyhow"
@@ -30,6 +31,7 @@ ANY = "*"
 def supplement(common, account, locales=(), without=()):
     """The supplement of a CLDR folder, with what parts of extensions are called in the languages of some locales."""
     found = {"parents": parents(common, account), "matching": matching(common, account)} | value_aliases(common, account)
+    found |= validity(common, account)
     return found | names_of_extensions(common, locales, account, without) if locales else found
 
 

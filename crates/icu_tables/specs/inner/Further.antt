@@ -1,5 +1,7 @@
 -- The rows of a supplement as they were read, one by one: what only the readers' own functions cite.
 use Rattle.std.specs.Prelude.{map, option_map}
+use Rattle.icu_locale_validity.specs.declared.table.KeyTypes.{KeyTypes}
+use Rattle.icu_locale_validity.specs.declared.table.Validity.{Validity}
 use Rattle.icu_provider.specs.declared.extension_names.ExtensionNames.{ExtensionNames}
 use Rattle.icu_provider.specs.declared.matching.LanguageMatching.{LanguageMatching}
 use Rattle.icu_provider.specs.declared.matching.MatchRules.{MatchRules}
@@ -38,6 +40,26 @@ names_seen names = record {
   pattern = names.pattern;
 }
 
+abbrev pub key_types_seen : {V : Type 0} → KeyTypes V → KeyTypes V
+key_types_seen key = record {
+  status = key.status;
+  types = seen_rows (λ s. s) key.types;
+  kind = option_map (λ k. k) key.kind;
+  many = key.many;
+}
+
+abbrev pub validity_seen : Validity → Validity
+validity_seen table = record {
+  languages = seen_rows (λ s. s) table.languages;
+  scripts = seen_rows (λ s. s) table.scripts;
+  regions = seen_rows (λ s. s) table.regions;
+  variants = seen_rows (λ s. s) table.variants;
+  subdivisions = seen_rows (λ s. s) table.subdivisions;
+  currencies = seen_rows (λ s. s) table.currencies;
+  keywords = seen_rows key_types_seen table.keywords;
+  fields = seen_rows key_types_seen table.fields;
+}
+
 abbrev pub supplement_seen : Supplement → SupplementRows
 supplement_seen supplement = record {
   parents = seen_rows (λ v. v) supplement.parents;
@@ -45,4 +67,6 @@ supplement_seen supplement = record {
   keywords = seen_rows (seen_rows (λ v. v)) supplement.keywords;
   fields = seen_rows (seen_rows (λ v. v)) supplement.fields;
   extension_names = seen_rows names_seen supplement.extension_names;
+  cldr = option_map (λ t. t) supplement.cldr;
+  validity = option_map validity_seen supplement.validity;
 }

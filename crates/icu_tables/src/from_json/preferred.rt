@@ -7,7 +7,9 @@ ghost use Rattle.icu_tables.specs.Supplement.{alias_row};
 ghost use Rattle.icu_tables.specs.inner.Reads.{Reads};
 
 use crate::TableError;
+use crate::from_json::keys::RowKey;
 use crate::from_json::members::{NamesKeys, PutsRows, in_one_list, put_members};
+use crate::from_json::subtags::FromText;
 use crate::from_json::values::FromValue;
 use icu_locale_core::{Key, ParseError, Value};
 use icu_locale_extensions::{FieldKey, Subtags};
@@ -17,7 +19,7 @@ use std::alloc::{AllocError, Global};
 use std::cmp::Ord;
 use std::collections::BTreeMap;
 
-// A value that is read from a text in any case. Its pieces may take memory.
+// A value that is read from a text in any case, or a subtag in written form. The pieces of a value may take memory.
 pub(crate) trait ReadsValue: Ord + Drop {
     ghost use Rattle.std.specs.Prelude.{◌≡◌, List, ℕ, Option, IfOk};
 
@@ -28,7 +30,7 @@ pub(crate) trait ReadsValue: Ord + Drop {
 }
 
 impl ReadsValue for Value {
-    ghost use Rattle.icu_tables.specs.Supplement.{keyword_value};
+    ghost use Rattle.icu_tables.specs.Values.{keyword_value};
 
     ghost reads = { keyword_value };
 
@@ -42,7 +44,7 @@ impl ReadsValue for Value {
 }
 
 impl ReadsValue for Subtags<3> {
-    ghost use Rattle.icu_tables.specs.Supplement.{field_value};
+    ghost use Rattle.icu_tables.specs.Values.{field_value};
 
     ghost reads = { field_value };
 
@@ -52,6 +54,17 @@ impl ReadsValue for Subtags<3> {
             Err(ParseError::InvalidSubtag) => Ok(None),
             Err(_) => Err(AllocError),
         }
+    }
+}
+
+// A subtag in written form, which takes no memory.
+impl<T: FromText> ReadsValue for T {
+    ghost use Rattle.icu_tables.specs.Subtags.{key_of};
+
+    ghost reads = { key_of T.written T.reads };
+
+    fn read(_alloc: Global, text: &str) -> Result<Option<Self>, AllocError> {
+        Ok(T::from_name(text))
     }
 }
 
@@ -101,7 +114,7 @@ impl FromValue for SortedMap<Value, Value> {
     ghost use Rattle.std.specs.Cmp.Lexicographic.{slice_cmp};
     ghost use Rattle.icu_locale_core.specs.TextSet.{text_cmp};
     ghost use Rattle.icu_tables.specs.Rows.{seen_rows};
-    ghost use Rattle.icu_tables.specs.Supplement.{Pieces, keyword_value};
+    ghost use Rattle.icu_tables.specs.Values.{Pieces, keyword_value};
 
     ghost Seen = { List (Pieces × Pieces) };
 
@@ -120,7 +133,7 @@ impl FromValue for SortedMap<Subtags<3>, Subtags<3>> {
     ghost use Rattle.std.specs.Cmp.Lexicographic.{slice_cmp};
     ghost use Rattle.icu_locale_core.specs.TextSet.{text_cmp};
     ghost use Rattle.icu_tables.specs.Rows.{seen_rows};
-    ghost use Rattle.icu_tables.specs.Supplement.{Pieces, field_value};
+    ghost use Rattle.icu_tables.specs.Values.{Pieces, field_value};
 
     ghost Seen = { List (Pieces × Pieces) };
 
@@ -138,7 +151,7 @@ impl FromValue for SortedMap<Subtags<3>, Subtags<3>> {
 pub(crate) struct KeywordKeys;
 
 impl NamesKeys<Key> for KeywordKeys {
-    ghost use Rattle.icu_tables.specs.Supplement.{keyword_key};
+    ghost use Rattle.icu_tables.specs.Values.{keyword_key};
 
     ghost key = { λ _. keyword_key };
 
@@ -157,7 +170,7 @@ impl NamesKeys<Key> for KeywordKeys {
 pub(crate) struct FieldKeys;
 
 impl NamesKeys<FieldKey> for FieldKeys {
-    ghost use Rattle.icu_tables.specs.Supplement.{field_key};
+    ghost use Rattle.icu_tables.specs.Values.{field_key};
 
     ghost key = { λ _. field_key };
 

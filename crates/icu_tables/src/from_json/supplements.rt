@@ -28,6 +28,8 @@ impl FromValue for Supplement {
                 "keywords",
                 "fields",
                 "extension_names",
+                "cldr",
+                "validity",
             ],
         )?;
         let mut supplement = Supplement::new(alloc);
@@ -53,6 +55,8 @@ impl FromValue for Supplement {
                 &RowByRow { keys: Locales },
                 &mut supplement.extension_names,
             )
+            .fill("cldr", &mut supplement.cldr)
+            .fill("validity", &mut supplement.validity)
             .finish(supplement)
     }
 }

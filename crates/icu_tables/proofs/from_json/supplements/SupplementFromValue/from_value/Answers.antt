@@ -10,4 +10,6 @@ returns c =
     and_fills (rw empty at c.fill.ensures)
     and_fills c.fill_by-2.ensures
     and_fills c.fill_by-3.ensures
-    and_fills c.fill_by-4.ensures) c.finish.ensures)
+    and_fills c.fill_by-4.ensures
+    and_fills (rw empty at c.fill-2.ensures)
+    and_fills (rw empty at c.fill-3.ensures)) c.finish.ensures)
