@@ -1,0 +1,8 @@
+mod FirstFaults
+mod Grown
+mod Lies
+mod Ones
+mod Stands
+mod Told
+mod WholeLaws
+mod Wholes

@@ -1,0 +1,6 @@
+use Rattle.icu_locale_validity.proofs.Grown.{after_call}
+use Rattle.icu_locale_validity.proofs.faults.append_unicode.Goals as goal
+
+pub returns-clause-part : goal.returns-clause-part
+returns-clause-part c =
+    after_call c.append_keywords.result _ _ _ _ c.in_ok-append_attributes.ensures.appended c.append_keywords.ensures.part

@@ -1,0 +1,136 @@
+//! What is told of one part.
+ghost use Rattle.std.specs.Prelude.{◌≡◌, ◌≤◌, ◌++◌, codes, decimal, drop, length, take, OnOk, OnErr, Option, Some, None, List, ℕ};
+ghost use Rattle.icu_locale_validity.specs.Parts.{code_part, kind_word, row_part};
+ghost use Rattle.icu_locale_validity.specs.Reports.{place_text};
+ghost use Rattle.icu_locale_validity.specs.Statuses.{listed_word};
+ghost use Rattle.icu_locale_validity.specs.inner.Lines.{ending, line};
+ghost use Rattle.icu_locale_validity.specs.inner.Marks.{marks};
+
+use crate::place::{Behind, place_of};
+use crate::rows::{Named, Pieced};
+use crate::table::is_valid_status;
+use crate::{PartKind, Status};
+use itoa::Buffer;
+use std::alloc::AllocError;
+
+// Appends a part of one piece, if it is not valid, and a tab.
+pub fn append_code(
+    text: &[u8],
+    behind: &Behind,
+    kind: PartKind,
+    piece: &str,
+    status: Option<Status>,
+    report: &mut Vec<u8>,
+) -> Result<(), AllocError>
+    ensures appended { OnOk result (report.new.items ≡ report.old.items ++ line text.now status
+        (code_part kind (marks behind.now.singleton behind.now.language) piece.now)) }
+    ensures part { OnErr result
+        (take (length report.old.items) report.new.items ≡ report.old.items) }
+{
+    if is_valid_status(status) {
+        return Ok(());
+    }
+    append_kind(kind, report)?;
+    let from = report.len();
+    report.extend_from_slice(piece.as_bytes())?;
+    append_ending(text, behind, status, from, report)
+}
+
+// Appends a key or a singleton with its pieces, if it is not valid, and a tab.
+pub fn append_row<K: Named, V: Pieced>(
+    text: &[u8],
+    behind: &Behind,
+    kind: PartKind,
+    row: &(K, V),
+    status: Option<Status>,
+    report: &mut Vec<u8>,
+) -> Result<(), AllocError>
+    ensures appended { OnOk result (report.new.items ≡ report.old.items ++ line text.now status
+        (row_part kind (marks behind.now.singleton behind.now.language)
+        (K.text row.now.0, V.pieces row.now.1))) }
+    ensures part { OnErr result
+        (take (length report.old.items) report.new.items ≡ report.old.items) }
+{
+    if is_valid_status(status) {
+        return Ok(());
+    }
+    append_kind(kind, report)?;
+    let from = report.len();
+    report.extend_from_slice(row.0.name().as_bytes())?;
+    row.1.append_pieces(report)?;
+    append_ending(text, behind, status, from, report)
+}
+
+// Appends the word of a kind, and a space.
+fn append_kind(kind: PartKind, report: &mut Vec<u8>) -> Result<(), AllocError>
+    ensures appended { OnOk result
+        (report.new.items ≡ report.old.items ++ (kind_word kind ++ codes " ")) }
+    ensures part { OnErr result
+        (take (length report.old.items) report.new.items ≡ report.old.items) }
+{
+    report.extend_from_slice(kind.as_str().as_bytes())?;
+    Ok(report.push(b' ')?)
+}
+
+// Appends what follows the pieces of a part, which begin at a byte of the report.
+fn append_ending(
+    text: &[u8],
+    behind: &Behind,
+    status: Option<Status>,
+    from: usize,
+    report: &mut Vec<u8>,
+) -> Result<(), AllocError>
+    requires { from ≤ length report.old.items }
+    ensures appended { OnOk result (report.new.items ≡ report.old.items ++ ending text.now
+        (marks behind.now.singleton behind.now.language) status (drop from report.old.items)) }
+    ensures part { OnErr result
+        (take (length report.old.items) report.new.items ≡ report.old.items) }
+{
+    let (_, wanted) = report.as_slice().split_at(from);
+    let place = place_of(text, behind, wanted);
+    append_status(status, report)?;
+    append_place(place, report)?;
+    Ok(report.push(b'\t')?)
+}
+
+// Appends the word of a status, or `unlisted`, between two spaces.
+fn append_status(status: Option<Status>, report: &mut Vec<u8>) -> Result<(), AllocError>
+    ensures appended { OnOk result (report.new.items
+        ≡ report.old.items ++ (codes " " ++ (listed_word status ++ codes " "))) }
+    ensures part { OnErr result
+        (take (length report.old.items) report.new.items ≡ report.old.items) }
+{
+    report.push(b' ')?;
+    report.extend_from_slice(listed_word(status).as_bytes())?;
+    Ok(report.push(b' ')?)
+}
+
+// Appends two numbers in decimal digits, with a space between them.
+fn append_place(place: (usize, usize), report: &mut Vec<u8>) -> Result<(), AllocError>
+    ensures appended { OnOk result (report.new.items ≡ report.old.items ++ place_text place) }
+    ensures part { OnErr result
+        (take (length report.old.items) report.new.items ≡ report.old.items) }
+{
+    append_number(place.0, report)?;
+    report.push(b' ')?;
+    append_number(place.1, report)
+}
+
+fn append_number(number: usize, report: &mut Vec<u8>) -> Result<(), AllocError>
+    ensures appended { OnOk result (report.new.items ≡ report.old.items ++ decimal number) }
+    ensures part { OnErr result
+        (take (length report.old.items) report.new.items ≡ report.old.items) }
+{
+    let mut digits = Buffer::new();
+    report.extend_from_slice(digits.format(number).as_bytes())
+}
+
+// The word of a status, or `unlisted`.
+fn listed_word(status: Option<Status>) -> &'static str
+    ensures { result.now ≡ listed_word status }
+{
+    match status {
+        Some(status) => status.as_str(),
+        None => "unlisted",
+    }
+}

@@ -1,0 +1,209 @@
+//! What a table says of a key and its value.
+ghost use Rattle.std.specs.Prelude.{◌≡◌, ◌∷◌, [], List, ℕ, MatchResult, length, map};
+ghost use Rattle.std.specs.List.{All};
+ghost use Rattle.std.specs.Ordering.{ordering_then};
+ghost use Rattle.icu_locale_core.specs.Maps.{IsSortedMap, value_at};
+ghost use Rattle.icu_locale_core.specs.Places.{IsAt, IsGapFor};
+ghost use Rattle.icu_locale_core.specs.Subtag.{IsSubtag};
+ghost use Rattle.icu_locale_validity.specs.inner.Ones.{longer};
+ghost use Rattle.icu_locale_validity.specs.Types.{field_status, first_fault, is_told_by_pieces, keyword_status, piece_status, pieces_status, type_status, value_cmp};
+
+use crate::table::is_valid_status;
+use crate::{KeyTypes, Status, Validity};
+use icu_locale_core::{Key, Pieces, Subtag, Value};
+use icu_locale_extensions::{FieldKey, Subtags};
+use icu_provider::SortedMap;
+use std::cmp::{Ord, Ordering};
+
+impl Validity {
+    /// The status of a key with its value: that of the key where it may not be used, and else that of the value, if
+    /// both are listed. It takes no memory.
+    pub fn keyword(&self, key: Key, value: &Value) -> Option<Status>
+        ensures { result ≡ keyword_status self.now key value.now }
+    {
+        let row = self.keywords.get(&key)?;
+        if !row.status.is_usable() {
+            return Some(row.status);
+        }
+        self.value_status(row, value)
+    }
+
+    /// The status of a field with its pieces: that of the key where it may not be used, and else that of the pieces, if
+    /// both are listed. It takes no memory.
+    pub fn field(&self, key: FieldKey, pieces: &Subtags<3>) -> Option<Status>
+        ensures { result ≡ field_status self.now key pieces.now }
+    {
+        let row = self.fields.get(&key)?;
+        if !row.status.is_usable() {
+            return Some(row.status);
+        }
+        self.pieces_status(row, pieces)
+    }
+
+    // The status of a value: its own where it is listed, and else that of its pieces.
+    fn value_status(&self, row: &KeyTypes<Value>, value: &Value) -> Option<Status>
+        ensures { result ≡ type_status self.now row.now value.now }
+    {
+        if let Some(status) = row.types.get(value) {
+            return Some(*status);
+        }
+        let pieces = value.as_slice();
+        if !is_told_by_pieces(row.many, pieces.len()) {
+            return None;
+        }
+        self.first_value_fault(row, pieces)
+    }
+
+    fn pieces_status(&self, row: &KeyTypes<Subtags<3>>, pieces: &Subtags<3>) -> Option<Status>
+        ensures { result ≡ type_status self.now row.now pieces.now }
+    {
+        if let Some(status) = row.types.get(pieces) {
+            return Some(*status);
+        }
+        if !is_told_by_pieces(row.many, pieces.len()) {
+            return None;
+        }
+        let _ = pieces.as_str();
+        self.first_piece_fault(row, pieces.iter())
+    }
+
+    // The status of the first piece that is not valid, else `Regular`.
+    fn first_value_fault(&self, row: &KeyTypes<Value>, mut pieces: &[Subtag]) -> Option<Status>
+        ensures { result ≡ first_fault (map (piece_status self.now row.now) pieces.now) }
+    {
+        'pieces: while let Some((first, rest)) = pieces.split_first() {
+            let status = self.value_piece(row, *first);
+            if !is_valid_status(status) {
+                return status;
+            }
+            pieces = rest;
+        }
+        Some(Status::Regular)
+    }
+
+    fn first_piece_fault(
+        &self,
+        row: &KeyTypes<Subtags<3>>,
+        mut pieces: Pieces<'_>,
+    ) -> Option<Status>
+        requires { All IsSubtag pieces }
+        ensures { result ≡ first_fault (map (piece_status self.now row.now) pieces.entry) }
+    {
+        'pieces: while let Some(first) = pieces.next() {
+            let status = self.field_piece(row, first);
+            if !is_valid_status(status) {
+                return status;
+            }
+        }
+        Some(Status::Regular)
+    }
+
+    // The status of one piece.
+    fn value_piece(&self, row: &KeyTypes<Value>, piece: Subtag) -> Option<Status>
+        ensures { result ≡ piece_status self.now row.now piece }
+    {
+        match value_of_one(&row.types, piece) {
+            Some(status) => Some(status),
+            None => self.code_of_kind(row.kind, piece),
+        }
+    }
+
+    fn field_piece(&self, row: &KeyTypes<Subtags<3>>, piece: &[u8]) -> Option<Status>
+        requires { IsSubtag piece.now }
+        ensures { result ≡ piece_status self.now row.now piece.now }
+    {
+        let piece = Subtag::try_from_bytes(piece)?;
+        match pieces_of_one(&row.types, piece) {
+            Some(status) => Some(status),
+            None => self.code_of_kind(row.kind, piece),
+        }
+    }
+}
+
+// Whether a value of so many pieces is told by them.
+fn is_told_by_pieces(many: bool, pieces: usize) -> bool
+    ensures { (value : List (List ℕ)) → length value ≡ pieces
+        → result ≡ is_told_by_pieces many value }
+{
+    pieces == 1 || (pieces > 1 && many)
+}
+
+// The status at a value of one piece, found by binary search.
+fn value_of_one(types: &SortedMap<Value, Status>, piece: Subtag) -> Option<Status>
+    ensures { result ≡ value_at value_cmp types.now (piece ∷ []) }
+{
+    let rows = types.as_slice();
+    match find_value(rows, piece) {
+        Ok(at) => Some(rows[at].1),
+        Err(_) => None,
+    }
+}
+
+// Where a value of one piece is among rows, or would go.
+fn find_value(rows: &[(Value, Status)], piece: Subtag) -> Result<usize, usize>
+    requires { IsSortedMap value_cmp rows.now }
+    ensures { MatchResult result (IsAt value_cmp rows.now (piece ∷ []))
+        (IsGapFor value_cmp rows.now (piece ∷ [])) }
+{
+    rows.binary_search_by(
+        |row: &(Value, Status)| -> Ordering
+            ensures { result ≡ value_cmp row.now.0 (piece ∷ []) }
+        { value_to_one(row.0.as_slice(), &piece) },
+    )
+}
+
+fn pieces_of_one(types: &SortedMap<Subtags<3>, Status>, piece: Subtag) -> Option<Status>
+    ensures { result ≡ value_at value_cmp types.now (piece ∷ []) }
+{
+    let rows = types.as_slice();
+    match find_pieces(rows, piece) {
+        Ok(at) => Some(rows[at].1),
+        Err(_) => None,
+    }
+}
+
+fn find_pieces(rows: &[(Subtags<3>, Status)], piece: Subtag) -> Result<usize, usize>
+    requires { IsSortedMap value_cmp rows.now }
+    ensures { MatchResult result (IsAt value_cmp rows.now (piece ∷ []))
+        (IsGapFor value_cmp rows.now (piece ∷ [])) }
+{
+    rows.binary_search_by(
+        |row: &(Subtags<3>, Status)| -> Ordering
+            ensures { result ≡ value_cmp row.now.0 (piece ∷ []) }
+        { pieces_to_one(row.0.iter(), &piece) },
+    )
+}
+
+// A value is compared with one piece.
+#[tactic(auto, using(crate::proofs::Ones::one_longer))]
+fn value_to_one(value: &[Subtag], piece: &Subtag) -> Ordering
+    ensures { result ≡ value_cmp value.now (piece.now ∷ []) }
+{
+    match value.split_first() {
+        None => Ordering::Less,
+        Some((first, rest)) => or_longer(first.cmp(piece), !rest.is_empty()),
+    }
+}
+
+#[tactic(auto, using(crate::proofs::Ones::one_longer))]
+fn pieces_to_one(mut pieces: Pieces<'_>, piece: &Subtag) -> Ordering
+    ensures { result ≡ value_cmp pieces.entry (piece.now ∷ []) }
+{
+    match pieces.next() {
+        None => Ordering::Less,
+        Some(first) => or_longer(
+            first.cmp(piece.as_str().as_bytes()),
+            pieces.peek().is_some(),
+        ),
+    }
+}
+
+// The order of two lists of which the second has one piece: that of the first pieces, or the first list has more.
+fn or_longer(order: Ordering, is_longer: bool) -> Ordering
+    ensures { result ≡ ordering_then order (longer is_longer) }
+{
+    match order {
+        Ordering::Equal if is_longer => Ordering::Greater,
+        order => order,
+    }
+}
