@@ -2,7 +2,7 @@
 ghost use Rattle.std.specs.Prelude.{◌≡◌, ◌↔◌, ◌<◌, ◌≤◌, true, false, List, ℕ};
 ghost use Rattle.std.specs.Prelude.{length, take, slice_index_or, slice_range, []};
 ghost use Rattle.icu_locale_core.specs.Identifier.{pieces, starts_with_language};
-ghost use Rattle.icu_locale_places.specs.Places.{BeginsSome, BeginsText, IsPlace, IsSpan, begins_some};
+ghost use Rattle.icu_locale_places.specs.Places.{BeginsSome, BeginsText, IsPlace, IsSpan, IsWrongAt, begins_some};
 
 /// Pieces are the first of some that spell a locale identifier exactly where they are read, or are with one more.
 pub fn begins_is_told()
@@ -28,6 +28,14 @@ pub fn places_are_one()
         → m ≡ n }
 {
     begins_is_told();
+}
+
+/// A text is wrong at the same bytes always.
+pub fn a_fault_has_one_place()
+    ensures { (t : List ℕ) (from to from' to' : ℕ) → IsWrongAt t from to
+        → IsWrongAt t from' to' → (from ≡ from') × (to ≡ to') }
+{
+    places_are_one();
 }
 
 /// The place is the first piece exactly where that is no language, so exactly where the reader says so.
