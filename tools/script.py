@@ -8,7 +8,7 @@ from pathlib import Path
 # What each program says where it is given no words.
 USAGES = {
     "icu_locale_cli": "usage: icu_locale_cli COMMAND [json]",
-    "icu_locale_stream": "usage: icu_locale_stream [longest N] [threshold N] [demotion N] [favor-script] [or-first] [locales | bcp47 | posix] COMMAND [json [supplement]]",
+    "icu_locale_stream": "usage: icu_locale_stream [longest N] [threshold N] [demotion N] [favor-script] [or-first] [places] [locales | bcp47 | posix] COMMAND [json [supplement]]",
 }
 
 

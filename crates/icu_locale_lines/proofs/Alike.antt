@@ -32,7 +32,7 @@ use Rattle.icu_locale.specs.LikelySubtags.{LikelySubtags}
 use Rattle.icu_locale.specs.LikelyTable.{likely}
 use Rattle.icu_locale.specs.declared.canonicalizer.rules.Rules.{Rules}
 use Rattle.icu_locale.specs.declared.expander.TransformResult.{TransformResult}
-use Rattle.icu_locale_lines.specs.Answers.{IsAnswerBy, IsIdentifierAnswer, IsLocaleAnswer, IsSpelledAnswer, IsCanonicalized, IsParted, IsWholeParted, WishesIdentifiers}
+use Rattle.icu_locale_lines.specs.Answers.{IsAnswerBy, IsIdentifierAnswer, IsLocaleAnswer, IsSpelledAnswer, IsCanonicalized, IsReported, IsParted, IsWholeParted, WishesIdentifiers}
 use Rattle.icu_locale_lines.specs.Answers.{IsDirected, IsNamed, IsWholeNamed, IsTransformed, IsWholeTransformed}
 use Rattle.icu_locale_lines.specs.Answers.{HoldsIdentifiers}
 use Rattle.icu_locale_lines.specs.Names.{answers_in, name_asked, name_asked_with, IsNamedLine}
@@ -245,5 +245,9 @@ module _ (facts : SyntaxFacts) (s : Syntax) (line text : List ℕ) (a : Bool) wh
   answers_alike (tools.Fallback f) (none, x, is, spells) =
       each_alike x (is, spells) (λ w. IsChained f w.locale.id) (IsChained f) (λ h. h, λ h. h)
   answers_alike tools.Parts (none, x, is, spells) = each_alike x (is, spells) IsWholeParted IsParted (parted_alike x (is, spells))
+  answers_alike (tools.Validate v) (none, x, is, spells) =
+      each_alike x (is, spells) (IsReported v.now line) (λ y. IsReported v.now line (bare y)) (λ h. h, λ h. h)
+  answers_alike (tools.SubtagName n) holds = (λ h. h, λ h. h)
+  answers_alike (tools.Exemplars set) holds = (λ h. h, λ h. h)
   answers_alike (tools.Key of k) (none, x, is, spells) =
       each_alike x (is, spells) (λ w. IsKeyed (whole_rules k) (keyed of w)) (λ y. IsKeyed (whole_rules k) (bare y)) (keyed_alike of (whole_rules k) x)

@@ -13,10 +13,12 @@ mod LocaleLines
 mod Offers
 mod OneAnswer
 mod PartEnds
+mod PlacedAnswers
 mod PlainLines
 mod Progress
 mod Readings
 mod RunEnds
 mod StreamEnds
 mod Streaming
+mod ToldLines
 mod WordEnds

@@ -18,7 +18,7 @@ use Rattle.icu_locale_lines.specs.Refusals.{IsRefusedList, IsFaultyList}
 use Rattle.icu_locale_lines.specs.declared.command.LineCommand.{LineCommand}
 use Rattle.icu_locale_lines.specs.declared.command.ServeTask.{ServeTask}
 use Rattle.icu_locale_lines.specs.declared.command.Task.{Task}
-use Rattle.icu_locale_lines.specs.declared.command.Task.TheVariants.{Transform, Canonicalize, Direction, Negotiate, Name, Fallback, Serve, Distance, Parts, Key}
+use Rattle.icu_locale_lines.specs.declared.command.Task.TheVariants.{Transform, Canonicalize, Direction, Negotiate, Name, Fallback, Serve, Distance, Parts, Key, Validate, SubtagName, Exemplars}
 use Rattle.icu_locale_lines.specs.declared.error.CliError.{CliError}
 use Rattle.icu_locale_lines.specs.declared.error.CliError.TheVariants as error
 use Rattle.icu_locale_lines.specs.declared.work.listing.ListedOver.TheVariants as owner
@@ -41,6 +41,9 @@ left_behind (Serve wishes) t o h input = refl
 left_behind Distance t o h input = absurd h
 left_behind Parts t o h input = absurd h
 left_behind (Key of) t o h input = absurd h
+left_behind Validate t o h input = absurd h
+left_behind (SubtagName chain preferences) t o h input = absurd h
+left_behind (Exemplars marker preferences) t o h input = absurd h
 
 pub listing_left : (c : LineCommand) (t : Tables) (listing : Listing) → IsListing c t listing → (input : List ℕ)
     → text_answered c input ≡ after_first_line input
@@ -70,6 +73,9 @@ lists_by (Serve wishes) t (over.Serve how k m) h =
 lists_by Distance t o h = absurd h
 lists_by Parts t o h = absurd h
 lists_by (Key of) t o h = absurd h
+lists_by Validate t o h = absurd h
+lists_by (SubtagName chain preferences) t o h = absurd h
+lists_by (Exemplars marker preferences) t o h = absurd h
 
 pub lists_over : (c : LineCommand) (t : Tables) (listing : Listing) → IsListing c t listing → ListsOver c.task t
 lists_over c t listing is = lists_by c.task t listing.over is.over
@@ -91,6 +97,9 @@ module _ (syntax : Option Syntax) (t : Tables) (input : List ℕ) where
   negotiate_tools Distance e n offered h same spelled = absurd h
   negotiate_tools Parts e n offered h same spelled = absurd h
   negotiate_tools (Key of) e n offered h same spelled = absurd h
+  negotiate_tools Validate e n offered h same spelled = absurd h
+  negotiate_tools (SubtagName chain preferences) e n offered h same spelled = absurd h
+  negotiate_tools (Exemplars marker preferences) e n offered h same spelled = absurd h
 
   serve_tools : (task : Task) (how : ServeTask) (k : _) (m : _) (s : Service) (offered : Bor Offered) → ListsBy task t (over.Serve how k m)
       → s.expander ≡ k.expander → s.rules ≡ lent k.rules → s.matching ≡ m.now → s.limits ≡ how.limits
@@ -115,6 +124,9 @@ module _ (syntax : Option Syntax) (t : Tables) (input : List ℕ) where
   serve_tools Distance how k m s offered h expander rules matching limits spelled = absurd h
   serve_tools Parts how k m s offered h expander rules matching limits spelled = absurd h
   serve_tools (Key of) how k m s offered h expander rules matching limits spelled = absurd h
+  serve_tools Validate how k m s offered h expander rules matching limits spelled = absurd h
+  serve_tools (SubtagName chain preferences) how k m s offered h expander rules matching limits spelled = absurd h
+  serve_tools (Exemplars marker preferences) how k m s offered h expander rules matching limits spelled = absurd h
 
 module _ (c : LineCommand) (t : Tables) (input : List ℕ) (o : Offered) where
   -- what an owner lends is written as it is offered
@@ -127,8 +139,8 @@ module _ (c : LineCommand) (t : Tables) (input : List ℕ) (o : Offered) where
 
   pub listed_negotiation : (e : _) (n : Negotiation) → ListsBy c.task t (over.Negotiate e) → n.expander ≡ e
       → IsAvailable c.syntax (listed (first_line input)) n.available o.wholes.items
-      → IsListedOf c t input (record { syntax = c.syntax; over = owner.Negotiate n; offered = o })
-  listed_negotiation e n h same spelled work lends = record { syntax = lends.syntax; tools = by work.tools lends.tools }
+      → IsListedOf c t input (record { syntax = c.syntax; places = c.places; over = owner.Negotiate n; offered = o })
+  listed_negotiation e n h same spelled work lends = record { syntax = lends.syntax; places = lends.places; tools = by work.tools lends.tools }
     where
       by : (w : Tools) → LendsTools (owner.Negotiate n) o w → AreToolsOf c.syntax c.task t input w
       by (tools.Transform form e) lends = absurd lends
@@ -143,12 +155,15 @@ module _ (c : LineCommand) (t : Tables) (input : List ℕ) (o : Offered) where
       by (tools.Distance d) lends = absurd lends
       by tools.Parts lends = absurd lends
       by (tools.Key of k) lends = absurd lends
+      by (tools.Validate v) lends = absurd lends
+      by (tools.SubtagName n) lends = absurd lends
+      by (tools.Exemplars set) lends = absurd lends
 
   pub listed_service : (how : ServeTask) (k : _) (m : _) (s : Service) → ListsBy c.task t (over.Serve how k m) → s.expander ≡ k.expander
       → s.rules ≡ lent k.rules → s.matching ≡ m.now → s.limits ≡ how.limits
       → IsAvailable c.syntax (listed (first_line input)) s.available o.wholes.items
-      → IsListedOf c t input (record { syntax = c.syntax; over = owner.Serve how s; offered = o })
-  listed_service how k m s h expander rules matching limits spelled work lends = record { syntax = lends.syntax; tools = by work.tools lends.tools }
+      → IsListedOf c t input (record { syntax = c.syntax; places = c.places; over = owner.Serve how s; offered = o })
+  listed_service how k m s h expander rules matching limits spelled work lends = record { syntax = lends.syntax; places = lends.places; tools = by work.tools lends.tools }
     where
       by : (w : Tools) → LendsTools (owner.Serve how s) o w → AreToolsOf c.syntax c.task t input w
       by (tools.Transform form e) lends = absurd lends
@@ -166,6 +181,9 @@ module _ (c : LineCommand) (t : Tables) (input : List ℕ) (o : Offered) where
       by (tools.Distance d) lends = absurd lends
       by tools.Parts lends = absurd lends
       by (tools.Key of k) lends = absurd lends
+      by (tools.Validate v) lends = absurd lends
+      by (tools.SubtagName n) lends = absurd lends
+      by (tools.Exemplars set) lends = absurd lends
 
 -- a list is refused over settled tables for a fault or for memory
 settled_by : (task : Task) (t : Tables) (e : _) → ListsBy task t (over.Negotiate e) → AreSettled (likely e)
@@ -179,6 +197,9 @@ settled_by (Serve wishes) t e h = absurd h
 settled_by Distance t e h = absurd h
 settled_by Parts t e h = absurd h
 settled_by (Key of) t e h = absurd h
+settled_by Validate t e h = absurd h
+settled_by (SubtagName chain preferences) t e h = absurd h
+settled_by (Exemplars marker preferences) t e h = absurd h
 
 faulty : (syntax : Option Syntax) (table : LikelySubtags) (line : List ℕ) (e : CliError) → AreSettled table
     → IsRefusedList syntax table line e → IsFaultyList syntax line e

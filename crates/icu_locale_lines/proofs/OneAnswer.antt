@@ -20,7 +20,6 @@ use Rattle.icu_locale.specs.declared.canonicalizer.CanonicalizeError.{Canonicali
 use Rattle.icu_locale.specs.declared.canonicalizer.CanonicalizeError.TheVariants.{NoFixedPoint, NoSubdivisionFixedPoint}
 use Rattle.icu_locale.specs.declared.canonicalizer.rules.Rules.{Rules}
 use Rattle.icu_locale_core.specs.declared.locale.Locale.{Locale}
-use Rattle.icu_locale_lines.specs.declared.work.Work.{Work}
 use Rattle.icu_locale_lines.specs.declared.work.Tools.{Tools}
 use Rattle.icu_locale_lines.specs.declared.work.Tools.TheVariants as tools
 use Rattle.icu_locale_extensions.specs.Built.{bare}
@@ -47,7 +46,7 @@ use Rattle.icu_locale_lines.specs.declared.command.Wishes.TheVariants.{Header, R
 use Rattle.icu_locale_lines.specs.Lists.{ids_of, IsNegotiatedLine, TellsMatch, shown_at}
 use Rattle.icu_locale_lines.specs.declared.work.form.Transform.{Transform}
 use Rattle.icu_locale_lines.specs.declared.work.form.Transform.TheVariants.{Maximize, Minimize, MinimizeScript}
-use Rattle.icu_locale_lines.specs.Answers.{IsAnswer, IsAnswerBy, IsAnswerOf, IsCanonicalAnswer, IsForm, IsFormedLine, IsTransformed, IsDirected, IsNamed, IsParted, IsWholeParted}
+use Rattle.icu_locale_lines.specs.Answers.{IsAnswerBy, IsReported, IsAnswerOf, IsCanonicalAnswer, IsForm, IsFormedLine, IsTransformed, IsDirected, IsNamed, IsParted, IsWholeParted}
 use Rattle.icu_locale_lines.specs.Answers.{IsCanonicalized, IsCanonicalizedTo, IsWholeNamed, IsWholeTransformed, with_id}
 use Rattle.icu_locale_lines.specs.Chains.{IsChained}
 use Rattle.icu_locale_lines.specs.Names.{IsNamedLine, name_asked, whole_name_asked}
@@ -271,7 +270,7 @@ module _ (spelling : SpellingFacts) (minimal_one : (favor : Favor) (table : Like
   canonical_answer_one (Some s) by h k = read_one (whole_once spelling s) one two a b (IsWholeCanonicalized by)
       (λ x p q. whole_canonicalized_one wholes by x one two a b p q) line h k
 
-  answer_by_one : (syntax : Option Syntax) (work : Tools) → IsAnswerBy syntax work line one a → IsAnswerBy syntax work line two b → SameAnswer one two a b
+  pub answer_by_one : (syntax : Option Syntax) (work : Tools) → IsAnswerBy syntax work line one a → IsAnswerBy syntax work line two b → SameAnswer one two a b
   answer_by_one syntax (tools.Transform form e) h k = answer_of_one syntax (IsTransformed form (likely e)) (IsWholeTransformed form (likely e))
       (formed_one one two a b minimal_one (λ x. x) (λ x y. written y) form (likely e))
       (formed_one one two a b minimal_one (λ x. x.locale.id) (λ x y. extended.written (with_id x y)) form (likely e)) h k
@@ -292,6 +291,7 @@ module _ (spelling : SpellingFacts) (minimal_one : (favor : Favor) (table : Like
   answer_by_one syntax (tools.Key of c) h k = answer_of_one syntax (λ x. IsKeyed (whole_rules c) (bare x))
       (λ x. IsKeyed (whole_rules c) (keyed of x)) (λ x p q. keyed_one wholes (whole_rules c) (bare x) one two a b keys p q)
       (λ x p q. keyed_one wholes (whole_rules c) (keyed of x) one two a b keys p q) h k
-
-  pub answer_one : (work : Work) → IsAnswer work line one a → IsAnswer work line two b → SameAnswer one two a b
-  answer_one work h k = answer_by_one work.syntax work.tools h k
+  answer_by_one syntax (tools.Validate v) h k = answer_of_one syntax (λ x. IsReported v.now line (bare x)) (IsReported v.now line)
+      (λ x p q. same p.0 q.0 refl p.1 q.1) (λ x p q. same p.0 q.0 refl p.1 q.1) h k
+  answer_by_one syntax (tools.SubtagName n) h k = same h.0 k.0 refl h.1 k.1
+  answer_by_one syntax (tools.Exemplars set) h k = same h.0 k.0 refl h.1 k.1

@@ -14,7 +14,7 @@ use Rattle.icu_locale_extensions.specs.declared.syntax.Syntax.{Syntax}
 use Rattle.icu_locale_extensions.specs.declared.syntax.Syntax.TheVariants.{Unicode}
 use Rattle.icu_locale.specs.LikelyTable.{likely}
 use Rattle.icu_locale_values.specs.Whole.{WholeRules, whole_rules}
-use Rattle.icu_locale_lines.specs.Answers.{IsAnswerBy, IsCanonicalized, IsIdentifierAnswer, IsLocaleAnswer, IsSpelledAnswer, IsTransformed, IsWholeTransformed, IsParted, IsWholeParted, WishesNoSingleton}
+use Rattle.icu_locale_lines.specs.Answers.{IsAnswerBy, IsCanonicalized, IsIdentifierAnswer, IsLocaleAnswer, IsSpelledAnswer, IsReported, IsTransformed, IsWholeTransformed, IsParted, IsWholeParted, WishesNoSingleton}
 use Rattle.icu_locale_lines.specs.Answers.{IsDirected, IsNamed, IsWholeNamed, has_singleton, HasNoSingleton}
 use Rattle.icu_locale_lines.specs.Chains.{IsChained}
 use Rattle.icu_locale_lines.specs.Lists.{ids_of, IsFault, IsFirstFault, IsListedAnswer, IsNegotiatedLine, IsWantedAnswer, SpellsAll, SpellsIn, SpellsWhole, listed}
@@ -195,5 +195,9 @@ module _ (facts : SyntaxFacts) (line text : List ℕ) (a : Bool) where
       each_plain plain (λ w. IsChained f w.locale.id) (IsChained f) (λ x spells. (λ h. h, λ h. h))
   plain_answers_alike tools.Parts plain =
       each_plain plain IsWholeParted IsParted (λ x spells. parted_alike facts Unicode line text a x spells)
+  plain_answers_alike (tools.Validate v) plain =
+      each_plain plain (IsReported v.now line) (λ y. IsReported v.now line (bare y)) (λ x spells. (λ h. h, λ h. h))
+  plain_answers_alike (tools.SubtagName n) plain = (λ h. h, λ h. h)
+  plain_answers_alike (tools.Exemplars set) plain = (λ h. h, λ h. h)
   plain_answers_alike (tools.Key of k) plain =
       each_plain plain (λ w. IsKeyed (whole_rules k) (keyed of w)) (λ y. IsKeyed (whole_rules k) (bare y)) (λ x spells. keyed_alike of (whole_rules k) x)

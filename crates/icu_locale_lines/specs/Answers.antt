@@ -1,7 +1,7 @@
 -- What is written for each line that is read.
-use Rattle.std.specs.Prelude.{◌≡◌, ◌≢◌, ◌↔◌, ◌⊎◌, ℕ, Bool, true, false, List, ◌++◌, take, length, codes, Option, None, MatchOption}
+use Rattle.std.specs.Prelude.{◌≡◌, ◌≢◌, ◌↔◌, ◌⊎◌, ℕ, Bool, true, false, List, ◌++◌, take, length, codes, Option, None, Some, Err, is_ok, MatchOption}
 use Rattle.std.specs.List.{list_any, position}
-use Rattle.icu_locale_core.specs.Identifier.{IsIdentifier, Spells, pieces, written}
+use Rattle.icu_locale_core.specs.Identifier.{IsIdentifier, Spells, parse_error_name, pieces, written}
 use Rattle.icu_locale_core.specs.declared.langid.LanguageIdentifier.{LanguageIdentifier}
 use Rattle.icu_locale_core.specs.declared.locale.Locale.{Locale}
 use Rattle.icu_locale.specs.LikelySubtags.{LikelySubtags, maximal, IsModified, likely_script}
@@ -32,14 +32,20 @@ use Rattle.icu_locale_lines.specs.declared.command.Wishes.TheVariants.{Header}
 use Rattle.icu_locale_lines.specs.Locales.{is_tab, SpellsLocale, IsLocaleFault}
 use Rattle.icu_locale_lines.specs.Names.{name_asked, whole_name_asked, IsNamedLine}
 use Rattle.icu_locale_lines.specs.Readings.{IsReadAnswer}
-use Rattle.icu_locale_lines.specs.Texts.{changed_line, canonical_line, refused_line, direction_line}
+use Rattle.icu_locale_lines.specs.Subtags.{IsToldLine, exemplar_answer, subtag_answer}
+use Rattle.icu_locale_validity.specs.Reports.{report_of}
+use Rattle.icu_locale_validity.specs.declared.table.Validity.{Validity}
+use Rattle.icu_locale_lines.specs.Texts.{changed_line, canonical_line, placed_line, refused_line, direction_line}
+use Rattle.icu_locale_lines.specs.declared.work.places.Place.{Place}
 use Rattle.icu_locale_extensions.specs.Built.{bare}
 use Rattle.icu_locale_extensions.specs.Extensions.{is_singleton}
 use Rattle.icu_locale_extensions.specs.Locales as extended
+use Rattle.icu_locale_extensions.specs.Reader.{read}
 use Rattle.icu_locale_extensions.specs.Syntaxes.{IsFaultBy}
 use Rattle.icu_locale_extensions.specs.declared.identifier.LocaleIdentifier.{LocaleIdentifier}
 use Rattle.icu_locale_extensions.specs.declared.syntax.Syntax.{Syntax}
 use Rattle.icu_locale_parts.specs.Parts.{identifier_parts_text, parts_text}
+use Rattle.icu_locale_places.specs.Places.{IsWrongAt}
 
 -- a line is appended to what stood before, and it is such a line
 pub record AddsLine (IsLine : List ℕ → Bool → Type 0) (old new : List ℕ) (accepted : Bool)
@@ -95,6 +101,11 @@ IsParted x text accepted = (text ≡ identifier_parts_text x ++ codes "\n") × (
 
 abbrev pub IsWholeParted : LocaleIdentifier → List ℕ → Bool → Type 0
 IsWholeParted x text accepted = (text ≡ parts_text x ++ codes "\n") × (accepted ≡ true)
+
+-- the line of a locale identifier whose validity is told
+abbrev pub IsReported : Validity → List ℕ → LocaleIdentifier → List ℕ → Bool → Type 0
+IsReported v line x text accepted =
+    (text ≡ report_of v line x ++ codes "\n") × (accepted ≡ true)
 
 -- the rules come to no end, and that is refused by name
 abbrev pub IsEndless : LikelySubtags → Rules → Locale → List ℕ → Bool → Type 0
@@ -195,10 +206,41 @@ IsAnswerBy syntax tools.Parts line text accepted =
 IsAnswerBy syntax (tools.Key of k) line text accepted =
     IsAnswerOf syntax (λ x. IsKeyed (whole_rules k) (bare x))
     (λ x. IsKeyed (whole_rules k) (keyed of x)) line text accepted
+IsAnswerBy syntax (tools.Validate v) line text accepted = IsAnswerOf syntax
+    (λ x. IsReported v.now line (bare x)) (IsReported v.now line) line text accepted
+IsAnswerBy syntax (tools.SubtagName n) line text accepted =
+    IsToldLine (subtag_answer n line) text accepted
+IsAnswerBy syntax (tools.Exemplars set) line text accepted =
+    IsToldLine (exemplar_answer set.now line) text accepted
+
+-- the place of the fault of a line, if it is no locale identifier in the syntax of UTS #35
+abbrev pub IsPlaceOf : List ℕ → Option Place → Type 0
+IsPlaceOf line None = is_ok (read (pieces line)) ≡ true
+IsPlaceOf line (Some place) =
+    (read (pieces line) ≡ Err place.refusal) × IsWrongAt line place.from place.to
+
+-- a line with its place, if it has one
+abbrev pub told : (plain : List ℕ) → Option Place → List ℕ
+told plain None = plain
+told plain (Some place) = placed_line (parse_error_name place.refusal) place.from place.to
+
+-- what is answered where places are told: a line that is refused has its place, if it has one
+abbrev pub IsTold : List ℕ → (plain : List ℕ) → Bool → List ℕ → Type 0
+IsTold line plain true text = text ≡ plain
+IsTold line plain false text =
+    (place : Option Place) × IsPlaceOf line place × (text ≡ told plain place)
+
+-- the answer to a line, with places or without
+abbrev pub IsAnswerAt : (places : Bool) → Option Syntax → Tools → List ℕ → List ℕ → Bool → Type 0
+IsAnswerAt false syntax tools line text accepted = IsAnswerBy syntax tools line text accepted
+IsAnswerAt true syntax tools line text accepted =
+    (plain : List ℕ) × IsAnswerBy syntax tools line plain accepted
+    × IsTold line plain accepted text
 
 -- the answer to a line
 abbrev pub IsAnswer : Work → List ℕ → List ℕ → Bool → Type 0
-IsAnswer work line text accepted = IsAnswerBy work.syntax work.tools line text accepted
+IsAnswer work line text accepted =
+    IsAnswerAt work.places work.syntax work.tools line text accepted
 
 -- a line lists identifiers alone
 abbrev pub ListsIdentifiers : List ℕ → Type 0

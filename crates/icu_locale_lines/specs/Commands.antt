@@ -2,13 +2,15 @@
 use Rattle.std.specs.Prelude.{◌≡◌, ℕ, Bool, true, false, List, ◌&&◌, Option, None, Some, is_some, IsSomeAnd}
 use Rattle.std.specs.Option.{option_copied}
 use Rattle.icu_locale_core.specs.Maps.{value_at}
-use Rattle.icu_provider.specs.Requests.{locale_cmp}
+use Rattle.icu_provider.specs.Requests.{exemplar_cmp, locale_cmp}
+use Rattle.icu_provider.specs.declared.exemplars.ExemplarCharactersData.{ExemplarCharactersData}
+use Rattle.icu_provider.specs.declared.exemplars.ExemplarMarker.{ExemplarMarker}
 use Rattle.icu_locale_names.specs.declared.options.DisplayNamesPreferences.{DisplayNamesPreferences}
 use Rattle.icu_locale_lines.specs.declared.command.Command.{Command}
 use Rattle.icu_locale_lines.specs.declared.command.Command.TheVariants.{Settled, Lines}
 use Rattle.icu_locale_lines.specs.declared.command.LineCommand.{LineCommand}
 use Rattle.icu_locale_lines.specs.declared.command.Task.{Task}
-use Rattle.icu_locale_lines.specs.declared.command.Task.TheVariants.{Transform, Canonicalize, Direction, Negotiate, Name, Fallback, Serve, Distance, Parts, Key}
+use Rattle.icu_locale_lines.specs.declared.command.Task.TheVariants.{Transform, Canonicalize, Direction, Negotiate, Name, Fallback, Serve, Distance, Parts, Key, Validate, SubtagName, Exemplars}
 use Rattle.icu_locale_extensions.specs.declared.syntax.Syntax.{Syntax}
 use Rattle.icu_locale.specs.LikelyTable.{likely}
 use Rattle.icu_locale_fallback.specs.declared.fallbacker.LocaleFallbackPriority.TheVariants.{Language}
@@ -28,6 +30,8 @@ use Rattle.icu_locale_lines.specs.declared.work.listing.ListedOver.{ListedOver}
 use Rattle.icu_locale_lines.specs.declared.work.listing.ListedOver.TheVariants as owner
 use Rattle.icu_locale_lines.specs.declared.work.listing.Listing.{Listing}
 use Rattle.icu_locale_lines.specs.declared.work.name.Naming.{Naming}
+use Rattle.icu_locale_lines.specs.declared.work.subtag.SubtagChain.{SubtagChain}
+use Rattle.icu_locale_lines.specs.declared.work.subtag.SubtagNaming.{SubtagNaming}
 use Rattle.icu_locale_lines.specs.declared.work.offered.Offered.{Offered}
 use Rattle.icu_locale_lines.specs.declared.work.listing.ListOver.{ListOver}
 use Rattle.icu_locale_lines.specs.declared.work.listing.ListOver.TheVariants as over
@@ -39,13 +43,19 @@ use Rattle.icu_locale_lines.specs.declared.work.Tools.TheVariants as tools
 
 -- a task on lines that are identifiers alone
 abbrev pub plain : Task → LineCommand
-plain task = record { syntax = None; task = task }
+plain task = record { syntax = None; places = false; task = task }
 
 -- the match rules of a supplement are held
 abbrev pub has_matching : Tables → Bool
 has_matching t = is_some t.supplement.matching
 
--- the tables that a task needs are held; `name` and `parts` need none
+-- a set of exemplar characters of a locale, if it is held
+abbrev pub exemplars_in : Tables → ExemplarMarker → DisplayNamesPreferences
+    → Option ExemplarCharactersData
+exemplars_in t marker preferences =
+    value_at exemplar_cmp t.exemplars (marker, preferences.locale)
+
+-- the tables that a task needs are held; names and `parts` need none
 abbrev pub holds_for : Task → Tables → Bool
 holds_for Canonicalize t = has_likely t && is_some t.aliases
 holds_for (Key of) t = has_likely t && is_some t.aliases
@@ -54,6 +64,9 @@ holds_for (Name chain preferences) t = true
 holds_for (Serve served) t = has_matching t && (has_likely t && is_some t.aliases)
 holds_for Distance t = has_matching t && has_likely t
 holds_for Parts t = true
+holds_for Validate t = is_some t.supplement.validity
+holds_for (SubtagName chain preferences) t = true
+holds_for (Exemplars marker preferences) t = is_some (exemplars_in t marker preferences)
 holds_for task t = has_likely t
 
 -- the tables that a command needs are held
@@ -120,6 +133,14 @@ pub record IsNamingOf (chain : NameChain) (preferences : DisplayNamesPreferences
   pub extensions : option_copied n.extensions
       ≡ value_at locale_cmp t.supplement.extension_names preferences.locale
 
+-- what gives names of subtags, over tables
+pub record IsSubtagNamingOf (chain : SubtagChain) (preferences : DisplayNamesPreferences)
+    (t : Tables) (n : SubtagNaming) : Type 0 where
+  pub tables : n.tables.tables.now ≡ t
+  pub names : n.tables.names ≡ t.names
+  pub chain_is : n.chain ≡ chain
+  pub preferences_are : n.preferences ≡ preferences
+
 -- the tools of a task over tables; for `negotiate` these are settled. Of `negotiate` and those that
 -- serve readers the first line of the input lists what is available, each text read as the lines are
 abbrev pub AreToolsOf : Option Syntax → Task → Tables → List ℕ → Tools → Type 0
@@ -142,11 +163,17 @@ AreToolsOf syntax Distance t input (tools.Distance d) =
     IsExpanderOf t d.expander × (t.supplement.matching ≡ Some d.matching.now)
 AreToolsOf syntax Parts t input tools.Parts = Unit {0}
 AreToolsOf syntax (Key of) t input (tools.Key other k) = (other ≡ of) × IsWholeOf t k
+AreToolsOf syntax Validate t input (tools.Validate v) = t.supplement.validity ≡ Some v.now
+AreToolsOf syntax (SubtagName chain preferences) t input (tools.SubtagName n) =
+    IsSubtagNamingOf chain preferences t n
+AreToolsOf syntax (Exemplars marker preferences) t input (tools.Exemplars set) =
+    exemplars_in t marker preferences ≡ Some set.now
 AreToolsOf syntax task t input other = ⊥
 
 -- the work of a command over tables
 pub record IsWorkOf (c : LineCommand) (t : Tables) (input : List ℕ) (work : Work) : Type 0 where
   pub syntax : work.syntax ≡ c.syntax
+  pub places : work.places ≡ c.places
   pub tools : AreToolsOf c.syntax c.task t input work.tools
 
 -- the text whose lines a task answers: without the first, where that lists what is available
@@ -168,6 +195,7 @@ ListsBy task t other = ⊥
 -- what waits for the first line of a command
 pub record IsListing (c : LineCommand) (t : Tables) (listing : Listing) : Type 0 where
   pub syntax : listing.syntax ≡ c.syntax
+  pub places : listing.places ≡ c.places
   pub over : ListsBy c.task t listing.over
 
 -- the tools that an owner lends
@@ -180,6 +208,7 @@ LendsTools over o other = ⊥
 -- the work that an owner lends
 pub record LendsWork (l : Listed) (work : Work) : Type 0 where
   pub syntax : work.syntax ≡ l.syntax
+  pub places : work.places ≡ l.places
   pub tools : LendsTools l.over l.offered work.tools
 
 -- what is lent is the work of a command over tables, and of what its first line lists

@@ -1,6 +1,6 @@
--- What words ask for: `[longest N] [threshold N] [demotion N] [favor-script] [or-first] [locales | bcp47 | posix] COMMAND
--- [json [supplement]]`.
-use Rattle.std.specs.Prelude.{◌^◌, ◌&&◌, ◌==◌, not, nat_lt, ℕ, Bool, true, false, List, [], ◌∷◌, length, codes, Option, None, Some, Result, Ok, Err, is_some, unwrap_or, if◌then◌else◌}
+-- What words ask for: `[longest N] [threshold N] [demotion N] [favor-script] [or-first] [places] [locales | bcp47 | posix]
+-- COMMAND [json [supplement]]`.
+use Rattle.std.specs.Prelude.{◌^◌, ◌&&◌, ◌||◌, ◌==◌, not, nat_lt, ℕ, Bool, true, false, List, [], ◌∷◌, length, codes, Option, None, Some, Result, Ok, Err, is_some, unwrap_or, if◌then◌else◌}
 use Rattle.std.specs.List.{find}
 use Rattle.std.specs.Option.{option_map, option_and_then}
 use Rattle.std.specs.Str.{all_ascii_digits, bytes_eq}
@@ -18,6 +18,16 @@ use Rattle.icu_locale_names.specs.declared.name_chain.NameChain.TheVariants as c
 use Rattle.icu_locale_names.specs.declared.options.DisplayNamesPreferences.{DisplayNamesPreferences}
 use Rattle.icu_locale_matching.specs.declared.limits.FavorSubtag.TheVariants.{Language, Script}
 use Rattle.icu_locale_matching.specs.declared.limits.MatchLimits.{MatchLimits}
+use Rattle.icu_provider.specs.declared.exemplars.ExemplarMarker.{ExemplarMarker}
+use Rattle.icu_provider.specs.declared.exemplars.ExemplarMarker.TheVariants.{Main, Auxiliary, Punctuation, Numbers, Index}
+use Rattle.icu_locale_lines.specs.declared.work.subtag.SubtagChain.{SubtagChain}
+use Rattle.icu_locale_lines.specs.declared.work.subtag.SubtagChain.TheVariants as subtag
+use Rattle.icu_locale_lines.specs.declared.work.subtag.RegionChain.{RegionChain}
+use Rattle.icu_locale_lines.specs.declared.work.subtag.RegionChain.TheVariants as regions
+use Rattle.icu_locale_lines.specs.declared.work.subtag.ScriptChain.{ScriptChain}
+use Rattle.icu_locale_lines.specs.declared.work.subtag.ScriptChain.TheVariants as scripts
+use Rattle.icu_locale_lines.specs.declared.work.subtag.SubtagKind.{SubtagKind}
+use Rattle.icu_locale_lines.specs.declared.work.subtag.SubtagKind.TheVariants as kind
 use Rattle.icu_locale_lines.specs.declared.asked.Asked.{Asked}
 use Rattle.icu_locale_lines.specs.declared.asked.Source.{Source}
 use Rattle.icu_locale_lines.specs.declared.asked.Source.TheVariants.{Sample, Json, JsonAndSupplement}
@@ -25,7 +35,7 @@ use Rattle.icu_locale_lines.specs.declared.command.Command.{Command}
 use Rattle.icu_locale_lines.specs.declared.command.Command.TheVariants.{Settled, Lines}
 use Rattle.icu_locale_lines.specs.declared.command.ServeTask.{ServeTask}
 use Rattle.icu_locale_lines.specs.declared.command.Task.{Task}
-use Rattle.icu_locale_lines.specs.declared.command.Task.TheVariants.{Transform, Canonicalize, Direction, Negotiate, Name, Fallback, Serve, Distance, Parts, Key}
+use Rattle.icu_locale_lines.specs.declared.command.Task.TheVariants.{Transform, Canonicalize, Direction, Negotiate, Name, Fallback, Serve, Distance, Parts, Key, Validate, SubtagName, Exemplars}
 use Rattle.icu_locale_lines.specs.declared.command.KeyOf.TheVariants.{Whole, Identifier}
 use Rattle.icu_locale_lines.specs.declared.command.Wishes.{Wishes}
 use Rattle.icu_locale_lines.specs.declared.command.Wishes.TheVariants.{Header, Requests, Resolved}
@@ -52,7 +62,52 @@ usual wishes = record {
   or_first = false;
 }
 
--- the word of each task; `name` alone has arguments
+-- the word of the names of a kind of subtag
+abbrev pub kind_word : SubtagKind → List ℕ
+kind_word kind.Language = codes "language-name"
+kind_word kind.Script = codes "script-name"
+kind_word kind.Region = codes "region-name"
+kind_word kind.Variant = codes "variant-name"
+
+abbrev pub kinds : List SubtagKind
+kinds = kind.Language ∷ kind.Script ∷ kind.Region ∷ kind.Variant ∷ []
+
+abbrev pub kind_at : List ℕ → Option SubtagKind
+kind_at = named kind_word kinds
+
+-- what a chain names
+abbrev pub kind_of : SubtagChain → SubtagKind
+kind_of (subtag.Language chain) = kind.Language
+kind_of (subtag.Script chain) = kind.Script
+kind_of (subtag.Region chain) = kind.Region
+kind_of subtag.Variant = kind.Variant
+
+abbrev pub script_chain_word : ScriptChain → List ℕ
+script_chain_word scripts.Tiny = codes "tiny"
+script_chain_word scripts.Light = codes "light"
+script_chain_word scripts.Heavy = codes "heavy"
+script_chain_word scripts.ShortHeavy = codes "short-heavy"
+
+abbrev pub script_chains : List ScriptChain
+script_chains = scripts.Tiny ∷ scripts.Light ∷ scripts.Heavy ∷ scripts.ShortHeavy ∷ []
+
+abbrev pub region_chain_word : RegionChain → List ℕ
+region_chain_word regions.Tiny = codes "tiny"
+region_chain_word regions.ShortTiny = codes "short-tiny"
+region_chain_word regions.Light = codes "light"
+region_chain_word regions.ShortLight = codes "short-light"
+
+abbrev pub region_chains : List RegionChain
+region_chains = regions.Tiny ∷ regions.ShortTiny ∷ regions.Light ∷ regions.ShortLight ∷ []
+
+-- the word of a chain
+abbrev pub subtag_chain_word : SubtagChain → List ℕ
+subtag_chain_word (subtag.Language chain) = chain_word chain
+subtag_chain_word (subtag.Script chain) = script_chain_word chain
+subtag_chain_word (subtag.Region chain) = region_chain_word chain
+subtag_chain_word subtag.Variant = codes "heavy"
+
+-- the word of each task; those of names and of exemplars have arguments
 abbrev pub task_word : Task → List ℕ
 task_word (Transform Maximize) = codes "maximize"
 task_word (Transform Minimize) = codes "minimize"
@@ -67,11 +122,14 @@ task_word Distance = codes "distance"
 task_word Parts = codes "parts"
 task_word (Key Whole) = codes "key"
 task_word (Key Identifier) = codes "identifier-key"
+task_word Validate = codes "validate"
+task_word (SubtagName chain preferences) = kind_word (kind_of chain)
+task_word (Exemplars marker preferences) = codes "exemplars"
 
 abbrev pub tasks : List Task
 tasks = Transform Maximize ∷ Transform Minimize ∷ Transform MinimizeScript ∷ Canonicalize
     ∷ Direction ∷ Negotiate ∷ Fallback ∷ Serve (usual Header) ∷ Serve (usual Requests)
-    ∷ Serve (usual Resolved) ∷ Distance ∷ Parts ∷ Key Whole ∷ Key Identifier ∷ []
+    ∷ Serve (usual Resolved) ∷ Distance ∷ Parts ∷ Key Whole ∷ Key Identifier ∷ Validate ∷ []
 
 abbrev pub task_at : List ℕ → Option Task
 task_at = named task_word tasks
@@ -94,6 +152,30 @@ chains = chain.Tiny ∷ chain.Light ∷ chain.ShortLight ∷ chain.LongLight
 
 abbrev pub chain_at : List ℕ → Option NameChain
 chain_at = named chain_word chains
+
+-- the chain of a kind that a word names
+abbrev pub subtag_chain_at : SubtagKind → List ℕ → Option SubtagChain
+subtag_chain_at kind.Language word = option_map subtag.Language (chain_at word)
+subtag_chain_at kind.Script word =
+    option_map subtag.Script (named script_chain_word script_chains word)
+subtag_chain_at kind.Region word =
+    option_map subtag.Region (named region_chain_word region_chains word)
+subtag_chain_at kind.Variant word =
+    if bytes_eq word (codes "heavy") then Some subtag.Variant else None
+
+-- the word of a set of exemplar characters
+abbrev pub exemplars_word : ExemplarMarker → List ℕ
+exemplars_word Main = codes "main"
+exemplars_word Auxiliary = codes "auxiliary"
+exemplars_word Punctuation = codes "punctuation"
+exemplars_word Numbers = codes "numbers"
+exemplars_word Index = codes "index"
+
+abbrev pub exemplar_sets : List ExemplarMarker
+exemplar_sets = Main ∷ Auxiliary ∷ Punctuation ∷ Numbers ∷ Index ∷ []
+
+abbrev pub exemplars_at : List ℕ → Option ExemplarMarker
+exemplars_at = named exemplars_word exemplar_sets
 
 -- the preferences of an identifier that has no variants
 abbrev pub preferences_of : Result LanguageIdentifier ParseError → Option DisplayNamesPreferences
@@ -141,7 +223,7 @@ asked_for longest (Some command) (Some source) =
 
 -- a task on lines of a syntax
 abbrev pub lines_of : Option Syntax → Task → Command
-lines_of syntax task = Lines (record { syntax = syntax; task = task })
+lines_of syntax task = Lines (record { syntax = syntax; places = false; task = task })
 
 -- a command of one word; `settled` has no syntax
 abbrev pub parse_word : Option Syntax → List ℕ → Option Command
@@ -149,15 +231,32 @@ parse_word syntax word = if bytes_eq word (codes "settled")
     then (if is_some syntax then None else Some Settled)
     else option_map (lines_of syntax) (task_at word)
 
--- `name CHAIN PREFERENCES`, after its first word
-abbrev pub parse_name : Option ℕ → Option Syntax → List (List ℕ) → Option Asked
-parse_name longest syntax (chain ∷ text ∷ ws) = asked_for longest (option_and_then
-    (λ c. option_map (λ p. lines_of syntax (Name c p)) (preferences_at text)) (chain_at chain))
+-- a choice and a locale come behind a word
+abbrev pub has_arguments : List ℕ → Bool
+has_arguments w = bytes_eq w (codes "name")
+    || (bytes_eq w (codes "exemplars") || is_some (kind_at w))
+
+-- the task of the word of a kind of subtag
+abbrev pub subtag_task : List ℕ → List ℕ → DisplayNamesPreferences → Option Task
+subtag_task w choice p = option_and_then
+    (λ kind. option_map (λ c. SubtagName c p) (subtag_chain_at kind choice)) (kind_at w)
+
+-- the task of a word and of what is chosen, in the language of preferences
+abbrev pub named_task : List ℕ → List ℕ → DisplayNamesPreferences → Option Task
+named_task w choice p = if bytes_eq w (codes "name")
+    then option_map (λ c. Name c p) (chain_at choice)
+    else (if bytes_eq w (codes "exemplars")
+    then option_map (λ m. Exemplars m p) (exemplars_at choice) else subtag_task w choice p)
+
+-- such a command, after its first word
+abbrev pub parse_named : Option ℕ → Option Syntax → List ℕ → List (List ℕ) → Option Asked
+parse_named longest syntax w (choice ∷ text ∷ ws) = asked_for longest
+    (option_map (lines_of syntax) (option_and_then (named_task w choice) (preferences_at text)))
     (parse_source ws)
-parse_name longest syntax ws = None
+parse_named longest syntax w ws = None
 
 abbrev pub parse_command : Option ℕ → Option Syntax → List ℕ → List (List ℕ) → Option Asked
-parse_command longest syntax w ws = if bytes_eq w (codes "name") then parse_name longest syntax ws
+parse_command longest syntax w ws = if has_arguments w then parse_named longest syntax w ws
     else asked_for longest (parse_word syntax w) (parse_source ws)
 
 -- a command after the word of a syntax, or without one
@@ -193,18 +292,20 @@ longest_next = number_next bound_at (codes "longest")
 abbrev pub limit_next : List ℕ → List (List ℕ) → Option (Option ℕ × List (List ℕ))
 limit_next = number_next limit_at
 
--- how readers are served
+-- how readers are served, and whether places are told
 abbrev pub given_flags : (threshold demotion : Option ℕ) → List (List ℕ) → Given × List (List ℕ)
 given_flags threshold demotion ws =
     let favor = word_next (codes "favor-script") ws in
-    let first = word_next (codes "or-first") favor.1 in (
+    let first = word_next (codes "or-first") favor.1 in
+    let places = word_next (codes "places") first.1 in (
       record {
         threshold = threshold;
         demotion = demotion;
         favor_script = favor.0;
         or_first = first.0;
+        places = places.0;
       },
-      first.1,
+      places.1,
     )
 
 abbrev pub given_next : List (List ℕ) → Option (Given × List (List ℕ))
@@ -212,7 +313,7 @@ given_next ws = option_and_then (λ threshold. option_map
     (λ demotion. given_flags threshold.0 demotion.0 demotion.1)
     (limit_next (codes "demotion") threshold.1)) (limit_next (codes "threshold") ws)
 
--- nothing is said of that
+-- nothing is said of how readers are served
 abbrev pub is_unsaid : Given → Bool
 is_unsaid given = not (is_some given.threshold)
     && (not (is_some given.demotion) && (not given.favor_script && not given.or_first))
@@ -233,9 +334,26 @@ task_by given (Serve served) = Some (Serve (record served {
 }))
 task_by given task = if is_unsaid given then Some task else None
 
+-- the place of a fault is told of lines that are each one locale identifier in the syntax of UTS #35
+abbrev pub tells_places : Option Syntax → Task → Bool
+tells_places (Some Unicode) Negotiate = false
+tells_places (Some Unicode) (Serve served) = false
+tells_places (Some Unicode) Distance = false
+tells_places (Some Unicode) (SubtagName chain preferences) = false
+tells_places (Some Unicode) (Exemplars marker preferences) = false
+tells_places (Some Unicode) task = true
+tells_places syntax task = false
+
+-- a task on lines of a syntax, with places only where they are told
+abbrev pub placed_lines : Bool → Option Syntax → Task → Option Command
+placed_lines places syntax task = if places && not (tells_places syntax task) then None
+    else Some (Lines (record { syntax = syntax; places = places; task = task }))
+
 abbrev pub command_by : Given → Command → Option Command
-command_by given Settled = if is_unsaid given then Some Settled else None
-command_by given (Lines c) = option_map (lines_of c.syntax) (task_by given c.task)
+command_by given Settled =
+    if is_unsaid given && not given.places then Some Settled else None
+command_by given (Lines c) =
+    option_and_then (placed_lines given.places c.syntax) (task_by given c.task)
 
 abbrev pub asked_by : Given → Asked → Option Asked
 asked_by given asked =
@@ -257,6 +375,9 @@ is_streamed_task (Serve served) = true
 is_streamed_task Distance = true
 is_streamed_task Parts = true
 is_streamed_task (Key of) = true
+is_streamed_task Validate = true
+is_streamed_task (SubtagName chain preferences) = true
+is_streamed_task (Exemplars marker preferences) = true
 is_streamed_task task = false
 
 abbrev pub is_for_runs : Command → Bool

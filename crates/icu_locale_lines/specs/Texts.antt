@@ -49,6 +49,11 @@ whole_line x m = changed_line (whole.written x) m
 abbrev pub refused_line : List ℕ → List ℕ
 refused_line name = codes "?\t" ++ (name ++ codes "\n")
 
+-- the same, and behind tabs the first byte of the place of a fault and the byte after it
+abbrev pub placed_line : List ℕ → (from to : ℕ) → List ℕ
+placed_line name from to = codes "?\t" ++ (name ++ (codes "\t" ++ (decimal from
+    ++ (codes "\t" ++ (decimal to ++ codes "\n")))))
+
 -- `ltr`, `rtl` or `none`
 abbrev pub direction_line : Option Direction → List ℕ
 direction_line (Some LeftToRight) = codes "ltr\n"

@@ -1,5 +1,6 @@
 //! Texts that are appended to an answer.
-ghost use Rattle.std.specs.Prelude.{◌≡◌, ◌≢◌, ◌++◌, decimal, IfOk, IfErr, false, OnOk, OnErr};
+ghost use Rattle.std.specs.Prelude.{◌≡◌, ◌≢◌, ◌++◌, decimal, IfOk, IfErr, MatchOption, false, true, OnOk, OnErr};
+ghost use Rattle.std.specs.Str.{is_utf8};
 ghost use Rattle.icu_locale_core.specs.Identifier.{parse_error_name};
 ghost use Rattle.icu_locale_lines.specs.Answers.{AddsLine, Keeps};
 ghost use Rattle.icu_locale_lines.specs.Texts.{refused_line};
@@ -38,6 +39,17 @@ pub fn add_known(text: &mut Vec<u8>, line: &str, accepted: bool) -> Result<bool,
 {
     add_text(text, line)?;
     Ok(accepted)
+}
+
+// The text that bytes are, if they are UTF-8.
+pub fn text_of(bytes: &[u8]) -> Option<&str>
+    ensures { MatchOption result (is_utf8 bytes.now ≡ false)
+        (λ text. (is_utf8 bytes.now ≡ true) × (text.now ≡ bytes.now)) }
+{
+    match std::str::from_utf8(bytes) {
+        Ok(text) => Some(text),
+        Err(_) => None,
+    }
 }
 
 // The line of a refused text is appended to the others. Want of memory has no line.

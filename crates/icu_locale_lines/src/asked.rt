@@ -1,14 +1,16 @@
 //! What the words of a stream ask for.
 ghost use Rattle.std.specs.Prelude.{◌≡◌, ◌∷◌};
 ghost use Rattle.std.specs.Option.{option_map};
-ghost use Rattle.icu_locale_lines.specs.Grammar.{asked_for, bound_at, chain_at, longest_next, parse, parse_behind, parse_command, parse_lines, parse_name, parse_source, parse_supplement, parse_word};
+ghost use Rattle.icu_locale_lines.specs.Grammar.{asked_for, bound_at, chain_at, exemplars_at, has_arguments, lines_of, longest_next, named_task, parse, parse_behind, parse_command, parse_lines, parse_named, parse_source, parse_supplement, parse_word};
 
 use crate::command::{Command, LineCommand, Task, is_word, syntax_of, task_of};
 use crate::cursor::Words;
 use crate::given::Given;
 use crate::work::name::read_preferences;
+use crate::work::subtag::SubtagKind;
 use icu_locale_extensions::Syntax;
-use icu_locale_names::NameChain;
+use icu_locale_names::{DisplayNamesPreferences, NameChain};
+use icu_provider::ExemplarMarker;
 use std::alloc::Global;
 
 /// What the words of a stream ask for.
@@ -34,8 +36,8 @@ pub enum Source {
 }
 
 impl Asked {
-    /// What the words of a stream ask for, if they are those of one: `longest` and a number may come first, then how
-    /// readers are served, as `Given` says, then the word of a syntax, `locales`, `bcp47` or `posix`, and at the end
+    /// What the words of a stream ask for, if they are those of one: `longest` and a number may come first, then what
+    /// `Given` reads, then the word of a syntax, `locales`, `bcp47` or `posix`, and at the end
     /// `json` or `json supplement`. What is answered does not depend on memory: only preferences with variants take
     /// some, and these are refused either way.
     #[tactic(auto, unfolding(crate::specs::Grammar::parse))]
@@ -86,8 +88,8 @@ fn command(
 ) -> Option<Asked>
     ensures { result ≡ parse_command longest syntax word.now words.entry }
 {
-    if is_word(word.as_bytes(), "name") {
-        return name(alloc, longest, syntax, words);
+    if has_arguments(word) {
+        return named(alloc, longest, syntax, word, words);
     }
     let command = command_of(syntax, word)?;
     let source = source_of(words)?;
@@ -98,21 +100,21 @@ fn command(
     })
 }
 
-// `name` by its arguments.
-fn name(
+// A command that has a choice and a locale behind its word.
+fn named(
     alloc: Global,
     longest: Option<usize>,
     syntax: Option<Syntax>,
+    word: &str,
     mut words: Words<'_>,
 ) -> Option<Asked>
-    ensures { result ≡ parse_name longest syntax words.entry }
+    ensures { result ≡ parse_named longest syntax word.now words.entry }
 {
-    let chain = words.take()?;
+    let choice = words.take()?;
     let text = words.take()?;
-    let chain = chain_of(chain)?;
     let preferences = read_preferences(alloc, text)?;
-    let task = Task::Name(chain, preferences);
-    let command = Command::Lines(LineCommand { syntax, task });
+    let task = named_task(word, choice, preferences)?;
+    let command = unplaced(syntax, task);
     let source = source_of(words)?;
     Some(Asked {
         longest,
@@ -133,14 +135,68 @@ fn command_of(syntax: Option<Syntax>, word: &str) -> Option<Command>
         };
     }
     let task = task_of(word.as_bytes())?;
-    Some(Command::Lines(LineCommand { syntax, task }))
+    Some(unplaced(syntax, task))
+}
+
+// A task on lines of a syntax, no places told.
+fn unplaced(syntax: Option<Syntax>, task: Task) -> Command
+    ensures { result ≡ lines_of syntax task }
+{
+    Command::Lines(LineCommand {
+        syntax,
+        places: false,
+        task,
+    })
+}
+
+// Whether a choice and a locale come behind a word.
+fn has_arguments(word: &str) -> bool
+    ensures { result ≡ has_arguments word.now }
+{
+    is_word(word.as_bytes(), "name")
+        || (is_word(word.as_bytes(), "exemplars") || SubtagKind::of_word(word).is_some())
+}
+
+// The task of a word and of what is chosen, in the language of preferences.
+fn named_task(word: &str, choice: &str, preferences: DisplayNamesPreferences) -> Option<Task>
+    ensures { result ≡ named_task word.now choice.now preferences }
+{
+    if is_word(word.as_bytes(), "name") {
+        return Some(Task::Name(chain_of(choice)?, preferences));
+    }
+    if is_word(word.as_bytes(), "exemplars") {
+        return Some(Task::Exemplars(exemplars_of(choice)?, preferences));
+    }
+    let kind = SubtagKind::of_word(word)?;
+    let chain = kind.chain(choice)?;
+    Some(Task::SubtagName(chain, preferences))
 }
 
 // The chain that a word names.
-fn chain_of(word: &str) -> Option<NameChain>
+pub fn chain_of(word: &str) -> Option<NameChain>
     ensures { result ≡ chain_at word.now }
 {
     NameChain::from_word(word)
+}
+
+// The set of exemplar characters that a word names.
+fn exemplars_of(word: &str) -> Option<ExemplarMarker>
+    ensures { result ≡ exemplars_at word.now }
+{
+    let word = word.as_bytes();
+    if is_word(word, "main") {
+        Some(ExemplarMarker::Main)
+    } else if is_word(word, "auxiliary") {
+        Some(ExemplarMarker::Auxiliary)
+    } else if is_word(word, "punctuation") {
+        Some(ExemplarMarker::Punctuation)
+    } else if is_word(word, "numbers") {
+        Some(ExemplarMarker::Numbers)
+    } else if is_word(word, "index") {
+        Some(ExemplarMarker::Index)
+    } else {
+        None
+    }
 }
 
 // Where the tables come from.

@@ -10,9 +10,11 @@ use crate::asked::{Asked, Source};
 use crate::cursor::Words;
 use crate::error::CliError;
 use crate::work::form::Transform;
+use crate::work::subtag::SubtagChain;
 use icu_locale_extensions::Syntax;
 use icu_locale_matching::MatchLimits;
 use icu_locale_names::{DisplayNamesPreferences, NameChain};
+use icu_provider::ExemplarMarker;
 use std::alloc::Global;
 
 /// What is done: with each line, or with the tables alone.
@@ -29,6 +31,8 @@ pub enum Command {
 pub struct LineCommand {
     /// The syntax of its locale identifiers. Without one a line holds identifiers alone.
     pub syntax: Option<Syntax>,
+    /// Whether the place of its fault is told of a line that is refused.
+    pub places: bool,
     /// What is done.
     pub task: Task,
 }
@@ -59,6 +63,12 @@ pub enum Task {
     /// The key of each locale in a store: its canonical form with the key that stays in place of its identifier. Streams
     /// alone have it.
     Key(KeyOf),
+    /// Whether each locale is valid, and each part that is not. Streams alone have it.
+    Validate,
+    /// The name of a subtag of one kind, by a chain and in the language of preferences. Streams alone have it.
+    SubtagName(SubtagChain, DisplayNamesPreferences),
+    /// Whether a set of exemplar characters of a locale has each text. Streams alone have it.
+    Exemplars(ExemplarMarker, DisplayNamesPreferences),
 }
 
 /// What a key is made of.
@@ -110,7 +120,11 @@ impl LineCommand {
     pub fn plain(task: Task) -> Self
         ensures { result ≡ plain task }
     {
-        LineCommand { syntax: None, task }
+        LineCommand {
+            syntax: None,
+            places: false,
+            task,
+        }
     }
 }
 
@@ -169,6 +183,9 @@ fn is_streamed_task(task: Task) -> bool
         Task::Distance => true,
         Task::Parts => true,
         Task::Key(_) => true,
+        Task::Validate => true,
+        Task::SubtagName(_, _) => true,
+        Task::Exemplars(_, _) => true,
         _ => false,
     }
 }
@@ -205,6 +222,8 @@ pub fn task_of(word: &[u8]) -> Option<Task>
         Some(Task::Key(KeyOf::Whole))
     } else if is_word(word, "identifier-key") {
         Some(Task::Key(KeyOf::Identifier))
+    } else if is_word(word, "validate") {
+        Some(Task::Validate)
     } else {
         None
     }

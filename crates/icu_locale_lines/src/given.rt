@@ -1,14 +1,15 @@
-//! What words say of how readers are served, before the command.
+//! What words say of how readers are served and of places, before the command.
 ghost use Rattle.std.specs.Prelude.{◌≡◌};
 ghost use Rattle.std.specs.Option.{option_map};
-ghost use Rattle.icu_locale_lines.specs.Grammar.{asked_by, command_by, given_next, is_unsaid, limit_at, limit_next, limits_by, task_by};
+ghost use Rattle.icu_locale_lines.specs.Grammar.{asked_by, command_by, given_next, is_unsaid, limit_at, limit_next, limits_by, placed_lines, task_by, tells_places};
 
 use crate::asked::Asked;
 use crate::command::{Command, LineCommand, ServeTask, Task};
 use crate::cursor::Words;
+use icu_locale_extensions::Syntax;
 use icu_locale_matching::{FavorSubtag, MatchLimits};
 
-/// What words say of how readers are served. What is not said is as ICU has it.
+/// What words say of how readers are served, which is as ICU has it where it is not said, and whether places are told.
 #[derive(Clone, Copy, Debug, PartialEq, Eq)]
 pub struct Given {
     /// What is served has a lesser distance.
@@ -19,6 +20,8 @@ pub struct Given {
     pub favor_script: bool,
     /// The first that is available is served where nothing else is.
     pub or_first: bool,
+    /// The place of a fault is told.
+    pub places: bool,
 }
 
 impl Given {
@@ -30,15 +33,18 @@ impl Given {
         let demotion = limit_next(words, "demotion")?;
         let favor_script = words.take_if("favor-script");
         let or_first = words.take_if("or-first");
+        let places = words.take_if("places");
         Some(Given {
             threshold,
             demotion,
             favor_script,
             or_first,
+            places,
         })
     }
 
-    /// What is asked for, served so. Where that serves no reader, only if nothing is said.
+    /// What is asked for, served so, with places. Where that serves no reader, only if nothing is said of serving; and
+    /// with places only where a line is one locale identifier in the syntax of UTS #35.
     pub fn asked(self, asked: Asked) -> Option<Asked>
         ensures { result ≡ asked_by self asked }
     {
@@ -55,11 +61,17 @@ impl Given {
         ensures { result ≡ command_by self command }
     {
         match command {
-            Command::Lines(LineCommand { syntax, task }) => {
+            Command::Lines(
+                LineCommand {
+                    syntax,
+                    places: _,
+                    task,
+                },
+            ) => {
                 let task = self.task(task)?;
-                Some(Command::Lines(LineCommand { syntax, task }))
+                placed_lines(self.places, syntax, task)
             }
-            Command::Settled if self.is_unsaid() => Some(command),
+            Command::Settled if self.is_unsaid() && !self.places => Some(command),
             Command::Settled => None,
         }
     }
@@ -100,6 +112,35 @@ impl Given {
                 FavorSubtag::Language
             },
         }
+    }
+}
+
+// A task on lines of a syntax, with places only where they are told.
+fn placed_lines(places: bool, syntax: Option<Syntax>, task: Task) -> Option<Command>
+    ensures { result ≡ placed_lines places syntax task }
+{
+    if places && !tells_places(syntax, &task) {
+        return None;
+    }
+    Some(Command::Lines(LineCommand {
+        syntax,
+        places,
+        task,
+    }))
+}
+
+// Whether each line is one locale identifier in the syntax of UTS #35.
+fn tells_places(syntax: Option<Syntax>, task: &Task) -> bool
+    ensures { result ≡ tells_places syntax task.now }
+{
+    match (syntax, task) {
+        (Some(Syntax::Unicode), Task::Negotiate) => false,
+        (Some(Syntax::Unicode), Task::Serve(_)) => false,
+        (Some(Syntax::Unicode), Task::Distance) => false,
+        (Some(Syntax::Unicode), Task::SubtagName(_, _)) => false,
+        (Some(Syntax::Unicode), Task::Exemplars(_, _)) => false,
+        (Some(Syntax::Unicode), _) => true,
+        _ => false,
     }
 }
 

@@ -80,7 +80,24 @@ pub const SAMPLE_SUPPLEMENT: &str = "{\
         \"kb\":{\"yes\":\"true\"},\
         \"ms\":{\"imperial\":\"uksystem\"},\
         \"tz\":{\"cnckg\":\"cnsha\",\"eire\":\"iedub\"}},\
-    \"fields\":{\"d0\":{\"name\":\"charname\"},\"m0\":{\"names\":\"prprname\"}}}";
+    \"fields\":{\"d0\":{\"name\":\"charname\"},\"m0\":{\"names\":\"prprname\"}},\
+    \"cldr\":\"sample\",\
+    \"validity\":{\
+        \"language\":{\
+            \"regular\":\"ar de en gsg gsw hy it ku lb nb no sr yue zh\",\
+            \"unknown\":\"und\",\"deprecated\":\"iw sh\"},\
+        \"script\":{\"regular\":\"Arab Armn Cyrl Hans~t Hebr Latn\",\"unknown\":\"Zzzz\"},\
+        \"region\":{\
+            \"regular\":\"AM AU CN DE EG GB HK RU SA TW US\",\
+            \"macroregion\":\"001 150\",\"unknown\":\"ZZ\",\"deprecated\":\"DD SU\"},\
+        \"variant\":{\"regular\":\"1996 alalc97 fonipa polyton\"},\
+        \"currency\":{\"regular\":\"eur usd\"},\
+        \"keywords\":{\
+            \"ca\":{\"types\":{\
+                \"regular\":\"buddhist ethioaa gregory islamic-civil\",\"deprecated\":\"islamicc\"}},\
+            \"cu\":{\"kind\":\"currency\"},\
+            \"hc\":{\"types\":{\"regular\":\"h11~2 h23~4\"}}},\
+        \"fields\":{\"m0\":{\"types\":{\"regular\":\"ungegn\"},\"kind\":\"date\",\"many\":true}}}}";
 
 /// The sample tables: common likely subtags, rules of canonicalization, directions, an exemplar set, and names with their
 /// patterns. The text gives tables, as its tests show, so a refusal is want of memory.

@@ -1,9 +1,10 @@
 //! What a command works with, and what it makes of one line.
 ghost use Rattle.std.specs.Prelude.{◌≡◌, IfOk, IfErr, OnErr};
-ghost use Rattle.icu_locale_lines.specs.Answers.{AddsLine, Keeps, IsAnswer};
+ghost use Rattle.icu_locale_lines.specs.Answers.{AddsLine, Keeps, IsAnswer, IsAnswerBy};
 
 pub mod answering;
 pub mod direction;
+pub mod exemplars;
 pub mod fallback;
 pub mod form;
 pub mod key;
@@ -14,13 +15,18 @@ pub mod locale;
 pub mod name;
 pub mod offered;
 pub mod parts;
+pub mod places;
 pub mod serve;
 pub mod serving;
+pub mod subtag;
+pub mod subtag_line;
+pub mod validate;
 pub mod value;
 
 use crate::command::{KeyOf, ServeTask};
 use crate::error::CliError;
 use crate::work::direction::add_direction;
+use crate::work::exemplars::add_exemplar;
 use crate::work::fallback::add_chain;
 use crate::work::form::{Transform, add_form};
 use crate::work::key::add_key;
@@ -29,19 +35,27 @@ use crate::work::locale::add_locale;
 use crate::work::name::{Naming, add_name};
 use crate::work::offered::Offered;
 use crate::work::parts::add_parts;
+use crate::work::places::{add_placed, place_of};
 use crate::work::serve::{add_distance, add_served};
 use crate::work::serving::Distances;
+use crate::work::subtag::SubtagNaming;
+use crate::work::subtag_line::add_subtag_name;
+use crate::work::validate::add_report;
 use icu_locale::{LocaleDirectionality, LocaleExpander, NegotiatorRef};
 use icu_locale_extensions::Syntax;
 use icu_locale_fallback::LocaleFallbackerWithConfig;
 use icu_locale_matching::LocaleServer;
+use icu_locale_validity::Validity;
 use icu_locale_values::WholeCanonicalizer;
+use icu_provider::ExemplarCharactersData;
 
-/// What a command works with: the syntax of its lines, and what it asks of each. It borrows all that it works with.
+/// What a command works with: the syntax of its lines, whether places are told, and what it asks of each. It borrows all that it works with.
 #[derive(Debug, Drop)]
 pub struct Work<'r> {
     /// The syntax of locale identifiers. Without one a line holds identifiers alone.
     pub syntax: Option<Syntax>,
+    /// Whether the place of its fault is told of a line that is refused.
+    pub places: bool,
     /// What each line is brought to.
     pub tools: Tools<'r>,
 }
@@ -69,6 +83,12 @@ pub enum Tools<'r> {
     Parts,
     /// Each locale is brought to its key.
     Key(KeyOf, WholeCanonicalizer<'r>),
+    /// Each locale has its validity told.
+    Validate(&'r Validity),
+    /// Each subtag is named.
+    SubtagName(SubtagNaming<'r>),
+    /// Of each text it is told whether it is among exemplar characters.
+    Exemplars(&'r ExemplarCharactersData),
 }
 
 impl<'r> Work<'r> {
@@ -108,11 +128,34 @@ impl<'r> Work<'r> {
         self.add(room, line)
     }
 
-    // Appends the answer to the others, or a part of it where memory is refused. What most lines ask for goes by value, so
-    // that a work which is made for one line alone needs no room.
+    // Appends the answer to the others, or a part of it where memory is refused.
     #[inline(always)]
     fn add(&self, text: &mut Vec<u8>, line: &[u8]) -> Result<bool, CliError>
         ensures answer { IfOk result (AddsLine (IsAnswer self.now line.now)
+            text.old.items text.new.items) }
+        ensures refused { IfErr result (λ e. e ≡ CliError.Memory) }
+        ensures kept { OnErr result (Keeps text.old.items text.new.items) }
+    {
+        let before = text.as_slice().len();
+        let accepted = self.add_unplaced(text, line)?;
+        if accepted || !self.places {
+            return Ok(accepted);
+        }
+        match place_of(*text.allocator(), line)? {
+            None => Ok(false),
+            Some(place) => {
+                text.truncate(before);
+                add_placed(text, place)
+            }
+        }
+    }
+
+    // The same where no place is told. What most lines ask for goes by value, so that a work which is made for one line
+    // alone needs no room.
+    #[inline(always)]
+    fn add_unplaced(&self, text: &mut Vec<u8>, line: &[u8]) -> Result<bool, CliError>
+        ensures answer { IfOk result (AddsLine
+            (IsAnswerBy self.now.syntax self.now.tools line.now)
             text.old.items text.new.items) }
         ensures refused { IfErr result (λ e. e ≡ CliError.Memory) }
         ensures kept { OnErr result (Keeps text.old.items text.new.items) }
@@ -133,6 +176,9 @@ impl<'r> Work<'r> {
             Tools::Distance(distances) => add_distance(text, distances, syntax, line),
             Tools::Parts => add_parts(text, syntax, line),
             Tools::Key(of, canonicalizer) => add_key(text, *of, *canonicalizer, syntax, line),
+            Tools::Validate(validity) => add_report(text, validity, syntax, line),
+            Tools::SubtagName(naming) => add_subtag_name(text, naming, line),
+            Tools::Exemplars(set) => add_exemplar(text, set, line),
         }
     }
 }

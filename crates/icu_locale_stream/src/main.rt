@@ -11,7 +11,7 @@ use std::process::ExitCode;
 // What `--help` writes.
 const HELP: &str = "\
 usage: icu_locale_stream [longest N] [threshold N] [demotion N] [favor-script] [or-first]
-                         [locales | bcp47 | posix] COMMAND [json [supplement]]
+                         [places] [locales | bcp47 | posix] COMMAND [json [supplement]]
        icu_locale_stream -h | --help | --version
 
 Answers each line of standard input before it reads more. With json, the first line holds the tables, and with json
@@ -25,6 +25,7 @@ supplement the second their supplement; without json both are a small sample.
   demotion N               the same: each request after the first counts N more; without it 5
   favor-script             the same: a difference of languages counts a quarter, so that scripts weigh more
   or-first                 the same: the first that is available is served where nothing else is
+  places                   before locales: a refused line tells the place of its fault: ?, name, first byte, byte after
 
   maximize                 the maximal form of each identifier
   minimize                 the minimal form, with the region kept before the script
@@ -41,10 +42,17 @@ supplement the second their supplement; without json both are a small sample.
   parts                    each part of a locale in a place of its own, a tab between two places
   key                      the key of each locale in a store: locales that mean the same have one
   identifier-key           the same, of the identifier alone
+  validate                 valid, or each part of a locale that is not: kind, part, status, first byte, byte after
+  language-name CHAIN PREFERENCES  what each language is called
+  script-name CHAIN PREFERENCES    the same of scripts
+  region-name CHAIN PREFERENCES    the same of regions, as in: region-name short-light de
+  variant-name CHAIN PREFERENCES   the same of variants
+  exemplars SET PREFERENCES        whether each text is among characters of a language, as in: exemplars main de
   settled                  whether the tables are settled: yes or no
 
 CHAIN is tiny, light, short-light, long-light, menu-light, short-menu-light, heavy, short-heavy, long-heavy, menu-heavy
-or short-menu-heavy. A line ends with a line feed alone: a carriage return or a byte order mark is a part of its line.
+or short-menu-heavy; of a script tiny, light, heavy or short-heavy, of a region tiny, short-tiny, light or short-light,
+of a variant heavy. SET is main, auxiliary, punctuation, numbers or index. A line ends with a line feed alone: a carriage return or a byte order mark is a part of its line.
 The status is 0 where each line was accepted, 1 where one was refused, 2 where the run was, and 141 where its reader has
 gone.
 ";
@@ -52,7 +60,7 @@ gone.
 // What standard error says of words that are no command.
 const USAGE: &str =
     "usage: icu_locale_stream [longest N] [threshold N] [demotion N] [favor-script] [or-first] \
-    [locales | bcp47 | posix] COMMAND [json [supplement]]";
+    [places] [locales | bcp47 | posix] COMMAND [json [supplement]]";
 
 // What a terminal is told where the answers are those of the sample.
 const OVER_SAMPLE: &str =

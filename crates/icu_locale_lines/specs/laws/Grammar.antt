@@ -10,15 +10,26 @@ use Rattle.icu_locale_extensions.specs.declared.syntax.Syntax.TheVariants.{Unico
 use Rattle.icu_locale_names.specs.LanguageChains.{chain_word}
 use Rattle.icu_locale_names.specs.declared.name_chain.NameChain.{NameChain}
 use Rattle.icu_locale_names.specs.declared.name_chain.NameChain.TheVariants as chain
-use Rattle.icu_locale_lines.specs.Grammar.{asked_by, asked_for, bound_at, chain_at, command_by, given_flags, given_next, limit_at, limit_next, lines_of, number_next, parse, parse_behind, parse_command, parse_lines}
-use Rattle.icu_locale_lines.specs.Grammar.{parse_served, parse_source, preferences_at, said_first, syntax_at, syntax_word, task_by, task_word, usual, wishes_word, word_next}
+use Rattle.icu_locale_lines.specs.Grammar.{asked_by, asked_for, bound_at, chain_at, command_by, exemplars_at, exemplars_word, given_flags, given_next, kind_of, kind_word, limit_at, limit_next, lines_of, named, named_task, number_next, parse, parse_behind, parse_command, parse_lines, parse_named, placed_lines}
+use Rattle.icu_locale_lines.specs.Grammar.{parse_served, parse_source, preferences_at, region_chain_word, region_chains, said_first, script_chain_word, script_chains, subtag_chain_word, subtag_task, syntax_at, syntax_word, task_by, task_word, usual, wishes_word, word_next}
+use Rattle.icu_locale_names.specs.declared.options.DisplayNamesPreferences.{DisplayNamesPreferences}
+use Rattle.icu_provider.specs.declared.exemplars.ExemplarMarker.{ExemplarMarker}
+use Rattle.icu_provider.specs.declared.exemplars.ExemplarMarker.TheVariants.{Main, Auxiliary, Punctuation, Numbers, Index}
+use Rattle.icu_locale_lines.specs.declared.work.subtag.RegionChain.{RegionChain}
+use Rattle.icu_locale_lines.specs.declared.work.subtag.RegionChain.TheVariants as regions
+use Rattle.icu_locale_lines.specs.declared.work.subtag.ScriptChain.{ScriptChain}
+use Rattle.icu_locale_lines.specs.declared.work.subtag.ScriptChain.TheVariants as scripts
+use Rattle.icu_locale_lines.specs.declared.work.subtag.SubtagChain.{SubtagChain}
+use Rattle.icu_locale_lines.specs.declared.work.subtag.SubtagChain.TheVariants as subtag
+use Rattle.icu_locale_lines.specs.declared.work.subtag.SubtagKind.{SubtagKind}
+use Rattle.icu_locale_lines.specs.declared.work.subtag.SubtagKind.TheVariants as kind
 use Rattle.icu_locale_lines.specs.declared.asked.Asked.{Asked}
 use Rattle.icu_locale_lines.specs.declared.asked.Source.{Source}
 use Rattle.icu_locale_lines.specs.declared.asked.Source.TheVariants.{Sample, Json, JsonAndSupplement}
 use Rattle.icu_locale_lines.specs.declared.command.Command.{Command}
 use Rattle.icu_locale_lines.specs.declared.command.Command.TheVariants.{Settled, Lines}
 use Rattle.icu_locale_lines.specs.declared.command.Task.{Task}
-use Rattle.icu_locale_lines.specs.declared.command.Task.TheVariants.{Transform, Canonicalize, Direction, Negotiate, Name, Fallback, Serve, Distance, Parts, Key}
+use Rattle.icu_locale_lines.specs.declared.command.Task.TheVariants.{Transform, Canonicalize, Direction, Negotiate, Name, Fallback, Serve, Distance, Parts, Key, Validate, SubtagName, Exemplars}
 use Rattle.icu_locale_lines.specs.declared.command.KeyOf.TheVariants.{Whole, Identifier}
 use Rattle.icu_locale_lines.specs.declared.command.Wishes.{Wishes}
 use Rattle.icu_locale_lines.specs.declared.given.Given.{Given}
@@ -28,10 +39,14 @@ use Rattle.icu_locale_lines.specs.declared.work.form.Transform.TheVariants.{Maxi
 -- the arguments of a task: `text` is that of its preferences
 abbrev pub arguments : Task → List ℕ → List (List ℕ)
 arguments (Name chain preferences) text = chain_word chain ∷ text ∷ []
+arguments (SubtagName chain preferences) text = subtag_chain_word chain ∷ text ∷ []
+arguments (Exemplars marker preferences) text = exemplars_word marker ∷ text ∷ []
 arguments task text = []
 
 abbrev pub HasPreferences : Task → List ℕ → Type 0
 HasPreferences (Name chain preferences) text = preferences_at text ≡ Some preferences
+HasPreferences (SubtagName chain preferences) text = preferences_at text ≡ Some preferences
+HasPreferences (Exemplars marker preferences) text = preferences_at text ≡ Some preferences
 HasPreferences task text = Unit {0}
 
 abbrev pub source_words : Source → List (List ℕ)
@@ -66,13 +81,14 @@ abbrev pub word_said : List ℕ → Bool → List (List ℕ) → List (List ℕ)
 word_said name true ws = name ∷ ws
 word_said name false ws = ws
 
--- the words of how readers are served, and what follows them
+-- the words of how readers are served and of places, and what follows them
 abbrev pub given_words : Given → (threshold demotion : List ℕ) → List (List ℕ) → List (List ℕ)
 given_words given threshold demotion ws =
     number_words (codes "threshold") given.threshold threshold
     (number_words (codes "demotion") given.demotion demotion
     (word_said (codes "favor-script") given.favor_script
-    (word_said (codes "or-first") given.or_first ws)))
+    (word_said (codes "or-first") given.or_first
+    (word_said (codes "places") given.places ws))))
 
 -- words have the form of what is asked for: of a bound, of how readers are served, and of a command that does so
 pub record AreWordsOf (asked : Asked) (words : List (List ℕ)) : Type 0 where
@@ -105,6 +121,31 @@ chain_found chain.LongHeavy = refl
 chain_found chain.MenuHeavy = refl
 chain_found chain.ShortMenuHeavy = refl
 
+exemplars_found : (m : ExemplarMarker) → exemplars_at (exemplars_word m) ≡ Some m
+exemplars_found Main = refl
+exemplars_found Auxiliary = refl
+exemplars_found Punctuation = refl
+exemplars_found Numbers = refl
+exemplars_found Index = refl
+
+script_found : (c : ScriptChain) → named script_chain_word script_chains (script_chain_word c) ≡ Some c
+script_found scripts.Tiny = refl
+script_found scripts.Light = refl
+script_found scripts.Heavy = refl
+script_found scripts.ShortHeavy = refl
+
+region_found : (c : RegionChain) → named region_chain_word region_chains (region_chain_word c) ≡ Some c
+region_found regions.Tiny = refl
+region_found regions.ShortTiny = refl
+region_found regions.Light = refl
+region_found regions.ShortLight = refl
+
+subtag_found : (c : SubtagChain) (p : DisplayNamesPreferences) → subtag_task (kind_word (kind_of c)) (subtag_chain_word c) p ≡ Some (SubtagName c p)
+subtag_found (subtag.Language c) p = ap (λ o. option_map (λ d. SubtagName d p) (option_map subtag.Language o)) (chain_found c)
+subtag_found (subtag.Script c) p = ap (λ o. option_map (λ d. SubtagName d p) (option_map subtag.Script o)) (script_found c)
+subtag_found (subtag.Region c) p = ap (λ o. option_map (λ d. SubtagName d p) (option_map subtag.Region o)) (region_found c)
+subtag_found subtag.Variant p = refl
+
 source_parsed : (s : Source) → parse_source (source_words s) ≡ Some s
 source_parsed Sample = refl
 source_parsed Json = refl
@@ -113,7 +154,13 @@ source_parsed JsonAndSupplement = refl
 -- the words that may stand before a command, but that of a syntax
 abbrev is_before : List ℕ → Bool
 is_before w = bytes_eq w (codes "longest") || (bytes_eq w (codes "threshold") || (bytes_eq w (codes "demotion")
-    || (bytes_eq w (codes "favor-script") || bytes_eq w (codes "or-first"))))
+    || (bytes_eq w (codes "favor-script") || (bytes_eq w (codes "or-first") || bytes_eq w (codes "places")))))
+
+kind_apart : (k : SubtagKind) → (syntax_at (kind_word k) ≡ None) × (is_before (kind_word k) ≡ false)
+kind_apart kind.Language = (refl, refl)
+kind_apart kind.Script = (refl, refl)
+kind_apart kind.Region = (refl, refl)
+kind_apart kind.Variant = (refl, refl)
 
 wish_apart : (w : Wishes) → (syntax_at (wishes_word w) ≡ None) × (is_before (wishes_word w) ≡ false)
 wish_apart Header = (refl, refl)
@@ -135,6 +182,9 @@ apart Distance = (refl, refl)
 apart Parts = (refl, refl)
 apart (Key Whole) = (refl, refl)
 apart (Key Identifier) = (refl, refl)
+apart Validate = (refl, refl)
+apart (SubtagName chain preferences) = kind_apart (kind_of chain)
+apart (Exemplars marker preferences) = (refl, refl)
 
 -- a command as its word has it: readers are served as ICU does
 abbrev usual_task : Task → Task
@@ -157,6 +207,20 @@ module _ (longest : Option ℕ) (s : Source) (text : List ℕ) where
   wish_parsed syntax Requests = alone (lines_of syntax (Serve (usual Requests)))
   wish_parsed syntax Resolved = alone (lines_of syntax (Serve (usual Resolved)))
 
+  -- a choice and a locale behind a word
+  argued : (syntax : Option Syntax) (w choice : List ℕ) (t : Task) (p : DisplayNamesPreferences) → preferences_at text ≡ Some p
+      → named_task w choice p ≡ Some t → parse_named longest syntax w (choice ∷ text ∷ source_words s) ≡ asks (lines_of syntax t)
+  argued syntax w choice t p has is =
+      (λ i. asked_for longest (option_map (lines_of syntax) (option_and_then (named_task w choice) (has i))) (parse_source (source_words s)))
+      ∙ (λ i. asked_for longest (option_map (lines_of syntax) (is i)) (parse_source (source_words s))) ∙ alone (lines_of syntax t)
+
+  kind_parsed : (syntax : Option Syntax) (k : SubtagKind) (choice : List ℕ) (t : Task) (p : DisplayNamesPreferences) → preferences_at text ≡ Some p
+      → subtag_task (kind_word k) choice p ≡ Some t → parse_command longest syntax (kind_word k) (choice ∷ text ∷ source_words s) ≡ asks (lines_of syntax t)
+  kind_parsed syntax kind.Language choice t p has is = argued syntax (kind_word kind.Language) choice t p has is
+  kind_parsed syntax kind.Script choice t p has is = argued syntax (kind_word kind.Script) choice t p has is
+  kind_parsed syntax kind.Region choice t p has is = argued syntax (kind_word kind.Region) choice t p has is
+  kind_parsed syntax kind.Variant choice t p has is = argued syntax (kind_word kind.Variant) choice t p has is
+
   task_parsed : (syntax : Option Syntax) (t : Task) → HasPreferences t text
       → parse_command longest syntax (task_word t) (arguments t text ++ source_words s) ≡ asks (lines_of syntax (usual_task t))
   task_parsed syntax (Transform Maximize) has = alone (lines_of syntax (Transform Maximize))
@@ -171,9 +235,13 @@ module _ (longest : Option ℕ) (s : Source) (text : List ℕ) where
   task_parsed syntax Parts has = alone (lines_of syntax Parts)
   task_parsed syntax (Key Whole) has = alone (lines_of syntax (Key Whole))
   task_parsed syntax (Key Identifier) has = alone (lines_of syntax (Key Identifier))
+  task_parsed syntax Validate has = alone (lines_of syntax Validate)
   task_parsed syntax (Name chain p) has =
-      (λ i. asked_for longest (option_and_then (λ c. option_map (λ q. lines_of syntax (Name c q)) (has i)) (chain_found chain i))
-      (parse_source (source_words s))) ∙ alone (lines_of syntax (Name chain p))
+      argued syntax (codes "name") (chain_word chain) (Name chain p) p has (ap (option_map (λ c. Name c p)) (chain_found chain))
+  task_parsed syntax (Exemplars marker p) has = argued syntax (codes "exemplars") (exemplars_word marker) (Exemplars marker p) p has
+      (ap (option_map (λ m. Exemplars m p)) (exemplars_found marker))
+  task_parsed syntax (SubtagName chain p) has =
+      kind_parsed syntax (kind_of chain) (subtag_chain_word chain) (SubtagName chain p) p has (subtag_found chain p)
 
   command_parsed : (c : Command) → CommandHas c text → parse_lines longest (command_words c text (source_words s)) ≡ asks (usually c)
   command_parsed Settled has = alone Settled
@@ -198,10 +266,13 @@ task_usually given (Serve served) = refl
 task_usually given Distance = refl
 task_usually given Parts = refl
 task_usually given (Key of) = refl
+task_usually given Validate = refl
+task_usually given (SubtagName chain preferences) = refl
+task_usually given (Exemplars marker preferences) = refl
 
 command_usually : (given : Given) (c : Command) → command_by given (usually c) ≡ command_by given c
 command_usually given Settled = refl
-command_usually given (Lines c) = ap (option_map (lines_of c.syntax)) (task_usually given c.task)
+command_usually given (Lines c) = ap (option_and_then (placed_lines given.places c.syntax)) (task_usually given c.task)
 
 -- words that do not begin with this one
 abbrev Skips : List ℕ → List (List ℕ) → Type 0
@@ -220,6 +291,7 @@ record AreBehind (ws : List (List ℕ)) : Type 0 where
   demotion : Skips (codes "demotion") ws
   favor : Skips (codes "favor-script") ws
   first : Skips (codes "or-first") ws
+  places : Skips (codes "places") ws
 
 neither : (a b : Bool) → (a || b) ≡ false → (a ≡ false) × (b ≡ false)
 neither true b is = absurd (false≢true (sym is))
@@ -231,12 +303,14 @@ are_behind w ws none =
     let b = neither _ _ a.1 in
     let c = neither _ _ b.1 in
     let d = neither _ _ c.1 in
+    let e = neither _ _ d.1 in
     record {
       longest = skipped (codes "longest") w ws a.0;
       threshold = skipped (codes "threshold") w ws b.0;
       demotion = skipped (codes "demotion") w ws c.0;
       favor = skipped (codes "favor-script") w ws d.0;
-      first = skipped (codes "or-first") w ws d.1;
+      first = skipped (codes "or-first") w ws e.0;
+      places = skipped (codes "places") w ws e.1;
     }
 
 command_behind : (c : Command) (text : List ℕ) (ws : List (List ℕ)) → AreBehind (command_words c text ws)
@@ -272,8 +346,11 @@ word_taken name true ws other = taken name ws
 word_taken name false ws other = other
 
 module _ (given : Given) (threshold demotion : List ℕ) (ws : List (List ℕ)) (behind : AreBehind ws) where
+  abbrev places : List (List ℕ)
+  places = word_said (codes "places") given.places ws
+
   abbrev firsts : List (List ℕ)
-  firsts = word_said (codes "or-first") given.or_first ws
+  firsts = word_said (codes "or-first") given.or_first places
 
   abbrev favors : List (List ℕ)
   favors = word_said (codes "favor-script") given.favor_script firsts
@@ -281,24 +358,32 @@ module _ (given : Given) (threshold demotion : List ℕ) (ws : List (List ℕ)) 
   abbrev demotions : List (List ℕ)
   demotions = number_words (codes "demotion") given.demotion demotion favors
 
-  before_favors : (name : List ℕ) → bytes_eq (codes "favor-script") name ≡ false → bytes_eq (codes "or-first") name ≡ false → Skips name ws
-      → Skips name favors
-  before_favors name favor first rest =
-      behind_word name (codes "favor-script") given.favor_script firsts favor (behind_word name (codes "or-first") given.or_first ws first rest)
+  before_firsts : (name : List ℕ) → bytes_eq (codes "or-first") name ≡ false → bytes_eq (codes "places") name ≡ false → Skips name ws
+      → Skips name firsts
+  before_firsts name first place rest =
+      behind_word name (codes "or-first") given.or_first places first (behind_word name (codes "places") given.places ws place rest)
+
+  before_favors : (name : List ℕ) → bytes_eq (codes "favor-script") name ≡ false → bytes_eq (codes "or-first") name ≡ false
+      → bytes_eq (codes "places") name ≡ false → Skips name ws → Skips name favors
+  before_favors name favor first place rest =
+      behind_word name (codes "favor-script") given.favor_script firsts favor (before_firsts name first place rest)
 
   flags_parsed : given_flags given.threshold given.demotion favors ≡ (given, ws)
   flags_parsed =
       let favor = word_taken (codes "favor-script") given.favor_script firsts
-      (behind_word (codes "favor-script") (codes "or-first") given.or_first ws refl behind.favor) in
-      let first = word_taken (codes "or-first") given.or_first ws behind.first in
+      (before_firsts (codes "favor-script") refl refl behind.favor) in
+      let first = word_taken (codes "or-first") given.or_first places
+      (behind_word (codes "or-first") (codes "places") given.places ws refl behind.first) in
+      let place = word_taken (codes "places") given.places ws behind.places in
       (λ i. (
         record {
           threshold = given.threshold;
           demotion = given.demotion;
           favor_script = (favor i).0;
           or_first = (word_next (codes "or-first") (favor i).1).0;
+          places = (word_next (codes "places") (word_next (codes "or-first") (favor i).1).1).0;
         },
-        (word_next (codes "or-first") (favor i).1).1,
+        (word_next (codes "places") (word_next (codes "or-first") (favor i).1).1).1,
       ))
       ∙ (λ i. (
         record {
@@ -306,8 +391,19 @@ module _ (given : Given) (threshold demotion : List ℕ) (ws : List (List ℕ)) 
           demotion = given.demotion;
           favor_script = given.favor_script;
           or_first = (first i).0;
+          places = (word_next (codes "places") (first i).1).0;
         },
-        (first i).1,
+        (word_next (codes "places") (first i).1).1,
+      ))
+      ∙ (λ i. (
+        record {
+          threshold = given.threshold;
+          demotion = given.demotion;
+          favor_script = given.favor_script;
+          or_first = given.or_first;
+          places = (place i).0;
+        },
+        (place i).1,
       ))
 
   given_parsed : IsSaid limit_at given.threshold threshold → IsSaid limit_at given.demotion demotion
@@ -317,16 +413,16 @@ module _ (given : Given) (threshold demotion : List ℕ) (ws : List (List ℕ)) 
       (λ (q : Option ℕ × List (List ℕ)). given_flags p.0 q.0 q.1) (limit_next (codes "demotion") p.1)))
       (number_parsed limit_at (codes "threshold") given.threshold threshold demotions t
       (behind_number (codes "threshold") (codes "demotion") given.demotion demotion favors refl
-      (before_favors (codes "threshold") refl refl behind.threshold)))
+      (before_favors (codes "threshold") refl refl refl behind.threshold)))
       ∙ ap (option_map (λ (q : Option ℕ × List (List ℕ)). given_flags given.threshold q.0 q.1))
-      (number_parsed limit_at (codes "demotion") given.demotion demotion favors d (before_favors (codes "demotion") refl refl behind.demotion))
+      (number_parsed limit_at (codes "demotion") given.demotion demotion favors d (before_favors (codes "demotion") refl refl refl behind.demotion))
       ∙ ap (λ p. Some p) flags_parsed
 
   unbounded : Skips (codes "longest") (given_words given threshold demotion ws)
   unbounded =
       behind_number (codes "longest") (codes "threshold") given.threshold threshold demotions refl
       (behind_number (codes "longest") (codes "demotion") given.demotion demotion favors refl
-      (before_favors (codes "longest") refl refl behind.longest))
+      (before_favors (codes "longest") refl refl refl behind.longest))
 
 pub words_parsed : (asked : Asked) (words : List (List ℕ)) → AreWordsOf asked words → parse words ≡ Some asked
 unfolding parse

@@ -10,16 +10,21 @@ use Rattle.icu_locale_extensions.specs.declared.syntax.Syntax.{Syntax}
 use Rattle.icu_locale_names.specs.LanguageChains.{chain_word}
 use Rattle.icu_locale_names.specs.declared.name_chain.NameChain.{NameChain}
 use Rattle.icu_locale_names.specs.declared.options.DisplayNamesPreferences.{DisplayNamesPreferences}
-use Rattle.icu_locale_lines.specs.Grammar.{asked_by, asked_for, bound_at, chain_at, chains, command_by, given_flags, given_next, limit_at, limit_next, lines_of, longest_next, named, number_next, parse, parse_behind, parse_command, parse_lines}
-use Rattle.icu_locale_lines.specs.Grammar.{parse_name, parse_served, parse_source, parse_supplement, parse_word, preferences_at, said_first, syntax_at, syntax_word, syntaxes, task_at, task_by, task_word, tasks, wishes_word, word_next}
+use Rattle.icu_locale_lines.specs.Grammar.{asked_by, asked_for, bound_at, chain_at, chains, command_by, exemplar_sets, exemplars_at, exemplars_word, given_flags, given_next, has_arguments, kind_at, kind_of, kind_word, kinds, limit_at, limit_next, lines_of, longest_next, named, named_task, number_next, parse, parse_behind, parse_command, parse_lines}
+use Rattle.icu_locale_lines.specs.Grammar.{parse_named, parse_served, parse_source, parse_supplement, parse_word, placed_lines, preferences_at, region_chain_word, region_chains, said_first, script_chain_word, script_chains, subtag_chain_at, subtag_chain_word, subtag_task, syntax_at, syntax_word, syntaxes, task_at, task_by, task_word, tasks, wishes_word, word_next}
 use Rattle.icu_locale_lines.specs.Lists.{is_space}
+use Rattle.icu_provider.specs.declared.exemplars.ExemplarMarker.{ExemplarMarker}
+use Rattle.icu_locale_lines.specs.declared.work.subtag.SubtagChain.{SubtagChain}
+use Rattle.icu_locale_lines.specs.declared.work.subtag.SubtagChain.TheVariants as subtag
+use Rattle.icu_locale_lines.specs.declared.work.subtag.SubtagKind.{SubtagKind}
+use Rattle.icu_locale_lines.specs.declared.work.subtag.SubtagKind.TheVariants as kind
 use Rattle.icu_locale_lines.specs.declared.asked.Asked.{Asked}
 use Rattle.icu_locale_lines.specs.declared.asked.Source.{Source}
 use Rattle.icu_locale_lines.specs.declared.asked.Source.TheVariants.{Sample, Json, JsonAndSupplement}
 use Rattle.icu_locale_lines.specs.declared.command.Command.{Command}
 use Rattle.icu_locale_lines.specs.declared.command.Command.TheVariants.{Settled}
 use Rattle.icu_locale_lines.specs.declared.command.Task.{Task}
-use Rattle.icu_locale_lines.specs.declared.command.Task.TheVariants.{Transform, Canonicalize, Direction, Negotiate, Name, Fallback, Serve, Distance, Parts, Key}
+use Rattle.icu_locale_lines.specs.declared.command.Task.TheVariants.{Transform, Canonicalize, Direction, Negotiate, Name, Fallback, Serve, Distance, Parts, Key, Validate, SubtagName, Exemplars}
 use Rattle.icu_locale_lines.specs.declared.command.KeyOf.TheVariants.{Whole, Identifier}
 use Rattle.icu_locale_lines.specs.declared.command.Wishes.{Wishes}
 use Rattle.icu_locale_lines.specs.declared.given.Given.{Given}
@@ -86,7 +91,7 @@ Told syntax c ws rest = (text : List ℕ) × CommandHas c text × (syntax_words 
 
 -- nothing is said of how readers are served
 abbrev unsaid : Given
-unsaid = record { threshold = None; demotion = None; favor_script = false; or_first = false }
+unsaid = record { threshold = None; demotion = None; favor_script = false; or_first = false; places = false }
 
 -- a task that a word names has no arguments, and is as it is where nothing is said
 record IsLone (t : Task) : Type 0 where
@@ -123,7 +128,10 @@ lone = (
                           record { has = tt; none = refl; usual = refl },
                           (
                             record { has = tt; none = refl; usual = refl },
-                            tt,
+                            (
+                              record { has = tt; none = refl; usual = refl },
+                              tt,
+                            ),
                           ),
                         ),
                       ),
@@ -161,22 +169,92 @@ word_told syntax w c ws e = by (bytes_eq w (codes "settled")) refl
         ((bytes_eq-Decides w (codes "settled")).0 is)
     by false is = task (task_at w) refl (sym (ap (λ b. if b then (if is_some syntax then None else Some Settled) else option_map (lines_of syntax) (task_at w)) is) ∙ e)
 
-name_told : (syntax : Option Syntax) (first second : List ℕ) (c : Command) (ws : List (List ℕ))
-    → option_and_then (λ k. option_map (λ p. lines_of syntax (Name k p)) (preferences_at second)) (chain_at first) ≡ Some c
-    → Told syntax c (codes "name" ∷ first ∷ second ∷ ws) ws
-name_told syntax first second c ws e = by (chain_at first) refl (preferences_at second) refl e
+-- a task that has a choice and a locale behind its word
+record IsArgued (w choice : List ℕ) (p : DisplayNamesPreferences) (t : Task) : Type 0 where
+  word : task_word t ≡ w
+  has : (text : List ℕ) → preferences_at text ≡ Some p → HasPreferences t text
+  said : (text : List ℕ) → arguments t text ≡ choice ∷ text ∷ []
+
+map_told : {X Y : Type 0} (f : X → Y) (o : Option X) (y : Y) → option_map f o ≡ Some y → (x : X) × (o ≡ Some x) × (f x ≡ y)
+map_told f None y e = absurd (none-some y e)
+map_told f (Some x) y e = (x, refl, same_Some (f x) y e)
+
+-- what a word names has that word
+word_named : {X : Type 0} (word_of : X → List ℕ) (xs : List X) (w : List ℕ) (x : X) → named word_of xs w ≡ Some x → word_of x ≡ w
+word_named word_of xs w x is = sym (named_sound word_of (λ x. Unit {0}) xs w x (anything xs) is).0
+
+kind_argued : (k : SubtagKind) (choice : List ℕ) (p : DisplayNamesPreferences) (c : SubtagChain) → subtag_chain_at k choice ≡ Some c
+    → IsArgued (kind_word k) choice p (SubtagName c p)
+kind_argued k choice p c is =
+    let both = by k is in record {
+      word = ap kind_word both.0;
+      has = λ text has. has;
+      said = λ text. ap (λ v. v ∷ text ∷ []) both.1;
+    }
   where
-    by : (o : Option NameChain) → chain_at first ≡ o → (q : Option DisplayNamesPreferences) → preferences_at second ≡ q
-        → option_and_then (λ k. option_map (λ p. lines_of syntax (Name k p)) q) o ≡ Some c
-        → Told syntax c (codes "name" ∷ first ∷ second ∷ ws) ws
-    by None is q has f = absurd (none-some c f)
-    by (Some k) is None has f = absurd (none-some c f)
-    by (Some k) is (Some p) has f =
-        let word = (named_sound chain_word (λ k. Unit {0}) chains first k (anything chains) is).0 in
-        subst (λ (d : Command). Told syntax d (codes "name" ∷ first ∷ second ∷ ws) ws) (same_Some (lines_of syntax (Name k p)) c f) (
-          second,
-          has,
-          λ i. syntax_words syntax ++ (codes "name" ∷ word i ∷ second ∷ ws),
+    heavy : (b : Bool) → bytes_eq choice (codes "heavy") ≡ b → (if b then Some subtag.Variant else None) ≡ Some c
+        → (kind_of c ≡ kind.Variant) × (subtag_chain_word c ≡ choice)
+    heavy true same e = subst (λ d. (kind_of d ≡ kind.Variant) × (subtag_chain_word d ≡ choice)) (same_Some subtag.Variant c e)
+        (refl, sym ((bytes_eq-Decides choice (codes "heavy")).0 same))
+    heavy false same e = absurd (none-some c e)
+
+    by : (k : SubtagKind) → subtag_chain_at k choice ≡ Some c → (kind_of c ≡ k) × (subtag_chain_word c ≡ choice)
+    by kind.Language e = let (d, found, made) = map_told subtag.Language (chain_at choice) c e in
+        subst (λ d. (kind_of d ≡ kind.Language) × (subtag_chain_word d ≡ choice)) made (refl, word_named chain_word chains choice d found)
+    by kind.Script e = let (d, found, made) = map_told subtag.Script (named script_chain_word script_chains choice) c e in
+        subst (λ d. (kind_of d ≡ kind.Script) × (subtag_chain_word d ≡ choice)) made (refl, word_named script_chain_word script_chains choice d found)
+    by kind.Region e = let (d, found, made) = map_told subtag.Region (named region_chain_word region_chains choice) c e in
+        subst (λ d. (kind_of d ≡ kind.Region) × (subtag_chain_word d ≡ choice)) made (refl, word_named region_chain_word region_chains choice d found)
+    by kind.Variant e = heavy (bytes_eq choice (codes "heavy")) refl e
+
+argued : (w choice : List ℕ) (p : DisplayNamesPreferences) (t : Task) → named_task w choice p ≡ Some t → IsArgued w choice p t
+argued w choice p t e = by (bytes_eq w (codes "name")) refl
+  where
+    kind : (o : Option SubtagKind) → kind_at w ≡ o → option_and_then (λ k. option_map (λ c. SubtagName c p) (subtag_chain_at k choice)) o ≡ Some t
+        → IsArgued w choice p t
+    kind None is f = absurd (none-some t f)
+    kind (Some k) is f = let (c, found, made) = map_told (λ c. SubtagName c p) (subtag_chain_at k choice) t f in
+        subst (IsArgued w choice p) made (subst (λ v. IsArgued v choice p (SubtagName c p)) (word_named kind_word kinds w k is) (kind_argued k choice p c found))
+
+    other : (b : Bool) → bytes_eq w (codes "exemplars") ≡ b
+        → (if b then option_map (λ m. Exemplars m p) (exemplars_at choice) else subtag_task w choice p) ≡ Some t → IsArgued w choice p t
+    other true is f = let (m, found, made) = map_told (λ m. Exemplars m p) (exemplars_at choice) t f in
+        subst (IsArgued w choice p) made (record {
+          word = sym ((bytes_eq-Decides w (codes "exemplars")).0 is);
+          has = λ text has. has;
+          said = λ text. ap (λ v. v ∷ text ∷ []) (word_named exemplars_word exemplar_sets choice m found);
+        })
+    other false is f = kind (kind_at w) refl f
+
+    tested : (b : Bool) → bytes_eq w (codes "name") ≡ b → named_task w choice p ≡ (if b then option_map (λ c. Name c p) (chain_at choice)
+        else (if bytes_eq w (codes "exemplars") then option_map (λ m. Exemplars m p) (exemplars_at choice) else subtag_task w choice p))
+    tested b is = ap (λ b. if b then option_map (λ c. Name c p) (chain_at choice)
+        else (if bytes_eq w (codes "exemplars") then option_map (λ m. Exemplars m p) (exemplars_at choice) else subtag_task w choice p)) is
+
+    by : (b : Bool) → bytes_eq w (codes "name") ≡ b → IsArgued w choice p t
+    by true is = let (c, found, made) = map_told (λ c. Name c p) (chain_at choice) t (sym (tested true is) ∙ e) in
+        subst (IsArgued w choice p) made (record {
+          word = sym ((bytes_eq-Decides w (codes "name")).0 is);
+          has = λ text has. has;
+          said = λ text. ap (λ v. v ∷ text ∷ []) (word_named chain_word chains choice c found);
+        })
+    by false is = other (bytes_eq w (codes "exemplars")) refl (sym (tested false is) ∙ e)
+
+named_told : (syntax : Option Syntax) (w choice text : List ℕ) (c : Command) (ws : List (List ℕ))
+    → option_map (lines_of syntax) (option_and_then (named_task w choice) (preferences_at text)) ≡ Some c
+    → Told syntax c (w ∷ choice ∷ text ∷ ws) ws
+named_told syntax w choice text c ws e = by (preferences_at text) refl e
+  where
+    by : (q : Option DisplayNamesPreferences) → preferences_at text ≡ q
+        → option_map (lines_of syntax) (option_and_then (named_task w choice) q) ≡ Some c → Told syntax c (w ∷ choice ∷ text ∷ ws) ws
+    by None has f = absurd (none-some c f)
+    by (Some p) has f =
+        let (t, found, made) = map_told (lines_of syntax) (named_task w choice p) c f in
+        let told = argued w choice p t found in
+        subst (λ (d : Command). Told syntax d (w ∷ choice ∷ text ∷ ws) ws) made (
+          text,
+          told.has text has,
+          λ i. syntax_words syntax ++ (sym told.word i ∷ sym (told.said text) i ++ ws),
         )
 
 -- words are those of a command, after a syntax, and of where its tables come from
@@ -191,18 +269,18 @@ both_told longest syntax c ws rest a told e =
 
 command_told : (longest : Option ℕ) (syntax : Option Syntax) (w : List ℕ) (ws : List (List ℕ)) (a : Asked)
     → parse_command longest syntax w ws ≡ Some a → AreTold longest syntax (w ∷ ws) a
-command_told longest syntax w ws a e = by (bytes_eq w (codes "name")) refl
+command_told longest syntax w ws a e = by (has_arguments w) refl
   where
-    name : (vs : List (List ℕ)) → parse_name longest syntax vs ≡ Some a → AreTold longest syntax (codes "name" ∷ vs) a
-    name [] f = absurd (none-some a f)
-    name (first ∷ []) f = absurd (none-some a f)
-    name (first ∷ second ∷ vs) f = both_told longest syntax _ (codes "name" ∷ first ∷ second ∷ vs) vs a (λ k. name_told syntax first second k vs) f
+    named_with : (vs : List (List ℕ)) → parse_named longest syntax w vs ≡ Some a → AreTold longest syntax (w ∷ vs) a
+    named_with [] f = absurd (none-some a f)
+    named_with (choice ∷ []) f = absurd (none-some a f)
+    named_with (choice ∷ text ∷ vs) f = both_told longest syntax _ (w ∷ choice ∷ text ∷ vs) vs a (λ k. named_told syntax w choice text k vs) f
 
-    by : (b : Bool) → bytes_eq w (codes "name") ≡ b → AreTold longest syntax (w ∷ ws) a
-    by true is = subst (λ v. AreTold longest syntax (v ∷ ws) a) (sym ((bytes_eq-Decides w (codes "name")).0 is))
-        (name ws (sym (ap (λ b. if b then parse_name longest syntax ws else asked_for longest (parse_word syntax w) (parse_source ws)) is) ∙ e))
+    by : (b : Bool) → has_arguments w ≡ b → AreTold longest syntax (w ∷ ws) a
+    by true is =
+        named_with ws (sym (ap (λ b. if b then parse_named longest syntax w ws else asked_for longest (parse_word syntax w) (parse_source ws)) is) ∙ e)
     by false is = both_told longest syntax (parse_word syntax w) (w ∷ ws) ws a (λ k. word_told syntax w k ws)
-        (sym (ap (λ b. if b then parse_name longest syntax ws else asked_for longest (parse_word syntax w) (parse_source ws)) is) ∙ e)
+        (sym (ap (λ b. if b then parse_named longest syntax w ws else asked_for longest (parse_word syntax w) (parse_source ws)) is) ∙ e)
 
 lines_told : (longest : Option ℕ) (ws : List (List ℕ)) (a : Asked) → parse_lines longest ws ≡ Some a → AreTold longest None ws a
 lines_told longest [] a e = absurd (none-some a e)
@@ -269,7 +347,9 @@ given_told ws p e = by (limit_next (codes "threshold") ws) refl e
       d.1,
       t.2 ∙ ap (number_words (codes "threshold") a.0 t.0) (d.2 ∙ ap (number_words (codes "demotion") b.0 d.0)
           (word_found (codes "favor-script") b.1 ∙ ap (word_said (codes "favor-script") (word_next (codes "favor-script") b.1).0)
-          (word_found (codes "or-first") (word_next (codes "favor-script") b.1).1))),
+          (word_found (codes "or-first") (word_next (codes "favor-script") b.1).1
+          ∙ ap (word_said (codes "or-first") (word_next (codes "or-first") (word_next (codes "favor-script") b.1).1).0)
+          (word_found (codes "places") (word_next (codes "or-first") (word_next (codes "favor-script") b.1).1).1)))),
     )
 
     next_told : (a : Option ℕ × List (List ℕ)) → HasNumber limit_at (codes "threshold") ws a → (o : Option (Option ℕ × List (List ℕ)))
@@ -344,6 +424,15 @@ one_word Distance = refl
 one_word Parts = refl
 one_word (Key Whole) = refl
 one_word (Key Identifier) = refl
+one_word Validate = refl
+one_word (Exemplars marker preferences) = refl
+one_word (SubtagName chain preferences) = by (kind_of chain)
+  where
+    by : (k : SubtagKind) → slice_split is_space (kind_word k) ≡ kind_word k ∷ []
+    by kind.Language = refl
+    by kind.Script = refl
+    by kind.Region = refl
+    by kind.Variant = refl
 
 -- so it asks for that task alone
 pub word_parsed : (word : List ℕ) (t : Task) → task_at word ≡ Some t → parse (slice_split is_space word)
@@ -362,6 +451,6 @@ word_parsed word t is =
       threshold_said = tt;
       demotion_said = tt;
       spelled = sound.1.has;
-      served = ap (option_map (lines_of None)) sound.1.usual;
+      served = ap (option_and_then (placed_lines false None)) sound.1.usual;
       whole = one_word t ∙ (λ i. task_word t ∷ (sym sound.1.none i ++ []));
     })

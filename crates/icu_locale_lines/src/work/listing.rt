@@ -27,6 +27,8 @@ use std::alloc::Global;
 pub struct Listing<'r> {
     /// The syntax of locale identifiers. Without one a line holds identifiers alone.
     pub syntax: Option<Syntax>,
+    /// Whether the place of a fault is told.
+    pub places: bool,
     /// What the identifiers are listed over.
     pub over: ListOver<'r>,
 }
@@ -45,6 +47,8 @@ pub enum ListOver<'r> {
 pub struct Listed<'r> {
     /// The syntax of the lines.
     pub syntax: Option<Syntax>,
+    /// Whether the place of a fault is told.
+    pub places: bool,
     /// The identifiers, and what is asked of them.
     pub over: ListedOver<'r>,
     /// How they are written.
@@ -88,6 +92,7 @@ impl<'r> Listing<'r> {
         };
         Ok(Listed {
             syntax,
+            places: self.places,
             over,
             offered,
         })
@@ -107,6 +112,7 @@ impl<'r> Listed<'r> {
         };
         Work {
             syntax: self.syntax,
+            places: self.places,
             tools,
         }
     }

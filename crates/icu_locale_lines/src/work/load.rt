@@ -4,7 +4,7 @@ ghost use Rattle.icu_locale.specs.RuleSet.{lent, rules_over};
 ghost use Rattle.icu_locale.specs.Rules.{HasNoTexts};
 ghost use Rattle.icu_locale_lines.specs.Loads.{AreRulesOf, IsCanonicalizerOf, IsExpanderOf, IsRefusedRules, IsWholeOf, has_likely, has_rules, not_found};
 ghost use Rattle.icu_locale_lines.specs.WholeRuns.{IsUnloaded};
-ghost use Rattle.icu_locale_lines.specs.Commands.{HasRules, IsLoaded, IsNamingOf, IsUnsettled, has_matching, has_tables, reads_rules};
+ghost use Rattle.icu_locale_lines.specs.Commands.{HasRules, IsLoaded, IsNamingOf, IsSubtagNamingOf, IsUnsettled, has_matching, has_tables, reads_rules};
 ghost use Rattle.icu_locale_fallback.specs.declared.fallbacker.LocaleFallbackPriority.TheVariants.{Language};
 
 use crate::command::{Command, LineCommand, Task};
@@ -12,12 +12,14 @@ use crate::error::CliError;
 use crate::work::listing::{ListOver, Listing};
 use crate::work::name::Naming;
 use crate::work::serving::Distances;
+use crate::work::subtag::{SubtagChain, SubtagNaming};
 use crate::work::{Tools, Work};
 use icu_locale::{CanonicalizerRef, LocaleDirectionality, LocaleExpander, ReadRules};
 use icu_locale_fallback::{
     LocaleFallbackConfig, LocaleFallbackPriority, LocaleFallbacker, LocaleFallbackerWithConfig,
 };
 use icu_locale_names::{DisplayNamesPreferences, NameChain};
+use icu_locale_validity::Validity;
 use icu_locale_values::{ValueAliases, WholeCanonicalizer};
 use icu_provider::{DataError, DataErrorKind, DataProvider, LanguageMatching};
 use icu_tables::{LocaleTables, Tables};
@@ -103,7 +105,7 @@ impl<'r> Loaded<'r> {
             (λ e. (e ≡ CliError.Data not_found) ⊎ (e ≡ CliError.NotSettled)) }
         ensures refused { IfErr result (IsUnloaded (Command.Lines command.now) tables.now) }
     {
-        let syntax = command.syntax;
+        let (syntax, places) = (command.syntax, command.places);
         let tools = match command.task {
             Task::Transform(form) => Tools::Transform(form, load_expander(tables)?),
             Task::Canonicalize => Tools::Canonicalize(load_whole_canonicalizer(tables, rules)?),
@@ -113,21 +115,40 @@ impl<'r> Loaded<'r> {
             Task::Distance => Tools::Distance(load_distances(tables)?),
             Task::Parts => Tools::Parts,
             Task::Key(of) => Tools::Key(of, load_whole_canonicalizer(tables, rules)?),
+            Task::Validate => Tools::Validate(load_validity(tables)?),
+            Task::SubtagName(chain, preferences) => {
+                Tools::SubtagName(load_subtag_naming(tables, chain, preferences))
+            }
+            Task::Exemplars(marker, preferences) => {
+                Tools::Exemplars(tables.load_exemplars(marker, preferences.locale)?)
+            }
             Task::Negotiate => {
                 let expander = load_expander(tables)?;
                 if !expander.is_settled() {
                     return Err(CliError::NotSettled);
                 }
                 let over = ListOver::Negotiate(expander);
-                return Ok(Loaded::Listing(Listing { syntax, over }));
+                return Ok(Loaded::Listing(Listing {
+                    syntax,
+                    places,
+                    over,
+                }));
             }
             Task::Serve(how) => {
                 let matching = load_matching(tables)?;
                 let over = ListOver::Serve(how, load_canonicalizer(tables, rules)?, matching);
-                return Ok(Loaded::Listing(Listing { syntax, over }));
+                return Ok(Loaded::Listing(Listing {
+                    syntax,
+                    places,
+                    over,
+                }));
             }
         };
-        Ok(Loaded::Ready(Work { syntax, tools }))
+        Ok(Loaded::Ready(Work {
+            syntax,
+            places,
+            tools,
+        }))
     }
 }
 
@@ -228,6 +249,35 @@ fn load_naming(
         chain,
         preferences,
         extensions: tables.supplement.extension_names.get(&preferences.locale),
+    }
+}
+
+// What gives names of subtags by a chain and in the language of preferences.
+fn load_subtag_naming(
+    tables: &Tables,
+    chain: SubtagChain,
+    preferences: DisplayNamesPreferences,
+) -> SubtagNaming<'_>
+    ensures { IsSubtagNamingOf chain preferences tables.entry.now result }
+{
+    SubtagNaming {
+        tables: LocaleTables::new(tables, preferences.locale),
+        chain,
+        preferences,
+    }
+}
+
+// The table of validity of the supplement.
+fn load_validity(tables: &Tables) -> Result<&Validity, CliError>
+    ensures held { IfOk result (λ v. tables.entry.now.supplement.validity ≡ Some v.now) }
+    ensures loaded { is_ok result ≡ is_some tables.entry.now.supplement.validity }
+    ensures refused { IfErr result (λ e. e ≡ CliError.Data not_found) }
+{
+    match &tables.supplement.validity {
+        Some(validity) => Ok(validity),
+        None => Err(CliError::Data(DataError {
+            kind: DataErrorKind::IdentifierNotFound,
+        })),
     }
 }
 

@@ -180,7 +180,10 @@ pub fn add_name(
 }
 
 // The line of a name: its text, and whether a raw subtag was written.
-fn add_named(text: &mut Vec<u8>, name: &LanguageIdentifierDisplayName<'_>) -> Result<bool, CliError>
+pub fn add_named(
+    text: &mut Vec<u8>,
+    name: &LanguageIdentifierDisplayName<'_>,
+) -> Result<bool, CliError>
     ensures answer { IfOk result (AddsLine (λ t a. (t ≡ named_line name.now) × (a ≡ true))
         text.old.items text.new.items) }
     ensures refused { IfErr result (λ e. e ≡ CliError.Memory) }
@@ -212,7 +215,7 @@ fn add_full_name(text: &mut Vec<u8>, name: &LocaleDisplayName) -> Result<bool, C
 }
 
 // Whether a raw subtag was written, and the end of the line.
-fn add_mark(text: &mut Vec<u8>, is_raw: bool) -> Result<(), CliError>
+pub fn add_mark(text: &mut Vec<u8>, is_raw: bool) -> Result<(), CliError>
     ensures added { OnOk result (text.new.items
         ≡ text.old.items ++ (codes "\t" ++ (raw_mark is_raw ++ codes "\n"))) }
     ensures refused { IfErr result (λ e. e ≡ CliError.Memory) }
@@ -222,7 +225,7 @@ fn add_mark(text: &mut Vec<u8>, is_raw: bool) -> Result<(), CliError>
 }
 
 // The line of a refused name. Want of memory has none.
-fn add_nameless(text: &mut Vec<u8>, kind: DataErrorKind) -> Result<bool, CliError>
+pub fn add_nameless(text: &mut Vec<u8>, kind: DataErrorKind) -> Result<bool, CliError>
     ensures answer { IfOk result (AddsLine
         (λ t a. (t ≡ refused_line (kind_name kind)) × (a ≡ false))
         text.old.items text.new.items) }

@@ -1,6 +1,7 @@
 use Rattle.icu_locale.specs.LikelySubtags.{LikelySubtags}
 use Rattle.icu_locale.specs.declared.canonicalizer.rules.Rules.{Rules}
-use Rattle.icu_locale_lines.proofs.OneAnswer.{CanonicalFacts, KeyFacts, WholeFacts, answer_one}
+use Rattle.icu_locale_lines.proofs.OneAnswer.{CanonicalFacts, KeyFacts, WholeFacts, answer_by_one}
+use Rattle.icu_locale_lines.proofs.PlacedAnswers.{answer_at_one}
 use Rattle.icu_locale_lines.proofs.Readings.{SpellingFacts}
 use Rattle.icu_locale_lines.proofs.laws.a_line_has_one_answer.Goals as goal
 
@@ -26,5 +27,7 @@ returns c = λ work line one two a b h k.
       alone = c.spelled_once.ensures;
       read = c.spelled_is_read.ensures;
     } in
-    let answers = answer_one spelling c.minimal_form_is_one.ensures.one facts wholes keys c.what_is_served_is_one.ensures c.the_nearest_to_requests_is_one.ensures line one two a b work h k in
-    (answers.text, answers.accepted)
+    answer_at_one line (c.a_fault_has_one_place.ensures line) work.syntax work.tools (λ one two a b h k.
+    let answers = answer_by_one spelling c.minimal_form_is_one.ensures.one facts wholes keys c.what_is_served_is_one.ensures
+    c.the_nearest_to_requests_is_one.ensures line one two a b work.syntax work.tools h k in
+    (answers.text, answers.accepted)) work.places one two a b h k
