@@ -72,7 +72,8 @@ enum {
 
     /* icu_locale_answer: the line is refused, and `out` begins with the program's answer to that: `?`, a tab and the name
        of the refusal, as `InvalidLanguage`, `InvalidSubtag`, `NoFixedPoint`, `NoSubdivisionFixedPoint`,
-       `NoValueFixedPoint`, `NoFieldFixedPoint`, `Circle` or `IdentifierNotFound`. icu_locale_fault: the text is none. */
+       `NoValueFixedPoint`, `NoFieldFixedPoint`, `Circle` or `IdentifierNotFound`. icu_locale_fault: the text is none.
+       icu_locale_data_name: the data has no name. */
     ICU_LOCALE_REFUSED = 1,
 
     /* icu_locale_is_settled. */
@@ -263,6 +264,15 @@ int32_t icu_locale_list_fault(const uint8_t *syntax, size_t syntax_length, const
  * ICU_LOCALE_ACCEPTED: the text is a locale identifier. ICU_LOCALE_MEMORY. `from` and `to` are as they were.
  */
 int32_t icu_locale_fault(const uint8_t *text, size_t length, size_t *from, size_t *to);
+
+/*
+ * Writes the name of the data, as the member `cldr` of the supplement says it, to `out`: `41` for CLDR 41.
+ *
+ * ICU_LOCALE_ACCEPTED: `out` begins with the name, which has `*written` bytes. ICU_LOCALE_REFUSED: it has no name.
+ * ICU_LOCALE_ROOM: `*written` is how many bytes it has. ICU_LOCALE_CLOSED. `out` is as it was, and `*written` 0 but for
+ * ICU_LOCALE_ROOM. It takes no memory.
+ */
+int32_t icu_locale_data_name(struct icu_locale *handle, uint8_t *out, size_t room, size_t *written);
 
 /* Lets the tables and the list go, and makes the handle zero. It may be opened again. A second call does nothing. */
 void icu_locale_close(struct icu_locale *handle);

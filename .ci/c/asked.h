@@ -85,6 +85,20 @@ static void placed(const char *text, int32_t number, size_t from, size_t to) {
     free(bytes);
 }
 
+// The name of the data, in so much room. Nothing is written where there is none.
+static void data_named(struct icu_locale *handle, size_t room, int32_t number, const char *name) {
+    uint8_t *out = malloc(room + 1);
+    size_t written = STAYS, length = strlen(name);
+    memset(out, '#', room + 1);
+    int32_t told = icu_locale_data_name(handle, out, room, &written);
+    size_t put = told == ICU_LOCALE_ACCEPTED ? length : 0;
+    if (told != number || written != length || memcmp(out, name, put) || out[put] != '#') {
+        printf("data_name: %d %zu, and not %d %s\n", told, written, number, name);
+        faults += 1;
+    }
+    free(out);
+}
+
 static void refuses(struct icu_locale *handle, const char *requests, int32_t number) {
     meets(handle, requests, number, 0, 0);
 }

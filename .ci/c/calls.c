@@ -8,6 +8,7 @@ static void closed(struct icu_locale *handle) {
     answers(handle, "no words", "en", ICU_LOCALE_CLOSED, "");
     want(icu_locale_is_settled(handle) == ICU_LOCALE_CLOSED, "is_settled over a closed handle");
     want(icu_locale_share(handle, &other) == ICU_LOCALE_CLOSED, "share of a closed handle");
+    data_named(handle, 9, ICU_LOCALE_CLOSED, "");
     want(supplement_of(handle, "{}") == ICU_LOCALE_CLOSED, "a supplement of a closed handle");
     want(supplement_of(handle, "{") == ICU_LOCALE_CLOSED, "no supplement of a closed handle");
     want(list_of(handle, "en", &other) == ICU_LOCALE_CLOSED, "a list over a closed handle");
@@ -87,9 +88,17 @@ static void commands(struct icu_locale *handle) {
 // A supplement of tables that one handle has, and of tables that two have.
 static void supplements(const uint8_t *json, size_t length) {
     struct icu_locale one = {0}, other = {0};
+    const char *validity = "{\"cldr\":\"41\",\"validity\":{\"language\":{\"regular\":\"en\"}}}";
     const char *parents = "{\"parents\":{\"en-AU\":\"en-001\",\"aa\":\"qbb\",\"qbb\":\"aa\"}}";
     want(icu_locale_open(json, length, &one) == ICU_LOCALE_DONE, "tables to be supplemented");
     answers(&one, "fallback", "en-AU", ICU_LOCALE_ACCEPTED, "en-AU en und");
+    data_named(&one, 0, ICU_LOCALE_REFUSED, "");
+    answers(&one, "validate", "en", ICU_LOCALE_TABLE, "");
+    want(supplement_of(&one, validity) == ICU_LOCALE_DONE, "a supplement with a table of validity");
+    answers(&one, "locales validate", "en-x-a", ICU_LOCALE_ACCEPTED, "valid");
+    answers(&one, "validate", "de", ICU_LOCALE_ACCEPTED, "language de unlisted 0 2");
+    data_named(&one, 2, ICU_LOCALE_ACCEPTED, "41");
+    data_named(&one, 1, ICU_LOCALE_ROOM, "41");
     want(supplement_of(&one, parents) == ICU_LOCALE_DONE, "a supplement");
     answers(&one, "fallback", "en-AU", ICU_LOCALE_ACCEPTED, "en-AU en-001 en und");
     answers(&one, "fallback", "aa-DJ", ICU_LOCALE_REFUSED, "?\tCircle");

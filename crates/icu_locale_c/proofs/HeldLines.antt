@@ -43,7 +43,7 @@ use Rattle.icu_locale_c.specs.declared.refusal.Refusal.TheVariants as refusal
 pub work_without_list : (asked : LineCommand) (t : Tables) (list : Option (List LanguageIdentifier)) (ws : List LocaleIdentifier) (w : Work)
     → ((input : List ℕ) → IsWorkOf asked t input w × (text_answered asked input ≡ input))
     → IsWorkOver asked (record { tables = t; available = list; wholes = ws }) w
-work_without_list asked t list ws w of = record { syntax = (of []).0.syntax; tools = by asked.task (of []).0.tools (λ input. (of input).1) }
+work_without_list asked t list ws w of = record { syntax = (of []).0.syntax; places = (of []).0.places; tools = by asked.task (of []).0.tools (λ input. (of input).1) }
   where
     never : after_first_line (10 ∷ []) ≡ 10 ∷ [] → ⊥
     never same = let none : 0 ≡ 1 = ap length same in omega (arith, none)
@@ -60,6 +60,9 @@ work_without_list asked t list ws w of = record { syntax = (of []).0.syntax; too
     by task.Distance are same = are
     by task.Parts are same = are
     by (task.Key of) are same = are
+    by task.Validate are same = are
+    by (task.SubtagName chain preferences) are same = are
+    by (task.Exemplars marker preferences) are same = are
 
 -- the line of a work over what is held
 module _ (h : Held) (asked : LineCommand) (w : Work) (line whole : List ℕ) (r : Result Bool Refusal) where
@@ -70,8 +73,8 @@ module _ (h : Held) (asked : LineCommand) (w : Work) (line whole : List ℕ) (r 
   line_refused list tables which = IfErr-weaker r _ _ (λ e is. subst (IsRefusedLine h asked) (sym is) (list, tables)) which
 
 pub work_over : (h : Held) (asked : LineCommand) (k : Task) (w : Tools) → asked.task ≡ k → AreToolsOver asked.syntax k h w
-    → IsWorkOver asked h (record { syntax = asked.syntax; tools = w })
-work_over h asked k w task are = record { syntax = refl; tools = subst (λ j. AreToolsOver asked.syntax j h w) (sym task) are }
+    → IsWorkOver asked h (record { syntax = asked.syntax; places = asked.places; tools = w })
+work_over h asked k w task are = record { syntax = refl; places = refl; tools = subst (λ j. AreToolsOver asked.syntax j h w) (sym task) are }
 
 pub no_list : (h : Held) (asked : LineCommand) (k : Task) → asked.task ≡ k → asks_list k ≡ false → HasList h asked
 no_list h asked k task none asks = absurd (false≢true (sym none ∙ (sym (ap asks_list task) ∙ asks)))
@@ -88,6 +91,9 @@ asks_none (task.Serve w) negotiates serves = absurd (serves w refl)
 asks_none task.Distance negotiates serves = refl
 asks_none task.Parts negotiates serves = refl
 asks_none (task.Key of) negotiates serves = refl
+asks_none task.Validate negotiates serves = refl
+asks_none (task.SubtagName chain preferences) negotiates serves = refl
+asks_none (task.Exemplars marker preferences) negotiates serves = refl
 
 -- a task that asks for no list is refused for a table alone
 pub loaded_table : (asked : LineCommand) (t : Tables) (e : CliError) → asks_list asked.task ≡ false → (e ≡ Data not_found) ⊎ (e ≡ NotSettled)
@@ -111,6 +117,9 @@ never_lists asked t l none waits = by asked.task none waits.over
     by task.Distance none lists = lists
     by task.Parts none lists = lists
     by (task.Key of) none lists = lists
+    by task.Validate none lists = lists
+    by (task.SubtagName chain preferences) none lists = lists
+    by (task.Exemplars marker preferences) none lists = lists
 
 -- why there is no negotiator is why there are no places, and why there is no line of `negotiate`
 pub no_places : (syntax : Option Syntax) (h : Held) (line : List ℕ) (e : Refusal) → HasNoNegotiation h e → IsRefusedNegotiation syntax h line e

@@ -18,7 +18,7 @@ use Rattle.icu_tables.specs.declared.tables.Tables.{Tables}
 use Rattle.icu_locale_lines.specs.Loads.{AreRulesOf, IsCanonicalizerOf, IsExpanderOf}
 use Rattle.icu_locale_lines.specs.laws.Expanders.{same_likely}
 use Rattle.icu_locale_lines.specs.declared.command.Task.{Task}
-use Rattle.icu_locale_lines.specs.declared.command.Task.TheVariants.{Transform, Canonicalize, Direction, Negotiate, Name, Fallback, Serve, Distance, Parts, Key}
+use Rattle.icu_locale_lines.specs.declared.command.Task.TheVariants.{Transform, Canonicalize, Direction, Negotiate, Name, Fallback, Serve, Distance, Parts, Key, Validate, SubtagName, Exemplars}
 use Rattle.icu_locale_lines.specs.declared.command.KeyOf.{KeyOf}
 use Rattle.icu_locale_lines.specs.declared.command.ServeTask.{ServeTask}
 use Rattle.icu_locale_matching.specs.declared.limits.MatchLimits.{MatchLimits}
@@ -145,3 +145,6 @@ nothing_kept (Serve w) kept rules served keyed = absurd (served w refl)
 nothing_kept Distance kept rules served keyed = tt
 nothing_kept Parts kept rules served keyed = tt
 nothing_kept (Key of) kept rules served keyed = absurd (keyed of refl)
+nothing_kept Validate kept rules served keyed = tt
+nothing_kept (SubtagName chain preferences) kept rules served keyed = tt
+nothing_kept (Exemplars marker preferences) kept rules served keyed = tt

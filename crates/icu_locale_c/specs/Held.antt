@@ -124,4 +124,5 @@ AreToolsOver syntax task h w = AreToolsOf syntax task h.tables [] w
 -- the work of a command over what is held
 pub record IsWorkOver (c : LineCommand) (h : Held) (work : Work) : Type 0 where
   pub syntax : work.syntax ≡ c.syntax
+  pub places : work.places ≡ c.places
   pub tools : AreToolsOver c.syntax c.task h work.tools

@@ -3,6 +3,7 @@
 
 ghost use Rattle.std.specs.Prelude.{◌≡◌, None, Bool, Result};
 ghost use Rattle.icu_locale_c.specs.Calls.{IsCall, IsOpened, IsShared, IsSupplemented, IsSettledCall, done_number, answer_number, yes_number};
+ghost use Rattle.icu_locale_c.specs.Data.{IsDataNamed};
 ghost use Rattle.icu_locale_c.specs.Negotiations.{IsAvailableCall, IsAvailableIn, IsListFaultIn, IsNegotiatedCall, IsNegotiatedIn};
 ghost use Rattle.icu_locale_c.specs.Places.{IsPlaced};
 ghost use Rattle.icu_locale_c.specs.declared.refusal.Refusal.{Refusal};
@@ -172,6 +173,21 @@ pub extern "C" fn icu_locale_fault(
     answer_number(put_place(alloc, text, from, to))
 }
 
+/// Writes the name of the data, as its supplement says it, to the beginning of `out`.
+#[unsafe(no_mangle)]
+pub extern "C" fn icu_locale_data_name(
+    alloc: Global,
+    handle: &mut Handle,
+    out: &mut [u8],
+    written: &mut usize,
+) -> i32
+    ensures stays { handle.new.held ≡ handle.old.held }
+    ensures named { (outcome : Result Bool Refusal) × (result ≡ answer_number outcome)
+        × IsDataNamed handle.old.held out.old out.new written.new outcome }
+{
+    answer_number(data_name(alloc, handle, out, written))
+}
+
 /// Whether the likely tables are settled.
 #[unsafe(no_mangle)]
 pub extern "C" fn icu_locale_is_settled(alloc: Global, handle: &mut Handle) -> i32
@@ -327,6 +343,22 @@ fn list_fault(alloc: Global, word: &[u8], list: &[u8], place: &mut usize) -> Res
         Ok(syntax) => put_fault(alloc, syntax, list, place),
         Err(refusal) => Err(refusal),
     }
+}
+
+fn data_name(
+    alloc: Global,
+    handle: &mut Handle,
+    out: &mut [u8],
+    written: &mut usize,
+) -> Result<bool, Refusal>
+    ensures stays { handle.new.held ≡ handle.old.held }
+    ensures named { IsDataNamed handle.old.held out.old out.new written.new result }
+{
+    *written = 0;
+    let shared = handle.take(alloc)?;
+    let outcome = shared.put_name(out, written);
+    *handle = Handle::of(shared);
+    outcome
 }
 
 fn is_settled(alloc: Global, handle: &mut Handle) -> Result<bool, Refusal>

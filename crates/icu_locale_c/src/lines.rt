@@ -63,15 +63,31 @@ fn kept_line<'r>(
     ensures refused { IfErr result (IsRefusedLine
         (held tables.now list.now offered.now.wholes.items) asked.now) }
 {
-    let syntax = asked.syntax;
+    let (syntax, places) = (asked.syntax, asked.places);
     match asked.task {
         Task::Transform(form) => {
             let tools = Tools::Transform(form, expander_over(tables)?);
-            answer(&Work { syntax, tools }, room, line)
+            answer(
+                &Work {
+                    syntax,
+                    places,
+                    tools,
+                },
+                room,
+                line,
+            )
         }
         Task::Canonicalize => {
             let tools = Tools::Canonicalize(canonicalizer_over(tables, kept)?);
-            answer(&Work { syntax, tools }, room, line)
+            answer(
+                &Work {
+                    syntax,
+                    places,
+                    tools,
+                },
+                room,
+                line,
+            )
         }
         _ => further_line(tables, list, offered, kept, asked, room, line),
     }
@@ -96,15 +112,31 @@ fn further_line<'r>(
     ensures refused { IfErr result (IsRefusedLine
         (held tables.now list.now offered.now.wholes.items) asked.now) }
 {
-    let syntax = asked.syntax;
+    let (syntax, places) = (asked.syntax, asked.places);
     match asked.task {
         Task::Negotiate => {
             let tools = Tools::Negotiate(negotiator_over(tables, list)?, offered);
-            answer(&Work { syntax, tools }, room, line)
+            answer(
+                &Work {
+                    syntax,
+                    places,
+                    tools,
+                },
+                room,
+                line,
+            )
         }
         Task::Serve(how) => {
             let tools = Tools::Serve(how, server_over(tables, kept, how.limits)?, offered);
-            answer(&Work { syntax, tools }, room, line)
+            answer(
+                &Work {
+                    syntax,
+                    places,
+                    tools,
+                },
+                room,
+                line,
+            )
         }
         _ => answer(&loaded_work(tables, kept, asked)?, room, line),
     }
@@ -163,11 +195,21 @@ pub fn put_line(text: &[u8], out: &mut [u8], written: &mut usize) -> Result<(), 
         × (length out.old < length (unended text.now))) }
 {
     let (front, _) = text.split_at(unended_length(text));
-    *written = front.len();
-    if out.len() < front.len() {
+    put_text(front, out, written)
+}
+
+// Writes a text to the beginning of `out`. Where it has no room, its length alone is told.
+pub fn put_text(text: &[u8], out: &mut [u8], written: &mut usize) -> Result<(), Refusal>
+    ensures put { IfOk result (λ _. take written.new out.new ≡ text.now) }
+    ensures writes { IfOk result (λ _. Writes out.old out.new written.new) }
+    ensures room { IfErr result (λ e. (e ≡ Refusal.Room) × (out.new ≡ out.old)
+        × (written.new ≡ length text.now) × (length out.old < length text.now)) }
+{
+    *written = text.len();
+    if out.len() < text.len() {
         return Err(Refusal::Room);
     }
-    out[..front.len()].copy_from_slice(front);
+    out[..text.len()].copy_from_slice(text);
     Ok(())
 }
 

@@ -1,12 +1,13 @@
 //! Tables that several handles have, and what one of them keeps beside them.
 ghost use Rattle.std.specs.Prelude.{◌≡◌, [], Some, IfOk, IfErr, IfSome};
 ghost use Rattle.icu_locale_c.specs.Calls.{IsCall, IsSettledCall, IsSupplemented};
+ghost use Rattle.icu_locale_c.specs.Data.{IsNamedCall};
 ghost use Rattle.icu_locale_c.specs.Held.{Held, AreKept, IsListOver, held, held_code, without_list};
 ghost use Rattle.icu_locale_c.specs.Negotiations.{IsListed, IsMet, IsRefusedListing, IsRefusedNegotiation};
 
 use crate::kept::Kept;
 use crate::kept_list::KeptList;
-use crate::lines::{line_of, put_line};
+use crate::lines::{line_of, put_line, put_text};
 use crate::negotiations::{list_available, negotiate, negotiator_over};
 use crate::refusal::Refusal;
 use crate::words::read_command;
@@ -121,6 +122,20 @@ impl Shared {
     {
         let negotiator = negotiator_over(&self.tables, &self.available)?;
         negotiate(alloc, &negotiator, syntax, line)
+    }
+
+    // Writes the name of the data to the beginning of `out`, and tells whether it has one. No length has been told before.
+    pub fn put_name(&self, out: &mut [u8], written: &mut usize) -> Result<bool, Refusal>
+        requires { written.old ≡ 0 }
+        ensures { IsNamedCall self.now.tables out.old out.new written.new result }
+    {
+        match &self.tables.supplement.cldr {
+            Some(name) => {
+                put_text(name.as_str().as_bytes(), out, written)?;
+                Ok(true)
+            }
+            None => Ok(false),
+        }
     }
 
     pub fn is_settled(&self) -> Result<bool, Refusal>

@@ -14,7 +14,7 @@ returns-in_ok-negotiator_over-in-Negotiate-clause-answered c =
     let asked = c.args.asked.now in
     let made = c.in_ok-negotiator_over-in-Negotiate in
     let told = c.answer in
-    line_over h asked (record { syntax = asked.syntax; tools = tools.Negotiate made.field-0 c.args.offered }) c.args.line.now told.new.room.items told.result
+    line_over h asked (record { syntax = asked.syntax; places = asked.places; tools = tools.Negotiate made.field-0 c.args.offered }) c.args.line.now told.new.room.items told.result
     (work_over h asked task.Negotiate (tools.Negotiate made.field-0 c.args.offered) c.in-Negotiate.is
     (made.ensures.over c.args.offered.now.wholes.items, refl)) told.ensures.answered
 
@@ -25,7 +25,7 @@ returns-in_ok-negotiator_over-in-Negotiate-clause-refused c =
     let asked = c.args.asked.now in
     let made = c.in_ok-negotiator_over-in-Negotiate in
     let told = c.answer in
-    line_refused h asked (record { syntax = asked.syntax; tools = tools.Negotiate made.field-0 c.args.offered }) c.args.line.now told.new.room.items
+    line_refused h asked (record { syntax = asked.syntax; places = asked.places; tools = tools.Negotiate made.field-0 c.args.offered }) c.args.line.now told.new.room.items
     told.result (λ asks. ap is_some (made.ensures.over ws).available)
     (ap (λ k. holds_for k c.args.tables.now) c.in-Negotiate.is ∙ made.ensures.held) told.ensures.refused
 
@@ -45,7 +45,7 @@ returns-in_ok-server_over-in-Serve-clause-answered c =
     let made = c.in_ok-server_over-in-Serve in
     let how = c.in-Serve.how in
     let told = c.answer-in-Serve in
-    line_over h asked (record { syntax = asked.syntax; tools = tools.Serve how made.field-0 c.args.offered }) c.args.line.now told.new.room.items
+    line_over h asked (record { syntax = asked.syntax; places = asked.places; tools = tools.Serve how made.field-0 c.args.offered }) c.args.line.now told.new.room.items
     told.result (work_over h asked (task.Serve how) (tools.Serve how made.field-0 c.args.offered) c.in-Serve.is
     (refl, made.ensures.over c.args.list.now ws c.requires.kept, refl)) told.ensures.answered
 

@@ -12,7 +12,7 @@ returns-in_ok-expander_over-in-Transform-clause-answered c =
     let asked = c.args.asked.now in
     let made = c.in_ok-expander_over-in-Transform in
     let form = c.in-Transform.form in
-    line_over h asked (record { syntax = asked.syntax; tools = tools.Transform form made.field-0 }) c.args.line.now c.answer.new.room.items
+    line_over h asked (record { syntax = asked.syntax; places = asked.places; tools = tools.Transform form made.field-0 }) c.args.line.now c.answer.new.room.items
     c.answer.result (work_over h asked (task.Transform form) (tools.Transform form made.field-0) c.in-Transform.is (refl, made.ensures.made))
     c.answer.ensures.answered
 
@@ -23,6 +23,6 @@ returns-in_ok-canonicalizer_over-in-Canonicalize-clause-answered c =
     let asked = c.args.asked.now in
     let made = c.in_ok-canonicalizer_over-in-Canonicalize in
     let told = c.answer-in-Canonicalize in
-    line_over h asked (record { syntax = asked.syntax; tools = tools.Canonicalize made.field-0 }) c.args.line.now told.new.room.items told.result
+    line_over h asked (record { syntax = asked.syntax; places = asked.places; tools = tools.Canonicalize made.field-0 }) c.args.line.now told.new.room.items told.result
     (work_over h asked task.Canonicalize (tools.Canonicalize made.field-0) c.in-Canonicalize.is (made.ensures.over c.args.list.now c.requires.kept))
     told.ensures.answered
