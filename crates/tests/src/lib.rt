@@ -30,6 +30,8 @@ mod places;
 #[cfg(test)]
 mod providers;
 #[cfg(test)]
+mod reports;
+#[cfg(test)]
 mod resolved;
 #[cfg(test)]
 mod serving;
@@ -40,9 +42,13 @@ mod sizes;
 #[cfg(test)]
 mod streams;
 #[cfg(test)]
+mod supplements;
+#[cfg(test)]
 mod tables;
 #[cfg(test)]
 mod texts;
+#[cfg(test)]
+mod validity;
 #[cfg(test)]
 mod values;
 #[cfg(test)]

@@ -12,7 +12,9 @@ use std::process::Abort;
 use tests_shared::known::{identifier, sample};
 
 const SUPPLEMENT: &str = "{\"parents\":{\"en-AU\":\"en-001\",\"en-001\":\"en\"},\
-    \"matching\":{\"others\":[80,50,4],\"paradigms\":[\"en\"],\"rules\":{}}}";
+    \"matching\":{\"others\":[80,50,4],\"paradigms\":[\"en\"],\"rules\":{}},\
+    \"cldr\":\"41\",\"validity\":{\"language\":{\"regular\":\"aa~c en\"},\
+    \"keywords\":{\"ca\":{\"types\":{\"regular\":\"islamic-civil\"}}}}}";
 
 // Reading a supplement.
 #[derive(Drop)]
@@ -21,11 +23,23 @@ struct ReadSupplement;
 impl Call for ReadSupplement {
     fn answer(&self, alloc: Global) -> Answered {
         match Supplement::from_json(alloc, SUPPLEMENT.as_bytes()) {
-            Ok(held) if held.parents.len() == 2 && held.matching.is_some() => Answered::Whole,
+            Ok(held) if is_whole(&held) => Answered::Whole,
             Err(TableError::Memory) => Answered::Refused,
             _ => Answered::Wrong,
         }
     }
+}
+
+// Whether each member is there.
+fn is_whole(held: &Supplement) -> bool {
+    let Some(table) = &held.validity else {
+        return false;
+    };
+    held.parents.len() == 2
+        && held.matching.is_some()
+        && held.cldr.is_some()
+        && table.languages.len() == 4
+        && table.keywords.len() == 1
 }
 
 // Listing the chain of an identifier, whose variants are copied.

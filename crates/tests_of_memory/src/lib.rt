@@ -27,4 +27,6 @@ mod serving;
 #[cfg(test)]
 mod tables;
 #[cfg(test)]
+mod validity;
+#[cfg(test)]
 mod values;

@@ -15,6 +15,7 @@ const RUNS: [(Command, &str, &str); 4] = [
     (
         Command::Lines(LineCommand {
             syntax: None,
+            places: false,
             task: Task::Transform(Transform::Maximize),
         }),
         "zh-CN\nEN_us\n\n",
@@ -23,6 +24,7 @@ const RUNS: [(Command, &str, &str); 4] = [
     (
         Command::Lines(LineCommand {
             syntax: None,
+            places: false,
             task: Task::Transform(Transform::Maximize),
         }),
         "zh-CN\nEN_us-posix\n\n",
@@ -31,6 +33,7 @@ const RUNS: [(Command, &str, &str); 4] = [
     (
         Command::Lines(LineCommand {
             syntax: None,
+            places: false,
             task: Task::Canonicalize,
         }),
         "sh-posix\tabcdefg\nja\nja\tab\n",
@@ -39,6 +42,7 @@ const RUNS: [(Command, &str, &str); 4] = [
     (
         Command::Lines(LineCommand {
             syntax: None,
+            places: false,
             task: Task::Negotiate,
         }),
         "en-US-posix zh-Hant yue-CN\nfr zh-TW\nen-1abc en-posix\ne\n",
@@ -246,4 +250,81 @@ fn a_run_that_ends_early_writes_out_its_lines(rt: HostRuntime) {
     };
     writes_whole_lines(&rt, alloc, &call);
     assert!(rt; at_budget(alloc, &call, 16).expect(&rt, "memory") == Answered::Refused);
+}
+
+// Words of streams alone; lines of tables, and then of locales, subtags or texts; and what is written where there is
+// memory.
+const STREAMED: [(&str, &[u8], &str); 7] = [
+    (
+        "locales validate json supplement",
+        b"{}\n{\"validity\":{\"language\":{\"regular\":\"en\"},\"keywords\":{\"ca\":\
+        {\"types\":{\"regular\":\"islamic-civil\"}}}}}\n\
+        en-u-ca-islamic-civil\nen-u-foo-ca-islamic-rgsa-a-b1-b2\nen-\n",
+        "valid\nattribute foo unlisted 5 8\tkeyword ca-islamic-rgsa unlisted 9 24\t\
+        extension a-b1-b2 unlisted 25 32\n?\tInvalidSubtag\n",
+    ),
+    (
+        "places locales validate json supplement",
+        b"{}\n{\"validity\":{\"language\":{\"regular\":\"en\"}}}\nen-1996\nen-1996-1996\n",
+        "variant 1996 unlisted 3 7\n?\tInvalidSubtag\t8\t12\n",
+    ),
+    (
+        "language-name menu-light en json",
+        b"{\"menus\":{\"language/menu/medium/light\":{\"en\":{\"ku\":[\"Kurdish\",\"Kurmanji\"]}}},\
+        \"essentials\":{\"en\":{\"pattern\":[0,\" (\",1,\")\"],\"separator\":[0,\", \",1]}}}\n\
+        ku\nen-US\n",
+        "Kurdish (Kurmanji)\tN\n?\tInvalidLanguage\n",
+    ),
+    (
+        "script-name heavy en json",
+        b"{\"names\":{\"script/medium/light\":{\"en\":{\"Latn\":\"Latin\"}}}}\nlatn\nHans\nen\n",
+        "Latin\tN\nHans\tR\n?\tInvalidSubtag\n",
+    ),
+    (
+        "region-name light en json",
+        b"{\"names\":{\"region/medium/light\":{\"en\":{\"US\":\"United States\"}}}}\nus\nusa\n",
+        "United States\tN\n?\tInvalidSubtag\n",
+    ),
+    (
+        "variant-name heavy en json",
+        b"{\"names\":{\"variant/medium/heavy\":{\"en\":{\"fonipa\":\"IPA\"}}}}\nfonipa\n1996\nen\n",
+        "IPA\tN\n1996\tR\n?\tInvalidSubtag\n",
+    ),
+    (
+        "exemplars main en json",
+        b"{\"exemplars\":{\"main\":{\"en\":{\"ranges\":[97,123],\"strings\":[\"ng\"]}}}}\nng\nA\n\xff\n",
+        "yes\nno\n?\tInvalidText\n",
+    ),
+];
+
+// A stream that reads its tables, and answers.
+#[derive(Drop)]
+struct Streaming<'r> {
+    words: &'r [String],
+    input: &'r [u8],
+    answers: &'r str,
+}
+
+impl Call for Streaming<'_> {
+    fn answer(&self, alloc: Global) -> Answered {
+        let mut writer = HeldWriter::new(128);
+        let mut reader = self.input;
+        let status = stream_words(alloc, self.words, &mut reader, &mut writer);
+        ended(status, &writer, self.answers)
+    }
+}
+
+#[test]
+fn a_stream_that_reads_its_tables_writes_whole_lines(rt: HostRuntime) {
+    let alloc = rt.alloc();
+    for (words_of, input, answers) in STREAMED {
+        let words = words(alloc, words_of).expect(&rt, words_of);
+        let call = Streaming {
+            words: &words,
+            input,
+            answers,
+        };
+        assert!(rt; call.answer(alloc) == Answered::Whole, "{words_of}");
+        stands(&rt, alloc, &call);
+    }
 }
