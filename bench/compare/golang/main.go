@@ -3,7 +3,8 @@
 //	golang COMMAND [LOCALE]
 //
 // The commands are those of icu_locale_cli, as far as the package has them: canonicalize, negotiate, whose first line lists
-// what is available, and `name LOCALE`. `versions` says what is asked.
+// what is available, and `name LOCALE`. validate tells of each tag `valid`, the subtag that is unknown, or `?` where it is
+// not well-formed. `versions` says what is asked.
 package main
 
 import (
@@ -28,6 +29,17 @@ func canonicalized(line string) string {
 		return refused
 	}
 	return tag.String()
+}
+
+func validated(line string) string {
+	_, err := language.Parse(line)
+	if err == nil {
+		return "valid"
+	}
+	if unknown, is := err.(language.ValueError); is {
+		return unknown.Subtag()
+	}
+	return refused
 }
 
 func namer(locale string) answer {
@@ -85,13 +97,15 @@ func main() {
 		return
 	case len(words) == 1 && words[0] == "canonicalize":
 		call = canonicalized
+	case len(words) == 1 && words[0] == "validate":
+		call = validated
 	case len(words) == 2 && words[0] == "name":
 		call = namer(words[1])
 	case len(words) == 1 && words[0] == "negotiate":
 		input.Scan()
 		call = negotiator(input.Text())
 	default:
-		fmt.Fprintln(os.Stderr, "usage: golang canonicalize | name LOCALE | negotiate | versions")
+		fmt.Fprintln(os.Stderr, "usage: golang canonicalize | name LOCALE | negotiate | validate | versions")
 		os.Exit(2)
 	}
 	for input.Scan() {
