@@ -9,6 +9,7 @@ mod MarkedLookups
 mod MemberReads
 mod Members
 mod NameGroups
+mod NamedKeys
 mod Once
 mod Puts
 mod Supplements

@@ -2,6 +2,7 @@ pub mod Fields
 pub mod File
 pub mod Groups
 pub mod Lookups
+pub mod NamedKeys
 pub mod NamedRows
 pub mod Names
 pub mod Puts

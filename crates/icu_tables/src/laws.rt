@@ -1,11 +1,16 @@
 //! Laws of files of tables. Each function here takes nothing, answers nothing and carries a proved fact.
-ghost use Rattle.std.specs.Prelude.{◌≡◌, ◌∷◌, [], codes, ℕ, List, Some};
+ghost use Rattle.std.specs.Prelude.{◌≡◌, ◌∷◌, [], codes, ℕ, List, Some, String};
+ghost use Rattle.std.specs.Global.{Global};
 ghost use Rattle.std.specs.Cmp.{IsTotalOrder};
 ghost use Rattle.serde_json.specs.Data.{Data};
 ghost use Rattle.icu_provider.specs.Requests.{exemplar_cmp, locale_cmp, menu_cmp, name_cmp};
+ghost use Rattle.icu_provider.specs.declared.data_locale.DataLocale.{DataLocale};
+ghost use Rattle.icu_provider.specs.declared.names.NameKey.{NameKey};
+ghost use Rattle.icu_provider.specs.declared.names.NameMarker.{NameMarker};
 ghost use Rattle.icu_provider.specs.declared.likely.extended.LikelySubtagsExtended.{LikelySubtagsExtended};
 ghost use Rattle.icu_provider.specs.declared.likely.language.LikelySubtagsForLanguage.{LikelySubtagsForLanguage};
 ghost use Rattle.icu_provider.specs.declared.likely.script_region.LikelySubtagsForScriptRegion.{LikelySubtagsForScriptRegion};
+ghost use Rattle.icu_tables.specs.NamedKeys.{AreNamedKeys};
 ghost use Rattle.icu_tables.specs.NamedRows.{name_patterns, exemplar_set, menu_name};
 ghost use Rattle.icu_tables.specs.Lookups.{
   IsFile,
@@ -68,4 +73,12 @@ pub fn likely_keys_find_their_members()
 // The order of a type is total.
 fn is_in_order<K: Ord>()
     ensures { IsTotalOrder K.cmp }
+{}
+
+/// The keys that are named in a locale are one list.
+pub fn named_keys_are_one()
+    ensures { (rows : List ((NameMarker × DataLocale × NameKey) × String Global))
+        (markers : List NameMarker) (locale : DataLocale) (keys others : List NameKey)
+        → AreNamedKeys rows markers locale keys → AreNamedKeys rows markers locale others
+        → keys ≡ others }
 {}

@@ -1,16 +1,19 @@
 //! Names in two steps: first by marker and locale, and then by key.
-ghost use Rattle.std.specs.Prelude.{◌≡◌, ◌==◌, ◌-◌, ◌^◌, [], length, min, MatchResult, IfErr, option_copied};
+ghost use Rattle.std.specs.Prelude.{◌≡◌, ◌==◌, ◌-◌, ◌^◌, ◌++◌, ◌↔◌, [], length, min, MatchResult, IfErr, IfOk, IsTrue, OnOk, option_copied};
+ghost use Rattle.std.specs.List.{Contains};
+ghost use Rattle.std.specs.Map.{keys_of};
+ghost use Rattle.icu_tables.specs.NamedKeys.{AreNamedKeys, is_named_by};
 ghost use Rattle.icu_locale_core.specs.Maps.{value_at};
 ghost use Rattle.icu_provider.specs.SortedMaps.{Inserts, IsSortedMap};
 ghost use Rattle.icu_provider.specs.Requests.{name_cmp};
-ghost use Rattle.icu_tables.specs.Groups.{flat_names, group_cmp, name_in_group};
+ghost use Rattle.icu_tables.specs.Groups.{flat_names, group_cmp, key_cmp, name_in_group};
 
 use crate::LocaleNames;
-use icu_provider::laws::keys_are_told_apart;
+use icu_provider::laws::{equality_is_told, keys_are_told_apart};
 use icu_provider::{
     DataError, DataErrorKind, DataLocale, NameKey, NameMarker, NotedMap, SortedMap,
 };
-use std::alloc::Global;
+use std::alloc::{AllocError, Global};
 use std::marker::Model;
 
 // The names of a marker and a locale, by key.
@@ -88,6 +91,56 @@ impl NameRows {
         self.groups.get(&(marker, *locale))
     }
 
+    /// The keys that some of the markers names in a locale, each once, in rising order. It takes memory for them.
+    ///
+    /// # Errors
+    ///
+    /// The allocator's, where memory for the keys was refused.
+    pub fn keys_in(
+        &self,
+        alloc: Global,
+        markers: &[NameMarker],
+        locale: &DataLocale,
+    ) -> Result<Vec<NameKey>, AllocError>
+        ensures { IfOk result (λ keys. AreNamedKeys self.now markers.now locale.now keys.items) }
+    {
+        keys_are_told_apart();
+        equality_is_told();
+        let mut keys = self.gathered(alloc, markers, locale)?;
+        keys.sort_unstable();
+        keys.dedup();
+        Ok(keys)
+    }
+
+    // The names of a marker and a locale.
+    fn names_of(&self, marker: NameMarker, locale: &DataLocale) -> &[(NameKey, String)]
+        ensures { (key : NameKey) → value_at key_cmp result.now key
+            ≡ value_at name_cmp self.now (marker, locale.now, key) }
+    {
+        match self.group(marker, locale) {
+            Some(names) => names.as_slice(),
+            None => &[],
+        }
+    }
+
+    // The keys that each of the markers names in a locale.
+    fn gathered(
+        &self,
+        alloc: Global,
+        markers: &[NameMarker],
+        locale: &DataLocale,
+    ) -> Result<Vec<NameKey>, AllocError>
+        ensures { IfOk result (λ keys. (key : NameKey) → Contains keys.items key
+            ↔ IsTrue (is_named_by self.now markers.now locale.now key)) }
+    {
+        keys_are_told_apart();
+        let mut keys = Vec::new(alloc);
+        for marker in markers {
+            add_keys(&mut keys, self.names_of(*marker, locale))?;
+        }
+        Ok(keys)
+    }
+
     /// The same names, to be asked in one locale again and again. It takes no memory.
     pub fn in_locale(&self, locale: DataLocale) -> LocaleNames<'_>
         ensures { result ≡ self.now }
@@ -152,6 +205,16 @@ impl NameRows {
     {
         let _ = &self.groups;
     }
+}
+
+// The keys of names are appended to others.
+fn add_keys(keys: &mut Vec<NameKey>, names: &[(NameKey, String)]) -> Result<(), AllocError>
+    ensures { OnOk result (keys.new.items ≡ keys.old.items ++ keys_of names.now) }
+{
+    for name in names {
+        keys.push(name.0)?;
+    }
+    Ok(())
 }
 
 // How many names are in groups.
