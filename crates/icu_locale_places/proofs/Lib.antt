@@ -3,4 +3,5 @@ mod Grown
 mod Heads
 mod Once
 mod Probed
+mod Stopped
 mod Told

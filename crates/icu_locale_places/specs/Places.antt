@@ -2,6 +2,7 @@
 -- section 3.2, unicode_locale_id).
 use Rattle.std.specs.Prelude.{◌≡◌, ◌⊎◌, ◌<◌, ◌≤◌, ◌+◌, suc, ℕ, Bool, true, ◌||◌, IsTrue, List, [], ◌∷◌, ◌++◌, length, take, slice_index_or, codes, Err, is_ok}
 use Rattle.icu_locale_core.specs.Identifier.{pieces, starts_with_language}
+use Rattle.icu_locale_core.specs.declared.parse_error.ParseError.{ParseError}
 use Rattle.icu_locale_core.specs.declared.parse_error.ParseError.TheVariants.{InvalidSubtag}
 use Rattle.icu_locale_extensions.specs.Grammar.{IsLocaleId, Spells}
 use Rattle.icu_locale_extensions.specs.Reader.{read}
@@ -26,6 +27,10 @@ pub record IsPlace (ps : List (List ℕ)) (n : ℕ) : Type 0 where
 abbrev pub BeginsText : List (List ℕ) → Type 0
 BeginsText ps = (t : List ℕ) × ((x : LocaleIdentifier)
     × ((take (length ps) (pieces t) ≡ ps) × Spells t x))
+
+-- the reader has stopped within these pieces: it refuses them, and answers the same whatever follows
+abbrev pub HasStopped : List (List ℕ) → Type 0
+HasStopped ps = (e : ParseError) × ((qs : List (List ℕ)) → read (ps ++ qs) ≡ Err e)
 
 -- ---- its bytes
 

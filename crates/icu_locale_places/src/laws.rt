@@ -1,8 +1,8 @@
 //! Laws of places. Each function here takes nothing, answers nothing and carries a proved fact.
 ghost use Rattle.std.specs.Prelude.{◌≡◌, ◌↔◌, ◌<◌, ◌≤◌, true, false, List, ℕ};
-ghost use Rattle.std.specs.Prelude.{length, take, slice_index_or, slice_range, []};
+ghost use Rattle.std.specs.Prelude.{length, suc, take, slice_index_or, slice_range, []};
 ghost use Rattle.icu_locale_core.specs.Identifier.{pieces, starts_with_language};
-ghost use Rattle.icu_locale_places.specs.Places.{BeginsSome, BeginsText, IsPlace, IsSpan, IsWrongAt, begins_some};
+ghost use Rattle.icu_locale_places.specs.Places.{BeginsSome, BeginsText, HasStopped, IsPlace, IsSpan, IsWrongAt, begins_some};
 
 /// Pieces are the first of some that spell a locale identifier exactly where they are read, or are with one more.
 pub fn begins_is_told()
@@ -28,6 +28,17 @@ pub fn places_are_one()
         → m ≡ n }
 {
     begins_is_told();
+}
+
+/// A reader from left to right stops at the place: within the pieces up to a wrong piece it has stopped, and within
+/// fewer it has not. Where the place is the end, it has not stopped within the text at all.
+pub fn the_reader_stops_there()
+    ensures stopped { (ps : List (List ℕ)) (n : ℕ) → IsPlace ps n → n < length ps
+        → HasStopped (take (suc n) ps) }
+    ensures not_before { (ps : List (List ℕ)) (n m : ℕ) → IsPlace ps n → m ≤ n
+        → ¬ (HasStopped (take m ps)) }
+{
+    icu_locale_extensions::laws::derived_is_read();
 }
 
 /// A text is wrong at the same bytes always.
