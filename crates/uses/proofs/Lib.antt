@@ -1,2 +1,4 @@
 mod Forms
 mod Lines
+mod ValidForms
+mod ValidIds

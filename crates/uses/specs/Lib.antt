@@ -1,3 +1,4 @@
+pub mod Aliased
 pub mod Answering
 pub mod Fallback
 pub mod Keying

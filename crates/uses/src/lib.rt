@@ -18,6 +18,7 @@ mod same_locale;
 mod scripts;
 mod spelling;
 mod switcher;
+mod valid;
 
 pub use answering::place_to_answer_in;
 pub use canonical::canonicalize_twice;
@@ -36,3 +37,4 @@ pub use same_locale::are_same_locale;
 pub use scripts::nearest_in_its_script;
 pub use spelling::is_spelling;
 pub use switcher::serve;
+pub use valid::{canonicalize_if_valid, valid_is_canonical, valid_is_whole};
