@@ -157,12 +157,14 @@ int32_t icu_locale_share(struct icu_locale *from, struct icu_locale *to);
 
 /*
  * Answers one line. `command` is the program's words, one space between two: `maximize`, `minimize`, `minimize-script`,
- * `canonicalize`, `key`, `identifier-key`, `direction`, `fallback`, `distance`, `parts`, `name CHAIN PREFERENCES` as in
- * `name light en`, or `negotiate`, `serve`, `nearest` or `resolved` where the handle holds a list of what is available. `line`
- * is one line of the program's input without its line feed: an identifier, or at `canonicalize` an identifier, or an
- * identifier, a tab and a value; at `distance` two identifiers, at `negotiate`, `nearest` and `resolved` the requests of one
- * reader, and at `serve` a header Accept-Language. `serve`, `nearest`, `resolved` and `distance` ask the rules of language
- * matching of the tables' supplement.
+ * `canonicalize`, `key`, `identifier-key`, `direction`, `fallback`, `distance`, `parts`, `validate`, `name CHAIN
+ * PREFERENCES` as in `name light en`, `language-name`, `script-name`, `region-name` and `variant-name` with the same,
+ * `exemplars SET PREFERENCES`, `list KIND PREFERENCES`, or `negotiate`, `serve`, `nearest` or `resolved` where the handle
+ * holds a list of what is available. `line` is one line of the program's input without its line feed: an identifier, or at
+ * `canonicalize` an identifier, or an identifier, a tab and a value; at `distance` two identifiers, at `negotiate`,
+ * `nearest` and `resolved` the requests of one reader, at `serve` a header Accept-Language, at the names of subtags a
+ * subtag, at `exemplars` a text, and at `list` the beginning of subtags. `serve`, `nearest`, `resolved` and `distance` ask
+ * the rules of language matching of the tables' supplement, and `validate` its table of validity.
  *
  * Before these words may come `locales`, `bcp47` or `posix`, as in `locales maximize`: the line holds locale identifiers
  * with extensions, or such tags of RFC 5646, or such names of POSIX locales, and the answer has their extensions.
@@ -186,8 +188,9 @@ int32_t icu_locale_share(struct icu_locale *from, struct icu_locale *to);
  * The tables stay. The answer is made in a list that the handle keeps, and then copied to `out`: the first calls take
  * memory for it, and later ones where they want a longer one, or come after a call that found no memory. What is taken
  * besides is what the program takes: memory for an identifier's variants, for a value and for a list of requests. The
- * first `canonicalize`, `key`, `serve`, `nearest` or `resolved` on a handle also reads the rules, which takes about as long as
- * some hundred calls, and the first of the last three prepares the list; both are kept until the handle is closed.
+ * first `canonicalize`, `key`, `name` in a syntax, `serve`, `nearest` or `resolved` on a handle also reads the rules, which
+ * takes about as long as some hundred calls, and the first of the last three prepares the list; both are kept until the
+ * handle is closed.
  */
 int32_t icu_locale_answer(struct icu_locale *handle, const uint8_t *command, size_t command_length, const uint8_t *line,
                           size_t line_length, uint8_t *out, size_t room, size_t *written);

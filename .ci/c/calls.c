@@ -82,6 +82,12 @@ static void commands(struct icu_locale *handle) {
     answers(handle, "direction", "und", ICU_LOCALE_ACCEPTED, "none");
     answers(handle, "name light en", "it-Qabc-150", ICU_LOCALE_ACCEPTED, "Italian (Qabc, Europe)\tR");
     answers(handle, "name light zh", "it", ICU_LOCALE_REFUSED, "?\tIdentifierNotFound");
+    answers(handle, "name light en", "sh", ICU_LOCALE_ACCEPTED, "sh\tR");
+    answers(handle, "locales name light en", "sh", ICU_LOCALE_ACCEPTED, "sr (Latin)\tR");
+    answers(handle, "region-name light en", "150", ICU_LOCALE_ACCEPTED, "Europe\tN");
+    answers(handle, "list regions en", "", ICU_LOCALE_ACCEPTED, "150 US");
+    answers(handle, "list regions en", "U", ICU_LOCALE_ACCEPTED, "US");
+    answers(handle, "exemplars main en", "ng", ICU_LOCALE_ACCEPTED, "yes");
     want(icu_locale_is_settled(handle) == ICU_LOCALE_SETTLED, "the sample is not settled");
 }
 

@@ -63,6 +63,7 @@ work_without_list asked t list ws w of = record { syntax = (of []).0.syntax; pla
     by task.Validate are same = are
     by (task.SubtagName chain preferences) are same = are
     by (task.Exemplars marker preferences) are same = are
+    by (task.Subtags kind preferences) are same = are
 
 -- the line of a work over what is held
 module _ (h : Held) (asked : LineCommand) (w : Work) (line whole : List ℕ) (r : Result Bool Refusal) where
@@ -94,6 +95,7 @@ asks_none (task.Key of) negotiates serves = refl
 asks_none task.Validate negotiates serves = refl
 asks_none (task.SubtagName chain preferences) negotiates serves = refl
 asks_none (task.Exemplars marker preferences) negotiates serves = refl
+asks_none (task.Subtags kind preferences) negotiates serves = refl
 
 -- a task that asks for no list is refused for a table alone
 pub loaded_table : (asked : LineCommand) (t : Tables) (e : CliError) → asks_list asked.task ≡ false → (e ≡ Data not_found) ⊎ (e ≡ NotSettled)
@@ -120,6 +122,7 @@ never_lists asked t l none waits = by asked.task none waits.over
     by task.Validate none lists = lists
     by (task.SubtagName chain preferences) none lists = lists
     by (task.Exemplars marker preferences) none lists = lists
+    by (task.Subtags kind preferences) none lists = lists
 
 -- why there is no negotiator is why there are no places, and why there is no line of `negotiate`
 pub no_places : (syntax : Option Syntax) (h : Held) (line : List ℕ) (e : Refusal) → HasNoNegotiation h e → IsRefusedNegotiation syntax h line e

@@ -15,14 +15,13 @@ use Rattle.icu_locale_matching.specs.declared.server.ServedLocales.{ServedLocale
 use Rattle.icu_provider.specs.declared.aliases.Aliases.{Aliases}
 use Rattle.icu_provider.specs.declared.matching.LanguageMatching.{LanguageMatching}
 use Rattle.icu_tables.specs.declared.tables.Tables.{Tables}
+use Rattle.icu_locale_lines.specs.Commands.{HasRules}
+use Rattle.icu_locale_lines.specs.declared.command.LineCommand.{LineCommand}
 use Rattle.icu_locale_lines.specs.Loads.{AreRulesOf, IsCanonicalizerOf, IsExpanderOf}
 use Rattle.icu_locale_lines.specs.laws.Expanders.{same_likely}
-use Rattle.icu_locale_lines.specs.declared.command.Task.{Task}
-use Rattle.icu_locale_lines.specs.declared.command.Task.TheVariants.{Transform, Canonicalize, Direction, Negotiate, Name, Fallback, Serve, Distance, Parts, Key, Validate, SubtagName, Exemplars}
-use Rattle.icu_locale_lines.specs.declared.command.KeyOf.{KeyOf}
-use Rattle.icu_locale_lines.specs.declared.command.ServeTask.{ServeTask}
 use Rattle.icu_locale_matching.specs.declared.limits.MatchLimits.{MatchLimits}
-use Rattle.icu_locale_c.specs.Held.{AreKept, HasKept, IsServedOver, IsServerOver, held, identifiers_of_list}
+use Rattle.icu_locale_c.specs.Asked.{HasKept}
+use Rattle.icu_locale_c.specs.Held.{AreKept, IsServedOver, IsServerOver, held, identifiers_of_list}
 use Rattle.icu_locale_c.specs.declared.kept.Kept.{Kept}
 use Rattle.icu_locale_c.specs.declared.kept_list.KeptList.{KeptList}
 
@@ -132,19 +131,6 @@ lent_of_kept t list k read c kept rules over lends = record {
     by None lends are = absurd lends
     by (Some table) lends are = subst (AreRules table) (sym lends) are
 
--- a task that asks for nothing beside the tables has what it asks for
-pub nothing_kept : (task : Task) (kept : Kept) → (task ≡ Canonicalize → ⊥) → ((w : ServeTask) → task ≡ Serve w → ⊥)
-    → ((of : KeyOf) → task ≡ Key of → ⊥) → HasKept task kept
-nothing_kept (Transform form) kept rules served keyed = tt
-nothing_kept Canonicalize kept rules served keyed = absurd (rules refl)
-nothing_kept Direction kept rules served keyed = tt
-nothing_kept Negotiate kept rules served keyed = tt
-nothing_kept (Name chain preferences) kept rules served keyed = tt
-nothing_kept Fallback kept rules served keyed = tt
-nothing_kept (Serve w) kept rules served keyed = absurd (served w refl)
-nothing_kept Distance kept rules served keyed = tt
-nothing_kept Parts kept rules served keyed = tt
-nothing_kept (Key of) kept rules served keyed = absurd (keyed of refl)
-nothing_kept Validate kept rules served keyed = tt
-nothing_kept (SubtagName chain preferences) kept rules served keyed = tt
-nothing_kept (Exemplars marker preferences) kept rules served keyed = tt
+-- a command that works by rules has those of the tables
+pub has_rules_kept : (asked : LineCommand) (t : Tables) (list : Option KeptList) (k : Kept) → AreKept t list k → HasKept asked t k → HasRules asked t k.rules
+has_rules_kept asked t list k kept there reads = rules_kept t list k kept (there.rules reads)

@@ -1,7 +1,7 @@
 -- What a command that is read answers over what is held.
 use Rattle.std.specs.Prelude.{◌≡◌, ℕ, Bool, true, false, List, None, IsSome}
 use Rattle.icu_locale_lines.specs.Answers.{IsAnswer}
-use Rattle.icu_locale_lines.specs.Commands.{IsUnsettled, has_tables, plain}
+use Rattle.icu_locale_lines.specs.Commands.{IsUnsettled, has_tables, plain, reads_rules}
 use Rattle.icu_locale_lines.specs.declared.command.Command.TheVariants.{Lines}
 use Rattle.icu_locale_lines.specs.declared.command.LineCommand.{LineCommand}
 use Rattle.icu_locale_lines.specs.declared.command.Task.{Task}
@@ -10,6 +10,7 @@ use Rattle.icu_locale_lines.specs.declared.command.ServeTask.{ServeTask}
 use Rattle.icu_locale_lines.specs.declared.work.Work.{Work}
 use Rattle.icu_tables.specs.declared.tables.Tables.{Tables}
 use Rattle.icu_locale_c.specs.Held.{Held, IsWorkOver}
+use Rattle.icu_locale_c.specs.declared.kept.Kept.{Kept}
 use Rattle.icu_locale_c.specs.declared.refusal.Refusal.{Refusal}
 use Rattle.icu_locale_c.specs.declared.refusal.Refusal.TheVariants as refusal
 
@@ -33,6 +34,12 @@ HasList h asked = asks_list asked.task ≡ true → IsSome h.available
 -- a task serves
 abbrev pub IsServeTask : Task → Type 0
 IsServeTask task = (served : ServeTask) × (task ≡ Serve served)
+
+-- what a command asks for beside the tables is kept: rules where it works by some, and what is
+-- served
+pub record HasKept (asked : LineCommand) (t : Tables) (kept : Kept) : Type 0 where
+  pub rules : reads_rules asked t ≡ true → IsSome kept.rules
+  pub served : IsServeTask asked.task → IsSome kept.served
 
 -- why nothing is lent of the tables: what is asked for is not held
 abbrev pub IsNotHeld : Bool → Refusal → Type 0

@@ -89,13 +89,6 @@ pub record AreKept (t : Tables) (list : Option KeptList) (kept : Kept) : Type 0 
   pub served : IfSome kept.served (λ s. IsSomeAnd kept.rules
       (λ read. IsSomeAnd list (λ a. IsServedOver t read a s)))
 
--- what a task asks for beside the tables is kept
-abbrev pub HasKept : Task → Kept → Type 0
-HasKept Canonicalize kept = IsSome kept.rules
-HasKept (Key of) kept = IsSome kept.rules
-HasKept (Serve served) kept = IsSome kept.rules × IsSome kept.served
-HasKept task kept = Unit {0}
-
 -- what was kept is kept still
 pub record StaysKept (old new : Kept) : Type 0 where
   pub rules : IsSome old.rules → new.rules ≡ old.rules

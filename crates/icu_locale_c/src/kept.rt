@@ -6,15 +6,15 @@ ghost use Rattle.icu_locale_extensions.specs.declared.identifier.LocaleIdentifie
 ghost use Rattle.icu_locale_lines.specs.Commands.{has_matching, has_tables, reads_rules};
 ghost use Rattle.icu_locale_lines.specs.declared.command.Command.TheVariants.{Lines};
 ghost use Rattle.icu_locale_lines.specs.Loads.{IsExpanderOf, IsWholeOf, has_rules};
-ghost use Rattle.icu_locale_c.specs.Asked.{IsNotHeld, IsRefusedLine, IsServeTask, IsUnkept};
-ghost use Rattle.icu_locale_c.specs.Held.{AreKept, HasKept, IsServerOver, StaysKept, held};
+ghost use Rattle.icu_locale_c.specs.Asked.{HasKept, IsNotHeld, IsRefusedLine, IsServeTask, IsUnkept};
+ghost use Rattle.icu_locale_c.specs.Held.{AreKept, IsServerOver, StaysKept, held};
 ghost use Rattle.icu_locale_c.specs.declared.kept_list.KeptList.{KeptList};
 
 use crate::kept_list::KeptList;
 use crate::refusal::Refusal;
 use icu_locale::{CanonicalizerRef, ReadRules};
 use icu_locale_core::{LanguageIdentifier, ParseError};
-use icu_locale_lines::{CliError, LineCommand, Task, lend_rules, load_rules};
+use icu_locale_lines::{CliError, LineCommand, Task, lend_rules, load_rules, reads_rules};
 use icu_locale_matching::{LocaleServer, MatchLimits, ServedLocales};
 use icu_locale_values::{ValueAliases, WholeCanonicalizer};
 use icu_provider::LanguageMatching;
@@ -46,9 +46,9 @@ pub fn keep(
 ) -> Result<(), Refusal>
     requires { AreKept tables.now list.now kept.old }
     ensures kept { AreKept tables.now list.now kept.new }
-    ensures there { IsOk result → HasKept asked.now.task kept.new }
+    ensures there { IsOk result → HasKept asked.now tables.now kept.new }
     ensures stays { StaysKept kept.old kept.new }
-    ensures none { reads_rules asked.now.task ≡ false → IsOk result }
+    ensures none { reads_rules asked.now tables.now ≡ false → IsOk result }
     ensures free { asked.now.task ≡ Task.Canonicalize
         → has_tables (Lines asked.now) tables.now ≡ true
         → IfSome tables.now.aliases HasNoTexts → IsOk result }
@@ -56,8 +56,6 @@ pub fn keep(
         → IfErr result (IsRefusedLine (held tables.now list.now wholes) asked.now) }
 {
     match asked.task {
-        Task::Canonicalize => keep_rules(alloc, tables, asked, kept),
-        Task::Key(_) => keep_rules(alloc, tables, asked, kept),
         Task::Serve(_) => match list {
             Some(list) => {
                 keep_rules(alloc, tables, asked, kept)?;
@@ -65,28 +63,29 @@ pub fn keep(
             }
             None => Err(Refusal::Negotiate),
         },
-        _ => Ok(()),
+        _ => keep_rules(alloc, tables, asked, kept),
     }
 }
 
-// Reads the rules of the aliases, where none are kept.
+// Reads the rules of the aliases, where the command works by them and none are kept.
 fn keep_rules(
     alloc: Global,
     tables: &Tables,
     asked: &LineCommand,
     kept: &mut Kept,
 ) -> Result<(), Refusal>
-    requires { reads_rules asked.now.task ≡ true }
     ensures kept { (list : Option KeptList) → AreKept tables.now list kept.old
         → AreKept tables.now list kept.new }
-    ensures there { IsOk result → IsSome kept.new.rules }
+    ensures there { IsOk result → reads_rules asked.now tables.now ≡ true
+        → IsSome kept.new.rules }
+    ensures none { reads_rules asked.now tables.now ≡ false → IsOk result }
     ensures stays { StaysKept kept.old kept.new }
     ensures again { IsSome kept.old.rules → IsOk result }
     ensures free { has_tables (Lines asked.now) tables.now ≡ true
         → IfSome tables.now.aliases HasNoTexts → IsOk result }
     ensures refused { IfErr result (IsUnkept tables.now asked.now) }
 {
-    if kept.rules.is_some() {
+    if kept.rules.is_some() || !reads_rules(asked, tables) {
         return Ok(());
     }
     match load_rules(alloc, asked, tables) {

@@ -1,12 +1,12 @@
 //! The program's line for a line, over what a handle keeps.
-ghost use Rattle.std.specs.Prelude.{◌≡◌, ◌<◌, ◌-◌, true, false, take, length, List, ℕ, IfOk, IfErr, IfSome, IsOk, is_ok};
+ghost use Rattle.std.specs.Prelude.{◌≡◌, ◌<◌, ◌-◌, true, false, take, length, List, ℕ, IfOk, IfErr, IfSome, is_ok};
 ghost use Rattle.icu_locale_lines.specs.Answers.{IsAnswer};
 ghost use Rattle.icu_locale_lines.specs.Commands.{HasRules, IsWorkOf, has_tables, text_answered};
 ghost use Rattle.icu_locale_lines.specs.Loads.{IsExpanderOf, has_likely};
 ghost use Rattle.icu_locale_lines.specs.declared.command.Command.TheVariants.{Lines};
-ghost use Rattle.icu_locale_c.specs.Asked.{IsLineOf, IsNotHeld, IsRefusedLine, asks_list};
+ghost use Rattle.icu_locale_c.specs.Asked.{HasKept, IsLineOf, IsNotHeld, IsRefusedLine, asks_list};
 ghost use Rattle.icu_locale_c.specs.Calls.{Writes, unended};
-ghost use Rattle.icu_locale_c.specs.Held.{AreKept, HasKept, IsListOver, StaysKept, held};
+ghost use Rattle.icu_locale_c.specs.Held.{AreKept, IsListOver, StaysKept, held};
 
 use crate::kept::{Kept, canonicalizer_over, keep, server_over};
 use crate::kept_list::KeptList;
@@ -32,7 +32,6 @@ pub fn line_of(
     requires kept { AreKept tables.now list.now kept.old }
     requires list { IfSome list.now (IsListOver tables.now) }
     ensures kept { AreKept tables.now list.now kept.new }
-    ensures there { IsOk result → HasKept asked.now.task kept.new }
     ensures stays { StaysKept kept.old kept.new }
     ensures answered { IfOk result (IsLineOf
         (held tables.now list.now offered.now.wholes.items) asked.now line.now room.new.items) }
@@ -56,7 +55,7 @@ fn kept_line<'r>(
     line: &[u8],
 ) -> Result<bool, Refusal>
     requires kept { AreKept tables.now list.now kept.now }
-    requires there { HasKept asked.now.task kept.now }
+    requires there { HasKept asked.now tables.now kept.now }
     requires list { IfSome list.now (IsListOver tables.now) }
     ensures answered { IfOk result (IsLineOf
         (held tables.now list.now offered.now.wholes.items) asked.now line.now room.new.items) }
@@ -105,7 +104,7 @@ fn further_line<'r>(
     line: &[u8],
 ) -> Result<bool, Refusal>
     requires kept { AreKept tables.now list.now kept.now }
-    requires there { HasKept asked.now.task kept.now }
+    requires there { HasKept asked.now tables.now kept.now }
     requires list { IfSome list.now (IsListOver tables.now) }
     ensures answered { IfOk result (IsLineOf
         (held tables.now list.now offered.now.wholes.items) asked.now line.now room.new.items) }
@@ -173,7 +172,7 @@ fn loaded_work<'r>(
     asked: &LineCommand,
 ) -> Result<Work<'r>, Refusal>
     requires list { asks_list asked.now.task ≡ false }
-    requires rules { HasRules asked.now.task tables.now kept.now.rules }
+    requires rules { HasRules asked.now tables.now kept.now.rules }
     ensures work { IfOk result (λ w. (input : List ℕ)
         → IsWorkOf asked.now tables.now input w × (text_answered asked.now input ≡ input)) }
     ensures held { IfOk result (λ _. has_tables (Lines asked.now) tables.now ≡ true) }

@@ -33,7 +33,7 @@ use Rattle.icu_locale.specs.LikelyTable.{likely}
 use Rattle.icu_locale.specs.declared.canonicalizer.rules.Rules.{Rules}
 use Rattle.icu_locale.specs.declared.expander.TransformResult.{TransformResult}
 use Rattle.icu_locale_lines.specs.Answers.{IsAnswerBy, IsIdentifierAnswer, IsLocaleAnswer, IsSpelledAnswer, IsCanonicalized, IsReported, IsParted, IsWholeParted, WishesIdentifiers}
-use Rattle.icu_locale_lines.specs.Answers.{IsDirected, IsNamed, IsWholeNamed, IsTransformed, IsWholeTransformed}
+use Rattle.icu_locale_lines.specs.Answers.{IsDirected, IsNamed, IsNamedWith, IsWholeNamed, IsTransformed, IsWholeTransformed}
 use Rattle.icu_locale_lines.specs.Answers.{HoldsIdentifiers}
 use Rattle.icu_locale_lines.specs.Names.{answers_in, name_asked, name_asked_with, IsNamedLine}
 use Rattle.icu_locale_lines.specs.declared.work.name.Naming.{Naming}
@@ -113,7 +113,7 @@ module _ (one : HasOneForm) (by : WholeRules) (x : LanguageIdentifier) (text : L
       let ends = h.2.locale.id in
       let same = one by (bare x) h.0 (bare z) h.1 (bare_maps z) h.2 (whole_bare by x z ends) in
       let m = answer_of (is_applied by.likely by.rules (without_extensions x)) in
-      inl (without_extensions z, canonical_bare by x z ends, h.3 ∙ ap (λ w. whole_line w m) same ∙ line_bare z m, h.4)
+      inl (without_extensions z, canonical_bare by x z ends, h.3.0 ∙ ap (λ w. whole_line w m) same ∙ line_bare z m, h.3.1)
   to_canonical (inr h) = refused h.0 h.1 h.2
     where
       refused : (e : WholeError) → IsWholeRefusal by (bare x) e → TellsWholeRefusal e text a
@@ -129,7 +129,7 @@ module _ (one : HasOneForm) (by : WholeRules) (x : LanguageIdentifier) (text : L
       let z = h.0.id in
       let m = answer_of (is_applied by.likely by.rules (without_extensions x)) in
       let plain = ap (λ l. canonical_line l m) (no_extensions by.likely by.rules x h.0 h.1) in
-      inl (bare z, bare_maps z, whole_bare by x z h.1.id, h.2 ∙ plain ∙ sym (line_bare z m), h.3)
+      inl (bare z, bare_maps z, whole_bare by x z h.1.id, (h.2 ∙ plain ∙ sym (line_bare z m), h.3))
   from_canonical (inr (inl h)) = inr (NoFixedPoint h.0, (λ key. tt, (λ key. tt, h.1)), (h.2, h.3))
   from_canonical (inr (inr h)) = inr (NoSubdivisionFixedPoint h.0, (λ key. tt, (λ key. tt, h.1)), (h.2, h.3))
 
@@ -177,10 +177,12 @@ module _ (facts : SyntaxFacts) (s : Syntax) (line text : List ℕ) (a : Bool) wh
       λ h. (h.0, h.1, h.2, h.3 ∙ sym (line_bare h.0 h.1), h.4),
     )
 
-    pub named_alike : (n : Naming) → IsWholeNamed n (bare x) text a ↔ IsNamed n x text a
-    named_alike n =
-        let same = asked_alike facts n n.extensions x in
-        (subst (λ name. IsNamedLine name text a) same, subst (λ name. IsNamedLine name text a) (sym same))
+    pub named_alike : (n : Naming) → n.canonicalizer ≡ None → IsWholeNamed n (bare x) text a ↔ IsNamed n x text a
+    named_alike n none =
+        let same = asked_alike facts n n.extensions x in (
+          λ h. subst (λ name. IsNamedLine name text a) same (subst (λ by. IsNamedWith n by (bare x) text a) none h),
+          λ h. subst (λ by. IsNamedWith n by (bare x) text a) (sym none) (subst (λ name. IsNamedLine name text a) (sym same) h),
+        )
 
     pub parted_alike : IsWholeParted (bare x) text a ↔ IsParted x text a
     parted_alike = (λ h. (h.0 ∙ parts_bare x, h.1), λ h. (h.0 ∙ sym (parts_bare x), h.1))
@@ -241,7 +243,8 @@ module _ (facts : SyntaxFacts) (s : Syntax) (line text : List ℕ) (a : Bool) wh
   answers_alike (tools.Negotiate n o) (xs, each) = lists_alike (IsNegotiatedLine n o.now.wholes.items) xs each
   answers_alike (tools.Serve how t o) holds = wishes_alike how.wishes how t o.now.wholes.items holds
   answers_alike (tools.Distance d) (xs, each) = lists_alike (IsDistanceLine d.matching.now (likely d.expander)) xs each
-  answers_alike (tools.Name n) (none, x, is, spells) = each_alike x (is, spells) (IsWholeNamed n) (IsNamed n) (named_alike x (is, spells) n)
+  answers_alike (tools.Name n) (raw, (none, x, is, spells)) =
+      each_alike x (is, spells) (IsWholeNamed n) (IsNamed n) (named_alike x (is, spells) n raw)
   answers_alike (tools.Fallback f) (none, x, is, spells) =
       each_alike x (is, spells) (λ w. IsChained f w.locale.id) (IsChained f) (λ h. h, λ h. h)
   answers_alike tools.Parts (none, x, is, spells) = each_alike x (is, spells) IsWholeParted IsParted (parted_alike x (is, spells))
@@ -249,5 +252,6 @@ module _ (facts : SyntaxFacts) (s : Syntax) (line text : List ℕ) (a : Bool) wh
       each_alike x (is, spells) (IsReported v.now line) (λ y. IsReported v.now line (bare y)) (λ h. h, λ h. h)
   answers_alike (tools.SubtagName n) holds = (λ h. h, λ h. h)
   answers_alike (tools.Exemplars set) holds = (λ h. h, λ h. h)
+  answers_alike (tools.Subtags list) holds = (λ h. h, λ h. h)
   answers_alike (tools.Key of k) (none, x, is, spells) =
       each_alike x (is, spells) (λ w. IsKeyed (whole_rules k) (keyed of w)) (λ y. IsKeyed (whole_rules k) (bare y)) (keyed_alike of (whole_rules k) x)

@@ -20,5 +20,6 @@ mod Readings
 mod RunEnds
 mod StreamEnds
 mod Streaming
+mod SubtagLists
 mod ToldLines
 mod WordEnds

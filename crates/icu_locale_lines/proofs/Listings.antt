@@ -18,7 +18,7 @@ use Rattle.icu_locale_lines.specs.Refusals.{IsRefusedList, IsFaultyList}
 use Rattle.icu_locale_lines.specs.declared.command.LineCommand.{LineCommand}
 use Rattle.icu_locale_lines.specs.declared.command.ServeTask.{ServeTask}
 use Rattle.icu_locale_lines.specs.declared.command.Task.{Task}
-use Rattle.icu_locale_lines.specs.declared.command.Task.TheVariants.{Transform, Canonicalize, Direction, Negotiate, Name, Fallback, Serve, Distance, Parts, Key, Validate, SubtagName, Exemplars}
+use Rattle.icu_locale_lines.specs.declared.command.Task.TheVariants.{Transform, Canonicalize, Direction, Negotiate, Name, Fallback, Serve, Distance, Parts, Key, Validate, SubtagName, Exemplars, Subtags}
 use Rattle.icu_locale_lines.specs.declared.error.CliError.{CliError}
 use Rattle.icu_locale_lines.specs.declared.error.CliError.TheVariants as error
 use Rattle.icu_locale_lines.specs.declared.work.listing.ListedOver.TheVariants as owner
@@ -44,6 +44,7 @@ left_behind (Key of) t o h input = absurd h
 left_behind Validate t o h input = absurd h
 left_behind (SubtagName chain preferences) t o h input = absurd h
 left_behind (Exemplars marker preferences) t o h input = absurd h
+left_behind (Subtags kind preferences) t o h input = absurd h
 
 pub listing_left : (c : LineCommand) (t : Tables) (listing : Listing) → IsListing c t listing → (input : List ℕ)
     → text_answered c input ≡ after_first_line input
@@ -76,6 +77,7 @@ lists_by (Key of) t o h = absurd h
 lists_by Validate t o h = absurd h
 lists_by (SubtagName chain preferences) t o h = absurd h
 lists_by (Exemplars marker preferences) t o h = absurd h
+lists_by (Subtags kind preferences) t o h = absurd h
 
 pub lists_over : (c : LineCommand) (t : Tables) (listing : Listing) → IsListing c t listing → ListsOver c.task t
 lists_over c t listing is = lists_by c.task t listing.over is.over
@@ -100,6 +102,7 @@ module _ (syntax : Option Syntax) (t : Tables) (input : List ℕ) where
   negotiate_tools Validate e n offered h same spelled = absurd h
   negotiate_tools (SubtagName chain preferences) e n offered h same spelled = absurd h
   negotiate_tools (Exemplars marker preferences) e n offered h same spelled = absurd h
+  negotiate_tools (Subtags kind preferences) e n offered h same spelled = absurd h
 
   serve_tools : (task : Task) (how : ServeTask) (k : _) (m : _) (s : Service) (offered : Bor Offered) → ListsBy task t (over.Serve how k m)
       → s.expander ≡ k.expander → s.rules ≡ lent k.rules → s.matching ≡ m.now → s.limits ≡ how.limits
@@ -127,6 +130,7 @@ module _ (syntax : Option Syntax) (t : Tables) (input : List ℕ) where
   serve_tools Validate how k m s offered h expander rules matching limits spelled = absurd h
   serve_tools (SubtagName chain preferences) how k m s offered h expander rules matching limits spelled = absurd h
   serve_tools (Exemplars marker preferences) how k m s offered h expander rules matching limits spelled = absurd h
+  serve_tools (Subtags kind preferences) how k m s offered h expander rules matching limits spelled = absurd h
 
 module _ (c : LineCommand) (t : Tables) (input : List ℕ) (o : Offered) where
   -- what an owner lends is written as it is offered
@@ -158,6 +162,7 @@ module _ (c : LineCommand) (t : Tables) (input : List ℕ) (o : Offered) where
       by (tools.Validate v) lends = absurd lends
       by (tools.SubtagName n) lends = absurd lends
       by (tools.Exemplars set) lends = absurd lends
+      by (tools.Subtags list) lends = absurd lends
 
   pub listed_service : (how : ServeTask) (k : _) (m : _) (s : Service) → ListsBy c.task t (over.Serve how k m) → s.expander ≡ k.expander
       → s.rules ≡ lent k.rules → s.matching ≡ m.now → s.limits ≡ how.limits
@@ -184,6 +189,7 @@ module _ (c : LineCommand) (t : Tables) (input : List ℕ) (o : Offered) where
       by (tools.Validate v) lends = absurd lends
       by (tools.SubtagName n) lends = absurd lends
       by (tools.Exemplars set) lends = absurd lends
+      by (tools.Subtags list) lends = absurd lends
 
 -- a list is refused over settled tables for a fault or for memory
 settled_by : (task : Task) (t : Tables) (e : _) → ListsBy task t (over.Negotiate e) → AreSettled (likely e)
@@ -200,6 +206,7 @@ settled_by (Key of) t e h = absurd h
 settled_by Validate t e h = absurd h
 settled_by (SubtagName chain preferences) t e h = absurd h
 settled_by (Exemplars marker preferences) t e h = absurd h
+settled_by (Subtags kind preferences) t e h = absurd h
 
 faulty : (syntax : Option Syntax) (table : LikelySubtags) (line : List ℕ) (e : CliError) → AreSettled table
     → IsRefusedList syntax table line e → IsFaultyList syntax line e

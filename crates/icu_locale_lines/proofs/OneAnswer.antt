@@ -1,6 +1,6 @@
 -- A line has one answer at most.
 use Rattle.std.proofs.Common.{◌≡◌, ◌≢◌, ◌↔◌, ◌⊎◌, ℕ, ◌<◌, ◌≤◌, Bool, false, List, [], ◌∷◌, Option, Some, None, Result, Ok, Err, refl}
-use Rattle.std.proofs.Common.{ap, sym, subst, ◌∙◌, inl, inr, arith}
+use Rattle.std.proofs.Common.{◌++◌, String, ap, codes, sym, subst, ◌∙◌, inl, inr, arith, true}
 use Rattle.std.proofs.lemmas.Option.{same_Some, none-some}
 use Rattle.icu_locale_core.specs.Identifier.{written}
 use Rattle.icu_locale_core.specs.declared.langid.LanguageIdentifier.{LanguageIdentifier}
@@ -36,7 +36,7 @@ use Rattle.icu_locale_values.specs.Whole.{WholeRules, IsWhole, AreMaps, is_whole
 use Rattle.icu_locale_values.specs.declared.error.WholeError.{WholeError}
 use Rattle.icu_locale_values.specs.declared.error.WholeError.TheVariants as whole_error
 use Rattle.icu_locale_key.specs.Whole.{IsWholeKey, IsWholeKeyRefusal}
-use Rattle.icu_locale_lines.specs.Wholes.{IsKeyed, IsWholeCanonicalized, TellsWholeRefusal, keyed}
+use Rattle.icu_locale_lines.specs.Wholes.{IsCanonicalThen, IsKeyed, IsWholeCanonicalized, TellsWholeRefusal, keyed}
 use Rattle.icu_locale_lines.specs.Serving.{TellsResolved, TellsServed, IsNearestLine, IsResolvedLine, IsDistanceLine, IsWishAnswerTo, place_or_first}
 use Rattle.icu_locale_lines.specs.declared.command.ServeTask.{ServeTask}
 use Rattle.icu_locale_lines.specs.declared.command.Wishes.{Wishes}
@@ -47,8 +47,17 @@ use Rattle.icu_locale_lines.specs.Lists.{ids_of, IsNegotiatedLine, TellsMatch, s
 use Rattle.icu_locale_lines.specs.declared.work.form.Transform.{Transform}
 use Rattle.icu_locale_lines.specs.declared.work.form.Transform.TheVariants.{Maximize, Minimize, MinimizeScript}
 use Rattle.icu_locale_lines.specs.Answers.{IsAnswerBy, IsReported, IsAnswerOf, IsCanonicalAnswer, IsForm, IsFormedLine, IsTransformed, IsDirected, IsNamed, IsParted, IsWholeParted}
-use Rattle.icu_locale_lines.specs.Answers.{IsCanonicalized, IsCanonicalizedTo, IsWholeNamed, IsWholeTransformed, with_id}
+use Rattle.icu_locale_lines.specs.Answers.{IsCanonicalized, IsCanonicalizedTo, IsNamedWith, IsWholeNamed, IsWholeTransformed, with_id}
+use Rattle.icu_locale_lines.specs.declared.work.name.Naming.{Naming}
+use Rattle.icu_locale_values.specs.declared.canonicalizer.WholeCanonicalizer.{WholeCanonicalizer}
 use Rattle.icu_locale_lines.specs.Chains.{IsChained}
+use Rattle.icu_locale_lines.specs.SubtagLists.{began, markers_of}
+use Rattle.icu_locale_parts.specs.Parts.{members}
+use Rattle.icu_provider.specs.declared.data_locale.DataLocale.{DataLocale}
+use Rattle.icu_provider.specs.declared.names.NameKey.{NameKey}
+use Rattle.icu_provider.specs.declared.names.NameMarker.{NameMarker}
+use Rattle.icu_tables.specs.NamedKeys.{AreNamedKeys}
+use Rattle.std.specs.Global.{Global}
 use Rattle.icu_locale_lines.specs.Names.{IsNamedLine, name_asked, whole_name_asked}
 use Rattle.icu_locale_lines.specs.Texts.{changed_line, canonical_line, whole_line, refused_line, matched_line}
 use Rattle.icu_locale_fallback.specs.declared.fallbacker.LocaleFallbackerWithConfig.{LocaleFallbackerWithConfig}
@@ -123,16 +132,23 @@ module _ (facts : WholeFacts) (by : WholeRules) (x : LocaleIdentifier) (one two 
   told (whole_error.NoValueFixedPoint key v) text accepted tells = tells
   told (whole_error.NoFieldFixedPoint key v) text accepted tells = tells
 
+  -- the canonical form has one line where each form has
+  module _ (IsLine : LocaleIdentifier → List ℕ → Bool → Type 0)
+      (line_one : (new : LocaleIdentifier) → IsLine new one a → IsLine new two b → SameAnswer one two a b) where
+    canonical_then_one : IsCanonicalThen IsLine by x one a → IsCanonicalThen IsLine by x two b → SameAnswer one two a b
+    canonical_then_one (inl (new, maps, is, line)) (inl (other, maps', is', line')) =
+        line_one new line (subst (λ form. IsLine form two b) (sym (facts.one by x new other maps maps' is is')) line')
+    canonical_then_one (inl (new, maps, is, line)) (inr (e, why, tells)) = absurd (no_line e two b tells (facts.none by x new e is why))
+    canonical_then_one (inr (e, why, tells)) (inl (new, maps, is, line)) = absurd (no_line e one a tells (facts.none by x new e is why))
+    canonical_then_one (inr h) (inr k) =
+        let e = facts.once by x h.0 k.0 h.1 k.1 (no_line h.0 one a h.2) (no_line k.0 two b k.2) in
+        let first = told h.0 one a h.2 in
+        let second = told k.0 two b k.2 in
+        same first.0 second.0 (ap (λ e. refused_line (whole_error_name e)) e) first.1 second.1
+
   whole_canonicalized_one : IsWholeCanonicalized by x one a → IsWholeCanonicalized by x two b → SameAnswer one two a b
-  whole_canonicalized_one (inl h) (inl k) =
-      same h.3 k.3 (ap (λ w. whole_line w (answer_of (is_whole_applied by x))) (facts.one by x h.0 k.0 h.1 k.1 h.2 k.2)) h.4 k.4
-  whole_canonicalized_one (inl h) (inr k) = absurd (no_line k.0 two b k.2 (facts.none by x h.0 k.0 h.2 k.1))
-  whole_canonicalized_one (inr h) (inl k) = absurd (no_line h.0 one a h.2 (facts.none by x k.0 h.0 k.2 h.1))
-  whole_canonicalized_one (inr h) (inr k) =
-      let e = facts.once by x h.0 k.0 h.1 k.1 (no_line h.0 one a h.2) (no_line k.0 two b k.2) in
-      let first = told h.0 one a h.2 in
-      let second = told k.0 two b k.2 in
-      same first.0 second.0 (ap (λ e. refused_line (whole_error_name e)) e) first.1 second.1
+  whole_canonicalized_one =
+      canonical_then_one (λ new t c. (t ≡ whole_line new (answer_of (is_whole_applied by x))) × (c ≡ true)) (λ new h k. same h.0 k.0 refl h.1 k.1)
 
   module _ (keys : KeyFacts) where
     keyed_one : IsKeyed by x one a → IsKeyed by x two b → SameAnswer one two a b
@@ -206,12 +222,17 @@ module _ (table : LikelySubtags) (requests available : List LanguageIdentifier) 
       let e = same_Some h.0 k.0 (sym h.1 ∙ ap (shown_at available wholes) places.1 ∙ k.1) in
       h.2 ∙ (λ i. matched_line (places.0 i) (e i)) ∙ sym k.2
 
+-- the keys that are named are one list
+abbrev pub KeysAreOne : Type 0
+KeysAreOne = (rows : List ((NameMarker × DataLocale × NameKey) × String Global)) (markers : List NameMarker) (locale : DataLocale)
+    (keys others : List NameKey) → AreNamedKeys rows markers locale keys → AreNamedKeys rows markers locale others → keys ≡ others
+
 module _ (spelling : SpellingFacts) (minimal_one : (favor : Favor) (table : LikelySubtags) (x y z : LanguageIdentifier)
     → IsMinimalForm favor table x y → IsMinimalForm favor table x z → y ≡ z)
     (facts : (likely : LikelySubtags) (rules : Rules) → CanonicalFacts likely rules) (wholes : WholeFacts) (keys : KeyFacts)
     (served_once : (s : Service) (header : List ℕ) (a b : Option ℕ) → IsServed s header a → IsServed s header b → a ≡ b)
     (nearest_once : (s : Service) (requests : List LanguageIdentifier) (a b : Option Match) → IsNearestTo s requests a
-    → IsNearestTo s requests b → a ≡ b) (line one two : List ℕ) (a b : Bool) where
+    → IsNearestTo s requests b → a ≡ b) (one_list : KeysAreOne) (line one two : List ℕ) (a b : Bool) where
   same_chain : (f : LocaleFallbackerWithConfig) (x : LanguageIdentifier) → IsChained f x one a → IsChained f x two b → SameAnswer one two a b
   same_chain f x p q = let e = chained_one f x one two a b p q in record { text = e.0; accepted = e.1 }
 
@@ -270,6 +291,12 @@ module _ (spelling : SpellingFacts) (minimal_one : (favor : Favor) (table : Like
   canonical_answer_one (Some s) by h k = read_one (whole_once spelling s) one two a b (IsWholeCanonicalized by)
       (λ x p q. whole_canonicalized_one wholes by x one two a b p q) line h k
 
+  named_with_one : (n : Naming) (by : Option WholeCanonicalizer) (x : LocaleIdentifier) → IsNamedWith n by x one a → IsNamedWith n by x two b
+      → SameAnswer one two a b
+  named_with_one n None x = named_one one two a b (whole_name_asked n x)
+  named_with_one n (Some by) x = canonical_then_one wholes (whole_rules by) x one two a b
+      (λ new. IsNamedLine (whole_name_asked n new)) (λ new. named_one one two a b (whole_name_asked n new))
+
   pub answer_by_one : (syntax : Option Syntax) (work : Tools) → IsAnswerBy syntax work line one a → IsAnswerBy syntax work line two b → SameAnswer one two a b
   answer_by_one syntax (tools.Transform form e) h k = answer_of_one syntax (IsTransformed form (likely e)) (IsWholeTransformed form (likely e))
       (formed_one one two a b minimal_one (λ x. x) (λ x y. written y) form (likely e))
@@ -283,7 +310,7 @@ module _ (spelling : SpellingFacts) (minimal_one : (favor : Favor) (table : Like
   answer_by_one syntax (tools.Distance d) h k = read_one (listed_once spelling syntax) one two a b
       (IsDistanceLine d.matching.now (likely d.expander)) (distance_line_one d.matching.now (likely d.expander)) line h k
   answer_by_one syntax (tools.Name n) h k = answer_of_one syntax (IsNamed n) (IsWholeNamed n)
-      (λ x p q. named_one one two a b (name_asked n x) p q) (λ x p q. named_one one two a b (whole_name_asked n x) p q) h k
+      (λ x p q. named_one one two a b (name_asked n x) p q) (λ x p q. named_with_one n n.canonicalizer x p q) h k
   answer_by_one syntax (tools.Fallback f) h k = answer_of_one syntax (IsChained f) (λ x. IsChained f x.locale.id)
       (same_chain f) (λ x p q. same_chain f x.locale.id p q) h k
   answer_by_one syntax tools.Parts h k = answer_of_one syntax IsParted IsWholeParted
@@ -295,3 +322,6 @@ module _ (spelling : SpellingFacts) (minimal_one : (favor : Favor) (table : Like
       (λ x p q. same p.0 q.0 refl p.1 q.1) (λ x p q. same p.0 q.0 refl p.1 q.1) h k
   answer_by_one syntax (tools.SubtagName n) h k = same h.0 k.0 refl h.1 k.1
   answer_by_one syntax (tools.Exemplars set) h k = same h.0 k.0 refl h.1 k.1
+  answer_by_one syntax (tools.Subtags list) (keys, are, told, accepted) (others, also, told', accepted') =
+      same told told' (ap (λ ks. members (began list.kind line ks) ++ codes "\n")
+      (one_list list.tables.now.names (markers_of list.kind) list.locale keys others are also)) accepted accepted'

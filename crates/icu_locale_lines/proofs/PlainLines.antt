@@ -189,8 +189,8 @@ module _ (facts : SyntaxFacts) (line text : List ℕ) (a : Bool) where
   plain_answers_alike (tools.Negotiate n o) plain = lists_plain plain (IsNegotiatedLine n o.now.wholes.items)
   plain_answers_alike (tools.Serve how t o) plain = plain_wishes_alike how.wishes how t o.now.wholes.items plain
   plain_answers_alike (tools.Distance d) plain = lists_plain plain (IsDistanceLine d.matching.now (likely d.expander))
-  plain_answers_alike (tools.Name n) plain = each_plain plain (IsWholeNamed n) (IsNamed n)
-      (λ x spells. named_alike facts Unicode line text a x spells n)
+  plain_answers_alike (tools.Name n) (raw, plain) = each_plain plain (IsWholeNamed n) (IsNamed n)
+      (λ x spells. named_alike facts Unicode line text a x spells n raw)
   plain_answers_alike (tools.Fallback f) plain =
       each_plain plain (λ w. IsChained f w.locale.id) (IsChained f) (λ x spells. (λ h. h, λ h. h))
   plain_answers_alike tools.Parts plain =
@@ -199,5 +199,6 @@ module _ (facts : SyntaxFacts) (line text : List ℕ) (a : Bool) where
       each_plain plain (IsReported v.now line) (λ y. IsReported v.now line (bare y)) (λ x spells. (λ h. h, λ h. h))
   plain_answers_alike (tools.SubtagName n) plain = (λ h. h, λ h. h)
   plain_answers_alike (tools.Exemplars set) plain = (λ h. h, λ h. h)
+  plain_answers_alike (tools.Subtags list) plain = (λ h. h, λ h. h)
   plain_answers_alike (tools.Key of k) plain =
       each_plain plain (λ w. IsKeyed (whole_rules k) (keyed of w)) (λ y. IsKeyed (whole_rules k) (bare y)) (λ x spells. keyed_alike of (whole_rules k) x)

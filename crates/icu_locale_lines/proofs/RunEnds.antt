@@ -13,7 +13,7 @@ use Rattle.icu_locale_lines.specs.declared.command.LineCommand.{LineCommand}
 use Rattle.icu_locale_lines.specs.declared.work.Work.{Work}
 use Rattle.icu_locale_lines.specs.Lines.{Stream}
 use Rattle.icu_locale_lines.specs.Runs.{ReadsAll, WritesAll, WritesEarlier, WritesPart}
-use Rattle.icu_locale_lines.specs.Commands.{text_answered, IsUnsettled, IsWorkOf, has_tables, holds_for, reads_rules}
+use Rattle.icu_locale_lines.specs.Commands.{text_answered, IsUnsettled, IsWorkOf, has_tables, holds_for, works_by_rules}
 use Rattle.icu_locale_lines.specs.Loads.{not_found}
 use Rattle.icu_locale_lines.specs.WholeRuns.{IsUnloaded, WritesLines, WritesUntil, StopsAmongLines, StopsLines, IsRun, IsRefusedRun, IsRefusedOutput, ReadsTables}
 use Rattle.icu_locale_lines.specs.WholeRuns.{IsRefusedJsonRun}
@@ -37,7 +37,7 @@ module _ (c : LineCommand) (t : Tables) where
       let none = subst (λ task. holds_for task t ≡ false) unsettled.negotiates (subst (IsUnloaded (Lines c) t) is why).1 in
       false≢true (sym none ∙ unsettled.held)
   unread_settled e (inr is) why unsettled =
-      false≢true (subst (λ task. reads_rules task ≡ true) unsettled.negotiates (subst (IsUnloaded (Lines c) t) is why).0)
+      false≢true (subst (λ task. works_by_rules c.syntax task t ≡ true) unsettled.negotiates (subst (IsUnloaded (Lines c) t) is why).0)
 
 module _ (t : Tables) (wrote wrote' read read' : Stream) (r : Result Status CliError) where
   -- lines of an input that was read

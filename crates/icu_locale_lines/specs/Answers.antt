@@ -25,13 +25,15 @@ use Rattle.icu_locale_lines.specs.declared.work.Tools.TheVariants as tools
 use Rattle.icu_locale_lines.specs.Chains.{IsChained}
 use Rattle.icu_locale_lines.specs.Lists.{listed, SpellsAll, SpellsIn, SpellsWhole, IsFault, IsListedAnswer, IsNegotiatedLine}
 use Rattle.icu_locale_lines.specs.Serving.{IsWishAnswer, IsDistanceLine}
-use Rattle.icu_locale_lines.specs.Wholes.{IsKeyed, IsWholeCanonicalized, keyed}
+use Rattle.icu_locale_lines.specs.Wholes.{IsCanonicalThen, IsKeyed, IsWholeCanonicalized, keyed}
 use Rattle.icu_locale_values.specs.Whole.{WholeRules, whole_rules}
+use Rattle.icu_locale_values.specs.declared.canonicalizer.WholeCanonicalizer.{WholeCanonicalizer}
 use Rattle.icu_locale_lines.specs.declared.command.Wishes.{Wishes}
 use Rattle.icu_locale_lines.specs.declared.command.Wishes.TheVariants.{Header}
 use Rattle.icu_locale_lines.specs.Locales.{is_tab, SpellsLocale, IsLocaleFault}
 use Rattle.icu_locale_lines.specs.Names.{name_asked, whole_name_asked, IsNamedLine}
 use Rattle.icu_locale_lines.specs.Readings.{IsReadAnswer}
+use Rattle.icu_locale_lines.specs.SubtagLists.{IsListedLine}
 use Rattle.icu_locale_lines.specs.Subtags.{IsToldLine, exemplar_answer, subtag_answer}
 use Rattle.icu_locale_validity.specs.Reports.{report_of}
 use Rattle.icu_locale_validity.specs.declared.table.Validity.{Validity}
@@ -91,9 +93,16 @@ IsDirected d x text accepted = (text
 abbrev pub IsNamed : Naming → LanguageIdentifier → List ℕ → Bool → Type 0
 IsNamed n x text accepted = IsNamedLine (name_asked n x) text accepted
 
--- the line of a locale identifier that is named
+-- the line of a locale identifier that is named: where there are rules, its canonical form is (UTS #35
+-- Part 2, Locale Display Name Algorithm)
+abbrev pub IsNamedWith : Naming → Option WholeCanonicalizer → LocaleIdentifier → List ℕ → Bool
+    → Type 0
+IsNamedWith n None x text accepted = IsNamedLine (whole_name_asked n x) text accepted
+IsNamedWith n (Some by) x text accepted =
+    IsCanonicalThen (λ new. IsNamedLine (whole_name_asked n new)) (whole_rules by) x text accepted
+
 abbrev pub IsWholeNamed : Naming → LocaleIdentifier → List ℕ → Bool → Type 0
-IsWholeNamed n x text accepted = IsNamedLine (whole_name_asked n x) text accepted
+IsWholeNamed n x text accepted = IsNamedWith n n.canonicalizer x text accepted
 
 -- the line of an identifier whose parts are told, and that of a locale identifier
 abbrev pub IsParted : LanguageIdentifier → List ℕ → Bool → Type 0
@@ -212,6 +221,7 @@ IsAnswerBy syntax (tools.SubtagName n) line text accepted =
     IsToldLine (subtag_answer n line) text accepted
 IsAnswerBy syntax (tools.Exemplars set) line text accepted =
     IsToldLine (exemplar_answer set.now line) text accepted
+IsAnswerBy syntax (tools.Subtags list) line text accepted = IsListedLine list line text accepted
 
 -- the place of the fault of a line, if it is no locale identifier in the syntax of UTS #35
 abbrev pub IsPlaceOf : List ℕ → Option Place → Type 0
@@ -251,13 +261,19 @@ abbrev pub WishesIdentifiers : Wishes → List ℕ → Type 0
 WishesIdentifiers Header line = Unit {0}
 WishesIdentifiers wishes line = ListsIdentifiers line
 
--- a line holds identifiers alone, without a value: one, or any number where the task takes a list
+-- a line holds one identifier alone, without a value
+abbrev pub HoldsIdentifier : List ℕ → Type 0
+HoldsIdentifier line = (position is_tab line ≡ None)
+    × (x : LanguageIdentifier) × IsIdentifier x × Spells line x
+
+-- a line holds identifiers alone: one, or any number where the task takes a list; names are not
+-- those of canonical forms, which a line without a syntax has not
 abbrev pub HoldsIdentifiers : Tools → List ℕ → Type 0
 HoldsIdentifiers (tools.Negotiate negotiation offered) line = ListsIdentifiers line
 HoldsIdentifiers (tools.Serve how s offered) line = WishesIdentifiers how.wishes line
 HoldsIdentifiers (tools.Distance d) line = ListsIdentifiers line
-HoldsIdentifiers tools line = (position is_tab line ≡ None)
-    × (x : LanguageIdentifier) × IsIdentifier x × Spells line x
+HoldsIdentifiers (tools.Name n) line = (n.canonicalizer ≡ None) × HoldsIdentifier line
+HoldsIdentifiers tools line = HoldsIdentifier line
 
 -- a text has a piece of one character
 abbrev pub has_singleton : List ℕ → Bool
@@ -272,12 +288,13 @@ abbrev pub WishesNoSingleton : Wishes → List ℕ → Type 0
 WishesNoSingleton Header line = Unit {0}
 WishesNoSingleton wishes line = ListsNoSingleton line
 
--- a line has no piece of one character, nor has a text of a line that the task takes for a list, and
--- at `canonicalize` it has no tab
+-- a line has no piece of one character, nor has a text of a line that the task takes for a list; at
+-- `canonicalize` it has no tab, and names are not those of canonical forms
 abbrev pub HasNoSingleton : Tools → List ℕ → Type 0
 HasNoSingleton (tools.Negotiate negotiation offered) line = ListsNoSingleton line
 HasNoSingleton (tools.Serve how s offered) line = WishesNoSingleton how.wishes line
 HasNoSingleton (tools.Distance d) line = ListsNoSingleton line
 HasNoSingleton (tools.Canonicalize k) line =
     (position is_tab line ≡ None) × (has_singleton line ≡ false)
+HasNoSingleton (tools.Name n) line = (n.canonicalizer ≡ None) × (has_singleton line ≡ false)
 HasNoSingleton tools line = has_singleton line ≡ false

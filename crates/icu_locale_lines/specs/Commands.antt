@@ -10,7 +10,7 @@ use Rattle.icu_locale_lines.specs.declared.command.Command.{Command}
 use Rattle.icu_locale_lines.specs.declared.command.Command.TheVariants.{Settled, Lines}
 use Rattle.icu_locale_lines.specs.declared.command.LineCommand.{LineCommand}
 use Rattle.icu_locale_lines.specs.declared.command.Task.{Task}
-use Rattle.icu_locale_lines.specs.declared.command.Task.TheVariants.{Transform, Canonicalize, Direction, Negotiate, Name, Fallback, Serve, Distance, Parts, Key, Validate, SubtagName, Exemplars}
+use Rattle.icu_locale_lines.specs.declared.command.Task.TheVariants.{Transform, Canonicalize, Direction, Negotiate, Name, Fallback, Serve, Distance, Parts, Key, Validate, SubtagName, Exemplars, Subtags}
 use Rattle.icu_locale_extensions.specs.declared.syntax.Syntax.{Syntax}
 use Rattle.icu_locale.specs.LikelyTable.{likely}
 use Rattle.icu_locale_fallback.specs.declared.fallbacker.LocaleFallbackPriority.TheVariants.{Language}
@@ -22,7 +22,8 @@ use Rattle.icu_locale_names.specs.declared.name_chain.NameChain.{NameChain}
 use Rattle.icu_tables.specs.declared.tables.Tables.{Tables}
 use Rattle.icu_locale_lines.specs.Lines.{first_line, after_first_line}
 use Rattle.icu_locale_lines.specs.Lists.{listed, IsAvailable}
-use Rattle.icu_locale_lines.specs.Loads.{AreRulesOf, IsCanonicalizerOf, IsExpanderOf, IsWholeOf, has_likely}
+use Rattle.icu_locale_lines.specs.Loads.{AreRulesOf, IsCanonicalizerOf, IsExpanderOf, IsWholeOf, has_likely, has_rules}
+use Rattle.icu_locale_values.specs.declared.canonicalizer.WholeCanonicalizer.{WholeCanonicalizer}
 use Rattle.icu_locale_matching.specs.Service.{Service}
 use Rattle.icu_locale_matching.specs.declared.limits.MatchLimits.{MatchLimits}
 use Rattle.icu_locale_lines.specs.declared.work.listing.Listed.{Listed}
@@ -66,6 +67,7 @@ holds_for Distance t = has_matching t && has_likely t
 holds_for Parts t = true
 holds_for Validate t = is_some t.supplement.validity
 holds_for (SubtagName chain preferences) t = true
+holds_for (Subtags kind preferences) t = true
 holds_for (Exemplars marker preferences) t = is_some (exemplars_in t marker preferences)
 holds_for task t = has_likely t
 
@@ -74,21 +76,30 @@ abbrev pub has_tables : Command → Tables → Bool
 has_tables Settled t = has_likely t
 has_tables (Lines c) t = holds_for c.task t
 
--- a task reads rules before its first line, for which it takes memory
-abbrev pub reads_rules : Task → Bool
-reads_rules Canonicalize = true
-reads_rules (Key of) = true
-reads_rules (Serve served) = true
-reads_rules task = false
+-- names are those of canonical forms: in a syntax, where the tables have rules
+abbrev pub names_canonical : Option Syntax → Tables → Bool
+names_canonical syntax t = is_some syntax && has_rules t
 
--- the rules that a task asks for are there, read of the aliases
-abbrev pub HasRules : Task → Tables → Option ReadRules → Type 0
-HasRules task t rules = reads_rules task ≡ true → IsSomeAnd rules (AreRulesOf t)
+-- a task works by rules, which are read before its first line and take memory
+abbrev pub works_by_rules : Option Syntax → Task → Tables → Bool
+works_by_rules syntax Canonicalize t = true
+works_by_rules syntax (Key of) t = true
+works_by_rules syntax (Serve served) t = true
+works_by_rules syntax (Name chain preferences) t = names_canonical syntax t
+works_by_rules syntax task t = false
 
--- a command does, whose tables are all held
+-- a command does
+abbrev pub reads_rules : LineCommand → Tables → Bool
+reads_rules c t = works_by_rules c.syntax c.task t
+
+-- the rules by which a command works are there, read of the aliases
+abbrev pub HasRules : LineCommand → Tables → Option ReadRules → Type 0
+HasRules c t rules = reads_rules c t ≡ true → IsSomeAnd rules (AreRulesOf t)
+
+-- a command reads rules, and its tables are all held
 abbrev pub ReadsRules : Command → Tables → Type 0
 ReadsRules Settled t = ⊥
-ReadsRules (Lines c) t = (reads_rules c.task ≡ true) × (holds_for c.task t ≡ true)
+ReadsRules (Lines c) t = (reads_rules c t ≡ true) × (holds_for c.task t ≡ true)
 
 -- a command answers lines
 abbrev pub AnswersLines : Command → Type 0
@@ -123,15 +134,21 @@ pub record IsServerOf (t : Tables) (limits_are : MatchLimits) (s : Service) : Ty
   pub matching : t.supplement.matching ≡ Some s.matching
   pub limits : s.limits ≡ limits_are
 
+-- canonical forms are named, by the rules of tables, or none is
+abbrev pub IsNamedBy : Bool → Tables → Option WholeCanonicalizer → Type 0
+IsNamedBy true t canonicalizer = IsSomeAnd canonicalizer (IsWholeOf t)
+IsNamedBy false t canonicalizer = canonicalizer ≡ None
+
 -- what gives names by a chain and in the language of preferences, over tables
-pub record IsNamingOf (chain : NameChain) (preferences : DisplayNamesPreferences) (t : Tables)
-    (n : Naming) : Type 0 where
+pub record IsNamingOf (syntax : Option Syntax) (chain : NameChain)
+    (preferences : DisplayNamesPreferences) (t : Tables) (n : Naming) : Type 0 where
   pub tables : n.tables.tables.now ≡ t
   pub names : n.tables.names ≡ t.names
   pub chain_is : n.chain ≡ chain
   pub preferences_are : n.preferences ≡ preferences
   pub extensions : option_copied n.extensions
       ≡ value_at locale_cmp t.supplement.extension_names preferences.locale
+  pub canonicalizer : IsNamedBy (names_canonical syntax t) t n.canonicalizer
 
 -- what gives names of subtags, over tables
 pub record IsSubtagNamingOf (chain : SubtagChain) (preferences : DisplayNamesPreferences)
@@ -153,7 +170,7 @@ AreToolsOf syntax Negotiate t input (tools.Negotiate n offered) = IsExpanderOf t
     × AreSettled (likely n.expander)
     × IsAvailable syntax (listed (first_line input)) n.available offered.now.wholes.items
 AreToolsOf syntax (Name chain preferences) t input (tools.Name n) =
-    IsNamingOf chain preferences t n
+    IsNamingOf syntax chain preferences t n
 AreToolsOf syntax Fallback t input (tools.Fallback f) = IsExpanderOf t f.fallbacker.expander
     × (f.fallbacker.parents.now ≡ t.supplement.parents) × (f.config.priority ≡ Language)
 AreToolsOf syntax (Serve served) t input (tools.Serve how s offered) =
@@ -168,6 +185,8 @@ AreToolsOf syntax (SubtagName chain preferences) t input (tools.SubtagName n) =
     IsSubtagNamingOf chain preferences t n
 AreToolsOf syntax (Exemplars marker preferences) t input (tools.Exemplars set) =
     exemplars_in t marker preferences ≡ Some set.now
+AreToolsOf syntax (Subtags kind preferences) t input (tools.Subtags list) =
+    (list.tables.now ≡ t) × (list.kind ≡ kind) × (list.locale ≡ preferences.locale)
 AreToolsOf syntax task t input other = ⊥
 
 -- the work of a command over tables

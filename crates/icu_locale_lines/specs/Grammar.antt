@@ -35,7 +35,7 @@ use Rattle.icu_locale_lines.specs.declared.command.Command.{Command}
 use Rattle.icu_locale_lines.specs.declared.command.Command.TheVariants.{Settled, Lines}
 use Rattle.icu_locale_lines.specs.declared.command.ServeTask.{ServeTask}
 use Rattle.icu_locale_lines.specs.declared.command.Task.{Task}
-use Rattle.icu_locale_lines.specs.declared.command.Task.TheVariants.{Transform, Canonicalize, Direction, Negotiate, Name, Fallback, Serve, Distance, Parts, Key, Validate, SubtagName, Exemplars}
+use Rattle.icu_locale_lines.specs.declared.command.Task.TheVariants.{Transform, Canonicalize, Direction, Negotiate, Name, Fallback, Serve, Distance, Parts, Key, Validate, SubtagName, Exemplars, Subtags}
 use Rattle.icu_locale_lines.specs.declared.command.KeyOf.TheVariants.{Whole, Identifier}
 use Rattle.icu_locale_lines.specs.declared.command.Wishes.{Wishes}
 use Rattle.icu_locale_lines.specs.declared.command.Wishes.TheVariants.{Header, Requests, Resolved}
@@ -75,6 +75,16 @@ kinds = kind.Language ∷ kind.Script ∷ kind.Region ∷ kind.Variant ∷ []
 abbrev pub kind_at : List ℕ → Option SubtagKind
 kind_at = named kind_word kinds
 
+-- the word of several subtags of a kind
+abbrev pub subtags_word : SubtagKind → List ℕ
+subtags_word kind.Language = codes "languages"
+subtags_word kind.Script = codes "scripts"
+subtags_word kind.Region = codes "regions"
+subtags_word kind.Variant = codes "variants"
+
+abbrev pub subtags_at : List ℕ → Option SubtagKind
+subtags_at = named subtags_word kinds
+
 -- what a chain names
 abbrev pub kind_of : SubtagChain → SubtagKind
 kind_of (subtag.Language chain) = kind.Language
@@ -107,7 +117,7 @@ subtag_chain_word (subtag.Script chain) = script_chain_word chain
 subtag_chain_word (subtag.Region chain) = region_chain_word chain
 subtag_chain_word subtag.Variant = codes "heavy"
 
--- the word of each task; those of names and of exemplars have arguments
+-- the word of each task; those of names, of exemplars and of lists have arguments
 abbrev pub task_word : Task → List ℕ
 task_word (Transform Maximize) = codes "maximize"
 task_word (Transform Minimize) = codes "minimize"
@@ -125,6 +135,7 @@ task_word (Key Identifier) = codes "identifier-key"
 task_word Validate = codes "validate"
 task_word (SubtagName chain preferences) = kind_word (kind_of chain)
 task_word (Exemplars marker preferences) = codes "exemplars"
+task_word (Subtags kind preferences) = codes "list"
 
 abbrev pub tasks : List Task
 tasks = Transform Maximize ∷ Transform Minimize ∷ Transform MinimizeScript ∷ Canonicalize
@@ -234,19 +245,24 @@ parse_word syntax word = if bytes_eq word (codes "settled")
 -- a choice and a locale come behind a word
 abbrev pub has_arguments : List ℕ → Bool
 has_arguments w = bytes_eq w (codes "name")
-    || (bytes_eq w (codes "exemplars") || is_some (kind_at w))
+    || (bytes_eq w (codes "exemplars") || (bytes_eq w (codes "list") || is_some (kind_at w)))
 
 -- the task of the word of a kind of subtag
 abbrev pub subtag_task : List ℕ → List ℕ → DisplayNamesPreferences → Option Task
 subtag_task w choice p = option_and_then
     (λ kind. option_map (λ c. SubtagName c p) (subtag_chain_at kind choice)) (kind_at w)
 
+-- the same, or that of a list of subtags
+abbrev pub listed_task : List ℕ → List ℕ → DisplayNamesPreferences → Option Task
+listed_task w choice p = if bytes_eq w (codes "list")
+    then option_map (λ k. Subtags k p) (subtags_at choice) else subtag_task w choice p
+
 -- the task of a word and of what is chosen, in the language of preferences
 abbrev pub named_task : List ℕ → List ℕ → DisplayNamesPreferences → Option Task
 named_task w choice p = if bytes_eq w (codes "name")
     then option_map (λ c. Name c p) (chain_at choice)
     else (if bytes_eq w (codes "exemplars")
-    then option_map (λ m. Exemplars m p) (exemplars_at choice) else subtag_task w choice p)
+    then option_map (λ m. Exemplars m p) (exemplars_at choice) else listed_task w choice p)
 
 -- such a command, after its first word
 abbrev pub parse_named : Option ℕ → Option Syntax → List ℕ → List (List ℕ) → Option Asked
@@ -341,6 +357,7 @@ tells_places (Some Unicode) (Serve served) = false
 tells_places (Some Unicode) Distance = false
 tells_places (Some Unicode) (SubtagName chain preferences) = false
 tells_places (Some Unicode) (Exemplars marker preferences) = false
+tells_places (Some Unicode) (Subtags kind preferences) = false
 tells_places (Some Unicode) task = true
 tells_places syntax task = false
 
@@ -378,6 +395,7 @@ is_streamed_task (Key of) = true
 is_streamed_task Validate = true
 is_streamed_task (SubtagName chain preferences) = true
 is_streamed_task (Exemplars marker preferences) = true
+is_streamed_task (Subtags kind preferences) = true
 is_streamed_task task = false
 
 abbrev pub is_for_runs : Command → Bool

@@ -12,6 +12,7 @@ pub mod Refusals
 pub mod Runs
 pub mod Serving
 pub mod Streams
+pub mod SubtagLists
 pub mod Subtags
 pub mod Texts
 pub mod WholeRuns

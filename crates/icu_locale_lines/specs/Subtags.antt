@@ -1,6 +1,6 @@
 -- Lines that are a subtag of one kind and its name, and texts among exemplar characters (UTS #35 Part 2, Display Name
 -- Elements, Character Elements).
-use Rattle.std.specs.Prelude.{◌≡◌, ℕ, Bool, ◌&&◌, true, false, List, ◌++◌, codes, Option, None, Result, Ok, Err, if◌then◌else◌}
+use Rattle.std.specs.Prelude.{◌≡◌, ℕ, Bool, true, false, List, ◌++◌, codes, None, Result, Ok, Err, if◌then◌else◌}
 use Rattle.std.specs.Str.{is_utf8}
 use Rattle.icu_locale_core.specs.Identifier.{parse_error_name}
 use Rattle.icu_locale_core.specs.Subtag.{is_language, is_region, is_script, is_variant, lowercase, titlecase, uppercase}

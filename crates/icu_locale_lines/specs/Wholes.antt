@@ -20,12 +20,18 @@ TellsWholeRefusal Memory text accepted = ⊥
 TellsWholeRefusal e text accepted =
     (text ≡ refused_line (whole_error_name e)) × (accepted ≡ false)
 
--- the line of a locale identifier that becomes canonical, or whose runs do not all end
-abbrev pub IsWholeCanonicalized : WholeRules → LocaleIdentifier → List ℕ → Bool → Type 0
-IsWholeCanonicalized by x text accepted =
-    ((new : LocaleIdentifier) × AreMaps new × IsWhole by x new
-    × (text ≡ whole_line new (answer_of (is_whole_applied by x))) × (accepted ≡ true))
+-- a locale identifier becomes canonical and that has its line, or its runs do not all end
+abbrev pub IsCanonicalThen : (LocaleIdentifier → List ℕ → Bool → Type 0) → WholeRules
+    → LocaleIdentifier → List ℕ → Bool → Type 0
+IsCanonicalThen IsLine by x text accepted =
+    ((new : LocaleIdentifier) × AreMaps new × IsWhole by x new × IsLine new text accepted)
     ⊎ ((e : WholeError) × IsWholeRefusal by x e × TellsWholeRefusal e text accepted)
+
+-- the line of a locale identifier that becomes canonical
+abbrev pub IsWholeCanonicalized : WholeRules → LocaleIdentifier → List ℕ → Bool → Type 0
+IsWholeCanonicalized by x text accepted = IsCanonicalThen
+    (λ new t a. (t ≡ whole_line new (answer_of (is_whole_applied by x))) × (a ≡ true))
+    by x text accepted
 
 -- what a key is made of: a locale identifier, or its identifier alone
 abbrev pub keyed : KeyOf → LocaleIdentifier → LocaleIdentifier

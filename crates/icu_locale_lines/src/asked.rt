@@ -154,7 +154,8 @@ fn has_arguments(word: &str) -> bool
     ensures { result ≡ has_arguments word.now }
 {
     is_word(word.as_bytes(), "name")
-        || (is_word(word.as_bytes(), "exemplars") || SubtagKind::of_word(word).is_some())
+        || (is_word(word.as_bytes(), "exemplars")
+            || (is_word(word.as_bytes(), "list") || SubtagKind::of_word(word).is_some()))
 }
 
 // The task of a word and of what is chosen, in the language of preferences.
@@ -166,6 +167,9 @@ fn named_task(word: &str, choice: &str, preferences: DisplayNamesPreferences) ->
     }
     if is_word(word.as_bytes(), "exemplars") {
         return Some(Task::Exemplars(exemplars_of(choice)?, preferences));
+    }
+    if is_word(word.as_bytes(), "list") {
+        return Some(Task::Subtags(SubtagKind::of_subtags(choice)?, preferences));
     }
     let kind = SubtagKind::of_word(word)?;
     let chain = kind.chain(choice)?;

@@ -10,7 +10,7 @@ use crate::asked::{Asked, Source};
 use crate::cursor::Words;
 use crate::error::CliError;
 use crate::work::form::Transform;
-use crate::work::subtag::SubtagChain;
+use crate::work::subtag::{SubtagChain, SubtagKind};
 use icu_locale_extensions::Syntax;
 use icu_locale_matching::MatchLimits;
 use icu_locale_names::{DisplayNamesPreferences, NameChain};
@@ -69,6 +69,9 @@ pub enum Task {
     SubtagName(SubtagChain, DisplayNamesPreferences),
     /// Whether a set of exemplar characters of a locale has each text. Streams alone have it.
     Exemplars(ExemplarMarker, DisplayNamesPreferences),
+    /// The subtags of one kind that have names in the language of preferences, of those that begin with each line. Streams
+    /// alone have it.
+    Subtags(SubtagKind, DisplayNamesPreferences),
 }
 
 /// What a key is made of.
@@ -186,6 +189,7 @@ fn is_streamed_task(task: Task) -> bool
         Task::Validate => true,
         Task::SubtagName(_, _) => true,
         Task::Exemplars(_, _) => true,
+        Task::Subtags(_, _) => true,
         _ => false,
     }
 }

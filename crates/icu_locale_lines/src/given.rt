@@ -139,6 +139,7 @@ fn tells_places(syntax: Option<Syntax>, task: &Task) -> bool
         (Some(Syntax::Unicode), Task::Distance) => false,
         (Some(Syntax::Unicode), Task::SubtagName(_, _)) => false,
         (Some(Syntax::Unicode), Task::Exemplars(_, _)) => false,
+        (Some(Syntax::Unicode), Task::Subtags(_, _)) => false,
         (Some(Syntax::Unicode), _) => true,
         _ => false,
     }

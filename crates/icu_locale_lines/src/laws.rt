@@ -29,6 +29,7 @@ use icu_locale_key::laws::whole_key_is_one;
 use icu_locale_matching::laws::{the_nearest_to_requests_is_one, what_is_served_is_one};
 use icu_locale_places::laws::a_fault_has_one_place;
 use icu_locale_values::laws::{a_refusal_is_one, whole_form_is_one, whole_where_runs_end};
+use icu_tables::laws::named_keys_are_one;
 
 /// A line has one answer at most: what is written for it is told by the line and the work alone.
 pub fn a_line_has_one_answer()
@@ -46,6 +47,7 @@ pub fn a_line_has_one_answer()
     what_is_served_is_one();
     the_nearest_to_requests_is_one();
     a_fault_has_one_place();
+    named_keys_are_one();
 }
 
 /// A line that holds identifiers alone is answered alike in each syntax of locale identifiers and without one. In the

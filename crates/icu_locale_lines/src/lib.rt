@@ -27,7 +27,7 @@ pub use sample_tables::{SAMPLE, SAMPLE_SUPPLEMENT, sample, whole_sample};
 pub use work::form::Transform;
 pub use work::list::{fault_of_list, read_list};
 pub use work::listing::{ListOver, Listed, Listing};
-pub use work::load::{Loaded, lend_rules, load_expander, load_rules};
+pub use work::load::{Loaded, lend_rules, load_expander, load_rules, reads_rules};
 pub use work::name::Naming;
 pub use work::offered::{Offered, read_available};
 pub use work::serving::{Distances, Serving};

@@ -20,6 +20,7 @@ pub mod serve;
 pub mod serving;
 pub mod subtag;
 pub mod subtag_line;
+pub mod subtag_list;
 pub mod validate;
 pub mod value;
 
@@ -40,6 +41,7 @@ use crate::work::serve::{add_distance, add_served};
 use crate::work::serving::Distances;
 use crate::work::subtag::SubtagNaming;
 use crate::work::subtag_line::add_subtag_name;
+use crate::work::subtag_list::{SubtagList, add_list};
 use crate::work::validate::add_report;
 use icu_locale::{LocaleDirectionality, LocaleExpander, NegotiatorRef};
 use icu_locale_extensions::Syntax;
@@ -89,6 +91,8 @@ pub enum Tools<'r> {
     SubtagName(SubtagNaming<'r>),
     /// Of each text it is told whether it is among exemplar characters.
     Exemplars(&'r ExemplarCharactersData),
+    /// Subtags that have names are listed.
+    Subtags(SubtagList<'r>),
 }
 
 impl<'r> Work<'r> {
@@ -179,6 +183,7 @@ impl<'r> Work<'r> {
             Tools::Validate(validity) => add_report(text, validity, syntax, line),
             Tools::SubtagName(naming) => add_subtag_name(text, naming, line),
             Tools::Exemplars(set) => add_exemplar(text, set, line),
+            Tools::Subtags(list) => add_list(text, list, line),
         }
     }
 }

@@ -10,7 +10,7 @@ use Rattle.icu_locale_extensions.specs.declared.syntax.Syntax.TheVariants.{Unico
 use Rattle.icu_locale_names.specs.LanguageChains.{chain_word}
 use Rattle.icu_locale_names.specs.declared.name_chain.NameChain.{NameChain}
 use Rattle.icu_locale_names.specs.declared.name_chain.NameChain.TheVariants as chain
-use Rattle.icu_locale_lines.specs.Grammar.{asked_by, asked_for, bound_at, chain_at, command_by, exemplars_at, exemplars_word, given_flags, given_next, kind_of, kind_word, limit_at, limit_next, lines_of, named, named_task, number_next, parse, parse_behind, parse_command, parse_lines, parse_named, placed_lines}
+use Rattle.icu_locale_lines.specs.Grammar.{asked_by, asked_for, bound_at, chain_at, command_by, exemplars_at, exemplars_word, given_flags, given_next, kind_of, kind_word, limit_at, limit_next, lines_of, named, named_task, number_next, parse, parse_behind, parse_command, parse_lines, parse_named, placed_lines, subtags_word, subtags_at}
 use Rattle.icu_locale_lines.specs.Grammar.{parse_served, parse_source, preferences_at, region_chain_word, region_chains, said_first, script_chain_word, script_chains, subtag_chain_word, subtag_task, syntax_at, syntax_word, task_by, task_word, usual, wishes_word, word_next}
 use Rattle.icu_locale_names.specs.declared.options.DisplayNamesPreferences.{DisplayNamesPreferences}
 use Rattle.icu_provider.specs.declared.exemplars.ExemplarMarker.{ExemplarMarker}
@@ -29,7 +29,7 @@ use Rattle.icu_locale_lines.specs.declared.asked.Source.TheVariants.{Sample, Jso
 use Rattle.icu_locale_lines.specs.declared.command.Command.{Command}
 use Rattle.icu_locale_lines.specs.declared.command.Command.TheVariants.{Settled, Lines}
 use Rattle.icu_locale_lines.specs.declared.command.Task.{Task}
-use Rattle.icu_locale_lines.specs.declared.command.Task.TheVariants.{Transform, Canonicalize, Direction, Negotiate, Name, Fallback, Serve, Distance, Parts, Key, Validate, SubtagName, Exemplars}
+use Rattle.icu_locale_lines.specs.declared.command.Task.TheVariants.{Transform, Canonicalize, Direction, Negotiate, Name, Fallback, Serve, Distance, Parts, Key, Validate, SubtagName, Exemplars, Subtags}
 use Rattle.icu_locale_lines.specs.declared.command.KeyOf.TheVariants.{Whole, Identifier}
 use Rattle.icu_locale_lines.specs.declared.command.Wishes.{Wishes}
 use Rattle.icu_locale_lines.specs.declared.given.Given.{Given}
@@ -41,12 +41,14 @@ abbrev pub arguments : Task → List ℕ → List (List ℕ)
 arguments (Name chain preferences) text = chain_word chain ∷ text ∷ []
 arguments (SubtagName chain preferences) text = subtag_chain_word chain ∷ text ∷ []
 arguments (Exemplars marker preferences) text = exemplars_word marker ∷ text ∷ []
+arguments (Subtags kind preferences) text = subtags_word kind ∷ text ∷ []
 arguments task text = []
 
 abbrev pub HasPreferences : Task → List ℕ → Type 0
 HasPreferences (Name chain preferences) text = preferences_at text ≡ Some preferences
 HasPreferences (SubtagName chain preferences) text = preferences_at text ≡ Some preferences
 HasPreferences (Exemplars marker preferences) text = preferences_at text ≡ Some preferences
+HasPreferences (Subtags kind preferences) text = preferences_at text ≡ Some preferences
 HasPreferences task text = Unit {0}
 
 abbrev pub source_words : Source → List (List ℕ)
@@ -128,6 +130,12 @@ exemplars_found Punctuation = refl
 exemplars_found Numbers = refl
 exemplars_found Index = refl
 
+subtags_found : (k : SubtagKind) → subtags_at (subtags_word k) ≡ Some k
+subtags_found kind.Language = refl
+subtags_found kind.Script = refl
+subtags_found kind.Region = refl
+subtags_found kind.Variant = refl
+
 script_found : (c : ScriptChain) → named script_chain_word script_chains (script_chain_word c) ≡ Some c
 script_found scripts.Tiny = refl
 script_found scripts.Light = refl
@@ -185,6 +193,7 @@ apart (Key Identifier) = (refl, refl)
 apart Validate = (refl, refl)
 apart (SubtagName chain preferences) = kind_apart (kind_of chain)
 apart (Exemplars marker preferences) = (refl, refl)
+apart (Subtags kind preferences) = (refl, refl)
 
 -- a command as its word has it: readers are served as ICU does
 abbrev usual_task : Task → Task
@@ -240,6 +249,8 @@ module _ (longest : Option ℕ) (s : Source) (text : List ℕ) where
       argued syntax (codes "name") (chain_word chain) (Name chain p) p has (ap (option_map (λ c. Name c p)) (chain_found chain))
   task_parsed syntax (Exemplars marker p) has = argued syntax (codes "exemplars") (exemplars_word marker) (Exemplars marker p) p has
       (ap (option_map (λ m. Exemplars m p)) (exemplars_found marker))
+  task_parsed syntax (Subtags kind p) has = argued syntax (codes "list") (subtags_word kind) (Subtags kind p) p has
+      (ap (option_map (λ k. Subtags k p)) (subtags_found kind))
   task_parsed syntax (SubtagName chain p) has =
       kind_parsed syntax (kind_of chain) (subtag_chain_word chain) (SubtagName chain p) p has (subtag_found chain p)
 
@@ -269,6 +280,7 @@ task_usually given (Key of) = refl
 task_usually given Validate = refl
 task_usually given (SubtagName chain preferences) = refl
 task_usually given (Exemplars marker preferences) = refl
+task_usually given (Subtags kind preferences) = refl
 
 command_usually : (given : Given) (c : Command) → command_by given (usually c) ≡ command_by given c
 command_usually given Settled = refl

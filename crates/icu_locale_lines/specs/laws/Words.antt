@@ -10,7 +10,7 @@ use Rattle.icu_locale_extensions.specs.declared.syntax.Syntax.{Syntax}
 use Rattle.icu_locale_names.specs.LanguageChains.{chain_word}
 use Rattle.icu_locale_names.specs.declared.name_chain.NameChain.{NameChain}
 use Rattle.icu_locale_names.specs.declared.options.DisplayNamesPreferences.{DisplayNamesPreferences}
-use Rattle.icu_locale_lines.specs.Grammar.{asked_by, asked_for, bound_at, chain_at, chains, command_by, exemplar_sets, exemplars_at, exemplars_word, given_flags, given_next, has_arguments, kind_at, kind_of, kind_word, kinds, limit_at, limit_next, lines_of, longest_next, named, named_task, number_next, parse, parse_behind, parse_command, parse_lines}
+use Rattle.icu_locale_lines.specs.Grammar.{asked_by, asked_for, bound_at, chain_at, chains, command_by, exemplar_sets, exemplars_at, exemplars_word, given_flags, given_next, has_arguments, kind_at, kind_of, kind_word, kinds, limit_at, limit_next, lines_of, longest_next, named, named_task, number_next, parse, parse_behind, parse_command, parse_lines, subtags_word, subtags_at, listed_task}
 use Rattle.icu_locale_lines.specs.Grammar.{parse_named, parse_served, parse_source, parse_supplement, parse_word, placed_lines, preferences_at, region_chain_word, region_chains, said_first, script_chain_word, script_chains, subtag_chain_at, subtag_chain_word, subtag_task, syntax_at, syntax_word, syntaxes, task_at, task_by, task_word, tasks, wishes_word, word_next}
 use Rattle.icu_locale_lines.specs.Lists.{is_space}
 use Rattle.icu_provider.specs.declared.exemplars.ExemplarMarker.{ExemplarMarker}
@@ -24,7 +24,7 @@ use Rattle.icu_locale_lines.specs.declared.asked.Source.TheVariants.{Sample, Jso
 use Rattle.icu_locale_lines.specs.declared.command.Command.{Command}
 use Rattle.icu_locale_lines.specs.declared.command.Command.TheVariants.{Settled}
 use Rattle.icu_locale_lines.specs.declared.command.Task.{Task}
-use Rattle.icu_locale_lines.specs.declared.command.Task.TheVariants.{Transform, Canonicalize, Direction, Negotiate, Name, Fallback, Serve, Distance, Parts, Key, Validate, SubtagName, Exemplars}
+use Rattle.icu_locale_lines.specs.declared.command.Task.TheVariants.{Transform, Canonicalize, Direction, Negotiate, Name, Fallback, Serve, Distance, Parts, Key, Validate, SubtagName, Exemplars, Subtags}
 use Rattle.icu_locale_lines.specs.declared.command.KeyOf.TheVariants.{Whole, Identifier}
 use Rattle.icu_locale_lines.specs.declared.command.Wishes.{Wishes}
 use Rattle.icu_locale_lines.specs.declared.given.Given.{Given}
@@ -216,20 +216,30 @@ argued w choice p t e = by (bytes_eq w (codes "name")) refl
     kind (Some k) is f = let (c, found, made) = map_told (λ c. SubtagName c p) (subtag_chain_at k choice) t f in
         subst (IsArgued w choice p) made (subst (λ v. IsArgued v choice p (SubtagName c p)) (word_named kind_word kinds w k is) (kind_argued k choice p c found))
 
+    list : (b : Bool) → bytes_eq w (codes "list") ≡ b
+        → (if b then option_map (λ k. Subtags k p) (subtags_at choice) else subtag_task w choice p) ≡ Some t → IsArgued w choice p t
+    list true is f = let (k, found, made) = map_told (λ k. Subtags k p) (subtags_at choice) t f in
+        subst (IsArgued w choice p) made (record {
+          word = sym ((bytes_eq-Decides w (codes "list")).0 is);
+          has = λ text has. has;
+          said = λ text. ap (λ v. v ∷ text ∷ []) (word_named subtags_word kinds choice k found);
+        })
+    list false is f = kind (kind_at w) refl f
+
     other : (b : Bool) → bytes_eq w (codes "exemplars") ≡ b
-        → (if b then option_map (λ m. Exemplars m p) (exemplars_at choice) else subtag_task w choice p) ≡ Some t → IsArgued w choice p t
+        → (if b then option_map (λ m. Exemplars m p) (exemplars_at choice) else listed_task w choice p) ≡ Some t → IsArgued w choice p t
     other true is f = let (m, found, made) = map_told (λ m. Exemplars m p) (exemplars_at choice) t f in
         subst (IsArgued w choice p) made (record {
           word = sym ((bytes_eq-Decides w (codes "exemplars")).0 is);
           has = λ text has. has;
           said = λ text. ap (λ v. v ∷ text ∷ []) (word_named exemplars_word exemplar_sets choice m found);
         })
-    other false is f = kind (kind_at w) refl f
+    other false is f = list (bytes_eq w (codes "list")) refl f
 
     tested : (b : Bool) → bytes_eq w (codes "name") ≡ b → named_task w choice p ≡ (if b then option_map (λ c. Name c p) (chain_at choice)
-        else (if bytes_eq w (codes "exemplars") then option_map (λ m. Exemplars m p) (exemplars_at choice) else subtag_task w choice p))
+        else (if bytes_eq w (codes "exemplars") then option_map (λ m. Exemplars m p) (exemplars_at choice) else listed_task w choice p))
     tested b is = ap (λ b. if b then option_map (λ c. Name c p) (chain_at choice)
-        else (if bytes_eq w (codes "exemplars") then option_map (λ m. Exemplars m p) (exemplars_at choice) else subtag_task w choice p)) is
+        else (if bytes_eq w (codes "exemplars") then option_map (λ m. Exemplars m p) (exemplars_at choice) else listed_task w choice p)) is
 
     by : (b : Bool) → bytes_eq w (codes "name") ≡ b → IsArgued w choice p t
     by true is = let (c, found, made) = map_told (λ c. Name c p) (chain_at choice) t (sym (tested true is) ∙ e) in
@@ -426,6 +436,7 @@ one_word (Key Whole) = refl
 one_word (Key Identifier) = refl
 one_word Validate = refl
 one_word (Exemplars marker preferences) = refl
+one_word (Subtags kind preferences) = refl
 one_word (SubtagName chain preferences) = by (kind_of chain)
   where
     by : (k : SubtagKind) → slice_split is_space (kind_word k) ≡ kind_word k ∷ []

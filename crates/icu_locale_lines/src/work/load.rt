@@ -1,10 +1,11 @@
 //! The tables and the rules that a command needs, before the input is read.
-ghost use Rattle.std.specs.Prelude.{◌≡◌, ◌↔◌, ◌⊎◌, ◌&&◌, Some, None, Ok, Err, IfOk, IfErr, IfSome, IsSomeAnd, IsOk, is_ok, is_some, false, true};
+ghost use Rattle.std.specs.Prelude.{◌≡◌, ◌↔◌, ◌⊎◌, ◌&&◌, Option, Some, None, Ok, Err, IfOk, IfErr, IfSome, IsSomeAnd, IsOk, is_ok, is_some, false, true};
 ghost use Rattle.icu_locale.specs.RuleSet.{lent, rules_over};
 ghost use Rattle.icu_locale.specs.Rules.{HasNoTexts};
 ghost use Rattle.icu_locale_lines.specs.Loads.{AreRulesOf, IsCanonicalizerOf, IsExpanderOf, IsRefusedRules, IsWholeOf, has_likely, has_rules, not_found};
 ghost use Rattle.icu_locale_lines.specs.WholeRuns.{IsUnloaded};
-ghost use Rattle.icu_locale_lines.specs.Commands.{HasRules, IsLoaded, IsNamingOf, IsSubtagNamingOf, IsUnsettled, has_matching, has_tables, reads_rules};
+ghost use Rattle.icu_locale_extensions.specs.declared.syntax.Syntax.{Syntax};
+ghost use Rattle.icu_locale_lines.specs.Commands.{HasRules, IsLoaded, IsNamedBy, IsNamingOf, IsSubtagNamingOf, IsUnsettled, has_matching, has_tables, names_canonical, reads_rules};
 ghost use Rattle.icu_locale_fallback.specs.declared.fallbacker.LocaleFallbackPriority.TheVariants.{Language};
 
 use crate::command::{Command, LineCommand, Task};
@@ -13,15 +14,16 @@ use crate::work::listing::{ListOver, Listing};
 use crate::work::name::Naming;
 use crate::work::serving::Distances;
 use crate::work::subtag::{SubtagChain, SubtagNaming};
+use crate::work::subtag_list::SubtagList;
 use crate::work::{Tools, Work};
 use icu_locale::{CanonicalizerRef, LocaleDirectionality, LocaleExpander, ReadRules};
+use icu_locale_extensions::Syntax;
 use icu_locale_fallback::{
     LocaleFallbackConfig, LocaleFallbackPriority, LocaleFallbacker, LocaleFallbackerWithConfig,
 };
 use icu_locale_names::{DisplayNamesPreferences, NameChain};
-use icu_locale_validity::Validity;
 use icu_locale_values::{ValueAliases, WholeCanonicalizer};
-use icu_provider::{DataError, DataErrorKind, DataProvider, LanguageMatching};
+use icu_provider::{DataError, DataErrorKind, DataProvider};
 use icu_tables::{LocaleTables, Tables};
 use std::alloc::Global;
 
@@ -36,25 +38,46 @@ pub fn load_rules(
     command: &LineCommand,
     tables: &Tables,
 ) -> Result<Option<ReadRules>, CliError>
-    ensures read { IfOk result (HasRules command.now.task tables.now) }
-    ensures held { IfOk result (λ _. reads_rules command.now.task ≡ true
+    ensures read { IfOk result (HasRules command.now tables.now) }
+    ensures held { IfOk result (λ _. reads_rules command.now tables.now ≡ true
         → has_tables (Command.Lines command.now) tables.now ≡ true) }
     ensures which { IfErr result
         (λ e. (e ≡ CliError.Data not_found) ⊎ (e ≡ CliError.Memory)) }
     ensures refused { IfErr result (IsUnloaded (Command.Lines command.now) tables.now) }
-    ensures none { reads_rules command.now.task ≡ false → result ≡ Ok None }
+    ensures none { reads_rules command.now tables.now ≡ false → result ≡ Ok None }
     ensures free { has_tables (Command.Lines command.now) tables.now ≡ true
         → IfSome tables.now.aliases HasNoTexts → IsOk result }
 {
-    match command.task {
-        Task::Canonicalize => Ok(Some(read_rules(alloc, tables)?)),
-        Task::Key(_) => Ok(Some(read_rules(alloc, tables)?)),
-        Task::Serve(_) => {
-            load_matching(tables)?;
-            Ok(Some(read_rules(alloc, tables)?))
-        }
-        _ => Ok(None),
+    if !reads_rules(command, tables) {
+        return Ok(None);
     }
+    if let Task::Serve(_) = command.task {
+        held(&tables.supplement.matching)?;
+    }
+    Ok(Some(read_rules(alloc, tables)?))
+}
+
+/// Whether a command works by rules: at `name` in a syntax where the tables have some.
+pub fn reads_rules(command: &LineCommand, tables: &Tables) -> bool
+    ensures { result ≡ reads_rules command.now tables.now }
+{
+    match command.task {
+        Task::Canonicalize => true,
+        Task::Key(_) => true,
+        Task::Serve(_) => true,
+        Task::Name(_, _) => names_canonical(command.syntax, tables),
+        _ => false,
+    }
+}
+
+// Whether names are those of canonical forms.
+fn names_canonical(syntax: Option<Syntax>, tables: &Tables) -> bool
+    ensures { result ≡ names_canonical syntax tables.now }
+{
+    syntax.is_some()
+        && tables.likely_language.is_some()
+        && tables.likely_script_region.is_some()
+        && tables.aliases.is_some()
 }
 
 // The rules that are read of the aliases. Likely tables are asked for before aliases.
@@ -95,7 +118,7 @@ impl<'r> Loaded<'r> {
         tables: &'r Tables,
         rules: &'r Option<ReadRules>,
     ) -> Result<Self, CliError>
-        requires { HasRules command.now.task tables.now rules.now }
+        requires { HasRules command.now tables.now rules.now }
         ensures loaded { IfOk result (IsLoaded command.now tables.now) }
         ensures data { (result ≡ Err (CliError.Data not_found))
             ↔ (has_tables (Command.Lines command.now) tables.now ≡ false) }
@@ -110,17 +133,27 @@ impl<'r> Loaded<'r> {
             Task::Transform(form) => Tools::Transform(form, load_expander(tables)?),
             Task::Canonicalize => Tools::Canonicalize(load_whole_canonicalizer(tables, rules)?),
             Task::Direction => Tools::Direction(load_directionality(tables)?),
-            Task::Name(chain, preferences) => Tools::Name(load_naming(tables, chain, preferences)),
+            Task::Name(chain, preferences) => {
+                let canonicalizer = load_canonical_names(syntax, tables, rules);
+                Tools::Name(load_naming(tables, chain, preferences, canonicalizer))
+            }
             Task::Fallback => Tools::Fallback(load_fallbacker(tables)?),
             Task::Distance => Tools::Distance(load_distances(tables)?),
             Task::Parts => Tools::Parts,
             Task::Key(of) => Tools::Key(of, load_whole_canonicalizer(tables, rules)?),
-            Task::Validate => Tools::Validate(load_validity(tables)?),
+            Task::Validate => Tools::Validate(held(&tables.supplement.validity)?),
             Task::SubtagName(chain, preferences) => {
                 Tools::SubtagName(load_subtag_naming(tables, chain, preferences))
             }
             Task::Exemplars(marker, preferences) => {
                 Tools::Exemplars(tables.load_exemplars(marker, preferences.locale)?)
+            }
+            Task::Subtags(kind, DisplayNamesPreferences { locale }) => {
+                Tools::Subtags(SubtagList {
+                    tables,
+                    kind,
+                    locale,
+                })
             }
             Task::Negotiate => {
                 let expander = load_expander(tables)?;
@@ -135,7 +168,7 @@ impl<'r> Loaded<'r> {
                 }));
             }
             Task::Serve(how) => {
-                let matching = load_matching(tables)?;
+                let matching = held(&tables.supplement.matching)?;
                 let over = ListOver::Serve(how, load_canonicalizer(tables, rules)?, matching);
                 return Ok(Loaded::Listing(Listing {
                     syntax,
@@ -236,19 +269,40 @@ fn load_directionality(tables: &Tables) -> Result<LocaleDirectionality<'_>, CliE
     Ok(LocaleDirectionality::try_new_with_expander_unstable(tables, expander)?)
 }
 
+// What brings to the canonical forms that are named, if any are.
+fn load_canonical_names<'r>(
+    syntax: Option<Syntax>,
+    tables: &'r Tables,
+    rules: &'r Option<ReadRules>,
+) -> Option<WholeCanonicalizer<'r>>
+    requires { names_canonical syntax tables.now ≡ true
+        → IsSomeAnd rules.now (AreRulesOf tables.now) }
+    ensures { IsNamedBy (names_canonical syntax tables.now) tables.now result }
+{
+    if names_canonical(syntax, tables) {
+        load_whole_canonicalizer(tables, rules).ok()
+    } else {
+        None
+    }
+}
+
 // What gives names by a chain and in the language of preferences.
-fn load_naming(
-    tables: &Tables,
+fn load_naming<'r>(
+    tables: &'r Tables,
     chain: NameChain,
     preferences: DisplayNamesPreferences,
-) -> Naming<'_>
-    ensures { IsNamingOf chain preferences tables.entry.now result }
+    canonicalizer: Option<WholeCanonicalizer<'r>>,
+) -> Naming<'r>
+    ensures { (syntax : Option Syntax)
+        → IsNamedBy (names_canonical syntax tables.now) tables.now canonicalizer.entry
+        → IsNamingOf syntax chain preferences tables.now result }
 {
     Naming {
         tables: LocaleTables::new(tables, preferences.locale),
         chain,
         preferences,
         extensions: tables.supplement.extension_names.get(&preferences.locale),
+        canonicalizer,
     }
 }
 
@@ -267,28 +321,14 @@ fn load_subtag_naming(
     }
 }
 
-// The table of validity of the supplement.
-fn load_validity(tables: &Tables) -> Result<&Validity, CliError>
-    ensures held { IfOk result (λ v. tables.entry.now.supplement.validity ≡ Some v.now) }
-    ensures loaded { is_ok result ≡ is_some tables.entry.now.supplement.validity }
+// A table that is asked for, if it is held.
+fn held<T>(table: &Option<T>) -> Result<&T, CliError>
+    ensures held { IfOk result (λ t. table.now ≡ Some t.now) }
+    ensures loaded { is_ok result ≡ is_some table.now }
     ensures refused { IfErr result (λ e. e ≡ CliError.Data not_found) }
 {
-    match &tables.supplement.validity {
-        Some(validity) => Ok(validity),
-        None => Err(CliError::Data(DataError {
-            kind: DataErrorKind::IdentifierNotFound,
-        })),
-    }
-}
-
-// The match rules of the supplement.
-fn load_matching(tables: &Tables) -> Result<&LanguageMatching, CliError>
-    ensures held { IfOk result (λ m. tables.entry.now.supplement.matching ≡ Some m.now) }
-    ensures loaded { is_ok result ≡ has_matching tables.entry.now }
-    ensures refused { IfErr result (λ e. e ≡ CliError.Data not_found) }
-{
-    match &tables.supplement.matching {
-        Some(matching) => Ok(matching),
+    match table {
+        Some(table) => Ok(table),
         None => Err(CliError::Data(DataError {
             kind: DataErrorKind::IdentifierNotFound,
         })),
@@ -303,7 +343,7 @@ fn load_distances(tables: &Tables) -> Result<Distances<'_>, CliError>
     ensures loaded { is_ok result ≡ has_matching tables.entry.now && has_likely tables.entry.now }
     ensures refused { IfErr result (λ e. e ≡ CliError.Data not_found) }
 {
-    let matching = load_matching(tables)?;
+    let matching = held(&tables.supplement.matching)?;
     let expander = load_expander(tables)?;
     Ok(Distances { expander, matching })
 }

@@ -2,21 +2,22 @@
 //! identifier in a syntax.
 ghost use Rattle.std.specs.Prelude.{◌≡◌, ℕ, Bool, List, IfOk, IfErr, OnErr, MatchOption, is_some, false};
 ghost use Rattle.std.specs.List.{position};
-ghost use Rattle.icu_locale.specs.Canonical.{without_extensions};
 ghost use Rattle.icu_locale.specs.LikelyTable.{likely};
 ghost use Rattle.icu_locale.specs.RuleSet.{lent};
 ghost use Rattle.icu_locale_lines.specs.Answers.{IsCanonicalized, AddsLine, Keeps, IsCanonicalAnswer};
 ghost use Rattle.icu_locale_lines.specs.Locales.{is_tab};
 ghost use Rattle.icu_locale_lines.specs.Wholes.{IsWholeCanonicalized, TellsWholeRefusal};
 ghost use Rattle.icu_locale_lines.specs.inner.Parts.{TellsRefusal};
-ghost use Rattle.icu_locale_values.specs.Whole.{whole_rules};
+ghost use Rattle.icu_locale.specs.Canonical.{answer_of, without_extensions};
+ghost use Rattle.icu_locale_values.specs.Refusals.{IsWholeRefusal};
+ghost use Rattle.icu_locale_values.specs.Whole.{AreMaps, IsWhole, is_whole_applied, whole_rules};
 
 use crate::answer::add_known;
 use crate::error::CliError;
 use crate::work::answering::{Answering, add_read};
 use crate::work::form::add_changed;
 use crate::work::value::{add_identifier_and_value, first_tab};
-use icu_locale::CanonicalizeError;
+use icu_locale::{CanonicalizeError, TransformResult};
 use icu_locale_core::LanguageIdentifier;
 use icu_locale_extensions::{LocaleIdentifier, Syntax};
 use icu_locale_values::{WholeCanonicalizer, WholeError};
@@ -76,15 +77,28 @@ impl<'d> Answering for WholeCanonicalizer<'d> {
         text: &mut Vec<u8>,
         whole: &mut LocaleIdentifier,
     ) -> Result<bool, CliError> {
-        let outcome = self.canonicalize(whole);
-        // for the proof: both are maps
-        whole.locale.extensions.unicode.keywords.known();
-        whole.fields.known();
-        match outcome {
+        match bring_to_canonical(self, whole) {
             Ok(changed) => add_changed(text, whole, changed),
             Err(refusal) => add_refusal(text, refusal),
         }
     }
+}
+
+// Brings a locale identifier to its canonical form.
+pub fn bring_to_canonical(
+    canonicalizer: &WholeCanonicalizer<'_>,
+    whole: &mut LocaleIdentifier,
+) -> Result<TransformResult, WholeError>
+    ensures maps { AreMaps whole.new }
+    ensures form { IfOk result (λ _. IsWhole (whole_rules canonicalizer.now) whole.old whole.new) }
+    ensures changed { IfOk result
+        (λ m. m ≡ answer_of (is_whole_applied (whole_rules canonicalizer.now) whole.old)) }
+    ensures refused { IfErr result (IsWholeRefusal (whole_rules canonicalizer.now) whole.old) }
+{
+    let outcome = canonicalizer.canonicalize(whole);
+    whole.locale.extensions.unicode.keywords.known();
+    whole.fields.known();
+    outcome
 }
 
 // The line of a refusal of a locale identifier. Want of memory has none.

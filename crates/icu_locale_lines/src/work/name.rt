@@ -8,12 +8,13 @@ ghost use Rattle.icu_locale_names.specs.Pieces.{Piece};
 ghost use Rattle.icu_locale_full_names.specs.FullNames.{GivesFullName, written};
 ghost use Rattle.icu_locale_lines.specs.Answers.{AddsLine, Keeps, IsAnswerOf, IsNamed, IsWholeNamed};
 ghost use Rattle.icu_locale_lines.specs.Grammar.{preferences_at};
-ghost use Rattle.icu_locale_lines.specs.Names.{answers_in, name_asked, full_name_asked, IsNamedLine};
+ghost use Rattle.icu_locale_lines.specs.Names.{answers_in, name_asked, full_name_asked, whole_name_asked, IsNamedLine};
 ghost use Rattle.icu_locale_lines.specs.Texts.{named_line, raw_mark, refused_line};
 
 use crate::answer::{add_known, add_text};
 use crate::error::CliError;
 use crate::work::answering::{Answering, add_read};
+use crate::work::locale::{add_refusal, bring_to_canonical};
 use icu_locale_core::{LanguageIdentifier, laws};
 use icu_locale_extensions::{LocaleIdentifier, Syntax};
 use icu_locale_full_names::laws::{given_names_are_written, raw_parts_have_spans};
@@ -22,6 +23,7 @@ use icu_locale_names::{
     DisplayNamesPreferences, LanguageIdentifierDisplayName, LanguageIdentifierDisplayNameOptions,
     NameChain,
 };
+use icu_locale_values::WholeCanonicalizer;
 use icu_provider::{DataError, DataErrorKind, ExtensionNames};
 use icu_tables::LocaleTables;
 use std::alloc::Global;
@@ -55,6 +57,8 @@ pub struct Naming<'d> {
     pub preferences: DisplayNamesPreferences,
     /// What parts of extensions are called in the language of the preferences, if the tables say so.
     pub extensions: Option<&'d ExtensionNames>,
+    /// What brings a locale identifier to the canonical form that is named, if one is.
+    pub canonicalizer: Option<WholeCanonicalizer<'d>>,
 }
 
 impl<'d> Naming<'d> {
@@ -88,6 +92,24 @@ impl<'d> Naming<'d> {
             identifier,
             LanguageIdentifierDisplayNameOptions::default(),
         )
+    }
+
+    // The answer to a locale identifier as it is, with what its extensions say if the tables tell it.
+    fn add_spelled(&self, text: &mut Vec<u8>, whole: &LocaleIdentifier) -> Result<bool, CliError>
+        ensures answer { IfOk result (AddsLine (IsNamedLine (whole_name_asked self.now whole.now))
+            text.old.items text.new.items) }
+        ensures refused { IfErr result (λ e. e ≡ CliError.Memory) }
+        ensures kept { OnErr result (Keeps text.old.items text.new.items) }
+    {
+        match self.extensions {
+            Some(names) => {
+                if says_more(whole) {
+                    return self.add_whole(text, names, whole);
+                }
+                self.add(text, &whole.locale.id)
+            }
+            None => self.add(text, &whole.locale.id),
+        }
     }
 
     // The answer to a locale identifier, with what its extensions say.
@@ -151,19 +173,17 @@ impl<'d> Answering for Naming<'d> {
         text: &mut Vec<u8>,
         whole: &mut LocaleIdentifier,
     ) -> Result<bool, CliError> {
-        match self.extensions {
-            Some(names) => {
-                if says_more(whole) {
-                    return self.add_whole(text, names, whole);
-                }
-                self.add(text, &whole.locale.id)
-            }
-            None => self.add(text, &whole.locale.id),
+        match &self.canonicalizer {
+            None => self.add_spelled(text, whole),
+            Some(canonicalizer) => match bring_to_canonical(canonicalizer, whole) {
+                Ok(_) => self.add_spelled(text, whole),
+                Err(refusal) => add_refusal(text, refusal),
+            },
         }
     }
 }
 
-// The answer to a line that is named: its identifier, or all of it where the tables say what extensions are called.
+// The answer to a line that is named: its identifier, or all of its canonical form where the tables tell of it.
 pub fn add_name(
     text: &mut Vec<u8>,
     naming: &Naming<'_>,

@@ -1,6 +1,6 @@
 //! Kinds of subtags, and the chains that name them.
 ghost use Rattle.std.specs.Prelude.{◌≡◌};
-ghost use Rattle.icu_locale_lines.specs.Grammar.{kind_at, named, region_chain_word, region_chains, script_chain_word, script_chains, subtag_chain_at};
+ghost use Rattle.icu_locale_lines.specs.Grammar.{kind_at, named, region_chain_word, region_chains, script_chain_word, script_chains, subtag_chain_at, subtags_at};
 
 use crate::asked::chain_of;
 use crate::command::is_word;
@@ -72,6 +72,24 @@ impl SubtagKind {
         } else if is_word(word, "region-name") {
             Some(SubtagKind::Region)
         } else if is_word(word, "variant-name") {
+            Some(SubtagKind::Variant)
+        } else {
+            None
+        }
+    }
+
+    /// The kind of a word for several subtags.
+    pub fn of_subtags(word: &str) -> Option<Self>
+        ensures { result ≡ subtags_at word.now }
+    {
+        let word = word.as_bytes();
+        if is_word(word, "languages") {
+            Some(SubtagKind::Language)
+        } else if is_word(word, "scripts") {
+            Some(SubtagKind::Script)
+        } else if is_word(word, "regions") {
+            Some(SubtagKind::Region)
+        } else if is_word(word, "variants") {
             Some(SubtagKind::Variant)
         } else {
             None

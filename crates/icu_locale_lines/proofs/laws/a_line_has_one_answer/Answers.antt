@@ -29,5 +29,5 @@ returns c = λ work line one two a b h k.
     } in
     answer_at_one line (c.a_fault_has_one_place.ensures line) work.syntax work.tools (λ one two a b h k.
     let answers = answer_by_one spelling c.minimal_form_is_one.ensures.one facts wholes keys c.what_is_served_is_one.ensures
-    c.the_nearest_to_requests_is_one.ensures line one two a b work.syntax work.tools h k in
+    c.the_nearest_to_requests_is_one.ensures c.named_keys_are_one.ensures line one two a b work.syntax work.tools h k in
     (answers.text, answers.accepted)) work.places one two a b h k

@@ -6,11 +6,10 @@ use Rattle.icu_locale_lines.proofs.work.locale.WholeCanonicalizerAnswering.add_w
 -- the line of the whole canonical form, whose keywords and fields are maps
 pub returns-in-Ok-clause-answer : goal.returns-in-Ok-clause-answer
 returns-in-Ok-clause-answer c =
-    let new = c.canonicalize-outcome.new.locale in
+    let new = c.bring_to_canonical.new.whole in
     if_adds _ _ (λ t a h. inl (
       new,
-      record { keywords = c.known.ensures; fields = c.known-2.ensures },
-      c.in-Ok.ensures.canonical,
-      h.0 ∙ ap (whole_line new) c.in-Ok.ensures.answer,
-      h.1,
+      c.bring_to_canonical.ensures.maps,
+      c.in-Ok.ensures.form,
+      (h.0 ∙ ap (whole_line new) c.in-Ok.ensures.changed, h.1),
     )) _ _ c.add_changed.result c.add_changed.ensures.answer

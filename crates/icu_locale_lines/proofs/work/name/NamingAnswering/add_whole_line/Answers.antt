@@ -1,16 +1,23 @@
-use Rattle.std.proofs.Common.{◌≡◌, ◌∙◌, ap, sym, subst}
-use Rattle.icu_locale_names.specs.LanguageChains.{chain_of}
-use Rattle.icu_locale_names.specs.declared.options.LanguageDisplay.TheVariants.{Dialect}
-use Rattle.icu_locale_lines.specs.Names.{answers_in, name_asked, name_asked_with, whole_name_asked, IsNamedLine}
+use Rattle.std.proofs.Common.{◌≡◌, Some, None, inl, inr, sym, subst}
+use Rattle.icu_locale_lines.specs.Answers.{IsNamedWith}
 use Rattle.icu_locale_lines.proofs.LineAnswers.{if_adds}
 use Rattle.icu_locale_lines.proofs.work.name.NamingAnswering.add_whole_line.Goals as goal
 
--- nothing is said beside the identifier, so it has its name
-pub returns-else-says_more-clause-answer : goal.returns-else-says_more-clause-answer
-returns-else-says_more-clause-answer c =
+-- without rules what is written is named
+pub returns-in-None-clause-answer : goal.returns-in-None-clause-answer
+returns-in-None-clause-answer c =
     let n = c.args.self.now in
-    let whole = c.args.whole.now in
-    let asked : whole_name_asked n whole ≡ name_asked n whole.locale.id =
-    ap (λ extensions. name_asked_with n extensions whole) c.in-Some.is
-    ∙ c.says_more.ensures.silent c.if-says_more.false (answers_in n.tables n.preferences.locale) (chain_of n.chain) Dialect c.in-Some.names.now in
-    if_adds _ _ (λ t a h. subst (λ name. IsNamedLine name t a) (sym asked) h) _ _ c.add.result c.add.ensures.answer
+    if_adds _ _ (λ t a h. subst (λ by. IsNamedWith n by c.args.whole.now t a) (sym c.in-None.is) h) _ _ c.add_spelled.result c.add_spelled.ensures.answer
+
+-- by rules the canonical form is
+pub returns-in-Ok-clause-answer : goal.returns-in-Ok-clause-answer
+returns-in-Ok-clause-answer c =
+    let n = c.args.self.now in
+    if_adds _ _ (λ t a h. subst (λ by. IsNamedWith n by c.args.whole.now t a) (sym c.in-Some.is)
+    (inl (c.bring_to_canonical.new.whole, c.bring_to_canonical.ensures.maps, c.in-Ok.ensures.form, h))) _ _ c.add_spelled-in-Ok.result c.add_spelled-in-Ok.ensures.answer
+
+pub returns-in-Err-clause-answer : goal.returns-in-Err-clause-answer
+returns-in-Err-clause-answer c =
+    let n = c.args.self.now in
+    if_adds _ _ (λ t a h. subst (λ by. IsNamedWith n by c.args.whole.now t a) (sym c.in-Some.is)
+    (inr (c.in-Err.refusal, c.in-Err.ensures.refused, h))) _ _ c.add_refusal.result c.add_refusal.ensures.answer
