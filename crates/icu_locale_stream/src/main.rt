@@ -5,7 +5,7 @@ use icu_locale_lines::{Asked, CliError, Source, Status, Words, program_words, st
 use std::alloc::Global;
 use std::cell::Cell;
 use std::io;
-use std::io::{IsTerminal, Write};
+use std::io::Write;
 use std::process::ExitCode;
 
 // What `--help` writes.
@@ -48,11 +48,14 @@ supplement the second their supplement; without json both are a small sample.
   region-name CHAIN PREFERENCES    the same of regions, as in: region-name short-light de
   variant-name CHAIN PREFERENCES   the same of variants
   exemplars SET PREFERENCES        whether each text is among characters of a language, as in: exemplars main de
+  list KIND PREFERENCES            the subtags that have a name and begin with each line, as in: list regions de
   settled                  whether the tables are settled: yes or no
 
 CHAIN is tiny, light, short-light, long-light, menu-light, short-menu-light, heavy, short-heavy, long-heavy, menu-heavy
-or short-menu-heavy; of a script tiny, light, heavy or short-heavy, of a region tiny, short-tiny, light or short-light,
-of a variant heavy. SET is main, auxiliary, punctuation, numbers or index. A line ends with a line feed alone: a carriage return or a byte order mark is a part of its line.
+or short-menu-heavy. That of a script is tiny, light, heavy or short-heavy, that of a region tiny, short-tiny, light or
+short-light, and that of a variant heavy. SET is main, auxiliary, punctuation, numbers or index. KIND is languages,
+scripts, regions or variants. A line ends with a line feed alone: a carriage return or a byte order mark is a part of
+its line.
 The status is 0 where each line was accepted, 1 where one was refused, 2 where the run was, and 141 where its reader has
 gone.
 ";
@@ -62,7 +65,7 @@ const USAGE: &str =
     "usage: icu_locale_stream [longest N] [threshold N] [demotion N] [favor-script] [or-first] \
     [places] [locales | bcp47 | posix] COMMAND [json [supplement]]";
 
-// What a terminal is told where the answers are those of the sample.
+// What standard error says where the answers are those of the sample.
 const OVER_SAMPLE: &str =
     "icu_locale_stream: answers come from a sample of a few rows; with json the first line holds the tables";
 
@@ -125,7 +128,7 @@ fn start(rt: &HostRuntime, is_closed: &Cell<bool>) -> Result<Status, CliError> {
             let Some(asked) = Asked::from_words(rt.alloc(), Words::new(&words)) else {
                 return Err(CliError::Usage);
             };
-            if asked.source == Source::Sample && rt.stderr().is_terminal() {
+            if asked.source == Source::Sample {
                 let _ = rt.eprintln(OVER_SAMPLE);
             }
             let mut writer = Noting {
