@@ -259,6 +259,7 @@ fn naming(rt: &impl Abort, alloc: Global, tables: &Tables) {
         chain: NameChain::Light,
         preferences,
         extensions: None,
+        canonicalizer: None,
     };
     shows(rt, alloc, &naming, "Kurmanji");
 }

@@ -150,3 +150,44 @@ fn values_of_languages(rt: &impl Abort, table: &LikelySubtagsForLanguage) {
     assert!(rt; table.get_language(language("zh").expect(rt, "language")) == Some(chinese));
     assert!(rt; table.get_language(language("ar").expect(rt, "language")) == None);
 }
+
+// More regions than a short list has, in rising order.
+const REGIONS: [&str; 26] = [
+    "AD", "AE", "AF", "AG", "AI", "AL", "AM", "AO", "AQ", "AR", "AS", "AT", "AU", "AW", "AX", "AZ",
+    "BA", "BB", "BD", "BE", "BF", "BG", "BH", "BI", "BJ", "BL",
+];
+
+// The regions have names of two lengths, one row after another from the last.
+fn named_twice(rt: &impl Abort, alloc: Global) -> Tables {
+    let mut tables = Tables::new(alloc);
+    for marker in [NameMarker::RegionMediumLight, NameMarker::RegionShortLight] {
+        for code in REGIONS.iter().rev() {
+            let key = NameKey::Region(region(code).expect(rt, "region"));
+            let name = text(alloc, code).expect(rt, "text");
+            tables
+                .insert_name(marker, english(rt), key, name)
+                .expect(rt, "memory");
+        }
+    }
+    tables
+}
+
+#[test]
+fn keys_of_several_markers_come_once_and_rise(rt: HostRuntime) {
+    let tables = named_twice(&rt, rt.alloc());
+    let markers = [
+        NameMarker::RegionMediumLight,
+        NameMarker::RegionMediumTiny,
+        NameMarker::RegionShortLight,
+    ];
+    let keys = tables
+        .names
+        .keys_in(rt.alloc(), &markers, &english(&rt))
+        .expect(&rt, "memory");
+    assert!(rt; keys.len() == REGIONS.len());
+    for (key, code) in keys.iter().zip(REGIONS.iter()) {
+        assert!(rt; *key == NameKey::Region(region(code).expect(&rt, "region")));
+    }
+    let none = tables.names.keys_in(rt.alloc(), &[], &english(&rt));
+    assert!(rt; none.expect(&rt, "memory").is_empty());
+}
