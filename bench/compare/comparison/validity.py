@@ -1,11 +1,13 @@
 """What is valid here, and by language-tags and Go's package, and why they differ where they do."""
 from dataclasses import dataclass
 
+from cldr.listed import VALID, types
+
 from . import codes, programs
 from .nearest import UNEXPLAINED, answers, cldr
 from .tags import Drawing, parts_of
 
-VALID, NOT_VALID, REFUSED, NO_PREFIX = "valid", "not valid", "?", "WrongVariantPrefix"
+NOT_VALID, REFUSED, NO_PREFIX = "not valid", "?", "WrongVariantPrefix"
 OF_VALUES = ("type", "subdivision", "currency")
 DEPRECATED = "deprecated in CLDR, and not valid here; the registry keeps it (RFC 5646, section 2.2.9)"
 RESERVED = "private use that CLDR keeps for later, and not valid here"
@@ -64,17 +66,6 @@ def told(words, tags, before=()):
 def by_stream(stream, syntax, tags):
     """What the stream says of each tag: `valid`, the parts that are not, or a refusal."""
     return told([str(stream), syntax, "validate", "json", "supplement"], tags, [cldr(), cldr("--supplement")])
-
-
-def wanted(question):
-    """What is to be told of a code by the status that CLDR gives it."""
-    if question.is_usable:
-        return VALID
-    _, mark, value = question.tag.partition("-u-" if "-u-" in question.tag else "-t-")
-    kind = {"-u-": "keyword", "-t-": "field"}[mark] if mark else question.kind
-    text = value.lower().removesuffix("-true") if mark else question.code
-    start = len(question.tag) - len(value or text)
-    return f"{kind} {text} {question.status or 'unlisted'} {start} {start + len(text)}"
 
 
 class Kinds:
@@ -140,7 +131,7 @@ class Kinds:
 
 def drawn_tags(registry, count):
     """So many drawn tags."""
-    drawing = Drawing(registry, list(codes.types()))
+    drawing = Drawing(registry, list(types()))
     return [drawing.tag() for _ in range(count)]
 
 
