@@ -129,15 +129,24 @@ function overList(call, held, word, list) {
   return told;
 }
 
+// Some bytes of a text.
+function part(line, from, to) {
+  const octets = typeof line === 'string' ? new TextEncoder().encode(line) : line;
+  return new TextDecoder('utf-8', { ignoreBOM: true }).decode(octets.subarray(from, to));
+}
+
+/** Where bytes of a text are in it: in a string by its code units. */
+function placesIn(line, bounds) {
+  return typeof line === 'string' ? bounds.map((bound) => part(line, 0, bound).length) : bounds;
+}
+
 /** The refusal of a line. Of what is no locale identifier it has the first piece that none can have there, and its bounds. */
 function lineRefusal(words, name, line) {
   const refused = ofLine(name, line);
   const bounds = words.startsWith('locales ') && name.startsWith('Invalid') ? behind.calls.fault(line) : undefined;
   if (!Array.isArray(bounds)) return refused;
-  const octets = typeof line === 'string' ? new TextEncoder().encode(line) : line;
-  const part = (from, to) => new TextDecoder('utf-8', { ignoreBOM: true }).decode(octets.subarray(from, to));
-  const [start, end] = typeof line === 'string' ? bounds.map((bound) => part(0, bound).length) : bounds;
-  return Object.assign(refused, { start, end, subtag: part(...bounds) });
+  const [start, end] = placesIn(line, bounds);
+  return Object.assign(refused, { start, end, subtag: part(line, ...bounds) });
 }
 
 /** What a handle answers to a line, by the words of a command. */
@@ -153,5 +162,5 @@ function answered(held, command, line) {
 
 module.exports = {
   DONE, LINE_REFUSED, TABLE, LIST, behind, stand, text, string, optionsOf, wordsIn, wordOf, matchingWords, made, listed,
-  joined, headerOf, listRefusal, leavesOut, overList, answered,
+  joined, headerOf, listRefusal, leavesOut, overList, placesIn, answered,
 };

@@ -5,7 +5,8 @@ const fs = require('fs');
 const path = require('path');
 
 const FILES = [
-  'refused.js', 'asking.js', 'served.js', 'menu.js', 'cldr.js', 'tables.js', 'locale.js', 'names.js', 'module.js', 'fetched.mjs',
+  'refused.js', 'asking.js', 'codes.js', 'served.js', 'menu.js', 'cldr.js', 'tables.js', 'locale.js', 'names.js', 'module.js',
+  'fetched.mjs',
 ];
 const LEFT_OUT = [
   /^'use strict';\n/, /^const \{[^}]*\} = require\('\.\/[a-z]+\.js'\);\n/gm, /^module\.exports = \{[^}]*\};\n/m,

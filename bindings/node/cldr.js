@@ -7,12 +7,7 @@ const BASE = 'base-and-supplement';
 const LOCALES = 'locales';
 const NO_DATA = "this package has none of CLDR's data inside; Tables.fromJson takes tables of a folder of it, as "
   + 'tools/cldr-tables writes them';
-// Where names begin in the text of tables, and what tables have that name a script, a region or a variant alone: a pattern of
-// what is behind `und`, and its name.
-const NAMES = '"names":';
-const FOR_PARTS = {
-  '"essentials":{': '{"pattern":[1],"separator":[0,", ",1]}', '"language/medium/tiny":{': '{"und":"und"}',
-};
+const NAMES = '"names":'; // where names begin in the text of tables
 
 /** The refusal of a package without data. */
 function refuseWithoutData() {
@@ -74,10 +69,9 @@ function withoutDialects(part, row) {
   return JSON.stringify(Object.fromEntries(Object.entries(JSON.parse(row)).filter(([key]) => !key.includes('-'))));
 }
 
-// The row that names parts alone: of names of scripts, regions and variants it is the locale's own.
+// The row of a locale's names of scripts, regions and variants alone.
 function ofParts(part, row) {
-  const end = Object.keys(FOR_PARTS).find((it) => part.endsWith(it));
-  return end ? FOR_PARTS[end] : /"(script|region|variant)\/[^"]*":\{$/.test(part) ? row : '';
+  return /"(script|region|variant)\/[^"]*":\{$/.test(part) ? row : '';
 }
 
 // What becomes of a row, by what its table has before it: with dialects it stays.

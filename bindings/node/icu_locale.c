@@ -1,6 +1,6 @@
 // The calls of icu_locale.h for Node.js, by Node-API: `open(json)` makes an object that stands for tables, and
-// `supplement`, `share`, `available`, `answer`, `negotiate`, `isSettled`, `lend` and `close` take one; `borrow(number)`
-// makes one of what another worker has lent. index.js has what is made of these.
+// `supplement`, `share`, `available`, `answer`, `dataName`, `negotiate`, `isSettled`, `lend` and `close` take one;
+// `borrow(number)` makes one of what another worker has lent. index.js has what is made of these.
 #include "icu_locale.h"
 #include <node_api.h>
 #include <pthread.h>
@@ -236,10 +236,30 @@ static napi_value fault(napi_env env, napi_callback_info info) {
     return list;
 }
 
+// Makes room for so long a text, and tells whether there is memory for it.
+static int widen(struct tables *tables, size_t room) {
+    uint8_t *out = realloc(tables->out, room);
+    if (!out) return 0;
+    tables->out = out;
+    tables->room = room;
+    return 1;
+}
+
+// The text that a call has written, and else a list of its number and a text.
+static napi_value told(napi_env env, struct tables *tables, int32_t number, size_t written) {
+    napi_value text = NULL, list = NULL;
+    if (napi_create_string_utf8(env, (const char *)tables->out, written, &text) != napi_ok) return wrong(env);
+    if (number == ICU_LOCALE_ACCEPTED) return text;
+    napi_create_array_with_length(env, 2, &list);
+    napi_set_element(env, list, 0, number_of(env, number));
+    napi_set_element(env, list, 1, text);
+    return list;
+}
+
 // answer(tables, command, line): the text of an accepted line, and else a list of a number and a text.
 static napi_value answer(napi_env env, napi_callback_info info) {
     size_t count = 3, command_length, line_length, written = 0;
-    napi_value values[3], text = NULL, list = NULL;
+    napi_value values[3];
     const uint8_t *command, *line;
     if (napi_get_cb_info(env, info, &count, values, NULL, NULL) != napi_ok || count < 3) return wrong(env);
     struct tables *tables = tables_of(env, values[0]);
@@ -250,21 +270,25 @@ static napi_value answer(napi_env env, napi_callback_info info) {
         number = icu_locale_answer(&tables->handle, command, command_length, line, line_length, tables->out, tables->room,
                                    &written);
         if (number != ICU_LOCALE_ROOM) break;
-        uint8_t *out = realloc(tables->out, written);
-        if (!out) {
-            number = ICU_LOCALE_MEMORY;
-            written = 0;
-            break;
-        }
-        tables->out = out;
-        tables->room = written;
+        if (!widen(tables, written)) return told(env, tables, ICU_LOCALE_MEMORY, 0);
     }
-    if (napi_create_string_utf8(env, (const char *)tables->out, written, &text) != napi_ok) return wrong(env);
-    if (number == ICU_LOCALE_ACCEPTED) return text;
-    napi_create_array_with_length(env, 2, &list);
-    napi_set_element(env, list, 0, number_of(env, number));
-    napi_set_element(env, list, 1, text);
-    return list;
+    return told(env, tables, number, written);
+}
+
+// dataName(tables): the name of the data, and else a list of a number and an empty text.
+static napi_value data_name(napi_env env, napi_callback_info info) {
+    size_t count = 1, written = 0;
+    napi_value values[1];
+    if (napi_get_cb_info(env, info, &count, values, NULL, NULL) != napi_ok || count < 1) return wrong(env);
+    struct tables *tables = tables_of(env, values[0]);
+    if (!tables) return wrong(env);
+    int32_t number;
+    for (;;) {
+        number = icu_locale_data_name(&tables->handle, tables->out, tables->room, &written);
+        if (number != ICU_LOCALE_ROOM) break;
+        if (!widen(tables, written)) return told(env, tables, ICU_LOCALE_MEMORY, 0);
+    }
+    return told(env, tables, number, written);
 }
 
 static napi_value is_settled(napi_env env, napi_callback_info info) {
@@ -291,8 +315,8 @@ NAPI_MODULE_INIT() {
         const char *name;
         napi_callback call;
     } calls[] = {{"open", open_tables}, {"supplement", supplement}, {"share", share_tables}, {"available", available_of}, {"answer", answer},
-                 {"negotiate", negotiate}, {"listFault", list_fault}, {"fault", fault}, {"isSettled", is_settled}, {"lend", lend},
-                 {"borrow", borrow}, {"close", close_tables}};
+                 {"dataName", data_name}, {"negotiate", negotiate}, {"listFault", list_fault}, {"fault", fault}, {"isSettled", is_settled},
+                 {"lend", lend}, {"borrow", borrow}, {"close", close_tables}};
     for (size_t place = 0; place < sizeof calls / sizeof *calls; place++) {
         napi_value call;
         napi_create_function(env, calls[place].name, NAPI_AUTO_LENGTH, calls[place].call, NULL, &call);

@@ -22,13 +22,39 @@ export type Chain =
   | 'tiny' | 'light' | 'heavy' | 'short-light' | 'short-heavy' | 'long-light' | 'long-heavy' | 'menu-light' | 'menu-heavy'
   | 'short-menu-light' | 'short-menu-heavy';
 
+/** Which names are asked of a script, of a region and of a variant alone, in order. */
+export type ScriptChain = 'tiny' | 'light' | 'heavy' | 'short-heavy';
+export type RegionChain = 'tiny' | 'short-tiny' | 'light' | 'short-light';
+export type VariantChain = 'heavy';
+
+/** Subtags that have names. */
+export type SubtagKind = 'languages' | 'scripts' | 'regions' | 'variants';
+
+/** Sets of exemplar characters. */
+export type ExemplarSet = 'main' | 'auxiliary' | 'punctuation' | 'numbers' | 'index';
+
+/** A name, and whether a part of it has none, and is a subtag. */
+export interface Named {
+  name: string;
+  isRaw: boolean;
+}
+
+/** A part of an identifier that is not valid, and where it begins and ends in the identifier as it was handed in. */
+export interface Invalid {
+  kind: 'language' | 'script' | 'region' | 'variant' | 'attribute' | 'keyword' | 'field' | 'extension';
+  text: string;
+  status: 'deprecated' | 'reserved' | 'unlisted';
+  start: number;
+  end: number;
+}
+
 /** How a name is made: with `fallback`, in the first locale after the preferences that the tables have. */
 export type Naming = Reading & { fallback?: boolean };
 
 /** Why a call gives no answer. */
 export type Code =
   | 'Closed' | 'Memory' | 'Json' | 'Shape' | 'Command' | 'Table' | 'Negotiate' | 'List' | 'Unsettled' | 'Shared'
-  | 'InvalidLanguage' | 'InvalidSubtag' | 'NoFixedPoint' | 'NoSubdivisionFixedPoint' | 'NoValueFixedPoint'
+  | 'InvalidLanguage' | 'InvalidSubtag' | 'InvalidText' | 'NoFixedPoint' | 'NoSubdivisionFixedPoint' | 'NoValueFixedPoint'
   | 'NoFieldFixedPoint' | 'Circle' | 'IdentifierNotFound' | 'NoCldr' | 'NoLoan' | 'NotLoaded';
 
 /** The header Accept-Language of a request, the lines of several, or none. */
@@ -91,7 +117,7 @@ export class Tables {
   static cldr(locales?: readonly string[] | 'all'): Tables;
   /**
    * The tables of a JSON text, and their supplement of another one: the parents of locales, the match rules by which a reader
-   * is served, and aliases of values.
+   * is served, aliases of values, and which codes are valid.
    */
   static fromJson(json: Text, options?: { supplement?: Text }): Tables;
   /** The same tables once more. They are in memory once. */
@@ -162,9 +188,7 @@ export class Tables {
    */
   name(identifier: Text, preferences: string, chain?: Chain | Naming, options?: Naming): string;
   /** The same, and whether a part of it has no name, and is a subtag. */
-  nameParts(
-    identifier: Text, preferences: string, chain?: Chain | Naming, options?: Naming,
-  ): { name: string; isRaw: boolean };
+  nameParts(identifier: Text, preferences: string, chain?: Chain | Naming, options?: Naming): Named;
   /**
    * The languages of a list for a menu: each with its name in one language and its own name, in the order of the first. That
    * is the order of `Intl.Collator` where it knows the language, and else that by code point. The chain and `fallback` are
@@ -173,6 +197,30 @@ export class Tables {
   menu(
     locales: readonly string[], language: string, chain?: Chain | { fallback?: boolean }, options?: { fallback?: boolean },
   ): MenuRow[];
+  /**
+   * The parts of an identifier that are not valid (UTS #35 Part 1, Validity Data); none where all are. The tables need a table
+   * of validity, which a supplement has.
+   */
+  validate(identifier: Text, options?: Reading): Invalid[];
+  /** Whether an identifier is one, and each part of it is valid. */
+  isValid(identifier: Text, options?: Reading): boolean;
+  /** What a language alone is called in the language of the preferences. The chain is `light` where none is named. */
+  languageName(language: Text, preferences: string, chain?: Chain): Named;
+  /** The same of a script; where the tables have no name for it, it is itself and raw. */
+  scriptName(script: Text, preferences: string, chain?: ScriptChain): Named;
+  /** The same of a region. */
+  regionName(region: Text, preferences: string, chain?: RegionChain): Named;
+  /** The same of a variant. It has one chain. */
+  variantName(variant: Text, preferences: string, chain?: VariantChain): Named;
+  /** The subtags of a kind that the tables have names for in a locale, in the order of their texts. */
+  listed(kind: SubtagKind, locale: string): string[];
+  /**
+   * Whether a set of a locale's exemplar characters has a text: a character, or several that go together. The tables need that
+   * set in that locale. Bytes that are no UTF-8 are refused as `InvalidText`.
+   */
+  hasExemplar(set: ExemplarSet, locale: string, text: Text): boolean;
+  /** What the data calls itself, as `41` for that of CLDR 41; undefined where it has no name. */
+  dataName(): string | undefined;
   /** Whether the likely tables are settled. It looks at each row. */
   isSettled(): boolean;
   /** Lets the tables go. A second call does nothing. */

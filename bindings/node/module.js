@@ -184,8 +184,18 @@ class Module {
     const words = this.#words(command);
     if (!words || (most > this.#line.room && !this.#widen(this.#line, most))) return [MEMORY, ''];
     const length = BigInt(this.#put(line, this.#line.place));
-    const ask = () => this.#its.icu_locale_answer(
-      held.place, words[0], words[1], this.#line.place, length, this.#out.place, BigInt(this.#out.room), this.#numbers);
+    return this.#told(() => this.#its.icu_locale_answer(
+      held.place, words[0], words[1], this.#line.place, length, this.#out.place, BigInt(this.#out.room), this.#numbers));
+  }
+
+  /** The name of the data, or a list of the number where it has none, and of a refusal. */
+  dataName(held) {
+    return this.#told(() => (
+      this.#its.icu_locale_data_name(held.place, this.#out.place, BigInt(this.#out.room), this.#numbers)));
+  }
+
+  // The text that a call writes, which is made again where it wants more room, or a list of its number and a text.
+  #told(ask) {
     let number = ask();
     if (number === ROOM) {
       if (!this.#widen(this.#out, this.#number(this.#numbers))) return [MEMORY, ''];

@@ -1,7 +1,7 @@
 'use strict';
 // Names by the ways of Intl.DisplayNames, over CLDR's data.
 const { optionsOf } = require('./asking.js');
-const { refusal, shown } = require('./refused.js');
+const { refusal } = require('./refused.js');
 const { Locale } = require('./locale.js');
 const { after, inChains, openedOfCldr } = require('./tables.js');
 
@@ -11,6 +11,10 @@ const OPTIONS = {
   style: ['long', 'short', 'narrow'],
   fallback: ['code', 'none'],
   languageDisplay: ['dialect', 'standard'],
+};
+// Which names are asked: the medium ones, or the short ones first.
+const CHAINS_OF = {
+  language: ['heavy', 'short-heavy'], region: ['light', 'short-light'], script: ['heavy', 'short-heavy'],
 };
 const MADE = Symbol('made by DisplayNames.load');
 
@@ -46,15 +50,6 @@ function openedFor(locales, options) {
   }
 }
 
-// A region or a script alone, in written form.
-function partOf(type, code) {
-  const locale = new Locale(`und-${code}`);
-  if (locale.baseName !== `und-${locale[type]}` || String(locale) !== locale.baseName) {
-    throw refusal('InvalidSubtag', `${shown(code)} is no ${type}`);
-  }
-  return locale[type];
-}
-
 /** Names of languages, regions or scripts in one language. */
 class DisplayNames {
   #tables;
@@ -70,7 +65,7 @@ class DisplayNames {
       throw refusal('NotLoaded', 'here data is fetched: await DisplayNames.load(locales, options)');
     }
     [this.#tables, this.#locale] = opened;
-    this.#chain = this.#options.style === 'long' ? 'heavy' : 'short-heavy';
+    this.#chain = CHAINS_OF[this.#options.type][this.#options.style === 'long' ? 0 : 1];
     Object.freeze(this);
   }
 
@@ -81,11 +76,15 @@ class DisplayNames {
 
   /** The name of a code. Where there is none it is the code as it is written, or undefined by the option `fallback`. */
   of(code) {
-    const { type, fallback } = this.#options;
-    const text = String(code);
-    const written = type === 'language' ? String(new Locale(text)) : `und-${partOf(type, text)}`;
-    const { name, isRaw } = this.#tables.nameParts(written, this.#locale, this.#chain);
-    return isRaw && fallback === 'none' ? undefined : name;
+    const { name, isRaw } = this.#named(String(code));
+    return isRaw && this.#options.fallback === 'none' ? undefined : name;
+  }
+
+  #named(code) {
+    const { type } = this.#options;
+    if (type === 'region') return this.#tables.regionName(code, this.#locale, this.#chain);
+    if (type === 'script') return this.#tables.scriptName(code, this.#locale, this.#chain);
+    return this.#tables.nameParts(String(new Locale(code)), this.#locale, this.#chain);
   }
 
   /** What was chosen. */

@@ -23,6 +23,7 @@ const NUMBERS = {
 const OF_LINES = {
   InvalidLanguage: 'the text does not begin with a language',
   InvalidSubtag: 'a subtag is none, or stands where it may not',
+  InvalidText: 'the bytes are no text of UTF-8',
   NoFixedPoint: 'the aliases lead round in a circle',
   NoSubdivisionFixedPoint: 'the aliases of subdivisions lead round in a circle',
   NoValueFixedPoint: 'the aliases of values at a key of the extension `u` lead round in a circle',
@@ -33,7 +34,7 @@ const OF_LINES = {
 
 const ALIASES = 'the member `aliases`';
 
-// What a command wants of the tables: a command that wants all of it but for one member, and that member.
+// What a command wants of the tables: a command that wants all of it but for one member, if there is one, and that member.
 const WANTS = {
   canonicalize: ['maximize', ALIASES],
   key: ['maximize', ALIASES],
@@ -43,7 +44,9 @@ const WANTS = {
   serve: ['canonicalize', MATCH_RULES],
   nearest: ['canonicalize', MATCH_RULES],
   resolved: ['canonicalize', MATCH_RULES],
+  validate: [null, 'the table of validity of a supplement'],
 };
+const EXEMPLARS = 'exemplars'; // the command that has a set and a locale behind it
 
 /** A call that gives no answer. `code` names the refusal; `place` is that of what is no identifier in a list. */
 class Refused extends Error {
@@ -83,7 +86,12 @@ function noIdentifier(place, identifier) {
 
 /** The refusal of a command whose table is left out. `isLeftOut` tells whether one is of a command that wants less. */
 function leftOut(command, isLeftOut) {
-  const [less, member] = WANTS[command.split(' ').pop()] || [];
+  const words = command.split(' ');
+  if (words.includes(EXEMPLARS)) {
+    const [set, locale] = words.slice(-2);
+    return refusal('Table', `the tables leave out the member \`exemplars\`: the set ${set} of the locale ${locale}`);
+  }
+  const [less, member] = WANTS[words.pop()] || [];
   if (less && isLeftOut(less)) return leftOut(less, isLeftOut);
   return refusal('Table', `the tables leave out ${member || 'the member `likely_language` or `likely_script_region`'}`);
 }

@@ -1,23 +1,17 @@
 'use strict';
 // Tables of locale identifiers, over the calls of the package. index.d.ts says what each call takes.
-const { refusal, numbered, ofLine, shown, leftOut } = require('./refused.js');
+const { numbered, ofLine, leftOut } = require('./refused.js');
 const {
-  DONE, TABLE, behind, text, string, optionsOf, wordsIn, wordOf, matchingWords, made, listed, joined, leavesOut, overList,
-  answered,
+  DONE, LINE_REFUSED, TABLE, behind, text, string, optionsOf, wordsIn, wordOf, matchingWords, made, listed, joined, leavesOut,
+  overList, answered,
 } = require('./asking.js');
+const { CHAINS, Codes, beforeMark, namedBy } = require('./codes.js');
 const { OWN, Negotiator, Switcher } = require('./served.js');
 const { inOrder } = require('./menu.js');
 const { LOCALES, refuseLocale, damaged, spelled } = require('./cldr.js');
 
-const CHAINS = ['tiny', ...['', 'short-', 'long-', 'menu-', 'short-menu-'].flatMap((it) => [`${it}light`, `${it}heavy`])];
-
 // The options that say what is near enough.
 const MATCHING = ['threshold', 'demotion', 'favorScript', 'orFirst'];
-
-// What is before the mark of an answer.
-function beforeMark(answer) {
-  return answer.slice(0, answer.lastIndexOf('\t'));
-}
 
 // The default of what serves a reader.
 function defaultOf(options) {
@@ -82,20 +76,13 @@ function cldrLocales() {
   return behind.toldOfCldr(LOCALES);
 }
 
-// What is said of a command that is none, since a chain or preferences are none.
-function wrongName(chain, preferences) {
-  const words = CHAINS.includes(chain)
-    ? `the preferences ${shown(preferences)} are no identifier without variants`
-    : `${shown(chain)} is no chain; the chains are ${CHAINS.join(', ')}`;
-  return refusal('Command', words);
-}
-
 /** Tables, by `Tables.cldr` or `Tables.fromJson`. */
-class Tables {
+class Tables extends Codes {
   #at;
   #negotiator;
 
   constructor(own, at) {
+    super();
     if (own !== OWN) throw new TypeError('tables are made by Tables.cldr, Tables.fromJson and Tables.borrow');
     behind.mark(this);
     this.#at = at;
@@ -276,14 +263,7 @@ class Tables {
   }
 
   #named(identifier, preferences, chain = 'light', syntax = undefined) {
-    try {
-      const told = this.#told(`name ${chain} ${string(preferences)}`, identifier, { syntax });
-      return { name: beforeMark(told), isRaw: told.endsWith('\tR') };
-    } catch (refused) {
-      if (refused.code === 'Command') throw wrongName(chain, preferences);
-      if (refused.code !== 'IdentifierNotFound') throw refused;
-      throw refusal(refused.code, `the tables were made without the locale ${shown(preferences)}`);
-    }
+    return namedBy(this, wordsIn('name', { syntax }), identifier, preferences, chain, CHAINS);
   }
 
   /**
@@ -296,6 +276,14 @@ class Tables {
     const nameIn = (it, preferences) => this.name(it, preferences, chain, { fallback });
     const rows = listed(locales).map((locale) => ({ locale, name: nameIn(locale, language), own: nameIn(locale, locale) }));
     return inOrder(rows, this.canonicalize(language));
+  }
+
+  /** What the data calls itself, as `41` for that of CLDR 41; undefined where it has no name. */
+  dataName() {
+    const told = behind.calls.dataName(this.#at);
+    if (typeof told === 'string') return told;
+    if (told[0] === LINE_REFUSED) return undefined;
+    throw numbered(told[0]);
   }
 
   /** Whether the likely tables are settled. It looks at each row. */

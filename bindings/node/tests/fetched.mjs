@@ -80,6 +80,9 @@ async function fetches(address) {
       }
       assert.strictEqual(outside.name(it, 'zh-Hant'), inside.name(it, 'zh-Hant'));
     }
+    assert.deepStrictEqual(outside.validate('de-DD-u-ca-islamicc'), inside.validate('de-DD-u-ca-islamicc'));
+    assert.deepStrictEqual(outside.regionName('us', 'en'), { name: 'United States', isRaw: false });
+    assert.deepStrictEqual([outside.hasExemplar('main', 'en', 'a'), outside.dataName()], [true, inside.dataName()]);
     assert.strictEqual(outside.serve('gsw', ['en', 'de']), 'de');
     for (const word of ['xx', '../data/en', 'base-and-supplement', '']) {
       await assert.rejects(Tables.cldr([word]), { code: 'NoCldr', message: `NoCldr: CLDR has no locale ${JSON.stringify(word)}` });

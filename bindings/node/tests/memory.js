@@ -32,7 +32,8 @@ const taken = () => Number(its.icu_locale_taken());
 function trial(line) {
   const held = done(() => calls.open(example));
   assert.strictEqual(done(() => calls.supplement(held, supplement)), 0);
-  const shared = done(() => calls.share(held));
+  const [shared, named] = [done(() => calls.share(held)), done(() => calls.open(example))];
+  assert.deepStrictEqual(done(() => calls.dataName(held)), [1, '']);
   const negotiator = done(() => calls.available(held, '', 'en de-1996 zh-Hant'));
   assert.deepStrictEqual(done(() => calls.negotiate(negotiator, '', 'fr de-1996-1901 zh-TW')), [2, 2]);
   const extended = done(() => calls.available(held, 'locales', 'en-u-hc-h12 zh-Hant-x-mine'));
@@ -49,15 +50,17 @@ function trial(line) {
     assert.deepStrictEqual(done(() => calls.answer(each, 'maximize', 'e')), [1, '?\tInvalidLanguage']);
   }
   assert.strictEqual(done(() => calls.answer(negotiator, 'serve', 'fr, zh-TW;q=0.1')), '2\tzh-Hant');
-  for (const each of [held, shared, negotiator, extended]) calls.close(each);
+  assert.strictEqual(done(() => calls.supplement(named, JSON.stringify({ cldr: variants }))), 0);
+  assert.strictEqual(done(() => calls.dataName(named)), variants);
+  for (const each of [held, shared, named, negotiator, extended]) calls.close(each);
   return taken();
 }
 
-// A trial leaves four handles, whose blocks, of 48 bytes at the most, go when their objects are collected.
+// A trial leaves five handles, whose blocks, of 48 bytes at the most, go when their objects are collected.
 let before = trial(`de-${variants}`);
 for (const line of [`de-${variants}`, Buffer.from(`de-${variants}`)]) {
   const after = trial(line);
-  assert.ok(after <= before + 4 * 48, `${after - before} bytes are lost`);
+  assert.ok(after <= before + 5 * 48, `${after - before} bytes are lost`);
   before = after;
 }
 const held = calls.open(example);

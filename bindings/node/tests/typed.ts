@@ -1,7 +1,7 @@
 // Each call with the types that it takes and gives, for tsc --strict.
 import {
-  Chain, DisplayNames, Headers, Locale, Match, Matching, MenuRow, Negotiator, Refused, Resolved, Switcher, Tables, cldrLocales,
-  cldrVersion, implementation, load,
+  Chain, DisplayNames, ExemplarSet, Headers, Invalid, Locale, Match, Matching, MenuRow, Named, Negotiator, Refused, RegionChain,
+  Resolved, ScriptChain, SubtagKind, Switcher, Tables, cldrLocales, cldrVersion, implementation, load,
 } from 'icu_locale';
 
 const tables: Tables = Tables.fromJson('{}');
@@ -31,6 +31,16 @@ const maximal: Locale = new Locale('zh', { calendar: 'roc', numeric: true }).max
 const runs: 'ltr' | 'rtl' | undefined = maximal.getTextInfo().direction;
 const chain: Chain = 'menu-light';
 const named: { name: string; isRaw: boolean } = tables.nameParts('it', 'en', chain, { fallback: true });
+const faults: Invalid[] = tables.validate(new Uint8Array(2), { syntax: 'posix' });
+const places: number[] = faults.filter((it) => it.kind === 'region' && it.status === 'deprecated').map((it) => it.start);
+const [ofScript, ofRegion, kind, set]: [ScriptChain, RegionChain, SubtagKind, ExemplarSet] = ['short-heavy', 'short-tiny', 'regions', 'main'];
+const codes: Named[] = [
+  tables.languageName('it', 'en', chain), tables.scriptName('Latn', 'en', ofScript), tables.regionName('US', 'en', ofRegion),
+  tables.variantName('fonipa', 'en', 'heavy'),
+];
+const listed: string[] = tables.listed(kind, 'en');
+const facts: boolean[] = [tables.isValid('en'), tables.hasExemplar(set, 'en', 'a')];
+const data: string | undefined = tables.dataName();
 const short: string[] = [named.name, tables.name('it', 'en', { fallback: true }), cldrVersion() || '', ...cldrLocales()];
 const region: string | undefined = new DisplayNames(['de', locale], { type: 'region', style: 'short' }).of('US');
 const menu: MenuRow[] = tables.menu(['en', 'de'], 'en', 'light', { fallback: true });
@@ -65,8 +75,14 @@ locale.region = 'HK';
 new Tables();
 // @ts-expect-error: no chain is called so
 tables.name('it', 'en', 'lihgt');
+// @ts-expect-error: a region has no such chain
+tables.regionName('US', 'en', 'heavy');
+// @ts-expect-error: no kind is called so
+tables.listed('region', 'en');
+// @ts-expect-error: data may have no name
+tables.dataName().length;
 // @ts-expect-error: no names of currencies
 new DisplayNames('de', { type: 'currency' });
 // @ts-expect-error: no refusal is called so
 new Refused('Nothing');
-export { opened, forms, canonical, both, direction, settled, match, extended, served, always, other, resolved, distance, same, parts, runs, short, region, menu, by };
+export { opened, forms, canonical, both, direction, settled, match, extended, served, always, other, resolved, distance, same, parts, runs, short, region, menu, by, places, codes, listed, facts, data };

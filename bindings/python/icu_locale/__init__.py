@@ -22,20 +22,23 @@ first wanted.
 """
 from ._answers import CHAINS, Canonical, Chain, Direction, Named, Syntax
 from ._calls import version
+from ._codes import (CodeStatus, ExemplarSet, Invalid, PartKind, RegionChain, ScriptChain, SubtagKind, VariantChain)
 from ._data import cldr_locales, cldr_version
 from ._locale import Locale
 from ._menu import MenuRow
 from ._negotiator import Match, Negotiator
-from ._refusals import (Circle, Closed, InvalidLanguage, InvalidList, InvalidSubtag, LineRefused, MemoryRefused, NameMissing,
-                        NoCldr, NoCommand, NoFieldFixedPoint, NoFixedPoint, NoJson, NoList, NoSubdivisionFixedPoint,
-                        NoTables, NotSettled, NoValueFixedPoint, Refused, TableMissing, TablesShared, Text)
+from ._refusals import (Circle, Closed, InvalidLanguage, InvalidList, InvalidSubtag, InvalidText, LineRefused, MemoryRefused,
+                        NameMissing, NoCldr, NoCommand, NoFieldFixedPoint, NoFixedPoint, NoJson, NoList,
+                        NoSubdivisionFixedPoint, NoTables, NotSettled, NoValueFixedPoint, Refused, TableMissing, TablesShared,
+                        Text)
 from ._switcher import Headers, Resolved, Switcher
 from ._tables import Tables
 
 __all__ = ["Tables", "Locale", "Negotiator", "Switcher", "Match", "Resolved", "MenuRow", "Canonical", "Named", "Direction",
-           "Syntax", "Chain", "CHAINS", "Headers", "Text", "cldr_version", "cldr_locales", "Refused", "Closed",
+           "Syntax", "Chain", "CHAINS", "Headers", "Text", "Invalid", "PartKind", "CodeStatus", "ScriptChain", "RegionChain",
+           "VariantChain", "SubtagKind", "ExemplarSet", "cldr_version", "cldr_locales", "Refused", "Closed",
            "MemoryRefused", "NoJson", "NoTables", "NoCommand", "TableMissing", "NoList", "InvalidList", "NotSettled",
-           "TablesShared", "NoCldr", "LineRefused", "InvalidLanguage", "InvalidSubtag", "NoFixedPoint",
+           "TablesShared", "NoCldr", "LineRefused", "InvalidLanguage", "InvalidSubtag", "InvalidText", "NoFixedPoint",
            "NoSubdivisionFixedPoint", "NoValueFixedPoint", "NoFieldFixedPoint", "Circle", "NameMissing"]
 
 __version__ = version()

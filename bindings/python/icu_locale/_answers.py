@@ -205,16 +205,19 @@ long-heavy, menu-light, menu-heavy, short-menu-light, short-menu-heavy
                 return self.name_parts(identifier, locale, chain, syntax=syntax)
             except NameMissing:
                 pass
-        command = b" ".join((b"name", as_bytes(chain), as_bytes(preferences)))
+        return self._named(self._words(b"name", syntax), identifier, preferences, chain, CHAINS)
+
+    def _named(self, task: bytes, text: Text, preferences: Text, chain: str, chains: Tuple[str, ...]) -> Named:
+        """What a task that has some chains calls a text, in the language of the preferences."""
+        command = b" ".join((task, as_bytes(chain), as_bytes(preferences)))
         try:
-            name, _, mark = self._told(command, identifier, syntax).rpartition("\t")
+            name, _, mark = self.answer(command, text).rpartition("\t")
             return Named(name, mark == "R")
         except NameMissing as fault:
             raise NameMissing(f"{fault.name}: the tables were made without the locale {shown(preferences)}, to name "
-                              f"{shown(identifier)} in") from None
+                              f"{shown(text)} in") from None
         except NoCommand:
-            raise NoCommand(f"the preferences {shown(preferences)} are no identifier without variants" if chain in CHAINS else
-                            f"{shown(chain)} is no chain; the chains are {', '.join(CHAINS)}") from None
+            raise no_command(preferences, "chain", chain, chains) from None
 
     def menu(self, locales: Iterable[str], language: Text, chain: Chain = "light", *, fallback: bool = False,
              key: Optional[Key] = None) -> List[MenuRow]:
@@ -248,6 +251,12 @@ long-heavy, menu-light, menu-heavy, short-menu-light, short-menu-heavy
         if number > 1:
             refuse(number)
         return bool(number == 1)
+
+
+def no_command(preferences: Text, kind: str, choice: str, choices: Tuple[str, ...]) -> NoCommand:
+    """What is raised where a choice is none of its kind, or the preferences are none."""
+    return NoCommand(f"the preferences {shown(preferences)} are no identifier without variants" if choice in choices else
+                     f"{shown(choice)} is no {kind}; the {kind}s are {', '.join(choices)}")
 
 
 def without_tab(identifier: Text) -> Text:

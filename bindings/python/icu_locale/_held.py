@@ -12,7 +12,7 @@ from types import TracebackType
 from typing import Any, List, NoReturn, Optional, SupportsIndex, Tuple, Type, TypeVar
 
 from ._calls import SIZE, Handle, calls
-from ._refusals import (Closed, InvalidList, LineRefused, TableMissing, Text, as_bytes, line_refusal, list_refusal,
+from ._refusals import (Closed, InvalidList, LineRefused, TableMissing, Text, as_bytes, cut, line_refusal, list_refusal,
                         refuse)
 
 ACCEPTED = 0
@@ -24,7 +24,10 @@ NEEDS_FIRST = {b"canonicalize": b"maximize", b"direction": b"maximize", b"distan
                b"identifier-key": b"maximize"}
 NO_ALIASES = "The tables leave out `aliases`, which are needed."
 NEEDS = {b"canonicalize": NO_ALIASES, b"key": NO_ALIASES, b"identifier-key": NO_ALIASES,
-         b"direction": "The tables leave out `direction`, which is needed."}
+         b"direction": "The tables leave out `direction`, which is needed.",
+         b"validate": "The tables have no table of validity: the supplement that has it is missing."}
+# The command that has a set and a locale behind it.
+EXEMPLARS = b"exemplars"
 NO_LIKELY = "The tables leave out `likely_language` or `likely_script_region`, which are needed."
 NO_MATCH_RULES = "The tables have no match rules: the supplement that has them is missing."
 
@@ -173,18 +176,22 @@ class Held(NoCopies):
         if number == LineRefused.number:
             raise line_refusal(told.decode().split("\t")[1], line, words.partition(b" ")[0].decode("ascii", "replace"))
         if number == TableMissing.number:
-            raise self._table_missing(words.split(b" ")[-1])
+            raise self._table_missing(*words.split(b" "))
         refuse(number)
 
-    def _table_missing(self, task: bytes) -> TableMissing:
-        """What the tables leave out that a task needs, as the answer of another task tells."""
+    def _table_missing(self, *words: bytes) -> TableMissing:
+        """What the tables leave out that a command needs, as the answer of another one tells."""
+        if EXEMPLARS in words:
+            kind, locale = (each.decode("utf-8", "replace") for each in words[-2:])
+            return TableMissing(f"The tables leave out `exemplars`, the set {kind} of the locale {cut(locale)}.")
+        task = words[-1]
         if task in NEEDS_FIRST:
             try:
                 self.answer(NEEDS_FIRST[task], b"und")
             except TableMissing as fault:
                 return TableMissing(str(fault))
             return TableMissing(NEEDS.get(task, NO_MATCH_RULES))
-        return TableMissing(NO_LIKELY)
+        return TableMissing(NEEDS.get(task, NO_LIKELY))
 
     def _list_refusal(self, listed: Tuple[Text, ...], word: bytes = b"") -> InvalidList:
         """Why a list is refused, in the syntax of a word or in none: the first that is no identifier."""

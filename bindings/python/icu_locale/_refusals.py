@@ -119,10 +119,7 @@ class LineRefused(Refused, ValueError):
     def _spot(self) -> Tuple[int, int, Optional[str]]:
         octets = as_bytes(self.text)
         found = fault_of(octets) if self.syntax == "locales" and self.name.startswith("Invalid") else None
-        if isinstance(self.text, str):
-            start, end = (len(_text_of(octets[:each])) for each in found or (0, len(octets)))
-        else:
-            start, end = found or (0, len(octets))
+        start, end = place_in(self.text, *(found or (0, len(octets))))
         return start, end, _text_of(octets[found[0]:found[1]]) if found else None
 
 
@@ -136,6 +133,12 @@ class InvalidSubtag(LineRefused):
     """A subtag of the line is none, or is where it may not be."""
 
     name = "InvalidSubtag"
+
+
+class InvalidText(LineRefused):
+    """The bytes that are asked for among exemplar characters are no text of UTF-8."""
+
+    name = "InvalidText"
 
 
 class NoFixedPoint(LineRefused):
@@ -180,8 +183,8 @@ class NameMissing(LineRefused, LookupError):
 _BY_NUMBER: Dict[int, Type[Refused]] = {each.number: each for each in (
     Closed, MemoryRefused, NoJson, NoTables, NoCommand, TableMissing, NoList, InvalidList, NotSettled, TablesShared)}
 _BY_NAME: Dict[str, Type[LineRefused]] = {each.name: each for each in (
-    InvalidLanguage, InvalidSubtag, NoFixedPoint, NoSubdivisionFixedPoint, NoValueFixedPoint, NoFieldFixedPoint, Circle,
-    NameMissing)}
+    InvalidLanguage, InvalidSubtag, InvalidText, NoFixedPoint, NoSubdivisionFixedPoint, NoValueFixedPoint, NoFieldFixedPoint,
+    Circle, NameMissing)}
 
 
 def _text_of(octets: bytes) -> str:
@@ -189,6 +192,14 @@ def _text_of(octets: bytes) -> str:
         return octets.decode("utf-8", "surrogatepass")
     except UnicodeDecodeError:
         return octets.decode("utf-8", "replace")
+
+
+def place_in(text: Text, start: int, end: int) -> Tuple[int, int]:
+    """Where some bytes of a text are in it: in a str, by its characters."""
+    if not isinstance(text, str):
+        return start, end
+    octets = as_bytes(text)
+    return len(_text_of(octets[:start])), len(_text_of(octets[:end]))
 
 
 def refuse(number: int) -> NoReturn:

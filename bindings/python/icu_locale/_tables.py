@@ -2,7 +2,8 @@
 from os import PathLike
 from typing import Any, Iterable, List, Optional, Tuple, Union, overload
 
-from ._answers import Answers, Syntax
+from ._answers import Syntax
+from ._codes import Codes
 from ._data import Locales, damaged, data_folder, texts_of
 from ._negotiator import Negotiator, Tag, gathered, line_of, listed
 from ._refusals import InvalidList, LineRefused, NoJson, NoTables, Text, as_bytes, refuse
@@ -11,7 +12,7 @@ from ._switcher import Default, Headers, Resolved, Switcher, option_words
 DEBIAN_CLDR = "/usr/share/unicode/cldr/common"
 
 
-class Tables(Answers):
+class Tables(Codes):
     """Tables, by `cldr`, `from_cldr` or `from_json`. Any number of threads may use them at once.
 
     >>> from icu_locale.example import TABLES
@@ -34,7 +35,7 @@ class Tables(Answers):
     @classmethod
     def from_json(cls, json: Text, supplement: Optional[Text] = None) -> "Tables":
         """The tables of a JSON text, and their supplement of another one: the parents of locales, the match rules by which a
-        reader is served, and aliases of values.
+        reader is served, aliases of values, and which codes are valid.
 
         >>> Tables.from_json("{")
         Traceback (most recent call last):

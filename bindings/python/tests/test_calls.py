@@ -57,7 +57,7 @@ class Examples(unittest.TestCase):
 
     def test_names(self):
         types = [each for name in icu_locale.__all__ if isinstance(each := getattr(icu_locale, name), type)]
-        self.assertEqual(len(types), len(icu_locale.__all__) - 8)
+        self.assertEqual(len(types), len(icu_locale.__all__) - 15)
         for each in types:
             self.assertTrue(each.__doc__)
             self.assertEqual(each.__module__, "icu_locale")

@@ -37,6 +37,16 @@ ANSWERS = [
     ("name --in en de-AT it-US", "Austrian German\nItalian (United States)\n"),
     ("name de-AT --in DE", "Österreichisches Deutsch\n"),
     ("name --in en-XX de-AT", "Austrian German\n"),
+    ("name --kind region --in de US qx", "Vereinigte Staaten\nQX\n"),
+    ("name --kind script --in de-CH latn", "Lateinisch\n"),
+    ("name --kind language --in en de --json", '{"input": "de", "answer": "German"}\n'),
+    ("name --kind variant --in en FONIPA --tsv", "FONIPA\tIPA Phonetics\tok\n"),
+    ("validate de-DE de_DD en-u-ca-islamicc-hc-h99",
+     "valid\nregion DD deprecated\nkeyword ca-islamicc deprecated, keyword hc-h99 unlisted\n"),
+    ("validate --syntax posix de_DD.UTF-8 C", "region DD deprecated\nvalid\n"),
+    ("validate --tsv de-DD de", "de-DD\tregion DD deprecated\tok\nde\tvalid\tok\n"),
+    ("validate --json de-DD de", '{"input": "de-DD", "answer": [{"kind": "region", "text": "DD", "status": "deprecated", '
+     '"start": 3, "end": 5}]}\n{"input": "de", "answer": []}\n'),
     ("direction ar de und", "rtl\nltr\nnone\n"),
     ("direction --json und", '{"input": "und", "answer": null}\n'),
     ("chain en-AU", "en-AU en-001 en und\n"),
@@ -62,6 +72,10 @@ REFUSED = [
     ("maximize de -- -x", "de-Latn-DE\n\n", "icu-locale: -x: InvalidLanguage\n"),
     ("parts en- de", "\nlanguage: de\n", "icu-locale: en-: InvalidSubtag\n"),
     ("name --in en en-", "\n", "icu-locale: en-: InvalidSubtag\n"),
+    ("name --kind region --in en USA US", "\nUnited States\n", "icu-locale: USA: InvalidSubtag\n"),
+    ("validate en-Latm1-US de-DD --json", '{"input": "en-Latm1-US", "refusal": "InvalidSubtag"}\n{"input": "de-DD", "answer": '
+     '[{"kind": "region", "text": "DD", "status": "deprecated", "start": 3, "end": 5}]}\n',
+     "icu-locale: en-Latm1-US: InvalidSubtag\n"),
     ("menu --in en en- de", "de\tDeutsch\tGerman\n", "icu-locale: en-: InvalidSubtag\n"),
     ("maximize --json ''", '{"input": "", "refusal": "InvalidLanguage"}\n', "icu-locale: '': InvalidLanguage\n"),
     ("resolved --available de 'en en-' de-AT", "\nde-AT\n", "icu-locale: en en-: InvalidSubtag\n"),
@@ -74,7 +88,8 @@ WRONG = [
     ("menu de", "--in"), ("serve en", "--available"), ("serve --available 'en,e' en", "place 1"),
     ("maximize --json --tsv", "--tsv"), ("maximize --csv zh", "one word too many"), ("maximize --column 2", "--csv"),
     ("maximize --csv --column 0", "'0'"), ("version x", "--json"), ("version -- x", "--json"), ("maximize -x", "--json"),
-    ("menu --in en --csv", "--tsv"), ("name --in xx de", "no names"), ("name --in e de", "no names"),
+    ("name --in en --kind regions US", "variant"), ("name --in en --kind region --syntax posix US", "--kind region"),
+    ("validate --in en de", "--syntax"), ("menu --in en --csv", "--tsv"), ("name --in xx de", "no names"), ("name --in e de", "no names"),
     ("serve --available '' en", "place 0"), ("'a\nb'", "a\\nb"), ("resolved en", "--available"),
     ("serve --available en --threshold -1 en", "0 to 65535"), ("resolved --available en --demotion 65536 en", "0 to 65535"),
     ("resolved --available en --threshold few en", "0 to 65535"), ("resolved --available en --default en en", "--or-first"),
@@ -148,6 +163,8 @@ class Tables(unittest.TestCase):
         told = "icu-locale: line 6: en-: InvalidSubtag\nicu-locale: line 7: there is no column 2\n"
         self.assertEqual(called("maximize --csv --column 2 --header", rows.encode()), (1, wanted, told))
         self.assertEqual(called("chain --csv", b'"en-AU",x\n'), (0, "en-AU en-001 en und,x\n", ""))
+        self.assertEqual(called("validate --csv", b"xx-DD,x\nde,y\n"), (0, '"language xx unlisted, region DD deprecated",x\nvalid,y\n', ""))
+        self.assertEqual(called("name --kind region --in de --csv --column 2", b"1,US\n"), (0, "1,Vereinigte Staaten\n", ""))
         self.assertEqual(called("parts --csv", b"de-AT\n"), (0, '"language: de, region: AT"\n', ""))
         self.assertEqual(called("serve --available en,de --csv", b'"fr, de;q=0.5",x\nja,y'), (0, "de,x\nnone,y\n", ""))
         self.assertEqual(called("maximize --csv"), (0, "", ""))
@@ -195,7 +212,8 @@ class Words(unittest.TestCase):
     def test_completion(self):
         script = called("--completion bash")[1]
         for typed, wanted in [("icu-locale maxi", "maximize"), ("icu-locale serve --av", "--available"),
-                              ("icu-locale name --syntax p", "posix"), ("icu-locale menu --cs", ""),
+                              ("icu-locale name --syntax p", "posix"), ("icu-locale val", "validate"),
+                              ("icu-locale name --k", "--kind"), ("icu-locale name --kind re", "region"), ("icu-locale menu --cs", ""),
                               ("icu-locale resolved --fa", "--favor-script"), ("icu-locale serve --d", "--demotion --default"),
                               ("icu-locale --ver", "--version")]:
             words = typed.split()

@@ -1,8 +1,9 @@
 """Each call with the types that it takes and gives: mypy --strict reads it, and a run of it tries it."""
 from typing import List, Optional, Union
 
-from icu_locale import (Canonical, Chain, Direction, LineRefused, Match, MenuRow, Named, Negotiator, Refused, Resolved,
-                        Switcher, Tables, Text, __version__, cldr_locales, cldr_version)
+from icu_locale import (Canonical, Chain, CodeStatus, Direction, ExemplarSet, Invalid, LineRefused, Match, MenuRow, Named,
+                        Negotiator, PartKind, Refused, RegionChain, Resolved, ScriptChain, SubtagKind, Switcher, Tables, Text,
+                        VariantChain, __version__, cldr_locales, cldr_version)
 from icu_locale.example import SUPPLEMENT, TABLES
 
 
@@ -18,6 +19,28 @@ def shown(tables: Tables) -> List[str]:
     forms += [f"{named.name} {named.is_raw}"]
     forms += [tables.name("it-US", chain[0], fallback=True), *chain, *(row.own for row in rows)]
     return [*forms, canonical.identifier, canonical.value, direction or "none", tables.name("it-US", "en")]
+
+
+def codes() -> List[str]:
+    """What is told of codes."""
+    rows = '{"cldr": "41", "validity": {"language": {"regular": "de"}, "region": {"deprecated": "DD"}}}'
+    with Tables.from_json(TABLES, rows) as tables:
+        parts: List[Invalid] = tables.validate("de_DD", syntax="posix")
+        kind: PartKind = parts[0].kind
+        status: CodeStatus = parts[0].status
+        valid: bool = tables.is_valid(b"de")
+        of_script: ScriptChain = "short-heavy"
+        of_region: RegionChain = "short-tiny"
+        of_variant: VariantChain = "heavy"
+        kinds: SubtagKind = "variants"
+        among: ExemplarSet = "main"
+        names: List[Named] = [
+            tables.language_name("it", "en", "heavy"), tables.script_name(b"Latn", "en", of_script),
+            tables.region_name("us", "en", of_region), tables.variant_name("fonipa", "en", of_variant)]
+        called: List[str] = tables.listed(kinds, "en")
+        has: bool = tables.has_exemplar(among, "en", "ng")
+        name: Optional[str] = tables.data_name
+    return [f"{kind} {status} {parts[0].start + 1} {valid} {has} {name}", *(each.name for each in names), *called]
 
 
 def served(tables: Tables, header: str) -> List[str]:
@@ -65,12 +88,15 @@ def wrong(tables: Tables) -> None:
     tables.name("en", "en", "lihgt")  # type: ignore[arg-type]
     tables.switcher([b"en"], default=b"en").serve("en").isidentifier()  # type: ignore[attr-defined]
     tables.switcher(["en"], threshold="8")  # type: ignore[call-overload]
+    tables.region_name("US", "en", "heavy")  # type: ignore[arg-type]
+    tables.listed("region", "en")  # type: ignore[arg-type]
+    tables.has_exemplar("best", "en", "a")  # type: ignore[arg-type]
 
 
 def main() -> None:
     with Tables.from_json(TABLES, SUPPLEMENT) as tables:
         settled: bool = tables.is_settled
-        lines = [*shown(tables), *served(tables, "zh-TW, en;q=0.5"), str(settled)]
+        lines = [*shown(tables), *codes(), *served(tables, "zh-TW, en;q=0.5"), str(settled)]
     try:
         tables.maximize("zh")
     except Refused as refusal:

@@ -1,6 +1,7 @@
 //! What tables are asked about one identifier, and the menu of several.
 use crate::calls;
 use crate::menu::{in_order, MenuRow};
+use crate::names::before_mark;
 use crate::{Chain, Direction, Name, Refusal, Tables};
 
 impl Tables {
@@ -38,7 +39,7 @@ impl Tables {
     }
 
     // The answer to a text in the syntax of these tables.
-    fn told(&self, command: &str, text: &str) -> Result<String, Refusal> {
+    pub(crate) fn told(&self, command: &str, text: &str) -> Result<String, Refusal> {
         self.answer(&format!("{} {command}", self.syntax.word()), text.as_bytes())
     }
 
@@ -179,10 +180,7 @@ impl Tables {
     /// # Ok::<(), Refusal>(())
     /// ```
     pub fn name_in(&self, identifier: &str, preferences: &str, chain: Chain) -> Result<Name, Refusal> {
-        let told = self.told(&format!("name {} {preferences}", chain.word()), identifier);
-        let told = told.map_err(|refusal| if refusal == Refusal::Command { Refusal::Preferences } else { refusal })?;
-        let is_raw = told.ends_with("\tR");
-        Ok(Name { text: before_mark(told), is_raw })
+        Name::told(self.told(&format!("name {} {preferences}", chain.word()), identifier))
     }
 
     /// The identifiers that a loader asks after one another, from this one, without its extensions, to `und`.
@@ -296,9 +294,4 @@ impl Tables {
             number => Err(Refusal::of_number(number)),
         }
     }
-}
-
-fn before_mark(mut answer: String) -> String {
-    answer.truncate(answer.rfind('\t').unwrap_or(answer.len()));
-    answer
 }

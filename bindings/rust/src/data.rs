@@ -13,12 +13,6 @@ const ALL: &str = "all";
 /// A part of tables before the rows of locales, and the rows.
 type Column<'a> = (&'a [u8], Vec<u8>);
 
-// What tables have that name a script, a region or a variant alone: a pattern of what is behind `und`, and its name.
-const FOR_PARTS: [(&str, &str); 2] = [
-    ("\"essentials\":{", r#"{"pattern":[1],"separator":[0,", ",1]}"#),
-    ("\"language/medium/tiny\":{", r#"{"und":"und"}"#),
-];
-
 /// The text of the tables that have the names of some locales, and that of their supplement.
 pub fn texts_of(locales: &[&str]) -> Result<(Vec<u8>, Vec<u8>), Refusal> {
     with_columns(|columns| {
@@ -43,10 +37,8 @@ pub fn parts_of(locale: &str) -> Result<Vec<u8>, Refusal> {
         columns[1].0 = &columns[1].0[names.unwrap_or_default()..];
         for (part, column) in columns {
             let is_of = |name: &str| part.windows(name.len()).any(|window| window == name.as_bytes());
-            match FOR_PARTS.iter().find(|(end, _)| part.ends_with(end.as_bytes())) {
-                Some((_, row)) => *column = format!("\"{locale}\":{row}").into_bytes(),
-                None if ["script/", "region/", "variant/"].iter().any(|name| is_of(name)) => {}
-                None => column.clear(),
+            if !["script/", "region/", "variant/"].iter().any(|name| is_of(name)) {
+                column.clear();
             }
         }
         Ok(())

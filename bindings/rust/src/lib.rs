@@ -42,6 +42,7 @@
 
 mod answers;
 mod calls;
+mod codes;
 mod data;
 mod headers;
 pub mod icu_locale;
@@ -59,6 +60,7 @@ mod tables;
 #[cfg(feature = "serde")]
 mod texts;
 
+pub use codes::{CodeStatus, ExemplarSet, Invalid, PartKind, RegionChain, ScriptChain, SubtagKind};
 pub use headers::Headers;
 pub use locale::Locale;
 pub use menu::MenuRow;

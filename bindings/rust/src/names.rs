@@ -1,4 +1,5 @@
 //! Names, and which kinds of them are asked.
+use crate::Refusal;
 use std::fmt;
 
 /// Which kinds of names are asked, in order: docs/PROGRAM.md of the repository tells them.
@@ -47,13 +48,28 @@ impl Chain {
     }
 }
 
-/// A name, by `Tables::name_in`.
+/// A name, by `Tables::name_in`, or of a code alone.
 #[derive(Clone, Debug, PartialEq, Eq, Hash)]
 pub struct Name {
     /// The name.
     pub text: String,
     /// Whether a part of it has no name, and is a subtag.
     pub is_raw: bool,
+}
+
+impl Name {
+    // The name of an answer, with its mark.
+    pub(crate) fn told(told: Result<String, Refusal>) -> Result<Self, Refusal> {
+        let told = told.map_err(Refusal::of_preferences)?;
+        let is_raw = told.ends_with("\tR");
+        Ok(Name { text: before_mark(told), is_raw })
+    }
+}
+
+/// What is before the mark of an answer.
+pub(crate) fn before_mark(mut answer: String) -> String {
+    answer.truncate(answer.rfind('\t').unwrap_or(answer.len()));
+    answer
 }
 
 impl fmt::Display for Name {

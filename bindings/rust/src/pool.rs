@@ -60,13 +60,36 @@ impl Pool {
 
     /// What the program answers to a line, without its line feed.
     pub fn answer(&self, command: &str, line: &[u8]) -> Result<String, Refusal> {
+        let (number, out) = self.written(|handle, out, written| call(handle, command, line, out, written))?;
+        match number {
+            ACCEPTED => Ok(String::from_utf8(out).expect("an answer is a text")),
+            LINE_REFUSED => Err(Refusal::of_name(String::from_utf8_lossy(&out).trim_start_matches("?\t"))),
+            number => Err(Refusal::of_number(number)),
+        }
+    }
+
+    /// The name of the data, if it has one.
+    pub fn data_name(&self) -> Result<Option<String>, Refusal> {
+        let (number, out) = self.written(|handle, out, written| {
+            // SAFETY: `out` is Rust's, and overlaps neither `written` nor the handle, which is this call's, by `&mut`.
+            unsafe { calls::icu_locale_data_name(handle, out.as_mut_ptr(), out.len(), written) }
+        })?;
+        match number {
+            ACCEPTED => Ok(Some(String::from_utf8(out).expect("a name is a text"))),
+            LINE_REFUSED => Ok(None),
+            number => Err(Refusal::of_number(number)),
+        }
+    }
+
+    // The number of a call that writes a text, which is made again where it wants more room, and the text.
+    fn written(&self, ask: impl Fn(&mut Handle, &mut [u8], &mut usize) -> i32) -> Result<(i32, Vec<u8>), Refusal> {
         let mut out = vec![0; 64];
         let mut written = 0;
         let number = self.with(|handle| {
-            let mut number = call(handle, command, line, &mut out, &mut written);
+            let mut number = ask(handle, &mut out, &mut written);
             if number == ROOM {
                 out.resize(written, 0);
-                number = call(handle, command, line, &mut out, &mut written);
+                number = ask(handle, &mut out, &mut written);
             }
             if written > LARGEST {
                 *handle = Handle::closed(); // with the room that it took
@@ -74,11 +97,7 @@ impl Pool {
             number
         })?;
         out.truncate(written);
-        match number {
-            ACCEPTED => Ok(String::from_utf8(out).expect("an answer is a text")),
-            LINE_REFUSED => Err(Refusal::of_name(String::from_utf8_lossy(&out).trim_start_matches("?\t"))),
-            number => Err(Refusal::of_number(number)),
-        }
+        Ok((number, out))
     }
 
     /// A call on a handle that no other call has.

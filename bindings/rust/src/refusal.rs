@@ -13,7 +13,7 @@ pub enum Refusal {
     Shape,
     /// No command has these words.
     Command,
-    /// The tables leave out one that is needed. Match rules are in their supplement.
+    /// The tables leave out one that is needed. Match rules and validity are in their supplement.
     Table,
     /// The command is `negotiate`, `serve`, `nearest` or `resolved`, and there is no list of what is available: a `Negotiator`
     /// and a `Switcher` have one.
@@ -28,6 +28,8 @@ pub enum Refusal {
     InvalidLanguage,
     /// A subtag of the line is none, or is where it may not be.
     InvalidSubtag,
+    /// The bytes that are asked for among exemplar characters are no text of UTF-8.
+    InvalidText,
     /// The rules of canonicalization come to no end.
     NoFixedPoint,
     /// The rows of subdivisions come to no end.
@@ -72,10 +74,16 @@ impl Refusal {
         }
     }
 
+    // That of a command whose words are those that there are, but for the preferences.
+    pub(crate) fn of_preferences(self) -> Self {
+        if self == Refusal::Command { Refusal::Preferences } else { self }
+    }
+
     pub(crate) fn of_name(name: &str) -> Self {
         match name {
             "InvalidLanguage" => Refusal::InvalidLanguage,
             "InvalidSubtag" => Refusal::InvalidSubtag,
+            "InvalidText" => Refusal::InvalidText,
             "NoFixedPoint" => Refusal::NoFixedPoint,
             "NoSubdivisionFixedPoint" => Refusal::NoSubdivisionFixedPoint,
             "NoValueFixedPoint" => Refusal::NoValueFixedPoint,
@@ -99,7 +107,8 @@ impl fmt::Display for Refusal {
             Refusal::Command => "no command has these words",
             Refusal::Table => {
                 "the tables leave out a member that is needed: `likely_language`, `likely_script_region`, at `canonicalize` and \
-                 `serve` also `aliases`, at `direction` also `direction`, or at `serve` the match rules of their supplement"
+                 `serve` also `aliases`, at `direction` also `direction`, at `serve` the match rules of their supplement, at \
+                 `validate` its validity, or at `exemplars` the set of that locale"
             }
             Refusal::Negotiate => "there is no list of what is available",
             Refusal::List => "the list has something that is no identifier",
@@ -107,6 +116,7 @@ impl fmt::Display for Refusal {
             Refusal::Shared => "other handles have the tables too",
             Refusal::InvalidLanguage => "the line does not begin with a language",
             Refusal::InvalidSubtag => "a subtag is none, or stands where it may not",
+            Refusal::InvalidText => "the bytes are no text of UTF-8",
             Refusal::NoFixedPoint => "the rules come to no end",
             Refusal::NoSubdivisionFixedPoint => "the rows of subdivisions come to no end",
             Refusal::NoValueFixedPoint => "the aliases of values at a key of `u` come to no end",

@@ -1,4 +1,5 @@
 //! The names of the crate icu_locale: what its documentation says that they answer, and what its types keep.
+use icu_locale_calls::icu_locale::exemplar_chars::{ExemplarCharacters, ExemplarCharactersBorrowed};
 use icu_locale_calls::icu_locale::names::*;
 use icu_locale_calls::icu_locale::subtags::{language, region, script, variant, Language, Region, Script, Variant, Variants};
 use icu_locale_calls::icu_locale::*;
@@ -129,10 +130,44 @@ fn names_of_parts() {
     assert_eq!(region((&en).into(), region!("QX")).err(), Some(Refusal::NameMissing));
     assert_eq!(RegionDisplayName::new_light_with_fallback((&en).into(), region!("QX")).to_string(), "QX");
     assert_eq!(ScriptDisplayName::try_new_light((&en).into(), script!("Arab")).unwrap().to_string(), "Arabic");
+    assert_eq!(RegionDisplayName::new_tiny_with_fallback((&de).into(), region!("GB")).to_string(), "Vereinigtes K\u{f6}nigreich");
     assert_eq!(ScriptDisplayName::new_heavy_with_fallback((&en).into(), script!("Qabc")).to_string(), "Qabc");
+    assert_eq!(ScriptDisplayName::new_short_heavy_with_fallback((&en).into(), script!("Xsux")).to_string(), "S-A Cuneiform");
+    assert_eq!(ScriptDisplayName::try_new_short_heavy((&de).into(), script!("Latn")).unwrap().to_string(), "Lateinisch");
+    assert_eq!(ScriptDisplayName::try_new_tiny((&locale!("bs")).into(), script!("Cyrl")).unwrap().to_string(), "\u{107}irilica");
     let variant = VariantDisplayName::try_new_heavy((&en).into(), variant!("fonipa")).unwrap();
     assert_eq!(variant.as_borrowed().to_string(), "IPA Phonetics");
     assert_eq!(VariantDisplayName::new_heavy_with_fallback((&en).into(), variant!("abcde")).to_string(), "abcde");
+}
+
+type Set = fn(&DataLocale) -> Result<ExemplarCharactersBorrowed<'static>, DataError>;
+
+// What main/en.xml of CLDR has in each set, and what it has not.
+#[test]
+fn exemplar_characters() {
+    if is_without_data() {
+        return;
+    }
+    let rows: [(Set, &str, &str); 5] = [
+        (ExemplarCharacters::try_new_main, "az", "\u{e4}A0"),
+        (ExemplarCharacters::try_new_auxiliary, "\u{e4}\u{ff}", "azA"),
+        (ExemplarCharacters::try_new_punctuation, ",.!?", "09%"),
+        (ExemplarCharacters::try_new_numbers, "09%,.", "!?a"),
+        (ExemplarCharacters::try_new_index, "AZ", "az\u{e4}"),
+    ];
+    for (made, there, elsewhere) in rows {
+        for locale in [locale!("en"), locale!("en-001"), locale!("en-US-u-ca-roc")] {
+            let set = made(&locale.into()).unwrap();
+            for each in there.chars().chain(elsewhere.chars()) {
+                let wanted = there.contains(each);
+                assert_eq!((set.contains(each), set.contains32(u32::from(each))), (wanted, wanted), "{each}");
+                assert_eq!(set.static_to_owned().as_borrowed().contains_str(&each.to_string()), wanted, "{each}");
+            }
+            assert!(!set.contains_str("ng") && !set.contains_str("") && !set.contains32(0xd800));
+        }
+    }
+    assert_eq!(ExemplarCharacters::try_new_main(&locale!("tlh").into()).err(), Some(Refusal::NameMissing));
+    assert!(ExemplarCharactersBorrowed::try_new_main(&langid!("hu").into()).unwrap().contains_str("dzs"));
 }
 
 #[test]

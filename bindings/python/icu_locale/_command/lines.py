@@ -10,7 +10,7 @@ import time
 from typing import Any, BinaryIO, Dict, Iterable, Iterator, List, Optional, TextIO, Tuple, TypeVar
 
 from .._refusals import cut
-from .tasks import Answer
+from .tasks import Answer, Report
 from .words import NAME, Stopped
 
 # What a line is called in messages by its number: an argument has 0.
@@ -130,6 +130,8 @@ def on_one_line(answer: Answer) -> str:
     """An answer without a line feed."""
     if isinstance(answer, dict):
         return ", ".join(f"{name}: {each}" for name, each in _shown(answer))
+    if isinstance(answer, Report):
+        return str(answer)
     return NONE if answer is None else answer if isinstance(answer, str) else " ".join(answer)
 
 

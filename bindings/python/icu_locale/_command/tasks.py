@@ -2,6 +2,7 @@
 from contextlib import contextmanager, suppress
 from typing import Any, Callable, Dict, Iterable, Iterator, List, Mapping, Optional, Tuple, Union
 
+from .._codes import VALID
 from .._data import cldr_locales, in_chain
 from .._locale import Locale
 from .._menu import MenuRow
@@ -10,8 +11,16 @@ from .._switcher import NONE, Switcher
 from .._tables import Tables
 from .words import WITH_READERS, Stopped
 
-# An answer: a text, several, or some by their names; None where there is no answer, and none is refused.
-Answer = Union[None, str, List[str], Dict[str, Any]]
+
+class Report(List[Dict[str, Any]]):
+    """The parts of an identifier that are not valid, each by its names."""
+
+    def __str__(self) -> str:
+        return ", ".join(f"{part['kind']} {part['text']} {part['status']}" for part in self) or VALID
+
+
+# An answer: a text, several, some by their names, or a report; None where there is no answer, and none is refused.
+Answer = Union[None, str, List[str], Dict[str, Any], Report]
 Task = Callable[[str], Answer]
 
 
@@ -66,7 +75,7 @@ def task_of(chosen: Any) -> Iterator[Task]:
     elif chosen.command == "name":
         tables, locale = with_names(chosen.language)
         with tables:
-            yield lambda text: tables.name(text, locale, syntax=chosen.syntax)
+            yield _naming(tables, locale, chosen)
     elif chosen.command in WITH_READERS:
         with opened() as tables:
             switcher = _switcher(tables, chosen)
@@ -87,8 +96,21 @@ def _asked(tables: Tables, chosen: Any) -> Task:
         "minimize": lambda text: tables.minimize(text, favor_script=chosen.favor_script, syntax=syntax),
         "direction": lambda text: tables.direction(text, syntax=syntax),
         "chain": lambda text: tables.fallback(text, syntax=syntax),
+        "validate": lambda text: Report(part._asdict() for part in tables.validate(text, syntax=syntax)),
     }
     return tasks[chosen.command]
+
+
+def _naming(tables: Tables, locale: str, chosen: Any) -> Task:
+    """What names identifiers, or codes of a kind, in a locale."""
+    tasks: Dict[Optional[str], Task] = {
+        None: lambda text: tables.name(text, locale, syntax=chosen.syntax),
+        "language": lambda text: tables.language_name(text, locale).name,
+        "script": lambda text: tables.script_name(text, locale).name,
+        "region": lambda text: tables.region_name(text, locale).name,
+        "variant": lambda text: tables.variant_name(text, locale).name,
+    }
+    return tasks[chosen.kind]
 
 
 def _switcher(tables: Tables, chosen: Any) -> Switcher[str, Optional[str]]:

@@ -27,7 +27,10 @@ COMMANDS: Dict[str, Command] = {
     "maximize": Command("Each identifier with its likely script and region.", "zh-TW", "zh-Hant-TW"),
     "minimize": Command("The shortest identifier with the same likely script and region.", "zh-Hant-TW", "zh-TW"),
     "parts": Command("The parts of each identifier, one a line.", "de-AT", "language: de\nregion: AT"),
-    "name": Command("What each identifier is called in a language.", "--in en de-AT", "Austrian German"),
+    "validate": Command("Which parts of each identifier CLDR does not list, or deprecates; `valid` where there are none.",
+                        "de-DD", "region DD deprecated"),
+    "name": Command("What each identifier is called in a language, or each code of a kind.", "--in en de-AT",
+                    "Austrian German"),
     "direction": Command("Which way a text runs: ltr, rtl, or none where that is not known.", "ar", "rtl"),
     "chain": Command("The locales that a loader asks, one after another.", "en-AU", "en-AU en-001 en und"),
     "serve": Command("What a reader is served by a header Accept-Language, or none where nothing is near enough.",
@@ -39,11 +42,14 @@ COMMANDS: Dict[str, Command] = {
     "version": Command("The version of the package, and where its data of CLDR is.", "", "", ""),
 }
 # The commands whose calls take a syntax, and those that name something in a language.
-WITH_SYNTAX = ("canonicalize", "maximize", "minimize", "parts", "name", "direction", "chain")
+WITH_SYNTAX = ("canonicalize", "maximize", "minimize", "parts", "validate", "name", "direction", "chain")
 WITH_NAMES = ("name", "menu")
+# What may be named alone.
+KINDS = ("language", "script", "region", "variant")
 # Those that serve a reader.
 WITH_READERS = ("serve", "resolved")
 SHELLS = ("bash",)
+DEFAULT_SYNTAX = "locales"
 
 HELP = f"""\
 usage: {NAME} COMMAND [OPTION ..] [IDENTIFIER ..]
@@ -70,6 +76,7 @@ _icu_locale() {{{{
     case "$COMP_CWORD ${{{{COMP_WORDS[COMP_CWORD - 1]}}}} ${{{{COMP_WORDS[1]}}}}" in
         "1 "*) words="{{commands}}" ;;
         *" --syntax "*) words="{{syntaxes}}" ;;
+        *" --kind "*) words="{{kinds}}" ;;
         *" --completion "*) words="{{shells}}" ;;
 {{cases}}
         *) words="" ;;
@@ -123,8 +130,10 @@ def parser_of(name: str) -> Words:
     parser.add_argument("texts", metavar=command.takes, nargs="*", help="without one, each line of standard input")
     if name in WITH_NAMES:
         parser.add_argument("--in", dest="language", metavar="LOCALE", required=True, help="the language of the names")
+    if name == "name":
+        parser.add_argument("--kind", choices=KINDS, help="take each text for a code of this kind, as US for a region")
     if name in WITH_SYNTAX:
-        parser.add_argument("--syntax", choices=list(SYNTAXES), default="locales",
+        parser.add_argument("--syntax", choices=list(SYNTAXES), default=DEFAULT_SYNTAX,
                             help="how a text is read: as a locale identifier, a tag of BCP 47, or a POSIX name too")
     if name == "minimize":
         parser.add_argument("--favor-script", action="store_true", help="keep the script rather than the region")
@@ -180,7 +189,7 @@ def completion() -> str:
     """What completes the words in bash."""
     cases = "\n".join(f'        *" {name}") words="{" ".join(options_of(parser_of(name)))}" ;;' for name in COMMANDS)
     return COMPLETION.format(commands=" ".join([*COMMANDS, "--help", "--version", "--completion"]), cases=cases,
-                             syntaxes=" ".join(SYNTAXES), shells=" ".join(SHELLS))
+                             syntaxes=" ".join(SYNTAXES), kinds=" ".join(KINDS), shells=" ".join(SHELLS))
 
 
 def about_itself(words: Sequence[str]) -> str:
@@ -212,6 +221,8 @@ def read(words: Sequence[str]) -> Any:
     is_table = chosen.form in ("csv", "tsv-input")
     if not is_table and (getattr(chosen, "column", None) or getattr(chosen, "header", False)):
         parser.error("--column and --header go with --csv or --tsv-input alone")
+    if getattr(chosen, "kind", None) and chosen.syntax != DEFAULT_SYNTAX:
+        parser.error(f"--syntax {chosen.syntax} goes with identifiers, and --kind {chosen.kind} with codes")
     if is_table and chosen.texts:
         parser.error(f"--{chosen.form} reads standard input, and {chosen.texts[0]} is one word too many")
     return chosen

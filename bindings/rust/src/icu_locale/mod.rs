@@ -11,9 +11,10 @@
 //!
 //! What differs: `new_common`, `tiny` and `light` have all of CLDR's data, whose version `cldr_version` tells; `locale!` and
 //! its like read their text when the program runs, and panic where it is none; keys and values of extensions are texts that
-//! were read; there are no constructors over a provider, and no exemplars; a name is a text, and
-//! `LanguageDisplay::Standard` is refused. Any call but those that only read a text panics where the crate was made without
-//! data.
+//! were read; there are no constructors over a provider; a set of exemplar characters is asked by `contains`, `contains32`
+//! and `contains_str` alone; a name is a text, and `LanguageDisplay::Standard` is refused. Any call but those that only read
+//! a text panics where the crate was made without data.
+pub mod exemplar_chars;
 mod extensions;
 mod forms;
 mod identifiers;
@@ -32,6 +33,9 @@ pub use crate::{__langid as langid, __locale as locale};
 
 use crate::{Refusal, Syntax};
 use std::fmt;
+
+/// The locale whose data is asked for, which is a language, a script and a region.
+pub type DataLocale = names::DisplayNamesPreferences;
 
 /// Whether a call has changed what it was given.
 #[derive(Clone, Copy, Debug, PartialEq, Eq, Hash)]

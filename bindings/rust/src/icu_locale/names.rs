@@ -2,7 +2,7 @@
 use super::kept::{named, tables, Names};
 use super::subtags::{Language, Region, Script, Variant};
 use super::{LanguageIdentifier, Locale};
-use crate::{data, Chain, Name, Refusal};
+use crate::{data, Chain, Name, Refusal, RegionChain, ScriptChain, Tables};
 use std::fmt;
 
 /// Why there is no name.
@@ -19,7 +19,7 @@ pub struct DisplayNamesPreferences(Language, Option<Script>, Option<Region>);
 
 impl DisplayNamesPreferences {
     // The first locale of the chain that CLDR has.
-    fn locale(&self) -> Result<&'static str, DataError> {
+    pub(super) fn locale(&self) -> Result<&'static str, DataError> {
         let DisplayNamesPreferences(language, script, region) = *self;
         let chain = tables().fallback(&LanguageIdentifier::from((language, script, region)).to_string())?;
         chain.iter().find_map(|it| data::known(it)).ok_or(Refusal::NameMissing)
@@ -185,17 +185,21 @@ impl fmt::Display for LanguageIdentifierDisplayNameBorrowed<'_> {
     }
 }
 
-// The name of a subtag alone, by tables that have no others.
-fn of_part(prefs: DisplayNamesPreferences, subtag: &str, chain: Chain) -> Result<String, DataError> {
+// The name of a subtag alone, which is asked of tables without other names, in a locale.
+fn of_part(
+    prefs: DisplayNamesPreferences,
+    ask: impl FnOnce(&Tables, &str) -> Result<Name, Refusal>,
+) -> Result<String, DataError> {
     let locale = prefs.locale()?;
-    match named(locale, Names::Parts)?.name_in(&format!("und-{subtag}"), locale, chain)? {
+    match ask(named(locale, Names::Parts)?, locale)? {
         Name { is_raw: true, .. } => Err(Refusal::NameMissing),
         Name { text, .. } => Ok(text),
     }
 }
 
 macro_rules! of_parts {
-    ($($name:ident $borrowed:ident $part:ident: $($chain:ident $try_new:ident $with_fallback:ident),*;)*) => {$(
+    ($($name:ident $borrowed:ident $part:ident $call:ident:
+        $($try_new:ident $with_fallback:ident $word:literal $($chain:path)?),*;)*) => {$(
         #[doc = concat!("The name of a `", stringify!($part), "`.")]
         #[derive(Clone, Debug, PartialEq, Eq, Hash)]
         pub struct $name(String);
@@ -206,13 +210,13 @@ macro_rules! of_parts {
 
         impl $name {
             $(
-                #[doc = concat!("A name by the chain `", stringify!($chain), "`.")]
+                #[doc = concat!("A name by the chain `", $word, "`.")]
                 ///
                 /// # Errors
                 ///
                 /// `NameMissing` where CLDR has none, or none in that language; `Memory`.
                 pub fn $try_new(prefs: DisplayNamesPreferences, subtag: $part) -> Result<Self, DataError> {
-                    of_part(prefs, subtag.as_str(), Chain::$chain).map($name)
+                    of_part(prefs, |tables, locale| tables.$call(subtag.as_str(), locale $(, $chain)?)).map($name)
                 }
 
                 /// The same, or the subtag where there is none.
@@ -244,16 +248,16 @@ macro_rules! of_parts {
 }
 
 of_parts! {
-    RegionDisplayName RegionDisplayNameBorrowed Region:
-        Tiny try_new_tiny new_tiny_with_fallback,
-        Light try_new_light new_light_with_fallback,
-        ShortLight try_new_short_light new_short_light_with_fallback,
-        ShortLight try_new_short_tiny new_short_tiny_with_fallback;
-    ScriptDisplayName ScriptDisplayNameBorrowed Script:
-        Tiny try_new_tiny new_tiny_with_fallback,
-        Light try_new_light new_light_with_fallback,
-        Heavy try_new_heavy new_heavy_with_fallback,
-        ShortHeavy try_new_short_heavy new_short_heavy_with_fallback;
-    VariantDisplayName VariantDisplayNameBorrowed Variant:
-        Heavy try_new_heavy new_heavy_with_fallback;
+    RegionDisplayName RegionDisplayNameBorrowed Region region_name:
+        try_new_tiny new_tiny_with_fallback "tiny" RegionChain::Tiny,
+        try_new_light new_light_with_fallback "light" RegionChain::Light,
+        try_new_short_light new_short_light_with_fallback "short-light" RegionChain::ShortLight,
+        try_new_short_tiny new_short_tiny_with_fallback "short-tiny" RegionChain::ShortTiny;
+    ScriptDisplayName ScriptDisplayNameBorrowed Script script_name:
+        try_new_tiny new_tiny_with_fallback "tiny" ScriptChain::Tiny,
+        try_new_light new_light_with_fallback "light" ScriptChain::Light,
+        try_new_heavy new_heavy_with_fallback "heavy" ScriptChain::Heavy,
+        try_new_short_heavy new_short_heavy_with_fallback "short-heavy" ScriptChain::ShortHeavy;
+    VariantDisplayName VariantDisplayNameBorrowed Variant variant_name:
+        try_new_heavy new_heavy_with_fallback "heavy";
 }
