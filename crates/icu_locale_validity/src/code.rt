@@ -15,28 +15,28 @@ impl Validity {
     pub fn language(&self, language: Language) -> Option<Status>
         ensures { result ≡ value_at text_cmp self.now.languages language }
     {
-        self.languages.get_numbered(&language).copied()
+        self.languages.get(&language).copied()
     }
 
     /// The status of a script, if it is listed.
     pub fn script(&self, script: Script) -> Option<Status>
         ensures { result ≡ value_at text_cmp self.now.scripts script }
     {
-        self.scripts.get_numbered(&script).copied()
+        self.scripts.get(&script).copied()
     }
 
     /// The status of a region, if it is listed.
     pub fn region(&self, region: Region) -> Option<Status>
         ensures { result ≡ value_at text_cmp self.now.regions region }
     {
-        self.regions.get_numbered(&region).copied()
+        self.regions.get(&region).copied()
     }
 
     /// The status of a variant, if it is listed.
     pub fn variant(&self, variant: Variant) -> Option<Status>
         ensures { result ≡ value_at text_cmp self.now.variants variant }
     {
-        self.variants.get_numbered(&variant).copied()
+        self.variants.get(&variant).copied()
     }
 
     // The status of a piece as a code of a kind.
@@ -45,8 +45,8 @@ impl Validity {
     {
         match kind? {
             CodeKind::Script => self.script_of(piece),
-            CodeKind::Subdivision => self.subdivisions.get_numbered(&piece).copied(),
-            CodeKind::Currency => self.currencies.get_numbered(&piece).copied(),
+            CodeKind::Subdivision => self.subdivisions.get(&piece).copied(),
+            CodeKind::Currency => self.currencies.get(&piece).copied(),
             CodeKind::CodePoint => of_form(is_code_point(piece)),
             CodeKind::Date => of_form(is_date(piece)),
             CodeKind::Any => Some(Status::PrivateUse),

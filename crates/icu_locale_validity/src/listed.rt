@@ -1,15 +1,17 @@
 //! What a table says of a key and its value.
-ghost use Rattle.std.specs.Prelude.{◌≡◌, ◌∷◌, [], List, ℕ, MatchResult, length, map};
+ghost use Rattle.std.specs.Prelude.{◌≡◌, ◌∷◌, [], List, ℕ, IfSome, MatchResult, length, map};
 ghost use Rattle.std.specs.List.{All};
+ghost use Rattle.std.specs.Option.{option_or};
 ghost use Rattle.std.specs.Ordering.{ordering_then};
 ghost use Rattle.icu_locale_core.specs.Maps.{IsSortedMap, value_at};
 ghost use Rattle.icu_locale_core.specs.Places.{IsAt, IsGapFor};
 ghost use Rattle.icu_locale_core.specs.Subtag.{IsSubtag};
+ghost use Rattle.icu_locale_core.specs.Value.{only_piece};
 ghost use Rattle.icu_locale_validity.specs.inner.Ones.{longer};
-ghost use Rattle.icu_locale_validity.specs.Types.{field_status, first_fault, is_told_by_pieces, keyword_status, piece_status, pieces_status, type_status, value_cmp};
+ghost use Rattle.icu_locale_validity.specs.Types.{code_of_kind, field_status, first_fault, is_told_by_pieces, keyword_status, piece_status, pieces_status, type_status, value_cmp};
 
 use crate::table::is_valid_status;
-use crate::{KeyTypes, Status, Validity};
+use crate::{CodeKind, KeyTypes, Status, Validity};
 use icu_locale_core::{Key, Pieces, Subtag, Value};
 use icu_locale_extensions::{FieldKey, Subtags};
 use icu_provider::SortedMap;
@@ -44,10 +46,13 @@ impl Validity {
     fn value_status(&self, row: &KeyTypes<Value>, value: &Value) -> Option<Status>
         ensures { result ≡ type_status self.now row.now value.now }
     {
+        let pieces = value.as_slice();
+        if let [piece] = pieces {
+            return self.one_status(value_of_one(&row.types, *piece), row.kind, *piece);
+        }
         if let Some(status) = row.types.get(value) {
             return Some(*status);
         }
-        let pieces = value.as_slice();
         if !is_told_by_pieces(row.many, pieces.len()) {
             return None;
         }
@@ -57,6 +62,9 @@ impl Validity {
     fn pieces_status(&self, row: &KeyTypes<Subtags<3>>, pieces: &Subtags<3>) -> Option<Status>
         ensures { result ≡ type_status self.now row.now pieces.now }
     {
+        if let Some(piece) = only_piece(pieces) {
+            return self.one_status(pieces_of_one(&row.types, piece), row.kind, piece);
+        }
         if let Some(status) = row.types.get(pieces) {
             return Some(*status);
         }
@@ -65,6 +73,26 @@ impl Validity {
         }
         let _ = pieces.as_str();
         self.first_piece_fault(row, pieces.iter())
+    }
+
+    // The status of a value of one piece: its own where it is listed, and else that of a code of a kind.
+    fn one_status(
+        &self,
+        listed: Option<Status>,
+        kind: Option<CodeKind>,
+        piece: Subtag,
+    ) -> Option<Status>
+        ensures { result ≡ option_or listed
+            (first_fault (option_or listed (code_of_kind self.now kind piece) ∷ [])) }
+    {
+        if listed.is_some() {
+            return listed;
+        }
+        let status = self.code_of_kind(kind, piece);
+        if !is_valid_status(status) {
+            return status;
+        }
+        Some(Status::Regular)
     }
 
     // The status of the first piece that is not valid, else `Regular`.
@@ -126,6 +154,20 @@ fn is_told_by_pieces(many: bool, pieces: usize) -> bool
         → result ≡ is_told_by_pieces many value }
 {
     pieces == 1 || (pieces > 1 && many)
+}
+
+// The piece of a field that has exactly one, else none.
+fn only_piece(pieces: &Subtags<3>) -> Option<Subtag>
+    ensures only { result ≡ only_piece pieces.now }
+    ensures alone { IfSome result (λ p. pieces.now ≡ p ∷ []) }
+{
+    let _ = pieces.as_str();
+    let mut left = pieces.iter();
+    let first = left.next()?;
+    if left.peek().is_some() {
+        return None;
+    }
+    Subtag::try_from_bytes(first)
 }
 
 // The status at a value of one piece, found by binary search.

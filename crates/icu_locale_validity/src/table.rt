@@ -5,7 +5,7 @@ ghost use Rattle.icu_locale_validity.specs.Statuses.{is_usable, is_valid_status,
 
 use icu_locale_core::{Key, Language, Region, Script, Subtag, Value, Variant};
 use icu_locale_extensions::{FieldKey, Subtags};
-use icu_provider::SortedMap;
+use icu_provider::{NotedMap, SortedMap};
 use std::alloc::Global;
 use std::cmp::Ord;
 
@@ -99,21 +99,21 @@ pub struct KeyTypes<V: Ord> {
     pub many: bool,
 }
 
-/// The status of each code that is listed.
+/// The status of each code that is listed. Codes are kept with notes, by which a look-up takes one step.
 #[derive(Debug)]
 pub struct Validity {
     /// Languages.
-    pub languages: SortedMap<Language, Status>,
+    pub languages: NotedMap<Language, Status>,
     /// Scripts.
-    pub scripts: SortedMap<Script, Status>,
+    pub scripts: NotedMap<Script, Status>,
     /// Regions.
-    pub regions: SortedMap<Region, Status>,
+    pub regions: NotedMap<Region, Status>,
     /// Variants.
-    pub variants: SortedMap<Variant, Status>,
+    pub variants: NotedMap<Variant, Status>,
     /// Subdivisions of regions, as `gbeng`.
-    pub subdivisions: SortedMap<Subtag, Status>,
+    pub subdivisions: NotedMap<Subtag, Status>,
     /// Currencies, as `usd`.
-    pub currencies: SortedMap<Subtag, Status>,
+    pub currencies: NotedMap<Subtag, Status>,
     /// The keys of keywords.
     pub keywords: SortedMap<Key, KeyTypes<Value>>,
     /// The keys of fields.
@@ -159,12 +159,12 @@ impl Validity {
         ensures fields { result.fields ≡ [] }
     {
         Validity {
-            languages: SortedMap::new(alloc),
-            scripts: SortedMap::new(alloc),
-            regions: SortedMap::new(alloc),
-            variants: SortedMap::new(alloc),
-            subdivisions: SortedMap::new(alloc),
-            currencies: SortedMap::new(alloc),
+            languages: NotedMap::new(alloc),
+            scripts: NotedMap::new(alloc),
+            regions: NotedMap::new(alloc),
+            variants: NotedMap::new(alloc),
+            subdivisions: NotedMap::new(alloc),
+            currencies: NotedMap::new(alloc),
             keywords: SortedMap::new(alloc),
             fields: SortedMap::new(alloc),
         }

@@ -2,6 +2,7 @@
 ghost use Rattle.std.specs.Prelude.{◌≡◌, [], Some, IfOk};
 ghost use Rattle.serde_json.specs.Find.{get};
 ghost use Rattle.serde_json.specs.View.{view};
+ghost use Rattle.icu_provider.specs.SortedMaps.{IsSortedMap};
 ghost use Rattle.icu_tables.specs.Fields.{said_or};
 ghost use Rattle.icu_tables.specs.NamedRows.{named_row};
 ghost use Rattle.icu_tables.specs.Puts.{map_by, rows_by};
@@ -12,7 +13,7 @@ ghost use Rattle.icu_tables.specs.Rows.{seen_rows};
 use crate::TableError;
 use crate::from_json::objects::MemberReader;
 use crate::from_json::values::FromValue;
-use icu_provider::SortedMap;
+use icu_provider::{Marked, NotedMap, SortedMap};
 use serde_json::Value;
 use std::alloc::{AllocError, Global};
 use std::cmp::Ord;
@@ -84,15 +85,49 @@ pub(crate) fn rows_said<K: Ord + Drop, V: Drop, P: PutsRows<K, V>>(
     Ok(rows)
 }
 
+// A map that is made of rows whose keys rise.
+pub(crate) trait FromRows<K: Ord, V>: Drop {
+    ghost use Rattle.std.specs.Prelude.{◌≡◌, List, IfOk};
+    ghost use Rattle.icu_provider.specs.SortedMaps.{IsSortedMap};
+
+    ghost kept: { Self → List (K × V) };
+
+    fn from_rows(alloc: Global, rows: Vec<(K, V)>) -> Result<Self, AllocError>
+        requires { IsSortedMap K.cmp rows.items }
+        ensures { IfOk result (λ map. Self.kept map ≡ rows.items) };
+}
+
+impl<K: Ord + Drop, V: Drop> FromRows<K, V> for SortedMap<K, V> {
+    ghost kept = { λ map. map };
+
+    fn from_rows(_alloc: Global, rows: Vec<(K, V)>) -> Result<Self, AllocError>
+        requires { IsSortedMap K.cmp rows.items }
+        ensures { IfOk result (λ map. map ≡ rows.items) }
+    {
+        Ok(SortedMap::from_sorted(rows))
+    }
+}
+
+impl<K: Marked + Drop, V: Drop> FromRows<K, V> for NotedMap<K, V> {
+    ghost kept = { λ map. map };
+
+    fn from_rows(alloc: Global, rows: Vec<(K, V)>) -> Result<Self, AllocError>
+        requires { IsSortedMap K.cmp rows.items }
+        ensures { IfOk result (λ map. map ≡ rows.items) }
+    {
+        NotedMap::try_from_sorted(alloc, rows)
+    }
+}
+
 impl<'v> MemberReader<'v> {
     // Fills a map with the rows of the next member, and with none if it is not there.
-    pub(crate) fn fill_by<K: Ord + Drop, V: Drop, P: PutsRows<K, V>>(
+    pub(crate) fn fill_by<K: Ord + Drop, V: Drop, P: PutsRows<K, V>, M: FromRows<K, V>>(
         mut self,
         name: &str,
         how: &P,
-        map: &mut SortedMap<K, V>,
+        map: &mut M,
     ) -> MemberReader<'v>
-        ensures { GoesOn self.entry result (seen_rows P.seen map.new)
+        ensures { GoesOn self.entry result (seen_rows P.seen (M.kept map.new))
             (λ object. said_or (Some []) (map_by K.cmp (P.says how.now)) (get name.now object)) }
     {
         if self.outcome.is_ok() {
@@ -103,15 +138,15 @@ impl<'v> MemberReader<'v> {
 }
 
 // Puts what a member says into a map in place of its rows, and no rows if it is not there.
-fn fill_by<K: Ord + Drop, V: Drop, P: PutsRows<K, V>>(
+fn fill_by<K: Ord + Drop, V: Drop, P: PutsRows<K, V>, M: FromRows<K, V>>(
     alloc: Global,
     object: &Value,
     name: &str,
     how: &P,
-    map: &mut SortedMap<K, V>,
+    map: &mut M,
 ) -> Result<(), TableError>
     ensures { let found = get name.now (view object.now) in
-        Fills result (seen_rows P.seen map.new)
+        Fills result (seen_rows P.seen (M.kept map.new))
         (said_or (Some []) (map_by K.cmp (P.says how.now)) found) }
 {
     let rows = rows_said(alloc, object, name, how)?;
@@ -120,17 +155,17 @@ fn fill_by<K: Ord + Drop, V: Drop, P: PutsRows<K, V>>(
 }
 
 // The rows of a map in one list.
-pub(crate) fn in_one_list<K: Ord + Drop, V: Drop>(
+pub(crate) fn in_one_list<K: Ord + Drop, V: Drop, M: FromRows<K, V>>(
     alloc: Global,
     map: BTreeMap<K, V>,
-) -> Result<SortedMap<K, V>, AllocError>
-    ensures { IfOk result (λ rows. rows ≡ map.entries) }
+) -> Result<M, AllocError>
+    ensures { IfOk result (λ rows. M.kept rows ≡ map.entries) }
 {
     let mut rows = Vec::with_capacity(alloc, map.len())?;
     for row in map {
         rows.push(row)?;
     }
-    Ok(SortedMap::from_sorted(rows))
+    M::from_rows(alloc, rows)
 }
 
 // How the names of members are read as keys.
