@@ -14,8 +14,3 @@ front_of old more middle new is part =
 pub on_err : {T E P : Type 0} (r : Result T E) → P → OnErr r P
 on_err (Ok x) holds = tt
 on_err (Err e) holds = holds
-
--- what follows of a refusal's fact
-pub of_err : {T E P Q : Type 0} (r : Result T E) → (P → Q) → OnErr r P → OnErr r Q
-of_err (Ok x) more holds = tt
-of_err (Err e) more holds = more holds

@@ -1,5 +1,5 @@
 -- Each piece of a written form is letters and digits.
-use Rattle.std.proofs.Common.{◌≡◌, ℕ, Bool, true, false, ◌&&◌, ◌||◌, not, List, [], ◌∷◌, ◌++◌, map, filter, if◌then◌else◌, codes, Option, None, Some, IfSome, refl, ap, ◌∙◌, arith}
+use Rattle.std.proofs.Common.{◌≡◌, ℕ, Bool, true, false, ◌&&◌, ◌||◌, not, List, [], ◌∷◌, filter, if◌then◌else◌, codes, Option, None, Some, IfSome, refl, arith}
 use Rattle.std.specs.List.{All}
 use Rattle.std.specs.Char.{is_ascii_alphabetic, is_ascii_digit, is_ascii_alphanumeric, to_ascii_lowercase}
 use Rattle.std.proofs.lemmas.Bool.{and_parts, false≢true}
@@ -11,7 +11,7 @@ use Rattle.icu_locale_core.specs.Subtag.{has_length, is_alphanumeric, lowercase,
 use Rattle.icu_locale_core.specs.TextSet.{rising}
 use Rattle.icu_locale_core.specs.declared.langid.LanguageIdentifier.{LanguageIdentifier}
 use Rattle.icu_locale_core.specs.laws.Classes.{IsPart, part_key, part_subtag, rising_variants, subtag_parts}
-use Rattle.icu_locale_extensions.specs.Extensions.{is_singleton, is_tkey, is_t, is_u, is_x, ArePieces, IsField, IsOther, IsOtherSingleton, IsPiece, IsTkey}
+use Rattle.icu_locale_extensions.specs.Extensions.{is_singleton, is_t, is_u, is_x, ArePieces, IsField, IsOther, IsOtherSingleton, IsPiece, IsTkey}
 use Rattle.icu_locale_extensions.specs.Locales.{IsLocaleIdentifier, extension_pieces, lower_subtags, marked, marked_if_any, transform_pieces, unicode_pieces, written_pieces}
 use Rattle.icu_locale_extensions.specs.Rows.{above_t, below_t, flat}
 use Rattle.icu_locale_extensions.specs.declared.identifier.LocaleIdentifier.{LocaleIdentifier}

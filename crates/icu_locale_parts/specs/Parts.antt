@@ -1,5 +1,5 @@
 -- The parts of a locale identifier, each in a place of its own (UTS #35 Part 1, section 3.2, unicode_locale_id).
-use Rattle.std.specs.Prelude.{ℕ, List, [], ◌∷◌, ◌++◌, map, codes, Option, None, Some}
+use Rattle.std.specs.Prelude.{ℕ, List, [], ◌∷◌, ◌++◌, codes, Option, None, Some}
 use Rattle.std.specs.List.{flat_map, join_by}
 use Rattle.icu_locale_core.specs.Identifier as core
 use Rattle.icu_locale_core.specs.TextSet.{rising}

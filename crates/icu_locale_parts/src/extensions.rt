@@ -1,5 +1,5 @@
 //! The parts of a locale identifier.
-ghost use Rattle.std.specs.Prelude.{◌≡◌, ◌++◌, codes, length, take, IfErr, OnOk, OnErr};
+ghost use Rattle.std.specs.Prelude.{◌≡◌, ◌++◌, codes, length, take, IfErr, IsTrue, OnOk, OnErr};
 ghost use Rattle.icu_locale_parts.specs.Parts.{extension_parts, identifier_parts, language_if_any, members, pairs, parts_text, pieces_if_any, tabbed};
 
 use crate::identifier::append_subtags;
@@ -38,6 +38,30 @@ fn append_all(x: &LocaleIdentifier, text: &mut Vec<u8>) -> Result<(), AllocError
     ensures part { OnErr result (take (length text.old.items) text.new.items ≡ text.old.items) }
 {
     append_subtags(&x.locale.id, text)?;
+    if is_alone(x) {
+        return text.extend_from_slice(b"\t\t\t\t\t\t");
+    }
+    append_extensions(x, text)
+}
+
+// Whether an identifier has neither extensions nor private use.
+fn is_alone(x: &LocaleIdentifier) -> bool
+    ensures { IsTrue result → tabbed (extension_parts x.now) ≡ codes "\t\t\t\t\t\t" }
+{
+    x.attributes.is_empty()
+        && x.locale.extensions.unicode.keywords.is_empty()
+        && x.locale.extensions.transform.lang.is_none()
+        && x.fields.is_empty()
+        && x.others.is_empty()
+        && x.private_use.is_none()
+}
+
+// The parts of the extensions, each after a tab.
+fn append_extensions(x: &LocaleIdentifier, text: &mut Vec<u8>) -> Result<(), AllocError>
+    ensures appended { OnOk result
+        (text.new.items ≡ text.old.items ++ tabbed (extension_parts x.now)) }
+    ensures part { OnErr result (take (length text.old.items) text.new.items ≡ text.old.items) }
+{
     append_unicode(x, text)?;
     append_transform(x, text)?;
     append_pairs(x.others.iter().as_slice(), text)?;
