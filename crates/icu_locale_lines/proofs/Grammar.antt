@@ -18,7 +18,7 @@ use Rattle.icu_locale_core.specs.declared.parse_error.ParseError.{ParseError}
 use Rattle.icu_locale_names.specs.LanguageChains.{chain_word}
 use Rattle.icu_locale_names.specs.declared.name_chain.NameChain.{NameChain}
 use Rattle.icu_locale_lines.specs.laws.Grammar.{chain_found}
-use Rattle.icu_locale_lines.specs.Grammar.{named, chains, chain_at, is_number, number_of, preferences_of, preferences_at}
+use Rattle.icu_locale_lines.specs.CommandWords.{named, chains, chain_at, is_number, number_of, preferences_of, preferences_at}
 
 -- a word that is that of nothing names nothing
 module _ {X : Type 0} (word_of : X → List ℕ) where

@@ -1,5 +1,6 @@
 pub mod Answers
 pub mod Chains
+pub mod CommandWords
 pub mod Commands
 pub mod Grammar
 pub mod Lines

@@ -1,7 +1,8 @@
 //! What the words of a stream ask for.
 ghost use Rattle.std.specs.Prelude.{◌≡◌, ◌∷◌};
 ghost use Rattle.std.specs.Option.{option_map};
-ghost use Rattle.icu_locale_lines.specs.Grammar.{asked_for, bound_at, chain_at, exemplars_at, has_arguments, lines_of, longest_next, named_task, parse, parse_behind, parse_command, parse_lines, parse_named, parse_source, parse_supplement, parse_word};
+ghost use Rattle.icu_locale_lines.specs.CommandWords.{bound_at, chain_at, exemplars_at};
+ghost use Rattle.icu_locale_lines.specs.Grammar.{asked_for, has_arguments, lines_of, longest_next, named_task, parse, parse_behind, parse_command, parse_lines, parse_named, parse_source, parse_supplement, parse_word};
 
 use crate::command::{Command, LineCommand, Task, is_word, syntax_of, task_of};
 use crate::cursor::Words;

@@ -4,7 +4,8 @@ ghost use Rattle.std.specs.Option.{ok_or};
 ghost use Rattle.std.specs.Str.{bytes_eq};
 ghost use Rattle.std.specs.String.{string_bytes};
 ghost use Rattle.icu_locale_lines.specs.Commands.{plain};
-ghost use Rattle.icu_locale_lines.specs.Grammar.{is_for_runs, is_streamed_task, parse_run, run_of, syntax_at, task_at, usual};
+ghost use Rattle.icu_locale_lines.specs.CommandWords.{syntax_at, task_at, usual};
+ghost use Rattle.icu_locale_lines.specs.Grammar.{is_for_runs, is_streamed_task, parse_run, run_of};
 
 use crate::asked::{Asked, Source};
 use crate::cursor::Words;

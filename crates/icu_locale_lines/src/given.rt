@@ -1,7 +1,8 @@
 //! What words say of how readers are served and of places, before the command.
 ghost use Rattle.std.specs.Prelude.{◌≡◌};
 ghost use Rattle.std.specs.Option.{option_map};
-ghost use Rattle.icu_locale_lines.specs.Grammar.{asked_by, command_by, given_next, is_unsaid, limit_at, limit_next, limits_by, placed_lines, task_by, tells_places};
+ghost use Rattle.icu_locale_lines.specs.CommandWords.{limit_at};
+ghost use Rattle.icu_locale_lines.specs.Grammar.{asked_by, command_by, given_next, is_unsaid, limit_next, limits_by, placed_lines, task_by, tells_places};
 
 use crate::asked::Asked;
 use crate::command::{Command, LineCommand, ServeTask, Task};

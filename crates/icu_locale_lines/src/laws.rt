@@ -15,7 +15,7 @@ ghost use Rattle.icu_locale_lines.specs.Runs.{WritesAll};
 ghost use Rattle.icu_locale_lines.specs.Streams.{IsRunWithin};
 ghost use Rattle.icu_locale_lines.specs.WholeRuns.{IsRun};
 ghost use Rattle.icu_locale_lines.specs.declared.command.Command.{Command};
-ghost use Rattle.icu_locale_lines.specs.laws.Grammar.{AreWordsOf};
+ghost use Rattle.icu_locale_lines.specs.laws.Forms.{AreWordsOf};
 ghost use Rattle.icu_locale_core.specs.declared.langid.LanguageIdentifier.{LanguageIdentifier};
 ghost use Rattle.icu_locale_extensions.specs.declared.identifier.LocaleIdentifier.{LocaleIdentifier};
 

@@ -5,15 +5,16 @@ ghost use Rattle.icu_locale.specs.Rules.{HasNoTexts};
 ghost use Rattle.icu_locale_lines.specs.Loads.{AreRulesOf, IsCanonicalizerOf, IsExpanderOf, IsRefusedRules, IsWholeOf, has_likely, has_rules, not_found};
 ghost use Rattle.icu_locale_lines.specs.WholeRuns.{IsUnloaded};
 ghost use Rattle.icu_locale_extensions.specs.declared.syntax.Syntax.{Syntax};
-ghost use Rattle.icu_locale_lines.specs.Commands.{HasRules, IsLoaded, IsNamedBy, IsNamingOf, IsSubtagNamingOf, IsUnsettled, has_matching, has_tables, names_canonical, reads_rules};
+ghost use Rattle.icu_locale_lines.specs.Commands.{HasRules, IsLoaded, IsNamedBy, IsNamingOf, IsSubtagNamingOf, IsUnsettled, ListsBy, has_matching, has_tables, names_canonical, reads_rules};
 ghost use Rattle.icu_locale_fallback.specs.declared.fallbacker.LocaleFallbackPriority.TheVariants.{Language};
+ghost use Rattle.icu_tables.specs.declared.tables.Tables.{Tables};
 
 use crate::command::{Command, LineCommand, Task};
 use crate::error::CliError;
 use crate::work::listing::{ListOver, Listing};
 use crate::work::name::Naming;
 use crate::work::serving::Distances;
-use crate::work::subtag::{SubtagChain, SubtagNaming};
+use crate::work::subtag::{SubtagChain, SubtagKind, SubtagNaming};
 use crate::work::subtag_list::SubtagList;
 use crate::work::{Tools, Work};
 use icu_locale::{CanonicalizerRef, LocaleDirectionality, LocaleExpander, ReadRules};
@@ -148,33 +149,20 @@ impl<'r> Loaded<'r> {
             Task::Exemplars(marker, preferences) => {
                 Tools::Exemplars(tables.load_exemplars(marker, preferences.locale)?)
             }
-            Task::Subtags(kind, DisplayNamesPreferences { locale }) => {
-                Tools::Subtags(SubtagList {
-                    tables,
-                    kind,
-                    locale,
-                })
+            Task::Subtags(kind, preferences) => {
+                Tools::Subtags(load_subtag_list(tables, kind, preferences))
             }
             Task::Negotiate => {
                 let expander = load_expander(tables)?;
                 if !expander.is_settled() {
                     return Err(CliError::NotSettled);
                 }
-                let over = ListOver::Negotiate(expander);
-                return Ok(Loaded::Listing(Listing {
-                    syntax,
-                    places,
-                    over,
-                }));
+                return Ok(Loaded::waiting(command, ListOver::Negotiate(expander)));
             }
             Task::Serve(how) => {
                 let matching = held(&tables.supplement.matching)?;
                 let over = ListOver::Serve(how, load_canonicalizer(tables, rules)?, matching);
-                return Ok(Loaded::Listing(Listing {
-                    syntax,
-                    places,
-                    over,
-                }));
+                return Ok(Loaded::waiting(command, over));
             }
         };
         Ok(Loaded::Ready(Work {
@@ -182,6 +170,18 @@ impl<'r> Loaded<'r> {
             places,
             tools,
         }))
+    }
+
+    // What waits for the first line of a command.
+    fn waiting(command: &LineCommand, over: ListOver<'r>) -> Self
+        ensures { (tables : Tables) → ListsBy command.now.task tables over.entry
+            → IsLoaded command.now tables result }
+    {
+        Loaded::Listing(Listing {
+            syntax: command.syntax,
+            places: command.places,
+            over,
+        })
     }
 }
 
@@ -318,6 +318,23 @@ fn load_subtag_naming(
         tables: LocaleTables::new(tables, preferences.locale),
         chain,
         preferences,
+    }
+}
+
+// What lists subtags of a kind that have names in the language of preferences.
+fn load_subtag_list(
+    tables: &Tables,
+    kind: SubtagKind,
+    preferences: DisplayNamesPreferences,
+) -> SubtagList<'_>
+    ensures tables { result.tables.now ≡ tables.entry.now }
+    ensures kind { result.kind ≡ kind }
+    ensures locale { result.locale ≡ preferences.locale }
+{
+    SubtagList {
+        tables,
+        kind,
+        locale: preferences.locale,
     }
 }
 

@@ -7,7 +7,7 @@ ghost use Rattle.icu_locale_names.specs.declared.options.LanguageDisplay.TheVari
 ghost use Rattle.icu_locale_names.specs.Pieces.{Piece};
 ghost use Rattle.icu_locale_full_names.specs.FullNames.{GivesFullName, written};
 ghost use Rattle.icu_locale_lines.specs.Answers.{AddsLine, Keeps, IsAnswerOf, IsNamed, IsWholeNamed};
-ghost use Rattle.icu_locale_lines.specs.Grammar.{preferences_at};
+ghost use Rattle.icu_locale_lines.specs.CommandWords.{preferences_at};
 ghost use Rattle.icu_locale_lines.specs.Names.{answers_in, name_asked, full_name_asked, whole_name_asked, IsNamedLine};
 ghost use Rattle.icu_locale_lines.specs.Texts.{named_line, raw_mark, refused_line};
 

@@ -1,6 +1,6 @@
 //! Kinds of subtags, and the chains that name them.
 ghost use Rattle.std.specs.Prelude.{◌≡◌};
-ghost use Rattle.icu_locale_lines.specs.Grammar.{kind_at, named, region_chain_word, region_chains, script_chain_word, script_chains, subtag_chain_at, subtags_at};
+ghost use Rattle.icu_locale_lines.specs.CommandWords.{kind_at, named, region_chain_word, region_chains, script_chain_word, script_chains, subtag_chain_at, subtags_at};
 
 use crate::asked::chain_of;
 use crate::command::is_word;

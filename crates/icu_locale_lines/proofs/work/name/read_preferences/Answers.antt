@@ -1,6 +1,6 @@
 use Rattle.std.proofs.Common.{◌≡◌, Some, ap, sym, ◌∙◌, rules}
 use Rattle.icu_locale_core.specs.TextSet.{empty}
-use Rattle.icu_locale_lines.specs.Grammar.{preferences_of}
+use Rattle.icu_locale_lines.specs.CommandWords.{preferences_of}
 use Rattle.icu_locale_lines.proofs.Grammar.{preferences_read, with_none}
 use Rattle.icu_locale_lines.proofs.work.name.read_preferences.Goals as goal
 
