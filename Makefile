@@ -68,7 +68,7 @@ install: $(PROGRAMS)
 	if [ -d out/c ]; then \
 	    install -d "$(DESTDIR)$(PREFIX)/include" "$(DESTDIR)$(LIBDIR)/pkgconfig" "$(DESTDIR)$(PREFIX)/share/man/man3" && \
 	    install -m 644 man/icu_locale.3 "$(DESTDIR)$(PREFIX)/share/man/man3" && \
-	    install -m 644 out/c/icu_locale.h "$(DESTDIR)$(PREFIX)/include/icu_locale.h" && \
+	    install -m 644 out/c/icu_locale.h out/c/icu_locale_data.h "$(DESTDIR)$(PREFIX)/include" && \
 	    install -m 644 out/c/libicu_locale.a out/c/libicu_locale.so.0 "$(DESTDIR)$(LIBDIR)" && \
 	    ln -sf libicu_locale.so.0 "$(DESTDIR)$(LIBDIR)/libicu_locale.so" && \
 	    sed "s|@includedir@|$(PREFIX)/include|; s|@libdir@|$(LIBDIR)|; s|@version@|$$(cat VERSION)|" \
@@ -77,7 +77,8 @@ install: $(PROGRAMS)
 
 uninstall:
 	rm -f $(PROGRAMS:%="$(DESTDIR)$(PREFIX)/bin/%") $(PROGRAMS:%="$(DESTDIR)$(PREFIX)/share/man/man1/%.1") \
-	    "$(DESTDIR)$(PREFIX)/include/icu_locale.h" "$(DESTDIR)$(PREFIX)/share/man/man3/icu_locale.3" $(C_FILES:%="$(DESTDIR)$(LIBDIR)/%")
+	    "$(DESTDIR)$(PREFIX)/include/icu_locale.h" "$(DESTDIR)$(PREFIX)/include/icu_locale_data.h" \
+	    "$(DESTDIR)$(PREFIX)/share/man/man3/icu_locale.3" $(C_FILES:%="$(DESTDIR)$(LIBDIR)/%")
 
 clean:
 	rm -rf out crates/*/out $(PROGRAMS)

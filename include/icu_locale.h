@@ -2,8 +2,9 @@
  * Locale identifiers for programs in C: likely subtags, canonical forms, directions, names and negotiation, over tables
  * of your own.
  *
- * icu_locale_answer gives what the programs write for one line. docs/PROGRAM.md says what their commands answer,
- * docs/tables.schema.json what tables look like, and docs/PROVED.md what is proved of these calls and what is not.
+ * icu_locale_answer gives what the programs write for one line, and icu_locale_data.h opens CLDR's data of the machine.
+ * docs/PROGRAM.md says what their commands answer, docs/tables.schema.json what tables look like, and docs/PROVED.md what
+ * is proved of these calls and what is not.
  *
  *     struct icu_locale tables = {0};
  *     uint8_t out[64];
@@ -73,7 +74,7 @@ enum {
     /* icu_locale_answer: the line is refused, and `out` begins with the program's answer to that: `?`, a tab and the name
        of the refusal, as `InvalidLanguage`, `InvalidSubtag`, `NoFixedPoint`, `NoSubdivisionFixedPoint`,
        `NoValueFixedPoint`, `NoFieldFixedPoint`, `Circle` or `IdentifierNotFound`. icu_locale_fault: the text is none.
-       icu_locale_data_name: the data has no name. */
+       icu_locale_data_name: the data has no name. icu_locale_refusal_text: the number has no text. */
     ICU_LOCALE_REFUSED = 1,
 
     /* icu_locale_is_settled. */
@@ -87,10 +88,10 @@ enum {
     /* icu_locale_negotiate and icu_locale_negotiate_in: no request is met. */
     ICU_LOCALE_NOT_MET = 1,
 
-    /* Any call but icu_locale_open and icu_locale_close: the handle is closed. */
+    /* Any call on a handle but icu_locale_open and icu_locale_close: the handle is closed. */
     ICU_LOCALE_CLOSED = 2,
 
-    /* icu_locale_answer: there is too little room. */
+    /* icu_locale_answer, icu_locale_data_name and icu_locale_refusal_text: there is too little room. */
     ICU_LOCALE_ROOM = 3,
 
     /* Memory was asked for and refused. */
@@ -276,6 +277,16 @@ int32_t icu_locale_fault(const uint8_t *text, size_t length, size_t *from, size_
  * ICU_LOCALE_ROOM. It takes no memory.
  */
 int32_t icu_locale_data_name(struct icu_locale *handle, uint8_t *out, size_t room, size_t *written);
+
+/*
+ * Writes what a number above says to a person, in English, to `out`: `the text is no JSON` for ICU_LOCALE_JSON. It asks no
+ * handle.
+ *
+ * ICU_LOCALE_ACCEPTED: `out` begins with the text, which has `*written` bytes; 64 are enough for each. ICU_LOCALE_REFUSED:
+ * the number says no refusal, or 1, which says another thing at each call. ICU_LOCALE_ROOM: `*written` is how many bytes
+ * the text has. `out` is as it was, and `*written` 0 but for ICU_LOCALE_ROOM. It takes no memory.
+ */
+int32_t icu_locale_refusal_text(int32_t number, uint8_t *out, size_t room, size_t *written);
 
 /* Lets the tables and the list go, and makes the handle zero. It may be opened again. A second call does nothing. */
 void icu_locale_close(struct icu_locale *handle);

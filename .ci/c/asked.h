@@ -99,6 +99,20 @@ static void data_named(struct icu_locale *handle, size_t room, int32_t number, c
     free(out);
 }
 
+// The text of a number, in so much room. Nothing is written where there is none.
+static void texts(int32_t number, size_t room, int32_t wanted, const char *text) {
+    uint8_t *out = malloc(room + 1);
+    size_t written = STAYS, length = strlen(text);
+    memset(out, '#', room + 1);
+    int32_t told = icu_locale_refusal_text(number, out, room, &written);
+    size_t put = told == ICU_LOCALE_ACCEPTED ? length : 0;
+    if (told != wanted || written != length || memcmp(out, text, put) || out[put] != '#') {
+        printf("refusal_text: %d: %d %zu, and not %d %s\n", number, told, written, wanted, text);
+        faults += 1;
+    }
+    free(out);
+}
+
 static void refuses(struct icu_locale *handle, const char *requests, int32_t number) {
     meets(handle, requests, number, 0, 0);
 }

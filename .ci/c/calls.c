@@ -373,6 +373,28 @@ static void places(void) {
     placed("en-a-b", ICU_LOCALE_REFUSED, 5, 6);
 }
 
+// Each number has the text that the header's words for it have, and 64 bytes are enough.
+static void refusal_texts(void) {
+    const char *words[] = {"the handle is closed", "there is too little room", "memory was asked for and refused",
+                           "the text is no JSON", "the JSON has not the shape of tables, or of a supplement",
+                           "no command or syntax has these words", "the tables leave out one that is needed",
+                           "the handle holds no list of what is available", "the text lists something that is no identifier",
+                           "the likely tables are not settled", "another handle has the tables too"};
+    const int32_t none[] = {ICU_LOCALE_DONE, ICU_LOCALE_REFUSED, ICU_LOCALE_SHARED + 1, -1, -2, 1000, INT32_MAX, INT32_MIN};
+    want(sizeof words / sizeof *words == ICU_LOCALE_SHARED - ICU_LOCALE_CLOSED + 1, "a number without words");
+    for (int32_t number = ICU_LOCALE_CLOSED; number <= ICU_LOCALE_SHARED; number++) {
+        const char *wanted = words[number - ICU_LOCALE_CLOSED];
+        texts(number, 64, ICU_LOCALE_ACCEPTED, wanted);
+        texts(number, strlen(wanted), ICU_LOCALE_ACCEPTED, wanted);
+        texts(number, strlen(wanted) - 1, ICU_LOCALE_ROOM, wanted);
+        texts(number, 0, ICU_LOCALE_ROOM, wanted);
+    }
+    for (size_t place = 0; place < sizeof none / sizeof *none; place++) {
+        texts(none[place], 64, ICU_LOCALE_REFUSED, "");
+        texts(none[place], 0, ICU_LOCALE_REFUSED, "");
+    }
+}
+
 int main(int count, char **names) {
     size_t length;
     struct icu_locale one = {0}, other = {0};
@@ -392,6 +414,7 @@ int main(int count, char **names) {
     unsettled();
     list_faults();
     places();
+    refusal_texts();
     free(json);
     commands(&other);
     wrong_words(&one);

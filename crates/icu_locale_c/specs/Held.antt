@@ -27,7 +27,7 @@ use Rattle.icu_locale_c.specs.declared.kept_list.KeptList.{KeptList}
 use Rattle.icu_locale_c.specs.declared.kept_list.KeptList.TheVariants.{Settled, Unsettled}
 use Rattle.icu_locale_extensions.specs.declared.syntax.Syntax.{Syntax}
 use Rattle.icu_locale_lines.specs.declared.command.Task.{Task}
-use Rattle.icu_locale_lines.specs.declared.command.Task.TheVariants.{Canonicalize, Key, Negotiate, Serve}
+use Rattle.icu_locale_lines.specs.declared.command.Task.TheVariants.{Negotiate, Serve}
 use Rattle.icu_locale_lines.specs.declared.work.Work.{Work}
 use Rattle.icu_locale_lines.specs.declared.work.Tools.{Tools}
 use Rattle.icu_locale_lines.specs.declared.work.Tools.TheVariants as tools

@@ -9,7 +9,7 @@ use Rattle.icu_tables.specs.declared.tables.Tables.{Tables}
 use Rattle.icu_locale_lines.specs.Lists.{listed, SpellsAll, IsAvailable, IsFirstFault, TellsFault}
 use Rattle.icu_locale_lines.specs.Loads.{has_likely}
 use Rattle.icu_locale_lines.specs.Commands.{HoldsSettled}
-use Rattle.icu_locale_lines.specs.Grammar.{syntax_at}
+use Rattle.icu_locale_lines.specs.CommandWords.{syntax_at}
 use Rattle.icu_locale_c.specs.Asked.{HasUnsettledList}
 use Rattle.icu_locale_c.specs.Held.{Held, IsNegotiationOf}
 use Rattle.icu_locale_c.specs.declared.refusal.Refusal.{Refusal}

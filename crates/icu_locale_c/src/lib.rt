@@ -6,16 +6,19 @@ ghost use Rattle.icu_locale_c.specs.Calls.{IsCall, IsOpened, IsShared, IsSupplem
 ghost use Rattle.icu_locale_c.specs.Data.{IsDataNamed};
 ghost use Rattle.icu_locale_c.specs.Negotiations.{IsAvailableCall, IsAvailableIn, IsListFaultIn, IsNegotiatedCall, IsNegotiatedIn};
 ghost use Rattle.icu_locale_c.specs.Places.{IsPlaced};
+ghost use Rattle.icu_locale_c.specs.Refusals.{IsRefusalText};
 ghost use Rattle.icu_locale_c.specs.declared.refusal.Refusal.{Refusal};
 
 mod handle;
 mod kept;
 mod kept_list;
+pub mod laws;
 mod lines;
 mod loose;
 mod negotiations;
 mod place;
 mod refusal;
+mod refusal_text;
 mod shared;
 mod words;
 
@@ -23,6 +26,7 @@ use crate::handle::Handle;
 use crate::negotiations::put_fault;
 use crate::place::put_place;
 use crate::refusal::{Refusal, answer_number, done_number, yes_number};
+use crate::refusal_text::put_refusal_text;
 use crate::shared::Shared;
 use crate::words::read_syntax;
 use icu_locale_extensions::Syntax;
@@ -186,6 +190,15 @@ pub extern "C" fn icu_locale_data_name(
         × IsDataNamed handle.old.held out.old out.new written.new outcome }
 {
     answer_number(data_name(alloc, handle, out, written))
+}
+
+/// Writes what the number of a refusal says, in words, to the beginning of `out`.
+#[unsafe(no_mangle)]
+pub extern "C" fn icu_locale_refusal_text(number: i32, out: &mut [u8], written: &mut usize) -> i32
+    ensures { (outcome : Result Bool Refusal) × (result ≡ answer_number outcome)
+        × IsRefusalText number out.old out.new written.new outcome }
+{
+    answer_number(put_refusal_text(number, out, written))
 }
 
 /// Whether the likely tables are settled.

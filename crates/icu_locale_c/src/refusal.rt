@@ -1,6 +1,8 @@
-//! Why a call gave no answer, and the number of each outcome.
-ghost use Rattle.std.specs.Prelude.{◌≡◌};
+//! Why a call gave no answer, the number of each outcome, and what a refusal's number says in words.
+ghost use Rattle.std.specs.Prelude.{◌≡◌, None, IfSome};
 ghost use Rattle.icu_locale_c.specs.Calls.{number, done_number, answer_number, yes_number};
+ghost use Rattle.icu_locale_c.specs.Refusals.{refusal_text};
+ghost use Rattle.icu_locale_c.specs.declared.refusal.Refusal.{Refusal};
 
 // Each has a number of its own.
 #[derive(Clone, Copy, Debug, PartialEq, Eq)]
@@ -45,6 +47,46 @@ impl Refusal {
             Refusal::List => 10,
             Refusal::Unsettled => 11,
             Refusal::Shared => 12,
+        }
+    }
+
+    // The refusal that has a number.
+    pub fn of_number(told: i32) -> Option<Refusal>
+        ensures has { IfSome result (λ r. number r ≡ told) }
+        ensures none { result ≡ None → (r : Refusal) → ¬ (number r ≡ told) }
+    {
+        match told {
+            2 => Some(Refusal::Closed),
+            3 => Some(Refusal::Room),
+            4 => Some(Refusal::Memory),
+            5 => Some(Refusal::Json),
+            6 => Some(Refusal::Shape),
+            7 => Some(Refusal::Command),
+            8 => Some(Refusal::Table),
+            9 => Some(Refusal::Negotiate),
+            10 => Some(Refusal::List),
+            11 => Some(Refusal::Unsettled),
+            12 => Some(Refusal::Shared),
+            _ => None,
+        }
+    }
+
+    // What it says to a person.
+    pub fn text(self) -> &'static str
+        ensures { result.now ≡ refusal_text self }
+    {
+        match self {
+            Refusal::Closed => "the handle is closed",
+            Refusal::Room => "there is too little room",
+            Refusal::Memory => "memory was asked for and refused",
+            Refusal::Json => "the text is no JSON",
+            Refusal::Shape => "the JSON has not the shape of tables, or of a supplement",
+            Refusal::Command => "no command or syntax has these words",
+            Refusal::Table => "the tables leave out one that is needed",
+            Refusal::Negotiate => "the handle holds no list of what is available",
+            Refusal::List => "the text lists something that is no identifier",
+            Refusal::Unsettled => "the likely tables are not settled",
+            Refusal::Shared => "another handle has the tables too",
         }
     }
 }
