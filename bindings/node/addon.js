@@ -32,4 +32,5 @@ module.exports = {
   listFault: (syntax, list) => calls.listFault(wordsOf(syntax), bytes(list)),
   fault: (text) => calls.fault(bytes(text)),
   answer: (held, command, line) => calls.answer(held, wordsOf(command), bytes(line)),
+  giveBack: (held, ...list) => calls.giveBack(held, ...list.map(bytes)),
 };

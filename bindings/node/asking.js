@@ -8,6 +8,7 @@ const TABLE = 8;
 const LIST = 10;
 const SYNTAXES = ['locales', 'bcp47', 'posix'];
 const LARGEST = 65535; // threshold, and demotion
+const LONG_ANSWER = 65536; // an answer that is longer leaves no room that is kept
 
 // What the package asks: the calls of icu_locale.h, and what a platform does in its own way.
 const behind = { calls: null, textsOfCldr: null, toldOfCldr: null, mark: () => {} };
@@ -149,10 +150,13 @@ function lineRefusal(words, name, line) {
   return Object.assign(refused, { start, end, subtag: part(line, ...bounds) });
 }
 
-/** What a handle answers to a line, by the words of a command. */
-function answered(held, command, line) {
+/** What a handle answers to a line, by the words of a command. A negotiator's has the word of a syntax, and a list. */
+function answered(held, command, line, word, list) {
   const told = behind.calls.answer(held, text(command), text(line));
-  if (typeof told === 'string') return told;
+  if (typeof told === 'string') {
+    if (told.length > LONG_ANSWER) behind.calls.giveBack(held, ...(list ? [word, list.join(' ')] : []));
+    return told;
+  }
   const [number, answer] = told;
   const words = typeof command === 'string' ? command : new TextDecoder().decode(command);
   if (number === LINE_REFUSED) throw lineRefusal(words, answer.split('\t')[1], line);

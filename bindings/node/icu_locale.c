@@ -1,6 +1,6 @@
 // The calls of icu_locale.h for Node.js, by Node-API: `open(json)` makes an object that stands for tables, and
-// `supplement`, `share`, `available`, `answer`, `dataName`, `negotiate`, `isSettled`, `lend` and `close` take one;
-// `borrow(number)` makes one of what another worker has lent. index.js has what is made of these.
+// `supplement`, `share`, `available`, `answer`, `giveBack`, `dataName`, `negotiate`, `isSettled`, `lend` and `close` take
+// one; `borrow(number)` makes one of what another worker has lent. index.js has what is made of these.
 #include "icu_locale.h"
 #include <node_api.h>
 #include <pthread.h>
@@ -20,6 +20,8 @@ struct tables {
     uint8_t *out;
     size_t room;
 };
+
+enum { FIRST_ROOM = 256 };
 
 static pthread_mutex_t lending = PTHREAD_MUTEX_INITIALIZER;
 static struct loan *loans = NULL;
@@ -56,7 +58,7 @@ static napi_value number_of(napi_env env, int32_t number) {
 static struct tables *made(napi_env env, napi_value *object) {
     struct tables *tables = calloc(1, sizeof *tables);
     if (!tables) return NULL;
-    tables->room = 256;
+    tables->room = FIRST_ROOM;
     tables->out = malloc(tables->room);
     if (tables->out && napi_create_external(env, tables, let_go, NULL, object) == napi_ok) return tables;
     free(tables->out);
@@ -236,7 +238,7 @@ static napi_value fault(napi_env env, napi_callback_info info) {
     return list;
 }
 
-// Makes room for so long a text, and tells whether there is memory for it.
+// Has room for so long a text alone, and tells whether there is memory for it.
 static int widen(struct tables *tables, size_t room) {
     uint8_t *out = realloc(tables->out, room);
     if (!out) return 0;
@@ -273,6 +275,30 @@ static napi_value answer(napi_env env, napi_callback_info info) {
         if (!widen(tables, written)) return told(env, tables, ICU_LOCALE_MEMORY, 0);
     }
     return told(env, tables, number, written);
+}
+
+// giveBack(tables), giveBack(negotiator, syntax, list): lets go what a long answer has taken, here and in the library, whose
+// handle comes to hold the same once more. Where memory is refused, it stays.
+static napi_value give_back(napi_env env, napi_callback_info info) {
+    size_t count = 3, syntax_length, length;
+    napi_value values[3];
+    const uint8_t *syntax, *list;
+    struct icu_locale other = {0};
+    if (napi_get_cb_info(env, info, &count, values, NULL, NULL) != napi_ok || count < 1) return wrong(env);
+    struct tables *tables = tables_of(env, values[0]);
+    if (!tables) return wrong(env);
+    bool has_list = count >= 3;
+    if (has_list && (!bytes_of(env, values[1], &syntax, &syntax_length) || !bytes_of(env, values[2], &list, &length)))
+        return wrong(env);
+    widen(tables, FIRST_ROOM);
+    if (icu_locale_share(&tables->handle, &other) == ICU_LOCALE_DONE) {
+        if (has_list)
+            icu_locale_available_in(&other, syntax, syntax_length, list, length, &tables->handle);
+        else
+            icu_locale_share(&other, &tables->handle);
+        icu_locale_close(&other);
+    }
+    return NULL;
 }
 
 // dataName(tables): the name of the data, and else a list of a number and an empty text.
@@ -315,7 +341,7 @@ NAPI_MODULE_INIT() {
         const char *name;
         napi_callback call;
     } calls[] = {{"open", open_tables}, {"supplement", supplement}, {"share", share_tables}, {"available", available_of}, {"answer", answer},
-                 {"dataName", data_name}, {"negotiate", negotiate}, {"listFault", list_fault}, {"fault", fault}, {"isSettled", is_settled},
+                 {"giveBack", give_back}, {"dataName", data_name}, {"negotiate", negotiate}, {"listFault", list_fault}, {"fault", fault}, {"isSettled", is_settled},
                  {"lend", lend}, {"borrow", borrow}, {"close", close_tables}};
     for (size_t place = 0; place < sizeof calls / sizeof *calls; place++) {
         napi_value call;

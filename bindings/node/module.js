@@ -7,6 +7,8 @@ const [ROOM, MEMORY, NO_LOAN] = [3, 4, -1];
 const HANDLE = 8n;
 const SHORT = 48; // what is so short is written and read byte by byte
 const COMMANDS = 100; // so many are kept
+const FIRST_ROOM = 256; // bytes of a block that is kept
+const LONG_BLOCK = 65536; // a block that is longer is not
 const PROBE = Uint8Array.of(0, 97, 115, 109, 1, 0, 0, 0, 5, 3, 1, 4, 1); // a module that has a memory of 64 bits
 
 /** Whether this engine has memories of 64 bits. */
@@ -37,7 +39,7 @@ class Module {
     this.#its = instance.exports;
     this.#bytes = new Uint8Array(this.#its.memory.buffer);
     this.#numbers = this.#its.icu_locale_take(16n);
-    const isRoom = this.#numbers && this.#widen(this.#line, 256) && this.#widen(this.#out, 256);
+    const isRoom = this.#numbers && this.#widen(this.#line, FIRST_ROOM) && this.#widen(this.#out, FIRST_ROOM);
     if (!isRoom) throw new RangeError('there is no memory');
   }
 
@@ -49,6 +51,13 @@ class Module {
 
   #number(place) {
     return Number(new DataView(this.#its.memory.buffer).getBigUint64(Number(place), true));
+  }
+
+  // Gives back the blocks that a long text has taken. Where memory is refused, they stay.
+  #narrow() {
+    for (const block of [this.#command, this.#line, this.#out]) {
+      if (block.room > LONG_BLOCK) this.#widen(block, FIRST_ROOM);
+    }
   }
 
   // Makes a block as long as that, and forgets what it holds.
@@ -184,8 +193,25 @@ class Module {
     const words = this.#words(command);
     if (!words || (most > this.#line.room && !this.#widen(this.#line, most))) return [MEMORY, ''];
     const length = BigInt(this.#put(line, this.#line.place));
-    return this.#told(() => this.#its.icu_locale_answer(
+    const told = this.#told(() => this.#its.icu_locale_answer(
       held.place, words[0], words[1], this.#line.place, length, this.#out.place, BigInt(this.#out.room), this.#numbers));
+    if (Math.max(this.#command.room, this.#line.room, this.#out.room) > LONG_BLOCK) this.#narrow();
+    return told;
+  }
+
+  /**
+   * Lets go what a long answer has taken in the library, whose handle comes to hold the same once more: tables, or a list
+   * too, in the syntax of a word. Where memory is refused, it stays.
+   */
+  giveBack(held, syntax, list) {
+    const other = this.share(held);
+    if (typeof other === 'number') return;
+    const word = list === undefined ? null : this.#words(syntax);
+    if (list === undefined) this.#its.icu_locale_share(other.place, held.place);
+    if (word) {
+      this.#over(list, (place, length) => this.#its.icu_locale_available_in(other.place, ...word, place, length, held.place));
+    }
+    this.close(other);
   }
 
   /** The name of the data, or a list of the number where it has none, and of a refusal. */

@@ -41,7 +41,7 @@ class Negotiator {
 
   /** What the program icu_locale_cli answers to a line, by the words of a command. */
   answer(command, line) {
-    return answered(this.#at, command, line);
+    return answered(this.#at, command, line, this.#word, this.#available);
   }
 
   [SHOWN](depth, options, inspect) {

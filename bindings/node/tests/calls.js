@@ -154,4 +154,27 @@ for (let time = 0; time < 1000; time += 1) {
   other.negotiator(['en', 'de']).negotiate(['de-DE']);
 }
 global.gc();
+
+// What a long answer takes is given back, though the object is there and asked again.
+const wide = `en-x${'-abcdefgh'.repeat(200000)}`;
+const busy = Array.from({ length: 40 }, (_, place) => (place % 2 ? other.share() : other.negotiator(['en-US', 'de'])));
+function resident() {
+  global.gc();
+  return process.memoryUsage().rss;
+}
+function askAll(some) {
+  for (const each of some) {
+    assert.strictEqual(each.answer('locales minimize', wide), `${wide}\tU`);
+    assert.strictEqual(each.answer('maximize', 'zh-TW'), 'zh-Hant-TW\tM');
+    if (each instanceof Negotiator) assert.deepStrictEqual(each.negotiate(['de-AT', 'de-DE']), { request: 1, available: 1 });
+  }
+}
+askAll(busy.slice(0, 2));
+const before = resident();
+askAll(busy);
+const kept = resident() - before;
+assert.ok(kept < 25e6, `${busy.length} long answers keep ${kept} bytes`);
+const inSyntax = other.negotiator(['de', 'en-u-hc-h12'], { syntax: 'locales' });
+assert.strictEqual(inSyntax.answer('locales minimize', wide), `${wide}\tU`);
+assert.strictEqual(inSyntax.answer('negotiate', 'en'), '0\ten-u-hc-h12');
 console.log('calls: as they should be');

@@ -64,6 +64,15 @@ for (const line of [`de-${variants}`, Buffer.from(`de-${variants}`)]) {
   before = after;
 }
 const held = calls.open(example);
+// a long answer, and a long line that is refused, leave nothing that is taken
+const wide = `en-x${'-abcdefgh'.repeat(20000)}`;
+before = taken();
+for (const line of [wide, Buffer.from(wide), `${wide}-`]) {
+  const told = calls.answer(held, 'locales minimize', line);
+  assert.deepStrictEqual(told, line.length === wide.length ? `${wide}\tU` : [1, '?\tInvalidSubtag']);
+  calls.giveBack(held);
+  assert.ok(taken() - before < 1000, `${taken() - before} bytes are kept`);
+}
 const lines = ['zh-TW', 'de-Latn-1996', 'e', `de-${variants}`];
 const ask = () => lines.forEach((it) => calls.answer(held, 'maximize', it));
 ask();

@@ -18,6 +18,7 @@ from icu_locale import _data
 from icu_locale._calls import version
 from icu_locale._command import lines, main
 from icu_locale._command.words import COMMANDS
+from icu_locale._menu import key_of
 
 HAS_DATA = any((folder / "base-and-supplement.gz").is_file() for folder in _data.FOLDERS)
 PROGRAM = [sys.executable, "-W", "error", "-m", "icu_locale"]
@@ -68,14 +69,16 @@ ANSWERS = [
     ("menu --in en de --tsv", "de\tDeutsch\tGerman\tok\n"),
 ]
 REFUSED = [
-    ("maximize zh-TW en-Latm1-US de", "zh-Hant-TW\n\nde-Latn-DE\n", "icu-locale: en-Latm1-US: InvalidSubtag\n"),
+    ("maximize zh-TW en-Latm1-US de", "zh-Hant-TW\n\nde-Latn-DE\n", "icu-locale: en-Latm1-US: InvalidSubtag: US cannot be there\n"),
+    ("maximize en-US-Latn de-1996-1996 e", "\n\n\n", "icu-locale: en-US-Latn: InvalidSubtag: Latn cannot be there\n"
+     "icu-locale: de-1996-1996: InvalidSubtag: 1996 cannot be there\nicu-locale: e: InvalidLanguage\n"),
     ("maximize de -- -x", "de-Latn-DE\n\n", "icu-locale: -x: InvalidLanguage\n"),
     ("parts en- de", "\nlanguage: de\n", "icu-locale: en-: InvalidSubtag\n"),
     ("name --in en en-", "\n", "icu-locale: en-: InvalidSubtag\n"),
     ("name --kind region --in en USA US", "\nUnited States\n", "icu-locale: USA: InvalidSubtag\n"),
     ("validate en-Latm1-US de-DD --json", '{"input": "en-Latm1-US", "refusal": "InvalidSubtag"}\n{"input": "de-DD", "answer": '
      '[{"kind": "region", "text": "DD", "status": "deprecated", "start": 3, "end": 5}]}\n',
-     "icu-locale: en-Latm1-US: InvalidSubtag\n"),
+     "icu-locale: en-Latm1-US: InvalidSubtag: US cannot be there\n"),
     ("menu --in en en- de", "de\tDeutsch\tGerman\n", "icu-locale: en-: InvalidSubtag\n"),
     ("maximize --json ''", '{"input": "", "refusal": "InvalidLanguage"}\n', "icu-locale: '': InvalidLanguage\n"),
     ("resolved --available de 'en en-' de-AT", "\nde-AT\n", "icu-locale: en en-: InvalidSubtag\n"),
@@ -88,6 +91,7 @@ WRONG = [
     ("menu de", "--in"), ("serve en", "--available"), ("serve --available 'en,e' en", "place 1"),
     ("maximize --json --tsv", "--tsv"), ("maximize --csv zh", "one word too many"), ("maximize --column 2", "--csv"),
     ("maximize --csv --column 0", "'0'"), ("version x", "--json"), ("version -- x", "--json"), ("maximize -x", "--json"),
+    ("regions", "--in"), ("regions --in xx", "no names"), ("regions --in en US", "--json"), ("regions --in en -- US", "--json"),
     ("name --in en --kind regions US", "variant"), ("name --in en --kind region --syntax posix US", "--kind region"),
     ("validate --in en de", "--syntax"), ("menu --in en --csv", "--tsv"), ("name --in xx de", "no names"), ("name --in e de", "no names"),
     ("serve --available '' en", "place 0"), ("'a\nb'", "a\\nb"), ("resolved en", "--available"),
@@ -118,6 +122,17 @@ class Answers(unittest.TestCase):
     def test_answers(self):
         for words, wanted in ANSWERS:
             self.assertEqual(called(words), (0, wanted, ""), words)
+
+    def test_regions(self):
+        status, written, told = called("regions --in de")
+        rows = [line.split("\t") for line in written.splitlines()]
+        self.assertEqual((status, told, len(rows)), (0, "", written.count("\n")))
+        self.assertLess({("AT", "Österreich"), ("US", "Vereinigte Staaten"), ("419", "Lateinamerika")}, set(map(tuple, rows)))
+        key = key_of("de")
+        self.assertEqual([name for _, name in rows], sorted((name for _, name in rows), key=lambda name: (key(name), name)))
+        self.assertEqual(called("regions --in de-XX --tsv")[1], "".join(f"{code}\t{name}\tok\n" for code, name in rows))
+        answers = [json.loads(line) for line in called("regions --in de --json")[1].splitlines()]
+        self.assertEqual(answers, [{"input": code, "answer": name} for code, name in rows])
 
     def test_refusals(self):
         for words, wanted, told in REFUSED:

@@ -29,6 +29,9 @@ pub fn texts_of(locales: &[&str]) -> Result<(Vec<u8>, Vec<u8>), Refusal> {
 // Where names begin in the text of tables.
 const NAMES: &str = "\"names\":";
 
+// What is before the rows of names of languages.
+const OF_LANGUAGES: &str = "\"language/";
+
 /// The text of the tables that have the names of scripts, regions and variants in a locale.
 pub fn parts_of(locale: &str) -> Result<Vec<u8>, Refusal> {
     let texts = with_columns(|columns| {
@@ -36,14 +39,55 @@ pub fn parts_of(locale: &str) -> Result<Vec<u8>, Refusal> {
         let names = columns[1].0.windows(NAMES.len()).rposition(|window| window == NAMES.as_bytes());
         columns[1].0 = &columns[1].0[names.unwrap_or_default()..];
         for (part, column) in columns {
-            let is_of = |name: &str| part.windows(name.len()).any(|window| window == name.as_bytes());
-            if !["script/", "region/", "variant/"].iter().any(|name| is_of(name)) {
+            if !["script/", "region/", "variant/"].iter().any(|name| has(part, name)) {
                 column.clear();
             }
         }
         Ok(())
     });
     texts.map(|(tables, _)| [b"{", tables.as_slice()].concat())
+}
+
+/// The text of the tables that have the names in a locale but for those of dialects, and that of their supplement.
+pub fn standard_of(locale: &str) -> Result<(Vec<u8>, Vec<u8>), Refusal> {
+    with_columns(|columns| {
+        put_some(&[locale], columns)?;
+        for (_, column) in columns.iter_mut().filter(|(part, _)| has(part, OF_LANGUAGES)) {
+            *column = without_dialects(column);
+        }
+        Ok(())
+    })
+}
+
+// Whether a part of a text has a word.
+fn has(part: &[u8], word: &str) -> bool {
+    part.windows(word.len()).any(|window| window == word.as_bytes())
+}
+
+// The row of a locale, `"en":{..}`, without the names of dialects, whose keys have `-`.
+fn without_dialects(row: &[u8]) -> Vec<u8> {
+    let Some(begin) = row.iter().position(|it| *it == b'{') else { return row.to_vec() };
+    let (named, members) = row.split_at(begin + 1);
+    let is_dialect = |member: &&[u8]| member.split(|it| *it == b'"').nth(1).is_some_and(|key| key.contains(&b'-'));
+    let kept: Vec<&[u8]> = members_of(members.strip_suffix(b"}").unwrap_or(members)).filter(|it| !is_dialect(it)).collect();
+    [named, &kept.join(&b','), b"}"].concat()
+}
+
+// The members of an object of JSON without its brackets, where each value is a text or a list: they are cut at the commas
+// that are in neither.
+fn members_of(object: &[u8]) -> impl Iterator<Item = &[u8]> {
+    let (mut is_text, mut is_behind_backslash, mut lists) = (false, false, 0);
+    object.split(move |byte| {
+        let is_plain = !std::mem::take(&mut is_behind_backslash);
+        match byte {
+            b'\\' => is_behind_backslash = is_plain,
+            b'"' if is_plain => is_text = !is_text,
+            b'[' if !is_text => lists += 1,
+            b']' if !is_text => lists -= 1,
+            _ => {}
+        }
+        *byte == b',' && !is_text && lists == 0
+    })
 }
 
 // The two texts, with the rows that are put in.

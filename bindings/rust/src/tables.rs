@@ -115,6 +115,12 @@ impl Tables {
         Tables::from_json_with(&tables, &supplement)
     }
 
+    // Those that name no dialects, in a locale that CLDR has.
+    pub(crate) fn cldr_standard(locale: &str) -> Result<Self, Refusal> {
+        let (tables, supplement) = data::standard_of(locale)?;
+        Tables::from_json_with(&tables, &supplement)
+    }
+
     // Those that name scripts, regions and variants alone, in a locale that CLDR has.
     pub(crate) fn cldr_parts(locale: &str) -> Result<Self, Refusal> {
         Tables::from_json(&data::parts_of(locale)?)

@@ -102,11 +102,48 @@ fn names_of_identifiers() {
         assert_eq!((name.to_string().as_str(), name.is_whole().is_err()), (wanted, is_raw), "{subject} in {locale}");
         assert_eq!(name.as_borrowed().to_string(), wanted);
     }
+    let nowhere = LanguageIdentifierDisplayName::try_new_light(locale!("tlh").into(), langid!("en"), Default::default());
+    assert_eq!(nowhere, Err(Refusal::NameMissing));
+}
+
+// What Intl.DisplayNames of Node.js 20 says of languages by its option languageDisplay, `dialect` and `standard`.
+#[test]
+fn names_of_dialects() {
+    if is_without_data() {
+        return;
+    }
+    let rows = [
+        ("en", "en-US", "American English", "English (United States)"),
+        ("en", "en-GB", "British English", "English (United Kingdom)"),
+        ("en", "de-AT", "Austrian German", "German (Austria)"),
+        ("en", "zh-Hant", "Traditional Chinese", "Chinese (Traditional)"),
+        ("en", "es-419", "Latin American Spanish", "Spanish (Latin America)"),
+        ("en", "sr-Latn-RS", "Serbian (Latin, Serbia)", "Serbian (Latin, Serbia)"),
+        ("en", "it", "Italian", "Italian"),
+        ("de", "de-AT", "\u{d6}sterreichisches Deutsch", "Deutsch (\u{d6}sterreich)"),
+        ("fr", "fr-CA", "fran\u{e7}ais canadien", "fran\u{e7}ais (Canada)"),
+        ("nl", "nl-BE", "Vlaams", "Nederlands (Belgi\u{eb})"),
+        ("ja", "zh-Hant", "\u{7e41}\u{4f53}\u{4e2d}\u{56fd}\u{8a9e}", "\u{4e2d}\u{56fd}\u{8a9e} (\u{7e41}\u{4f53}\u{5b57})"),
+        ("es", "es-MX", "espa\u{f1}ol de M\u{e9}xico", "espa\u{f1}ol (M\u{e9}xico)"),
+        ("sv", "en-AU", "australisk engelska", "engelska (Australien)"),
+    ];
+    for (locale, subject, dialect, standard) in rows {
+        let prefs = DisplayNamesPreferences::from(locale.parse::<Locale>().unwrap());
+        let shown = [(None, dialect), (Some(LanguageDisplay::Dialect), dialect), (Some(LanguageDisplay::Standard), standard)];
+        for (display, wanted) in shown {
+            let mut options = LanguageIdentifierDisplayNameOptions::default();
+            options.language_display = display;
+            let name = LanguageIdentifierDisplayName::try_new_heavy(prefs, subject.parse().unwrap(), options).unwrap();
+            assert_eq!(name.to_string(), wanted, "{subject} in {locale}, {display:?}");
+        }
+    }
     let mut options = LanguageIdentifierDisplayNameOptions::default();
     options.language_display = Some(LanguageDisplay::Standard);
-    let standard = LanguageIdentifierDisplayName::try_new_light(locale!("en").into(), langid!("en-US"), options);
-    assert_eq!(standard, Err(Refusal::Command));
-    let nowhere = LanguageIdentifierDisplayName::try_new_light(locale!("tlh").into(), langid!("en"), Default::default());
+    let menu = LanguageIdentifierDisplayName::try_new_menu_light(locale!("en").into(), langid!("zh-Hant"), options);
+    assert_eq!(menu.unwrap().to_string(), "Chinese, Mandarin (Traditional)");
+    let short = LanguageIdentifierDisplayName::try_new_short_heavy(locale!("en").into(), langid!("en-GB"), options);
+    assert_eq!(short.unwrap().to_string(), "English (UK)");
+    let nowhere = LanguageIdentifierDisplayName::try_new_light(locale!("tlh").into(), langid!("en"), options);
     assert_eq!(nowhere, Err(Refusal::NameMissing));
 }
 

@@ -9,7 +9,7 @@ from .._data import cldr_version, data_folder
 from .._refusals import LineRefused, NoCldr, Refused
 from .lines import (Table, Written, as_json, on_one_line, standard_input, standard_output, tell, tell_refusal, texts_of,
                     watched)
-from .tasks import Task, menu, task_of
+from .tasks import Task, menu, regions, task_of
 from .words import COMMANDS, NAME, Stopped, about_itself, read
 
 # Each text was answered; one was refused; the command could not go on.
@@ -61,6 +61,8 @@ def _run(words: Sequence[str]) -> int:
     calls()  # tells where there is no library
     if chosen.command == "menu":
         return _menu(chosen, Written(chosen.form, output))
+    if chosen.command == "regions":
+        return _regions(chosen, Written(chosen.form, output))
     with task_of(chosen) as task:
         if chosen.form in ("csv", "tsv-input"):
             table = Table(standard_input(), chosen.form, output)
@@ -86,7 +88,7 @@ def _answer(task: Task, chosen: Any, written: Written) -> int:
             answer = task(text)
         except LineRefused as refusal:
             status = LINE_REFUSED
-            tell_refusal(number, text, refusal.name)
+            tell_refusal(number, text, refusal)
             written.refusal(text, refusal.name, is_block=chosen.command == "parts")
         else:
             written.answer(text, answer)
@@ -113,7 +115,7 @@ def _answer_cell(task: Task, number: int, row: List[str], place: int) -> bool:
     try:
         row[place] = on_one_line(task(text))
     except LineRefused as refusal:
-        tell_refusal(number, text, refusal.name)
+        tell_refusal(number, text, refusal)
         return False
     return True
 
@@ -131,7 +133,14 @@ def _menu(chosen: Any, written: Written) -> int:
             written.answer(row.locale, f"{row.locale}\t{row.own}\t{row.name}")
     for place, refusal in refused.items():
         number, text = asked[place]
-        tell_refusal(number, text, refusal.name)
+        tell_refusal(number, text, refusal)
         if chosen.form:
             written.refusal(text, refusal.name)
     return LINE_REFUSED if refused else DONE
+
+
+def _regions(chosen: Any, written: Written) -> int:
+    """Writes the regions that have a name in a language."""
+    for code, name in regions(chosen.language):
+        written.answer(code, name if chosen.form else f"{code}\t{name}")
+    return DONE

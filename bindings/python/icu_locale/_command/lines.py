@@ -9,7 +9,7 @@ import sys
 import time
 from typing import Any, BinaryIO, Dict, Iterable, Iterator, List, Optional, TextIO, Tuple, TypeVar
 
-from .._refusals import cut
+from .._refusals import LineRefused, cut
 from .tasks import Answer, Report
 from .words import NAME, Stopped
 
@@ -42,9 +42,11 @@ def tell(message: str) -> None:
             print(f"{NAME}: {printable(message)}", file=sys.stderr, flush=True)
 
 
-def tell_refusal(number: int, text: str, name: str) -> None:
-    """Why a text is refused."""
-    tell(f"{f'line {number}: ' if number else ''}{cut(printable(text)) or repr('')}: {name}")
+def tell_refusal(number: int, text: str, refusal: LineRefused) -> None:
+    """Why a text is refused, and which piece of it cannot be there, if that is one among others."""
+    piece = refusal.subtag or text
+    where = "" if piece == text or " " in piece else f": {cut(printable(piece))} cannot be there"
+    tell(f"{f'line {number}: ' if number else ''}{cut(printable(text)) or repr('')}: {refusal.name}{where}")
 
 
 def standard_input() -> BinaryIO:

@@ -5,7 +5,7 @@ from typing import Any, Callable, Dict, Iterable, Iterator, List, Mapping, Optio
 from .._codes import VALID
 from .._data import cldr_locales, in_chain
 from .._locale import Locale
-from .._menu import MenuRow
+from .._menu import MenuRow, key_of
 from .._refusals import InvalidList, LineRefused, NoCldr
 from .._switcher import NONE, Switcher
 from .._tables import Tables
@@ -142,3 +142,12 @@ def menu(texts: Iterable[str], language: str) -> Tuple[List[MenuRow], Dict[int, 
             except LineRefused as refusal:
                 refused[place] = refusal
         return tables.menu(kept, locale, fallback=True), refused
+
+
+def regions(language: str) -> List[Tuple[str, str]]:
+    """The regions that have a name in a language, each with it, in the order of the names."""
+    tables, locale = with_names(language)
+    with tables:
+        named = [(code, tables.region_name(code, locale).name) for code in tables.listed("regions", locale)]
+    key = key_of(locale)
+    return sorted(named, key=lambda row: (key(row[1]), row[1]))

@@ -39,11 +39,14 @@ COMMANDS: Dict[str, Command] = {
                         "--available en,de,fr 'de-CH-u-nu-latn fr'", "de-CH-u-nu-latn", "REQUESTS"),
     "menu": Command("The rows of a menu of languages: identifier, own name, and name in a language, in the order of the last.",
                     "--in de en de fr", "de\tDeutsch\tDeutsch\nen\tEnglish\tEnglisch\nfr\tfrançais\tFranzösisch"),
+    "regions": Command("The regions that have a name in a language, each with it, in the order of the names.", "--in de", "", ""),
     "version": Command("The version of the package, and where its data of CLDR is.", "", "", ""),
 }
 # The commands whose calls take a syntax, and those that name something in a language.
 WITH_SYNTAX = ("canonicalize", "maximize", "minimize", "parts", "validate", "name", "direction", "chain")
-WITH_NAMES = ("name", "menu")
+WITH_NAMES = ("name", "menu", "regions")
+# Those that are asked nothing but options.
+WITHOUT_TEXTS = ("regions", "version")
 # What may be named alone.
 KINDS = ("language", "script", "region", "variant")
 # Those that serve a reader.
@@ -127,7 +130,8 @@ def parser_of(name: str) -> Words:
     if name == "version":
         parser.add_argument("--json", dest="form", action="store_const", const="json", help="write JSON")
         return parser
-    parser.add_argument("texts", metavar=command.takes, nargs="*", help="without one, each line of standard input")
+    if name not in WITHOUT_TEXTS:
+        parser.add_argument("texts", metavar=command.takes, nargs="*", help="without one, each line of standard input")
     if name in WITH_NAMES:
         parser.add_argument("--in", dest="language", metavar="LOCALE", required=True, help="the language of the names")
     if name == "name":
@@ -141,7 +145,7 @@ def parser_of(name: str) -> Words:
         add_matching(parser)
     if name == "serve":
         parser.add_argument("--default", metavar="IDENTIFIER", help="what is served where nothing is near enough")
-    add_forms(parser, has_columns=name != "menu")
+    add_forms(parser, has_columns=name not in ("menu", "regions"))
     return parser
 
 
@@ -211,7 +215,7 @@ def read(words: Sequence[str]) -> Any:
     parser, asked = parser_of(words[0]), list(words[1:])
     end = asked.index("--") if "--" in asked else len(asked)
     chosen, wrong = parser.parse_known_intermixed_args(asked[:end])
-    if words[0] == "version":
+    if words[0] in WITHOUT_TEXTS:
         wrong += asked[end:]
     else:
         chosen.texts += asked[end + 1:]  # which may begin as options do

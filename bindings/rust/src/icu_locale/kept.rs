@@ -8,6 +8,8 @@ use std::sync::{Mutex, OnceLock, PoisonError};
 pub enum Names {
     /// Those of whole identifiers.
     Whole,
+    /// The same but for those of dialects.
+    Standard,
     /// Those of scripts, regions and variants alone.
     Parts,
 }
@@ -27,6 +29,7 @@ pub fn named(locale: &'static str, names: Names) -> Result<&'static Tables, Refu
     }
     let tables = match names {
         Names::Whole => Tables::cldr(&[locale])?,
+        Names::Standard => Tables::cldr_standard(locale)?,
         Names::Parts => Tables::cldr_parts(locale)?,
     };
     let tables: &'static Tables = Box::leak(Box::new(tables));

@@ -12,8 +12,8 @@
 //! What differs: `new_common`, `tiny` and `light` have all of CLDR's data, whose version `cldr_version` tells; `locale!` and
 //! its like read their text when the program runs, and panic where it is none; keys and values of extensions are texts that
 //! were read; there are no constructors over a provider; a set of exemplar characters is asked by `contains`, `contains32`
-//! and `contains_str` alone; a name is a text, and `LanguageDisplay::Standard` is refused. Any call but those that only read
-//! a text panics where the crate was made without data.
+//! and `contains_str` alone; a name is a text. Any call but those that only read a text panics where the crate was made
+//! without data.
 pub mod exemplar_chars;
 mod extensions;
 mod forms;

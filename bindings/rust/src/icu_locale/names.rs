@@ -65,7 +65,7 @@ pub enum LanguageDisplay {
     /// Those of dialects too, as `Austrian German`.
     #[default]
     Dialect,
-    /// Those of languages alone, which is refused as `Command`: no call has it.
+    /// Those of languages alone, as `German (Austria)`.
     Standard,
 }
 
@@ -106,11 +106,12 @@ impl LanguageIdentifierDisplayName {
         options: LanguageIdentifierDisplayNameOptions,
         chain: Chain,
     ) -> Result<Self, DataError> {
-        if options.language_display == Some(LanguageDisplay::Standard) {
-            return Err(Refusal::Command);
-        }
         let locale = prefs.locale()?;
-        named(locale, Names::Whole)?.name_in(&subject.to_string(), locale, chain).map(LanguageIdentifierDisplayName)
+        let names = match options.language_display.unwrap_or_default() {
+            LanguageDisplay::Dialect => Names::Whole,
+            LanguageDisplay::Standard => Names::Standard,
+        };
+        named(locale, names)?.name_in(&subject.to_string(), locale, chain).map(LanguageIdentifierDisplayName)
     }
 
     /// The same, borrowed.
@@ -147,7 +148,7 @@ macro_rules! chains {
             ///
             /// # Errors
             ///
-            /// `NameMissing` where CLDR has no names in that language, `Command` for `LanguageDisplay::Standard`, `Memory`.
+            /// `NameMissing` where CLDR has no names in that language, `Memory`.
             pub fn $call(
                 prefs: DisplayNamesPreferences,
                 subject: LanguageIdentifier,
