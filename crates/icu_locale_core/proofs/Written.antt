@@ -21,15 +21,6 @@ use Rattle.icu_locale_core.specs.inner.Class.{is_member, written_case}
 use Rattle.icu_locale_core.specs.declared.classes.Class.{Class}
 use Rattle.icu_locale_core.proofs.Readings.{read_pieces-complete}
 
--- what begins with a longer list begins with its front
-pub front_of_front : {T E : Type 0} (old more middle new : List ℕ) → middle ≡ old ++ more → (r : Result T E)
-    → OnErr r (take (length middle) new ≡ middle) → OnErr r (take (length old) new ≡ old)
-front_of_front old more middle new is (Ok x) part = tt
-front_of_front old more middle new is (Err e) part =
-    let rest : List ℕ = drop (length middle) new in
-    let whole : new ≡ old ++ (more ++ rest) = sym (take-append-drop (length middle) new) ∙ ap (λ t. t ++ rest) (part ∙ is) ∙ append_assoc old more rest in
-    ap (take (length old)) whole ∙ take-append_seam old (more ++ rest)
-
 any_variant-lowercase : (ps : List (List ℕ)) → list_any is_variant (map lowercase ps) ≡ list_any is_variant ps
 any_variant-lowercase [] = refl
 any_variant-lowercase (p ∷ ps) = λ i. is_member-lowercase Variant p i || any_variant-lowercase ps i

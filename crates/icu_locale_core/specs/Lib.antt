@@ -9,6 +9,7 @@ pub mod Readings
 pub mod Sinks
 pub mod Subtag
 pub mod TextSet
+pub mod TextSinks
 pub mod Value
 pub mod inner
 pub mod laws

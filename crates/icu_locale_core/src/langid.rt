@@ -1,6 +1,5 @@
 //! Identifiers: a language, a script, a region and variants.
-ghost use Rattle.std.specs.Prelude.{◌≡◌, ◌⊎◌, ◌≤◌, ◌++◌, codes, take, length, slice_index_or, [], true, Some, Err, IsOk, IfOk, IfErr, OnOk, OnErr};
-ghost use Rattle.std.specs.Fmt.{WritesOnOk};
+ghost use Rattle.std.specs.Prelude.{◌≡◌, ◌⊎◌, ◌≤◌, ◌++◌, codes, take, slice_index_or, [], true, Some, Err, IsOk, IfOk, IfErr, OnOk, OnErr};
 ghost use Rattle.std.specs.List.{flat_map, list_any};
 ghost use Rattle.std.specs.Str.{IsUtf8};
 ghost use Rattle.icu_locale_core.specs.Identifier.{IsIdentifier, ReadsIdentifier, written};
@@ -11,6 +10,7 @@ ghost use Rattle.icu_locale_core.specs.inner.Identifiers.{head};
 
 use crate::pieces::Pieces;
 use crate::reader::{read_front, read_identifier};
+use crate::text_sink::{TextSink, write_after_dash};
 use crate::{Language, ParseError, Region, Script, Variants};
 use std::alloc::{AllocError, Global};
 use std::fmt;
@@ -102,13 +102,28 @@ impl LanguageIdentifier {
         ensures unchanged { OnErr result (text.new.items ≡ text.old.items) }
     {
         let before = text.as_slice().len();
-        match append_parts(self, text) {
+        match self.write_to(text) {
             Ok(()) => Ok(()),
             Err(_) => {
                 text.truncate(before);
                 Err(ParseError::Memory)
             }
         }
+    }
+
+    /// Writes the written form to a sink.
+    ///
+    /// # Errors
+    ///
+    /// That of the sink, which has a part of the text then.
+    #[inline]
+    pub fn write_to<S: TextSink>(&self, sink: &mut S) -> fmt::Result
+        ensures { S.Writes sink.old (written self.now) result sink.new }
+    {
+        let mut buffer = [0; 14];
+        let end = put_head(self, &mut buffer);
+        sink.write_front(&buffer, end)?;
+        write_variants(&self.variants, sink)
     }
 
     /// An equal identifier. Without variants it takes no memory.
@@ -134,27 +149,18 @@ impl fmt::Display for LanguageIdentifier {
     ghost output = { λ x. Some (written x) };
 
     fn fmt<W: fmt::Write>(&self, f: &mut fmt::Formatter<W>) -> fmt::Result {
-        write_head(self, f)?;
-        write_variants(&self.variants, f)
+        self.write_to(f)
     }
-}
-
-// The written form, appended to a text.
-#[inline]
-fn append_parts(x: &LanguageIdentifier, text: &mut Vec<u8>) -> Result<(), AllocError>
-    ensures appended { OnOk result (text.new.items ≡ text.old.items ++ written x.now) }
-    ensures part { OnErr result (take (length text.old.items) text.new.items ≡ text.old.items) }
-{
-    let mut buffer = [0; 14];
-    let end = put_head(x, &mut buffer);
-    append_front(text, &buffer, end)?;
-    append_variants(&x.variants, text)
 }
 
 // Appends the front of a buffer to a text. Where there is room for all of the buffer, it goes in one move of a fixed
 // size, and what follows the front is cut off again.
 #[inline(always)]
-fn append_front(text: &mut Vec<u8>, buffer: &[u8; 14], end: usize) -> Result<(), AllocError>
+pub(crate) fn append_front(
+    text: &mut Vec<u8>,
+    buffer: &[u8; 14],
+    end: usize,
+) -> Result<(), AllocError>
     requires { end ≤ 14 }
     ensures appended { OnOk result (text.new.items ≡ text.old.items ++ take end buffer.now) }
     ensures unchanged { OnErr result (text.new.items ≡ text.old.items) }
@@ -166,28 +172,6 @@ fn append_front(text: &mut Vec<u8>, buffer: &[u8; 14], end: usize) -> Result<(),
     text.extend_from_slice(buffer)?;
     text.truncate(before + end);
     Ok(())
-}
-
-// Each variant in rising order, with `-` before it, appended to a text.
-fn append_variants(variants: &Variants, text: &mut Vec<u8>) -> Result<(), AllocError>
-    ensures appended { OnOk result (text.new.items
-        ≡ text.old.items ++ flat_map (λ v. codes "-" ++ v) (rising variants.now)) }
-    ensures part { OnErr result (take (length text.old.items) text.new.items ≡ text.old.items) }
-{
-    for variant in variants.iter() {
-        text.push(b'-')?;
-        text.extend_from_slice(variant.as_str().as_bytes())?;
-    }
-    Ok(())
-}
-
-// The language, the script and the region in one run of bytes, with `-` between them.
-fn write_head<W: fmt::Write>(x: &LanguageIdentifier, f: &mut fmt::Formatter<W>) -> fmt::Result
-    ensures { WritesOnOk W.write_str_gives f.old result (head x.now) f.new }
-{
-    let mut buffer = [0; 14];
-    let end = put_head(x, &mut buffer);
-    f.write_str(unsafe { str::from_utf8_unchecked(&buffer[..end]) })
 }
 
 // Puts the language, the script and the region into a buffer, with `-` between them, and tells where they end.
@@ -208,19 +192,12 @@ fn put_head(x: &LanguageIdentifier, buffer: &mut [u8; 14]) -> usize
 }
 
 // Each variant in rising order, with `-` before it.
-fn write_variants<W: fmt::Write>(variants: &Variants, f: &mut fmt::Formatter<W>) -> fmt::Result
-    ensures { WritesOnOk W.write_str_gives f.old result
-        (flat_map (λ v. codes "-" ++ v) (rising variants.now)) f.new }
+fn write_variants<S: TextSink>(variants: &Variants, sink: &mut S) -> fmt::Result
+    ensures { S.Writes sink.old (flat_map (λ v. codes "-" ++ v) (rising variants.now))
+        result sink.new }
 {
     for variant in variants.iter() {
-        write_after_dash(variant.as_str(), f)?;
+        write_after_dash(variant.as_str(), sink)?;
     }
     Ok(())
-}
-
-pub(crate) fn write_after_dash<W: fmt::Write>(text: &str, f: &mut fmt::Formatter<W>) -> fmt::Result
-    ensures { WritesOnOk W.write_str_gives f.old result (codes "-" ++ text.now) f.new }
-{
-    f.write_str("-")?;
-    f.write_str(text)
 }

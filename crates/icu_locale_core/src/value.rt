@@ -4,7 +4,6 @@ ghost use Rattle.std.proofs.Common.{rules};
 ghost use Rattle.std.specs.Cmp.{partial_order_from_own_ties};
 ghost use Rattle.std.specs.Cmp.Lexicographic.{pointwise, slice_cmp};
 ghost use Rattle.std.specs.Cmp.Rules.{comparing};
-ghost use Rattle.std.specs.Fmt.{WritesOnOk};
 ghost use Rattle.std.specs.List.{list_all, flat_map};
 ghost use Rattle.std.specs.Ordering.{as_partial_cmp};
 ghost use Rattle.icu_locale_core.specs.Subtag.{is_subtag};
@@ -14,8 +13,8 @@ ghost use Rattle.icu_locale_core.specs.Cuts.{front, from, other_than};
 ghost use Rattle.icu_locale_core.specs.inner.Values.{pieces_kept};
 ghost use Rattle.icu_locale_core.specs.laws.TextSets.{piece_lists_ties};
 
-use crate::langid::write_after_dash;
 use crate::pieces::Pieces;
+use crate::text_sink::{TextSink, write_after_dash};
 use crate::{ParseError, Subtag};
 use std::alloc::{AllocError, Global};
 use std::cmp::Ordering;
@@ -232,15 +231,11 @@ impl fmt::Debug for Value {
 }
 
 // Each piece, with `-` before it.
-pub(crate) fn write_pieces<W: fmt::Write>(
-    pieces: &[Subtag],
-    f: &mut fmt::Formatter<W>,
-) -> fmt::Result
-    ensures { WritesOnOk W.write_str_gives f.old result
-        (flat_map (λ p. codes "-" ++ p) pieces.now) f.new }
+pub(crate) fn write_pieces<S: TextSink>(pieces: &[Subtag], sink: &mut S) -> fmt::Result
+    ensures { S.Writes sink.old (flat_map (λ p. codes "-" ++ p) pieces.now) result sink.new }
 {
     for piece in pieces {
-        write_after_dash(piece.as_str(), f)?;
+        write_after_dash(piece.as_str(), sink)?;
     }
     Ok(())
 }
