@@ -6,14 +6,13 @@ use Rattle.std.proofs.lemmas.List.Concat.{flat_map-append}
 use Rattle.icu_locale_core.specs.Keywords.{written_keywords}
 use Rattle.icu_locale_core.specs.TextSet.{text_cmp}
 use Rattle.icu_locale_core.specs.Cuts.{Block}
-use Rattle.icu_locale_extensions.specs.Rows.{flat, dashed}
+use Rattle.icu_locale_core.specs.Value.{written_value}
+use Rattle.std.proofs.lemmas.Bool.{false≢true}
+use Rattle.icu_locale_extensions.specs.Extensions.{any_piece}
+use Rattle.icu_locale_extensions.specs.Rows.{flat, dashed, dashed_row}
 
 pub dashed-append : (ps qs : List (List ℕ)) → dashed (ps ++ qs) ≡ dashed ps ++ dashed qs
 dashed-append ps qs = flat_map-append (λ p. codes "-" ++ p) ps qs
-
--- a row, with `-` before its mark and each of its pieces
-abbrev pub dashed_row : Block → List ℕ
-dashed_row row = dashed (row.0 ∷ row.1)
 
 -- a row where it is written, and nothing where it is not
 abbrev pub dashed_where : (Block → Bool) → Block → List ℕ
@@ -43,3 +42,8 @@ dashed-filter test (row ∷ rows) = by (test row) (dashed-filter test rows)
 -- keywords are rows
 pub dashed-keywords : (rows : List Block) → written_keywords rows ≡ dashed (flat rows)
 dashed-keywords rows = dashed-flat rows
+
+-- pieces in one text, with `-` before it
+pub dashed_pieces : (ps : List (List ℕ)) → any_piece ps ≡ true → codes "-" ++ written_value ps ≡ dashed ps
+dashed_pieces [] some = absurd (false≢true some)
+dashed_pieces (p ∷ ps) some = refl

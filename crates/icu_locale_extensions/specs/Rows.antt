@@ -13,6 +13,10 @@ flat rows = flat_map (λ row. row.0 ∷ row.1) rows
 abbrev pub dashed : List (List ℕ) → List ℕ
 dashed ps = flat_map (λ p. codes "-" ++ p) ps
 
+-- a row, with `-` before its mark and each of its pieces
+abbrev pub dashed_row : Block → List ℕ
+dashed_row row = dashed (row.0 ∷ row.1)
+
 -- the extensions before t
 abbrev pub below_t : List Block → List Block
 below_t others = filter (λ e. is_lt (text_cmp e.0 (codes "t"))) others

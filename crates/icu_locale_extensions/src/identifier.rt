@@ -1,18 +1,15 @@
 //! Locale identifiers.
-ghost use Rattle.std.specs.Prelude.{◌≡◌, ◌++◌, codes, true, [], None, Some, IsOk, IfOk, IfErr, IfSome, OnOk, OnErr};
-ghost use Rattle.std.specs.Fmt.{WritesOnOk};
+ghost use Rattle.std.specs.Prelude.{◌≡◌, ◌++◌, [], None, Some, IsOk, IfOk, IfErr, IfSome, OnOk, OnErr};
 ghost use Rattle.icu_locale_core.specs.Identifier.{IsIdentifier};
 ghost use Rattle.icu_locale_extensions.specs.Extensions.{any_piece, ArePieces};
-ghost use Rattle.icu_locale_extensions.specs.Locales.{IsLocaleIdentifier, TakesNoMemory, written, marked, marked_if_any, transform_pieces, unicode_pieces};
-ghost use Rattle.icu_locale_extensions.specs.Rows.{dashed};
+ghost use Rattle.icu_locale_extensions.specs.Locales.{IsLocaleIdentifier, TakesNoMemory, written, transform_pieces, unicode_pieces};
 
-use crate::appending::append_extensions;
 use crate::attributes::Attributes;
 use crate::fields::Fields;
-use crate::lower::write_lower_if_any;
-use crate::others::{Others, write_above_t, write_below_t};
-use crate::texts::{Subtags, write_after_dash};
-use icu_locale_core::{LanguageIdentifier, Locale, ParseError};
+use crate::others::Others;
+use crate::texts::Subtags;
+use crate::writing::write_extensions;
+use icu_locale_core::{LanguageIdentifier, Locale, ParseError, TextSink};
 use std::alloc::Global;
 use std::fmt;
 
@@ -90,14 +87,26 @@ impl LocaleIdentifier {
         ensures unchanged { OnErr result (text.new.items ≡ text.old.items) }
     {
         let before = text.as_slice().len();
-        self.locale.id.append_to(text)?;
-        match append_extensions(self, text) {
+        match self.write_to(text) {
             Ok(()) => Ok(()),
             Err(_) => {
                 text.truncate(before);
                 Err(ParseError::Memory)
             }
         }
+    }
+
+    /// Writes the written form to a sink.
+    ///
+    /// # Errors
+    ///
+    /// That of the sink, which has a part of the text then.
+    #[inline]
+    pub fn write_to<S: TextSink>(&self, sink: &mut S) -> fmt::Result
+        ensures { S.Writes sink.old (written self.now) result sink.new }
+    {
+        self.locale.id.write_to(sink)?;
+        write_extensions(self, sink)
     }
 
     /// An equal locale identifier. Without variants, extensions and private use it takes no memory.
@@ -156,39 +165,8 @@ impl fmt::Display for LocaleIdentifier {
     ghost output = { λ x. Some (written x) };
 
     fn fmt<W: fmt::Write>(&self, f: &mut fmt::Formatter<W>) -> fmt::Result {
-        fmt::Display::fmt(&self.locale.id, f)?;
-        write_below_t(&self.others, f)?;
-        write_transform(self, f)?;
-        write_unicode(self, f)?;
-        write_above_t(&self.others, f)?;
-        write_private_use(&self.private_use, f)
+        self.write_to(f)
     }
-}
-
-// The transform extension, where it has a language or a field.
-fn write_transform<W: fmt::Write>(x: &LocaleIdentifier, f: &mut fmt::Formatter<W>) -> fmt::Result
-    ensures { WritesOnOk W.write_str_gives f.old result
-        (dashed (marked (codes "t") (transform_pieces x.now))) f.new }
-{
-    if !has_transform(x) {
-        return Ok(());
-    }
-    f.write_str("-t")?;
-    write_lower_if_any(&x.locale.extensions.transform.lang, f)?;
-    fmt::Display::fmt(&x.fields, f)
-}
-
-// The Unicode extension, where it has an attribute or a keyword.
-fn write_unicode<W: fmt::Write>(x: &LocaleIdentifier, f: &mut fmt::Formatter<W>) -> fmt::Result
-    ensures { WritesOnOk W.write_str_gives f.old result
-        (dashed (marked (codes "u") (unicode_pieces x.now))) f.new }
-{
-    if !has_unicode(x) {
-        return Ok(());
-    }
-    f.write_str("-u")?;
-    write_attributes(&x.attributes, f)?;
-    fmt::Display::fmt(&x.locale.extensions.unicode.keywords, f)
 }
 
 pub fn has_transform(x: &LocaleIdentifier) -> bool
@@ -201,32 +179,4 @@ pub fn has_unicode(x: &LocaleIdentifier) -> bool
     ensures { result ≡ any_piece (unicode_pieces x.now) }
 {
     !x.attributes.is_empty() || !x.locale.extensions.unicode.keywords.is_empty()
-}
-
-// Each attribute, with `-` before it.
-fn write_attributes<W: fmt::Write>(
-    attributes: &Attributes,
-    f: &mut fmt::Formatter<W>,
-) -> fmt::Result
-    ensures { WritesOnOk W.write_str_gives f.old result (dashed attributes.now) f.new }
-{
-    for attribute in attributes.iter() {
-        write_after_dash(attribute.as_str(), f)?;
-    }
-    Ok(())
-}
-
-// `x` and the pieces of private use, if there are any.
-fn write_private_use<W: fmt::Write>(
-    pieces: &Option<Subtags<1>>,
-    f: &mut fmt::Formatter<W>,
-) -> fmt::Result
-    ensures { WritesOnOk W.write_str_gives f.old result
-        (dashed (marked_if_any (codes "x") pieces.now)) f.new }
-{
-    let Some(pieces) = pieces else {
-        return Ok(());
-    };
-    f.write_str("-x-")?;
-    f.write_str(pieces.as_str())
 }

@@ -4,7 +4,6 @@ ghost use Rattle.std.proofs.Common.{rules};
 ghost use Rattle.std.specs.Cmp.{partial_order_from_own_ties};
 ghost use Rattle.std.specs.Cmp.Lexicographic.{pointwise, slice_cmp};
 ghost use Rattle.std.specs.Cmp.Rules.{comparing};
-ghost use Rattle.std.specs.Fmt.{WritesOnOk};
 ghost use Rattle.std.specs.List.{list_all};
 ghost use Rattle.std.specs.Ordering.{as_partial_cmp};
 ghost use Rattle.icu_locale_core.specs.Identifier.{pieces};
@@ -17,7 +16,7 @@ ghost use Rattle.icu_locale_extensions.specs.Extensions.{any_piece, is_piece, ar
 ghost use Rattle.icu_locale_extensions.specs.Rows.{dashed};
 ghost use Rattle.icu_locale_extensions.specs.inner.Texts.{IsPiecesText, spelled};
 
-use crate::appending::append_lower;
+use crate::writing::write_lower;
 use icu_locale_core::{ParseError, Pieces};
 use std::alloc::{AllocError, Global};
 use std::cmp::Ordering;
@@ -136,7 +135,7 @@ impl<const LOW: usize> Subtags<LOW> {
             return Err(ParseError::InvalidSubtag);
         }
         let before = self.text.len();
-        match append_lower(piece, &mut self.text) {
+        match write_lower(piece, &mut self.text) {
             Ok(()) => Ok(()),
             Err(_) => {
                 self.text.truncate(before);
@@ -237,14 +236,6 @@ fn compared(left: Pieces<'_>, mut right: Pieces<'_>) -> Ordering
         Some(_) => Ordering::Less,
         None => Ordering::Equal,
     }
-}
-
-// A text with `-` before it.
-pub(crate) fn write_after_dash<W: fmt::Write>(text: &str, f: &mut fmt::Formatter<W>) -> fmt::Result
-    ensures { WritesOnOk W.write_str_gives f.old result (codes "-" ++ text.now) f.new }
-{
-    f.write_str("-")?;
-    f.write_str(text)
 }
 
 // Whether each piece has low to 8 letters or digits.

@@ -23,7 +23,7 @@ pieces-preserved c =
       read = c.pieces.invariant.read ∙ key_next fields is_tkey field (λ x p ps. refl) (λ x. refl) x c.pieces.pieces k is
           ∙ ap (read_opened (Some (field k)) x) (sym c.next_field_key.ensures.rest) ∙ opened_taken (field k) x c.next_field_key.new.pieces (sym (first-front (is_piece 3) c.next_field_key.new.pieces) ∙ c.in_ok-value.ensures.some refl)
           ∙ (λ i. read_on fields [] (with_fields x ((ap (add_first text_cmp rows k) (sym c.in_ok-value.ensures.read)
-          ∙ sym c.in_ok-add.ensures.added) i))
+          ∙ sym c.in_ok-add.ensures.rows) i))
           (sym c.in_ok-value.ensures.rest i));
       rest = end_both c.read_front.new.pieces c.next_field_key.new.pieces c.args.pieces.now (end_from _ c.read_front.new.pieces c.next_field_key.new.pieces c.in_ok-value.ensures.rest)
           (end_both c.next_field_key.new.pieces c.pieces.pieces c.args.pieces.now (end_next is_tkey c.pieces.pieces c.next_field_key.new.pieces k is c.next_field_key.ensures.rest) c.pieces.invariant.rest);

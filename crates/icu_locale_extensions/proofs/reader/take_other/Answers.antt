@@ -1,4 +1,4 @@
-use Rattle.std.proofs.Common.{◌≡◌, ℕ, List, Option, [], Some, None, false, not, ◌&&◌, is_some, if◌then◌else◌, refl, ap, sym, ◌∙◌}
+use Rattle.std.proofs.Common.{◌≡◌, ℕ, List, Option, [], Some, None, true, false, inr, not, ◌&&◌, is_some, if◌then◌else◌, refl, ap, sym, ◌∙◌}
 use Rattle.std.specs.Prelude.{option_copied}
 use denote.Ref.{Bor}
 use Rattle.icu_locale_core.specs.Maps.{value_at}
@@ -27,8 +27,18 @@ returns-clause-read c =
     (λ i. read_opened (if sym e.accepted i && not ((ap there (sym e.read) ∙ fresh) i) then Some (other (sym e.read i)) else None) x ps)
     ∙ opened_taken (other s) x ps (sym (first-front (is_piece 2) ps) ∙ c.in_ok-value.ensures.some refl)
     ∙ (λ i. read_on whole [] (with_others x ((ap (add_first text_cmp x.others s) (sym c.in_ok-value.ensures.read)
-    ∙ sym c.in_ok-add.ensures.added) i))
+    ∙ sym c.in_ok-add.ensures.rows) i))
     (sym c.in_ok-value.ensures.rest i))
 
 pub returns-clause-rest : goal.returns-clause-rest
 returns-clause-rest c = end_from _ c.read_front.new.pieces c.args.pieces.now c.in_ok-value.ensures.rest
+
+-- the singleton is there
+pub returns-then-is_some-clause-read : goal.returns-then-is_some-clause-read
+returns-then-is_some-clause-read c =
+    let x = c.args.x.now in
+    let s = c.in-Some.singleton in
+    let e = c.in-Some.ensures in
+    let there = λ (k : List ℕ). is_some (value_at text_cmp x.others k) in
+    let known : there s ≡ true = ap is_some (sym c.get.ensures) ∙ is_some-copied c.get.result ∙ sym c.is_some.ensures ∙ c.if-is_some.true in
+    inr (λ i. read_opened (if sym e.accepted i && not ((ap there (sym e.read) ∙ known) i) then Some (other (sym e.read i)) else None) x c.args.pieces.now)

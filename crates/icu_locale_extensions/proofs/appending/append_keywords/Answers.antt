@@ -1,5 +1,0 @@
-use Rattle.icu_locale_extensions.proofs.Grown.{front_of, on_err}
-use Rattle.icu_locale_extensions.proofs.appending.append_keywords.Goals as goal
-
-pub returns-in_err-append_keyword-clause-part : goal.returns-in_err-append_keyword-clause-part
-returns-in_err-append_keyword-clause-part c = on_err _ (front_of _ _ _ _ c.loop-key.invariant.wrote c.in_err-append_keyword.ensures.part)

@@ -1,0 +1,5 @@
+use Rattle.icu_locale_core.specs.laws.Classes.{part_variant}
+use Rattle.icu_locale_extensions.proofs.writing.write_variants.Goals as goal
+
+pub write_lower-requires : goal.write_lower-requires
+write_lower-requires g c = rw (c.as_bytes.ensures.value, c.as_str.ensures.text) (part_variant c.in-Some.variant c.as_str.ensures.known.member).plain
