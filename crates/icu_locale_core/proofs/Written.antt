@@ -1,8 +1,6 @@
 -- What is written spells the identifier and no other, and without variants has no piece that is one.
-use Rattle.std.proofs.Common.{◌≡◌, ℕ, List, ◌++◌, take, drop, length, ap, sym, ◌∙◌, append_assoc, Result, Ok, Err, OnErr, true, false, ◌||◌, [], ◌∷◌}
+use Rattle.std.proofs.Common.{◌≡◌, ℕ, List, ◌++◌, length, ap, sym, ◌∙◌, Ok, true, false, ◌||◌, [], ◌∷◌}
 use Rattle.std.proofs.Common.{map, Option, Some, None, IfSome, refl, ◌≤◌, arith, codes, subst, append-nil}
-use Rattle.std.proofs.Math.Seq.{take-append_seam}
-use Rattle.std.proofs.lemmas.List.{take-append-drop}
 use Rattle.std.specs.Option.{option_to_list}
 use Rattle.std.specs.List.{list_any, flat_map, join_by, All, Contains}
 use Rattle.std.proofs.lemmas.Bool.{false≢true, false_from_ne_true, and_parts}

@@ -1,6 +1,7 @@
 -- Identifiers and their texts (UTS #35 Part 1, section 3.1, unicode_language_id), and why a text is refused.
 use Rattle.std.specs.Prelude.{◌≡◌, ◌⊎◌, ◌↔◌, ℕ, Bool, ◌||◌, ◌==◌, true, false, IsTrue, codes, List, [], ◌∷◌, ◌++◌, length, slice_index_or, map}
-use Rattle.std.specs.Prelude.{IfSome, Result, Ok, Err, IfOk}
+use Rattle.std.specs.Prelude.{IfSome, Option, Some, None, Result, Ok, Err, IfOk}
+use denote.Ref.{Bor}
 use Rattle.std.specs.Option.{option_to_list}
 use Rattle.std.specs.List.{slice_split, list_any, join_by}
 use Rattle.icu_locale_core.specs.Subtag.{is_language, is_variant, lowercase, IsLanguage, IsScript, IsRegion, IsVariant}
@@ -16,6 +17,11 @@ is_separator c = (c == 45) || (c == 95)
 -- a text cut at every separator
 abbrev pub pieces : List ℕ → List (List ℕ)
 pieces t = slice_split is_separator t
+
+-- those of a text, none if it is absent
+abbrev pub pieces_if_any : Option (Bor (List ℕ)) → List (List ℕ)
+pieces_if_any None = []
+pieces_if_any (Some t) = pieces t.now
 
 -- each subtag belongs to its class and is in its written case
 pub record IsIdentifier (x : LanguageIdentifier) : Type 0 where

@@ -29,9 +29,13 @@ pub record IsKeyword (row : List ℕ × List (List ℕ)) : Type 0 where
   pub key : IsKey row.0
   pub value : IsValue row.1
 
--- a key and each piece of its value, with `-` before each
+-- the text of a key and each piece of a value, with `-` before each
+abbrev pub written_row : {K V : Type 0} → (K → List ℕ) → (V → List (List ℕ)) → K × V → List ℕ
+written_row text pieces row =
+    (codes "-" ++ text row.0) ++ flat_map (λ p. codes "-" ++ p) (pieces row.1)
+
 abbrev pub written_keyword : List ℕ × List (List ℕ) → List ℕ
-written_keyword row = (codes "-" ++ row.0) ++ flat_map (λ p. codes "-" ++ p) row.1
+written_keyword row = written_row (λ k. k) (λ v. v) row
 
 abbrev pub written_keywords : KeywordRows → List ℕ
 written_keywords rows = flat_map written_keyword rows

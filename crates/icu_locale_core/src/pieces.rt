@@ -1,9 +1,9 @@
 //! The pieces of a text, cut at every `-` and `_`.
-ghost use Rattle.std.specs.Prelude.{◌≡◌, ◌∷◌, [], List, ℕ, MatchOption};
+ghost use Rattle.std.specs.Prelude.{◌≡◌, ◌∷◌, [], List, ℕ, IfSome, MatchOption};
 ghost use Rattle.std.specs.Iterator.{YieldsFirstRef, item_count};
-ghost use Rattle.std.specs.List.{position};
-ghost use Rattle.icu_locale_core.specs.Identifier.{is_separator, pieces};
-ghost use Rattle.icu_locale_core.specs.inner.Identifiers.{pieces_if_any, first_of};
+ghost use Rattle.std.specs.List.{after_first, position};
+ghost use Rattle.icu_locale_core.specs.Identifier.{is_separator, pieces, pieces_if_any};
+ghost use Rattle.icu_locale_core.specs.inner.Identifiers.{first_of};
 
 use std::marker::Model;
 
@@ -68,10 +68,11 @@ impl<'a> Iterator for Pieces<'a> {
     }
 }
 
-// The first piece of a text, and what follows its separator.
+/// The first piece of a text, and what follows its separator, if it has one. It takes no memory.
 #[inline(always)]
-fn cut(text: &[u8]) -> (&[u8], Option<&[u8]>)
-    ensures { pieces text.now ≡ result.0.now ∷ pieces_if_any result.1 }
+pub fn cut(text: &[u8]) -> (&[u8], Option<&[u8]>)
+    ensures pieces { pieces text.now ≡ result.0.now ∷ pieces_if_any result.1 }
+    ensures behind { IfSome result.1 (λ rest. rest.now ≡ after_first is_separator text.now) }
 {
     match separator(text) {
         Some(place) => {

@@ -1,4 +1,4 @@
-//! Maps from keys to values, each row of which is one of a kind and is written.
+//! Maps from keys to lists of pieces.
 ghost use Rattle.std.specs.Prelude.{◌≡◌, ◌↔◌, ◌&&◌, ◌++◌, ◌∷◌, [], IsTrue, IsSome, IsOk, IfOk, IfErr, OnOk, OnErr, Some, None, option_copied, List};
 ghost use Rattle.std.specs.BTreeMap.{insert_entry, is_at};
 ghost use Rattle.std.specs.Cmp.{on_equiv, and_equiv, on_per, and_per};
@@ -6,48 +6,71 @@ ghost use Rattle.std.specs.Cmp.Lexicographic.{pointwise, lists_equiv, lists_per}
 ghost use Rattle.std.specs.List.{All, flat_map};
 ghost use Rattle.std.specs.Map.{remove_entry};
 ghost use Rattle.icu_locale_core.specs.Maps.{IsSortedMap, FindsAlike, SetsOnly, add_first, value_at};
+ghost use Rattle.icu_locale_core.specs.Keywords.{written_row};
 
 use crate::ParseError;
 use crate::sorted_rows::{Rows, SortedRows};
-use crate::text_sink::TextSink;
+use crate::text_sink::{TextSink, write_after_dash};
 use std::alloc::Global;
 use std::cmp::Ord;
 use std::fmt;
 use std::marker::Model;
 
-/// The key of a row: what a row with it is, and how it is written.
-pub trait RowKey<V: Clone>: Ord {
+/// The key of a row: its text, and what a row with it is.
+pub trait RowKey<V: RowValue>: Ord {
     ghost use Rattle.std.specs.Prelude.{List, ℕ, ◌≡◌};
 
     ghost IsRow: { Self × V → Type 0 };
 
-    ghost written: { Self × V → List ℕ };
+    ghost text: { Self → List ℕ };
+
+    /// The text of the key. It takes no memory.
+    fn name(&self) -> &str
+        ensures { result.now ≡ text self.now };
 
     /// Tells only that a key and a value are a row. It takes no memory.
     fn known_with(&self, value: &V)
         ensures { IsRow (self.now, value.now) };
 
-    /// Writes the row to a sink.
+    ghost replaced: { (k l : Self) (v w : V) → IsRow (k, v) → IsRow (l, w) → IsRow (k, w) };
+}
+
+/// The value of a row: a list of pieces.
+pub trait RowValue: Clone {
+    ghost use Rattle.std.specs.Prelude.{List, ℕ, ◌≡◌, ◌++◌, codes};
+    ghost use Rattle.std.specs.List.{flat_map};
+    ghost use Rattle.icu_locale_core.specs.Value.{written_value};
+
+    ghost pieces: { Self → List (List ℕ) };
+
+    /// Writes each piece to a sink, with `-` before it.
     ///
     /// # Errors
     ///
     /// That of the sink, which has a part of the text then.
-    fn write_row<S: TextSink>(&self, value: &V, sink: &mut S) -> fmt::Result
-        ensures { S.Writes sink.old (written (self.now, value.now)) result sink.new };
+    fn write_pieces<S: TextSink>(&self, sink: &mut S) -> fmt::Result
+        ensures { S.Writes sink.old (flat_map (λ p. codes "-" ++ p) (pieces self.now))
+            result sink.new };
 
-    ghost replaced: { (k l : Self) (v w : V) → IsRow (k, v) → IsRow (l, w) → IsRow (k, w) };
+    /// Writes the pieces to a sink, with `-` between them.
+    ///
+    /// # Errors
+    ///
+    /// That of the sink, which has a part of the text then.
+    fn write_joined<S: TextSink>(&self, sink: &mut S) -> fmt::Result
+        ensures { S.Writes sink.old (written_value (pieces self.now)) result sink.new };
 
-    ghost copied: { (v w : V) → V.is_clone v w → w ≡ v };
+    ghost copied: { (v w : Self) → Self.is_clone v w → w ≡ v };
 }
 
 /// A finite map from keys to values. A contract sees its rows, a key and its value each, the keys rising.
 ///
 /// Only `set`, `add` and `try_clone` take memory.
-pub struct RowMap<K: RowKey<V>, V: Clone> {
+pub struct RowMap<K: RowKey<V>, V: RowValue> {
     map: SortedRows<K, V>,
 }
 
-impl<K: RowKey<V>, V: Clone> Model for RowMap<K, V> {
+impl<K: RowKey<V>, V: RowValue> Model for RowMap<K, V> {
     ghost Value = { List (K × V) };
 
     ghost view = { λ m. m.map };
@@ -55,7 +78,7 @@ impl<K: RowKey<V>, V: Clone> Model for RowMap<K, V> {
     ghost invariant = { λ m. All K.IsRow m.map };
 }
 
-impl<K: RowKey<V>, V: Clone> RowMap<K, V> {
+impl<K: RowKey<V>, V: RowValue> RowMap<K, V> {
     /// The map without rows.
     pub fn new(alloc: Global) -> Self
         ensures { result ≡ [] }
@@ -159,22 +182,35 @@ impl<K: RowKey<V>, V: Clone> RowMap<K, V> {
         self.map.iter()
     }
 
-    /// Writes each row to a sink.
+    /// Writes each key and each piece of its value to a sink, with `-` before it.
     ///
     /// # Errors
     ///
     /// That of the sink, which has a part of the text then.
     pub fn write_to<S: TextSink>(&self, sink: &mut S) -> fmt::Result
-        ensures { S.Writes sink.old (flat_map K.written self.now) result sink.new }
+        ensures { S.Writes sink.old (flat_map (written_row K.text V.pieces) self.now)
+            result sink.new }
     {
         for row in self.map.as_slice() {
-            row.0.write_row(&row.1, sink)?;
+            write_row(row, sink)?;
         }
         Ok(())
     }
 }
 
-impl<K: RowKey<V> + Copy, V: Clone> RowMap<K, V> {
+/// Writes the key of a row and each piece of its value to a sink, with `-` before it.
+///
+/// # Errors
+///
+/// That of the sink, which has a part of the text then.
+pub fn write_row<K: RowKey<V>, V: RowValue, S: TextSink>(row: &(K, V), sink: &mut S) -> fmt::Result
+    ensures { S.Writes sink.old (written_row K.text V.pieces row.now) result sink.new }
+{
+    write_after_dash(row.0.name(), sink)?;
+    row.1.write_pieces(sink)
+}
+
+impl<K: RowKey<V> + Copy, V: RowValue> RowMap<K, V> {
     /// An equal map. Without rows it takes no memory.
     ///
     /// # Errors
@@ -192,13 +228,13 @@ impl<K: RowKey<V> + Copy, V: Clone> RowMap<K, V> {
 }
 
 // Written out, so that a caller drops it by one call at each exit.
-impl<K: RowKey<V> + Drop, V: Clone + Drop> Drop for RowMap<K, V> {
+impl<K: RowKey<V> + Drop, V: RowValue + Drop> Drop for RowMap<K, V> {
     fn drop(self) {
         let RowMap { map: _ } = self;
     }
 }
 
-impl<K: RowKey<V>, V: Clone + PartialEq> PartialEq for RowMap<K, V> {
+impl<K: RowKey<V>, V: RowValue + PartialEq> PartialEq for RowMap<K, V> {
     ghost eq = { pointwise (λ p q. K.eq p.0 q.0 && V.eq p.1 q.1) };
 
     ghost laws = { lists_per
@@ -209,20 +245,20 @@ impl<K: RowKey<V>, V: Clone + PartialEq> PartialEq for RowMap<K, V> {
     }
 }
 
-impl<K: RowKey<V>, V: Clone + Eq> Eq for RowMap<K, V> {
+impl<K: RowKey<V>, V: RowValue + Eq> Eq for RowMap<K, V> {
     ghost laws = { lists_equiv
         (and_equiv (on_equiv (λ p. p.0) K.Eq.laws) (on_equiv (λ p. p.1) V.Eq.laws)) };
 }
 
-impl<K: RowKey<V>, V: Clone> fmt::Display for RowMap<K, V> {
-    ghost output = { λ rows. Some (flat_map K.written rows) };
+impl<K: RowKey<V>, V: RowValue> fmt::Display for RowMap<K, V> {
+    ghost output = { λ rows. Some (flat_map (written_row K.text V.pieces) rows) };
 
     fn fmt<W: fmt::Write>(&self, f: &mut fmt::Formatter<W>) -> fmt::Result {
         self.write_to(f)
     }
 }
 
-impl<K: RowKey<V> + fmt::Debug, V: Clone + fmt::Debug> fmt::Debug for RowMap<K, V> {
+impl<K: RowKey<V> + fmt::Debug, V: RowValue + fmt::Debug> fmt::Debug for RowMap<K, V> {
     fn fmt<W: fmt::Write>(&self, f: &mut fmt::Formatter<W>) -> fmt::Result {
         fmt::Debug::fmt(&self.map, f)
     }

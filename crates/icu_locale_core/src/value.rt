@@ -14,6 +14,7 @@ ghost use Rattle.icu_locale_core.specs.inner.Values.{pieces_kept};
 ghost use Rattle.icu_locale_core.specs.laws.TextSets.{piece_lists_ties};
 
 use crate::pieces::Pieces;
+use crate::row_map::RowValue;
 use crate::text_sink::{TextSink, write_after_dash};
 use crate::{ParseError, Subtag};
 use std::alloc::{AllocError, Global};
@@ -212,15 +213,29 @@ impl Ord for Value {
     }
 }
 
+impl RowValue for Value {
+    ghost pieces = { λ v. v };
+
+    fn write_pieces<S: TextSink>(&self, sink: &mut S) -> fmt::Result {
+        write_each(self.as_slice(), sink)
+    }
+
+    fn write_joined<S: TextSink>(&self, sink: &mut S) -> fmt::Result {
+        let Some((first, rest)) = self.as_slice().split_first() else {
+            return Ok(());
+        };
+        sink.write_text(first.as_str())?;
+        write_each(rest, sink)
+    }
+
+    ghost copied = { λ v w same. same };
+}
+
 impl fmt::Display for Value {
     ghost output = { λ v. Some (written_value v) };
 
     fn fmt<W: fmt::Write>(&self, f: &mut fmt::Formatter<W>) -> fmt::Result {
-        let Some((first, rest)) = self.as_slice().split_first() else {
-            return Ok(());
-        };
-        f.write_str(first.as_str())?;
-        write_pieces(rest, f)
+        self.write_joined(f)
     }
 }
 
@@ -231,7 +246,7 @@ impl fmt::Debug for Value {
 }
 
 // Each piece, with `-` before it.
-pub(crate) fn write_pieces<S: TextSink>(pieces: &[Subtag], sink: &mut S) -> fmt::Result
+fn write_each<S: TextSink>(pieces: &[Subtag], sink: &mut S) -> fmt::Result
     ensures { S.Writes sink.old (flat_map (λ p. codes "-" ++ p) pieces.now) result sink.new }
 {
     for piece in pieces {

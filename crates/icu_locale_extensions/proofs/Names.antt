@@ -20,16 +20,3 @@ module _ (p : ℕ → Bool) (t : List ℕ) where
 
   pub after_none : position p t ≡ None → [] ≡ after_first p t
   after_none none = let past = past_end none in sym (drop_all _ t (omega arith))
-
-  at_some : (n : ℕ) → position p t ≡ Some n → position_or_len p t ≡ n
-  at_some n at = by (nat_lt (position_or_len p t) (length t)) at
-    where
-      by : (b : Bool) → (cond b (Some (position_or_len p t)) None) ≡ Some n → position_or_len p t ≡ n
-      by true is = same_Some (position_or_len p t) n is
-      by false is = absurd (none-some n is)
-
-  pub before_some : (n : ℕ) → position p t ≡ Some n → take n t ≡ before_first p t
-  before_some n at = ap (λ k. take k t) (sym (at_some n at))
-
-  pub after_some : (n : ℕ) → position p t ≡ Some n → drop (n + 1) t ≡ after_first p t
-  after_some n at = ap (λ k. drop (k + 1) t) (sym (at_some n at))

@@ -10,14 +10,14 @@ use Rattle.std.proofs.lemmas.Bool.Decides.{nat_tests}
 use Rattle.std.proofs.Math.Bool.{and-false}
 use Rattle.std.proofs.lemmas.List.{length-map}
 use Rattle.std.proofs.lemmas.Slice.Eq.{bytes_eq-Decides}
-use Rattle.icu_locale_core.specs.Identifier.{is_separator, pieces}
+use Rattle.icu_locale_core.specs.Identifier.{is_separator, pieces, pieces_if_any}
 use Rattle.icu_locale_core.specs.Subtag.{lowercase}
 use Rattle.icu_locale_core.specs.Value.{written_value}
 use Rattle.icu_locale_core.specs.laws.Identifiers.{same_text, values_decide}
 use Rattle.icu_locale_extensions.specs.Extensions.{any_piece, is_singleton, is_x}
 use Rattle.icu_locale_extensions.specs.Syntaxes.{is_extended, is_private, is_root, legacy, preferred, root_text, same_pieces, tag_text, value_of}
 use Rattle.icu_locale_extensions.specs.Reader.{first_is}
-use Rattle.icu_locale_extensions.specs.inner.Lent.{pieces_of, und_before}
+use Rattle.icu_locale_extensions.specs.inner.Lent.{und_before}
 use Rattle.icu_locale_extensions.specs.inner.Texts.{spelled}
 use Rattle.icu_locale_extensions.proofs.Spellings.{any_piece-pieces, joined-spelled, pieces-spelled}
 
@@ -112,7 +112,7 @@ pub root_before : (p : List ℕ) (ps : List (List ℕ)) → any_piece ps ≡ tru
 root_before p [] some = absurd (false≢true some)
 root_before p (q ∷ ps) some = refl
 
-pub root_marks : (p : List ℕ) (behind : Option (Bor (List ℕ))) → is_root (p ∷ pieces_of behind) ≡ true
+pub root_marks : (p : List ℕ) (behind : Option (Bor (List ℕ))) → is_root (p ∷ pieces_if_any behind) ≡ true
     → IfSome behind (λ rest. first_is is_singleton (pieces rest.now) ≡ true)
 root_marks p None root = tt
 root_marks p (Some r) root =
@@ -130,7 +130,7 @@ tag_cut t ps cut = λ i. unwrap_or (preferred (cut i)) (if is_private (cut i) th
     else (if is_root (cut i) then root_text t else (if is_extended (cut i) then after_first is_separator t else t)))
 
 -- und in the place of the first piece
-und_first : (t first : List ℕ) (behind : Option (Bor (List ℕ))) → pieces t ≡ first ∷ pieces_of behind
+und_first : (t first : List ℕ) (behind : Option (Bor (List ℕ))) → pieces t ≡ first ∷ pieces_if_any behind
     → IfSome behind (λ rest. rest.now ≡ after_first is_separator t) → root_text t ≡ und_before behind
 und_first t first None cut rest =
     ap (λ ps. if length ps == 1 then codes "und" else codes "und-" ++ after_first is_separator t) cut
@@ -149,11 +149,11 @@ tag_extended t first ps cut none other no_root extended =
     ∙ (λ i. unwrap_or (none i) (if other i then codes "und-" ++ t else (if no_root i then root_text t else (if extended i then after_first is_separator t else t)))))
 
 -- root stands for und, alone or before what follows it
-pub tag_root : (t first : List ℕ) (behind : Option (Bor (List ℕ))) → pieces t ≡ first ∷ pieces_of behind
-    → IfSome behind (λ rest. rest.now ≡ after_first is_separator t) → preferred (first ∷ pieces_of behind) ≡ None
-    → is_x first ≡ false → is_root (first ∷ pieces_of behind) ≡ true → und_before behind ≡ tag_text t
+pub tag_root : (t first : List ℕ) (behind : Option (Bor (List ℕ))) → pieces t ≡ first ∷ pieces_if_any behind
+    → IfSome behind (λ rest. rest.now ≡ after_first is_separator t) → preferred (first ∷ pieces_if_any behind) ≡ None
+    → is_x first ≡ false → is_root (first ∷ pieces_if_any behind) ≡ true → und_before behind ≡ tag_text t
 tag_root t first behind cut rest none other root =
-    sym (tag_cut t (first ∷ pieces_of behind) cut
+    sym (tag_cut t (first ∷ pieces_if_any behind) cut
     ∙ (λ i. unwrap_or (none i) (if other i then codes "und-" ++ t
-    else (if root i then root_text t else (if is_extended (first ∷ pieces_of behind) then after_first is_separator t else t))))
+    else (if root i then root_text t else (if is_extended (first ∷ pieces_if_any behind) then after_first is_separator t else t))))
     ∙ und_first t first behind cut rest)

@@ -1,22 +1,22 @@
 //! The reader of tags of BCP 47 (RFC 5646).
 ghost use Rattle.std.specs.Prelude.{◌≡◌, ◌∷◌, ◌++◌, ◌&&◌, codes, is_some, IfSome, Some, true};
-ghost use Rattle.icu_locale_core.specs.Identifier.{pieces};
+ghost use Rattle.icu_locale_core.specs.Identifier.{pieces, pieces_if_any};
 ghost use Rattle.icu_locale_core.specs.Subtag.{has_length, is_alphabetic, is_language, lowercase};
 ghost use Rattle.icu_locale_core.specs.laws.Identifiers.{same_text};
 ghost use Rattle.icu_locale_extensions.specs.Extensions.{is_singleton};
 ghost use Rattle.icu_locale_extensions.specs.Reader.{first_is};
 ghost use Rattle.icu_locale_extensions.specs.Syntaxes.{has_row, is_extended, is_registered, is_root, tag_text, ReadsBy};
-ghost use Rattle.icu_locale_extensions.specs.inner.Lent.{pieces_of, und_before};
+ghost use Rattle.icu_locale_extensions.specs.inner.Lent.{und_before};
 ghost use Rattle.icu_locale_extensions.specs.inner.Tables.{rows_of};
 
-use crate::cuts::{cut, is_named, is_spelled};
+use crate::cuts::{is_named, is_spelled};
 use crate::extended_languages::EXTENDED_LANGUAGES;
 use crate::identifier::LocaleIdentifier;
 use crate::laws;
 use crate::legacy::preferred;
 use crate::reader::{read_behind, read_locale};
 use crate::syntax::Syntax;
-use icu_locale_core::{LanguageIdentifier, ParseError, Pieces};
+use icu_locale_core::{LanguageIdentifier, ParseError, Pieces, cut};
 use std::alloc::Global;
 
 impl LocaleIdentifier {
@@ -61,7 +61,7 @@ fn read_tag(alloc: Global, text: &[u8]) -> Result<LocaleIdentifier, ParseError>
 
 // Whether a tag is `root`, alone or before what a singleton begins.
 fn is_root(first: &[u8], behind: Option<&[u8]>) -> bool
-    ensures { result ≡ is_root (first.now ∷ pieces_of behind.entry) }
+    ensures { result ≡ is_root (first.now ∷ pieces_if_any behind.entry) }
 {
     match behind {
         Some(rest) => is_spelled(first, b"root") && is_singleton(rest),
@@ -99,7 +99,7 @@ fn read_after_und(alloc: Global, text: &[u8]) -> Result<LocaleIdentifier, ParseE
 
 // A tag of an extended language without its first piece.
 fn without_prefix<'a>(first: &[u8], behind: Option<&'a [u8]>) -> Option<&'a [u8]>
-    ensures told { is_some result ≡ is_extended (first.now ∷ pieces_of behind.entry) }
+    ensures told { is_some result ≡ is_extended (first.now ∷ pieces_if_any behind.entry) }
     ensures same { IfSome result (λ tag. behind.entry ≡ Some tag) }
 {
     let tag = behind?;

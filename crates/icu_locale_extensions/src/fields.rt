@@ -2,10 +2,9 @@
 ghost use Rattle.std.specs.Prelude.{◌≡◌, is_some, IfSome, List, ℕ, Some};
 ghost use Rattle.icu_locale_core.specs.Subtag.{lowercase};
 ghost use Rattle.icu_locale_extensions.specs.Extensions.{is_tkey, IsTkey, IsField};
-ghost use Rattle.icu_locale_extensions.specs.Rows.{dashed_row};
 
 use crate::texts::Subtags;
-use icu_locale_core::{RowKey, RowMap, TextSink, write_after_dash};
+use icu_locale_core::{RowKey, RowMap};
 use std::fmt;
 use std::marker::Model;
 
@@ -69,19 +68,16 @@ pub type Fields = RowMap<FieldKey, Subtags<3>>;
 impl RowKey<Subtags<3>> for FieldKey {
     ghost IsRow = { IsField };
 
-    ghost written = { dashed_row };
+    ghost text = { λ key. key };
+
+    fn name(&self) -> &str {
+        self.as_str()
+    }
 
     fn known_with(&self, value: &Subtags<3>) {
         let _ = self.as_str();
         let _ = value.as_str();
     }
 
-    fn write_row<S: TextSink>(&self, value: &Subtags<3>, sink: &mut S) -> fmt::Result {
-        write_after_dash(self.as_str(), sink)?;
-        write_after_dash(value.as_str(), sink)
-    }
-
     ghost replaced = { λ k l v w first second. record { key = first.key; value = second.value } };
-
-    ghost copied = { λ v w same. same };
 }

@@ -1,9 +1,8 @@
 //! The legacy tags of BCP 47, by their first pieces.
 ghost use Rattle.std.specs.Prelude.{◌≡◌, ◌∷◌};
 ghost use Rattle.std.specs.Option.{option_copied};
-ghost use Rattle.icu_locale_core.specs.Identifier.{pieces};
+ghost use Rattle.icu_locale_core.specs.Identifier.{pieces, pieces_if_any};
 ghost use Rattle.icu_locale_extensions.specs.Syntaxes.{preferred, same_pieces, value_of};
-ghost use Rattle.icu_locale_extensions.specs.inner.Lent.{pieces_of};
 ghost use Rattle.icu_locale_extensions.specs.inner.Tables.{rows_of};
 
 use crate::cuts::{is_named, is_spelled};
@@ -36,7 +35,7 @@ static BEHIND_ZH: [(&str, &str); 2] = [("min", "nan-x-zh-min"), ("min-nan", "nan
 
 // The value preferred to a legacy tag, by its first piece and what follows that.
 pub fn preferred(first: &[u8], behind: Option<&[u8]>) -> Option<&'static str>
-    ensures { option_copied result ≡ preferred (first.now ∷ pieces_of behind.entry) }
+    ensures { option_copied result ≡ preferred (first.now ∷ pieces_if_any behind.entry) }
 {
     let Some(behind) = behind else {
         return None;

@@ -4,10 +4,9 @@ ghost use Rattle.std.specs.Ordering.{is_lt};
 ghost use Rattle.icu_locale_core.specs.Subtag.{lowercase};
 ghost use Rattle.icu_locale_core.specs.TextSet.{text_cmp};
 ghost use Rattle.icu_locale_extensions.specs.Extensions.{is_other_singleton, IsOtherSingleton, IsOther};
-ghost use Rattle.icu_locale_extensions.specs.Rows.{dashed_row};
 
 use crate::texts::Subtags;
-use icu_locale_core::{RowKey, RowMap, TextSink, write_after_dash};
+use icu_locale_core::{RowKey, RowMap};
 use std::fmt;
 use std::marker::Model;
 
@@ -87,22 +86,19 @@ pub type Others = RowMap<Singleton, Subtags<2>>;
 impl RowKey<Subtags<2>> for Singleton {
     ghost IsRow = { IsOther };
 
-    ghost written = { dashed_row };
+    ghost text = { λ key. key };
+
+    fn name(&self) -> &str {
+        self.as_str()
+    }
 
     fn known_with(&self, value: &Subtags<2>) {
         let _ = self.as_str();
         let _ = value.as_str();
     }
 
-    fn write_row<S: TextSink>(&self, value: &Subtags<2>, sink: &mut S) -> fmt::Result {
-        write_after_dash(self.as_str(), sink)?;
-        write_after_dash(value.as_str(), sink)
-    }
-
     ghost replaced = { λ k l v w first second. record {
       singleton = first.singleton;
       pieces = second.pieces;
     } };
-
-    ghost copied = { λ v w same. same };
 }

@@ -17,7 +17,7 @@ ghost use Rattle.icu_locale_extensions.specs.Rows.{dashed};
 ghost use Rattle.icu_locale_extensions.specs.inner.Texts.{IsPiecesText, spelled};
 
 use crate::writing::write_lower;
-use icu_locale_core::{ParseError, Pieces};
+use icu_locale_core::{ParseError, Pieces, RowValue, TextSink, write_after_dash};
 use std::alloc::{AllocError, Global};
 use std::cmp::Ordering;
 use std::fmt;
@@ -203,6 +203,20 @@ impl<const LOW: usize> Ord for Subtags<LOW> {
     fn cmp(&self, other: &Self) -> Ordering {
         compared(self.iter(), other.iter())
     }
+}
+
+impl<const LOW: usize> RowValue for Subtags<LOW> {
+    ghost pieces = { λ ps. ps };
+
+    fn write_pieces<S: TextSink>(&self, sink: &mut S) -> fmt::Result {
+        write_after_dash(self.as_str(), sink)
+    }
+
+    fn write_joined<S: TextSink>(&self, sink: &mut S) -> fmt::Result {
+        sink.write_text(self.as_str())
+    }
+
+    ghost copied = { λ v w same. same };
 }
 
 impl<const LOW: usize> fmt::Display for Subtags<LOW> {

@@ -11,7 +11,7 @@ use crate::identifier::{LocaleIdentifier, has_transform, has_unicode};
 use crate::others::Others;
 use crate::texts::Subtags;
 use icu_locale_core::{
-    LanguageIdentifier, Region, RowKey, Script, TextSink, Variants, write_after_dash,
+    LanguageIdentifier, Region, Script, TextSink, Variants, write_after_dash, write_row,
 };
 use std::fmt;
 
@@ -32,7 +32,7 @@ fn write_below_t<S: TextSink>(others: &Others, sink: &mut S) -> fmt::Result
 {
     for row in others.as_slice() {
         if row.0.is_below_t() {
-            row.0.write_row(&row.1, sink)?;
+            write_row(row, sink)?;
         }
     }
     Ok(())
@@ -44,7 +44,7 @@ fn write_above_t<S: TextSink>(others: &Others, sink: &mut S) -> fmt::Result
 {
     for row in others.as_slice() {
         if !row.0.is_below_t() {
-            row.0.write_row(&row.1, sink)?;
+            write_row(row, sink)?;
         }
     }
     Ok(())

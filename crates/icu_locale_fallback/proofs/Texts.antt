@@ -2,9 +2,7 @@
 use Rattle.std.proofs.Common.{◌≡◌, ◌≢◌, ◌==◌, ◌++◌, ℕ, zero, suc, List, [], ◌∷◌, map, take, drop, length, codes, inl, inr, refl, ap, sym, ◌∙◌, subst, if◌then◌else◌, append_assoc, Result, Ok, Err, OnOk, OnErr}
 use Rattle.std.specs.Option.{option_map}
 use Rattle.std.specs.List.{flat_map}
-use Rattle.std.proofs.Math.Seq.{take-append_seam}
 use Rattle.std.proofs.lemmas.Bool.{cases_eq}
-use Rattle.std.proofs.lemmas.List.{take-append-drop}
 use Rattle.std.proofs.lemmas.Option.{slice_get-map}
 use Rattle.icu_locale_core.specs.Identifier.{written}
 use Rattle.icu_locale_core.specs.TextSet.{len}
@@ -21,19 +19,6 @@ use Rattle.icu_locale_fallback.proofs.Variants.{chain_plain, chain_variants, pla
 pub on_ok : {T E P Q : Type 0} (r : Result T E) → (P → Q) → OnOk r P → OnOk r Q
 on_ok (Ok x) f h = f h
 on_ok (Err e) f h = tt
-
-pub on_err : {T E P : Type 0} (r : Result T E) → P → OnErr r P
-on_err (Ok x) h = tt
-on_err (Err e) h = h
-
--- what begins with a longer list begins with its front
-pub front_of_front : {T E : Type 0} (old more middle new : List ℕ) → middle ≡ old ++ more → (r : Result T E)
-    → OnErr r (take (length middle) new ≡ middle) → OnErr r (take (length old) new ≡ old)
-front_of_front old more middle new is (Ok x) part = tt
-front_of_front old more middle new is (Err e) part =
-    let rest : List ℕ = drop (length middle) new in
-    let whole : new ≡ old ++ (more ++ rest) = sym (take-append-drop (length middle) new) ∙ ap (λ t. t ++ rest) (part ∙ is) ∙ append_assoc old more rest in
-    ap (take (length old)) whole ∙ take-append_seam old (more ++ rest)
 
 flat_map-plain : (ys : List DataLocale) → flat_map (λ y. codes " " ++ written y) (map plain ys) ≡ flat_map behind_space ys
 flat_map-plain [] = refl

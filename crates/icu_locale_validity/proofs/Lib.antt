@@ -1,5 +1,4 @@
 mod FirstFaults
-mod Grown
 mod Lies
 mod Ones
 mod Stands

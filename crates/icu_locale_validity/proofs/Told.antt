@@ -15,11 +15,6 @@ use Rattle.icu_locale_validity.specs.inner.Lines.{ending, line, lines, unlisted,
 use Rattle.icu_locale_validity.specs.declared.part.PartKind.TheVariants.{Attribute, Keyword, Field, Extension}
 use Rattle.icu_locale_validity.specs.declared.table.Validity.{Validity}
 
--- pieces with `-` before each are those with `-` between two, and one before the first
-pub dashed_joined : (ps : List (List ℕ)) → any_piece ps ≡ true → codes "-" ++ written_value ps ≡ flat_map (λ p. codes "-" ++ p) ps
-dashed_joined [] some = absurd (false≢true some)
-dashed_joined (p ∷ ps) some = refl
-
 -- ---- texts with a mark after each, and between two
 
 module _ {X : Type 0} (f : X → List ℕ) (s : List ℕ) where

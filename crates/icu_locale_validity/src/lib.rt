@@ -9,7 +9,6 @@ mod listed;
 mod part;
 mod place;
 mod report;
-mod rows;
 mod table;
 mod whole;
 

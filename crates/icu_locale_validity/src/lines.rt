@@ -7,9 +7,9 @@ ghost use Rattle.icu_locale_validity.specs.inner.Lines.{ending, line};
 ghost use Rattle.icu_locale_validity.specs.inner.Marks.{marks};
 
 use crate::place::{Behind, place_of};
-use crate::rows::{Named, Pieced};
 use crate::table::is_valid_status;
 use crate::{PartKind, Status};
+use icu_locale_core::{RowKey, RowValue};
 use itoa::Buffer;
 use std::alloc::AllocError;
 
@@ -37,7 +37,7 @@ pub fn append_code(
 }
 
 // Appends a key or a singleton with its pieces, if it is not valid, and a tab.
-pub fn append_row<K: Named, V: Pieced>(
+pub fn append_row<K: RowKey<V>, V: RowValue>(
     text: &[u8],
     behind: &Behind,
     kind: PartKind,
@@ -57,8 +57,10 @@ pub fn append_row<K: Named, V: Pieced>(
     append_kind(kind, report)?;
     let from = report.len();
     report.extend_from_slice(row.0.name().as_bytes())?;
-    row.1.append_pieces(report)?;
-    append_ending(text, behind, status, from, report)
+    match row.1.write_pieces(report) {
+        Ok(()) => append_ending(text, behind, status, from, report),
+        Err(_) => Err(AllocError),
+    }
 }
 
 // Appends the word of a kind, and a space.

@@ -2,7 +2,6 @@
 use Rattle.std.specs.Prelude.{ℕ, List, [], ◌++◌, codes, Option, Some, None, ◌∷◌}
 use denote.Ref.{Bor}
 use Rattle.icu_locale_core.specs.declared.langid.LanguageIdentifier.{LanguageIdentifier}
-use Rattle.icu_locale_core.specs.Identifier.{pieces}
 
 -- `-` and a subtag, if there is one
 abbrev pub after_dash : Option (List ℕ) → List ℕ
@@ -12,11 +11,6 @@ after_dash (Some t) = codes "-" ++ t
 -- the language, the script and the region
 abbrev pub head : LanguageIdentifier → List ℕ
 head x = (x.language ++ after_dash x.script) ++ after_dash x.region
-
--- those of a text, if one is left
-abbrev pub pieces_if_any : Option (Bor (List ℕ)) → List (List ℕ)
-pieces_if_any None = []
-pieces_if_any (Some t) = pieces t.now
 
 -- a piece that was found already comes first
 abbrev pub first_of : Option (Bor (List ℕ)) → List (List ℕ) → List (List ℕ)

@@ -1,6 +1,6 @@
 -- What look-ups find in rows whose keys rise, what a search finds, and what an edit at that place does.
 use Rattle.std.proofs.Common.{◌≡◌, List, [], ◌∷◌, slice_get, Some, refl, sym, ap, ◌∙◌, subst, ◌≢◌, false, if◌then◌else◌, ℕ, zero, suc, ◌+◌, ◌<◌}
-use Rattle.std.proofs.Common.{Bool, true, is_some, cond, length, get_or, set, None, Result, Ok, Err, MatchResult, ◌⊎◌, ⊎_elim, arith}
+use Rattle.std.proofs.Common.{Bool, true, is_some, cond, length, get_or, set, None, Result, Ok, Err, MatchResult, ⊎_elim, arith}
 use Rattle.std.specs.declared.cmp.Ordering.{Ordering}
 use Rattle.std.specs.declared.cmp.Ordering.TheVariants.{Less, Equal, Greater}
 use Rattle.std.specs.Ordering.{match_ordering, ordering_reverse, is_eq, is_lt}

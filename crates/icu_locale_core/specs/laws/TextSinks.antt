@@ -4,22 +4,32 @@ use Rattle.std.proofs.Math.Seq.{take-append_seam}
 use Rattle.std.proofs.lemmas.Bool.{false≢true}
 use Rattle.std.proofs.lemmas.Grind.{put_two}
 use Rattle.std.proofs.lemmas.List.{take-append-drop}
-use Rattle.std.specs.Fmt.{WritesOnOk, HasWritten}
+use Rattle.std.specs.Fmt.{WritesOnOk}
 use Rattle.std.specs.declared.fmt.Error.{Error}
 use Rattle.std.specs.declared.fmt.Formatter.{Formatter}
 use Rattle.icu_locale_core.specs.TextSinks.{AppendsOrKeeps}
 
 -- what begins with a longer list begins with its front
-pub front_of_front : {T E : Type 0} (old more middle new : List ℕ) → middle ≡ old ++ more
-    → (r : Result T E) → OnErr r (take (length middle) new ≡ middle)
-    → OnErr r (take (length old) new ≡ old)
-front_of_front old more middle new is (Ok x) part = tt
-front_of_front old more middle new is (Err e) part =
+pub front_of : (old more middle new : List ℕ) → middle ≡ old ++ more
+    → take (length middle) new ≡ middle → take (length old) new ≡ old
+front_of old more middle new is part =
     let rest : List ℕ = drop (length middle) new in
     let whole : new ≡ old ++ (more ++ rest) =
     sym (take-append-drop (length middle) new) ∙ ap (λ t. t ++ rest) (part ∙ is)
     ∙ append_assoc old more rest in
     ap (take (length old)) whole ∙ take-append_seam old (more ++ rest)
+
+-- what holds holds of a refusal too
+pub on_err : {T E P : Type 0} (r : Result T E) → P → OnErr r P
+on_err (Ok x) holds = tt
+on_err (Err e) holds = holds
+
+-- what a call leaves of what was there leaves what an earlier call left
+pub after_call : {T E : Type 0} (r : Result T E) (old more middle new : List ℕ)
+    → middle ≡ old ++ more → OnErr r (take (length middle) new ≡ middle)
+    → OnErr r (take (length old) new ≡ old)
+after_call (Ok x) old more middle new is part = tt
+after_call (Err e) old more middle new is part = front_of old more middle new is part
 
 -- ---- a list of bytes
 
@@ -38,7 +48,7 @@ appended_further s t u front rest (Ok x) first second = record {
 }
 appended_further s t u front rest (Err e) first second = record {
   appended = tt;
-  kept = front_of_front {T = Unit {0}} s front t u first.appended (Err e) second.kept;
+  kept = front_of s front t u first.appended second.kept;
 }
 
 pub appended_broken : (s t text other : List ℕ) (e f : Error)

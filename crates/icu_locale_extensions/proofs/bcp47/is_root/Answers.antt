@@ -5,7 +5,7 @@ use Rattle.icu_locale_core.specs.laws.Identifiers.{same_text}
 use Rattle.icu_locale_extensions.specs.Extensions.{is_singleton}
 use Rattle.icu_locale_extensions.specs.Reader.{first_is}
 use Rattle.icu_locale_extensions.specs.Syntaxes.{is_root}
-use Rattle.icu_locale_extensions.specs.inner.Lent.{pieces_of}
+use Rattle.icu_locale_core.specs.Identifier.{pieces_if_any}
 use Rattle.icu_locale_extensions.proofs.Spellings.{any_piece-pieces}
 use Rattle.icu_locale_extensions.proofs.Tags.{root_before}
 use Rattle.icu_locale_extensions.proofs.bcp47.is_root.Goals as goal
@@ -16,5 +16,5 @@ returns-then-is_spelled c =
     let rest = c.in-Some.rest.now in
     let named : same_text (lowercase first) (codes "root") ≡ true = sym c.is_spelled.ensures ∙ c.if-is_spelled.true in
     c.is_singleton.ensures
-    ∙ sym (ap (λ o. is_root (first ∷ pieces_of o)) c.in-Some.is ∙ root_before first (pieces rest) (any_piece-pieces rest)
+    ∙ sym (ap (λ o. is_root (first ∷ pieces_if_any o)) c.in-Some.is ∙ root_before first (pieces rest) (any_piece-pieces rest)
     ∙ ap (λ b. b && first_is is_singleton (pieces rest)) named)

@@ -4,7 +4,7 @@ use Rattle.std.specs.Option.{option_copied}
 use Rattle.icu_locale_core.specs.Identifier.{is_separator}
 use Rattle.icu_locale_extensions.specs.Syntaxes.{ReadsBy}
 use Rattle.icu_locale_extensions.specs.declared.syntax.Syntax.TheVariants.{Unicode}
-use Rattle.icu_locale_extensions.specs.inner.Lent.{pieces_of}
+use Rattle.icu_locale_core.specs.Identifier.{pieces_if_any}
 use Rattle.icu_locale_extensions.proofs.Tags.{root_marks, tag_extended, tag_root}
 use Rattle.icu_locale_extensions.proofs.bcp47.read_tag.Goals as goal
 
@@ -27,6 +27,6 @@ returns-in-Some-without_prefix c =
     let tag = c.in-Some-without_prefix.tag.now in
     let there : tag ≡ after_first is_separator c.args.text.now = rw c.in-Some-without_prefix.ensures.same at c.cut.ensures.behind in
     subst (λ t. ReadsBy Unicode t c.read_locale-in-Some-without_prefix.result)
-    (there ∙ tag_extended c.args.text.now first (pieces_of behind) c.cut.ensures.pieces (sym c.preferred.ensures ∙ ap option_copied c.in_default.is)
+    (there ∙ tag_extended c.args.text.now first (pieces_if_any behind) c.cut.ensures.pieces (sym c.preferred.ensures ∙ ap option_copied c.in_default.is)
     (sym c.is_named.ensures ∙ c.if-is_named.false) (sym c.is_root.ensures ∙ c.if-is_root.false) (sym c.without_prefix.ensures.told ∙ ap is_some c.in-Some-without_prefix.is))
     c.read_locale-in-Some-without_prefix.ensures

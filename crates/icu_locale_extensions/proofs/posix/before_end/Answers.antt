@@ -1,6 +1,7 @@
 use Rattle.std.proofs.Common.{sym, ◌∙◌}
 use Rattle.icu_locale_extensions.specs.Syntaxes.{ends_base}
-use Rattle.icu_locale_extensions.proofs.Names.{before_none, before_some}
+use Rattle.icu_locale_extensions.proofs.Names.{before_none}
+use Rattle.icu_locale_core.specs.laws.Cuts.{before_some}
 use Rattle.icu_locale_extensions.proofs.posix.before_end.Goals as goal
 
 pub returns-in-Some : goal.returns-in-Some

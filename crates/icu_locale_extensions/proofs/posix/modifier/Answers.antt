@@ -1,6 +1,7 @@
 use Rattle.std.proofs.Common.{sym, ◌∙◌}
 use Rattle.icu_locale_extensions.specs.Syntaxes.{marks_modifier}
-use Rattle.icu_locale_extensions.proofs.Names.{after_none, after_some}
+use Rattle.icu_locale_extensions.proofs.Names.{after_none}
+use Rattle.icu_locale_core.specs.laws.Cuts.{after_some}
 use Rattle.icu_locale_extensions.proofs.posix.modifier.Goals as goal
 
 pub returns-in-Some : goal.returns-in-Some

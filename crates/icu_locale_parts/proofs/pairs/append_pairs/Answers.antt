@@ -1,4 +1,4 @@
-use Rattle.icu_locale_parts.proofs.Grown.{front_of, on_err}
+use Rattle.icu_locale_core.specs.laws.TextSinks.{front_of, on_err}
 use Rattle.icu_locale_parts.proofs.pairs.append_pairs.Goals as goal
 
 pub returns-in_err-append_pair-clause-part : goal.returns-in_err-append_pair-clause-part

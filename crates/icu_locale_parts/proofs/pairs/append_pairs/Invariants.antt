@@ -5,4 +5,4 @@ use Rattle.icu_locale_parts.proofs.pairs.append_pairs.Given as goal
 
 abbrev pub invariant-loop-row : goal.invariant-loop-row
 invariant-loop-row g l = l.text.items ≡ l.initial.text.items
-    ++ flat_map (λ row. codes " " ++ (g.K.Named.text row.0 ++ (codes "=" ++ joined (g.V.Pieced.pieces row.1)))) (take l.row-index l.rest)
+    ++ flat_map (λ row. codes " " ++ (g.K.RowKey.text row.0 ++ (codes "=" ++ joined (g.V.RowValue.pieces row.1)))) (take l.row-index l.rest)

@@ -1,4 +1,4 @@
-use Rattle.icu_locale_validity.proofs.Grown.{front_of, on_err}
+use Rattle.icu_locale_core.specs.laws.TextSinks.{front_of, on_err}
 use Rattle.icu_locale_validity.proofs.faults.append_fields.Goals as goal
 
 pub returns-in_err-append_row-clause-part : goal.returns-in_err-append_row-clause-part

@@ -1,4 +1,4 @@
-use Rattle.icu_locale_validity.proofs.Grown.{after_call}
+use Rattle.icu_locale_core.specs.laws.TextSinks.{after_call}
 use Rattle.icu_locale_validity.proofs.faults.append_id.Goals as goal
 
 pub returns-clause-part : goal.returns-clause-part

@@ -1,8 +1,9 @@
 use Rattle.std.proofs.Common.{◌++◌, ap, sym, ◌∙◌, subst, append_assoc}
 use Rattle.icu_locale_core.specs.Identifier.{written}
+use Rattle.icu_locale_core.specs.laws.TextSinks.{after_call, on_err}
 use Rattle.icu_locale_fallback.specs.Chains.{inheritance}
 use Rattle.icu_locale_fallback.specs.inner.Listing.{behind_space, IsRestWritten}
-use Rattle.icu_locale_fallback.proofs.Texts.{on_ok, on_err, front_of_front, IsWritten-bare, IsWritten-behind}
+use Rattle.icu_locale_fallback.proofs.Texts.{on_ok, IsWritten-bare, IsWritten-behind}
 use Rattle.icu_locale_fallback.proofs.identifiers.IdentifierFallbackIterator.append_all.Goals as goal
 
 -- without variants the identifier is the first of the chain
@@ -15,13 +16,13 @@ returns-then-len-eq0-clause-appended c =
 
 pub returns-then-len-eq0-clause-part : goal.returns-then-len-eq0-clause-part
 returns-then-len-eq0-clause-part c =
-    front_of_front c.args.text.now.items (written c.args.self.now.current) c.append_to.new.text.items c.append_rest.new.text.items
-    c.in_ok-append_to.ensures.appended c.append_rest.result c.append_rest.ensures.part
+    after_call c.append_rest.result c.args.text.now.items (written c.args.self.now.current) c.append_to.new.text.items c.append_rest.new.text.items
+    c.in_ok-append_to.ensures.appended c.append_rest.ensures.part
 
 pub returns-in_err-append_locale-clause-part : goal.returns-in_err-append_locale-clause-part
 returns-in_err-append_locale-clause-part c =
-    front_of_front c.args.text.now.items (written c.args.self.now.current) c.append_to.new.text.items c.append_locale.new.text.items
-    c.in_ok-append_to.ensures.appended _ (on_err _ c.in_err-append_locale.ensures.part)
+    after_call _ c.args.text.now.items (written c.args.self.now.current) c.append_to.new.text.items c.append_locale.new.text.items
+    c.in_ok-append_to.ensures.appended (on_err _ c.in_err-append_locale.ensures.part)
 
 -- with variants the chain goes on after it
 pub returns-clause-appended : goal.returns-clause-appended
@@ -36,6 +37,6 @@ returns-clause-appended c =
 pub returns-clause-part : goal.returns-clause-part
 returns-clause-part c =
     let space = behind_space c.args.start.now in
-    front_of_front c.args.text.now.items (written c.args.self.now.current ++ space) c.append_locale.new.text.items c.append_rest-2.new.text.items
+    after_call c.append_rest-2.result c.args.text.now.items (written c.args.self.now.current ++ space) c.append_locale.new.text.items c.append_rest-2.new.text.items
     (c.in_ok-append_locale.ensures.appended ∙ (ap (λ t. t ++ space) c.in_ok-append_to.ensures.appended
-    ∙ append_assoc c.args.text.now.items (written c.args.self.now.current) space)) c.append_rest-2.result c.append_rest-2.ensures.part
+    ∙ append_assoc c.args.text.now.items (written c.args.self.now.current) space)) c.append_rest-2.ensures.part

@@ -1,5 +1,5 @@
 use Rattle.icu_locale_core.specs.laws.TextSinks.{refused_later}
-use Rattle.icu_locale_core.proofs.value.write_pieces.Goals as goal
+use Rattle.icu_locale_core.proofs.value.write_each.Goals as goal
 
 pub returns-in_err-write_after_dash : goal.returns-in_err-write_after_dash
 returns-in_err-write_after_dash g c =
