@@ -7,5 +7,4 @@ mod Sinks
 mod TextSets
 mod Values
 mod VariantLists
-mod Walks
 mod Written

@@ -1,4 +1,4 @@
--- Texts of letters and digits in lower case, and whether there is a piece.
+-- Whether there is a piece.
 use Rattle.std.proofs.Common.{◌≡◌, ◌<◌, ℕ, zero, suc, Bool, true, false, not, ◌||◌, List, [], ◌∷◌, ◌++◌, get_or, length, Option, None, Some}
 use Rattle.std.proofs.Common.{IsTrue, ◌↔◌, refl, ap, sym, arith}
 use Rattle.std.specs.Char.{is_ascii_alphanumeric}
@@ -11,15 +11,6 @@ use Rattle.icu_locale_core.specs.Cuts.{Block}
 use Rattle.icu_locale_extensions.specs.Extensions.{any_piece}
 use Rattle.icu_locale_extensions.specs.Locales.{lower_subtags}
 use Rattle.icu_locale_extensions.specs.Rows.{flat}
-
--- ---- letters and digits
-
-pub small_at : (t : List ℕ) (i : ℕ) → is_alphanumeric t ≡ true → i < length t → get_or t i 0 < 128
-small_at [] i is within = absurd (omega arith)
-small_at (c ∷ t) zero is within = grind (arith, nat_tests)
-small_at (c ∷ t) (suc i) is within = small_at t i (and_parts (is_ascii_alphanumeric c) (is_alphanumeric t) is).1 (omega arith)
-
--- ---- whether there is a piece
 
 pub any_piece-append : (ps qs : List (List ℕ)) → any_piece (ps ++ qs) ≡ (any_piece ps || any_piece qs)
 any_piece-append [] qs = refl

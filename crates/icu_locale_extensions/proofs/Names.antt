@@ -1,9 +1,9 @@
 -- Names of POSIX locales, cut at their marks.
-use Rattle.std.specs.Prelude.{◌≡◌, ℕ, ◌+◌, ◌≤◌, Bool, true, false, cond, nat_lt, List, [], length, take, drop, Some, None}
-use Rattle.std.proofs.Common.{refl, ap, sym, arith}
+use Rattle.std.specs.Prelude.{◌≡◌, ℕ, ◌≤◌, Bool, true, false, cond, nat_lt, List, [], length, Some, None}
+use Rattle.std.proofs.Common.{refl, sym, arith}
 use Rattle.std.specs.List.{before_first, after_first, position, position_or_len}
 use Rattle.std.proofs.lemmas.Bool.{ltb-false}
-use Rattle.std.proofs.lemmas.Option.{same_Some, none-some}
+use Rattle.std.proofs.lemmas.Option.{none-some}
 use Rattle.std.proofs.lemmas.List.{take_all, drop_all}
 
 module _ (p : ℕ → Bool) (t : List ℕ) where

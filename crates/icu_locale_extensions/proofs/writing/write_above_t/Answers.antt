@@ -1,4 +1,4 @@
-use Rattle.std.proofs.Common.{◌≡◌, ◌∙◌, take, subst, arith, Ok}
+use Rattle.std.proofs.Common.{◌≡◌, take, subst, arith, Ok}
 use Rattle.std.proofs.lemmas.Grind.{common_steps}
 use Rattle.std.specs.List.{flat_map}
 use Rattle.icu_locale_core.specs.laws.TextSinks.{refused_later}

@@ -1,4 +1,4 @@
-use Rattle.std.proofs.Common.{◌≡◌, ◌++◌, ◌∙◌, codes, subst, ap, sym, Ok}
+use Rattle.std.proofs.Common.{◌++◌, ◌∙◌, codes, subst, ap, sym, Ok}
 use Rattle.icu_locale_core.specs.Subtag.{lowercase}
 use Rattle.icu_locale_core.specs.laws.Classes.{part_language}
 use Rattle.icu_locale_core.specs.laws.TextSinks.{refused_later}
