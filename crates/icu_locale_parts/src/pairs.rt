@@ -29,7 +29,10 @@ pub fn append_pairs<K: RowKey<V>, V: RowValue>(
 }
 
 // A key or a singleton, `=` and its pieces.
-fn append_pair<K: RowKey<V>, V: RowValue>(row: &(K, V), text: &mut Vec<u8>) -> Result<(), AllocError>
+fn append_pair<K: RowKey<V>, V: RowValue>(
+    row: &(K, V),
+    text: &mut Vec<u8>,
+) -> Result<(), AllocError>
     ensures appended { OnOk result (text.new.items ≡ text.old.items
         ++ (K.text row.now.0 ++ (codes "=" ++ joined (V.pieces row.now.1)))) }
     ensures part { OnErr result (take (length text.old.items) text.new.items ≡ text.old.items) }
