@@ -1,6 +1,6 @@
 //! Each part of a locale identifier is looked at and changed.
 use icu_locale_extensions::{FieldKey, LocaleIdentifier, Singleton, Subtags};
-use std::alloc::Global;
+use std::alloc::{AllocError, Global};
 use std::process::Abort;
 use tests_shared::known::{key, language, subtag, value};
 
@@ -52,6 +52,39 @@ fn parts_are_changed(rt: HostRuntime) {
     x.append_to(&mut text).expect(&rt, "memory");
     let wanted = "fr-t-m0-ungegn-u-other-ca-buddhist-hc-h12-x-mine-yours";
     assert!(rt; text.as_slice() == wanted.as_bytes());
+}
+
+// An identifier with each extension that there may be is written alike to a list of bytes and by a formatter.
+#[test]
+fn sinks_have_the_same_text(rt: HostRuntime) {
+    let alloc = rt.alloc();
+    let mut x = whole(&rt, alloc);
+    for mark in "zyxwvutsrqponmlkjihgfedcba9876543210".as_bytes().chunks(1) {
+        if let Some(singleton) = Singleton::try_from_bytes(mark) {
+            let pieces = Subtags::try_from_str(alloc, "own").expect(&rt, "memory");
+            let _ = x.others.set(singleton, pieces).expect(&rt, "memory");
+        }
+    }
+    let mut bytes = Vec::new(alloc);
+    assert!(rt; x.write_to(&mut bytes).is_ok());
+    let mut wanted = Vec::new(alloc);
+    marked(&mut wanted, "en", "0123456789abcdefghijklmnopqrs").expect(&rt, "memory");
+    marked(&mut wanted, "-t-ja-m0-names-u-attr-hc-h12", "vwyz").expect(&rt, "memory");
+    marked(&mut wanted, "-x-two-own", "").expect(&rt, "memory");
+    assert!(rt; bytes.as_slice() == wanted.as_slice());
+    let shown = format!(in alloc; "{x}").expect(&rt, "memory");
+    assert!(rt; shown.as_bytes() == wanted.as_slice());
+}
+
+// A text, and `own` behind each of some marks.
+fn marked(wanted: &mut Vec<u8>, text: &str, marks: &str) -> Result<(), AllocError> {
+    wanted.extend_from_slice(text.as_bytes())?;
+    for mark in marks.as_bytes() {
+        wanted.extend_from_slice("-".as_bytes())?;
+        wanted.push(*mark)?;
+        wanted.extend_from_slice("-own".as_bytes())?;
+    }
+    Ok(())
 }
 
 // Pieces, one of which was put after the others. A piece that may not be there changes nothing.
