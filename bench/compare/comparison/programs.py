@@ -15,6 +15,10 @@ COMMON = Path(os.environ.get("CLDR", "/usr/share/unicode/cldr/common"))
 # Where Debian keeps the sources of crates and of Go's packages.
 CRATES = Path("/usr/share/cargo/registry")
 GO_SOURCES = Path("/usr/share/gocode")
+# The program that `make` builds, what `make c` leaves, and the Python that has Debian's packages.
+CLI = ROOT / "icu_locale_cli"
+OUT = ROOT / "out" / "c"
+PYTHON = os.environ.get("PYTHON", "/usr/bin/python3")
 COMMANDS = ["maximize", "minimize", "minimize-script", "canonicalize", "direction", "negotiate", "name"]
 NAMED_IN = "en"
 ACCEPTED = (0, 1)
@@ -73,15 +77,26 @@ def need(found, package):
         raise Stop(f"missing: Debian's package {package}")
 
 
+def need_cldr():
+    """Stops where CLDR is missing."""
+    need(COMMON.is_dir(), "unicode-cldr-core (or CLDR=FOLDER for its folder `common`)")
+
+
+def without(what, source):
+    """Says what is left out since it is not there, and where it is from."""
+    print(f"without {what}, whose figures are left out: {source}", file=sys.stderr)
+
+
 def check_packages(has_lines):
     """Stops where a package is missing that every comparison needs, or one of lines."""
-    need(not has_lines or COMMON.is_dir(), "unicode-cldr-core (or CLDR=FOLDER for its folder `common`)")
+    if has_lines:
+        need_cldr()
     need(not has_lines or shutil.which("rustc"), "rustc")
     need(shutil.which("g++"), "g++")
     need(Path("/usr/include/unicode/uloc.h").exists(), "libicu-dev")
     for word, package in (("valgrind", "valgrind"), ("node", "nodejs"), ("parallel", "parallel")):
         if not shutil.which(word) and (has_lines or word != "parallel"):
-            print(f"without {word}, whose figures are left out: Debian's package {package}", file=sys.stderr)
+            without(word, f"Debian's package {package}")
 
 
 def has_valgrind():
@@ -90,12 +105,18 @@ def has_valgrind():
 
 def this_program():
     """The program of this repository."""
-    path = Path(os.environ.get("PROGRAM", ROOT / "icu_locale_cli")).resolve()
+    path = Path(os.environ.get("PROGRAM", CLI)).resolve()
     if not path.exists():
         raise Stop(f"missing: {path}, which `make` builds (or PROGRAM=PATH)")
     if not says_its_usage(path):
         raise Stop(f"{path} is not icu_locale_cli")
     return Program("this program", [str(path)], COMMANDS, takes_tables=True)
+
+
+def compiled(path, source, *words):
+    """A program in C, built: its path."""
+    subprocess.run(["cc", "-D_GNU_SOURCE", "-std=c11", "-O2", source, *words, "-o", path], check=True)
+    return str(path)
 
 
 def built(work, name):
@@ -142,7 +163,7 @@ def node_program():
 def crate_program(work, folder, crate, name):
     """A program over a crate, built by cargo from Debian's crate sources, where they are installed: its path."""
     if not shutil.which("cargo") or not list(CRATES.glob(f"{crate}-[0-9]*")):
-        print(f"without {crate}: Debian's packages cargo and librust-{crate}-dev", file=sys.stderr)
+        without(crate, f"Debian's packages cargo and librust-{crate}-dev")
         return None
     source = work / f"{crate}-program"
     shutil.copytree(folder, source)
@@ -162,7 +183,7 @@ def langid_program(work):
 def golang_program(work):
     """The program over Go's package golang.org/x/text, where that is installed. Valgrind cannot run it."""
     if not shutil.which("go") or not (GO_SOURCES / "src" / "golang.org" / "x" / "text").is_dir():
-        print("without Go: Debian's packages golang-go and golang-golang-x-text-dev", file=sys.stderr)
+        without("Go", "Debian's packages golang-go and golang-golang-x-text-dev")
         return None
     path = work / "golang"
     paths = {"GO111MODULE": "off", "GOPATH": str(GO_SOURCES), "GOCACHE": str(work / "golang-cache"), "GOFLAGS": ""}
