@@ -49,10 +49,10 @@ static inline int32_t icu_locale_open_cldr(const char *locales, struct icu_local
 
 /* What follows is for that call alone. */
 
-/* Bytes that are read or written: those of a file are let go. */
+/* Bytes that are read or written, and how many ends of lines were read: those of a file are let go. */
 struct icu_locale_text {
     char *at;
-    size_t length, room;
+    size_t length, room, lines;
 };
 
 /* A part of a text. */
@@ -61,11 +61,13 @@ struct icu_locale_piece {
     size_t length;
 };
 
-/* A locale that is asked for: the file of its language, and the place of its rows among `groups` of them. */
+/* A locale that is asked for: what is read of its language's file, and what of that begins at its next row; how many groups
+   its block has, and the line behind that block, or SIZE_MAX where it is not the first of several, and the file is read to
+   its end. */
 struct icu_locale_names {
     struct icu_locale_text language;
-    struct icu_locale_piece name;
-    size_t group, groups;
+    struct icu_locale_piece name, rest;
+    size_t groups, end;
 };
 
 /* Makes room for more bytes behind those of a text; 0 where there is no memory. */
@@ -88,32 +90,6 @@ static inline int icu_locale_put(struct icu_locale_text *text, const char *at, s
     return 1;
 }
 
-/* Reads a file of the data, `NAME.gz`. What was read of it is there to be let go, whatever the number. */
-static inline int32_t icu_locale_read_file(const char *folder, const char *name, struct icu_locale_text *text) {
-    char path[4096];
-    int got = 1;
-    gzFile file;
-    if (snprintf(path, sizeof path, "%s/%s.gz", folder, name) >= (int)sizeof path) {
-        errno = ENAMETOOLONG;
-        return ICU_LOCALE_NO_DATA;
-    }
-    errno = 0;
-    file = gzopen(path, "rb");
-    if (file == NULL && (errno == 0 || errno == ENOMEM)) return ICU_LOCALE_MEMORY;
-    if (file == NULL) return ICU_LOCALE_NO_DATA;
-    while (got > 0) {
-        if (!icu_locale_make_room(text, 32768)) {
-            gzclose(file);
-            return ICU_LOCALE_MEMORY;
-        }
-        got = gzread(file, text->at + text->length, 32768);
-        if (got > 0) text->length += (size_t)got;
-    }
-    if (gzclose(file) == Z_OK && got == 0) return ICU_LOCALE_DONE;
-    errno = EIO;
-    return ICU_LOCALE_NO_DATA;
-}
-
 /* What is before the next `end` of a text, which is then behind it. */
 static inline struct icu_locale_piece icu_locale_cut(struct icu_locale_piece *rest, char end) {
     struct icu_locale_piece piece = *rest;
@@ -124,10 +100,11 @@ static inline struct icu_locale_piece icu_locale_cut(struct icu_locale_piece *re
     return piece;
 }
 
-static inline struct icu_locale_piece icu_locale_line(const struct icu_locale_text *text, size_t place) {
-    struct icu_locale_piece rest = {text->at, text->length}, line = icu_locale_cut(&rest, '\n');
-    while (place-- > 0) line = icu_locale_cut(&rest, '\n');
-    return line;
+static inline size_t icu_locale_count(const char *at, size_t length, char byte) {
+    const char *end = at + length;
+    size_t many = 0;
+    for (; at < end && (at = (const char *)memchr(at, byte, (size_t)(end - at))) != NULL; at++) many++;
+    return many;
 }
 
 /* A byte of a locale, as the names of files have it, in lowercase and with `-`; 0 where it can be in none. */
@@ -145,26 +122,76 @@ static inline int icu_locale_same(struct icu_locale_piece one, struct icu_locale
     return 1;
 }
 
-/* Finds the group of a locale in the file of its language, and the name that it has there. */
-static inline int32_t icu_locale_find(struct icu_locale_piece locale, struct icu_locale_names *names) {
-    struct icu_locale_piece rest = icu_locale_line(&names->language, 0);
-    int32_t said = ICU_LOCALE_NO_LOCALE;
-    for (names->groups = 0; rest.length > 0; names->groups++) {
-        struct icu_locale_piece group = icu_locale_cut(&rest, '\t');
-        while (group.length > 0) {
-            struct icu_locale_piece name = icu_locale_cut(&group, ' ');
-            if (icu_locale_same(name, locale)) {
-                names->name = name;
-                names->group = names->groups;
-                said = ICU_LOCALE_DONE;
+/* Finds a locale in the first line of its language's file, and its first row in what is read of that. */
+static inline int32_t icu_locale_find(struct icu_locale_piece locale, size_t tables, struct icu_locale_names *names) {
+    struct icu_locale_piece rest = {names->language.at, names->language.length}, blocks = icu_locale_cut(&rest, '\n');
+    names->rest = rest;
+    names->end = 1;
+    if (icu_locale_count(blocks.at, blocks.length, '|') > 0) icu_locale_cut(&blocks, ':'); /* the sum */
+    while (blocks.length > 0) {
+        struct icu_locale_piece block = icu_locale_cut(&blocks, '|');
+        size_t line = names->end;
+        names->groups = icu_locale_count(block.at, block.length, ';') + 1;
+        for (names->end += tables * names->groups; block.length > 0; line++) {
+            struct icu_locale_piece group = icu_locale_cut(&block, ';');
+            while (group.length > 0) {
+                names->name = icu_locale_cut(&group, ',');
+                if (!icu_locale_same(names->name, locale)) continue;
+                if (blocks.length == 0 || names->end > 1 + tables * names->groups) names->end = SIZE_MAX;
+                while (--line > 0) icu_locale_cut(&names->rest, '\n');
+                return ICU_LOCALE_DONE;
             }
         }
     }
-    return said;
+    names->end = SIZE_MAX;
+    return ICU_LOCALE_NO_LOCALE;
+}
+
+/* Whether the first lines of a file begin with the sum of what is behind it. */
+static inline int icu_locale_is_whole(const struct icu_locale_text *text, size_t lines) {
+    struct icu_locale_piece rest = {text->at, text->length};
+    char sum[9];
+    while (lines-- > 0) icu_locale_cut(&rest, '\n');
+    if (rest.at - text->at < 8) return 0;
+    snprintf(sum, sizeof sum, "%08x", (unsigned)crc32(0, (const Bytef *)text->at + 8, (uInt)(rest.at - text->at - 8)));
+    return memcmp(text->at, sum, 8) == 0;
+}
+
+/* Reads a file of the data, `NAME.gz`: of a language's file no more than the first block where a locale is in that, which
+   is compared with its own sum then, since the file's is at its end. What was read is there to be let go, whatever the
+   number. */
+static inline int32_t icu_locale_read_file(const char *folder, const char *name, struct icu_locale_piece locale,
+                                           size_t tables, struct icu_locale_names *names) {
+    struct icu_locale_text *text = &names->language;
+    char path[4096];
+    int got = 1;
+    gzFile file;
+    if (snprintf(path, sizeof path, "%s/%s.gz", folder, name) >= (int)sizeof path) {
+        errno = ENAMETOOLONG;
+        return ICU_LOCALE_NO_DATA;
+    }
+    errno = 0;
+    file = gzopen(path, "rb");
+    if (file == NULL && (errno == 0 || errno == ENOMEM)) return ICU_LOCALE_MEMORY;
+    if (file == NULL) return ICU_LOCALE_NO_DATA;
+    for (names->end = locale.length > 0 ? 1 : SIZE_MAX; got > 0 && text->lines < names->end;) {
+        if (!icu_locale_make_room(text, 16384)) {
+            gzclose(file);
+            return ICU_LOCALE_MEMORY;
+        }
+        got = gzread(file, text->at + text->length, 16384);
+        if (got > 0) text->lines += icu_locale_count(text->at + text->length, (size_t)got, '\n');
+        if (got > 0) text->length += (size_t)got;
+        if (text->lines > 0 && names->end == 1) (void)icu_locale_find(locale, tables, names);
+    }
+    if (gzclose(file) == Z_OK && got >= 0 && (text->lines < names->end || icu_locale_is_whole(text, names->end)))
+        return ICU_LOCALE_DONE;
+    errno = EIO;
+    return ICU_LOCALE_NO_DATA;
 }
 
 /* Reads the names in a locale. */
-static inline int32_t icu_locale_read_names(const char *folder, struct icu_locale_piece locale,
+static inline int32_t icu_locale_read_names(const char *folder, struct icu_locale_piece locale, size_t tables,
                                             struct icu_locale_names *names) {
     char language[9];
     size_t at;
@@ -175,9 +202,9 @@ static inline int32_t icu_locale_read_names(const char *folder, struct icu_local
     }
     if (at == 0) return ICU_LOCALE_NO_LOCALE;
     language[at] = 0;
-    said = icu_locale_read_file(folder, language, &names->language);
+    said = icu_locale_read_file(folder, language, locale, tables, names);
     if (said == ICU_LOCALE_NO_DATA && errno == ENOENT) return ICU_LOCALE_NO_LOCALE;
-    return said == ICU_LOCALE_DONE ? icu_locale_find(locale, names) : said;
+    return said == ICU_LOCALE_DONE ? icu_locale_find(locale, tables, names) : said; /* the text may have moved */
 }
 
 static inline int icu_locale_is_read(const struct icu_locale_names *names, size_t many, struct icu_locale_piece locale) {
@@ -187,14 +214,20 @@ static inline int icu_locale_is_read(const struct icu_locale_names *names, size_
     return 0;
 }
 
-/* Puts the rows of locales behind a part of a text, by the number of their table: 0 is that of the supplement. */
-static inline int icu_locale_put_rows(struct icu_locale_text *text, const struct icu_locale_names *names, size_t many,
-                                      size_t table) {
+/* The row of a locale in the next table. Those of the other groups of its block are between two. */
+static inline struct icu_locale_piece icu_locale_next_row(struct icu_locale_names *names) {
+    struct icu_locale_piece row = icu_locale_cut(&names->rest, '\n');
+    size_t other;
+    for (other = 1; other < names->groups; other++) icu_locale_cut(&names->rest, '\n');
+    return row;
+}
+
+/* Puts the rows of locales in the next table behind a part of a text. */
+static inline int icu_locale_put_rows(struct icu_locale_text *text, struct icu_locale_names *names, size_t many) {
     int is_first = 1;
     size_t at;
     for (at = 0; at < many; at++) {
-        size_t place = 1 + table * names[at].groups + names[at].group;
-        struct icu_locale_piece row = icu_locale_line(&names[at].language, place);
+        struct icu_locale_piece row = icu_locale_next_row(&names[at]);
         if (row.length == 0) continue;
         if (!icu_locale_put(text, is_first ? "\"" : ",\"", is_first ? 1 : 2)
             || !icu_locale_put(text, names[at].name.at, names[at].name.length) || !icu_locale_put(text, "\":", 2)
@@ -206,7 +239,7 @@ static inline int icu_locale_put_rows(struct icu_locale_text *text, const struct
 }
 
 /* Puts the tables and their supplement together, whose two lines are the first of the base. */
-static inline int32_t icu_locale_put_together(const struct icu_locale_text *base, const struct icu_locale_names *names,
+static inline int32_t icu_locale_put_together(const struct icu_locale_text *base, struct icu_locale_names *names,
                                               size_t many, struct icu_locale_text *tables,
                                               struct icu_locale_text *supplement) {
     struct icu_locale_piece rest = {base->at, base->length};
@@ -215,8 +248,7 @@ static inline int32_t icu_locale_put_together(const struct icu_locale_text *base
         struct icu_locale_text *text = place < 2 ? supplement : tables;
         struct icu_locale_piece line = icu_locale_cut(&rest, '\n');
         if (!icu_locale_put(text, line.at, line.length)) return ICU_LOCALE_MEMORY;
-        if (place != 1 && rest.length > 0 && !icu_locale_put_rows(text, names, many, place == 0 ? 0 : place - 1))
-            return ICU_LOCALE_MEMORY;
+        if (place != 1 && rest.length > 0 && !icu_locale_put_rows(text, names, many)) return ICU_LOCALE_MEMORY;
     }
     if (place >= 4) return ICU_LOCALE_DONE;
     errno = EIO;
@@ -236,9 +268,9 @@ static inline int32_t icu_locale_open_texts(const struct icu_locale_text *tables
 }
 
 /* Opens the data of a file, with the names in so many locales. */
-static inline int32_t icu_locale_open_base(const struct icu_locale_text *base, const struct icu_locale_names *names,
-                                           size_t many, struct icu_locale *handle) {
-    struct icu_locale_text tables = {NULL, 0, 0}, supplement = {NULL, 0, 0};
+static inline int32_t icu_locale_open_base(const struct icu_locale_text *base, struct icu_locale_names *names, size_t many,
+                                           struct icu_locale *handle) {
+    struct icu_locale_text tables = {NULL, 0, 0, 0}, supplement = {NULL, 0, 0, 0};
     int32_t said = icu_locale_put_together(base, names, many, &tables, &supplement);
     if (said == ICU_LOCALE_DONE) said = icu_locale_open_texts(&tables, &supplement, handle);
     free(tables.at);
@@ -249,17 +281,18 @@ static inline int32_t icu_locale_open_base(const struct icu_locale_text *base, c
 /* Opens the data of a folder. `names` is zero, and has room for each locale. */
 static inline int32_t icu_locale_open_folder(const char *folder, const char *locales, struct icu_locale_names *names,
                                              struct icu_locale *handle) {
-    struct icu_locale_piece rest = {locales, strlen(locales)};
-    struct icu_locale_text base = {NULL, 0, 0};
-    size_t many = 0, at;
-    int32_t said = icu_locale_read_file(folder, "base-and-supplement", &base);
+    struct icu_locale_piece rest = {locales, strlen(locales)}, none = {NULL, 0};
+    struct icu_locale_names base = {{NULL, 0, 0, 0}, {NULL, 0}, {NULL, 0}, 0, 0};
+    size_t many = 0, at, tables;
+    int32_t said = icu_locale_read_file(folder, "base-and-supplement", none, 0, &base);
+    tables = base.language.lines > 0 ? base.language.lines - 1 : 0;
     while (said == ICU_LOCALE_DONE && rest.length > 0) {
         struct icu_locale_piece locale = icu_locale_cut(&rest, ' ');
-        if (!icu_locale_is_read(names, many, locale)) said = icu_locale_read_names(folder, locale, &names[many++]);
+        if (!icu_locale_is_read(names, many, locale)) said = icu_locale_read_names(folder, locale, tables, &names[many++]);
     }
-    if (said == ICU_LOCALE_DONE) said = icu_locale_open_base(&base, names, many, handle);
+    if (said == ICU_LOCALE_DONE) said = icu_locale_open_base(&base.language, names, many, handle);
     for (at = 0; at < many; at++) free(names[at].language.at);
-    free(base.at);
+    free(base.language.at);
     return said;
 }
 

@@ -107,6 +107,14 @@ int main(int count, char **names) {
     refused("", &one, ICU_LOCALE_NO_DATA, EIO);
     folder(names[2], "/other");
     refused("", &one, ICU_LOCALE_JSON, 0);
+    folder(names[2], "/blocks");
+    want(icu_locale_open_cldr("qaa", &other) == ICU_LOCALE_DONE, "an open", "of what is before a cut");
+    answers(&other, "name light qaa", "qab", "Second\tN");
+    refused("qaa-XA", &one, ICU_LOCALE_NO_DATA, EIO);
+    refused("qaa qaa-XX", &one, ICU_LOCALE_NO_DATA, EIO);
+    folder(names[2], "/changed");
+    refused("qaa", &one, ICU_LOCALE_NO_DATA, EIO);
+    want(icu_locale_open_cldr("qaa-XA", &other) == ICU_LOCALE_DONE, "an open", "of what is read to its end");
     icu_locale_close(&one);
     icu_locale_close(&other);
     return faults != 0;

@@ -24,6 +24,12 @@ function damaged(file, why) {
   return refusal('NoCldr', `${file} is damaged: ${why}`);
 }
 
+/** The lines of the base, which is refused where they are too few. */
+function wholeBase(lines, file) {
+  if (lines.length < 4) throw damaged(file, 'it is too short');
+  return lines;
+}
+
 function keyOf(word) {
   return word.toLowerCase().replace(/_/g, '-');
 }
@@ -43,20 +49,52 @@ function languagesOf(locales) {
   return [...new Set(locales.map((it) => keyOf(it).split('-')[0]))];
 }
 
+// The blocks of a language's file, by its first line: groups of locales with the same rows.
+function blocksOf(head) {
+  const names = head.slice(head.indexOf(':') + 1);
+  return names.split('|').map((block) => block.split(';').map((group) => group.split(',')));
+}
+
+/** How many lines of a language's file are read for some locales, by its first line: all but for those of the first block. */
+function linesWanted(language, head, tables, locales) {
+  const [groups, ...others] = blocksOf(head);
+  if (locales === 'all' || others.length === 0) return Infinity;
+  const keys = new Set(groups.flat().map(keyOf));
+  const isFirst = locales.map(keyOf).every((it) => it.split('-')[0] !== language || keys.has(it));
+  return isFirst ? 1 + tables * groups.length : Infinity;
+}
+
+// What a byte adds to a sum, as gzip has it.
+const CHECKS = Uint32Array.from({ length: 256 }, (_, byte) => {
+  let row = byte;
+  for (let bit = 0; bit < 8; bit += 1) row = row % 2 ? 0xedb88320 ^ (row >>> 1) : row >>> 1;
+  return row;
+});
+
+/** The lines of a first block, which are refused where they do not begin with the sum of what is behind it. */
+function wholeBlock(lines) {
+  const text = `${lines.join('\n')}\n`;
+  const sum = new TextEncoder().encode(text.slice(8)).reduce((it, byte) => CHECKS[(it ^ byte) & 255] ^ (it >>> 8), -1);
+  if ((~sum >>> 0).toString(16).padStart(8, '0') !== text.slice(0, 8)) throw new Error('its first block has another sum');
+  return lines;
+}
+
 // The rows of each locale of a language, by its name: one for each table, which is empty where there is none.
-function rowsOf([names, ...rows]) {
-  const groups = names.split('\t');
+function rowsOf([head, ...rows], tables) {
   const found = new Map();
-  groups.forEach((group, place) => {
-    const its = rows.filter((_, at) => at % groups.length === place);
-    for (const locale of group.split(' ')) found.set(locale, its);
-  });
+  for (const groups of blocksOf(head)) {
+    const block = rows.splice(0, tables * groups.length);
+    groups.forEach((group, place) => {
+      const its = block.filter((_, at) => at % groups.length === place);
+      for (const locale of group) found.set(locale, its);
+    });
+  }
   return found;
 }
 
 // The rows of some locales by the names that CLDR spells, and the locales that have none.
-function chosen(files, locales) {
-  const all = new Map([...files.values()].flatMap((lines) => [...rowsOf(lines)]));
+function chosen(files, locales, tables) {
+  const all = new Map([...files.values()].flatMap((lines) => [...rowsOf(lines, tables)]));
   if (locales === 'all') return [all, []];
   const byKey = new Map([...all].map((row) => [keyOf(row[0]), row]));
   const found = locales.map((it) => byKey.get(keyOf(it)));
@@ -85,7 +123,7 @@ function textsOf([called, behind, ...parts], files, locales, kind = 'dialect') {
   const end = parts.pop();
   const before = [called, ...parts];
   const columns = before.map(() => []);
-  const [found, missing] = chosen(files, locales);
+  const [found, missing] = chosen(files, locales, before.length);
   for (const [locale, rows] of found) {
     rows.forEach((it, place) => {
       const row = it && ROWS[kind](before[place], it);
@@ -97,4 +135,6 @@ function textsOf([called, behind, ...parts], files, locales, kind = 'dialect') {
   return { tables: tables.join('') + end, supplement: supplement + behind, missing };
 }
 
-module.exports = { BASE, LOCALES, refuseWithoutData, refuseLocale, damaged, spelled, languagesOf, textsOf };
+module.exports = {
+  BASE, LOCALES, refuseWithoutData, refuseLocale, damaged, wholeBase, spelled, languagesOf, linesWanted, wholeBlock, textsOf,
+};

@@ -57,8 +57,23 @@ export async function load(options) {
   };
 }
 
+// The lines of a stream, or as many as are wanted by the first one. The stream is left as it is then: where it is cancelled,
+// Node.js throws an error that nothing can catch.
+async function firstLines(stream, wantedBy) {
+  const lines = [''];
+  let wanted = 0;
+  for await (const part of stream.values({ preventCancel: true })) {
+    const [end, ...more] = part.split('\n');
+    lines[lines.length - 1] += end;
+    lines.push(...more);
+    if (lines.length > 1) wanted = wanted || (await wantedBy(lines[0]));
+    if (lines.length > 1 && lines.length > wanted) return wholeBlock(lines.slice(0, wanted));
+  }
+  return lines;
+}
+
 // The lines of a file of data, or null where there is none. A server may have unpacked it.
-async function linesOf(name) {
+async function linesOf(name, wantedBy = () => Infinity) {
   const place = new URL(name, folder);
   const response = await fetch(place);
   if (response.status === 404) return null;
@@ -67,8 +82,8 @@ async function linesOf(name) {
   const isPacked = bytes[0] === 31 && bytes[1] === 139;
   const stream = new Blob([bytes]).stream();
   try {
-    const text = await new Response(isPacked ? stream.pipeThrough(new DecompressionStream('gzip')) : stream).text();
-    return text.split('\n');
+    const unpacked = isPacked ? stream.pipeThrough(new DecompressionStream('gzip')) : stream;
+    return await firstLines(unpacked.pipeThrough(new TextDecoderStream()), wantedBy);
   } catch (fault) {
     throw damaged(place, fault.message);
   }
@@ -83,10 +98,13 @@ async function textsFetched(locales, kind) {
   const wanted = languagesOf(locales);
   await load();
   const languages = wanted || (await linesOf('languages')) || notFound('languages');
-  const fetched = languages.filter((it) => /^[a-z]{2,8}$/.test(it)).map(async (it) => [it, await linesOf(`${it}.gz`)]);
-  const [base, ...files] = await Promise.all([linesOf(`${BASE}.gz`), ...fetched]);
-  const texts = textsOf(base || notFound(`${BASE}.gz`), new Map(files.filter(([, lines]) => lines)), locales, kind);
-  return { folder, ...texts };
+  const file = `${BASE}.gz`;
+  const reading = linesOf(file).then((lines) => wholeBase(lines || notFound(file), new URL(file, folder)));
+  const fetched = languages.filter((it) => /^[a-z]{2,8}$/.test(it)).map(async (it) => [
+    it, await linesOf(`${it}.gz`, async (head) => linesWanted(it, head, (await reading).length - 2, locales)),
+  ]);
+  const [base, ...files] = await Promise.all([reading, ...fetched]);
+  return { folder, ...textsOf(base, new Map(files.filter(([, lines]) => lines)), locales, kind) };
 }
 
 // What the folder tells of itself by a name, as lines; none where it tells nothing.

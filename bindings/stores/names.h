@@ -10,10 +10,17 @@ struct piece {
     size_t length;
 };
 
-// A text that is put together, with room for all of it.
+// A text that is put together, with room for all of it, or read, with how many ends of lines were.
 struct text {
     char *at;
-    size_t length, room;
+    size_t length, room, lines;
+};
+
+// The rows of a locale: what is read of a file from the next one on, how many groups are in its block, none where it is in
+// none, and the line behind that block, or SIZE_MAX where it is not the first of several, and the file is read to its end.
+struct rows {
+    struct piece rest;
+    size_t groups, end;
 };
 
 // A handle to the names in a locale; what a reader wrote for it last; the command that asks it.
@@ -30,40 +37,13 @@ static inline void put(struct text *text, struct piece piece) {
 
 // Whether there is as much room again, after more was wanted than there was.
 static inline int grow(struct text *text) {
-    struct text more = {take(text->room * 2), 0, text->room * 2};
+    struct text more = {take(text->room * 2), 0, text->room * 2, text->lines};
     if (more.at == NULL)
         return 0;
     put(&more, (struct piece){text->at, text->length});
     let_go(text->at);
     *text = more;
     return 1;
-}
-
-// The lines of a file of the data.
-static inline int32_t unpack(const char *folder, struct piece name, struct text *text) {
-    char path[1024];
-    int got = 1, is_short = 0;
-    gzFile file;
-    if (snprintf(path, sizeof path, "%s/%.*s.gz", folder, (int)name.length, name.at) >= (int)sizeof path) {
-        errno = ENAMETOOLONG;
-        return NO_FILE;
-    }
-    errno = 0;
-    file = gzopen(path, "rb");
-    if (file == NULL)
-        return errno == 0 || errno == ENOMEM ? ICU_LOCALE_MEMORY : NO_FILE;
-    *text = (struct text){take(65536), 0, 65536};
-    is_short = text->at == NULL;
-    while (!is_short && (got = gzread(file, text->at + text->length, text->room - text->length)) > 0) {
-        text->length += got;
-        is_short = text->length == text->room && !grow(text);
-    }
-    if (gzclose(file) == Z_OK && !is_short && got == 0)
-        return ICU_LOCALE_DONE;
-    if (text->at != NULL)
-        let_go(text->at);
-    errno = EIO;
-    return is_short ? ICU_LOCALE_MEMORY : NO_FILE;
 }
 
 // What is before the next `end` of a text, which is then behind it.
@@ -75,35 +55,90 @@ static inline struct piece cut(struct piece *rest, char end) {
     return piece;
 }
 
-static inline struct piece line_at(const struct text *text, size_t place) {
-    struct piece rest = {text->at, text->length}, line = cut(&rest, '\n');
-    while (place-- > 0)
-        line = cut(&rest, '\n');
-    return line;
+static inline size_t count_of(const char *at, size_t length, char byte) {
+    const char *end = at + length;
+    size_t many = 0;
+    for (; at < end && (at = memchr(at, byte, end - at)) != NULL; at++)
+        many++;
+    return many;
 }
 
-static inline size_t lines_of(const struct text *text) {
-    size_t lines = 1;
-    for (size_t i = 0; i < text->length; i++)
-        lines += text->at[i] == '\n';
-    return lines;
-}
-
-// The place of the group of a language that a locale is in, and how many groups there are; as many where it is in none.
-static inline size_t group_of(const struct text *language, struct piece locale, size_t *groups) {
-    struct piece rest = line_at(language, 0);
-    size_t place = 0, found = SIZE_MAX;
-    while (rest.length > 0) {
-        struct piece group = cut(&rest, '\t');
-        while (group.length > 0) {
-            struct piece name = cut(&group, ' ');
-            if (name.length == locale.length && memcmp(name.at, locale.at, name.length) == 0)
-                found = place;
+// The rows of a locale in what is read of its language's file.
+static inline struct rows rows_of(const struct text *language, struct piece locale, size_t tables) {
+    struct rows rows = {{language->at, language->length}, 0, 1};
+    struct piece blocks = cut(&rows.rest, '\n');
+    if (count_of(blocks.at, blocks.length, '|') > 0)
+        cut(&blocks, ':'); // the sum
+    while (blocks.length > 0) {
+        struct piece block = cut(&blocks, '|');
+        size_t line = rows.end;
+        rows.groups = count_of(block.at, block.length, ';') + 1;
+        for (rows.end += tables * rows.groups; block.length > 0; line++) {
+            struct piece group = cut(&block, ';');
+            while (group.length > 0) {
+                struct piece name = cut(&group, ',');
+                if (name.length != locale.length || memcmp(name.at, locale.at, name.length) != 0)
+                    continue;
+                if (blocks.length == 0 || rows.end > 1 + tables * rows.groups)
+                    rows.end = SIZE_MAX;
+                while (--line > 0)
+                    cut(&rows.rest, '\n');
+                return rows;
+            }
         }
-        place++;
     }
-    *groups = place;
-    return found == SIZE_MAX ? place : found;
+    return (struct rows){blocks, 0, SIZE_MAX};
+}
+
+// Whether the first lines of a file begin with the sum of what is behind it.
+static inline int is_whole(const struct text *text, size_t lines) {
+    struct piece rest = {text->at, text->length};
+    char sum[9];
+    while (lines-- > 0)
+        cut(&rest, '\n');
+    if (rest.at - text->at < 8)
+        return 0;
+    snprintf(sum, sizeof sum, "%08x", (unsigned)crc32(0, (const Bytef *)text->at + 8, rest.at - text->at - 8));
+    return memcmp(text->at, sum, 8) == 0;
+}
+
+// The lines of a file of the data: of a language's file no more than the first block where a locale is in that, which is
+// compared with its own sum then, since the file's is at its end.
+static inline int32_t unpack(const char *folder, struct piece name, struct piece locale, size_t tables, struct text *text) {
+    char path[1024];
+    int got = 1, is_short = 0;
+    size_t end = locale.length > 0 ? 1 : SIZE_MAX;
+    gzFile file;
+    if (snprintf(path, sizeof path, "%s/%.*s.gz", folder, (int)name.length, name.at) >= (int)sizeof path) {
+        errno = ENAMETOOLONG;
+        return NO_FILE;
+    }
+    errno = 0;
+    file = gzopen(path, "rb");
+    if (file == NULL)
+        return errno == 0 || errno == ENOMEM ? ICU_LOCALE_MEMORY : NO_FILE;
+    *text = (struct text){take(65536), 0, 65536, 0};
+    is_short = text->at == NULL;
+    while (!is_short && text->lines < end && (got = gzread(file, text->at + text->length, 16384)) > 0) {
+        text->lines += count_of(text->at + text->length, got, '\n');
+        text->length += got;
+        if (text->lines > 0 && end == 1)
+            end = rows_of(text, locale, tables).end;
+        is_short = text->room - text->length < 16384 && !grow(text);
+    }
+    if (gzclose(file) == Z_OK && !is_short && got >= 0 && (text->lines < end || is_whole(text, end)))
+        return ICU_LOCALE_DONE;
+    if (text->at != NULL)
+        let_go(text->at);
+    errno = EIO;
+    return is_short ? ICU_LOCALE_MEMORY : NO_FILE;
+}
+
+static inline struct piece next_row(struct rows *rows) {
+    struct piece row = cut(&rows->rest, '\n');
+    for (size_t other = 1; other < rows->groups; other++)
+        cut(&rows->rest, '\n');
+    return row;
 }
 
 static inline void put_row(struct text *text, struct piece locale, struct piece row) {
@@ -116,31 +151,31 @@ static inline void put_row(struct text *text, struct piece locale, struct piece 
 }
 
 // Puts the rows of a locale into the tables, and into the supplement, whose two lines are the first of the base.
-static inline void put_together(const struct text *base, const struct text *language, struct piece locale, size_t group,
-                         size_t groups, struct text *tables, struct text *supplement) {
+static inline void put_together(const struct text *base, struct rows rows, struct piece locale, struct text *tables,
+                         struct text *supplement) {
     struct piece rest = {base->at, base->length};
     put(supplement, cut(&rest, '\n'));
-    put_row(supplement, locale, line_at(language, 1 + group));
+    put_row(supplement, locale, next_row(&rows));
     put(supplement, cut(&rest, '\n'));
-    for (size_t column = 1; rest.length > 0; column++) {
+    while (rest.length > 0) {
         put(tables, cut(&rest, '\n'));
         if (rest.length > 0)
-            put_row(tables, locale, line_at(language, 1 + column * groups + group));
+            put_row(tables, locale, next_row(&rows));
     }
 }
 
-static inline int32_t open_rows(const struct text *base, const struct text *language, struct piece locale,
+static inline int32_t open_rows(const struct text *base, const struct text *language, struct piece locale, size_t columns,
                          struct icu_locale *handle) {
-    size_t groups, group = group_of(language, locale, &groups);
-    size_t room = base->length + language->length + lines_of(base) * (locale.length + 3);
-    struct text tables = {NULL, 0, room}, supplement = {NULL, 0, room};
+    struct rows rows = rows_of(language, locale, columns);
+    size_t room = base->length + language->length + (base->lines + 1) * (locale.length + 3);
+    struct text tables = {NULL, 0, room, 0}, supplement = tables;
     int32_t said = ICU_LOCALE_MEMORY;
-    if (group == groups)
+    if (rows.groups == 0)
         return NO_NAMES;
     tables.at = take(room);
     supplement.at = tables.at == NULL ? NULL : take(room);
     if (supplement.at != NULL) {
-        put_together(base, language, locale, group, groups, &tables, &supplement);
+        put_together(base, rows, locale, &tables, &supplement);
         said = open_tables(handle, tables.at, tables.length, supplement.at, supplement.length);
         let_go(supplement.at);
     }
@@ -151,14 +186,16 @@ static inline int32_t open_rows(const struct text *base, const struct text *lang
 
 // Opens the names in a locale. A folder without the base has no data at all; one without a language has no names in it.
 static inline int32_t open_names(const char *folder, struct piece locale, struct icu_locale *handle) {
-    struct piece rest = locale;
+    struct piece rest = locale, none = {NULL, 0};
     struct text base, language;
-    int32_t said = unpack(folder, (struct piece){"base-and-supplement", 19}, &base);
+    size_t columns;
+    int32_t said = unpack(folder, (struct piece){"base-and-supplement", 19}, none, 0, &base);
     if (said != ICU_LOCALE_DONE)
         return said;
-    said = unpack(folder, cut(&rest, '-'), &language);
+    columns = base.lines > 0 ? base.lines - 1 : 0;
+    said = unpack(folder, cut(&rest, '-'), locale, columns, &language);
     if (said == ICU_LOCALE_DONE) {
-        said = open_rows(&base, &language, locale, handle);
+        said = open_rows(&base, &language, locale, columns, handle);
         let_go(language.at);
     } else if (said == NO_FILE && errno == ENOENT)
         said = NO_NAMES;

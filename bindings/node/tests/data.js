@@ -5,6 +5,7 @@ const childProcess = require('child_process');
 const fs = require('fs');
 const os = require('os');
 const path = require('path');
+const zlib = require('zlib');
 const { Tables, Refused, cldrLocales, cldrVersion } = require('icu_locale');
 
 const LANGUAGES = ['und', 'en', 'de', 'sr', 'zh', 'ar', 'iw', 'hy', 'sgn', 'mo', 'tlh', 'yue'];
@@ -101,10 +102,16 @@ function damage() {
     const env = { ...process.env, ICU_LOCALE_DATA: path.join(work, 'data') };
     const said = childProcess.execFileSync(process.execPath, [...process.execArgv, ...words], { env, encoding: 'utf8' });
     assert.strictEqual(said, 'Österreichisches Deutsch\n');
-    for (const wrong of [whole.subarray(0, -9), Buffer.from('no file'), whole.map((it, at) => (at === 99 ? it ^ 8 : it))]) {
+    for (const wrong of [Buffer.from('no file'), whole.map((it, at) => (at === 99 ? it ^ 8 : it)), whole.subarray(0, -9)]) {
       fs.writeFileSync(path.join(work, 'data', 'en.gz'), wrong);
-      assert.throws(() => textsOfFolder(['en']), { name: 'Refused', code: 'NoCldr', message: /data\/en\.gz is damaged: / });
+      assert.throws(() => textsOfFolder(['en', 'en-GB']), { name: 'Refused', code: 'NoCldr', message: /data\/en\.gz is damaged: / });
       assert.deepStrictEqual(textsOfFolder(['de']).missing, []);
+    }
+    assert.deepStrictEqual(textsOfFolder(['en']).missing, []); // it is before what is cut off, which is not read
+    const text = zlib.gunzipSync(whole).toString();
+    for (const [part, other] of [['Italian', 'Italien'], ['en-AE', 'en-AU'], [text[0], 'x']]) {
+      fs.writeFileSync(path.join(work, 'data', 'en.gz'), zlib.gzipSync(text.replace(part, other)));
+      assert.throws(() => textsOfFolder(['en']), { code: 'NoCldr', message: /data\/en\.gz is damaged: its first block has another sum/ });
     }
   } finally {
     fs.rmSync(work, { recursive: true });

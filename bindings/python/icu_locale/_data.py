@@ -1,10 +1,11 @@
 """CLDR's data inside the package, as texts of tables. docs/CLDR.md of the repository says what is in each file."""
+import contextlib
 import gzip
 import itertools
 import os
 import zlib
 from pathlib import Path
-from typing import Callable, Dict, Iterable, List, Literal, Mapping, Optional, Tuple, Union
+from typing import Callable, Dict, Iterable, Iterator, List, Literal, Mapping, Optional, Set, Tuple, Union
 
 from ._calls import HERE, TOP
 from ._refusals import NoCldr, cut
@@ -31,12 +32,13 @@ def texts_of(locales: Locales, chain: Chain = no_chain) -> Tuple[bytes, bytes]:
     """The text of the tables that have the names of some locales, and that of their supplement. `chain` tells the chain of a
     locale that CLDR has no names in."""
     folder = data_folder()
-    lines = _lines(folder, BASE)
+    with _opened(folder, BASE) as file:
+        lines = file.read().split(b"\n")
     if len(lines) < LEAST:
         raise damaged(folder / f"{BASE}.gz", "it is too short")
     supplement, behind, *before, end = lines
     columns: List[Rows] = [[] for _ in (supplement, *before)]
-    for locale, rows in _chosen(folder, locales, chain).items():
+    for locale, rows in _chosen(folder, locales, chain, len(columns)).items():
         for column, row in zip(columns, rows):
             if row:
                 column.append(b'"%s":%s' % (locale.encode(), row))
@@ -79,19 +81,34 @@ def data_folder() -> Path:
     raise NoCldr(f"{VARIABLE} names {named}, where there is no data of CLDR" if named else NO_DATA)
 
 
-def _lines(folder: Path, name: str) -> Rows:
+@contextlib.contextmanager
+def _opened(folder: Path, name: str) -> Iterator[gzip.GzipFile]:
     path = folder / f"{name}.gz"
     try:
-        return gzip.decompress(path.read_bytes()).split(b"\n")
+        with gzip.open(path) as file:
+            yield file
     except (OSError, EOFError, zlib.error) as fault:
         raise damaged(path, fault) from None
 
 
-def _rows_of(folder: Path, language: str) -> Dict[str, Rows]:
-    """The rows of each locale of a language: one for each table, which is empty where there is none."""
-    names, *rows = _lines(folder, language)
-    groups = names.decode("ascii", "replace").split("\t")
-    return {locale: rows[place::len(groups)] for place, group in enumerate(groups) for locale in group.split(" ")}
+def _rows_of(folder: Path, language: str, tables: int, wanted: Optional[Set[str]] = None) -> Dict[str, Rows]:
+    """The rows of the locales of a language, or of its first block where that has the wanted ones: one for each table, which is
+    empty where there is none. The file is read to its end, where its sum is, or the first block has a sum of its own."""
+    found: Dict[str, Rows] = {}
+    with _opened(folder, language) as file:
+        head = file.readline()
+        blocks = head.rpartition(b":")[2].rstrip(b"\n").decode("ascii", "replace").split("|")
+        for number, block in enumerate(blocks):
+            groups = [group.split(",") for group in block.split(";")]
+            lines = [file.readline() for _ in range(tables * len(groups))]
+            rows = [line.rstrip(b"\n") for line in lines]
+            found.update((locale, rows[place::len(groups)]) for place, group in enumerate(groups) for locale in group)
+            if number == 0 < len(blocks) - 1 and wanted is not None and wanted <= found.keys():
+                if head[:8] != b"%08x" % zlib.crc32(b"".join([head[8:], *lines])):
+                    raise zlib.error("its first block has another sum")
+                return found
+        file.read()
+    return found
 
 
 def _key(word: str) -> str:
@@ -107,11 +124,11 @@ def in_chain(locale: str, chain: Chain, names: Mapping[str, str]) -> str:
     raise NoCldr(f"CLDR has no locale {cut(locale)}")
 
 
-def _chosen(folder: Path, locales: Locales, chain: Chain) -> Dict[str, Rows]:
+def _chosen(folder: Path, locales: Locales, chain: Chain, tables: int) -> Dict[str, Rows]:
     """The rows of some locales."""
     if locales == "all":
         languages = sorted({path.stem for path in folder.glob("*.gz")} - {BASE})
-        return {locale: rows for language in languages for locale, rows in _rows_of(folder, language).items()}
+        return {locale: rows for language in languages for locale, rows in _rows_of(folder, language, tables).items()}
     if isinstance(locales, (str, bytes)):
         raise TypeError("one text is no list of locales, but for `all`, which is every one")
     names: Dict[str, str] = {}
@@ -121,9 +138,10 @@ def _chosen(folder: Path, locales: Locales, chain: Chain) -> Dict[str, Rows]:
             raise TypeError(f"a locale is a str, and no {type(word).__name__}")
         names = names or {_key(name): name for name in _told(folder, "locales").split()}
         wanted.append(in_chain(word, chain, names))
-    languages = sorted({locale.partition("-")[0] for locale in wanted})
-    rows = {language: _rows_of(folder, language) for language in languages}
+    rows: Dict[str, Rows] = {}
+    for language, its in itertools.groupby(sorted(wanted), lambda locale: locale.partition("-")[0]):
+        rows.update(_rows_of(folder, language, tables, set(its)))
     try:
-        return {locale: rows[locale.partition("-")[0]][locale] for locale in wanted}
+        return {locale: rows[locale] for locale in wanted}
     except KeyError as fault:
         raise damaged(folder, f"there is no {fault.args[0]}") from None

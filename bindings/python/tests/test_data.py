@@ -117,6 +117,15 @@ class Data(unittest.TestCase):
         self.assertTrue("zh-Hant" in locales and "zh-TW" not in locales)
         self.assertRegex(cldr_version(), "^[0-9.]+$")
 
+    def test_first_groups(self):
+        folder = next(folder for folder in _data.FOLDERS if folder.is_dir())
+        for path in sorted(folder.glob("*.gz")):
+            if path.stem != _data.BASE:
+                with gzip.open(path) as file:
+                    names = file.readline().decode("ascii").rstrip("\n").rpartition(":")[2]
+                first = names.partition("|")[0].partition(";")[0]
+                self.assertIn(path.stem, first.split(","))
+
     def test_damage(self):
         folder = next(folder for folder in _data.FOLDERS if folder.is_dir())
         with tempfile.TemporaryDirectory() as work, mock.patch.object(_data, "FOLDERS", (Path(work),)):
@@ -125,9 +134,16 @@ class Data(unittest.TestCase):
                 (copy / name).write_bytes((folder / name).read_bytes())
             whole = (copy / "en.gz").read_bytes()
             changed = whole[:99] + bytes([whole[99] ^ 8]) + whole[100:]
-            for fault in (whole[:-9], b"no file", b"", changed, gzip.compress(b"")):
+            for fault in (b"no file", b"", changed, gzip.compress(b""), whole[:-9]):
                 (copy / "en.gz").write_bytes(fault)
                 with self.assertRaisesRegex(NoCldr, f"{work}(/en.gz)? is damaged"):
+                    Tables.cldr(["en", "en-GB"])
+            with Tables.cldr(["en"]) as tables:  # its rows are before what is cut off, which is not read
+                self.assertEqual(tables.name("it", "en"), "Italian")
+            text = gzip.decompress(whole)
+            for part, other in ((b"Italian", b"Italien"), (b"en-AE", b"en-AU"), (b":en,", b":de,"), (text[:1], b"x")):
+                (copy / "en.gz").write_bytes(gzip.compress(text.replace(part, other, 1)))
+                with self.assertRaisesRegex(NoCldr, "en.gz is damaged: its first block|is damaged: there is no en"):
                     Tables.cldr(["en"])
             Tables.cldr().close()
             for fault in (b"no file", gzip.compress(b""), gzip.compress(b"{\n}\n[\n}")):

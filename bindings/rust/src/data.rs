@@ -1,5 +1,5 @@
 //! CLDR's data inside the crate, as texts of tables. docs/CLDR.md of the repository says what is in each file.
-use crate::inflate::gunzip;
+use crate::inflate::{checksum, gunzip_until};
 use crate::Refusal;
 use std::collections::BTreeMap;
 use std::iter::once;
@@ -20,7 +20,7 @@ pub fn texts_of(locales: &[&str]) -> Result<(Vec<u8>, Vec<u8>), Refusal> {
             return put_some(locales, columns);
         }
         for (language, _) in FILES.iter().filter(|(name, _)| *name != BASE) {
-            put(&unpacked(language)?.unwrap_or_default(), |_| true, columns);
+            put(&unpacked(language, |_| None)?.unwrap_or_default(), |_| true, columns);
         }
         Ok(())
     })
@@ -94,7 +94,7 @@ fn members_of(object: &[u8]) -> impl Iterator<Item = &[u8]> {
 fn with_columns(
     put_in: impl FnOnce(&mut [Column<'_>]) -> Result<(), Refusal>,
 ) -> Result<(Vec<u8>, Vec<u8>), Refusal> {
-    let base = unpacked(BASE)?.ok_or(Refusal::NoData)?;
+    let base = unpacked(BASE, |_| None)?.ok_or(Refusal::NoData)?;
     let mut parts = lines(&base);
     let (called, behind) = (parts.next().unwrap_or_default(), parts.next().unwrap_or_default());
     let mut columns: Vec<Column<'_>> = once(called).chain(parts).map(|part| (part, Vec::new())).collect();
@@ -118,10 +118,10 @@ fn language_of(key: &str) -> &str {
     key.split('-').next().unwrap_or_default()
 }
 
-// What a file holds; None where there is no such file.
-fn unpacked(name: &str) -> Result<Option<Vec<u8>>, Refusal> {
+// What a file holds, or what is enough of it; None where there is no such file.
+fn unpacked(name: &str, enough: impl Fn(&[u8]) -> Option<bool>) -> Result<Option<Vec<u8>>, Refusal> {
     let Some((file, packed)) = FILES.iter().find(|(its, _)| *its == name) else { return Ok(None) };
-    gunzip(packed).map(Some).ok_or(Refusal::Damaged { file })
+    gunzip_until(packed, enough).map(Some).ok_or(Refusal::Damaged { file })
 }
 
 fn lines(text: &[u8]) -> impl Iterator<Item = &[u8]> {
@@ -135,7 +135,9 @@ fn put_some(locales: &[&str], columns: &mut [Column<'_>]) -> Result<(), Refusal>
     for (place, key) in keys.iter().enumerate() {
         let language = language_of(key);
         if !languages.contains_key(language) {
-            languages.insert(language, if language == BASE { None } else { unpacked(language)? }.unwrap_or_default());
+            let its: Vec<&String> = keys.iter().filter(|key| language_of(key) == language).collect();
+            let enough = |text: &[u8]| first_block(text, &its, columns.len() - 1).map(is_whole);
+            languages.insert(language, if language == BASE { None } else { unpacked(language, enough)? }.unwrap_or_default());
         }
         let is_new = !keys[..place].contains(key);
         if is_new && !put(&languages[language], |name| name.eq_ignore_ascii_case(key), columns) {
@@ -145,26 +147,77 @@ fn put_some(locales: &[&str], columns: &mut [Column<'_>]) -> Result<(), Refusal>
     Ok(())
 }
 
+// The blocks of a language's file: groups of locales with the same rows.
+fn blocks_of(head: &[u8]) -> impl Iterator<Item = Vec<Vec<&str>>> {
+    let head = std::str::from_utf8(head).unwrap_or_default();
+    let names = head.split_once(':').map_or(head, |(_, names)| names);
+    names.split('|').map(|block| block.split(';').map(|group| group.split(',').collect()).collect())
+}
+
+// The first line and the first block of a language's file, where that has all of some keys, and there is another one.
+fn first_block<'a>(text: &'a [u8], keys: &[&String], tables: usize) -> Option<&'a [u8]> {
+    let mut blocks = blocks_of(lines(text).next()?);
+    let (groups, _) = (blocks.next()?, blocks.next()?);
+    let is_there = |key: &&String| groups.iter().flatten().any(|name| name.eq_ignore_ascii_case(key));
+    if !keys.iter().all(is_there) {
+        return None;
+    }
+    let (last, _) = text.iter().enumerate().filter(|(_, it)| **it == b'\n').nth(tables * groups.len())?;
+    Some(&text[..=last])
+}
+
+// Whether a first block begins with the sum of what is behind it.
+fn is_whole(block: &[u8]) -> bool {
+    let (sum, rest) = block.split_at(block.len().min(8));
+    sum == format!("{:08x}", checksum(rest)).as_bytes()
+}
+
 // Puts the rows of the chosen locales of a language after the parts of the tables, and tells whether there are any. The
 // first line has the names of the locales that have the same rows, as groups; each further one is the row of a group.
 fn put(text: &[u8], is_chosen: impl Fn(&str) -> bool, columns: &mut [Column<'_>]) -> bool {
-    let mut rows = lines(text);
-    let names = std::str::from_utf8(rows.next().unwrap_or_default()).unwrap_or_default();
-    let groups: Vec<&str> = names.split('\t').collect();
-    let rows: Vec<&[u8]> = rows.collect();
-    let mut is_any = false;
-    for (place, group) in groups.iter().enumerate() {
-        for name in group.split(' ').filter(|name| !name.is_empty() && is_chosen(name)) {
-            is_any = true;
-            for ((_, column), row) in columns.iter_mut().zip(rows.iter().skip(place).step_by(groups.len())) {
-                if !row.is_empty() {
-                    column.extend_from_slice(if column.is_empty() { b"\"" } else { b",\"" });
-                    column.extend_from_slice(name.as_bytes());
-                    column.extend_from_slice(b"\":");
-                    column.extend_from_slice(row);
+    let (tables, rows) = (columns.len() - 1, lines(text).collect::<Vec<_>>());
+    let (mut begin, mut is_any) = (1, false);
+    for groups in blocks_of(rows[0]) {
+        for (place, group) in groups.iter().enumerate() {
+            for name in group.iter().filter(|name| !name.is_empty() && is_chosen(name)) {
+                is_any = true;
+                let its = rows.iter().skip(begin + place).step_by(groups.len());
+                for ((_, column), row) in columns.iter_mut().zip(its.take(tables)) {
+                    put_row(column, name, row);
                 }
             }
         }
+        begin += tables * groups.len();
     }
     is_any
+}
+
+fn put_row(column: &mut Vec<u8>, name: &str, row: &[u8]) {
+    if !row.is_empty() {
+        column.extend_from_slice(if column.is_empty() { b"\"" } else { b",\"" });
+        column.extend_from_slice(name.as_bytes());
+        column.extend_from_slice(b"\":");
+        column.extend_from_slice(row);
+    }
+}
+
+#[cfg(test)]
+mod tests {
+    use super::{first_block, is_whole, lines, unpacked, BASE, FILES};
+
+    #[test]
+    fn a_first_block_with_another_sum() {
+        let base = unpacked(BASE, |_| None).expect("the base is whole").unwrap_or_default();
+        for (language, _) in FILES.iter().filter(|(name, _)| *name != BASE) {
+            let text = unpacked(language, |_| None).expect("the file is whole").unwrap_or_default();
+            let key = String::from(*language);
+            let block = first_block(&text, &[&key], lines(&base).count() - 2).unwrap_or_default();
+            assert_eq!(is_whole(block), lines(&text).next().is_some_and(|head| head.contains(&b'|')), "{language}");
+            for at in (0..block.len() * 8).step_by(9973) {
+                let mut changed = block.to_vec();
+                changed[at / 8] ^= 1 << (at % 8);
+                assert!(!is_whole(&changed), "{language}: a changed bit at {at}");
+            }
+        }
+    }
 }

@@ -16,9 +16,13 @@ const ORDER: [usize; 19] = [16, 17, 18, 0, 8, 7, 9, 6, 10, 5, 11, 4, 12, 3, 13, 
 const END: usize = 256;
 const LONGEST: u32 = 15;
 
+// After how many bytes it is asked whether they are enough.
+const STEP: usize = 32768;
+
 /// The bytes of a gzip file of one member, without a name, a comment or an extra field; None where it is no such file, or
-/// its checksum is another one.
-pub fn gunzip(file: &[u8]) -> Option<Vec<u8>> {
+/// its checksum is another one. Where the first bytes are enough there may be no more: these are not compared with the
+/// checksum, which is that of all, but by the caller, who tells whether they are as they have to be.
+pub fn gunzip_until(file: &[u8], enough: impl Fn(&[u8]) -> Option<bool>) -> Option<Vec<u8>> {
     let (head, rest) = (file.get(..10)?, file.get(10..)?);
     if head[..4] != [0x1f, 0x8b, 8, 0] {
         return None;
@@ -26,17 +30,27 @@ pub fn gunzip(file: &[u8]) -> Option<Vec<u8>> {
     let packed = rest.get(..rest.len().checked_sub(8)?)?;
     let size = u32::from_le_bytes(rest[rest.len() - 4..].try_into().ok()?) as usize;
     let mut bits = Bits { bytes: packed, kept: 0, count: 0 };
-    let mut out = Vec::new();
+    let (mut out, mut next) = (Vec::new(), STEP);
     loop {
         let is_last = bits.take(1)? == 1;
-        match bits.take(2)? {
-            0 => stored(&mut bits, &mut out)?,
-            1 => coded(&mut bits, &fixed()?, &mut out, size)?,
-            2 => {
-                let codes = dynamic(&mut bits)?;
-                coded(&mut bits, &codes, &mut out, size)?;
+        let codes = match bits.take(2)? {
+            0 => {
+                stored(&mut bits, &mut out)?;
+                None
             }
+            1 => Some(fixed()?),
+            2 => Some(dynamic(&mut bits)?),
             _ => return None,
+        };
+        while let Some(codes) = &codes {
+            if coded(&mut bits, codes, &mut out, size.min(next))? {
+                break;
+            } else if out.len() > size {
+                return None;
+            } else if let Some(is_whole) = enough(&out) {
+                return is_whole.then_some(out);
+            }
+            next = out.len() + STEP;
         }
         if is_last {
             let wanted = u32::from_le_bytes(rest[packed.len()..][..4].try_into().ok()?);
@@ -45,8 +59,8 @@ pub fn gunzip(file: &[u8]) -> Option<Vec<u8>> {
     }
 }
 
-// That of RFC 1952, section 8.
-fn checksum(bytes: &[u8]) -> u32 {
+/// That of RFC 1952, section 8.
+pub fn checksum(bytes: &[u8]) -> u32 {
     !bytes.iter().fold(u32::MAX, |sum, byte| CHECKS[(sum as u8 ^ byte) as usize] ^ (sum >> 8))
 }
 
@@ -185,14 +199,15 @@ fn stored(bits: &mut Bits<'_>, out: &mut Vec<u8>) -> Option<()> {
     Some(())
 }
 
-// A block by its codes: a byte, or how many bytes there are once more and how far back. It is no longer than `most`.
-fn coded(bits: &mut Bits<'_>, codes: &Codes, out: &mut Vec<u8>, most: usize) -> Option<()> {
+// A block by its codes: a byte, or how many bytes there are once more and how far back. It is read until there are more than
+// `most` bytes, or to its end: the answer is whether it has ended.
+fn coded(bits: &mut Bits<'_>, codes: &Codes, out: &mut Vec<u8>, most: usize) -> Option<bool> {
     loop {
         let symbol = codes.symbols.symbol(bits)?;
         if symbol < END {
             out.push(symbol as u8);
         } else if symbol == END {
-            return Some(());
+            return Some(true);
         } else {
             let (least, more) = *LENGTHS.get(symbol - END - 1)?;
             let length = least + bits.take(more)?;
@@ -203,14 +218,14 @@ fn coded(bits: &mut Bits<'_>, codes: &Codes, out: &mut Vec<u8>, most: usize) -> 
             }
         }
         if out.len() > most {
-            return None;
+            return Some(false);
         }
     }
 }
 
 #[cfg(test)]
 mod tests {
-    use super::gunzip;
+    use super::gunzip_until;
     use crate::data::FILES;
     use std::io::Write;
     use std::process::{Command, Stdio};
@@ -225,6 +240,24 @@ mod tests {
         let out = gzip.wait_with_output().ok()?;
         let _ = writer.join();
         out.status.success().then_some(out.stdout)
+    }
+
+    fn gunzip(file: &[u8]) -> Option<Vec<u8>> {
+        gunzip_until(file, |_| None)
+    }
+
+    #[test]
+    fn what_is_enough() {
+        let text = drawn(300_000, 20);
+        let packed = by_gzip(&["-n9", "-c"], &text).expect("there is gzip");
+        for least in [0, 1, 40_000, 100_000, 299_999] {
+            let found = gunzip_until(&packed, |text| (text.len() >= least).then_some(true)).expect("it is a file of gzip");
+            assert!(found.len() >= least && found.len() < least + 33_100 && text.starts_with(&found), "{least}");
+        }
+        let cut = &packed[..packed.len() / 2];
+        let half = |is_whole| gunzip_until(cut, |text| (text.len() > 30_000).then_some(is_whole));
+        assert!(half(true).is_some_and(|found| text.starts_with(&found)));
+        assert_eq!((half(false), gunzip(cut)), (None, None));
     }
 
     #[test]
