@@ -14,7 +14,6 @@ use Rattle.icu_tables.specs.Shape.{with_row}
 use Rattle.icu_tables.specs.Validity.{numbers, endings, stem, last_of, codes_up_to, codes_of_word, codes_of_words, codes_listed, codes_by_status, statuses, if_text, rows_of_codes}
 use Rattle.icu_tables.specs.inner.Reads.{Puts}
 use Rattle.icu_tables.proofs.Members.{seen_rows-same}
-use Rattle.icu_tables.proofs.Puts.{put_all-append}
 
 -- ---- the codes of a range
 
@@ -62,31 +61,31 @@ module _ {K : Type 0} (reads : List ℕ → Option K) (status : Status) where
   words-append (v ∷ words) w = ap (λ codes. codes_of_word v ++ codes) (words-append words w)
       ∙ sym (append_assoc (codes_of_word v) (codes_of_words words) (codes_of_word w))
 
+  -- the codes of one word more are added
+  pub word-more : (old now next : List (K × Status)) (words : List (List ℕ)) (w : List ℕ)
+      → now ≡ old ++ rows (codes_of_words words) → next ≡ now ++ rows (codes_of_word w)
+      → next ≡ old ++ rows (codes_of_words (words ++ w ∷ []))
+  word-more old now next words w so_far added =
+      added
+      ∙ ap (λ before. before ++ rows (codes_of_word w)) so_far
+      ∙ append_assoc old (rows (codes_of_words words)) (rows (codes_of_word w))
+      ∙ ap (λ more. old ++ more) (sym (rows-append (codes_of_words words) (codes_of_word w)))
+      ∙ ap (λ codes. old ++ rows codes) (sym (words-append words w))
+
+  -- what is left of a range decides
+  abbrev pub becomes_of : List ℕ → List (K × Status) → ℕ → ℕ → List (K × Status)
+  becomes_of s now c last = now ++ rows (endings s c last)
+
+  -- one code of a range is added
+  pub ending-more : (s : List ℕ) (now next : List (K × Status)) (c last : ℕ) → c ≤ last
+      → next ≡ now ++ rows ((s ++ c ∷ []) ∷ []) → becomes_of s now c last ≡ becomes_of s next (c + 1) last
+  ending-more s now next c last within added =
+      ap (λ codes. now ++ rows codes) (endings-more s c last within)
+      ∙ ap (λ more. now ++ more) (rows-append ((s ++ c ∷ []) ∷ []) (endings s (c + 1) last))
+      ∙ sym (append_assoc now (rows ((s ++ c ∷ []) ∷ [])) (rows (endings s (c + 1) last)))
+      ∙ ap (λ before. before ++ rows (endings s (c + 1) last)) (sym added)
+
   module _ (compare : K → K → Ordering) where
-    -- the codes of one word more are put
-    pub word-more : (old now next : List (K × Status)) (words : List (List ℕ)) (w : List ℕ)
-        → now ≡ put_all compare old (rows (codes_of_words words)) → next ≡ put_all compare now (rows (codes_of_word w))
-        → next ≡ put_all compare old (rows (codes_of_words (words ++ w ∷ [])))
-    word-more old now next words w so_far put =
-        put
-        ∙ ap (λ map. put_all compare map (rows (codes_of_word w))) so_far
-        ∙ sym (put_all-append compare old (rows (codes_of_words words)) (rows (codes_of_word w)))
-        ∙ ap (put_all compare old) (sym (rows-append (codes_of_words words) (codes_of_word w)))
-        ∙ ap (λ codes. put_all compare old (rows codes)) (sym (words-append words w))
-
-    -- what is left of a range decides
-    abbrev pub becomes_of : List ℕ → List (K × Status) → ℕ → ℕ → List (K × Status)
-    becomes_of s map c last = put_all compare map (rows (endings s c last))
-
-    -- one code of a range is put
-    pub ending-more : (s : List ℕ) (now next : List (K × Status)) (c last : ℕ) → c ≤ last
-        → next ≡ put_all compare now (rows ((s ++ c ∷ []) ∷ [])) → becomes_of s now c last ≡ becomes_of s next (c + 1) last
-    ending-more s now next c last within put =
-        ap (λ codes. put_all compare now (rows codes)) (endings-more s c last within)
-        ∙ ap (put_all compare now) (rows-append ((s ++ c ∷ []) ∷ []) (endings s (c + 1) last))
-        ∙ put_all-append compare now (rows ((s ++ c ∷ []) ∷ [])) (rows (endings s (c + 1) last))
-        ∙ ap (λ map. put_all compare map (rows (endings s (c + 1) last))) (sym put)
-
     -- the codes that a member lists are put
     pub listed_put : (old new put : List (K × Status)) (said : Option (List (K × Status))) → new ≡ put_all compare old put → said ≡ Some put
         → Puts compare (Ok tt) (seen_rows (λ s. s) old) (seen_rows (λ s. s) new) said

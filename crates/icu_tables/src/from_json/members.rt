@@ -5,7 +5,7 @@ ghost use Rattle.serde_json.specs.View.{view};
 ghost use Rattle.icu_provider.specs.SortedMaps.{IsSortedMap};
 ghost use Rattle.icu_tables.specs.Fields.{said_or};
 ghost use Rattle.icu_tables.specs.NamedRows.{named_row};
-ghost use Rattle.icu_tables.specs.Puts.{map_by, rows_by};
+ghost use Rattle.icu_tables.specs.Puts.{map_by, put_all, rows_by};
 ghost use Rattle.icu_tables.specs.inner.Members.{GoesOn};
 ghost use Rattle.icu_tables.specs.inner.Reads.{Fills, Puts, Reads};
 ghost use Rattle.icu_tables.specs.Rows.{seen_rows};
@@ -166,6 +166,19 @@ pub(crate) fn in_one_list<K: Ord + Drop, V: Drop, M: FromRows<K, V>>(
         rows.push(row)?;
     }
     M::from_rows(alloc, rows)
+}
+
+// Puts rows into a map, one after another.
+pub(crate) fn put_rows<K: Ord + Drop, V: Drop>(
+    rows: Vec<(K, V)>,
+    map: &mut BTreeMap<K, V>,
+) -> Result<(), AllocError>
+    ensures { IfOk result (λ _. map.new.entries ≡ put_all K.cmp map.old.entries rows.items) }
+{
+    for (key, value) in rows {
+        let _ = map.insert(key, value)?;
+    }
+    Ok(())
 }
 
 // How the names of members are read as keys.

@@ -1,13 +1,12 @@
 //! Tables of validity: codes by status, and what keys take.
-ghost use Rattle.std.specs.Prelude.{◌≡◌, [], ◌∷◌, IfOk};
+ghost use Rattle.std.specs.Prelude.{◌≡◌, [], ◌∷◌, ◌++◌, IfOk};
 ghost use Rattle.icu_tables.specs.Names.{named_in};
-ghost use Rattle.icu_tables.specs.Puts.{put_all};
 ghost use Rattle.icu_tables.specs.Validity.{statuses, kinds, endings, codes_up_to, codes_of_word, codes_listed, if_text, rows_of_codes};
 ghost use Rattle.icu_tables.specs.inner.Further.{key_types_seen, validity_seen};
 
 use crate::TableError;
 use crate::from_json::marked::named_among;
-use crate::from_json::members::{PutsRows, RowByRow};
+use crate::from_json::members::{PutsRows, RowByRow, put_rows};
 use crate::from_json::objects::{MemberReader, only_members};
 use crate::from_json::preferred::{FieldKeys, KeywordKeys, ReadsValue};
 use crate::from_json::values::FromValue;
@@ -28,7 +27,7 @@ const STATUSES: [(&str, Status); 7] = [
 ];
 
 // The status of a name.
-fn status_named(name: &str) -> Option<Status>
+pub(crate) fn status_named(name: &str) -> Option<Status>
     ensures { result ≡ named_in statuses name.now }
 {
     named_among(&STATUSES, name)
@@ -44,7 +43,7 @@ const KINDS: [(&str, CodeKind); 6] = [
 ];
 
 // The kind of codes of a name.
-fn kind_named(name: &str) -> Option<CodeKind>
+pub(crate) fn kind_named(name: &str) -> Option<CodeKind>
     ensures { result ≡ named_in kinds name.now }
 {
     named_among(&KINDS, name)
@@ -103,7 +102,7 @@ impl FromValue for bool {
 
 // Puts the codes that a member lists, with the status that it is named by.
 #[derive(Clone, Copy)]
-struct Codes;
+pub(crate) struct Codes;
 
 impl<K: ReadsValue> PutsRows<K, Status> for Codes {
     ghost use Rattle.icu_locale_validity.specs.declared.table.Status.{Status};
@@ -128,74 +127,76 @@ impl<K: ReadsValue> PutsRows<K, Status> for Codes {
         let Some(text) = value.as_str() else {
             return Err(TableError::Shape);
         };
-        put_listed(alloc, text, status, map)?;
+        let mut rows = Vec::new(alloc);
+        add_listed(alloc, text, status, &mut rows)?;
+        put_rows(rows, map)?;
         Ok(())
     }
 }
 
-// Puts the codes that a text lists.
-fn put_listed<K: ReadsValue>(
+// Adds the codes that a text lists to rows.
+pub(crate) fn add_listed<K: ReadsValue>(
     alloc: Global,
     text: &str,
     status: Status,
-    map: &mut BTreeMap<K, Status>,
+    rows: &mut Vec<(K, Status)>,
 ) -> Result<(), AllocError>
-    ensures { IfOk result (λ _. map.new.entries ≡ put_all K.cmp map.old.entries
-        (rows_of_codes K.reads status (codes_listed text.now))) }
+    ensures { IfOk result (λ _. rows.new.items ≡ rows.old.items
+        ++ rows_of_codes K.reads status (codes_listed text.now)) }
 {
     for word in text.split(' ') {
-        put_word(alloc, word, status, map)?;
+        add_word(alloc, word, status, rows)?;
     }
     Ok(())
 }
 
-// Puts the codes of a word.
-fn put_word<K: ReadsValue>(
+// Adds the codes of a word.
+fn add_word<K: ReadsValue>(
     alloc: Global,
     word: &str,
     status: Status,
-    map: &mut BTreeMap<K, Status>,
+    rows: &mut Vec<(K, Status)>,
 ) -> Result<(), AllocError>
-    ensures { IfOk result (λ _. map.new.entries ≡ put_all K.cmp map.old.entries
-        (rows_of_codes K.reads status (codes_of_word word.now))) }
+    ensures { IfOk result (λ _. rows.new.items ≡ rows.old.items
+        ++ rows_of_codes K.reads status (codes_of_word word.now)) }
 {
     match word.split_once('~') {
-        Some((first, last)) => put_range(alloc, first.as_bytes(), last.as_bytes(), status, map),
-        None => put_code(alloc, word.as_bytes(), status, map),
+        Some((first, last)) => add_range(alloc, first.as_bytes(), last.as_bytes(), status, rows),
+        None => add_code(alloc, word.as_bytes(), status, rows),
     }
 }
 
-// Puts the codes from one to the one that ends in a single other character.
-fn put_range<K: ReadsValue>(
+// Adds the codes from one to the one that ends in a single other character.
+fn add_range<K: ReadsValue>(
     alloc: Global,
     first: &[u8],
     last: &[u8],
     status: Status,
-    map: &mut BTreeMap<K, Status>,
+    rows: &mut Vec<(K, Status)>,
 ) -> Result<(), AllocError>
-    ensures { IfOk result (λ _. map.new.entries ≡ put_all K.cmp map.old.entries
-        (rows_of_codes K.reads status (codes_up_to first.now last.now))) }
+    ensures { IfOk result (λ _. rows.new.items ≡ rows.old.items
+        ++ rows_of_codes K.reads status (codes_up_to first.now last.now)) }
 {
     let Some((from, stem)) = first.split_last() else {
         return Ok(());
     };
     match last {
-        [to] => put_endings(alloc, stem, *from, *to, status, map),
+        [to] => add_endings(alloc, stem, *from, *to, status, rows),
         _ => Ok(()),
     }
 }
 
-// Puts the codes of a stem, for each last character from one to another, which are 256 at most.
-fn put_endings<K: ReadsValue>(
+// Adds the codes of a stem, for each last character from one to another, which are 256 at most.
+fn add_endings<K: ReadsValue>(
     alloc: Global,
     stem: &[u8],
     from: u8,
     to: u8,
     status: Status,
-    map: &mut BTreeMap<K, Status>,
+    rows: &mut Vec<(K, Status)>,
 ) -> Result<(), AllocError>
-    ensures { IfOk result (λ _. map.new.entries ≡ put_all K.cmp map.old.entries
-        (rows_of_codes K.reads status (endings stem.now from to))) }
+    ensures { IfOk result (λ _. rows.new.items ≡ rows.old.items
+        ++ rows_of_codes K.reads status (endings stem.now from to)) }
 {
     let mut code = Vec::new(alloc);
     let mut character = usize::from(from);
@@ -203,24 +204,24 @@ fn put_endings<K: ReadsValue>(
         code.clear();
         code.extend_from_slice(stem)?;
         code.push(character as u8)?;
-        put_code(alloc, &code, status, map)?;
+        add_code(alloc, &code, status, rows)?;
         character += 1;
     }
     Ok(())
 }
 
-// Puts a code, where the bytes are one.
-fn put_code<K: ReadsValue>(
+// Adds a code, where the bytes are one.
+fn add_code<K: ReadsValue>(
     alloc: Global,
     code: &[u8],
     status: Status,
-    map: &mut BTreeMap<K, Status>,
+    rows: &mut Vec<(K, Status)>,
 ) -> Result<(), AllocError>
-    ensures { IfOk result (λ _. map.new.entries ≡ put_all K.cmp map.old.entries
-        (rows_of_codes K.reads status (code.now ∷ []))) }
+    ensures { IfOk result (λ _. rows.new.items ≡ rows.old.items
+        ++ rows_of_codes K.reads status (code.now ∷ [])) }
 {
     if let Some(key) = read_code(alloc, code)? {
-        let _ = map.insert(key, status)?;
+        rows.push((key, status))?;
     }
     Ok(())
 }
