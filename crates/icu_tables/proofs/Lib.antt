@@ -11,6 +11,11 @@ mod Members
 mod NameGroups
 mod NamedKeys
 mod Once
+mod OnePass
+mod OnePassFields
+mod OnePassNames
+mod OnePassRows
+mod OnePassValues
 mod Puts
 mod Supplements
 mod ValidityRows

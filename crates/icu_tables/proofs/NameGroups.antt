@@ -45,7 +45,7 @@ name_total = then_total (on_total (λ (p : NameMarker × DataLocale × NameKey).
     (on_total (λ (p : NameMarker × DataLocale × NameKey). p.2) key_total)
 
 -- groups that tie are the same, as requests are
-same_group : TiesEqualAlone name_cmp → NameKey → (g h : NameGroup) → group_cmp g h ≡ Equal → g ≡ h
+pub same_group : TiesEqualAlone name_cmp → NameKey → (g h : NameGroup) → group_cmp g h ≡ Equal → g ≡ h
 same_group ties key g h tied =
     let whole : name_cmp (request_of g key) (request_of h key) ≡ Equal = ap (λ o. ordering_then o (key_cmp key key)) tied ∙ tied_itself key_total key in
     ap (λ r. (r.0, r.1)) ((ties (request_of g key) (request_of h key)).0 whole)

@@ -49,7 +49,7 @@ rise_put k d (member l e ms) value rise = by (text_cmp k l) refl (rise_put k d m
     by Greater is later = (above_put l k d ms (text_total.antisymm l k ∙ ap ordering_reverse is) rise.0, rise.1, later)
 
 mutual
-  rise-of_json : (j : json.Json) → IfSome (of_json j) NamesRise
+  pub rise-of_json : (j : json.Json) → IfSome (of_json j) NamesRise
   rise-of_json json.null = tt
   rise-of_json (json.boolean b) = tt
   rise-of_json (json.number s) = if_map NamesRise number (number_of s) (always (number_of s)) (λ x _. tt)

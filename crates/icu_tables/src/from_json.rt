@@ -8,22 +8,22 @@ ghost use Rattle.serde_json.specs.View.{view};
 
 mod aliases;
 mod arrays;
-mod direction;
-mod essentials;
-mod exemplars;
-mod extension_names;
-mod keys;
+pub(crate) mod direction;
+pub(crate) mod essentials;
+pub(crate) mod exemplars;
+pub(crate) mod extension_names;
+pub(crate) mod keys;
 mod likely;
-mod locales;
-mod marked;
-mod matching;
-mod members;
-mod names;
-mod objects;
-mod preferred;
-mod subtags;
+pub(crate) mod locales;
+pub(crate) mod marked;
+pub(crate) mod matching;
+pub(crate) mod members;
+pub(crate) mod names;
+pub(crate) mod objects;
+pub(crate) mod preferred;
+pub(crate) mod subtags;
 mod supplements;
-mod validity;
+pub(crate) mod validity;
 pub(crate) mod values;
 
 use crate::from_json::exemplars::MarkedExemplars;
@@ -32,6 +32,7 @@ use crate::from_json::marked::Marked;
 use crate::from_json::members::RowByRow;
 use crate::from_json::objects::{MemberReader, only_members};
 use crate::from_json::values::FromValue;
+use crate::one_pass::in_one_pass;
 use crate::{Supplement, TableError, Tables};
 use serde_json::Value;
 use std::alloc::Global;
@@ -44,7 +45,8 @@ impl Tables {
     ///
     /// Values are read in any case. A key is one subtag in its written form, or two with one `-`
     /// between them, or a locale: a language, with a script if any and a region if any. A row whose
-    /// key is not of this form is skipped. It takes memory for the JSON value and for the tables.
+    /// key is not of this form is skipped. It takes memory for the tables, for as many bytes as the text
+    /// has, and, where members are not in the order of their names, for the JSON value.
     ///
     /// # Errors
     ///
@@ -57,6 +59,9 @@ impl Tables {
         ensures refused { IfErr result (λ e. e ≢ TableError.Memory
             → rows_in text.now ≡ Err e) }
     {
+        if let Some(tables) = in_one_pass(alloc, text) {
+            return Ok(alone(alloc, tables));
+        }
         let value = parse(alloc, text)?;
         match Tables::from_value(alloc, &value) {
             Ok(tables) => Ok(alone(alloc, tables)),

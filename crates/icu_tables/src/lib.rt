@@ -8,6 +8,7 @@ pub mod laws;
 mod locale_names;
 mod locale_tables;
 mod name_rows;
+mod one_pass;
 mod supplement;
 mod tables;
 

@@ -1,19 +1,21 @@
 //! Names in two steps: first by marker and locale, and then by key.
-ghost use Rattle.std.specs.Prelude.{◌≡◌, ◌==◌, ◌-◌, ◌^◌, ◌++◌, ◌↔◌, [], length, min, MatchResult, IfErr, IfOk, IsTrue, OnOk, option_copied};
+ghost use Rattle.std.specs.Prelude.{◌≡◌, ◌==◌, ◌-◌, ◌^◌, ◌++◌, ◌↔◌, [], length, min, MatchResult, IfErr, IfOk, IfSome, IsTrue, OnOk, option_copied};
 ghost use Rattle.std.specs.List.{Contains};
 ghost use Rattle.std.specs.Map.{keys_of};
 ghost use Rattle.icu_tables.specs.NamedKeys.{AreNamedKeys, is_named_by};
 ghost use Rattle.icu_locale_core.specs.Maps.{value_at};
 ghost use Rattle.icu_provider.specs.SortedMaps.{Inserts, IsSortedMap};
 ghost use Rattle.icu_provider.specs.Requests.{name_cmp};
-ghost use Rattle.icu_tables.specs.Groups.{flat_names, group_cmp, key_cmp, name_in_group};
+ghost use Rattle.icu_tables.specs.Groups.{RiseInGroups, flat_names, group_cmp, key_cmp, name_in_group};
 
 use crate::LocaleNames;
+use crate::from_json::members::in_one_list;
 use icu_provider::laws::{equality_is_told, keys_are_told_apart};
 use icu_provider::{
     DataError, DataErrorKind, DataLocale, NameKey, NameMarker, NotedMap, SortedMap,
 };
 use std::alloc::{AllocError, Global};
+use std::collections::BTreeMap;
 use std::marker::Model;
 
 // The names of a marker and a locale, by key.
@@ -56,6 +58,19 @@ impl NameRows {
         NameRows {
             groups: SortedMap::new(alloc),
         }
+    }
+
+    // Names whose groups are those of a map.
+    pub(crate) fn from_groups(
+        alloc: Global,
+        groups: BTreeMap<(NameMarker, DataLocale), Names>,
+    ) -> Option<NameRows>
+        requires { RiseInGroups group_cmp key_cmp groups.entries }
+        ensures { IfSome result (λ names. names ≡ flat_names groups.entries) }
+    {
+        Some(NameRows {
+            groups: in_one_list(alloc, groups).ok()?,
+        })
     }
 
     /// How many names there are, or the largest `usize` where there are more. It asks each group once.

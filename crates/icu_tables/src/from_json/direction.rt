@@ -30,7 +30,10 @@ impl FromValue for NotedMap<Script, ()> {
 }
 
 // The set of the scripts of a list, where repeats fall together.
-fn set_from(alloc: Global, mut scripts: Vec<Script>) -> Result<NotedMap<Script, ()>, TableError>
+pub(crate) fn set_from(
+    alloc: Global,
+    mut scripts: Vec<Script>,
+) -> Result<NotedMap<Script, ()>, TableError>
     ensures members { IfOk result (λ set. keys_of set ≡ rising (from_list scripts.items)) }
     ensures refused { IfErr result (λ e. e ≡ TableError.Memory) }
 {

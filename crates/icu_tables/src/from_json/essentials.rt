@@ -32,7 +32,7 @@ impl FromValue for PatternItem {
 }
 
 // The placeholder of a number.
-fn placeholder(number: u64) -> Option<PatternItem>
+pub(crate) fn placeholder(number: u64) -> Option<PatternItem>
     ensures { option_map part_of result ≡ place number }
 {
     match number {

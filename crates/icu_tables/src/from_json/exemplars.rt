@@ -86,8 +86,8 @@ impl PutsRows<(ExemplarMarker, DataLocale), ExemplarCharactersData> for MarkedEx
 
 // The sets of a marker, by locale.
 #[derive(Clone, Copy)]
-struct ExemplarsOf {
-    marker: ExemplarMarker,
+pub(crate) struct ExemplarsOf {
+    pub(crate) marker: ExemplarMarker,
 }
 
 impl NamesKeys<(ExemplarMarker, DataLocale)> for ExemplarsOf {

@@ -28,7 +28,8 @@ impl FromValue for TableText {
 }
 
 // Puts one row for each member, whose name is a text of any content.
-struct ByText;
+#[derive(Clone, Copy)]
+pub(crate) struct ByText;
 
 impl<V: FromValue> PutsRows<TableText, V> for ByText {
     ghost use Rattle.icu_tables.specs.Supplement.{row_by_text};

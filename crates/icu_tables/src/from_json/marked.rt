@@ -77,8 +77,8 @@ impl<M: Marker, K: MarkedKey<M>, V: FromValue> PutsRows<(M, DataLocale, K), V> f
 
 // The rows of a marker, by locale.
 #[derive(Clone, Copy)]
-struct RowsOf<M> {
-    marker: M,
+pub(crate) struct RowsOf<M> {
+    pub(crate) marker: M,
 }
 
 impl<M: Marker, K: MarkedKey<M>, V: FromValue> PutsRows<(M, DataLocale, K), V> for RowsOf<M> {
@@ -109,9 +109,9 @@ impl<M: Marker, K: MarkedKey<M>, V: FromValue> PutsRows<(M, DataLocale, K), V> f
 
 // The keys of a marker and a locale, if it is one.
 #[derive(Clone, Copy)]
-struct KeysIn<M> {
-    marker: M,
-    locale: Option<DataLocale>,
+pub(crate) struct KeysIn<M> {
+    pub(crate) marker: M,
+    pub(crate) locale: Option<DataLocale>,
 }
 
 impl<M: Marker, K: MarkedKey<M>> NamesKeys<(M, DataLocale, K)> for KeysIn<M> {

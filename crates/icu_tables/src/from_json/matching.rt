@@ -83,7 +83,10 @@ impl FromValue for SortedMap<Region, ()> {
 }
 
 // The set of the keys of a list, where repeats fall together. No order of the keys costs more than a sort.
-fn set_of<K: Ord + Drop>(alloc: Global, keys: Vec<K>) -> Result<SortedMap<K, ()>, AllocError>
+pub(crate) fn set_of<K: Ord + Drop>(
+    alloc: Global,
+    keys: Vec<K>,
+) -> Result<SortedMap<K, ()>, AllocError>
     ensures { IfOk result (λ set. set ≡ put_all K.cmp [] (members_of keys.items)) }
 {
     let mut rows = BTreeMap::new(alloc);
@@ -95,10 +98,10 @@ fn set_of<K: Ord + Drop>(alloc: Global, keys: Vec<K>) -> Result<SortedMap<K, ()>
 
 // The members of a pattern.
 #[derive(Drop)]
-struct PatternParts {
-    script: Option<Script>,
-    inside: Option<SortedMap<Region, ()>>,
-    outside: Option<SortedMap<Region, ()>>,
+pub(crate) struct PatternParts {
+    pub(crate) script: Option<Script>,
+    pub(crate) inside: Option<SortedMap<Region, ()>>,
+    pub(crate) outside: Option<SortedMap<Region, ()>>,
 }
 
 impl FromValue for PatternParts {
@@ -144,7 +147,7 @@ impl FromValue for MatchPattern {
 }
 
 // One set of regions at most.
-fn region_pattern(
+pub(crate) fn region_pattern(
     inside: Option<SortedMap<Region, ()>>,
     outside: Option<SortedMap<Region, ()>>,
 ) -> Option<RegionPattern>
@@ -186,7 +189,7 @@ impl FromValue for MatchRule {
 }
 
 // What fits any form.
-fn any_form() -> MatchPattern
+pub(crate) fn any_form() -> MatchPattern
     ensures { result ≡ any_form }
 {
     MatchPattern {

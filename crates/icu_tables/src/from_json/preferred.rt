@@ -69,7 +69,7 @@ impl<T: FromText> ReadsValue for T {
 }
 
 // Puts the value that is preferred to the one that a member is named by.
-struct Preferred;
+pub(crate) struct Preferred;
 
 impl<T: ReadsValue> PutsRows<T, T> for Preferred {
     ghost Seen = { T };

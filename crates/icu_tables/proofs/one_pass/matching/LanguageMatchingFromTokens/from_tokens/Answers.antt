@@ -1,0 +1,26 @@
+use Rattle.std.proofs.Common.{[], map, refl, ap, ◌∙◌}
+use Rattle.icu_tables.specs.inner.OnePass.{are_distinct}
+use Rattle.icu_tables.proofs.OnePassFields.{heard_or, heard_required, ◌and_named◌, name_at, ◌and_says◌, told_object}
+use Rattle.icu_tables.proofs.one_pass.matching.LanguageMatchingFromTokens.from_tokens.Goals as goal
+
+-- what was read of each member tells what the object says
+pub returns : goal.returns
+returns c =
+    let read = c.in_ok-read_fields.ensures in
+    let names = c.field_named.ensures.name
+    and_named c.field_named-2.ensures.name
+    and_named c.field_named-3.ensures.name
+    and_named c.field_named-4.ensures.name
+    and_named refl in
+    let held = read.holds (ap are_distinct names) (rw (
+      c.field_named.ensures.none,
+      c.field_named-2.ensures.none,
+      c.field_named-3.ensures.none,
+      c.field_named-4.ensures.none,
+    ) ((refl, refl), (refl, refl))) in
+    let same = read.same_names ∙ names in
+    rw (c.unwrap_or.ensures, c.unwrap_or-2.ensures, c.unwrap_or-3.ensures, c.new.ensures, c.new-2.ensures) (told_object _ _ read names (refl
+    and_says heard_required _ _ _ _ _ c.in_ok-other_language.was (rw (name_at 0 same) at held.0.0)
+    and_says heard_or _ _ _ [] _ _ refl (rw (name_at 1 same) at held.0.1)
+    and_says heard_or _ _ _ c.new-3.result _ _ (ap (map (λ v. v)) c.new-3.ensures.items) (rw (name_at 2 same) at held.1.0)
+    and_says heard_or _ _ _ [] _ _ refl (rw (name_at 3 same) at held.1.1)) refl)
