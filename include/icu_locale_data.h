@@ -214,6 +214,14 @@ static inline int icu_locale_is_read(const struct icu_locale_names *names, size_
     return 0;
 }
 
+/* Locales by the order of their names: tables whose members come so are read in one pass. */
+static inline int icu_locale_by_name(const void *one, const void *other) {
+    const struct icu_locale_piece *a = &((const struct icu_locale_names *)one)->name;
+    const struct icu_locale_piece *b = &((const struct icu_locale_names *)other)->name;
+    int order = memcmp(a->at, b->at, a->length < b->length ? a->length : b->length);
+    return order != 0 ? order : (a->length > b->length) - (a->length < b->length);
+}
+
 /* The row of a locale in the next table. Those of the other groups of its block are between two. */
 static inline struct icu_locale_piece icu_locale_next_row(struct icu_locale_names *names) {
     struct icu_locale_piece row = icu_locale_cut(&names->rest, '\n');
@@ -290,6 +298,7 @@ static inline int32_t icu_locale_open_folder(const char *folder, const char *loc
         struct icu_locale_piece locale = icu_locale_cut(&rest, ' ');
         if (!icu_locale_is_read(names, many, locale)) said = icu_locale_read_names(folder, locale, tables, &names[many++]);
     }
+    if (said == ICU_LOCALE_DONE) qsort(names, many, sizeof *names, icu_locale_by_name);
     if (said == ICU_LOCALE_DONE) said = icu_locale_open_base(&base.language, names, many, handle);
     for (at = 0; at < many; at++) free(names[at].language.at);
     free(base.language.at);

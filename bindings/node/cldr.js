@@ -92,13 +92,18 @@ function rowsOf([head, ...rows], tables) {
   return found;
 }
 
+// Rows by the order of their names: tables whose members come so are read in one pass.
+function rowsInOrder(rows) {
+  return new Map(rows.sort(([one], [other]) => (one < other ? -1 : 1)));
+}
+
 // The rows of some locales by the names that CLDR spells, and the locales that have none.
 function chosen(files, locales, tables) {
-  const all = new Map([...files.values()].flatMap((lines) => [...rowsOf(lines, tables)]));
-  if (locales === 'all') return [all, []];
-  const byKey = new Map([...all].map((row) => [keyOf(row[0]), row]));
+  const all = [...files.values()].flatMap((lines) => [...rowsOf(lines, tables)]);
+  if (locales === 'all') return [rowsInOrder(all), []];
+  const byKey = new Map(all.map((row) => [keyOf(row[0]), row]));
   const found = locales.map((it) => byKey.get(keyOf(it)));
-  return [new Map(found.filter(Boolean)), locales.filter((_, place) => !found[place])];
+  return [rowsInOrder(found.filter(Boolean)), locales.filter((_, place) => !found[place])];
 }
 
 // The rows of languages without those of dialects.

@@ -107,7 +107,9 @@ function damage() {
       assert.throws(() => textsOfFolder(['en', 'en-GB']), { name: 'Refused', code: 'NoCldr', message: /data\/en\.gz is damaged: / });
       assert.deepStrictEqual(textsOfFolder(['de']).missing, []);
     }
-    assert.deepStrictEqual(textsOfFolder(['en']).missing, []); // it is before what is cut off, which is not read
+    const { tables, missing } = textsOfFolder(['en', 'de']);
+    assert.deepStrictEqual(missing, []); // `en` is before what is cut off, which is not read
+    assert.deepStrictEqual(Object.keys(JSON.parse(tables).essentials), ['de', 'en']);
     const text = zlib.gunzipSync(whole).toString();
     for (const [part, other] of [['Italian', 'Italien'], ['en-AE', 'en-AU'], [text[0], 'x']]) {
       fs.writeFileSync(path.join(work, 'data', 'en.gz'), zlib.gzipSync(text.replace(part, other)));

@@ -125,10 +125,10 @@ def in_chain(locale: str, chain: Chain, names: Mapping[str, str]) -> str:
 
 
 def _chosen(folder: Path, locales: Locales, chain: Chain, tables: int) -> Dict[str, Rows]:
-    """The rows of some locales."""
+    """The rows of some locales, in the order of their names: tables whose members come so are read in one pass."""
     if locales == "all":
-        languages = sorted({path.stem for path in folder.glob("*.gz")} - {BASE})
-        return {locale: rows for language in languages for locale, rows in _rows_of(folder, language, tables).items()}
+        languages = {path.stem for path in folder.glob("*.gz")} - {BASE}
+        return dict(sorted(row for language in languages for row in _rows_of(folder, language, tables).items()))
     if isinstance(locales, (str, bytes)):
         raise TypeError("one text is no list of locales, but for `all`, which is every one")
     names: Dict[str, str] = {}
@@ -142,6 +142,6 @@ def _chosen(folder: Path, locales: Locales, chain: Chain, tables: int) -> Dict[s
     for language, its in itertools.groupby(sorted(wanted), lambda locale: locale.partition("-")[0]):
         rows.update(_rows_of(folder, language, tables, set(its)))
     try:
-        return {locale: rows[locale] for locale in wanted}
+        return {locale: rows[locale] for locale in sorted(wanted)}
     except KeyError as fault:
         raise damaged(folder, f"there is no {fault.args[0]}") from None

@@ -1,6 +1,7 @@
 """CLDR's data inside the package: its answers are those of CLDR's folder. In a clone `tools/package-data out/data` makes
 it."""
 import gzip
+import json
 import os
 import sys
 import tempfile
@@ -125,6 +126,18 @@ class Data(unittest.TestCase):
                     names = file.readline().decode("ascii").rstrip("\n").rpartition(":")[2]
                 first = names.partition("|")[0].partition(";")[0]
                 self.assertIn(path.stem, first.split(","))
+
+    def test_rows_come_in_order(self):
+        """Tables whose members come in the order of their names are read in one pass."""
+        asked = ["zh", "en-AU", "de", "en"]
+
+        def in_order(members):
+            names = [name for name, _ in members]
+            if set(names) <= set(asked):
+                self.assertEqual(names, sorted(names))
+
+        for text in _data.texts_of(asked):
+            json.loads(text, object_pairs_hook=in_order)
 
     def test_damage(self):
         folder = next(folder for folder in _data.FOLDERS if folder.is_dir())

@@ -128,11 +128,14 @@ fn lines(text: &[u8]) -> impl Iterator<Item = &[u8]> {
     text.split(|it| *it == b'\n')
 }
 
-// Each locale once. It is found in any case, with `-` or `_`.
+// Each locale once, in the order of their names: tables whose members come so are read in one pass. A locale is found in any
+// case, with `-` or `_`.
 fn put_some(locales: &[&str], columns: &mut [Column<'_>]) -> Result<(), Refusal> {
     let mut languages = BTreeMap::new();
     let keys: Vec<String> = locales.iter().map(|word| key_of(word)).collect();
-    for (place, key) in keys.iter().enumerate() {
+    let mut order: Vec<(usize, &String)> = keys.iter().enumerate().collect();
+    order.sort_by_key(|(_, key)| known(key));
+    for (place, key) in order {
         let language = language_of(key);
         if !languages.contains_key(language) {
             let its: Vec<&String> = keys.iter().filter(|key| language_of(key) == language).collect();
@@ -176,20 +179,21 @@ fn is_whole(block: &[u8]) -> bool {
 // first line has the names of the locales that have the same rows, as groups; each further one is the row of a group.
 fn put(text: &[u8], is_chosen: impl Fn(&str) -> bool, columns: &mut [Column<'_>]) -> bool {
     let (tables, rows) = (columns.len() - 1, lines(text).collect::<Vec<_>>());
-    let (mut begin, mut is_any) = (1, false);
+    let (mut begin, mut chosen) = (1, Vec::new());
     for groups in blocks_of(rows[0]) {
         for (place, group) in groups.iter().enumerate() {
-            for name in group.iter().filter(|name| !name.is_empty() && is_chosen(name)) {
-                is_any = true;
-                let its = rows.iter().skip(begin + place).step_by(groups.len());
-                for ((_, column), row) in columns.iter_mut().zip(its.take(tables)) {
-                    put_row(column, name, row);
-                }
-            }
+            let names = group.iter().copied().filter(|name| !name.is_empty() && is_chosen(name));
+            chosen.extend(names.map(|name| (name, begin + place, groups.len())));
         }
         begin += tables * groups.len();
     }
-    is_any
+    chosen.sort_unstable();
+    for (name, first, step) in &chosen {
+        for ((_, column), row) in columns.iter_mut().zip(rows.iter().skip(*first).step_by(*step).take(tables)) {
+            put_row(column, name, row);
+        }
+    }
+    !chosen.is_empty()
 }
 
 fn put_row(column: &mut Vec<u8>, name: &str, row: &[u8]) {
@@ -203,7 +207,16 @@ fn put_row(column: &mut Vec<u8>, name: &str, row: &[u8]) {
 
 #[cfg(test)]
 mod tests {
-    use super::{first_block, is_whole, lines, unpacked, BASE, FILES};
+    use super::{first_block, is_whole, lines, texts_of, unpacked, BASE, FILES};
+
+    #[test]
+    fn rows_come_in_the_order_of_their_names() {
+        let Ok((tables, _)) = texts_of(&["zh", "en-AU", "de"]) else { return };
+        let text = String::from_utf8(tables).expect("a text");
+        let (_, essentials) = text.split_once("\"essentials\":").expect("patterns of names");
+        let places = ["\"de\":", "\"en-AU\":", "\"zh\":"].map(|name| essentials.find(name));
+        assert!(places[0].is_some() && places.windows(2).all(|its| its[0] < its[1]));
+    }
 
     #[test]
     fn a_first_block_with_another_sum() {

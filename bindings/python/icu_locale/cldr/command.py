@@ -91,7 +91,7 @@ def tables_of_locales(common, locales, account):
         if pattern:
             patterns[str(locale)] = pattern
         add_exemplars(exemplars, locale, inheritance.resolved(locale, exemplar_rows, account), account)
-    return names.tables() | {"essentials": patterns, "exemplars": exemplars}
+    return names.tables() | {"essentials": patterns, "exemplars": dict(sorted(exemplars.items()))}
 
 
 def texts(held):

@@ -92,8 +92,8 @@ class Names:
                     self.account.note(f"{locale}: names in menus as one text, where core and extension are told", key)
 
     def tables(self):
-        """The two members of a file."""
-        return {"names": {marker: rows for marker, rows in self.names.items() if rows},
+        """The two members of a file. What stands in the order of its names is read in one pass."""
+        return {"names": {marker: rows for marker, rows in sorted(self.names.items()) if rows},
                 "menus": {marker: rows for marker, rows in self.menus.items() if rows}}
 
 

@@ -45,7 +45,7 @@ def validity(common, account):
 
 
 def codes_of(common, member, account):
-    """The codes of a member by status, in CLDR's own order of statuses."""
+    """The codes of a member by status."""
     name, found = f"validity/{member}.xml", {}
     if not common.has(name):
         account.note(NO_FILE, name)
@@ -56,7 +56,12 @@ def codes_of(common, member, account):
             account.note(NO_STATUS, f"{member} {status}")
             continue
         found.setdefault(status, []).extend(read_codes(member, row.text or "", account))
-    return {status: compact(codes) for status, codes in found.items() if codes}
+    return by_status(found)
+
+
+def by_status(found):
+    """The texts of codes by status. What stands in the order of its names is read in one pass."""
+    return {status: compact(codes) for status, codes in sorted(found.items()) if codes}
 
 
 def read_codes(member, text, account):
@@ -123,7 +128,7 @@ def key_of(extension, key, parts, account):
             types.setdefault("deprecated" if row.get("deprecated") == "true" else "regular", []).append(name.lower())
     if extension == "t" and not kinds:
         kinds.add("date")  # a mechanism may have a date after its types (RFC 6497, section 2.2)
-    return described(parts, {status: compact(names) for status, names in types.items()}, kinds)
+    return described(parts, by_status(types), kinds)
 
 
 def described(parts, types, kinds):
