@@ -1,5 +1,5 @@
 //! Texts of tables as keys and values of maps.
-ghost use Rattle.std.specs.Prelude.{◌≡◌, nat_eq, string_bytes, option_copied, MatchResult};
+ghost use Rattle.std.specs.Prelude.{◌≡◌, ◌≤◌, ◌<◌, length, nat_eq, string_bytes, option_copied, IfNone, IfOk, IfSome, IsOk, MatchResult};
 ghost use Rattle.std.proofs.Common.{rules};
 ghost use Rattle.std.specs.Cmp.{partial_order_from_own_ties};
 ghost use Rattle.std.specs.Cmp.Lexicographic.{pointwise, texts_ties};
@@ -9,38 +9,98 @@ ghost use Rattle.icu_locale_core.specs.Maps.{value_at};
 ghost use Rattle.icu_locale_core.specs.TextSet.{text_cmp};
 ghost use Rattle.icu_provider.specs.Places.{IsAt, IsGapFor};
 ghost use Rattle.icu_provider.specs.SortedMaps.{IsSortedMap};
+ghost use Rattle.icu_provider.specs.inner.Kept.{IsKept, text_kept};
 
 use crate::SortedMap;
+use std::alloc::{AllocError, Global};
 use std::cmp::Ordering;
 use std::marker::Model;
+use std::{fmt, str};
 
-/// A text of a table, of any content. A contract sees its bytes.
-#[derive(Debug, Drop)]
+/// A text of a table, of any content. One of at most 30 bytes lies in the value itself. A contract sees its bytes.
+#[derive(Drop)]
 pub struct TableText {
-    text: String,
+    kept: Kept,
+}
+
+// The bytes of a text and how many there are, or a text of its own.
+#[derive(Drop)]
+enum Kept {
+    Short([u8; 30], u8),
+    Long(String),
 }
 
 impl Model for TableText {
-    ghost use Rattle.std.specs.Prelude.{string_bytes, List, ℕ};
+    ghost use Rattle.std.specs.Prelude.{List, ℕ};
+    ghost use Rattle.icu_provider.specs.inner.Kept.{IsKept, text_kept};
 
     ghost Value = { List ℕ };
 
-    ghost view = { λ t. string_bytes t.text };
+    ghost view = { λ t. text_kept t.kept };
+
+    ghost invariant = { λ t. IsKept t.kept };
 }
 
 impl TableText {
-    /// A text as it is. It takes no memory.
+    /// A text as it is. It takes no memory, and lets that of a text of at most 30 bytes go.
     pub fn new(text: String) -> Self
         ensures { result ≡ string_bytes text }
     {
-        TableText { text }
+        match short(text.as_str()) {
+            Some(kept) => TableText { kept },
+            None => TableText {
+                kept: Kept::Long(text),
+            },
+        }
+    }
+
+    /// A copy of a text. Only one of more than 30 bytes takes memory.
+    ///
+    /// # Errors
+    ///
+    /// The allocator's, where memory for the text was refused.
+    pub fn of(alloc: Global, text: &str) -> Result<Self, AllocError>
+        ensures text { IfOk result (λ t. t ≡ text.now) }
+        ensures free { length text.now ≤ 30 → IsOk result }
+    {
+        match short(text) {
+            Some(kept) => Ok(TableText { kept }),
+            None => Ok(TableText {
+                kept: Kept::Long(String::from_str(alloc, text)?),
+            }),
+        }
     }
 
     /// The text.
+    #[inline]
     pub fn as_str(&self) -> &str
         ensures { result.now ≡ self.now }
     {
-        self.text.as_str()
+        match &self.kept {
+            Kept::Short(bytes, len) => unsafe { str::from_utf8_unchecked(&bytes[..*len as usize]) },
+            Kept::Long(text) => text.as_str(),
+        }
+    }
+}
+
+// A text of at most 30 bytes as it is kept.
+#[inline]
+fn short(text: &str) -> Option<Kept>
+    ensures kept { IfSome result (λ kept. (text_kept kept ≡ text.now) × IsKept kept) }
+    ensures long { IfNone result (30 < length text.now) }
+{
+    let len = text.len();
+    if len > 30 {
+        return None;
+    }
+    let mut bytes = [0; 30];
+    bytes[..len].copy_from_slice(text.as_bytes());
+    Some(Kept::Short(bytes, len as u8))
+}
+
+impl fmt::Debug for TableText {
+    fn fmt<W: fmt::Write>(&self, f: &mut fmt::Formatter<W>) -> fmt::Result {
+        f.debug_tuple("TableText").field(&self.as_str()).finish()
     }
 }
 
