@@ -1,0 +1,11 @@
+use Rattle.std.proofs.Common.{◌-◌, map}
+use Rattle.icu_locale_core.specs.TextSet.{text_cmp}
+use Rattle.icu_tables_flat.specs.Form.{row_of}
+use Rattle.icu_tables_flat.proofs.Searches.{IsBetween}
+use Rattle.icu_tables_flat.proofs.search.text_at_key.Given as goal
+
+abbrev pub invariant-loop-low : goal.invariant-loop-low
+invariant-loop-low l = IsBetween text_cmp (map (row_of l.fn.texts) l.fn.rows) l.fn.key l.low l.high
+
+abbrev pub decreases-loop-low : goal.decreases-loop-low
+decreases-loop-low l = l.high - l.low

@@ -1,0 +1,4 @@
+pub mod Flat
+pub mod Form
+pub mod inner
+pub mod laws

@@ -1,0 +1,2 @@
+-- Facts about the definitions, with their proofs: what crates above may cite.
+pub mod Listed
