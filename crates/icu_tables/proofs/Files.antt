@@ -94,7 +94,7 @@ file_seen-is tables = λ i. record {
   aliases = option_map-seen alias_seen alias_rows alias_seen-same tables.aliases i;
   direction = option_map direction_rows tables.script_direction;
   exemplars = seen_rows-same tables.exemplars i;
-  names = seen_rows string_bytes tables.names;
+  names = seen_rows-same tables.names i;
   menus = seen_rows-same tables.menus i;
   essentials = seen_rows-same tables.essentials i;
 }

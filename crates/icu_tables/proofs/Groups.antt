@@ -22,7 +22,7 @@ first_decides Less p apart = refl
 first_decides Equal p apart = absurd (subst (λ b. cond b (Unit {0}) ⊥) apart tt)
 first_decides Greater p apart = refl
 
-or_none : {X : Type 0} (o : Option X) (p : Option X) → p ≡ None → option_or o p ≡ o
+pub or_none : {X : Type 0} (o : Option X) (p : Option X) → p ≡ None → option_or o p ≡ o
 or_none None p none = none
 or_none (Some x) p none = refl
 
@@ -58,7 +58,7 @@ module _ {G K R V : Type 0} (whole : G → K → R) {by_group : G → G → Orde
   -- ---- look-ups
 
   -- the rows of another group are passed over
-  passed : (g h : G) (k : K) (rows : List (K × V)) (more : List (R × V)) → is_eq (by_group g h) ≡ false
+  pub passed : (g h : G) (k : K) (rows : List (K × V)) (more : List (R × V)) → is_eq (by_group g h) ≡ false
       → value_at by_whole (group_rows whole h rows ++ more) (whole g k) ≡ value_at by_whole more (whole g k)
   passed g h k [] more apart = refl
   passed g h k (row ∷ rows) more apart =
@@ -66,7 +66,7 @@ module _ {G K R V : Type 0} (whole : G → K → R) {by_group : G → G → Orde
       ap (λ tied. cond tied (Some row.1) (value_at by_whole (group_rows whole h rows ++ more) (whole g k))) other ∙ passed g h k rows more apart
 
   -- the rows of the group are looked up by their keys, and then the others
-  looked_up : (g h : G) (k : K) (rows : List (K × V)) (more : List (R × V)) → by_group g h ≡ Equal
+  pub looked_up : (g h : G) (k : K) (rows : List (K × V)) (more : List (R × V)) → by_group g h ≡ Equal
       → value_at by_whole (group_rows whole h rows ++ more) (whole g k) ≡ option_or (value_at by_key rows k) (value_at by_whole more (whole g k))
   looked_up g h k [] more tied = refl
   looked_up g h k (row ∷ rows) more tied =

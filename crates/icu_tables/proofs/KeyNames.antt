@@ -15,8 +15,8 @@ use Rattle.icu_provider.specs.declared.names.MenuMarker.TheVariants as menus
 use Rattle.icu_provider.specs.declared.names.NameKey.{NameKey}
 use Rattle.icu_provider.specs.declared.names.NameKey.TheVariants.{Language, Script, Region, Variant}
 use Rattle.icu_provider.specs.declared.names.NameMarker.{NameMarker}
-use Rattle.icu_provider.specs.declared.names.NameMarker.TheVariants as names
 use Rattle.icu_tables.specs.Names.{named_in, exemplar_markers, name_markers, menu_markers, script_and_region, locale_of, cut_locale, locale_key, name_key}
+use Rattle.icu_tables.specs.LentNames.{behind_dash, key_text, locale_text, marker_text}
 use Rattle.icu_tables.specs.Shape.{both}
 use Rattle.icu_tables.specs.Subtags.{key_of, key_pair, cut_at_dash, language_key, script_key, region_key, variant_key, read_language, read_script}
 use Rattle.icu_tables.specs.Subtags.{read_region, read_variant}
@@ -54,13 +54,6 @@ one_pair first second one_first one_second s t k is_s is_t =
 
 -- ---- locales
 
-abbrev behind_dash : Option (List ℕ) → List ℕ
-behind_dash None = []
-behind_dash (Some t) = 45 ∷ t
-
-abbrev written_locale : DataLocale → List ℕ
-written_locale l = l.language ++ (behind_dash l.script ++ behind_dash l.region)
-
 rest_by : (t : List ℕ) (p : Option (List ℕ) × Option (List ℕ)) (script region : Option (List ℕ)) (pair : Option (List ℕ × List ℕ))
     → script_key t ≡ script → region_key t ≡ region → key_pair script_key region_key t ≡ pair
     → option_or (option_map (λ s. (Some s, None)) script) (option_or (option_map (λ r. (None, Some r)) region)
@@ -87,53 +80,49 @@ both_of (Some a) (Some b) x is =
     let same = same_Some (a, b) x is in
     (ap (λ p. Some p.0) same, ap (λ p. Some p.1) same)
 
-locale_by : (t : List ℕ) (l : DataLocale) (cut : Option (List ℕ × List ℕ)) → cut_at_dash t ≡ cut → cut_locale t cut ≡ Some l → t ≡ written_locale l
+locale_by : (t : List ℕ) (l : DataLocale) (cut : Option (List ℕ × List ℕ)) → cut_at_dash t ≡ cut → cut_locale t cut ≡ Some l → t ≡ locale_text l
 locale_by t l None is_cut is =
     let alone = map_of_some (λ language. locale_of (language, (None, None))) (language_key t) l is in
-    itself read_language t alone.0 alone.1 ∙ sym (append-nil alone.0) ∙ ap written_locale (sym alone.2)
+    itself read_language t alone.0 alone.1 ∙ sym (append-nil alone.0) ∙ ap locale_text (sym alone.2)
 locale_by t l (Some cut) is_cut is =
     let parts = map_of_some locale_of (both (language_key cut.0) (script_and_region cut.1)) l is in
     let each = both_of (language_key cut.0) (script_and_region cut.1) parts.0 parts.1 in
     let front = itself read_language cut.0 parts.0.0 each.0 in
     let back = rest_by cut.1 parts.0.1 (script_key cut.1) (region_key cut.1) (key_pair script_key region_key cut.1) refl refl refl each.1 in
-    cut_joins t cut is_cut ∙ (λ i. front i ++ sym back i) ∙ ap written_locale (sym parts.2)
+    cut_joins t cut is_cut ∙ (λ i. front i ++ sym back i) ∙ ap locale_text (sym parts.2)
 
-locale_written : (t : List ℕ) (l : DataLocale) → locale_key t ≡ Some l → t ≡ written_locale l
+pub locale_written : (t : List ℕ) (l : DataLocale) → locale_key t ≡ Some l → t ≡ locale_text l
 locale_written t l is = locale_by t l (cut_at_dash t) refl is
 
 pub one_locale : OneName locale_key
-one_locale = by_written written_locale locale_written
+one_locale = by_written locale_text locale_written
 
 -- ---- keys of names
 
-abbrev written_key : NameKey → List ℕ
-written_key (Language language script region) = written_locale (record { language = language; script = script; region = region })
-written_key (Script script) = script
-written_key (Region region) = region
-written_key (Variant variant) = variant
-
-key_by : (languages scripts regions : Bool) (t : List ℕ) (k : NameKey)
+pub key_by : (languages scripts regions : Bool) (t : List ℕ) (k : NameKey)
     → (if languages then option_map (λ locale. Language locale.language locale.script locale.region) (locale_key t)
     else if scripts then option_map (λ script. Script script) (script_key t)
     else if regions then option_map (λ region. Region region) (region_key t)
     else option_map (λ variant. Variant variant) (variant_key t)) ≡ Some k
-    → t ≡ written_key k
+    → t ≡ key_text k
 key_by true scripts regions t k is =
     let held = map_of_some (λ locale. Language locale.language locale.script locale.region) (locale_key t) k is in
-    locale_written t held.0 held.1 ∙ ap written_key (sym held.2)
+    locale_written t held.0 held.1 ∙ ap key_text (sym held.2)
 key_by false true regions t k is =
     let held = map_of_some (λ script. Script script) (script_key t) k is in
-    itself read_script t held.0 held.1 ∙ ap written_key (sym held.2)
+    itself read_script t held.0 held.1 ∙ ap key_text (sym held.2)
 key_by false false true t k is =
     let held = map_of_some (λ region. Region region) (region_key t) k is in
-    itself read_region t held.0 held.1 ∙ ap written_key (sym held.2)
+    itself read_region t held.0 held.1 ∙ ap key_text (sym held.2)
 key_by false false false t k is =
     let held = map_of_some (λ variant. Variant variant) (variant_key t) k is in
-    itself read_variant t held.0 held.1 ∙ ap written_key (sym held.2)
+    itself read_variant t held.0 held.1 ∙ ap key_text (sym held.2)
+
+pub key_written : (marker : NameMarker) (t : List ℕ) (k : NameKey) → name_key marker t ≡ Some k → t ≡ key_text k
+key_written marker t k is = key_by (names_languages marker) (names_scripts marker) (names_regions marker) t k is
 
 pub one_name_key : (marker : NameMarker) → OneName (name_key marker)
-one_name_key marker =
-    by_written written_key (λ t k is. key_by (names_languages marker) (names_scripts marker) (names_regions marker) t k is)
+one_name_key marker = by_written key_text (key_written marker)
 
 -- ---- markers
 
@@ -159,27 +148,12 @@ exemplar_name exemplars.Index = codes "index"
 pub one_exemplar_name : OneName (named_in exemplar_markers)
 one_exemplar_name = by_written exemplar_name (λ t m is. marker_named exemplar_name exemplar_markers (refl, (refl, (refl, (refl, (refl, tt))))) t m is)
 
-abbrev name_of_names : NameMarker → List ℕ
-name_of_names names.RegionMediumTiny = codes "region/medium/tiny"
-name_of_names names.RegionMediumLight = codes "region/medium/light"
-name_of_names names.RegionShortTiny = codes "region/short/tiny"
-name_of_names names.RegionShortLight = codes "region/short/light"
-name_of_names names.LanguageMediumTiny = codes "language/medium/tiny"
-name_of_names names.LanguageMediumLight = codes "language/medium/light"
-name_of_names names.LanguageMediumHeavy = codes "language/medium/heavy"
-name_of_names names.LanguageShortLight = codes "language/short/light"
-name_of_names names.LanguageShortHeavy = codes "language/short/heavy"
-name_of_names names.LanguageLongLight = codes "language/long/light"
-name_of_names names.LanguageLongHeavy = codes "language/long/heavy"
-name_of_names names.ScriptMediumTiny = codes "script/medium/tiny"
-name_of_names names.ScriptMediumLight = codes "script/medium/light"
-name_of_names names.ScriptMediumHeavy = codes "script/medium/heavy"
-name_of_names names.ScriptShortHeavy = codes "script/short/heavy"
-name_of_names names.VariantMediumHeavy = codes "variant/medium/heavy"
+pub names_marker : (t : List ℕ) (m : NameMarker) → named_in name_markers t ≡ Some m → t ≡ marker_text m
+names_marker t m is = marker_named marker_text name_markers
+    (refl, (refl, (refl, (refl, (refl, (refl, (refl, (refl, (refl, (refl, (refl, (refl, (refl, (refl, (refl, (refl, tt)))))))))))))))) t m is
 
 pub one_name_of_names : OneName (named_in name_markers)
-one_name_of_names = by_written name_of_names (λ t m is. marker_named name_of_names name_markers
-    (refl, (refl, (refl, (refl, (refl, (refl, (refl, (refl, (refl, (refl, (refl, (refl, (refl, (refl, (refl, (refl, tt)))))))))))))))) t m is)
+one_name_of_names = by_written marker_text names_marker
 
 abbrev menu_name : MenuMarker → List ℕ
 menu_name menus.MediumLight = codes "language/menu/medium/light"

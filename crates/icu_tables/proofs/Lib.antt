@@ -1,9 +1,11 @@
+mod AllNames
 mod FileLookups
 mod Files
 mod Gaps
 mod Groups
 mod Items
 mod KeyNames
+mod LentNames
 mod Lookups
 mod MarkedLookups
 mod MemberReads
@@ -18,4 +20,5 @@ mod OnePassRows
 mod OnePassValues
 mod Puts
 mod Supplements
+mod ToFlat
 mod ValidityRows

@@ -1,8 +1,7 @@
 -- Names in groups: what a look-up finds, and what a row that is put into its group does to the one list.
-use Rattle.std.proofs.Common.{◌≡◌, ◌≢◌, nat_eq, length, List, [], ◌∷◌, unwrap_or, String, Option, Some, None, option_and_then, Result, Ok, Err, IsSome, IfSome, refl, sym}
+use Rattle.std.proofs.Common.{◌≡◌, ◌≢◌, nat_eq, length, List, [], ◌∷◌, unwrap_or, Option, Some, None, option_and_then, Result, Ok, Err, IsSome, IfSome, refl, sym}
 use Rattle.std.proofs.Common.{ap, ◌∙◌, subst, arith, ℕ, ◌<◌}
 use Rattle.std.proofs.lemmas.Bool.Decides.{nat_tests}
-use Rattle.std.specs.Global.{Global}
 use Rattle.std.specs.Cmp.{IsTotalOrder}
 use Rattle.std.specs.List.{AllByRecursion}
 use Rattle.std.specs.List.Sorted.{IsStrictlySortedBy}
@@ -29,7 +28,7 @@ use Rattle.icu_provider.specs.laws.SortedMaps.{IsSortedMap-insert_entry, insert_
 use Rattle.icu_tables.proofs.Groups.{each-insert_entry, flat_rises, insert_entry-flat, value_at-flat}
 
 abbrev Names : Type 0
-Names = List (NameKey × String Global)
+Names = List (NameKey × List ℕ)
 
 abbrev Groups : Type 0
 Groups = List (NameGroup × Names)
@@ -64,11 +63,11 @@ unfolding IsStrictlySortedBy
 rise_where_none groups is = subst Rise (sym is) (record { groups_rise = tt; keys_rise = tt; none_empty = tt })
 
 -- where a name is found there is one
-some_found : (names : Names) (key : NameKey) (name : String Global) → value_at key_cmp names key ≡ Some name → names ≢ []
+some_found : (names : Names) (key : NameKey) (name : List ℕ) → value_at key_cmp names key ≡ Some name → names ≢ []
 some_found names key name found empty = absurd (none-some name (ap (λ rows. value_at key_cmp rows key) (sym empty) ∙ found))
 
 -- one name is in order
-pub one_rises : (key : NameKey) (name : String Global) → IsSortedMap key_cmp ((key, name) ∷ [])
+pub one_rises : (key : NameKey) (name : List ℕ) → IsSortedMap key_cmp ((key, name) ∷ [])
 unfolding IsStrictlySortedBy
 one_rises key name = (tt, tt)
 
@@ -113,7 +112,7 @@ module _ (groups : Groups) (g : NameGroup) (key : NameKey) (rise : Rise groups) 
   pub name_missing : value_at group_cmp groups g ≡ None → value_at name_cmp (flat_names groups) (request_of g key) ≡ None
   name_missing none = name_in_groups ∙ ap (option_and_then (λ names. value_at key_cmp names key)) none
 
-  module _ (name : String Global) where
+  module _ (name : List ℕ) where
     -- after an insert into a group that is there, its names still rise
     pub names_after : (old names : Names) (result : Result (Unit {0}) DataError) → value_at group_cmp groups g ≡ Some old
         → Inserts key_cmp old names key name result → IsGroup names

@@ -1,7 +1,6 @@
 -- Keys that have a name in a locale: those of each marker, and all of them once.
-use Rattle.std.proofs.Common.{◌≡◌, ◌↔◌, ◌⊎◌, ◌<◌, ◌+◌, ℕ, suc, zero, Bool, true, false, ◌||◌, List, [], ◌∷◌, ◌++◌, length, take, get_or, String, None, refl, ap, sym, subst, ◌∙◌, inl, inr, arith, is_some, is_eq, codes}
+use Rattle.std.proofs.Common.{◌≡◌, ◌↔◌, ◌⊎◌, ◌<◌, ◌+◌, ℕ, suc, zero, Bool, true, false, ◌||◌, List, [], ◌∷◌, ◌++◌, length, take, get_or, None, refl, ap, sym, subst, ◌∙◌, inl, inr, arith, is_some, is_eq, codes}
 use Rattle.std.specs.Prelude.{IsTrue}
-use Rattle.std.specs.Global.{Global}
 use Rattle.std.specs.Cmp.{IsEquivalence}
 use Rattle.std.specs.Ordering.{eq_by_cmp, ordering_then}
 use Rattle.std.specs.declared.cmp.Ordering.{Ordering}
@@ -29,7 +28,7 @@ use Rattle.icu_tables.specs.NamedKeys.{AreNamedKeys, is_named_by}
 use Rattle.icu_tables.proofs.NameGroups.{group_total, key_total}
 
 abbrev pub Rows : Type 0
-Rows = List ((NameMarker × DataLocale × NameKey) × String Global)
+Rows = List ((NameMarker × DataLocale × NameKey) × List ℕ)
 
 -- ---- the order of keys
 
@@ -51,7 +50,7 @@ key_ties ties k l = (
     at : DataLocale
     at = record { language = codes "und"; script = None; region = None }
 
-exact : TiesEqualAlone key_cmp → (k l : NameKey) → eq_by_cmp key_cmp k l ≡ true → k ≡ l
+pub exact : TiesEqualAlone key_cmp → (k l : NameKey) → eq_by_cmp key_cmp k l ≡ true → k ≡ l
 exact ties k l same = (ties k l).0 (is_equal (key_cmp k l) same)
 
 -- ---- one marker
@@ -102,7 +101,7 @@ module _ (rows : Rows) (markers : List NameMarker) (locale : DataLocale) (i : �
 
 -- ---- each once
 
-tests_agree : (a b : Bool) → (a ≡ true → b ≡ true) → (b ≡ true → a ≡ true) → a ≡ b
+pub tests_agree : (a b : Bool) → (a ≡ true → b ≡ true) → (b ≡ true → a ≡ true) → a ≡ b
 tests_agree true b there back = sym (there refl)
 tests_agree false true there back = back refl
 tests_agree false false there back = refl

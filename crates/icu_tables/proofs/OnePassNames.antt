@@ -88,21 +88,21 @@ module _ (marker : NameMarker) where
   said_under locale (object ms) = members_under locale ms
 
 -- rows of a group are seen as they are, below its request
-pub seen_under : (marker : NameMarker) (locale : DataLocale) (rows : List (NameKey × String Global))
-    → seen_rows string_bytes (group_rows request_of (marker, locale) rows) ≡ group_rows request_of (marker, locale) (seen_rows string_bytes rows)
+pub seen_under : (marker : NameMarker) (locale : DataLocale) (rows : List (NameKey × List ℕ))
+    → seen_rows (λ v. v) (group_rows request_of (marker, locale) rows) ≡ group_rows request_of (marker, locale) (seen_rows (λ v. v) rows)
 seen_under marker locale [] = refl
-seen_under marker locale (row ∷ rows) = ap (λ more. ((marker, locale, row.0), string_bytes row.1) ∷ more) (seen_under marker locale rows)
+seen_under marker locale (row ∷ rows) = ap (λ more. ((marker, locale, row.0), row.1) ∷ more) (seen_under marker locale rows)
 
 abbrev pub Group : Type 0
-Group = NameGroup × Vec (NameKey × String Global) Global
+Group = NameGroup × Vec (NameKey × List ℕ) Global
 
 -- one group more
 pub flat_more : (groups : List Group) (group : Group) → flat_rows (groups ++ group ∷ [])
-    ≡ flat_rows groups ++ seen_rows string_bytes (group_rows request_of group.0 group.1.items)
+    ≡ flat_rows groups ++ seen_rows (λ v. v) (group_rows request_of group.0 group.1.items)
 flat_more [] group = append-nil _
 flat_more (first ∷ groups) group =
-    ap (λ more. seen_rows string_bytes (group_rows request_of first.0 first.1.items) ++ more) (flat_more groups group)
-    ∙ sym (append_assoc (seen_rows string_bytes (group_rows request_of first.0 first.1.items)) (flat_rows groups) _)
+    ap (λ more. seen_rows (λ v. v) (group_rows request_of first.0 first.1.items) ++ more) (flat_more groups group)
+    ∙ sym (append_assoc (seen_rows (λ v. v) (group_rows request_of first.0 first.1.items)) (flat_rows groups) _)
 
 -- ---- groups in their places
 
@@ -141,7 +141,7 @@ some_left compare old [] some = some
 some_left compare old (row ∷ rows) some = some_left compare (insert_entry compare old row.0 row.1) rows (some_after compare old row.0 row.1)
 
 abbrev Names : Type 0
-Names = List (NameKey × String Global)
+Names = List (NameKey × List ℕ)
 
 module _ (ties : TiesEqualAlone name_cmp) (groups : List (NameGroup × Names)) (g : NameGroup) (rises : IsSortedMap group_cmp groups) where
   -- rows that are put after a group's names are put among them
@@ -159,7 +159,7 @@ module _ (ties : TiesEqualAlone name_cmp) (groups : List (NameGroup × Names)) (
       ∙ put_among (insert_entry key_cmp names row.0 row.1) rows
 
   -- the rows of a new group are put into the one list
-  pub group_put : (row : NameKey × String Global) (rows : Names) → value_at group_cmp groups g ≡ None
+  pub group_put : (row : NameKey × List ℕ) (rows : Names) → value_at group_cmp groups g ≡ None
       → put_all name_cmp (flat_names groups) (group_rows request_of g (row ∷ rows))
       ≡ flat_names (insert_entry group_cmp groups g (put_all key_cmp [] (row ∷ rows)))
   group_put row rows none =
@@ -178,21 +178,21 @@ module _ (ties : TiesEqualAlone name_cmp) (groups : List (NameGroup × Names)) (
 
 -- the names of one group more are put into those of the groups before it
 pub group_step : TiesEqualAlone name_cmp → (all left : List Group) (groups next : List (NameGroup × Names)) (group : Group) (more : List Group)
-    → RiseInGroups group_cmp key_cmp groups → put_all name_cmp [] (flat_rows all) ≡ put_all name_cmp (seen_rows string_bytes (flat_names groups)) (flat_rows left)
+    → RiseInGroups group_cmp key_cmp groups → put_all name_cmp [] (flat_rows all) ≡ put_all name_cmp (seen_rows (λ v. v) (flat_names groups)) (flat_rows left)
     → left ≡ group ∷ more → group.1.items ≢ [] → value_at group_cmp groups group.0 ≡ None
     → next ≡ insert_entry group_cmp groups group.0 (put_all key_cmp [] group.1.items)
-    → (put_all name_cmp [] (flat_rows all) ≡ put_all name_cmp (seen_rows string_bytes (flat_names next)) (flat_rows more))
+    → (put_all name_cmp [] (flat_rows all) ≡ put_all name_cmp (seen_rows (λ v. v) (flat_names next)) (flat_rows more))
     × RiseInGroups group_cmp key_cmp next
 group_step ties all left groups next group more rise so_far is some none grown =
     let rows = group_rows request_of group.0 group.1.items in
-    let names = seen_rows string_bytes (flat_names groups) in
-    let put = sym (seen_rows-put_all name_cmp string_bytes (flat_names groups) rows)
-    ∙ ap (seen_rows string_bytes) (group_put_all ties groups group.0 rise.groups_rise group.1.items some none ∙ ap flat_names (sym grown)) in
+    let names = seen_rows (λ v. v) (flat_names groups) in
+    let put = sym (seen_rows-put_all name_cmp (λ v. v) (flat_names groups) rows)
+    ∙ ap (seen_rows (λ v. v)) (group_put_all ties groups group.0 rise.groups_rise group.1.items some none ∙ ap flat_names (sym grown)) in
     let none_yet : Names = [] in
     let sorted = put_all_rises key_total none_yet group.1.items (IsSortedMap-from_empty key_cmp none_yet refl) in (
       so_far
           ∙ ap (λ groups. put_all name_cmp names (flat_rows groups)) is
-          ∙ put_all-append name_cmp names (seen_rows string_bytes rows) (flat_rows more)
+          ∙ put_all-append name_cmp names (seen_rows (λ v. v) rows) (flat_rows more)
           ∙ ap (λ held. put_all name_cmp held (flat_rows more)) put,
       subst (RiseInGroups group_cmp key_cmp) (sym grown) (rise_after groups group.0 _ rise (sorted, not_empty group.1.items some)),
     )
@@ -211,13 +211,13 @@ absent_where_new (Ok (Some x)) old held is was new = absurd (false≢true (sym n
 -- the rows of a member that a locale names
 pub adds_under : (marker : NameMarker) (name : List ℕ) {depth : ℕ} {tokens rest : List Token} (locale : Option DataLocale) (rows : Names)
     (old new : List ((NameMarker × DataLocale × NameKey) × List ℕ)) → locale_key name ≡ locale
-    → Adds depth tokens (rows_by (λ name. named_row (name_key marker name) text)) [] (seen_rows string_bytes rows) rest
-    → new ≡ old ++ under marker locale (seen_rows string_bytes rows)
+    → Adds depth tokens (rows_by (λ name. named_row (name_key marker name) text)) [] (seen_rows (λ v. v) rows) rest
+    → new ≡ old ++ under marker locale (seen_rows (λ v. v) rows)
     → Adds depth tokens (rows_of_marker name_key text marker name) old new rest
 adds_under marker name locale rows old new named adds grown = record {
   datum = adds.datum;
   begins = adds.begins;
-  said = under marker locale (seen_rows string_bytes rows);
+  said = under marker locale (seen_rows (λ v. v) rows);
   says_so = ap (λ l. rows_by (rows_in_locale name_key text marker l) adds.datum) named
       ∙ said_under marker locale adds.datum
       ∙ ap (option_map (under marker locale)) (adds.says_so ∙ ap (λ said. Some said) (sym adds.added));

@@ -1,7 +1,6 @@
 -- Names in groups, one for each marker and locale, and the one list that a contract sees.
-use Rattle.std.specs.Prelude.{◌≡◌, ◌≢◌, List, [], ◌∷◌, ◌++◌, map, get_or, unwrap_or, Option, None, option_and_then, option_copied, String}
+use Rattle.std.specs.Prelude.{◌≡◌, ◌≢◌, ℕ, List, [], ◌∷◌, ◌++◌, map, get_or, unwrap_or, Option, None, option_and_then, option_copied}
 use Rattle.std.specs.Borrow.{Bor}
-use Rattle.std.specs.Global.{Global}
 use Rattle.std.specs.List.{AllByRecursion}
 use Rattle.std.specs.Ordering.{ordering_then}
 use Rattle.std.specs.declared.cmp.Ordering.{Ordering}
@@ -52,20 +51,20 @@ abbrev pub key_cmp : NameKey → NameKey → Ordering
 key_cmp a b = name_key.ghosts.cmp a b
 
 -- groups of names as one list
-abbrev pub flat_names : List (NameGroup × List (NameKey × String Global))
-    → List ((NameMarker × DataLocale × NameKey) × String Global)
+abbrev pub flat_names : List (NameGroup × List (NameKey × List ℕ))
+    → List ((NameMarker × DataLocale × NameKey) × List ℕ)
 flat_names groups = flat request_of groups
 
 -- the names of a group that is lent, by key
 abbrev pub Names : Type 0
-Names = List (NameKey × String Global)
+Names = List (NameKey × List ℕ)
 
 -- the name at a key in a group, if both are there
-abbrev pub name_in_group : Option (Bor Names) → NameKey → Option (String Global)
+abbrev pub name_in_group : Option (Bor Names) → NameKey → Option (List ℕ)
 name_in_group group key = option_and_then (λ names. value_at key_cmp names key) (option_copied group)
 
 -- the groups of a locale, each at the place of its marker
-abbrev pub AreGroupsIn : List ((NameMarker × DataLocale × NameKey) × String Global) → DataLocale
+abbrev pub AreGroupsIn : List ((NameMarker × DataLocale × NameKey) × List ℕ) → DataLocale
     → List (Option (Bor Names)) → Type 0
 AreGroupsIn rows locale groups = (marker : NameMarker) (key : NameKey)
     → name_in_group (get_or groups (name_place marker) None) key

@@ -1,6 +1,8 @@
 pub mod Fields
 pub mod File
+pub mod FlatNames
 pub mod Groups
+pub mod LentNames
 pub mod Lookups
 pub mod NamedKeys
 pub mod NamedRows

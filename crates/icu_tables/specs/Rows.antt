@@ -90,7 +90,7 @@ rows_of tables = record {
   aliases = option_map alias_rows tables.aliases;
   direction = option_map direction_rows tables.script_direction;
   exemplars = tables.exemplars;
-  names = seen_rows string_bytes tables.names;
+  names = tables.names;
   menus = tables.menus;
   essentials = tables.essentials;
 }

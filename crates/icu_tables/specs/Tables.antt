@@ -1,6 +1,5 @@
 -- What tables in memory answer.
-use Rattle.std.specs.Prelude.{ℕ, Bool, true, false, List, String, if◌then◌else◌, string_bytes, Option, Some, None, option_map, Result, Ok, Err}
-use Rattle.std.specs.Global.{Global}
+use Rattle.std.specs.Prelude.{ℕ, Bool, true, false, List, if◌then◌else◌, Option, Some, None, Result, Ok, Err}
 use Rattle.icu_locale_core.specs.Maps.{value_at}
 use Rattle.icu_provider.specs.Requests.{name_cmp}
 use Rattle.icu_provider.specs.declared.data_locale.DataLocale.{DataLocale}
@@ -73,9 +72,9 @@ is_of_kind marker (Region region) = names_regions marker
 is_of_kind marker (Variant variant) = names_variants marker
 
 -- the name at a request, where the key belongs to the marker
-abbrev pub name_in : List ((NameMarker × DataLocale × NameKey) × String Global)
+abbrev pub name_in : List ((NameMarker × DataLocale × NameKey) × List ℕ)
     → NameMarker → DataLocale → NameKey → Option (List ℕ)
 name_in rows marker locale key =
     if is_of_kind marker key
-    then option_map string_bytes (value_at name_cmp rows (marker, locale, key))
+    then value_at name_cmp rows (marker, locale, key)
     else None

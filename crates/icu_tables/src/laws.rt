@@ -1,6 +1,5 @@
 //! Laws of files of tables. Each function here takes nothing, answers nothing and carries a proved fact.
-ghost use Rattle.std.specs.Prelude.{◌≡◌, ◌∷◌, [], codes, ℕ, List, Some, String};
-ghost use Rattle.std.specs.Global.{Global};
+ghost use Rattle.std.specs.Prelude.{◌≡◌, ◌∷◌, [], codes, ℕ, List, Some};
 ghost use Rattle.std.specs.Cmp.{IsTotalOrder};
 ghost use Rattle.serde_json.specs.Data.{Data};
 ghost use Rattle.icu_provider.specs.Requests.{exemplar_cmp, locale_cmp, menu_cmp, name_cmp};
@@ -77,7 +76,7 @@ fn is_in_order<K: Ord>()
 
 /// The keys that are named in a locale are one list.
 pub fn named_keys_are_one()
-    ensures { (rows : List ((NameMarker × DataLocale × NameKey) × String Global))
+    ensures { (rows : List ((NameMarker × DataLocale × NameKey) × List ℕ))
         (markers : List NameMarker) (locale : DataLocale) (keys others : List NameKey)
         → AreNamedKeys rows markers locale keys → AreNamedKeys rows markers locale others
         → keys ≡ others }

@@ -5,12 +5,15 @@ mod error;
 mod from_json;
 mod kinds;
 pub mod laws;
+mod lent_names;
 mod locale_names;
 mod locale_tables;
 mod name_rows;
+mod named_keys;
 mod one_pass;
 mod supplement;
 mod tables;
+mod to_flat;
 
 pub use error::TableError;
 pub use locale_names::LocaleNames;

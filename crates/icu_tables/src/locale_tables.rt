@@ -2,6 +2,7 @@
 ghost use Rattle.std.specs.Prelude.{◌≡◌, option_copied};
 ghost use Rattle.icu_locale_core.specs.Maps.{value_at};
 ghost use Rattle.icu_provider.specs.Requests.{exemplar_cmp, locale_cmp, menu_cmp};
+ghost use Rattle.icu_tables.specs.LentNames.{all_names};
 ghost use Rattle.icu_tables.specs.Tables.{held, name_in};
 
 use crate::kinds::is_of_kind;
@@ -33,11 +34,11 @@ impl<'d> LocaleTables<'d> {
     /// Tables, to be asked in a locale.
     pub fn new(tables: &'d Tables, locale: DataLocale) -> Self
         ensures tables { result.tables.now ≡ tables.now }
-        ensures names { result.names ≡ tables.now.names }
+        ensures names { result.names ≡ all_names tables.now }
     {
         LocaleTables {
             tables,
-            names: tables.names.in_locale(locale),
+            names: LocaleNames::new(&tables.names, tables.lent_names.as_ref(), locale),
             locale,
             essentials: tables.essentials.get(&locale),
         }
@@ -103,10 +104,7 @@ impl<'d> DataProvider for LocaleTables<'d> {
         if !is_of_kind(marker, &key) {
             return Err(NOT_FOUND);
         }
-        match self.names.get(marker, locale, &key) {
-            Some(name) => Ok(name.as_str()),
-            None => Err(NOT_FOUND),
-        }
+        self.names.get(marker, locale, &key).ok_or(NOT_FOUND)
     }
 
     fn load_menu(

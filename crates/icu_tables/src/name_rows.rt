@@ -1,8 +1,6 @@
 //! Names in two steps: first by marker and locale, and then by key.
-ghost use Rattle.std.specs.Prelude.{◌≡◌, ◌==◌, ◌-◌, ◌^◌, ◌++◌, ◌↔◌, [], length, min, MatchResult, IfErr, IfOk, IfSome, IsTrue, OnOk, option_copied};
-ghost use Rattle.std.specs.List.{Contains};
-ghost use Rattle.std.specs.Map.{keys_of};
-ghost use Rattle.icu_tables.specs.NamedKeys.{AreNamedKeys, is_named_by};
+ghost use Rattle.std.specs.Prelude.{◌≡◌, ◌==◌, ◌-◌, ◌^◌, [], length, min, MatchResult, IfErr, IfOk, IfSome, option_copied, string_bytes};
+ghost use Rattle.icu_tables.specs.NamedKeys.{AreNamedKeys};
 ghost use Rattle.icu_locale_core.specs.Maps.{value_at};
 ghost use Rattle.icu_provider.specs.SortedMaps.{Inserts, IsSortedMap};
 ghost use Rattle.icu_provider.specs.Requests.{name_cmp};
@@ -10,16 +8,17 @@ ghost use Rattle.icu_tables.specs.Groups.{RiseInGroups, flat_names, group_cmp, k
 
 use crate::LocaleNames;
 use crate::from_json::members::in_one_list;
-use icu_provider::laws::{equality_is_told, keys_are_told_apart};
+use crate::named_keys::named_keys;
+use icu_provider::laws::keys_are_told_apart;
 use icu_provider::{
-    DataError, DataErrorKind, DataLocale, NameKey, NameMarker, NotedMap, SortedMap,
+    DataError, DataErrorKind, DataLocale, NameKey, NameMarker, NotedMap, SortedMap, TableText,
 };
 use std::alloc::{AllocError, Global};
 use std::collections::BTreeMap;
 use std::marker::Model;
 
 // The names of a marker and a locale, by key.
-type Names = NotedMap<NameKey, String>;
+pub(crate) type Names = NotedMap<NameKey, TableText>;
 
 /// Names by marker, locale and key. A marker and a locale that have names are a group with a map of its own, so that a
 /// request whose marker and locale have none is answered by a look at the groups alone. A contract sees one list of
@@ -36,14 +35,13 @@ impl Drop for NameRows {
 }
 
 impl Model for NameRows {
-    ghost use Rattle.std.specs.Prelude.{List, String};
-    ghost use Rattle.std.specs.Global.{Global};
+    ghost use Rattle.std.specs.Prelude.{List, ℕ};
     ghost use Rattle.icu_provider.specs.declared.data_locale.DataLocale.{DataLocale};
     ghost use Rattle.icu_provider.specs.declared.names.NameKey.{NameKey};
     ghost use Rattle.icu_provider.specs.declared.names.NameMarker.{NameMarker};
     ghost use Rattle.icu_tables.specs.Groups.{RiseInGroups, flat_names, group_cmp, key_cmp};
 
-    ghost Value = { List ((NameMarker × DataLocale × NameKey) × String Global) };
+    ghost Value = { List ((NameMarker × DataLocale × NameKey) × List ℕ) };
 
     ghost view = { λ m. flat_names m.groups };
 
@@ -73,6 +71,13 @@ impl NameRows {
         })
     }
 
+    // The names of each marker and locale that have some.
+    pub(crate) fn groups(&self) -> &[((NameMarker, DataLocale), Names)]
+        ensures { flat_names result.now ≡ self.now }
+    {
+        self.groups.as_slice()
+    }
+
     /// How many names there are, or the largest `usize` where there are more. It asks each group once.
     pub fn len(&self) -> usize
         ensures { result ≡ min (length self.now) (2 ^ 64 - 1) }
@@ -90,11 +95,11 @@ impl NameRows {
     /// The name at a marker, a locale and a key, found by binary search of the marker and the locale among the groups,
     /// and then among the names of that group alone.
     #[inline]
-    pub fn get(&self, marker: NameMarker, locale: DataLocale, key: &NameKey) -> Option<&String>
+    pub fn get(&self, marker: NameMarker, locale: DataLocale, key: &NameKey) -> Option<&str>
         ensures { option_copied result
             ≡ value_at name_cmp self.now (marker, locale, key.now) }
     {
-        self.group(marker, &locale)?.get(key)
+        Some(self.group(marker, &locale)?.get(key)?.as_str())
     }
 
     // The names of a marker and a locale, if there are any, found by binary search.
@@ -119,16 +124,15 @@ impl NameRows {
     ) -> Result<Vec<NameKey>, AllocError>
         ensures { IfOk result (λ keys. AreNamedKeys self.now markers.now locale.now keys.items) }
     {
-        keys_are_told_apart();
-        equality_is_told();
-        let mut keys = self.gathered(alloc, markers, locale)?;
-        keys.sort_unstable();
-        keys.dedup();
-        Ok(keys)
+        named_keys(alloc, self, None, markers, locale)
     }
 
     // The names of a marker and a locale.
-    fn names_of(&self, marker: NameMarker, locale: &DataLocale) -> &[(NameKey, String)]
+    pub(crate) fn names_of(
+        &self,
+        marker: NameMarker,
+        locale: &DataLocale,
+    ) -> &[(NameKey, TableText)]
         ensures { (key : NameKey) → value_at key_cmp result.now key
             ≡ value_at name_cmp self.now (marker, locale.now, key) }
     {
@@ -138,29 +142,11 @@ impl NameRows {
         }
     }
 
-    // The keys that each of the markers names in a locale.
-    fn gathered(
-        &self,
-        alloc: Global,
-        markers: &[NameMarker],
-        locale: &DataLocale,
-    ) -> Result<Vec<NameKey>, AllocError>
-        ensures { IfOk result (λ keys. (key : NameKey) → Contains keys.items key
-            ↔ IsTrue (is_named_by self.now markers.now locale.now key)) }
-    {
-        keys_are_told_apart();
-        let mut keys = Vec::new(alloc);
-        for marker in markers {
-            add_keys(&mut keys, self.names_of(*marker, locale))?;
-        }
-        Ok(keys)
-    }
-
     /// The same names, to be asked in one locale again and again. It takes no memory.
     pub fn in_locale(&self, locale: DataLocale) -> LocaleNames<'_>
         ensures { result ≡ self.now }
     {
-        LocaleNames::new(self, locale)
+        LocaleNames::new(self, None, locale)
     }
 
     /// Sets the name at a marker, a locale and a key. A key that is there stays and takes the name, with no memory
@@ -178,6 +164,22 @@ impl NameRows {
         key: NameKey,
         name: String,
     ) -> Result<(), DataError>
+        ensures { Inserts name_cmp self.old self.new (marker, locale, key)
+            (string_bytes name) result }
+    {
+        let alloc = *name.allocator();
+        self.put(alloc, marker, locale, key, TableText::new(name))
+    }
+
+    // Sets the name at a marker, a locale and a key, as `insert` does.
+    pub(crate) fn put(
+        &mut self,
+        alloc: Global,
+        marker: NameMarker,
+        locale: DataLocale,
+        key: NameKey,
+        name: TableText,
+    ) -> Result<(), DataError>
         ensures { Inserts name_cmp self.old self.new (marker, locale, key) name result }
     {
         keys_are_told_apart();
@@ -185,7 +187,6 @@ impl NameRows {
         match self.groups.get_mut(&group) {
             Some(names) => names.insert(key, name),
             None => {
-                let alloc = *name.allocator();
                 let names = vec![in alloc; (key, name)]?;
                 self.groups
                     .insert(group, NotedMap::from_sorted(alloc, names))
@@ -220,16 +221,6 @@ impl NameRows {
     {
         let _ = &self.groups;
     }
-}
-
-// The keys of names are appended to others.
-fn add_keys(keys: &mut Vec<NameKey>, names: &[(NameKey, String)]) -> Result<(), AllocError>
-    ensures { OnOk result (keys.new.items ≡ keys.old.items ++ keys_of names.now) }
-{
-    for name in names {
-        keys.push(name.0)?;
-    }
-    Ok(())
 }
 
 // How many names are in groups.

@@ -1,12 +1,16 @@
 //! Tables in memory, and the provider that they are.
-ghost use Rattle.std.specs.Prelude.{◌≡◌, [], Some, None, option_copied};
+ghost use Rattle.std.specs.Prelude.{◌≡◌, [], IfOk, Some, None, option_copied, string_bytes};
 ghost use Rattle.icu_locale_core.specs.Maps.{value_at};
 ghost use Rattle.icu_provider.specs.SortedMaps.{Inserts, IsSortedMap};
 ghost use Rattle.icu_provider.specs.Requests.{exemplar_cmp, locale_cmp, menu_cmp, name_cmp};
+ghost use Rattle.icu_tables.specs.LentNames.{all_names};
+ghost use Rattle.icu_tables.specs.NamedKeys.{AreNamedKeys};
 ghost use Rattle.icu_tables.specs.Supplement.{no_supplement};
 ghost use Rattle.icu_tables.specs.Tables.{held, name_in};
 
 use crate::kinds::is_of_kind;
+use crate::lent_names::own_or_lent;
+use crate::named_keys::named_keys;
 use crate::{NameRows, Supplement};
 use icu_locale_core::Language;
 use icu_provider::{
@@ -15,7 +19,8 @@ use icu_provider::{
     LocaleNamesEssentials, MenuMarker, MenuNameParts, NameKey, NameMarker, ScriptDirection,
     SortedMap,
 };
-use std::alloc::Global;
+use icu_tables_flat::FlatTexts;
+use std::alloc::{AllocError, Global};
 
 /// Data in memory. A load of what is not held is refused by `IdentifierNotFound`. Only an insert of a key that is not
 /// there yet takes memory.
@@ -35,6 +40,8 @@ pub struct Tables {
     pub exemplars: SortedMap<(ExemplarMarker, DataLocale), ExemplarCharactersData>,
     /// The names, by marker and locale, and then by key.
     pub names: NameRows,
+    /// Names in the flat form, if any are lent. One of `names` goes before one that is lent.
+    pub lent_names: Option<FlatTexts<'static>>,
     /// The names in menus, by marker, locale and language.
     pub menus: SortedMap<(MenuMarker, DataLocale, Language), MenuNameParts>,
     /// How the parts of names are put together, by locale.
@@ -53,6 +60,7 @@ impl Drop for Tables {
             script_direction: _,
             exemplars: _,
             names: _,
+            lent_names: _,
             menus: _,
             essentials: _,
             supplement: _,
@@ -71,6 +79,7 @@ impl Tables {
           script_direction = None;
           exemplars = [];
           names = [];
+          lent_names = None;
           menus = [];
           essentials = [];
           supplement = no_supplement;
@@ -84,6 +93,7 @@ impl Tables {
             script_direction: None,
             exemplars: SortedMap::new(alloc),
             names: NameRows::new(alloc),
+            lent_names: None,
             menus: SortedMap::new(alloc),
             essentials: SortedMap::new(alloc),
             supplement: Supplement::new(alloc),
@@ -132,6 +142,15 @@ impl Tables {
         self.supplement = supplement;
     }
 
+    /// Takes names in the flat form, in place of those lent before: a row is the name of a locale and a marker, such as
+    /// `zh-Hant/language/medium/light`, a key and its name. A row whose name or key is not in written form is skipped. It
+    /// takes no memory.
+    pub fn set_lent_names(&mut self, names: FlatTexts<'static>)
+        ensures { self.new ≡ record self.old { lent_names = Some names.entry } }
+    {
+        self.lent_names = Some(names);
+    }
+
     /// Sets the exemplar characters of a marker and a locale. A set that is there gives way.
     ///
     /// # Errors
@@ -167,7 +186,7 @@ impl Tables {
     ) -> Result<(), DataError>
         ensures tables { self.new ≡ record self.old { names = self.new.names } }
         ensures insert { Inserts name_cmp self.old.names self.new.names
-            (marker, locale, key) name result }
+            (marker, locale, key) (string_bytes name) result }
     {
         self.names.insert(marker, locale, key, name)
     }
@@ -225,12 +244,38 @@ impl Tables {
         let _ = self.essentials.as_slice();
     }
 
+    /// The keys that some of the markers names in a locale, own names and lent ones, each once, in rising order. It takes
+    /// memory for them.
+    ///
+    /// # Errors
+    ///
+    /// The allocator's, where memory for the keys was refused.
+    pub fn name_keys_in(
+        &self,
+        alloc: Global,
+        markers: &[NameMarker],
+        locale: &DataLocale,
+    ) -> Result<Vec<NameKey>, AllocError>
+        ensures { IfOk result (λ keys.
+            AreNamedKeys (all_names self.now) markers.now locale.now keys.items) }
+    {
+        named_keys(
+            alloc,
+            &self.names,
+            self.lent_names.as_ref(),
+            markers,
+            locale,
+        )
+    }
+
     // The name of a request, of any kind.
     #[inline]
-    fn name_at(&self, marker: NameMarker, locale: DataLocale, key: NameKey) -> Option<&String>
-        ensures { option_copied result ≡ value_at name_cmp self.now.names (marker, locale, key) }
+    fn name_at(&self, marker: NameMarker, locale: DataLocale, key: NameKey) -> Option<&str>
+        ensures { option_copied result
+            ≡ value_at name_cmp (all_names self.now) (marker, locale, key) }
     {
-        self.names.get(marker, locale, &key)
+        let own = self.names.get(marker, locale, &key);
+        own_or_lent(own, self.lent_names.as_ref(), marker, &locale, &key)
     }
 }
 
@@ -252,7 +297,7 @@ impl DataProvider for Tables {
     ghost exemplars = { λ t marker locale.
         held (value_at exemplar_cmp t.exemplars (marker, locale)) };
 
-    ghost name = { λ t marker locale key. held (name_in t.names marker locale key) };
+    ghost name = { λ t marker locale key. held (name_in (all_names t) marker locale key) };
 
     ghost menu = { λ t marker locale language.
         held (value_at menu_cmp t.menus (marker, locale, language)) };
@@ -296,10 +341,7 @@ impl DataProvider for Tables {
         if !is_of_kind(marker, &key) {
             return Err(NOT_FOUND);
         }
-        match self.name_at(marker, locale, key) {
-            Some(name) => Ok(name.as_str()),
-            None => Err(NOT_FOUND),
-        }
+        self.name_at(marker, locale, key).ok_or(NOT_FOUND)
     }
 
     fn load_menu(

@@ -148,7 +148,7 @@ joined (x ∷ a) b (y ∷ c) d p q =
     ∙ ap (ordering_then (nat_cmp x y)) rest
 
 -- two readings of which both are there
-both_there : {A B : Type 0} (first : Option A) (second : Option B) (x : A × B)
+pub both_there : {A B : Type 0} (first : Option A) (second : Option B) (x : A × B)
     → both first second ≡ Some x → (first ≡ Some x.0) × (second ≡ Some x.1)
 both_there None second x is = absurd (none-some x is)
 both_there (Some a) None x is = absurd (none-some x is)

@@ -105,11 +105,11 @@ module _ {F : Type 0} (names : F → List (List ℕ)) (Holds : F → Members →
     pub holds : are_distinct (names old) ≡ true → Holds old no_members → Holds new found
 
 -- names in groups as they came, each with its whole key
-abbrev pub flat_rows : List (NameGroup × Vec (NameKey × String Global) Global)
+abbrev pub flat_rows : List (NameGroup × Vec (NameKey × List ℕ) Global)
     → List ((NameMarker × DataLocale × NameKey) × List ℕ)
 flat_rows [] = []
 flat_rows (group ∷ groups) =
-    seen_rows string_bytes (group_rows request_of group.0 group.1.items) ++ flat_rows groups
+    seen_rows (λ v. v) (group_rows request_of group.0 group.1.items) ++ flat_rows groups
 
 -- what was read is what the JSON value of a text says
 pub record IsSaidBy {A : Type 0} (text : List ℕ) (shape : Shape A) (said : A) : Type 0 where

@@ -95,7 +95,7 @@ file_seen tables = record {
   aliases = option_map alias_seen tables.aliases;
   direction = option_map direction_rows tables.script_direction;
   exemplars = seen_rows (λ v. v) tables.exemplars;
-  names = seen_rows string_bytes tables.names;
+  names = seen_rows (λ v. v) tables.names;
   menus = seen_rows (λ v. v) tables.menus;
   essentials = seen_rows (λ v. v) tables.essentials;
 }

@@ -23,7 +23,10 @@ impl FromValue for TableText {
     ghost shape = { text };
 
     fn from_value(alloc: Global, value: &Value) -> Result<Self, TableError> {
-        Ok(TableText::new(String::from_value(alloc, value)?))
+        match value.as_str() {
+            Some(text) => Ok(TableText::of(alloc, text)?),
+            None => Err(TableError::Shape),
+        }
     }
 }
 
@@ -48,7 +51,7 @@ impl<V: FromValue> PutsRows<TableText, V> for ByText {
         map: &mut BTreeMap<TableText, V>,
     ) -> Result<(), TableError> {
         let held = V::from_value(alloc, value)?;
-        let key = TableText::new(String::from_str(alloc, name)?);
+        let key = TableText::of(alloc, name)?;
         let _ = map.insert(key, held)?;
         Ok(())
     }

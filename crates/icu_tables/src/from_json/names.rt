@@ -1,5 +1,5 @@
 //! Markers, keys and values of names, and of names in menus.
-ghost use Rattle.std.specs.Prelude.{◌≡◌, [], codes, string_bytes, Some, IfOk, IfErr};
+ghost use Rattle.std.specs.Prelude.{◌≡◌, [], codes, Some, IfOk, IfErr};
 ghost use Rattle.serde_json.specs.Find.{get};
 ghost use Rattle.serde_json.specs.View.{view};
 ghost use Rattle.icu_provider.specs.Requests.{name_cmp};
@@ -19,7 +19,7 @@ use crate::from_json::values::FromValue;
 use crate::kinds::{names_languages, names_regions, names_scripts};
 use crate::{NameRows, TableError};
 use icu_locale_core::{Language, Region, Script, Variant};
-use icu_provider::{DataLocale, MenuMarker, MenuNameParts, NameKey, NameMarker};
+use icu_provider::{DataLocale, MenuMarker, MenuNameParts, NameKey, NameMarker, TableText};
 use serde_json::Value;
 use std::alloc::Global;
 use std::collections::BTreeMap;
@@ -27,7 +27,7 @@ use std::collections::BTreeMap;
 impl<'v> MemberReader<'v> {
     // Fills names with those of the member of that name, and with none if it is not there.
     pub(crate) fn fill_names(mut self, names: &mut NameRows) -> MemberReader<'v>
-        ensures { GoesOn self.entry result (seen_rows string_bytes names.new)
+        ensures { GoesOn self.entry result (seen_rows (λ v. v) names.new)
             (λ object. said_or (Some []) (map_by name_cmp marked_names)
             (get (codes "names") object)) }
     {
@@ -41,7 +41,7 @@ impl<'v> MemberReader<'v> {
 // Puts the names of a file in place of what is there, and none where the file has no such member.
 fn fill_names(alloc: Global, object: &Value, names: &mut NameRows) -> Result<(), TableError>
     ensures { let found = get (codes "names") (view object.now) in
-        Fills result (seen_rows string_bytes names.new)
+        Fills result (seen_rows (λ v. v) names.new)
         (said_or (Some []) (map_by name_cmp marked_names) found) }
 {
     let rows = rows_said(alloc, object, "names", &Marked)?;
@@ -53,7 +53,7 @@ fn fill_names(alloc: Global, object: &Value, names: &mut NameRows) -> Result<(),
 // the next begins.
 fn in_groups(
     alloc: Global,
-    map: BTreeMap<(NameMarker, DataLocale, NameKey), String>,
+    map: BTreeMap<(NameMarker, DataLocale, NameKey), TableText>,
 ) -> Result<NameRows, TableError>
     ensures rows { IfOk result (λ rows. rows ≡ map.entries) }
     ensures refused { IfErr result (λ e. e ≡ TableError.Memory) }
@@ -62,7 +62,7 @@ fn in_groups(
     let mut group = None;
     for ((marker, locale, key), name) in map {
         enter_group(alloc, &mut rows, &mut group, &marker, &locale)?;
-        let Ok(()) = rows.insert(marker, locale, key, name) else {
+        let Ok(()) = rows.put(alloc, marker, locale, key, name) else {
             return Err(TableError::Memory);
         };
     }

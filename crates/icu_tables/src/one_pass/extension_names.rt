@@ -5,15 +5,15 @@ use crate::from_json::extension_names::ByText;
 use crate::one_pass::fields::{ReadsNext, field_by, field_named, read_fields};
 use crate::one_pass::named::ByRows;
 use crate::one_pass::rows::{AddsRows, add_members, settled};
-use crate::one_pass::tokens::FromTokens;
+use crate::one_pass::tokens::{FromTokens, next_text};
 use icu_provider::{ExtensionNames, SortedMap, TableText};
 use json::Reader;
 use std::alloc::Global;
 
 // A text of any content.
 impl FromTokens for TableText {
-    fn from_tokens(alloc: Global, reader: &mut Reader<'_>, depth: usize) -> Option<Self> {
-        Some(TableText::new(String::from_tokens(alloc, reader, depth)?))
+    fn from_tokens(alloc: Global, reader: &mut Reader<'_>, _depth: usize) -> Option<Self> {
+        TableText::of(alloc, next_text(reader)?).ok()
     }
 }
 
@@ -36,7 +36,7 @@ impl<V: FromTokens> AddsRows<TableText, Vec<(TableText, V)>> for ByText {
         list: &mut Vec<(TableText, V)>,
     ) -> Option<()> {
         let value = V::from_tokens(alloc, reader, depth)?;
-        let key = TableText::new(String::from_str(alloc, name).ok()?);
+        let key = TableText::of(alloc, name).ok()?;
         list.push((key, value)).ok()?;
         Some(())
     }

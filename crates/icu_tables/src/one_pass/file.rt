@@ -43,6 +43,7 @@ impl FromTokens for Tables {
             script_direction: direction.read,
             exemplars: exemplars.read.unwrap_or(SortedMap::new(alloc)),
             names: names.read.unwrap_or(NameRows::new(alloc)),
+            lent_names: None,
             menus: menus.read.unwrap_or(SortedMap::new(alloc)),
             essentials: essentials.read.unwrap_or(SortedMap::new(alloc)),
             supplement: Supplement::new(alloc),

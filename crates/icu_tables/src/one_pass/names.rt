@@ -1,5 +1,5 @@
 //! Names by marker, locale and key.
-ghost use Rattle.std.specs.Prelude.{◌≡◌, [], IfSome, string_bytes};
+ghost use Rattle.std.specs.Prelude.{◌≡◌, [], IfSome};
 ghost use Rattle.icu_provider.specs.Requests.{name_cmp};
 ghost use Rattle.icu_tables.specs.NamedRows.{marked_names};
 ghost use Rattle.icu_tables.specs.Puts.{map_by, put_all};
@@ -13,13 +13,13 @@ use crate::from_json::members::{NamesKeys, RowByRow};
 use crate::one_pass::fields::ReadsNext;
 use crate::one_pass::rows::{AddsRows, add_members, settled};
 use icu_provider::laws::keys_are_told_apart;
-use icu_provider::{DataLocale, NameKey, NameMarker};
+use icu_provider::{DataLocale, NameKey, NameMarker, TableText};
 use json::Reader;
 use std::alloc::Global;
 use std::collections::BTreeMap;
 
 // The names of a marker and a locale, as they come in a text.
-type Group = ((NameMarker, DataLocale), Vec<(NameKey, String)>);
+type Group = ((NameMarker, DataLocale), Vec<(NameKey, TableText)>);
 
 // Names in the groups of markers.
 #[derive(Clone, Copy)]
@@ -110,7 +110,7 @@ impl ReadsNext<NameRows> for MarkedNames {
 
     ghost Seen = { List ((NameMarker × DataLocale × NameKey) × List ℕ) };
 
-    ghost seen = { λ names. seen_rows string_bytes names };
+    ghost seen = { λ names. seen_rows (λ v. v) names };
 
     ghost shape = { λ _. map_by name_cmp marked_names };
 
@@ -123,7 +123,7 @@ impl ReadsNext<NameRows> for MarkedNames {
 
 // The names of groups of which no two have one marker and one locale.
 fn in_groups(alloc: Global, groups: Vec<Group>) -> Option<NameRows>
-    ensures { IfSome result (λ names. seen_rows string_bytes names
+    ensures { IfSome result (λ names. seen_rows (λ v. v) names
         ≡ put_all name_cmp [] (flat_rows groups.items)) }
 {
     keys_are_told_apart();

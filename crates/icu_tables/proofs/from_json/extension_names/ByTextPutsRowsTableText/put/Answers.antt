@@ -6,5 +6,5 @@ use Rattle.icu_tables.proofs.from_json.extension_names.ByTextPutsRowsTableText.p
 -- the row is put at its key
 pub returns : goal.returns
 returns g c =
-    row_put text_cmp g.V.FromValue.seen c.args.map.now.entries c.insert.new.self.entries c.new-key.result c.in_ok-held.held _
-    c.in_ok-insert.ensures.entries (rw (c.in_ok-held.ensures, c.new-key.ensures, c.in_ok-from_str.ensures.ok) refl)
+    row_put text_cmp g.V.FromValue.seen c.args.map.now.entries c.insert.new.self.entries c.in_ok-key.key c.in_ok-held.held _
+    c.in_ok-insert.ensures.entries (rw (c.in_ok-held.ensures, c.in_ok-key.ensures.text) refl)

@@ -1,6 +1,6 @@
 use Rattle.std.proofs.lemmas.List.Filters.{dedup_is}
 use Rattle.icu_tables.proofs.NamedKeys.{key_ties, once_each, once_rises}
-use Rattle.icu_tables.proofs.name_rows.NameRows.keys_in.Goals as goal
+use Rattle.icu_tables.proofs.named_keys.named_keys.Goals as goal
 
 -- the keys are sorted, and each is there once
 pub returns : goal.returns

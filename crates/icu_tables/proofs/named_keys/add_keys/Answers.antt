@@ -1,7 +1,7 @@
 use Rattle.std.proofs.Common.{◌++◌, ◌≤◌, ◌∙◌, ap, arith, length}
 use Rattle.std.specs.Map.{keys_of}
 use Rattle.std.proofs.lemmas.List.{take_all}
-use Rattle.icu_tables.proofs.name_rows.add_keys.Goals as goal
+use Rattle.icu_tables.proofs.named_keys.add_keys.Goals as goal
 
 -- all names were walked
 pub returns : goal.returns

@@ -1,6 +1,6 @@
 use Rattle.std.proofs.Common.{◌≡◌, ◌++◌, take}
 use Rattle.std.specs.Map.{keys_of}
-use Rattle.icu_tables.proofs.name_rows.add_keys.Given as goal
+use Rattle.icu_tables.proofs.named_keys.add_keys.Given as goal
 
 -- the keys of the names so far stand after those that were there
 abbrev pub invariant-loop-name : goal.invariant-loop-name

@@ -2,7 +2,7 @@ use Rattle.std.proofs.Common.{IsSome, rules, sym, subst}
 use Rattle.std.proofs.lemmas.Bool.{false≢true}
 use Rattle.icu_tables.specs.Groups.{NameGroup}
 use Rattle.icu_tables.proofs.NameGroups.{name_missing, names_after, rise_after, inserts_there, one_rises, rise_new, inserts_new}
-use Rattle.icu_tables.proofs.name_rows.NameRows.insert.Goals as goal
+use Rattle.icu_tables.proofs.name_rows.NameRows.put.Goals as goal
 
 -- the group is there, and takes the row
 pub invariant_of-self : goal.invariant_of-self
