@@ -1,6 +1,6 @@
 -- A line has one answer at most.
 use Rattle.std.proofs.Common.{◌≡◌, ◌≢◌, ◌↔◌, ◌⊎◌, ℕ, ◌<◌, ◌≤◌, Bool, false, List, [], ◌∷◌, Option, Some, None, Result, Ok, Err, refl}
-use Rattle.std.proofs.Common.{◌++◌, String, ap, codes, sym, subst, ◌∙◌, inl, inr, arith, true}
+use Rattle.std.proofs.Common.{◌++◌, ap, codes, sym, subst, ◌∙◌, inl, inr, arith, true}
 use Rattle.std.proofs.lemmas.Option.{same_Some, none-some}
 use Rattle.icu_locale_core.specs.Identifier.{written}
 use Rattle.icu_locale_core.specs.declared.langid.LanguageIdentifier.{LanguageIdentifier}
@@ -56,8 +56,8 @@ use Rattle.icu_locale_parts.specs.Parts.{members}
 use Rattle.icu_provider.specs.declared.data_locale.DataLocale.{DataLocale}
 use Rattle.icu_provider.specs.declared.names.NameKey.{NameKey}
 use Rattle.icu_provider.specs.declared.names.NameMarker.{NameMarker}
+use Rattle.icu_tables.specs.LentNames.{all_names}
 use Rattle.icu_tables.specs.NamedKeys.{AreNamedKeys}
-use Rattle.std.specs.Global.{Global}
 use Rattle.icu_locale_lines.specs.Names.{IsNamedLine, name_asked, whole_name_asked}
 use Rattle.icu_locale_lines.specs.Texts.{changed_line, canonical_line, whole_line, refused_line, matched_line}
 use Rattle.icu_locale_fallback.specs.declared.fallbacker.LocaleFallbackerWithConfig.{LocaleFallbackerWithConfig}
@@ -224,7 +224,7 @@ module _ (table : LikelySubtags) (requests available : List LanguageIdentifier) 
 
 -- the keys that are named are one list
 abbrev pub KeysAreOne : Type 0
-KeysAreOne = (rows : List ((NameMarker × DataLocale × NameKey) × String Global)) (markers : List NameMarker) (locale : DataLocale)
+KeysAreOne = (rows : List ((NameMarker × DataLocale × NameKey) × List ℕ)) (markers : List NameMarker) (locale : DataLocale)
     (keys others : List NameKey) → AreNamedKeys rows markers locale keys → AreNamedKeys rows markers locale others → keys ≡ others
 
 module _ (spelling : SpellingFacts) (minimal_one : (favor : Favor) (table : LikelySubtags) (x y z : LanguageIdentifier)
@@ -324,4 +324,4 @@ module _ (spelling : SpellingFacts) (minimal_one : (favor : Favor) (table : Like
   answer_by_one syntax (tools.Exemplars set) h k = same h.0 k.0 refl h.1 k.1
   answer_by_one syntax (tools.Subtags list) (keys, are, told, accepted) (others, also, told', accepted') =
       same told told' (ap (λ ks. members (began list.kind line ks) ++ codes "\n")
-      (one_list list.tables.now.names (markers_of list.kind) list.locale keys others are also)) accepted accepted'
+      (one_list (all_names list.tables.now) (markers_of list.kind) list.locale keys others are also)) accepted accepted'

@@ -19,6 +19,7 @@ use Rattle.icu_locale.specs.LikelySubtags.{AreSettled}
 use Rattle.icu_locale.specs.declared.canonicalizer.rules.ReadRules.{ReadRules}
 use Rattle.icu_locale.specs.declared.expander.LocaleExpander.{LocaleExpander}
 use Rattle.icu_locale_names.specs.declared.name_chain.NameChain.{NameChain}
+use Rattle.icu_tables.specs.LentNames.{all_names}
 use Rattle.icu_tables.specs.declared.tables.Tables.{Tables}
 use Rattle.icu_locale_lines.specs.Lines.{first_line, after_first_line}
 use Rattle.icu_locale_lines.specs.Lists.{listed, IsAvailable}
@@ -143,7 +144,7 @@ IsNamedBy false t canonicalizer = canonicalizer ≡ None
 pub record IsNamingOf (syntax : Option Syntax) (chain : NameChain)
     (preferences : DisplayNamesPreferences) (t : Tables) (n : Naming) : Type 0 where
   pub tables : n.tables.tables.now ≡ t
-  pub names : n.tables.names ≡ t.names
+  pub names : n.tables.names ≡ all_names t
   pub chain_is : n.chain ≡ chain
   pub preferences_are : n.preferences ≡ preferences
   pub extensions : option_copied n.extensions
@@ -154,7 +155,7 @@ pub record IsNamingOf (syntax : Option Syntax) (chain : NameChain)
 pub record IsSubtagNamingOf (chain : SubtagChain) (preferences : DisplayNamesPreferences)
     (t : Tables) (n : SubtagNaming) : Type 0 where
   pub tables : n.tables.tables.now ≡ t
-  pub names : n.tables.names ≡ t.names
+  pub names : n.tables.names ≡ all_names t
   pub chain_is : n.chain ≡ chain
   pub preferences_are : n.preferences ≡ preferences
 

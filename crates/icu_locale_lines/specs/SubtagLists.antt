@@ -6,6 +6,7 @@ use Rattle.icu_provider.specs.declared.names.NameKey.{NameKey}
 use Rattle.icu_provider.specs.declared.names.NameKey.TheVariants as key
 use Rattle.icu_provider.specs.declared.names.NameMarker.{NameMarker}
 use Rattle.icu_provider.specs.declared.names.NameMarker.TheVariants as names
+use Rattle.icu_tables.specs.LentNames.{all_names}
 use Rattle.icu_tables.specs.NamedKeys.{AreNamedKeys}
 use Rattle.icu_locale_lines.specs.declared.work.subtag.SubtagKind.{SubtagKind}
 use Rattle.icu_locale_lines.specs.declared.work.subtag.SubtagKind.TheVariants as kind
@@ -46,5 +47,5 @@ after_any any xs = flat_map (λ x. (if any then codes " " else []) ++ x) xs
 -- the subtags of a kind that have a name in a locale and begin with the line: each once, rising
 abbrev pub IsListedLine : SubtagList → (line text : List ℕ) → Bool → Type 0
 IsListedLine list line text accepted = (keys : List NameKey)
-    × AreNamedKeys list.tables.now.names (markers_of list.kind) list.locale keys
+    × AreNamedKeys (all_names list.tables.now) (markers_of list.kind) list.locale keys
     × (text ≡ members (began list.kind line keys) ++ codes "\n") × (accepted ≡ true)

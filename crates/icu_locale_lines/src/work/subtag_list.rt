@@ -29,8 +29,10 @@ pub fn add_list(text: &mut Vec<u8>, list: &SubtagList<'_>, line: &[u8]) -> Resul
     ensures refused { IfErr result (λ e. e ≡ CliError.Memory) }
     ensures kept { OnErr result (Keeps text.old.items text.new.items) }
 {
-    let names = &list.tables.names;
-    let keys = names.keys_in(*text.allocator(), markers_of(list.kind), &list.locale)?;
+    let alloc = *text.allocator();
+    let keys = list
+        .tables
+        .name_keys_in(alloc, markers_of(list.kind), &list.locale)?;
     add_subtags(text, list.kind, line, &keys)?;
     add_text(text, "\n")?;
     Ok(true)
