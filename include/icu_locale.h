@@ -25,6 +25,9 @@
  * - A pointer and the length after it are a slice: as many bytes can be read there, at `out` as many can be written.
  *   No pointer is null, not even where the length is 0. Lengths are at most PTRDIFF_MAX. What is read does not change
  *   during the call, by no other thread and by no file that is mapped there.
+ * - What icu_locale_lend_names is handed is read after the call too. It stays where it is, and as it is, until no handle
+ *   has the tables any more, or other names are lent. Where a file is mapped there, nobody writes to it or cuts it off
+ *   meanwhile: a newer one is renamed to its name.
  * - `written`, `request`, `available` and a handle are whole, and aligned as their types want.
  * - `out`, `written`, `request`, `available` and a handle share no byte with each other, nor with a slice that is read.
  *   Slices that are read may overlap. The two handles of icu_locale_share are two, and so are those of
@@ -63,12 +66,12 @@ struct icu_locale {
 
 /* The numbers that calls return. */
 enum {
-    /* icu_locale_open, icu_locale_supplement, icu_locale_share, icu_locale_available and icu_locale_available_in: it is
-       done. */
+    /* icu_locale_open, icu_locale_supplement, icu_locale_lend_names, icu_locale_share, icu_locale_available and
+       icu_locale_available_in: it is done. */
     ICU_LOCALE_DONE = 0,
 
-    /* icu_locale_answer: the line is accepted, and `out` begins with the answer. icu_locale_fault: the text is a locale
-       identifier. */
+    /* icu_locale_answer: the line is accepted, and `out` begins with the answer. icu_locale_flat_names: `out` begins with
+       the names. icu_locale_fault: the text is a locale identifier. */
     ICU_LOCALE_ACCEPTED = 0,
 
     /* icu_locale_answer: the line is refused, and `out` begins with the program's answer to that: `?`, a tab and the name
@@ -91,7 +94,8 @@ enum {
     /* Any call on a handle but icu_locale_open and icu_locale_close: the handle is closed. */
     ICU_LOCALE_CLOSED = 2,
 
-    /* icu_locale_answer, icu_locale_data_name and icu_locale_refusal_text: there is too little room. */
+    /* icu_locale_answer, icu_locale_flat_names, icu_locale_data_name and icu_locale_refusal_text: there is too little
+       room. */
     ICU_LOCALE_ROOM = 3,
 
     /* Memory was asked for and refused. */
@@ -100,7 +104,8 @@ enum {
     /* icu_locale_open and icu_locale_supplement: the text is no JSON. */
     ICU_LOCALE_JSON = 5,
 
-    /* icu_locale_open and icu_locale_supplement: the JSON has not the shape of tables, or of a supplement. */
+    /* icu_locale_open and icu_locale_supplement: the JSON has not the shape of tables, or of a supplement.
+       icu_locale_lend_names: the bytes have not the flat form. icu_locale_flat_names: the names have none. */
     ICU_LOCALE_SHAPE = 6,
 
     /* icu_locale_answer: no command has these words. icu_locale_available_in, icu_locale_negotiate_in and
@@ -123,7 +128,7 @@ enum {
        settled. This is told before the line is read. */
     ICU_LOCALE_UNSETTLED = 11,
 
-    /* icu_locale_supplement: another handle has the tables too. */
+    /* icu_locale_supplement and icu_locale_lend_names: another handle has the tables too. */
     ICU_LOCALE_SHARED = 12
 };
 
@@ -146,6 +151,46 @@ int32_t icu_locale_open(const uint8_t *json, size_t json_length, struct icu_loca
  * handle is told before the text is read, and that other handles have the tables after it.
  */
 int32_t icu_locale_supplement(struct icu_locale *handle, const uint8_t *json, size_t json_length);
+
+/*
+ * Lends names that lie in the flat form, in place of those lent before. A name is asked of the tables' own rows first, and
+ * then of what is lent. The bytes are looked through here, once, and nothing of them is copied: what a caller owes for it is
+ * above. It comes before the first icu_locale_share and icu_locale_available on the handle, as icu_locale_supplement does.
+ * Bytes without groups take back what was lent.
+ *
+ * ICU_LOCALE_DONE: the names are lent. What the handle holds besides is as it was.
+ * ICU_LOCALE_CLOSED, ICU_LOCALE_SHAPE, ICU_LOCALE_SHARED: all is as it was, and the bytes are not kept. No memory is taken.
+ * A closed handle is told before the bytes are read, and that other handles have the tables after it.
+ *
+ * The flat form has numbers of four bytes, the least first, but for two of two bytes in each row:
+ *
+ *      0   ICUTEXT1
+ *      8   how many groups there are; 12 how many runs; 16 how many rows
+ *     20   for each group: the place of its name among the texts, how many bytes that has, and the number of its run
+ *          for each run: how many rows are before its end. The first begins at row 0, and each other where one ends.
+ *          for each row: the place of its key, the place of its text, how many bytes the key has, how many the text
+ *          the texts, up to the end
+ *
+ * Places are counted in bytes from the beginning of the texts, and runs from 0. The texts are UTF-8, and each name, key and
+ * text lies among them and begins and ends between two characters. Names rise from group to group by their bytes, and keys
+ * from row to row of a run. Ends of runs do not fall, and the last is the number of rows; without runs there are no rows.
+ * Several groups may have one run, and several rows one text.
+ *
+ * The name of a group is a locale and a marker, as JSON tables have them at `names`, with a slash between:
+ * `zh-Hant/language/medium/light`. Keys and texts are as there. A group or a key that is not in written form is never
+ * found. `tools/flat-names` writes the form too.
+ */
+int32_t icu_locale_lend_names(struct icu_locale *handle, const uint8_t *flat, size_t flat_length);
+
+/*
+ * Writes the names of the handle's tables in the flat form to `out`: their own, and not those that are lent. The same
+ * tables give the same bytes.
+ *
+ * ICU_LOCALE_ACCEPTED: `out` begins with the names, which have `*written` bytes. ICU_LOCALE_ROOM: `*written` is how many
+ * bytes they have. ICU_LOCALE_CLOSED, ICU_LOCALE_SHAPE where a key or a text has more than 65,535 bytes, ICU_LOCALE_MEMORY.
+ * `out` is as it was, and `*written` 0 but for ICU_LOCALE_ROOM.
+ */
+int32_t icu_locale_flat_names(struct icu_locale *handle, uint8_t *out, size_t room, size_t *written);
 
 /*
  * Makes `to` a second handle to the tables of `from`, as for another thread. The tables are there once; they go when the

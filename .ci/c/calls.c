@@ -376,7 +376,7 @@ static void places(void) {
 // Each number has the text that the header's words for it have, and 64 bytes are enough.
 static void refusal_texts(void) {
     const char *words[] = {"the handle is closed", "there is too little room", "memory was asked for and refused",
-                           "the text is no JSON", "the JSON has not the shape of tables, or of a supplement",
+                           "the text is no JSON", "the shape is not that of tables, a supplement or lent names",
                            "no command or syntax has these words", "the tables leave out one that is needed",
                            "the handle holds no list of what is available", "the text lists something that is no identifier",
                            "the likely tables are not settled", "another handle has the tables too"};

@@ -126,6 +126,22 @@ static int supplement(struct icu_locale *handle) {
     return 1;
 }
 
+// Names are lent and written, and the same once more where memory was refused. Nothing is written then.
+static int names(struct icu_locale *handle) {
+    static const uint8_t none[20] = "ICUTEXT1";
+    static uint8_t out[8192];
+    size_t written = 77;
+    int32_t number = icu_locale_lend_names(handle, none, sizeof none);
+    int refusals = number == ICU_LOCALE_MEMORY;
+    want(number == ICU_LOCALE_DONE || number == ICU_LOCALE_MEMORY, "names are lent");
+    if (refusals) want(icu_locale_lend_names(handle, none, sizeof none) == ICU_LOCALE_DONE, "the next names are lent");
+    number = icu_locale_flat_names(handle, out, sizeof out, &written);
+    want(number == ICU_LOCALE_ACCEPTED ? written > 20 : number == ICU_LOCALE_MEMORY && written == 0, "names are written");
+    if (number == ICU_LOCALE_ACCEPTED) return refusals;
+    want(icu_locale_flat_names(handle, out, sizeof out, &written) == ICU_LOCALE_ACCEPTED, "the next names are written");
+    return refusals + 1;
+}
+
 // All that is done over two handles, and one with a list. Where a request is refused, what was held stays, and the call says so.
 static int run(void) {
     struct icu_locale one = {0}, other = {0};
@@ -135,6 +151,7 @@ static int run(void) {
     refusals += number == ICU_LOCALE_MEMORY;
     if (number != ICU_LOCALE_DONE) want(icu_locale_open(json, length, &one) == ICU_LOCALE_DONE, "the next open");
     refusals += supplement(&one);
+    refusals += names(&one);
     for (int row = 0; row < ROWS; row++) {
         if (row_of(&one, row) != ICU_LOCALE_MEMORY) continue;
         refusals += 1;

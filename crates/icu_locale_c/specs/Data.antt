@@ -1,5 +1,5 @@
 -- The name of the data that is held.
-use Rattle.std.specs.Prelude.{◌≡◌, ◌<◌, ℕ, List, take, length, Bool, true, false, Option, Some, None, IsSomeAnd, Result, Ok, Err}
+use Rattle.std.specs.Prelude.{◌≡◌, ◌<◌, ℕ, List, take, length, Bool, true, false, Option, Some, None, Result, Ok, Err}
 use Rattle.icu_tables.specs.declared.tables.Tables.{Tables}
 use Rattle.icu_locale_c.specs.Calls.{Writes}
 use Rattle.icu_locale_c.specs.Held.{Held}

@@ -9,6 +9,7 @@ ghost use Rattle.icu_locale_c.specs.Places.{IsPlaced};
 ghost use Rattle.icu_locale_c.specs.Refusals.{IsRefusalText};
 ghost use Rattle.icu_locale_c.specs.declared.refusal.Refusal.{Refusal};
 
+mod flat;
 mod handle;
 mod kept;
 mod kept_list;

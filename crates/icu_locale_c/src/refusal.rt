@@ -80,7 +80,7 @@ impl Refusal {
             Refusal::Room => "there is too little room",
             Refusal::Memory => "memory was asked for and refused",
             Refusal::Json => "the text is no JSON",
-            Refusal::Shape => "the JSON has not the shape of tables, or of a supplement",
+            Refusal::Shape => "the shape is not that of tables, a supplement or lent names",
             Refusal::Command => "no command or syntax has these words",
             Refusal::Table => "the tables leave out one that is needed",
             Refusal::Negotiate => "the handle holds no list of what is available",

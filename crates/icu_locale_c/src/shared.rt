@@ -2,6 +2,7 @@
 ghost use Rattle.std.specs.Prelude.{◌≡◌, [], Some, IfOk, IfErr, IfSome};
 ghost use Rattle.icu_locale_c.specs.Calls.{IsCall, IsSettledCall, IsSupplemented};
 ghost use Rattle.icu_locale_c.specs.Data.{IsNamedCall};
+ghost use Rattle.icu_locale_c.specs.Flat.{IsFlatCall, IsLent};
 ghost use Rattle.icu_locale_c.specs.Held.{Held, AreKept, IsListOver, held, held_code, without_list};
 ghost use Rattle.icu_locale_c.specs.Negotiations.{IsListed, IsMet, IsRefusedListing, IsRefusedNegotiation};
 
@@ -14,6 +15,7 @@ use crate::words::read_command;
 use icu_locale_extensions::Syntax;
 use icu_locale_lines::{Offered, load_expander};
 use icu_tables::{Supplement, TableError, Tables};
+use icu_tables_flat::{FlatError, FlatTexts};
 use std::alloc::Global;
 use std::marker::Model;
 use std::sync::Arc;
@@ -79,6 +81,38 @@ impl Shared {
                 Ok(())
             }
             None => Err(Refusal::Shared),
+        }
+    }
+
+    // Lends names in the flat form to the tables, where no other handle has them.
+    pub fn lend_names(&mut self, flat: &'static [u8]) -> Result<(), Refusal>
+        ensures { IsLent (Some self.old) flat.now (Some self.new) result }
+    {
+        let Ok(names) = FlatTexts::from_bytes(flat) else {
+            return Err(Refusal::Shape);
+        };
+        let Some(tables) = Arc::get_mut(&mut self.tables) else {
+            return Err(Refusal::Shared);
+        };
+        tables.set_lent_names(names);
+        self.kept.served = None;
+        Ok(())
+    }
+
+    // Writes the tables' own names in the flat form to the beginning of `out`. No length has been told before.
+    pub fn put_flat_names(
+        &self,
+        alloc: Global,
+        out: &mut [u8],
+        written: &mut usize,
+    ) -> Result<(), Refusal>
+        requires { written.old ≡ 0 }
+        ensures { IsFlatCall self.now.tables out.old out.new written.new result }
+    {
+        match self.tables.names.to_flat(alloc) {
+            Ok(bytes) => put_text(&bytes, out, written),
+            Err(FlatError::Memory) => Err(Refusal::Memory),
+            Err(_) => Err(Refusal::Shape),
         }
     }
 
