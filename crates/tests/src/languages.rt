@@ -3,6 +3,7 @@ ghost use Rattle.std.specs.Prelude.{Err, if◌then◌else◌};
 ghost use Rattle.icu_locale_core.specs.Maps.{value_at};
 ghost use Rattle.icu_provider.specs.Requests.{exemplar_cmp, locale_cmp, menu_cmp};
 ghost use Rattle.icu_provider.specs.contracts.names.NameMarkerPartialEq.TheImpl as name_marker;
+ghost use Rattle.icu_tables.specs.LentNames.{all_names};
 ghost use Rattle.icu_tables.specs.Tables.{held, name_in};
 
 use icu_locale_core::{Language, LanguageIdentifier};
@@ -159,7 +160,7 @@ impl DataProvider for RefusingTwo<'_> {
     ghost name = { λ p marker locale key.
         if name_marker.ghosts.eq p.first marker then Err p.first_refusal
         else if name_marker.ghosts.eq p.second marker then Err p.second_refusal
-        else held (name_in p.tables.now.names marker locale key) };
+        else held (name_in (all_names p.tables.now) marker locale key) };
 
     ghost menu = { λ p marker locale language.
         held (value_at menu_cmp p.tables.now.menus (marker, locale, language)) };

@@ -14,6 +14,8 @@ mod constructors;
 #[cfg(test)]
 mod faults;
 #[cfg(test)]
+mod flat;
+#[cfg(test)]
 mod full_names;
 #[cfg(test)]
 mod grammar;

@@ -14,7 +14,7 @@ const NOT_FOUND: DataError = DataError {
     kind: DataErrorKind::IdentifierNotFound,
 };
 
-fn english(rt: &impl Abort) -> DataLocale {
+pub fn english(rt: &impl Abort) -> DataLocale {
     DataLocale {
         language: language("en").expect(rt, "language"),
         script: None,

@@ -3,6 +3,7 @@ use crate::budget::{Answered, Call, stands};
 use icu_locale_lines::SAMPLE;
 use icu_provider::{DataLocale, DataProvider};
 use icu_tables::{TableError, Tables};
+use icu_tables_flat::FlatError;
 use std::alloc::Global;
 use tests_shared::known::english;
 use tests_shared::values::{CIRCLING, ENDING};
@@ -37,6 +38,24 @@ impl Call for ReadTables<'_> {
     }
 }
 
+// Writing the names of tables in the flat form.
+#[derive(Drop)]
+struct WriteNames<'t> {
+    tables: &'t Tables,
+    length: usize,
+}
+
+impl Call for WriteNames<'_> {
+    fn answer(&self, alloc: Global) -> Answered {
+        match self.tables.names.to_flat(alloc) {
+            Ok(bytes) if bytes.len() == self.length => Answered::Whole,
+            Ok(_) => Answered::Wrong,
+            Err(FlatError::Memory) => Answered::Refused,
+            Err(_) => Answered::Wrong,
+        }
+    }
+}
+
 fn told(tables: &Tables, english: DataLocale) -> (usize, bool) {
     let replaced = match tables.load_aliases() {
         Ok(aliases) => aliases.language_len2.len(),
@@ -55,4 +74,15 @@ fn tables_from_json(rt: HostRuntime) {
         };
         stands(&rt, rt.alloc(), &call);
     }
+}
+
+#[test]
+fn names_to_flat(rt: HostRuntime) {
+    let tables = Tables::from_json(rt.alloc(), SAMPLE.as_bytes()).expect(&rt, "the sample");
+    let bytes = tables.names.to_flat(rt.alloc()).expect(&rt, "memory");
+    let call = WriteNames {
+        tables: &tables,
+        length: bytes.len(),
+    };
+    stands(&rt, rt.alloc(), &call);
 }

@@ -5,6 +5,7 @@ ghost use Rattle.icu_locale_core.specs.Maps.{value_at};
 ghost use Rattle.icu_provider.specs.Requests.{exemplar_cmp, locale_cmp, menu_cmp};
 ghost use Rattle.icu_provider.specs.contracts.names.NameKeyPartialEq.TheImpl as name_key;
 ghost use Rattle.icu_provider.specs.contracts.names.NameMarkerPartialEq.TheImpl as name_marker;
+ghost use Rattle.icu_tables.specs.LentNames.{all_names};
 ghost use Rattle.icu_tables.specs.Tables.{held, name_in};
 
 use icu_locale_core::Language;
@@ -88,8 +89,8 @@ impl DataProvider for Refusing<'_> {
         if unwrap_or (option_map (λ at. name_marker.ghosts.eq at marker) p.names_at) true
         && unwrap_or (option_map (λ of. name_key.ghosts.eq of key) p.names_of) true
         then unwrap_or (option_map (λ e. Err e) p.names)
-        (held (name_in p.tables.now.names marker locale key))
-        else held (name_in p.tables.now.names marker locale key) };
+        (held (name_in (all_names p.tables.now) marker locale key))
+        else held (name_in (all_names p.tables.now) marker locale key) };
 
     ghost menu = { λ p marker locale language. unwrap_or (option_map (λ e. Err e) p.menus)
         (held (value_at menu_cmp p.tables.now.menus (marker, locale, language))) };
