@@ -37,6 +37,8 @@ class Calls:
         self.list_fault = _call(short.icu_locale_list_fault, *_TEXT, *_TEXT, size_at)
         self.fault = _call(short.icu_locale_fault, *_TEXT, size_at, size_at)
         self.data_name = _call(short.icu_locale_data_name, _HANDLE, ctypes.c_void_p, SIZE, size_at)
+        self.lend_names = _call(long.icu_locale_lend_names, _HANDLE, ctypes.c_void_p, SIZE)
+        self.flat_names = _call(long.icu_locale_flat_names, _HANDLE, ctypes.c_void_p, SIZE, size_at)
         self.close = _call(short.icu_locale_close, _HANDLE)
         short.icu_locale_close.restype = None
 

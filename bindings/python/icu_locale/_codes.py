@@ -1,5 +1,5 @@
 """What tables know of codes: which are valid, what each is called, which have a name, and exemplar characters."""
-from typing import List, Literal, NamedTuple, Optional, Tuple, cast
+from typing import Callable, List, Literal, NamedTuple, Optional, Tuple, cast
 
 from ._answers import CHAINS, Answers, Chain, Named, Syntax, no_command
 from ._held import EXEMPLARS, ROOM
@@ -158,24 +158,25 @@ class Codes(Answers):
         >>> Tables.from_json(TABLES, '{"cldr": "41"}').data_name, Tables.from_json(TABLES).data_name
         ('41', None)
         """
-        slot = self._take()
-
-        def ask() -> int:
-            return self._calls.data_name(slot.handle, slot.out_at, slot.room, slot.written_at)
-
-        try:
-            number = ask()
-            if number == ROOM:
-                slot.make_room(slot.written.value)
-                number = ask()
-            told: bytes = slot.out[:slot.written.value]
-        finally:
-            self._give_back(slot)
+        number, told = self._written(self._calls.data_name)
         if number == LineRefused.number:
             return None
         if number:
             refuse(number)
         return told.decode()
+
+    def _written(self, call: Callable[..., int]) -> Tuple[int, bytes]:
+        """The number of a call that writes into a room, and what it has written. It is made again where it wants more room."""
+        slot = self._take()
+        try:
+            number = call(slot.handle, slot.out_at, slot.room, slot.written_at)
+            if number == ROOM:
+                slot.make_room(slot.written.value)
+                number = call(slot.handle, slot.out_at, slot.room, slot.written_at)
+            told: bytes = slot.out[:slot.written.value]
+        finally:
+            self._give_back(slot)
+        return number, told
 
 
 def _invalid(told: str, identifier: Text) -> Invalid:

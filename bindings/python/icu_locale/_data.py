@@ -2,6 +2,7 @@
 import contextlib
 import gzip
 import itertools
+import mmap
 import os
 import zlib
 from pathlib import Path
@@ -19,6 +20,7 @@ FOLDERS = (HERE / "data", TOP / "out" / "data", Path("/usr/share/icu-locale"))
 VARIABLE = "ICU_LOCALE_DATA"
 BASE = "base-and-supplement"
 LEAST = 4  # lines of it
+ALL, FLAT = "all-but-names", "names.flat"
 NO_DATA = ("this package has none of CLDR's data inside, and there is no Debian package icu-locale-data; "
            "Tables.from_cldr takes a folder of it, as Debian's package unicode-cldr-core has one")
 
@@ -28,7 +30,7 @@ def no_chain(_: str) -> List[str]:
     return []
 
 
-def texts_of(locales: Locales, chain: Chain = no_chain) -> Tuple[bytes, bytes]:
+def texts_of(locales: Iterable[str], chain: Chain = no_chain) -> Tuple[bytes, bytes]:
     """The text of the tables that have the names of some locales, and that of their supplement. `chain` tells the chain of a
     locale that CLDR has no names in."""
     folder = data_folder()
@@ -44,6 +46,26 @@ def texts_of(locales: Locales, chain: Chain = no_chain) -> Tuple[bytes, bytes]:
                 column.append(b'"%s":%s' % (locale.encode(), row))
     called, *parts = (part + b",".join(column) for part, column in zip((supplement, *before), columns))
     return b"".join([*parts, end]), called + behind
+
+
+def texts_of_all() -> Tuple[bytes, bytes]:
+    """The text of the tables of all locales without names, and that of their supplement."""
+    folder = data_folder()
+    with _opened(folder, ALL) as file:
+        lines = file.read().split(b"\n")
+    if len(lines) != 2:  # the supplement, and the tables
+        raise damaged(folder / f"{ALL}.gz", "it has not two lines")
+    return lines[1], lines[0]
+
+
+def names_of_all() -> mmap.mmap:
+    """The names of all locales in the flat form, as they lie in their file."""
+    path = data_folder() / FLAT
+    try:
+        with path.open("rb") as file:
+            return mmap.mmap(file.fileno(), 0, access=mmap.ACCESS_READ)
+    except (OSError, ValueError) as fault:
+        raise damaged(path, fault) from None
 
 
 def cldr_locales() -> List[str]:
@@ -91,7 +113,7 @@ def _opened(folder: Path, name: str) -> Iterator[gzip.GzipFile]:
         raise damaged(path, fault) from None
 
 
-def _rows_of(folder: Path, language: str, tables: int, wanted: Optional[Set[str]] = None) -> Dict[str, Rows]:
+def _rows_of(folder: Path, language: str, tables: int, wanted: Set[str]) -> Dict[str, Rows]:
     """The rows of the locales of a language, or of its first block where that has the wanted ones: one for each table, which is
     empty where there is none. The file is read to its end, where its sum is, or the first block has a sum of its own."""
     found: Dict[str, Rows] = {}
@@ -103,7 +125,7 @@ def _rows_of(folder: Path, language: str, tables: int, wanted: Optional[Set[str]
             lines = [file.readline() for _ in range(tables * len(groups))]
             rows = [line.rstrip(b"\n") for line in lines]
             found.update((locale, rows[place::len(groups)]) for place, group in enumerate(groups) for locale in group)
-            if number == 0 < len(blocks) - 1 and wanted is not None and wanted <= found.keys():
+            if number == 0 < len(blocks) - 1 and wanted <= found.keys():
                 if head[:8] != b"%08x" % zlib.crc32(b"".join([head[8:], *lines])):
                     raise zlib.error("its first block has another sum")
                 return found
@@ -124,11 +146,8 @@ def in_chain(locale: str, chain: Chain, names: Mapping[str, str]) -> str:
     raise NoCldr(f"CLDR has no locale {cut(locale)}")
 
 
-def _chosen(folder: Path, locales: Locales, chain: Chain, tables: int) -> Dict[str, Rows]:
+def _chosen(folder: Path, locales: Iterable[str], chain: Chain, tables: int) -> Dict[str, Rows]:
     """The rows of some locales, in the order of their names: tables whose members come so are read in one pass."""
-    if locales == "all":
-        languages = {path.stem for path in folder.glob("*.gz")} - {BASE}
-        return dict(sorted(row for language in languages for row in _rows_of(folder, language, tables).items()))
     if isinstance(locales, (str, bytes)):
         raise TypeError("one text is no list of locales, but for `all`, which is every one")
     names: Dict[str, str] = {}

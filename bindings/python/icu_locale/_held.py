@@ -86,12 +86,20 @@ class Held(NoCopies):
         self._root = Slot()
         self._free: List[Slot] = []
         self._is_open = False
+        # What is lent to the tables. It stays where it is as long as one of their handles may be asked, in a call that runs
+        # while they are closed too.
+        self._lent: Optional[memoryview] = None
 
     def _share_root(self, to: Slot) -> None:
         with self._rooted:
             number = self._calls.share(self._root.handle, to.handle)
         if number:
             refuse(number)
+
+    def _share_with(self, made: "Held") -> None:
+        """Makes the root of another object a handle to these tables, with what is lent to them."""
+        self._share_root(made._root)
+        made._lent = self._lent  # no other names are lent to tables that two have
 
     def _fresh(self) -> Slot:
         """A new handle that holds what this object's handles hold."""

@@ -81,7 +81,7 @@ class NotSettled(Refused, ValueError):
 
 
 class TablesShared(Refused, ValueError):
-    """Other handles have the tables too, so that they get no other supplement."""
+    """Other handles have the tables too, so that they get no other supplement and no other names."""
 
     number = 12
 

@@ -4,7 +4,8 @@ from typing import Any, Iterable, List, Optional, Tuple, Union, overload
 
 from ._answers import Syntax
 from ._codes import Codes
-from ._data import Locales, damaged, data_folder, texts_of
+from ._data import Locales, damaged, data_folder, names_of_all, texts_of, texts_of_all
+from ._lent import Flat, address_of, view_of
 from ._negotiator import Negotiator, Tag, gathered, line_of, listed
 from ._refusals import InvalidList, LineRefused, NoJson, NoTables, Text, as_bytes, refuse
 from ._switcher import Default, Headers, Resolved, Switcher, option_words
@@ -60,14 +61,18 @@ class Tables(Codes):
     def cldr(cls, locales: Locales = ()) -> "Tables":
         """The tables of CLDR's data that this package has inside, with the names of some locales, as ["en", "zh-Hant"],
         and their supplement, by which `serve` and `fallback` go, and which has what parts of extensions are called in these
-        locales, but for subdivisions and time zones. The likely tables are settled. The word `all` is every
-        locale. In the place of one that CLDR has no names in comes the first of its chain, as `zh-Hant-TW` for `zh-TW`;
-        `cldr_locales` lists them. `NoCldr` is raised where there is none, or no data, or a file is damaged, which is named.
-        One locale takes some hundredths of a second, `all` a second.
+        locales, but for subdivisions and time zones. The likely tables are settled. The word `all` is every locale, whose
+        names are lent from the file that has them. In the place of one that CLDR has no names in comes the first of its
+        chain, as `zh-Hant-TW` for `zh-TW`; `cldr_locales` lists them. `NoCldr` is raised where there is none, or no data, or
+        a file is damaged, which is named. One locale takes some hundredths of a second.
         """
-        texts = texts_of(locales, _cldr_chain)
+        is_all = locales == "all"
+        texts, names = (texts_of_all(), names_of_all()) if is_all else (texts_of(locales, _cldr_chain), None)
         try:
-            return cls.from_json(*texts)
+            made = cls.from_json(*texts)
+            if names is not None:
+                made.lend_names(names)
+            return made
         except (NoJson, NoTables) as fault:
             raise damaged(data_folder(), fault) from None
 
@@ -97,9 +102,56 @@ class Tables(Codes):
         'zh-Hans-CN'
         """
         made = type(self)._closed()
-        self._share_root(made._root)
+        self._share_with(made)
         made._is_open = True
         return made
+
+    def lend_names(self, names: Flat) -> None:
+        """Lends names that lie in the flat form, in place of those lent before: bytes, or a map of a file that is only read.
+        Nothing is copied. A name is asked of the tables' own rows first, and then of what is lent. The bytes are looked through
+        once, here; they are kept until these tables, and all that is made of them, are collected. Nobody may change the file
+        that is mapped. It raises `NoTables` where the bytes have not the form, and `TablesShared` where these tables have been
+        shared, or a negotiator or a switcher has them, or a call runs; what was lent before stays then.
+
+        >>> from icu_locale.example import TABLES
+        >>> flat = Tables.from_json(TABLES).flat_names()
+        >>> tables = Tables.from_json('{"essentials": {"en": {"pattern": [0, " (", 1, ")"], "separator": [0, ", ", 1]}}}')
+        >>> tables.name("it-US", "en")
+        'it (US)'
+        >>> tables.lend_names(flat)
+        >>> tables.name("it-US", "en")
+        'Italian (United States)'
+        >>> tables.lend_names(flat[:-1])
+        Traceback (most recent call last):
+            ...
+        icu_locale.NoTables: The bytes are no names in the flat form.
+        """
+        view = view_of(names)
+        with self._rooted:
+            self._negotiator = None
+            self._let_go()
+            number = self._calls.lend_names(self._root.handle, address_of(view), view.nbytes)
+            if not number:
+                self._lent = view
+        if number == NoTables.number:
+            raise NoTables("The bytes are no names in the flat form.")
+        if number:
+            refuse(number)
+
+    def flat_names(self) -> bytes:
+        """The names of the tables themselves, without those that are lent to them, in the flat form, which icu_locale_lend_names
+        of icu_locale.h tells. It raises `NoTables` where a key or a text has more than 65,535 bytes.
+
+        >>> from icu_locale.example import TABLES
+        >>> Tables.from_json(TABLES).flat_names()[:8]
+        b'ICUTEXT1'
+        """
+        number, flat = self._written(self._calls.flat_names)
+        if number == NoTables.number:
+            raise NoTables("A key or a text of the names has more than 65,535 bytes.")
+        if number:
+            refuse(number)
+        return flat
 
     def negotiator(self, available: Iterable[Text], *, syntax: Optional[Syntax] = None) -> Negotiator:
         """What serves a reader one of the identifiers that are available. It holds these tables too: they may be closed.
@@ -123,7 +175,7 @@ class Tables(Codes):
     def _negotiator_over(self, available: Tuple[Text, ...], word: bytes = b"") -> Negotiator:
         made = Negotiator._closed()
         made._available, made._line, made._word = available, line_of(available), word
-        self._share_root(made._root)
+        self._share_with(made)
         try:
             made._free.append(made._fresh())
         except InvalidList:

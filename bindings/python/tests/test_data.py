@@ -1,5 +1,7 @@
 """CLDR's data inside the package: its answers are those of CLDR's folder. In a clone `tools/package-data out/data` makes
 it."""
+import contextlib
+import gc
 import gzip
 import json
 import os
@@ -11,6 +13,7 @@ from unittest import mock
 
 from icu_locale import MenuRow, NameMissing, NoCldr, Refused, Tables, _data, _menu, cldr_locales, cldr_version
 from icu_locale._tables import DEBIAN_CLDR
+from icu_locale.cldr import flat
 
 LANGUAGES = ("und", "en", "de", "sr", "zh", "ar", "iw", "hy", "sgn", "mo", "tlh", "yue")
 HAS_DATA = any((folder / "base-and-supplement.gz").is_file() for folder in _data.FOLDERS)
@@ -121,7 +124,7 @@ class Data(unittest.TestCase):
     def test_first_groups(self):
         folder = next(folder for folder in _data.FOLDERS if folder.is_dir())
         for path in sorted(folder.glob("*.gz")):
-            if path.stem != _data.BASE:
+            if path.stem not in (_data.BASE, _data.ALL):
                 with gzip.open(path) as file:
                     names = file.readline().decode("ascii").rstrip("\n").rpartition(":")[2]
                 first = names.partition("|")[0].partition(";")[0]
@@ -138,6 +141,46 @@ class Data(unittest.TestCase):
 
         for text in _data.texts_of(asked):
             json.loads(text, object_pairs_hook=in_order)
+
+    def test_all(self):
+        """What `all` opens is what each locale has, with the names in the flat form."""
+        tables, supplement = map(json.loads, _data.texts_of(cldr_locales()))
+        with contextlib.closing(_data.names_of_all()) as names:
+            self.assertEqual(flat.read(names), flat.groups_of(tables.pop("names")))
+        self.assertEqual(tuple(map(json.loads, _data.texts_of_all())), (tables, supplement))
+
+    def test_names_that_are_lent(self):
+        """They stay as long as what was made of the tables."""
+        tables = Tables.cldr("all")
+        self.assertEqual(len(tables.flat_names()), flat.HEAD.size)
+        switcher, shared = tables.switcher(["en", "de"]), tables.share()
+        tables.close()
+        del tables
+        gc.collect()
+        self.assertEqual((shared.name("it", "de"), switcher.serve("de-AT")), ("Italienisch", "de"))
+        with Tables.cldr(["de"]) as one, Tables.cldr("all") as every:
+            for kind in ("languages", "scripts", "regions", "variants"):
+                self.assertEqual(every.listed(kind, "de"), one.listed(kind, "de"))
+
+    def test_damage_of_all(self):
+        folder = next(folder for folder in _data.FOLDERS if folder.is_dir())
+        with tempfile.TemporaryDirectory() as work, mock.patch.object(_data, "FOLDERS", (Path(work),)):
+            files = {name: (folder / name).read_bytes() for name in ("base-and-supplement.gz", "all-but-names.gz", "names.flat")}
+            for name, whole in files.items():
+                Path(work, name).write_bytes(whole)
+            Tables.cldr("all").close()
+            whole = files["names.flat"]
+            packed = [gzip.compress(text) for text in (b"", b"{}", b"{}\n{}\n{}", b"{\n{}", b"{}\n[]")]
+            for name, faults in (("names.flat", [b"", b"no file", whole[:-1], whole[:8] + b"\xff" + whole[9:]]),
+                                 ("all-but-names.gz", [b"", b"no file", files["all-but-names.gz"][:-9], *packed])):
+                for fault in faults:
+                    Path(work, name).write_bytes(fault)
+                    with self.assertRaisesRegex(NoCldr, f"{work}(/{name})? is damaged"):
+                        Tables.cldr("all")
+                Path(work, name).unlink()
+                with self.assertRaisesRegex(NoCldr, f"{name} is damaged"):
+                    Tables.cldr("all")
+                Path(work, name).write_bytes(files[name])
 
     def test_damage(self):
         folder = next(folder for folder in _data.FOLDERS if folder.is_dir())

@@ -40,6 +40,8 @@ def codes() -> List[str]:
         called: List[str] = tables.listed(kinds, "en")
         has: bool = tables.has_exemplar(among, "en", "ng")
         name: Optional[str] = tables.data_name
+        flat: bytes = tables.flat_names()
+        tables.lend_names(memoryview(flat))
     return [f"{kind} {status} {parts[0].start + 1} {valid} {has} {name}", *(each.name for each in names), *called]
 
 
