@@ -36,9 +36,12 @@ fn write_data(folders: &[PathBuf]) {
     let told = |name| folder.and_then(|folder| fs::read_to_string(folder.join(name)).ok());
     let (version, locales) = (told("version"), told("locales").unwrap_or_default());
     let (version, locales) = (version.as_deref().map(str::trim), locales.lines().collect::<Vec<_>>());
+    let flat = folder.map(|folder| folder.join("names.flat")).filter(|path| path.exists());
+    let flat = flat.map_or_else(|| String::from("&[]"), |path| included(&path));
     let text = format!(
         "/// The files.\npub const FILES: &[(&str, &[u8])] = &[{}];\n/// CLDR's version.\npub const VERSION: Option<&str> = {version:?};\n\
-         /// The locales that there are names in, in the order of their texts.\npub const LOCALES: &[&str] = &{locales:?};\n",
+         /// The locales that there are names in, in the order of their texts.\npub const LOCALES: &[&str] = &{locales:?};\n\
+         /// The names of all locales in the flat form.\npub static FLAT: &[u8] = {flat};\n",
         rows.concat()
     );
     let to = PathBuf::from(env::var("OUT_DIR").expect("cargo names a folder for it")).join("data.rs");
@@ -54,6 +57,9 @@ fn files_of(folder: &Path) -> Vec<PathBuf> {
 
 fn row_of(path: &Path) -> String {
     let name = path.file_stem().unwrap_or_default().to_string_lossy().into_owned();
-    let path = path.to_str().expect("the path of the data is a text");
-    format!("({name:?}, include_bytes!({path:?})),\n")
+    format!("({name:?}, {}),\n", included(path))
+}
+
+fn included(path: &Path) -> String {
+    format!("include_bytes!({:?})", path.to_str().expect("the path of the data is a text"))
 }

@@ -68,6 +68,8 @@ extern "C" {
         available: *mut usize,
     ) -> i32;
     pub fn icu_locale_fault(text: *const u8, length: usize, from: *mut usize, to: *mut usize) -> i32;
+    pub fn icu_locale_lend_names(handle: *mut Handle, flat: *const u8, length: usize) -> i32;
+    pub fn icu_locale_flat_names(handle: *mut Handle, out: *mut u8, room: usize, written: *mut usize) -> i32;
     pub fn icu_locale_data_name(handle: *mut Handle, out: *mut u8, room: usize, written: *mut usize) -> i32;
     pub fn icu_locale_close(handle: *mut Handle);
 }

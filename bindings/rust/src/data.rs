@@ -8,22 +8,23 @@ use std::iter::once;
 include!(concat!(env!("OUT_DIR"), "/data.rs"));
 
 const BASE: &str = "base-and-supplement";
-const ALL: &str = "all";
+const ALL: &str = "all-but-names";
 
 /// A part of tables before the rows of locales, and the rows.
 type Column<'a> = (&'a [u8], Vec<u8>);
 
 /// The text of the tables that have the names of some locales, and that of their supplement.
 pub fn texts_of(locales: &[&str]) -> Result<(Vec<u8>, Vec<u8>), Refusal> {
-    with_columns(|columns| {
-        if locales != [ALL] {
-            return put_some(locales, columns);
-        }
-        for (language, _) in FILES.iter().filter(|(name, _)| *name != BASE) {
-            put(&unpacked(language, |_| None)?.unwrap_or_default(), |_| true, columns);
-        }
-        Ok(())
-    })
+    with_columns(|columns| put_some(locales, columns))
+}
+
+/// The text of the tables of all locales without their names, which are in `FLAT`, and that of their supplement.
+pub fn texts_of_all() -> Result<(Vec<u8>, Vec<u8>), Refusal> {
+    let text = unpacked(ALL, |_| None)?.filter(|_| !FLAT.is_empty()).ok_or(Refusal::NoData)?;
+    match lines(&text).collect::<Vec<_>>()[..] {
+        [supplement, tables] => Ok((tables.to_vec(), supplement.to_vec())),
+        _ => Err(Refusal::Damaged { file: ALL }),
+    }
 }
 
 // Where names begin in the text of tables.
@@ -140,7 +141,8 @@ fn put_some(locales: &[&str], columns: &mut [Column<'_>]) -> Result<(), Refusal>
         if !languages.contains_key(language) {
             let its: Vec<&String> = keys.iter().filter(|key| language_of(key) == language).collect();
             let enough = |text: &[u8]| first_block(text, &its, columns.len() - 1).map(is_whole);
-            languages.insert(language, if language == BASE { None } else { unpacked(language, enough)? }.unwrap_or_default());
+            let is_language = ![BASE, ALL].contains(&language);
+            languages.insert(language, if is_language { unpacked(language, enough)? } else { None }.unwrap_or_default());
         }
         let is_new = !keys[..place].contains(key);
         if is_new && !put(&languages[language], |name| name.eq_ignore_ascii_case(key), columns) {
@@ -207,7 +209,7 @@ fn put_row(column: &mut Vec<u8>, name: &str, row: &[u8]) {
 
 #[cfg(test)]
 mod tests {
-    use super::{first_block, is_whole, lines, texts_of, unpacked, BASE, FILES};
+    use super::{first_block, is_whole, lines, texts_of, unpacked, ALL, BASE, FILES};
 
     #[test]
     fn rows_come_in_the_order_of_their_names() {
@@ -221,7 +223,7 @@ mod tests {
     #[test]
     fn a_first_block_with_another_sum() {
         let base = unpacked(BASE, |_| None).expect("the base is whole").unwrap_or_default();
-        for (language, _) in FILES.iter().filter(|(name, _)| *name != BASE) {
+        for (language, _) in FILES.iter().filter(|(name, _)| ![BASE, ALL].contains(name)) {
             let text = unpacked(language, |_| None).expect("the file is whole").unwrap_or_default();
             let key = String::from(*language);
             let block = first_block(&text, &[&key], lines(&base).count() - 2).unwrap_or_default();

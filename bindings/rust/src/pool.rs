@@ -68,6 +68,31 @@ impl Pool {
         }
     }
 
+    /// Lends names to the tables. No call runs on a handle here, by `&mut`, and those that were free are closed first.
+    pub fn lend_names(&mut self, names: &'static [u8]) -> Result<(), Refusal> {
+        for place in &mut self.free {
+            drop(Handle::at(std::mem::replace(place.0.get_mut(), null_mut())));
+        }
+        let root = self.root.get_mut().unwrap_or_else(PoisonError::into_inner);
+        // SAFETY: the root is this call's, by `&mut`, and the slice stays where it is and as it is.
+        match unsafe { calls::icu_locale_lend_names(root, names.as_ptr(), names.len()) } {
+            DONE => Ok(()),
+            number => Err(Refusal::of_number(number)),
+        }
+    }
+
+    /// The names of the tables in the flat form.
+    pub fn flat_names(&self) -> Result<Vec<u8>, Refusal> {
+        let (number, out) = self.written(|handle, out, written| {
+            // SAFETY: `out` is Rust's, and overlaps neither `written` nor the handle, which is this call's, by `&mut`.
+            unsafe { calls::icu_locale_flat_names(handle, out.as_mut_ptr(), out.len(), written) }
+        })?;
+        match number {
+            ACCEPTED => Ok(out),
+            number => Err(Refusal::of_number(number)),
+        }
+    }
+
     /// The name of the data, if it has one.
     pub fn data_name(&self) -> Result<Option<String>, Refusal> {
         let (number, out) = self.written(|handle, out, written| {

@@ -9,7 +9,7 @@ pub enum Refusal {
     Memory,
     /// The text is no JSON.
     Json,
-    /// The JSON has not the shape of tables.
+    /// The JSON has not the shape of tables; the bytes that are lent are no names in the flat form; or names have none.
     Shape,
     /// No command has these words.
     Command,
@@ -103,7 +103,7 @@ impl fmt::Display for Refusal {
             Refusal::NoData => "this crate was made without CLDR's data; `from_json` takes tables of it",
             Refusal::Memory => "no memory",
             Refusal::Json => "the text is no JSON",
-            Refusal::Shape => "the JSON has not the shape of tables",
+            Refusal::Shape => "the JSON has not the shape of tables, or the bytes have not that of names in the flat form",
             Refusal::Command => "no command has these words",
             Refusal::Table => {
                 "the tables leave out a member that is needed: `likely_language`, `likely_script_region`, at `canonicalize` and \

@@ -1,12 +1,14 @@
 //! Tables: how they are opened, and what they serve a reader.
 use crate::calls::{self, Handle};
-use crate::data::{self, texts_of};
+use crate::data::{self, texts_of, texts_of_all};
 use crate::pool::Pool;
 use crate::switcher;
 use crate::headers::Headers;
 use crate::{MatchOptions, Negotiator, Refusal, Switcher, Syntax};
 
 const ACCEPTED: i32 = 0;
+// The word that is every locale.
+const ALL: &str = "all";
 
 // The first of each locale's chain that CLDR has names in.
 fn in_chains(locales: &[&str]) -> Result<Vec<&'static str>, Refusal> {
@@ -88,8 +90,9 @@ impl Tables {
 
     /// The tables of CLDR's data that this crate has inside, with the names of some locales, and their supplement, by which
     /// `serve` and `fallback` go, and which has what parts of extensions are called in these locales, but for subdivisions and
-    /// time zones. The likely tables are settled. The word `all` alone is every locale. A locale is found in any case, with `-`
-    /// or `_`; in its place comes the first of its chain that CLDR has, as `zh-Hant-TW` for `zh-TW`. `cldr_locales` lists them.
+    /// time zones. The likely tables are settled. The word `all` alone is every locale, whose names are lent from where they lie
+    /// in the program. A locale is found in any case, with `-` or `_`; in its place comes the first of its chain that CLDR has,
+    /// as `zh-Hant-TW` for `zh-TW`. `cldr_locales` lists them.
     ///
     /// # Errors
     ///
@@ -107,12 +110,62 @@ impl Tables {
     /// # Ok::<(), Refusal>(())
     /// ```
     pub fn cldr(locales: &[&str]) -> Result<Self, Refusal> {
+        if locales == [ALL] {
+            return Tables::cldr_all();
+        }
         let texts = match texts_of(locales) {
             Err(Refusal::NoLocale { .. }) => texts_of(&in_chains(locales)?),
             texts => texts,
         };
         let (tables, supplement) = texts?;
         Tables::from_json_with(&tables, &supplement)
+    }
+
+    fn cldr_all() -> Result<Self, Refusal> {
+        let (tables, supplement) = texts_of_all()?;
+        let mut made = Tables::from_json_with(&tables, &supplement)?;
+        made.lend_names(data::FLAT)?;
+        Ok(made)
+    }
+
+    /// Lends names that lie in the flat form, in place of those lent before. Nothing is copied. A name is asked of the tables'
+    /// own rows first, and then of what is lent. `include_bytes!` gives such bytes, and `Box::leak` makes them of a list.
+    ///
+    /// # Errors
+    ///
+    /// `Shape` where the bytes have not the form, or `Shared` where these tables were shared, or a negotiator or a switcher has
+    /// them. What was lent before stays then.
+    ///
+    /// ```
+    /// use icu_locale_calls::{Refusal, Tables, EXAMPLE};
+    /// let flat = Tables::from_json(EXAMPLE.as_bytes())?.flat_names()?;
+    /// let patterns = r#"{"essentials": {"en": {"pattern": [0, " (", 1, ")"], "separator": [0, ", ", 1]}}}"#;
+    /// let mut tables = Tables::from_json(patterns.as_bytes())?;
+    /// assert_eq!(tables.name("it-US", "en")?, "it (US)");
+    /// tables.lend_names(flat.leak())?;
+    /// assert_eq!(tables.name("it-US", "en")?, "Italian (United States)");
+    /// assert_eq!(tables.lend_names(b"ICUTEXT1"), Err(Refusal::Shape));
+    /// let other = tables.share()?;
+    /// assert_eq!(tables.lend_names(b"ICUTEXT1\0\0\0\0\0\0\0\0\0\0\0\0"), Err(Refusal::Shared));
+    /// # Ok::<(), Refusal>(())
+    /// ```
+    pub fn lend_names(&mut self, names: &'static [u8]) -> Result<(), Refusal> {
+        self.pool.lend_names(names)
+    }
+
+    /// The names of the tables themselves, without those that are lent to them, in the flat form.
+    ///
+    /// # Errors
+    ///
+    /// `Shape` where a key or a text has more than 65,535 bytes, or `Memory`.
+    ///
+    /// ```
+    /// use icu_locale_calls::{Tables, EXAMPLE};
+    /// assert!(Tables::from_json(EXAMPLE.as_bytes())?.flat_names()?.starts_with(b"ICUTEXT1"));
+    /// # Ok::<(), icu_locale_calls::Refusal>(())
+    /// ```
+    pub fn flat_names(&self) -> Result<Vec<u8>, Refusal> {
+        self.pool.flat_names()
     }
 
     // Those that name no dialects, in a locale that CLDR has.

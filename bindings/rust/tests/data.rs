@@ -1,6 +1,6 @@
 //! CLDR's data inside the crate. In a clone `tools/package-data out/data` makes it; without data nothing is tried but the
 //! refusal.
-use icu_locale_calls::{cldr_locales, cldr_version, MenuRow, Refusal, Tables, EXAMPLE};
+use icu_locale_calls::{cldr_locales, cldr_version, MenuRow, Refusal, SubtagKind, Tables, EXAMPLE};
 
 // The tables of some locales, and none where the crate has no data.
 fn opened(locales: &[&str]) -> Option<Tables> {
@@ -79,6 +79,22 @@ fn every_locale() {
             assert_eq!(every.name(identifier, locale), one.name(identifier, locale), "{identifier} in {locale}");
         }
     }
+}
+
+// What is lent stays as long as what was made of the tables, and is no name of their own.
+#[test]
+fn names_that_are_lent() {
+    let Some(every) = opened(&["all"]) else { return };
+    let one = opened(&["de"]).unwrap();
+    for kind in [SubtagKind::Languages, SubtagKind::Scripts, SubtagKind::Regions, SubtagKind::Variants] {
+        assert_eq!(every.listed(kind, "de"), one.listed(kind, "de"));
+    }
+    assert_eq!(every.flat_names().map(|names| names.len()), Ok(20));
+    let switcher = every.switcher(["en", "de"]).unwrap();
+    let other = every.share().unwrap();
+    drop(every);
+    assert_eq!(other.name("it", "de").as_deref(), Ok("Italienisch"));
+    assert_eq!(switcher.serve(["de-AT"]), Ok(Some("de")));
 }
 
 fn row(locale: &str, name: &str, own: &str) -> MenuRow {
