@@ -5,6 +5,7 @@ import { DONE, MEMORY, Library } from "./module.mjs";
 
 const [path, tables, supplement] = process.argv.slice(2);
 const library = new Library(path), calls = library.calls, json = library.put(fs.readFileSync(tables));
+const [NONE, ROOM] = [library.put(Buffer.from(`ICUTEXT1${"\0".repeat(12)}`)), [library.take(8192), 8192n]];
 const SUPPLEMENT = library.put(fs.readFileSync(supplement));
 const LIST = library.put("en-US zh-Hant de-1996-fonipa yue-CN");
 const REQUESTS = library.put("fr de-1996-1901 zh-TW");
@@ -48,7 +49,7 @@ function refusedInTurn(what, call, isKept) {
         library.grants();
         if (number !== MEMORY) return want(number === DONE, `${what}: the number ${number}`), granted;
         want(isKept(), `${what}: not as it was behind refusal ${granted}`);
-        want(what === "an answer" || library.taken() === taken, `${what}: memory is lost behind refusal ${granted}`);
+        want(/^an answer|^names/.test(what) || library.taken() === taken, `${what}: memory is lost behind refusal ${granted}`);
     }
 }
 
@@ -67,6 +68,8 @@ function refusals() {
     let count = refusedInTurn("open", () => calls.icu_locale_open(...json, one), () => !library.isOpen(one));
     const isOpen = () => library.isOpen(one);
     count += refusedInTurn("supplement", () => calls.icu_locale_supplement(one, ...SUPPLEMENT), isOpen);
+    count += refusedInTurn("names that are lent", () => calls.icu_locale_lend_names(one, ...NONE), isOpen);
+    count += refusedInTurn("names", () => calls.icu_locale_flat_names(one, ...ROOM, library.numbers), isOpen);
     for (const it of ROWS) count += refusedInTurn("an answer", () => row(one, it), isOpen);
     want(answersAll(one), "an answer behind refused ones");
     count += refusedInTurn("share", () => calls.icu_locale_share(one, other), () => !library.isOpen(other));

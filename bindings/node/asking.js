@@ -4,6 +4,7 @@ const { numbered, ofLine, noIdentifier, leftOut } = require('./refused.js');
 
 const DONE = 0;
 const LINE_REFUSED = 1;
+const SHAPE = 6;
 const TABLE = 8;
 const LIST = 10;
 const SYNTAXES = ['locales', 'bcp47', 'posix'];
@@ -165,6 +166,6 @@ function answered(held, command, line, word, list) {
 }
 
 module.exports = {
-  DONE, LINE_REFUSED, TABLE, LIST, behind, stand, text, string, optionsOf, wordsIn, wordOf, matchingWords, made, listed,
+  DONE, LINE_REFUSED, SHAPE, TABLE, LIST, LONG_ANSWER, behind, stand, text, string, optionsOf, wordsIn, wordOf, matchingWords, made, listed,
   joined, headerOf, listRefusal, leavesOut, overList, placesIn, answered,
 };

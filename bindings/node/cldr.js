@@ -5,6 +5,9 @@ const { refusal, shown } = require('./refused.js');
 /** The file of all that no locale has part in, and the list of the locales that there are names in. */
 const BASE = 'base-and-supplement';
 const LOCALES = 'locales';
+/** What every locale has: the file of all but its names, and that of the names in the flat form. */
+const ALL = 'all-but-names';
+const FLAT = 'names.flat';
 const NO_DATA = "this package has none of CLDR's data inside; Tables.fromJson takes tables of a folder of it, as "
   + 'tools/cldr-tables writes them';
 const NAMES = '"names":'; // where names begin in the text of tables
@@ -30,6 +33,13 @@ function wholeBase(lines, file) {
   return lines;
 }
 
+/** The texts of tables and of their supplement with every locale but without names, of the lines of their file. */
+function textsOfAll(lines, file) {
+  if (lines.length !== 2) throw damaged(file, 'it has not two lines');
+  const [supplement, tables] = lines;
+  return { tables, supplement, missing: [] };
+}
+
 function keyOf(word) {
   return word.toLowerCase().replace(/_/g, '-');
 }
@@ -40,9 +50,8 @@ function spelled(list, word) {
   return list.find((it) => it.toLowerCase() === key);
 }
 
-/** The languages whose files have the rows of some locales, once each; null where it is those of all. */
+/** The languages whose files have the rows of some locales, once each. */
 function languagesOf(locales) {
-  if (locales === 'all') return null;
   if (!Array.isArray(locales) || !locales.every((it) => typeof it === 'string')) {
     throw new TypeError('locales are an array of strings, or `all`, which is every one');
   }
@@ -58,7 +67,7 @@ function blocksOf(head) {
 /** How many lines of a language's file are read for some locales, by its first line: all but for those of the first block. */
 function linesWanted(language, head, tables, locales) {
   const [groups, ...others] = blocksOf(head);
-  if (locales === 'all' || others.length === 0) return Infinity;
+  if (others.length === 0) return Infinity;
   const keys = new Set(groups.flat().map(keyOf));
   const isFirst = locales.map(keyOf).every((it) => it.split('-')[0] !== language || keys.has(it));
   return isFirst ? 1 + tables * groups.length : Infinity;
@@ -100,7 +109,6 @@ function rowsInOrder(rows) {
 // The rows of some locales by the names that CLDR spells, and the locales that have none.
 function chosen(files, locales, tables) {
   const all = [...files.values()].flatMap((lines) => [...rowsOf(lines, tables)]);
-  if (locales === 'all') return [rowsInOrder(all), []];
   const byKey = new Map(all.map((row) => [keyOf(row[0]), row]));
   const found = locales.map((it) => byKey.get(keyOf(it)));
   return [rowsInOrder(found.filter(Boolean)), locales.filter((_, place) => !found[place])];
@@ -141,5 +149,6 @@ function textsOf([called, behind, ...parts], files, locales, kind = 'dialect') {
 }
 
 module.exports = {
-  BASE, LOCALES, refuseWithoutData, refuseLocale, damaged, wholeBase, spelled, languagesOf, linesWanted, wholeBlock, textsOf,
+  BASE, LOCALES, ALL, FLAT, refuseWithoutData, refuseLocale, damaged, wholeBase, textsOfAll, spelled, languagesOf, linesWanted,
+  wholeBlock, textsOf,
 };

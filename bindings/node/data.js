@@ -3,7 +3,9 @@
 const fs = require('fs');
 const path = require('path');
 const zlib = require('zlib');
-const { BASE, refuseWithoutData, damaged, wholeBase, languagesOf, linesWanted, wholeBlock, textsOf } = require('./cldr.js');
+const {
+  BASE, ALL, FLAT, refuseWithoutData, damaged, wholeBase, textsOfAll, languagesOf, linesWanted, wholeBlock, textsOf,
+} = require('./cldr.js');
 
 // In the folder that a variable names, in the package, or where tools/package-data of its repository has left it.
 const NAMED = process.env.ICU_LOCALE_DATA;
@@ -25,22 +27,32 @@ function firstLines(packed, wantedBy) {
   return null;
 }
 
-function linesOf(folder, name, wantedBy = () => Infinity) {
-  const file = path.join(folder, `${name}.gz`);
+// What is made of the bytes of a file, which is named where that fails.
+function read(folder, name, made = (bytes) => bytes) {
+  const file = path.join(folder, name);
   try {
-    const packed = fs.readFileSync(file);
-    return firstLines(packed, wantedBy) || zlib.gunzipSync(packed).toString().split('\n');
+    return made(fs.readFileSync(file));
   } catch (fault) {
     throw damaged(file, fault.message);
   }
 }
 
+function linesOf(folder, name, wantedBy = () => Infinity) {
+  return read(folder, `${name}.gz`, (packed) => firstLines(packed, wantedBy) || zlib.gunzipSync(packed).toString().split('\n'));
+}
+
+// The texts of tables with every locale, and of their supplement, and the names in the flat form.
+function wholeFolder(folder) {
+  const texts = textsOfAll(linesOf(folder, ALL), path.join(folder, `${ALL}.gz`));
+  return { folder, ...texts, flat: read(folder, FLAT) };
+}
+
 /** The texts of tables with the names of some locales, and of their supplement. */
 function textsOfFolder(locales, kind) {
   const folder = folderOf();
-  const files = fs.readdirSync(folder).filter((it) => it.endsWith('.gz')).map((it) => path.basename(it, '.gz'));
-  const languages = files.filter((it) => it !== BASE);
-  const wanted = (languagesOf(locales) || languages).filter((it) => languages.includes(it));
+  if (locales === 'all') return wholeFolder(folder);
+  const languages = fs.readdirSync(folder).filter((it) => /^[a-z]+\.gz$/.test(it)).map((it) => path.basename(it, '.gz'));
+  const wanted = languagesOf(locales).filter((it) => languages.includes(it));
   const base = wholeBase(linesOf(folder, BASE), path.join(folder, `${BASE}.gz`));
   const read = wanted.map((it) => [it, linesOf(folder, it, (head) => linesWanted(it, head, base.length - 2, locales))]);
   return { folder, ...textsOf(base, new Map(read), locales, kind) };

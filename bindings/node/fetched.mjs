@@ -72,20 +72,26 @@ async function firstLines(stream, wantedBy) {
   return lines;
 }
 
-// The lines of a file of data, or null where there is none. A server may have unpacked it.
-async function linesOf(name, wantedBy = () => Infinity) {
+// The bytes of a file of data, or null where there is none.
+async function bytesOf(name) {
   const place = new URL(name, folder);
   const response = await fetch(place);
   if (response.status === 404) return null;
   if (!response.ok) throw refusal('NoCldr', `${place} is answered by ${response.status}`);
-  const bytes = new Uint8Array(await response.arrayBuffer());
+  return new Uint8Array(await response.arrayBuffer());
+}
+
+// The lines of a file of data, or null where there is none. A server may have unpacked it.
+async function linesOf(name, wantedBy = () => Infinity) {
+  const bytes = await bytesOf(name);
+  if (!bytes) return null;
   const isPacked = bytes[0] === 31 && bytes[1] === 139;
   const stream = new Blob([bytes]).stream();
   try {
     const unpacked = isPacked ? stream.pipeThrough(new DecompressionStream('gzip')) : stream;
     return await firstLines(unpacked.pipeThrough(new TextDecoderStream()), wantedBy);
   } catch (fault) {
-    throw damaged(place, fault.message);
+    throw damaged(new URL(name, folder), fault.message);
   }
 }
 
@@ -93,11 +99,18 @@ function notFound(name) {
   throw refusal('NoCldr', `${new URL(name, folder)} is answered by 404, so that there is none of CLDR's data`);
 }
 
+// The texts of tables with every locale, and of their supplement, and the names in the flat form.
+async function allFetched() {
+  const file = `${ALL}.gz`;
+  const [lines, flat] = await Promise.all([linesOf(file), bytesOf(FLAT)]);
+  return { folder, ...textsOfAll(lines || notFound(file), new URL(file, folder)), flat: flat || notFound(FLAT) };
+}
+
 // The texts of tables with the names of some locales, and of their supplement.
 async function textsFetched(locales, kind) {
-  const wanted = languagesOf(locales);
+  const languages = locales === 'all' ? [] : languagesOf(locales);
   await load();
-  const languages = wanted || (await linesOf('languages')) || notFound('languages');
+  if (locales === 'all') return allFetched();
   const file = `${BASE}.gz`;
   const reading = linesOf(file).then((lines) => wholeBase(lines || notFound(file), new URL(file, folder)));
   const fetched = languages.filter((it) => /^[a-z]{2,8}$/.test(it)).map(async (it) => [

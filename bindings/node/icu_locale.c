@@ -1,21 +1,32 @@
 // The calls of icu_locale.h for Node.js, by Node-API: `open(json)` makes an object that stands for tables, and
-// `supplement`, `share`, `available`, `answer`, `giveBack`, `dataName`, `negotiate`, `isSettled`, `lend` and `close` take
-// one; `borrow(number)` makes one of what another worker has lent. index.js has what is made of these.
+// `supplement`, `lendNames`, `flatNames`, `share`, `available`, `answer`, `giveBack`, `dataName`, `negotiate`, `isSettled`,
+// `lend` and `close` take one; `borrow(number)` makes one of what another worker has lent. index.js has what is made of these.
 #include "icu_locale.h"
 #include <node_api.h>
 #include <pthread.h>
 #include <stdlib.h>
+#include <string.h>
+
+// A copy of names that are lent to tables, and how many handles have these: of objects, which may be those of several
+// workers, and of loans. They are counted where the lock is held.
+struct names {
+    size_t handles;
+    uint8_t flat[];
+};
 
 // A handle that other workers of the process make theirs of, by its number. It is used where the lock is held.
 struct loan {
     struct icu_locale handle;
+    struct names *names;
     uint64_t number;
     struct loan *next;
 };
 
-// An object's handle, what it has lent, and the room of its answers. All go when the object is let go.
+// An object's handle, the names that are lent to its tables, what it has lent, and the room of its answers. All go when the
+// object is let go.
 struct tables {
     struct icu_locale handle;
+    struct names *names;
     struct loan *loan;
     uint8_t *out;
     size_t room;
@@ -27,6 +38,21 @@ static pthread_mutex_t lending = PTHREAD_MUTEX_INITIALIZER;
 static struct loan *loans = NULL;
 static uint64_t last_loan = 0;
 
+// Has names in place of others, where the lock is held. Those that no handle has any more go.
+static void have_names(struct names **place, struct names *names) {
+    struct names *before = *place;
+    if (names) names->handles += 1;
+    *place = names;
+    if (before && --before->handles == 0) free(before);
+}
+
+static void keep_names(struct names **place, struct names *names) {
+    if (!*place && !names) return;
+    pthread_mutex_lock(&lending);
+    have_names(place, names);
+    pthread_mutex_unlock(&lending);
+}
+
 static void end_loan(struct tables *tables) {
     if (!tables->loan) return;
     pthread_mutex_lock(&lending);
@@ -34,6 +60,7 @@ static void end_loan(struct tables *tables) {
     while (*at != tables->loan) at = &(*at)->next;
     *at = tables->loan->next;
     icu_locale_close(&tables->loan->handle);
+    have_names(&tables->loan->names, NULL);
     pthread_mutex_unlock(&lending);
     free(tables->loan);
     tables->loan = NULL;
@@ -45,6 +72,7 @@ static void let_go(napi_env env, void *data, void *hint) {
     (void)hint;
     end_loan(tables);
     icu_locale_close(&tables->handle);
+    keep_names(&tables->names, NULL);
     free(tables->out);
     free(tables);
 }
@@ -113,6 +141,26 @@ static napi_value supplement(napi_env env, napi_callback_info info) {
     return number_of(env, icu_locale_supplement(&tables->handle, json, length));
 }
 
+// lendNames(tables, names): the number of what it did. The names are copied, so that no worker's memory is lent to another.
+static napi_value lend_names(napi_env env, napi_callback_info info) {
+    size_t count = 2, length;
+    napi_value values[2];
+    const uint8_t *flat;
+    if (napi_get_cb_info(env, info, &count, values, NULL, NULL) != napi_ok || count < 2) return wrong(env);
+    struct tables *tables = tables_of(env, values[0]);
+    if (!tables || !bytes_of(env, values[1], &flat, &length)) return wrong(env);
+    struct names *names = malloc(sizeof *names + length + 1);
+    if (!names) return number_of(env, ICU_LOCALE_MEMORY);
+    names->handles = 0;
+    memcpy(names->flat, flat, length);
+    int32_t number = icu_locale_lend_names(&tables->handle, names->flat, length);
+    if (number == ICU_LOCALE_DONE)
+        keep_names(&tables->names, names);
+    else
+        free(names);
+    return number_of(env, number);
+}
+
 // share(tables): a second object, or the number of a refusal.
 static napi_value share_tables(napi_env env, napi_callback_info info) {
     size_t count = 1;
@@ -122,6 +170,7 @@ static napi_value share_tables(napi_env env, napi_callback_info info) {
     if (!from) return wrong(env);
     if (!(to = made(env, &object))) return number_of(env, ICU_LOCALE_MEMORY);
     int32_t number = icu_locale_share(&from->handle, &to->handle);
+    if (number == ICU_LOCALE_DONE) keep_names(&to->names, from->names);
     return number == ICU_LOCALE_DONE ? object : number_of(env, number);
 }
 
@@ -134,6 +183,7 @@ static int32_t make_loan(struct tables *tables) {
         return number;
     }
     pthread_mutex_lock(&lending);
+    have_names(&loan->names, tables->names);
     loan->number = ++last_loan;
     loan->next = loans;
     loans = tables->loan = loan;
@@ -168,6 +218,7 @@ static napi_value borrow(napi_env env, napi_callback_info info) {
     struct loan *loan = loans;
     while (loan && loan->number != wanted) loan = loan->next;
     int32_t number = loan ? icu_locale_share(&loan->handle, &to->handle) : ICU_LOCALE_CLOSED;
+    if (number == ICU_LOCALE_DONE) have_names(&to->names, loan->names);
     pthread_mutex_unlock(&lending);
     return number == ICU_LOCALE_DONE ? object : number_of(env, number);
 }
@@ -183,6 +234,7 @@ static napi_value available_of(napi_env env, napi_callback_info info) {
         return wrong(env);
     if (!(to = made(env, &object))) return number_of(env, ICU_LOCALE_MEMORY);
     int32_t number = icu_locale_available_in(&from->handle, syntax, syntax_length, list, length, &to->handle);
+    if (number == ICU_LOCALE_DONE) keep_names(&to->names, from->names);
     return number == ICU_LOCALE_DONE ? object : number_of(env, number);
 }
 
@@ -317,6 +369,23 @@ static napi_value data_name(napi_env env, napi_callback_info info) {
     return told(env, tables, number, written);
 }
 
+// flatNames(tables): the names as a Buffer, or the number of a refusal.
+static napi_value flat_names(napi_env env, napi_callback_info info) {
+    size_t count = 1, written = 0;
+    napi_value values[1], flat = NULL;
+    if (napi_get_cb_info(env, info, &count, values, NULL, NULL) != napi_ok || count < 1) return wrong(env);
+    struct tables *tables = tables_of(env, values[0]);
+    if (!tables) return wrong(env);
+    int32_t number;
+    for (;;) {
+        number = icu_locale_flat_names(&tables->handle, tables->out, tables->room, &written);
+        if (number != ICU_LOCALE_ROOM) break;
+        if (!widen(tables, written)) return number_of(env, ICU_LOCALE_MEMORY);
+    }
+    if (number != ICU_LOCALE_ACCEPTED) return number_of(env, number);
+    return napi_create_buffer_copy(env, written, tables->out, NULL, &flat) == napi_ok ? flat : wrong(env);
+}
+
 static napi_value is_settled(napi_env env, napi_callback_info info) {
     size_t count = 1;
     napi_value values[1];
@@ -333,6 +402,7 @@ static napi_value close_tables(napi_env env, napi_callback_info info) {
     if (!tables) return wrong(env);
     end_loan(tables);
     icu_locale_close(&tables->handle);
+    keep_names(&tables->names, NULL);
     return NULL;
 }
 
@@ -340,9 +410,10 @@ NAPI_MODULE_INIT() {
     static const struct {
         const char *name;
         napi_callback call;
-    } calls[] = {{"open", open_tables}, {"supplement", supplement}, {"share", share_tables}, {"available", available_of}, {"answer", answer},
-                 {"giveBack", give_back}, {"dataName", data_name}, {"negotiate", negotiate}, {"listFault", list_fault}, {"fault", fault}, {"isSettled", is_settled},
-                 {"lend", lend}, {"borrow", borrow}, {"close", close_tables}};
+    } calls[] = {{"open", open_tables}, {"supplement", supplement}, {"lendNames", lend_names}, {"flatNames", flat_names},
+                 {"share", share_tables}, {"available", available_of}, {"answer", answer}, {"giveBack", give_back},
+                 {"dataName", data_name}, {"negotiate", negotiate}, {"listFault", list_fault}, {"fault", fault},
+                 {"isSettled", is_settled}, {"lend", lend}, {"borrow", borrow}, {"close", close_tables}};
     for (size_t place = 0; place < sizeof calls / sizeof *calls; place++) {
         napi_value call;
         napi_create_function(env, calls[place].name, NAPI_AUTO_LENGTH, calls[place].call, NULL, &call);

@@ -123,6 +123,17 @@ export class Tables {
   /** The same tables once more. They are in memory once. */
   share(): Tables;
   /**
+   * Lends names that lie in the flat form, in place of those lent before. A name is asked of the tables' own rows first, and
+   * then of these. The bytes are copied once into the memory of the calls. Where they have not the form it is `Shape`, and
+   * `Shared` where these tables were shared or lent to a worker, or a negotiator or a switcher has them.
+   */
+  lendNames(names: Uint8Array): void;
+  /**
+   * The names of the tables themselves, without those that are lent to them, in the flat form. It is `Shape` where a key or a
+   * text has more than 65,535 bytes.
+   */
+  flatNames(): Uint8Array;
+  /**
    * Lends the tables to other workers of this process: a number that may be posted to them, for `borrow`. The loan ends
    * where these tables are closed or collected; what was borrowed stays. The module refuses both as `NoLoan`.
    */

@@ -16,10 +16,14 @@ function hasWideMemory() {
   return typeof WebAssembly === 'object' && WebAssembly.validate(PROBE);
 }
 
-// A handle. Its block is given back when it is collected.
+// A handle, of a block that has its place and the names that are lent to its tables. It is given back when it is collected.
 class Held {
-  constructor(place) {
-    this.place = place;
+  constructor(block) {
+    this.block = block;
+  }
+
+  get place() {
+    return this.block.place;
   }
 }
 
@@ -33,7 +37,7 @@ class Module {
   #line = { place: 0n, room: 0 };
   #out = { place: 0n, room: 0 };
   #numbers;
-  #collected = new FinalizationRegistry((place) => this.#letGo(place));
+  #collected = new FinalizationRegistry((block) => this.#letGo(block));
 
   constructor(instance) {
     this.#its = instance.exports;
@@ -108,24 +112,40 @@ class Module {
     return number;
   }
 
-  // A handle by a call that opens one, or the number of a refusal.
-  #made(call) {
+  // A handle by a call that opens one, or the number of a refusal. Its tables may have names that are lent.
+  #made(call, lent = null) {
     const place = this.#its.icu_locale_take(HANDLE);
     if (!place) return MEMORY;
     this.#all().fill(0, Number(place), Number(place + HANDLE));
+    const block = { place, lent: null };
     const number = call(place);
     if (number) {
-      this.#letGo(place);
+      this.#letGo(block);
       return number;
     }
-    const held = new Held(place);
-    this.#collected.register(held, place);
+    this.#keep(block, lent);
+    const held = new Held(block);
+    this.#collected.register(held, block);
     return held;
   }
 
-  #letGo(place) {
-    this.#its.icu_locale_close(place);
-    this.#its.icu_locale_give(place);
+  #letGo(block) {
+    this.#close(block);
+    this.#its.icu_locale_give(block.place);
+  }
+
+  #close(block) {
+    this.#its.icu_locale_close(block.place);
+    this.#keep(block, null);
+  }
+
+  // Has names that are lent in place of others. Those that no handle has are given back.
+  #keep(block, lent) {
+    const before = block.lent;
+    block.lent = lent;
+    if (lent) lent.handles += 1;
+    if (before) before.handles -= 1;
+    if (before && before.handles === 0) this.#its.icu_locale_give(before.place);
   }
 
   // The place and the length of the words of a command or a syntax; null where memory is refused. The first and short ones
@@ -151,14 +171,36 @@ class Module {
   }
 
   share(held) {
-    return this.#made((to) => this.#its.icu_locale_share(held.place, to));
+    return this.#made((to) => this.#its.icu_locale_share(held.place, to), held.block.lent);
+  }
+
+  /** Lends names in the flat form, of which a copy stays as long as a handle has the tables. */
+  lendNames(held, names) {
+    const place = this.#its.icu_locale_take(BigInt(names.length));
+    if (!place) return MEMORY;
+    this.#all().set(names, Number(place));
+    const number = this.#its.icu_locale_lend_names(held.place, place, BigInt(names.length));
+    if (number) this.#its.icu_locale_give(place);
+    else this.#keep(held.block, { place, handles: 0 });
+    return number;
+  }
+
+  /** The names of a handle's tables in the flat form, or the number of a refusal. */
+  flatNames(held) {
+    const number = this.#written(() => (
+      this.#its.icu_locale_flat_names(held.place, this.#out.place, BigInt(this.#out.room), this.#numbers)));
+    if (number) return number;
+    const start = Number(this.#out.place);
+    const names = this.#all().slice(start, start + this.#number(this.#numbers));
+    this.#narrow();
+    return names;
   }
 
   available(held, syntax, list) {
     const word = this.#words(syntax);
     if (!word) return MEMORY;
     return this.#made((to) => this.#over(list, (place, length) => (
-      this.#its.icu_locale_available_in(held.place, ...word, place, length, to))));
+      this.#its.icu_locale_available_in(held.place, ...word, place, length, to))), held.block.lent);
   }
 
   /** The places of what is met, or the number where nothing is and of a refusal. */
@@ -220,13 +262,17 @@ class Module {
       this.#its.icu_locale_data_name(held.place, this.#out.place, BigInt(this.#out.room), this.#numbers)));
   }
 
-  // The text that a call writes, which is made again where it wants more room, or a list of its number and a text.
+  // The number of a call that writes, which is made again where it wants more room.
+  #written(ask) {
+    const number = ask();
+    if (number !== ROOM) return number;
+    return this.#widen(this.#out, this.#number(this.#numbers)) ? ask() : MEMORY;
+  }
+
+  // The text that a call writes, or a list of its number and a text.
   #told(ask) {
-    let number = ask();
-    if (number === ROOM) {
-      if (!this.#widen(this.#out, this.#number(this.#numbers))) return [MEMORY, ''];
-      number = ask();
-    }
+    const number = this.#written(ask);
+    if (number === MEMORY) return [MEMORY, ''];
     const answer = this.#text(this.#out.place, this.#number(this.#numbers));
     return number ? [number, answer] : answer;
   }
@@ -236,7 +282,7 @@ class Module {
   }
 
   close(held) {
-    this.#its.icu_locale_close(held.place);
+    this.#close(held.block);
   }
 
   lend() {

@@ -9,13 +9,13 @@ const NUMBERS = {
   2: ['Closed', 'the tables are closed'],
   4: ['Memory', 'memory was asked for and refused'],
   5: ['Json', 'the text is no JSON'],
-  6: ['Shape', 'the JSON has not the shape of tables, or of a supplement'],
+  6: ['Shape', 'the shape is not that of tables, a supplement or lent names'],
   7: ['Command', 'no command has these words'],
   8: ['Table', 'the tables leave out one that is needed'],
   9: ['Negotiate', 'there is no list of what is available; tables.negotiator takes one'],
   10: ['List', 'the list has what is no identifier'],
   11: ['Unsettled', 'the likely tables are not settled; those of tools/cldr-tables --settled are'],
-  12: ['Shared', 'the tables are held once more, so that they get no other supplement'],
+  12: ['Shared', 'the tables are held once more, so that they get no other supplement and no other names'],
   '-1': ['NoLoan', 'the module for WebAssembly lends no tables to another worker, so each opens its own'],
 };
 

@@ -1,8 +1,8 @@
 'use strict';
 // Tables of locale identifiers, over the calls of the package. index.d.ts says what each call takes.
-const { numbered, ofLine, leftOut } = require('./refused.js');
+const { refusal, numbered, ofLine, leftOut } = require('./refused.js');
 const {
-  DONE, LINE_REFUSED, TABLE, behind, text, string, optionsOf, wordsIn, wordOf, matchingWords, made, listed, joined, leavesOut,
+  DONE, LINE_REFUSED, SHAPE, TABLE, LONG_ANSWER, behind, text, string, optionsOf, wordsIn, wordOf, matchingWords, made, listed, joined, leavesOut,
   overList, answered,
 } = require('./asking.js');
 const { CHAINS, Codes, beforeMark, namedBy } = require('./codes.js');
@@ -25,9 +25,11 @@ function after(value, next) {
 }
 
 // The tables of CLDR's two texts.
-function opened({ folder, tables, supplement }) {
+function opened({ folder, tables, supplement, flat }) {
   try {
-    return Tables.fromJson(tables, { supplement });
+    const made = Tables.fromJson(tables, { supplement });
+    if (flat) made.lendNames(flat);
+    return made;
   } catch (refused) {
     throw /^(Json|Shape)$/.test(refused.code) ? damaged(folder, refused.message) : refused;
   }
@@ -110,6 +112,28 @@ class Tables extends Codes {
   /** The same tables once more. They are in memory once. */
   share() {
     return new Tables(OWN, made(behind.calls.share(this.#at)));
+  }
+
+  /**
+   * Lends names that lie in the flat form, in place of those lent before: bytes, which are copied once into the memory of the
+   * calls, and stay there as long as tables have them. A name is asked of the tables' own rows first, and then of these.
+   */
+  lendNames(names) {
+    if (!(names instanceof Uint8Array)) throw new TypeError('names are lent as a Uint8Array, as a Buffer is');
+    if (this.#negotiator) this.#negotiator.close();
+    this.#negotiator = undefined;
+    const number = behind.calls.lendNames(this.#at, names);
+    if (number === SHAPE) throw refusal('Shape', 'the bytes are no names in the flat form');
+    if (number !== DONE) throw numbered(number);
+  }
+
+  /** The names of the tables themselves, without those that are lent to them, in the flat form. */
+  flatNames() {
+    const told = behind.calls.flatNames(this.#at);
+    if (told === SHAPE) throw refusal('Shape', 'a key or a text of the names has more than 65,535 bytes');
+    const names = made(told);
+    if (names.length > LONG_ANSWER) behind.calls.giveBack(this.#at);
+    return names;
   }
 
   /**

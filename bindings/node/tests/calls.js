@@ -155,12 +155,21 @@ for (let time = 0; time < 1000; time += 1) {
 }
 global.gc();
 
-// What a long answer takes is given back, though the object is there and asked again.
+// What a long answer takes is given back, though the object is there and asked again. An answer has 1.8 MB, so that 40 of 80
+// that kept theirs would keep 72 MB, of which MOST is the half; where none is kept it is 1.2 MB, behind 20 answers to warm up.
 const wide = `en-x${'-abcdefgh'.repeat(200000)}`;
-const busy = Array.from({ length: 40 }, (_, place) => (place % 2 ? other.share() : other.negotiator(['en-US', 'de'])));
+const MOST = 20 * wide.length;
+const busy = Array.from({ length: 100 }, (_, place) => (place % 2 ? other.share() : other.negotiator(['en-US', 'de'])));
+// By itself malloc keeps up to 90 MB of freed blocks for later ones, and more on a busy machine: bindings/node/test forbids it.
+assert.ok(process.env.MALLOC_MMAP_THRESHOLD_, 'memory is told apart where MALLOC_MMAP_THRESHOLD_ is set, as bindings/node/test does');
+// The least of some readings: V8 gives pages back by threads of its own.
 function resident() {
-  global.gc();
-  return process.memoryUsage().rss;
+  const readings = Array.from({ length: 10 }, () => {
+    global.gc();
+    Atomics.wait(new Int32Array(new SharedArrayBuffer(4)), 0, 0, 20);
+    return process.memoryUsage().rss;
+  });
+  return Math.min(...readings);
 }
 function askAll(some) {
   for (const each of some) {
@@ -169,11 +178,11 @@ function askAll(some) {
     if (each instanceof Negotiator) assert.deepStrictEqual(each.negotiate(['de-AT', 'de-DE']), { request: 1, available: 1 });
   }
 }
-askAll(busy.slice(0, 2));
+askAll(busy.slice(0, 20));
 const before = resident();
-askAll(busy);
+askAll(busy.slice(20));
 const kept = resident() - before;
-assert.ok(kept < 25e6, `${busy.length} long answers keep ${kept} bytes`);
+assert.ok(kept < MOST, `80 long answers keep ${kept} bytes`);
 const inSyntax = other.negotiator(['de', 'en-u-hc-h12'], { syntax: 'locales' });
 assert.strictEqual(inSyntax.answer('locales minimize', wide), `${wide}\tU`);
 assert.strictEqual(inSyntax.answer('negotiate', 'en'), '0\ten-u-hc-h12');

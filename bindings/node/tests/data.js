@@ -87,6 +87,28 @@ function chains() {
   assert.match(cldrVersion(), /^[0-9.]+$/);
 }
 
+// The files of every locale, cut off or of another content.
+function damageOfAll(data, work, textsOfFolder) {
+  const names = ['all-but-names.gz', 'names.flat'];
+  for (const name of names) fs.copyFileSync(path.join(data, name), path.join(work, 'data', name));
+  const { tables, supplement, flat } = textsOfFolder('all');
+  assert.ok(!('names' in JSON.parse(tables)) && 'extension_names' in JSON.parse(supplement));
+  assert.ok(flat.equals(fs.readFileSync(path.join(data, 'names.flat'))));
+  const packed = fs.readFileSync(path.join(data, 'all-but-names.gz'));
+  for (const wrong of [Buffer.from('no file'), packed.subarray(0, -9), zlib.gzipSync('{}'), zlib.gzipSync('{}\n{}\n{}')]) {
+    fs.writeFileSync(path.join(work, 'data', 'all-but-names.gz'), wrong);
+    assert.throws(() => textsOfFolder('all'), { name: 'Refused', code: 'NoCldr', message: /data\/all-but-names\.gz is damaged: / });
+  }
+  fs.writeFileSync(path.join(work, 'data', 'all-but-names.gz'), packed);
+  fs.rmSync(path.join(work, 'data', 'names.flat'));
+  assert.throws(() => textsOfFolder('all'), { code: 'NoCldr', message: /data\/names\.flat is damaged: / });
+  fs.writeFileSync(path.join(work, 'data', 'names.flat'), flat.subarray(0, -1));
+  const words = ['-p', 'try { require("icu_locale").Tables.cldr("all") } catch ({ message }) { message }'];
+  const env = { ...process.env, ICU_LOCALE_DATA: path.join(work, 'data') };
+  const said = childProcess.execFileSync(process.execPath, [...process.execArgv, ...words], { env, encoding: 'utf8' });
+  assert.match(said, /^NoCldr: .*data is damaged: Shape: the bytes are no names in the flat form\n$/);
+}
+
 // A copy of the package whose data has a fault says which file has it.
 function damage() {
   const folder = path.dirname(require.resolve('icu_locale'));
@@ -107,6 +129,7 @@ function damage() {
       assert.throws(() => textsOfFolder(['en', 'en-GB']), { name: 'Refused', code: 'NoCldr', message: /data\/en\.gz is damaged: / });
       assert.deepStrictEqual(textsOfFolder(['de']).missing, []);
     }
+    damageOfAll(data, work, textsOfFolder);
     const { tables, missing } = textsOfFolder(['en', 'de']);
     assert.deepStrictEqual(missing, []); // `en` is before what is cut off, which is not read
     assert.deepStrictEqual(Object.keys(JSON.parse(tables).essentials), ['de', 'en']);

@@ -16,15 +16,12 @@ const example = fs.readFileSync(require.resolve('icu_locale/example.json'), 'utf
 // A file of the package, or of its data. `/unpacked` is a server that unpacks what it sends, `/other` one of other types.
 function file(address) {
   const name = path.basename(address);
-  if (!address.includes('/data/')) return path.join(folder, name);
-  if (name !== 'languages') return path.join(data, name);
-  return Buffer.from(fs.readdirSync(data).filter((it) => /^[a-z]+\.gz$/.test(it)).map((it) => path.basename(it, '.gz')).join('\n'));
+  return path.join(address.includes('/data/') ? data : folder, name);
 }
 
 const server = http.createServer((request, response) => {
   try {
-    const found = file(request.url);
-    const whole = typeof found === 'string' ? fs.readFileSync(found) : found;
+    const whole = fs.readFileSync(file(request.url));
     const bytes = request.url.startsWith('/cut') ? whole.subarray(0, whole.length / 2) : whole;
     const headers = {};
     if (request.url.endsWith('.wasm') && !request.url.startsWith('/other')) headers['content-type'] = 'application/wasm';
@@ -104,12 +101,13 @@ async function fetches(address) {
 async function damage(address) {
   const { Tables } = await (await fresh()).load({ module: `${address}/icu_locale.wasm`, data: `${address}/cut/data/` });
   await assert.rejects(Tables.cldr(['en']), { code: 'NoCldr', message: new RegExp(`^NoCldr: ${address}/cut/data/[a-z-]+\\.gz is damaged: `) });
+  await assert.rejects(Tables.cldr('all'), { code: 'NoCldr', message: /\/cut\/data\/all-but-names\.gz is damaged: / });
 }
 
 async function withoutData(address) {
   const { Tables } = await (await fresh()).load({ module: `${address}/icu_locale.wasm`, data: `${address}/nothing/` });
   for (const locales of [[], ['en'], 'all']) {
-    const name = locales === 'all' ? 'languages' : 'base-and-supplement.gz';
+    const name = locales === 'all' ? 'all-but-names.gz' : 'base-and-supplement.gz';
     const message = `NoCldr: ${address}/nothing/${name} is answered by 404, so that there is none of CLDR's data`;
     await assert.rejects(Tables.cldr(locales), { code: 'NoCldr', message });
   }

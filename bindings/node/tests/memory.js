@@ -34,6 +34,11 @@ function trial(line) {
   assert.strictEqual(done(() => calls.supplement(held, supplement)), 0);
   const [shared, named] = [done(() => calls.share(held)), done(() => calls.open(example))];
   assert.deepStrictEqual(done(() => calls.dataName(held)), [1, '']);
+  const flat = done(() => calls.flatNames(named));
+  assert.strictEqual(done(() => calls.lendNames(named, flat)), 0);
+  assert.strictEqual(done(() => calls.lendNames(named, flat)), 0);
+  assert.strictEqual(done(() => calls.lendNames(named, flat.subarray(1))), 6);
+  assert.strictEqual(done(() => calls.lendNames(held, flat)), 12);
   const negotiator = done(() => calls.available(held, '', 'en de-1996 zh-Hant'));
   assert.deepStrictEqual(done(() => calls.negotiate(negotiator, '', 'fr de-1996-1901 zh-TW')), [2, 2]);
   const extended = done(() => calls.available(held, 'locales', 'en-u-hc-h12 zh-Hant-x-mine'));
