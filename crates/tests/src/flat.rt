@@ -66,16 +66,6 @@ fn own_names_go_before_lent_ones(rt: HostRuntime) {
 }
 
 #[test]
-fn a_lent_name_is_of_its_marker_and_kind(rt: HostRuntime) {
-    let tables = lent(&rt, rt.alloc());
-    let italian = NameKey::Language(language("it").expect(&rt, "language"), None, None);
-    let light = NameMarker::LanguageMediumLight;
-    assert!(rt; is_named(&rt, &tables, light, italian, "Lent Italian"));
-    assert!(rt; !has_name(&rt, &tables, NameMarker::LanguageMediumTiny, italian));
-    assert!(rt; !has_name(&rt, &tables, REGIONS, italian));
-}
-
-#[test]
 fn keys_of_own_and_lent_names_come_once_and_rise(rt: HostRuntime) {
     let tables = lent(&rt, rt.alloc());
     let keys = tables
