@@ -17,6 +17,7 @@ use Rattle.icu_locale_core.specs.TextSet.{text_cmp}
 use Rattle.icu_locale_core.specs.laws.TextSets.{text_total, text_same}
 use Rattle.icu_provider.specs.declared.data_locale.DataLocale.{DataLocale}
 use Rattle.icu_locale.specs.declared.negotiator.available.Row.{Row}
+use Rattle.icu_provider.specs.laws.Requests.{both_tied}
 use Rattle.icu_locale.specs.Index.{subtags_cmp, row_cmp}
 use Rattle.icu_locale.specs.inner.Index.{IsPartOf}
 
@@ -28,12 +29,6 @@ locale_total = then_total (on_total (λ (d : DataLocale). d.language) text_total
 
 row_total : IsTotalOrder row_cmp
 row_total = then_total (on_total (λ (r : Row). r.minimal) locale_total) (on_total (λ (r : Row). r.place) nat_cmp_total)
-
--- what ties by two orders ties by each
-both_tied : (o p : Ordering) → ordering_then o p ≡ Equal → (o ≡ Equal) × (p ≡ Equal)
-both_tied Less p e = absurd (cc)
-both_tied Equal p e = (refl, e)
-both_tied Greater p e = absurd (cc)
 
 same_option : (s t : Option (List ℕ)) → option_cmp text_cmp s t ≡ Equal → s ≡ t
 same_option None None e = refl

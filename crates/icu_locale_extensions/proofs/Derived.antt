@@ -2,7 +2,7 @@
 use Rattle.std.proofs.Common.{◌≡◌, ℕ, Bool, true, false, not, ◌&&◌, ◌||◌, ◌==◌, length, List, [], ◌∷◌, ◌++◌, map, filter, codes, Option, None, Some, unwrap_or, Ok, Err, if◌then◌else◌, refl, ap, sym, ◌∙◌, append_assoc, append-nil}
 use Rattle.std.specs.List.{All}
 use Rattle.std.specs.Option.{is_some}
-use Rattle.std.proofs.lemmas.Bool.{and_parts, false≢true}
+use Rattle.std.proofs.lemmas.Bool.{and_parts, not-true}
 use Rattle.std.proofs.lemmas.List.Elements.{All-nil, All-cons, All-head, All-weaker}
 use Rattle.std.proofs.lemmas.List.{length-map}
 use Rattle.std.proofs.lemmas.Slice.Eq.{bytes_eq-Decides}
@@ -123,10 +123,6 @@ other_lower p is =
 pub is_one : (p : List ℕ) (n : ℕ) → same_text (lowercase p) (n ∷ []) ≡ true → is_singleton p ≡ true
 is_one p n is = ap (λ k. k == 1) (sym (length-map p to_ascii_lowercase) ∙ ap length (named p n is))
 
-not_true : (b : Bool) → not b ≡ true → b ≡ false
-not_true true e = absurd (false≢true e)
-not_true false e = refl
-
 -- ---- extensions
 
 -- an extension with this singleton was read
@@ -237,7 +233,7 @@ extensions_read ids y ps es rest done fresh at = refl
 extensions_read ids y ps es rest (next qs rs e more d ds) fresh at =
     let both = and_parts (not (has y (singleton e))) (are_fresh (add y e) more) fresh in
     ap (read_on whole [] y) (append_assoc qs rs rest)
-    ∙ extension_read ids y qs e (rs ++ rest) d (not_true (has y (singleton e)) both.0) (extensions_start rs more rest ds at)
+    ∙ extension_read ids y qs e (rs ++ rest) d (not-true (has y (singleton e)) both.0) (extensions_start rs more rest ds at)
     ∙ extensions_read ids (add y e) rs more rest ds both.1 at
 
 pub private_use_read : (y : LocaleIdentifier) (ps : List (List ℕ)) (o : Option (List (List ℕ))) → AtMostOne IsPrivateUse ps o

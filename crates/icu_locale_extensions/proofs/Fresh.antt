@@ -6,7 +6,7 @@ use Rattle.std.specs.List.{list_all, list_any}
 use Rattle.std.specs.Option.{is_some}
 use Rattle.std.specs.Ordering.{match_ordering}
 use Rattle.std.specs.declared.cmp.Ordering.TheVariants.{Less, Equal, Greater}
-use Rattle.std.proofs.lemmas.Bool.{and_parts, false≢true}
+use Rattle.std.proofs.lemmas.Bool.{and_parts, false≢true, not-true}
 use Rattle.std.proofs.lemmas.Slice.Eq.{bytes_eq-Decides}
 use Rattle.icu_locale_core.specs.Maps.{value_at}
 use Rattle.icu_locale_core.specs.TextSet.{text_cmp, rising, from_list}
@@ -146,12 +146,8 @@ has_add y (other_of s ps) m is = by (same_text m (codes "u")) (same_text m (code
     apart : (not (same_text s (codes "u")) ≡ true) × (not (same_text s (codes "t")) ≡ true)
     apart = and_parts (not (same_text s (codes "u"))) (not (same_text s (codes "t"))) is
 
-    not_true : (b : Bool) → not b ≡ true → b ≡ false
-    not_true true e = absurd (false≢true e)
-    not_true false e = refl
-
     other_name : (n : List ℕ) → same_text m n ≡ true → not (same_text s n) ≡ true → false ≡ same_text s m
-    other_name n e a = sym (ap (same_text s) (decided m n e) ∙ not_true (same_text s n) a)
+    other_name n e a = sym (ap (same_text s) (decided m n e) ∙ not-true (same_text s n) a)
 
     by : (u t : Bool) → same_text m (codes "u") ≡ u → same_text m (codes "t") ≡ t
         → (if u then has_unicode y else (if t then has_transform y else is_some (value_at text_cmp (add_first text_cmp y.others s ps) m)))

@@ -2,7 +2,7 @@
 use Rattle.std.proofs.Common.{◌≡◌, ℕ, ◌+◌, ◌<◌, ◌≤◌, zero, suc, Bool, true, false, not, ◌&&◌, ◌||◌, ◌==◌, List, [], ◌∷◌, ◌++◌, length, get_or, take, drop, map, codes, Option, None, Some, unwrap_or, Ok, if◌then◌else◌, refl, ap, sym, ◌∙◌, arith, append_assoc}
 use Rattle.std.specs.Char.{is_ascii_alphabetic, is_ascii_digit, is_ascii_alphanumeric, to_ascii_lowercase}
 use Rattle.std.specs.List.{list_all, onto_first, position_or_len, before_first, after_first}
-use Rattle.std.proofs.lemmas.Bool.{and_parts, false≢true, false_from_ne_true}
+use Rattle.std.proofs.lemmas.Bool.{and_parts, false≢true, false_from_ne_true, not-true}
 use Rattle.std.proofs.lemmas.Bool.Decides.{nat_tests}
 use Rattle.std.proofs.lemmas.List.{length-map, take_all, drop_all}
 use Rattle.std.proofs.lemmas.List.Sums.{position_or_len_is}
@@ -29,10 +29,6 @@ use Rattle.icu_locale_extensions.proofs.WrittenPieces.{plain-lowercase, plain_tk
 -- letters and digits in each piece
 abbrev pub are_plain : List (List ℕ) → Bool
 are_plain ps = list_all is_alphanumeric ps
-
-not_true : (b : Bool) → not b ≡ true → b ≡ false
-not_true true e = absurd (false≢true e)
-not_true false e = refl
 
 -- ---- texts of plain pieces
 
@@ -73,7 +69,7 @@ fewer_lack (c ∷ t) none =
 module _ (p : ℕ → Bool) where
   lacks_at : (t : List ℕ) → Lacks p t → (k : ℕ) → k < length t → p (get_or t k 0) ≡ false
   lacks_at [] none k low = absurd (omega arith)
-  lacks_at (c ∷ t) none zero low = not_true (p c) (and_parts (not (p c)) (list_all (λ d. not (p d)) t) none).0
+  lacks_at (c ∷ t) none zero low = not-true (p c) (and_parts (not (p c)) (list_all (λ d. not (p d)) t) none).0
   lacks_at (c ∷ t) none (suc k) low = lacks_at t (and_parts (not (p c)) (list_all (λ d. not (p d)) t) none).1 k (omega arith)
 
   at_end : (t : List ℕ) → Lacks p t → position_or_len p t ≡ length t
@@ -331,7 +327,7 @@ extended-strict [] begins = refl
 extended-strict (p ∷ []) begins = refl
 extended-strict (p ∷ q ∷ ps) begins =
     let rest = (and_parts (is_language p) _ begins).1 in
-    let other = not_true (three_letters q) (and_parts (not (three_letters q)) _ rest).0 in
+    let other = not-true (three_letters q) (and_parts (not (three_letters q)) _ rest).0 in
     ap (λ b. (is_language p && b) && is_registered p q) other ∙ ap (λ b. b && is_registered p q) (and-false (is_language p))
 
 module _ (t : List ℕ) (begins : may_begin (pieces t) ≡ true) where

@@ -2,7 +2,7 @@
 use Rattle.std.proofs.Common.{◌≡◌, ◌≢◌, ℕ, List, Bool, true, false, not, ◌&&◌, Option, Some, None, refl, ap, sym, ◌∙◌, inl, inr, if◌then◌else◌}
 use Rattle.std.specs.Option.{option_eq}
 use Rattle.std.specs.Str.{bytes_eq}
-use Rattle.std.proofs.lemmas.Bool.{false≢true, and_parts}
+use Rattle.std.proofs.lemmas.Bool.{false≢true, and_parts, not-true}
 use Rattle.std.proofs.lemmas.Slice.Eq.{bytes_eq-Decides}
 use Rattle.icu_locale_core.specs.Subtag.{und}
 use Rattle.icu_locale_core.specs.laws.Identifiers.{options_tell}
@@ -19,10 +19,6 @@ use Rattle.icu_locale_fallback.proofs.Lengths.{follows}
 itself : (o : Option (List ℕ)) → option_eq bytes_eq o o ≡ true
 itself o = (options_tell bytes_eq (λ t u. bytes_eq-Decides t u) o o).1 refl
 
-false_from_not : (b : Bool) → not b ≡ true → b ≡ false
-false_from_not false e = refl
-false_from_not true e = absurd (false≢true e)
-
 -- a script that depends on the region is put in next
 record PutIn (p : LocaleFallbackPriority) (likely : LikelySubtags) (x : DataLocale) : Type 0 where
   is : truncated p likely x ≡ locale_with x.language (script_of likely x) x.region
@@ -33,22 +29,22 @@ put_in : (p : LocaleFallbackPriority) → p ≢ Region → (likely : LikelySubta
 put_in p other likely l (Some s) r depends = absurd (false≢true depends)
 put_in p other likely l None None depends =
     let parts = and_parts (not (bytes_eq l und)) _ depends in
-    absurd (false≢true (sym (false_from_not _ parts.1) ∙ itself (script_of likely (locale_with l None None))))
+    absurd (false≢true (sym (not-true _ parts.1) ∙ itself (script_of likely (locale_with l None None))))
 put_in Region other likely l None (Some r) depends = absurd (other refl)
 put_in Language other likely l None (Some r) depends =
     let x = locale_with l None (Some r) in
     let parts = and_parts (not (bytes_eq l und)) _ depends in
     record {
       is = ap (λ b. if b then locale_with l (script_of likely x) (Some r) else locale_with l None None) depends;
-      goes = ap (λ b. b && false) (false_from_not (bytes_eq l und) parts.0);
+      goes = ap (λ b. b && false) (not-true (bytes_eq l und) parts.0);
     }
 put_in Script other likely l None (Some r) depends =
     let x = locale_with l None (Some r) in
     let parts = and_parts (not (bytes_eq l und)) _ depends in
     record {
-      is = by_script_known likely x (false_from_not (bytes_eq l und) parts.0)
+      is = by_script_known likely x (not-true (bytes_eq l und) parts.0)
           ∙ ap (λ b. if b then locale_with l (script_of likely x) (Some r) else locale_with l None None) depends;
-      goes = ap (λ b. b && false) (false_from_not (bytes_eq l und) parts.0);
+      goes = ap (λ b. b && false) (not-true (bytes_eq l und) parts.0);
     }
 
 normal_form : (p : LocaleFallbackPriority) → p ≢ Region → (likely : LikelySubtags) (x : DataLocale) → normal p likely x ≡ normal Language likely x

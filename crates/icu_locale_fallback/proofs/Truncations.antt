@@ -2,7 +2,7 @@
 use Rattle.std.proofs.Common.{◌≡◌, ℕ, List, Bool, true, false, not, ◌&&◌, Option, Some, None, is_some, refl, ap, sym, ◌∙◌, ◌⊎◌, inl, inr, if◌then◌else◌}
 use Rattle.std.specs.Option.{option_eq, option_or}
 use Rattle.std.specs.Str.{bytes_eq}
-use Rattle.std.proofs.lemmas.Bool.{false≢true, cases_Bool}
+use Rattle.std.proofs.lemmas.Bool.{false≢true, cases_Bool, not-true}
 use Rattle.std.proofs.lemmas.Option.{none-some}
 use Rattle.std.proofs.lemmas.Slice.Eq.{bytes_eq-Decides}
 use Rattle.icu_locale_core.specs.Subtag.{und}
@@ -18,10 +18,6 @@ use Rattle.icu_locale_fallback.specs.inner.Universe.{after}
 pub cond_cases : {X : Type 0} (b : Bool) (x y : X) → ((b ≡ true) × ((if b then x else y) ≡ x)) ⊎ ((b ≡ false) × ((if b then x else y) ≡ y))
 cond_cases true x y = inl (refl, refl)
 cond_cases false x y = inr (refl, refl)
-
-false_from_not : (b : Bool) → not b ≡ true → b ≡ false
-false_from_not false e = refl
-false_from_not true e = absurd (false≢true e)
 
 -- ---- a script that is put in is there
 
@@ -52,7 +48,7 @@ no_script_alone likely l r known e =
 put_in_some : (alone whole : Option (List ℕ)) (b : Bool) → (not b && not (option_eq bytes_eq alone whole)) ≡ true
     → (b ≡ false → whole ≡ None → alone ≡ None) → (s : List ℕ) × (whole ≡ Some s) × (option_eq bytes_eq alone (Some s) ≡ false)
 put_in_some alone (Some s) true e none = absurd (false≢true e)
-put_in_some alone (Some s) false e none = (s, refl, false_from_not (option_eq bytes_eq alone (Some s)) e)
+put_in_some alone (Some s) false e none = (s, refl, not-true (option_eq bytes_eq alone (Some s)) e)
 put_in_some alone None true e none = absurd (false≢true e)
 put_in_some alone None false e none =
     absurd (false≢true (sym (ap (λ o. not (option_eq bytes_eq o None)) (none refl refl)) ∙ e))

@@ -7,6 +7,7 @@ use Rattle.std.specs.declared.cmp.Ordering.TheVariants.{Less, Equal, Greater}
 use Rattle.std.specs.Ordering.{is_le, nat_cmp, bool_cmp, ordering_reverse, ordering_then, MatchOrdering}
 use Rattle.std.proofs.lemmas.Cmp.{ranked, tied_itself}
 use Rattle.std.proofs.lemmas.Option.{same_Some, none-some}
+use Rattle.std.proofs.lemmas.Bool.{not-false}
 use Rattle.icu_locale_core.specs.declared.langid.LanguageIdentifier.{LanguageIdentifier}
 use Rattle.icu_locale_core.specs.laws.Identifiers.{same_parts, same_texts, identifiers_decide, sets_tell}
 use Rattle.icu_locale.specs.LikelySubtags.{maximal_locale, subtags_of}
@@ -15,6 +16,7 @@ use Rattle.icu_locale_core.specs.TextSet.{text_cmp}
 use Rattle.icu_locale_core.specs.Maps.{value_at}
 use Rattle.icu_locale_matching.specs.Distance.{distance, distance_by, levels_for, TellsApart}
 use Rattle.icu_locale_matching.specs.Nearest.{Question, IsOffer, IsLeastOf, demotion_at, form_of, rank_cmp, rank_of, is_among, match_of, IsNearest, ServesFirst, IsSpelledFirst, IsFormedFirst, unlikeliness, paradigms_of, AgreeOn, with_matching, ScriptsAreFar, KeepsScript}
+use Rattle.icu_provider.specs.laws.Requests.{both_tied}
 use Rattle.icu_provider.specs.declared.matching.LanguageMatching.{LanguageMatching}
 use Rattle.icu_locale_matching.specs.declared.rank.Rank.{Rank}
 use Rattle.icu_locale_matching.specs.declared.matcher.Match.{Match}
@@ -22,11 +24,6 @@ use Rattle.icu_locale_matching.proofs.Ranks.{rank_total, offer_cost, IsLeastOf-s
 use Rattle.icu_locale_matching.proofs.Apart.{distance_zero, distance_itself, distance_agrees, script_kept, script_other}
 
 -- ---- ranks that tie
-
-both_tied : (o p : Ordering) → ordering_then o p ≡ Equal → (o ≡ Equal) × (p ≡ Equal)
-both_tied Less p e = absurd (cc)
-both_tied Equal p e = (refl, e)
-both_tied Greater p e = absurd (cc)
 
 same_number : (m n : ℕ) (o : Ordering) → MatchOrdering o (m < n) (m ≡ n) (n < m) → o ≡ Equal → m ≡ n
 same_number m n Less is e = absurd (cc)
@@ -217,10 +214,6 @@ no_flag_after false b p none le = refl
 no_flag_after true false p none le = absurd (cc)
 no_flag_after true true p none le = absurd (cc)
 
-unflagged : (b : Bool) → not b ≡ false → b ≡ true
-unflagged true e = refl
-unflagged false e = absurd (cc)
-
 upto_number : (m n : ℕ) (o : Ordering) → MatchOrdering o (m < n) (m ≡ n) (n < m) → is_le o ≡ true → m ≤ n
 upto_number m n Less is le = omega (arith, is)
 upto_number m n Equal is le = omega (arith, is)
@@ -261,7 +254,7 @@ module _ (q : Question) (j : ℕ) (room : 0 < q.limits.threshold) (spelled : IsS
       let asked : o.request ≡ spelled.request = same_Some o.request spelled.request
       (sym o.requested ∙ ap (slice_get q.requests) first ∙ spelled.requested) in
       let alike : not (same_parts o.request o.identifier) ≡ false = sym (ap (λ (x : Rank). x.spelled_otherwise) o.is) ∙ flag in
-      let same : o.request ≡ o.identifier = (identifiers_decide o.request o.identifier).0 (unflagged _ alike) in
+      let same : o.request ≡ o.identifier = (identifiers_decide o.request o.identifier).0 (not-false _ alike) in
       let served : o.identifier ≡ spelled.request = sym same ∙ asked in
       let varied : r.varied ≡ s.varied = ap (λ (x : Rank). x.varied) o.is
       ∙ ap (λ (x : LanguageIdentifier). not (same_texts x.variants o.identifier.variants)) asked
@@ -376,7 +369,7 @@ module _ (q : Question) (j : ℕ) (tells : TellsApart q.matching) (room : 0 < q.
       let v = same_flag_after r.varied s.varied _ (flag ∙ sym formed_varied) c in
       let unvaried : not (same_texts o.request.variants o.identifier.variants) ≡ false = sym (ap (λ (x : Rank). x.varied) o.is) ∙ flag in
       let variants : o.identifier.variants ≡ formed.request.variants =
-      sym ((sets_tell o.request.variants o.identifier.variants).0 (unflagged _ unvaried)) ∙ ap (λ (x : LanguageIdentifier). x.variants) asked in
+      sym ((sets_tell o.request.variants o.identifier.variants).0 (not-false _ unvaried)) ∙ ap (λ (x : LanguageIdentifier). x.variants) asked in
       let unlikely : r.unlikeliness ≡ s.unlikeliness = ap (λ (x : Rank). x.unlikeliness) o.is ∙ ap (unlikeliness q.likely) forms in
       let paradigm : r.off_paradigm ≡ s.off_paradigm = ap (λ (x : Rank). x.off_paradigm) o.is
       ∙ ap (λ m. not (is_among (paradigms_of q.likely q.matching) m)) forms in

@@ -2,7 +2,7 @@
 use Rattle.std.proofs.Common.{◌≡◌, ◌↔◌, ℕ, zero, suc, ◌≤◌, Bool, true, false, ◌==◌, ◌||◌, not, codes, List, [], ◌∷◌, ◌++◌, length, take, Option, Some, None, refl, sym, ap, ◌∙◌, subst, arith, if◌then◌else◌}
 use Rattle.std.specs.List.{filter, filter_map, cons_option, list_any, slice_get}
 use Rattle.std.specs.Option.{option_map, option_or}
-use Rattle.std.proofs.lemmas.Bool.{false≢true, and_parts}
+use Rattle.std.proofs.lemmas.Bool.{false≢true, and_parts, not-true}
 use Rattle.std.proofs.lemmas.Bool.Decides.{nat_tests}
 use Rattle.std.proofs.lemmas.List.Elements.{filter_map-append}
 use Rattle.std.proofs.lemmas.Option.{none-some, same_Some, slice_get-map}
@@ -101,10 +101,6 @@ not_none n = grind (arith, nat_tests)
 no_weight : (n : ℕ) → n ≡ 0 → (n == 0) ≡ true
 no_weight n none = grind (arith, nat_tests)
 
-unflagged : (b : Bool) → not b ≡ true → b ≡ false
-unflagged false e = refl
-unflagged true e = absurd (cc)
-
 module _ (P : List ℕ → LanguageIdentifier → Type 0) (one : (range : List ℕ) (y z : LanguageIdentifier) → P range y → P range z → y ≡ z) where
   asked_by : (w : Wish) (o : Option LanguageIdentifier) (rest ys : List LanguageIdentifier) (range : LanguageIdentifier)
       → IsOnly (P w.0) o → ys ≡ cons_option o rest → P w.0 range → slice_get ys 0 ≡ Some range
@@ -155,7 +151,7 @@ refused_out spelled s header place range y out at is =
     let mark : may_of mask place ≡ is_allowed f.requests f.out named y =
     ap is_true (slice_get-map (is_allowed f.requests f.out named) f.canonical place ∙ ap (option_map (is_allowed f.requests f.out named)) here) in
     let both = and_parts (not (is_begun f.out y)) _ (sym mark ∙ may) in
-    any_none (λ r. refuses r y) f.out taken.0 range taken.1 (unflagged _ both.0)
+    any_none (λ r. refuses r y) f.out taken.0 range taken.1 (not-true _ both.0)
 
 -- ---- `*` alone
 

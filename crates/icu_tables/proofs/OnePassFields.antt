@@ -2,7 +2,7 @@
 use Rattle.std.proofs.Common.{◌≡◌, ℕ, suc, ◌<◌, Bool, true, false, not, ◌||◌, nat_eq, List, [], ◌∷◌, ◌++◌, length}
 use Rattle.std.proofs.Common.{get_or, if◌then◌else◌, Option, Some, None, option_map, option_and_then, unwrap_or, refl, sym, ap, ap₂, ◌∙◌, subst, arith}
 use Rattle.std.proofs.lemmas.Option.{none-some}
-use Rattle.std.proofs.lemmas.Bool.{false≢true, and_from, and_parts, or_parts, or_from, or_left, or_right}
+use Rattle.std.proofs.lemmas.Bool.{false≢true, not-true, and_from, and_parts, or_parts, or_from, or_left, or_right}
 use Rattle.std.proofs.lemmas.List.Folds.{list_any-append}
 use Rattle.std.proofs.lemmas.Slice.Eq.{bytes_eq-Decides}
 use Rattle.std.specs.declared.cmp.Ordering.{Ordering}
@@ -42,17 +42,13 @@ listed_put names k d (member l e ms) new rest =
 listed_both : (xs ys : List (List ℕ)) (name : List ℕ) → is_name_listed (xs ++ ys) name ≡ (is_name_listed xs name || is_name_listed ys name)
 listed_both xs ys name = list_any-append (λ known. pointwise nat_eq known name) xs ys
 
-not_true : (b : Bool) → not b ≡ true → b ≡ false
-not_true true is = absurd (false≢true is)
-not_true false is = refl
-
 -- names that are told apart in one list are so in its parts
 distinct_parts : (xs ys : List (List ℕ)) → are_distinct (xs ++ ys) ≡ true → (are_distinct xs ≡ true) × (are_distinct ys ≡ true)
 distinct_parts [] ys distinct = (refl, distinct)
 distinct_parts (x ∷ xs) ys distinct =
     let both = and_parts (not (is_name_listed (xs ++ ys) x)) (are_distinct (xs ++ ys)) distinct in
     let parts = distinct_parts xs ys both.1 in
-    let alone = or_parts (is_name_listed xs x) (is_name_listed ys x) (sym (listed_both xs ys x) ∙ not_true _ both.0) in
+    let alone = or_parts (is_name_listed xs x) (is_name_listed ys x) (sym (listed_both xs ys x) ∙ not-true _ both.0) in
     (and_from _ _ (ap not alone.0) parts.0, parts.1)
 
 apart_at : (b : Bool) (x : List ℕ) (xs ys : List (List ℕ)) (name : List ℕ) → is_name_listed (xs ++ ys) x ≡ false → pointwise nat_eq x name ≡ b
@@ -67,7 +63,7 @@ apart : (xs ys : List (List ℕ)) (name : List ℕ) → are_distinct (xs ++ ys) 
 apart [] ys name distinct listed = absurd (false≢true listed)
 apart (x ∷ xs) ys name distinct listed =
     let both = and_parts (not (is_name_listed (xs ++ ys) x)) (are_distinct (xs ++ ys)) distinct in
-    apart_at (pointwise nat_eq x name) x xs ys name (not_true _ both.0) refl (apart xs ys name both.1) listed
+    apart_at (pointwise nat_eq x name) x xs ys name (not-true _ both.0) refl (apart xs ys name both.1) listed
 
 -- ---- one field, and fields beside others
 

@@ -33,7 +33,7 @@ pub not_greater : Greater ≡ Equal → ⊥
 not_greater is = subst (λ o. T (is_eq o)) (sym is) tt
 
 -- two comparisons, one after the other, tie where both do
-both_tied : (o p : Ordering) → ordering_then o p ≡ Equal → (o ≡ Equal) × (p ≡ Equal)
+pub both_tied : (o p : Ordering) → ordering_then o p ≡ Equal → (o ≡ Equal) × (p ≡ Equal)
 both_tied Less p tied = absurd (not_less tied)
 both_tied Equal p tied = (refl, tied)
 both_tied Greater p tied = absurd (not_greater tied)
