@@ -1,16 +1,17 @@
 -- A line that a call answers, as the program's input.
+use Rattle.std.specs.Prelude.{if◌then◌else◌}
 use Rattle.std.proofs.Common.{◌≡◌, ◌↔◌, ℕ, Bool, true, false, ◌||◌, List, [], ◌∷◌, ◌++◌, suc, ◌+◌, take, drop, Option, Some, refl, ap, sym, subst, ◌∙◌, append-nil, arith}
 use Rattle.std.specs.List.{list_any, position_or_len, slice_split}
 use Rattle.std.proofs.lemmas.Bool.{false≢true}
 use Rattle.std.proofs.lemmas.Option.{same_Some}
-use Rattle.icu_tables.specs.declared.tables.Tables.{Tables}
 use Rattle.icu_locale_core.specs.declared.langid.LanguageIdentifier.{LanguageIdentifier}
+use Rattle.icu_locale_extensions.specs.declared.identifier.LocaleIdentifier.{LocaleIdentifier}
 use Rattle.icu_locale_extensions.specs.declared.syntax.Syntax.{Syntax}
 use Rattle.icu_locale_lines.specs.Answers.{IsAnswer}
-use Rattle.icu_locale_lines.specs.Commands.{AreToolsOf, IsServerOf, text_left}
-use Rattle.icu_locale_lines.specs.Loads.{IsExpanderOf}
+use Rattle.icu_locale_lines.specs.Held.{AreToolsOver, Held, IsWorkOver, text_answered}
+use Rattle.icu_locale_lines.specs.Tasks.{asks_list}
+use Rattle.icu_locale_lines.specs.declared.command.LineCommand.{LineCommand}
 use Rattle.icu_locale_lines.specs.Lines.{after_first_line, first_line, is_line_feed, lines}
-use Rattle.icu_locale_lines.specs.Lists.{listed, IsAvailable}
 use Rattle.icu_locale_lines.specs.Runs.{AreAnswers, all_accepted, text_of_lines, WritesAll}
 use Rattle.icu_locale_lines.specs.laws.Parts.{without_empty_last-more}
 use Rattle.icu_locale_lines.specs.declared.command.Task.{Task}
@@ -20,10 +21,7 @@ use Rattle.icu_locale_lines.specs.declared.runs.Status.TheVariants.{Accepted, Re
 use Rattle.icu_locale_lines.specs.declared.work.Tools.{Tools}
 use Rattle.icu_locale_lines.specs.declared.work.Tools.TheVariants as tools
 use Rattle.icu_locale_lines.specs.declared.work.Work.{Work}
-use Rattle.icu_locale_c.specs.Asked.{asks_list}
-use Rattle.icu_locale_c.specs.Held.{AreToolsOver, Held}
-use Rattle.icu_locale_c.specs.Negotiations.{IsListed}
-use Rattle.icu_locale_c.specs.Program.{as_line}
+use Rattle.icu_locale_c.specs.Program.{as_line, behind_list}
 
 -- ---- a text up to its first line feed
 
@@ -100,57 +98,42 @@ wrote_one work line whole a status none all both =
     only_one work line whole a all.answers (subst (λ ls. AreAnswers work ls all.answers) (one_line line none) all.each) all.written
     (λ is. all.status_is.0 (both.1 is), λ is. both.0 (all.status_is.1 is))
 
--- ---- the tools of a task that asks for no list, whatever the input
+-- ---- commands that ask for no list, and those that do
 
-module _ (syntax : Option Syntax) (h : Held) (input : List ℕ) where
-  pub tools_alone : (k : Task) (w : Tools) → asks_list k ≡ false → AreToolsOver syntax k h w ↔ AreToolsOf syntax k h.tables input w
-  tools_alone (task.Transform form) (tools.Transform other e) none = (λ are. are, λ are. are)
-  tools_alone task.Canonicalize (tools.Canonicalize k) none = (λ are. are, λ are. are)
-  tools_alone task.Direction (tools.Direction d) none = (λ are. are, λ are. are)
-  tools_alone (task.Name chain preferences) (tools.Name n) none = (λ are. are, λ are. are)
-  tools_alone task.Fallback (tools.Fallback f) none = (λ are. are, λ are. are)
-  tools_alone task.Distance (tools.Distance d) none = (λ are. are, λ are. are)
-  tools_alone task.Parts tools.Parts none = (λ are. are, λ are. are)
-  tools_alone (task.Key of) (tools.Key other k) none = (λ are. are, λ are. are)
-  tools_alone task.Validate (tools.Validate v) none = (λ are. are, λ are. are)
-  tools_alone (task.SubtagName chain preferences) (tools.SubtagName n) none = (λ are. are, λ are. are)
-  tools_alone (task.Exemplars marker preferences) (tools.Exemplars set) none = (λ are. are, λ are. are)
-  tools_alone (task.Subtags kind preferences) (tools.Subtags list) none = (λ are. are, λ are. are)
-  tools_alone task.Negotiate w none = absurd (false≢true (sym none))
-  tools_alone (task.Serve served) w none = absurd (false≢true (sym none))
-  tools_alone k w none = (λ are. absurd are, λ are. absurd are)
+module _ (c : LineCommand) where
+  pub text_alone : (input : List ℕ) → asks_list c.task ≡ false → text_answered c input ≡ input
+  text_alone input none = ap (λ b. if b then after_first_line input else input) none
 
-  -- it answers each line of its input
-  pub text_alone : (k : Task) → asks_list k ≡ false → text_left k input ≡ input
-  text_alone task.Negotiate none = absurd (false≢true (sym none))
-  text_alone (task.Serve served) none = absurd (false≢true (sym none))
-  text_alone k none = refl
+  -- behind a list its line is answered
+  pub answered_behind : (list line : List ℕ) → list_any is_line_feed list ≡ false → asks_list c.task ≡ true
+      → text_answered c (behind_list list line) ≡ as_line line
+  answered_behind list line none asks =
+      ap (λ b. if b then after_first_line (behind_list list line) else behind_list list line) asks ∙ rest_is list (as_line line) none
 
--- ---- the tools of a task that asks for a list, behind that list
+-- tools that need no list are over tables alone
+module _ (syntax : Option Syntax) (h : Held) (list : Option (List LanguageIdentifier)) (ws : List LocaleIdentifier) where
+  tools_alone : (k : Task) (w : Tools) → asks_list k ≡ false → AreToolsOver syntax k h w
+      → AreToolsOver syntax k (record { tables = h.tables; available = list; wholes = ws }) w
+  tools_alone (task.Form form) (tools.Form other e) none are = are
+  tools_alone task.Canonicalize (tools.Canonicalize k) none are = are
+  tools_alone task.Direction (tools.Direction d) none are = are
+  tools_alone (task.Name chain preferences) (tools.Name n) none are = are
+  tools_alone task.Fallback (tools.Fallback f) none are = are
+  tools_alone task.Distance (tools.Distance e matching) none are = are
+  tools_alone task.Parts tools.Parts none are = are
+  tools_alone (task.Key of) (tools.Key other k) none are = are
+  tools_alone task.Validate (tools.Validate v) none are = are
+  tools_alone (task.SubtagName chain preferences) (tools.SubtagName n) none are = are
+  tools_alone (task.Exemplars marker preferences) (tools.Exemplars set) none are = are
+  tools_alone (task.Subtags kind preferences) (tools.Subtags list) none are = are
+  tools_alone task.Negotiate w none are = absurd (false≢true (sym none))
+  tools_alone (task.Serve served) w none are = absurd (false≢true (sym none))
+  tools_alone k w none are = absurd are
 
-module _ (syntax : Option Syntax) (t : Tables) (list rest : List ℕ) (h : Held) (none : list_any is_line_feed list ≡ false)
-    (is : IsListed syntax t list h) where
-  available_is : (xs : List LanguageIdentifier) → h.available ≡ Some xs → IsAvailable syntax (listed (first_line (list ++ 10 ∷ rest))) xs h.wholes
-  available_is xs held =
-      let same = same_Some is.identifiers xs (sym is.available ∙ held) in
-      rw (first_is list rest none) (subst (λ ys. IsAvailable syntax (listed list) ys h.wholes) same is.spelled)
-
-  pub tools_listed : (k : Task) (w : Tools) → asks_list k ≡ true → AreToolsOver syntax k h w → AreToolsOf syntax k t (list ++ 10 ∷ rest) w
-  tools_listed task.Negotiate (tools.Negotiate n offered) asks are = (
-    subst (λ u. IsExpanderOf u n.expander) is.tables are.0.expander,
-    are.0.settled,
-    subst (λ ws. IsAvailable syntax (listed (first_line (list ++ 10 ∷ rest))) n.available ws) (sym are.1) (available_is n.available are.0.available),
-  )
-  tools_listed (task.Serve served) (tools.Serve how s offered) asks are = (
-    are.0,
-    subst (λ u. IsServerOf u served.limits s) is.tables are.1.tables,
-    subst (λ ws. IsAvailable syntax (listed (first_line (list ++ 10 ∷ rest))) s.available ws) (sym are.2) (available_is s.available are.1.available),
-  )
-  tools_listed task.Negotiate w asks are = absurd are
-  tools_listed (task.Serve served) w asks are = absurd are
-  tools_listed k w asks are = absurd (false≢true asks)
-
-  pub text_listed : (k : Task) → asks_list k ≡ true → text_left k (list ++ 10 ∷ rest) ≡ rest
-  text_listed task.Negotiate asks = rest_is list rest none
-  text_listed (task.Serve served) asks = rest_is list rest none
-  text_listed k asks = absurd (false≢true asks)
+pub work_alone : (c : LineCommand) (h g : Held) (w : Work) → asks_list c.task ≡ false → g.tables ≡ h.tables → IsWorkOver c g w → IsWorkOver c h w
+work_alone c h g w none same over = record {
+  syntax = over.syntax;
+  places = over.places;
+  tools = subst (λ t. AreToolsOver c.syntax c.task (record { tables = t; available = h.available; wholes = h.wholes }) w.tools) same
+      (tools_alone c.syntax g h.available h.wholes c.task w.tools none over.tools);
+}

@@ -19,8 +19,9 @@ use Rattle.icu_locale_lines.specs.declared.asked.Source.TheVariants.{Sample}
 use Rattle.icu_locale_lines.specs.declared.command.LineCommand.{LineCommand}
 use Rattle.icu_locale_lines.specs.declared.command.Task.TheVariants.{Negotiate}
 use Rattle.icu_locale_lines.specs.declared.work.Work.{Work}
-use Rattle.icu_locale_c.specs.Asked.{HasList, HasUnsettledList, asks_list}
-use Rattle.icu_locale_c.specs.Held.{Held, IsWorkOver, without_list}
+use Rattle.icu_locale_c.specs.Asked.{HasList, HasUnsettledList}
+use Rattle.icu_locale_lines.specs.Tasks.{asks_list}
+use Rattle.icu_locale_lines.specs.Held.{Held, IsWorkOver, without_list}
 use Rattle.icu_locale_c.specs.declared.refusal.Refusal.{Refusal}
 use Rattle.icu_locale_c.specs.declared.refusal.Refusal.TheVariants as refusal
 

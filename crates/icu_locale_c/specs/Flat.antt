@@ -5,7 +5,7 @@ use Rattle.icu_tables_flat.specs.Form.{flat_rows}
 use Rattle.icu_tables.specs.FlatNames.{SayNames}
 use Rattle.icu_tables.specs.declared.tables.Tables.{Tables}
 use Rattle.icu_locale_c.specs.Calls.{Writes}
-use Rattle.icu_locale_c.specs.Held.{Held}
+use Rattle.icu_locale_lines.specs.Held.{Held}
 use Rattle.icu_locale_c.specs.declared.refusal.Refusal.{Refusal}
 use Rattle.icu_locale_c.specs.declared.refusal.Refusal.TheVariants as refusal
 

@@ -6,12 +6,12 @@ use Rattle.icu_locale_extensions.specs.declared.syntax.Syntax.{Syntax}
 use Rattle.icu_locale.specs.LikelyTable.{likely}
 use Rattle.icu_locale.specs.Negotiation.{Negotiation, IsNegotiated}
 use Rattle.icu_tables.specs.declared.tables.Tables.{Tables}
-use Rattle.icu_locale_lines.specs.Lists.{listed, SpellsAll, IsAvailable, IsFirstFault, TellsFault}
+use Rattle.icu_locale_lines.specs.Lists.{listed, SpellsAll, IsFirstFault, TellsFault}
 use Rattle.icu_locale_lines.specs.Loads.{has_likely}
 use Rattle.icu_locale_lines.specs.Commands.{HoldsSettled}
 use Rattle.icu_locale_lines.specs.CommandWords.{syntax_at}
 use Rattle.icu_locale_c.specs.Asked.{HasUnsettledList}
-use Rattle.icu_locale_c.specs.Held.{Held, IsNegotiationOf}
+use Rattle.icu_locale_lines.specs.Held.{Held, HoldsList, IsNegotiationOf}
 use Rattle.icu_locale_c.specs.declared.refusal.Refusal.{Refusal}
 use Rattle.icu_locale_c.specs.declared.refusal.Refusal.TheVariants as refusal
 
@@ -23,9 +23,7 @@ HasFault syntax line = (e : ParseError) × IsFirstFault syntax (listed line) e
 pub record IsListed (syntax : Option Syntax) (t : Tables) (list : List ℕ) (h : Held) : Type 0 where
   pub tables : h.tables ≡ t
   pub loaded : has_likely t ≡ true
-  pub identifiers : List LanguageIdentifier
-  pub available : h.available ≡ Some identifiers
-  pub spelled : IsAvailable syntax (listed list) identifiers h.wholes
+  pub listed : HoldsList syntax list h
 
 -- why a line gives no list over tables: a likely table is asked first, and then the line is read
 abbrev pub IsRefusedListing : Option Syntax → Tables → List ℕ → Refusal → Type 0

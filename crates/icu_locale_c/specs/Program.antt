@@ -7,7 +7,7 @@ use Rattle.icu_locale_lines.specs.declared.command.Command.TheVariants.{Lines}
 use Rattle.icu_locale_lines.specs.declared.command.LineCommand.{LineCommand}
 use Rattle.icu_locale_lines.specs.declared.runs.Status.{Status}
 use Rattle.icu_locale_lines.specs.declared.runs.Status.TheVariants.{Accepted}
-use Rattle.icu_locale_c.specs.Asked.{asks_list}
+use Rattle.icu_locale_lines.specs.Tasks.{asks_list}
 use Rattle.icu_locale_c.specs.Calls.{Names, unended}
 
 -- a text names no command that asks for a list

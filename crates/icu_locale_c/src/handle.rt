@@ -2,7 +2,7 @@
 ghost use Rattle.std.specs.Prelude.{◌≡◌, Option, None, Some, IfOk, IfErr};
 ghost use Rattle.std.specs.Option.{MatchOption};
 ghost use Rattle.icu_locale_c.specs.Handle.{handle_owns, held_coded};
-ghost use Rattle.icu_locale_c.specs.Held.{Held};
+ghost use Rattle.icu_locale_lines.specs.Held.{Held};
 
 use crate::loose::Loose;
 use crate::refusal::Refusal;

@@ -5,9 +5,11 @@ ghost use Rattle.icu_tables.specs.declared.tables.Tables.{Tables};
 ghost use Rattle.icu_locale_extensions.specs.declared.syntax.Syntax.{Syntax};
 ghost use Rattle.icu_locale_lines.specs.Lines.{is_line_feed};
 ghost use Rattle.icu_locale_c.specs.Calls.{IsAnswerTo};
-ghost use Rattle.icu_locale_c.specs.Held.{Held};
+ghost use Rattle.icu_locale_lines.specs.Held.{Held};
 ghost use Rattle.icu_locale_c.specs.Negotiations.{IsListed};
 ghost use Rattle.icu_locale_c.specs.Program.{AsksListIn, AsksNoList, IsWrittenFor, as_line, behind_list};
+
+use icu_locale_lines::laws::a_list_is_one;
 
 /// What a call answers to a line is what the program writes for it over the same tables, and accepts alike: for the line
 /// alone, and where the command asks for a list, behind a first line that is the list.
@@ -21,5 +23,7 @@ pub fn calls_answer_as_the_program()
         → AsksListIn syntax command → list_any is_line_feed list ≡ false
         → list_any is_line_feed line ≡ false → IsListed syntax t list h
         → IsAnswerTo h command line text accepted
-        → IsWrittenFor t command (behind_list list line) text accepted }
-{}
+        ↔ IsWrittenFor t command (behind_list list line) text accepted }
+{
+    a_list_is_one();
+}

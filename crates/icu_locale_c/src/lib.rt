@@ -11,11 +11,10 @@ ghost use Rattle.icu_locale_c.specs.declared.refusal.Refusal.{Refusal};
 
 mod flat;
 mod handle;
-mod kept;
-mod kept_list;
 pub mod laws;
 mod lines;
 mod loose;
+mod missing;
 mod negotiations;
 mod place;
 mod refusal;

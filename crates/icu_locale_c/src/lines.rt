@@ -1,19 +1,15 @@
 //! The program's line for a line, over what a handle keeps.
-ghost use Rattle.std.specs.Prelude.{◌≡◌, ◌<◌, ◌-◌, true, false, take, length, List, ℕ, IfOk, IfErr, IfSome, is_ok};
+ghost use Rattle.std.specs.Prelude.{◌≡◌, ◌<◌, ◌-◌, take, length, List, ℕ, IfOk, IfErr, IsOk, IsSome};
 ghost use Rattle.icu_locale_lines.specs.Answers.{IsAnswer};
-ghost use Rattle.icu_locale_lines.specs.Commands.{HasRules, IsWorkOf, has_tables, text_answered};
-ghost use Rattle.icu_locale_lines.specs.Loads.{IsExpanderOf, has_likely};
-ghost use Rattle.icu_locale_lines.specs.declared.command.Command.TheVariants.{Lines};
-ghost use Rattle.icu_locale_c.specs.Asked.{HasKept, IsLineOf, IsNotHeld, IsRefusedLine, asks_list};
+ghost use Rattle.icu_locale_lines.specs.Held.{AreToolsOver, HasKept, Held, IsServeTask, IsSessionOver, IsSettledList, ServesListed, StaysKept, held_in};
+ghost use Rattle.icu_locale_c.specs.Asked.{HasList, IsLineOf, IsRefusedLine};
 ghost use Rattle.icu_locale_c.specs.Calls.{Writes, unended};
-ghost use Rattle.icu_locale_c.specs.Held.{AreKept, IsListOver, StaysKept, held};
 
-use crate::kept::{Kept, canonicalizer_over, keep, server_over};
-use crate::kept_list::KeptList;
-use crate::negotiations::negotiator_over;
 use crate::refusal::Refusal;
-use icu_locale::LocaleExpander;
-use icu_locale_lines::{LineCommand, Loaded, Offered, Task, Tools, Work, load_expander};
+use icu_locale_lines::{
+    CliError, KeptList, LineCommand, Session, Task, Tools, Work, load_expander,
+    load_whole_canonicalizer,
+};
 use icu_tables::Tables;
 use std::alloc::Global;
 
@@ -22,166 +18,129 @@ use std::alloc::Global;
 pub fn line_of(
     alloc: Global,
     tables: &Tables,
-    kept: &mut Kept,
-    list: &Option<KeptList>,
-    offered: &Offered,
+    session: &mut Session,
     asked: &LineCommand,
     room: &mut Vec<u8>,
     line: &[u8],
 ) -> Result<bool, Refusal>
-    requires kept { AreKept tables.now list.now kept.old }
-    requires list { IfSome list.now (IsListOver tables.now) }
-    ensures kept { AreKept tables.now list.now kept.new }
-    ensures stays { StaysKept kept.old kept.new }
-    ensures answered { IfOk result (IsLineOf
-        (held tables.now list.now offered.now.wholes.items) asked.now line.now room.new.items) }
-    ensures refused { IfErr result (IsRefusedLine
-        (held tables.now list.now offered.now.wholes.items) asked.now) }
+    requires over { IsSessionOver tables.now session.old }
+    requires first { ServesListed session.old }
+    ensures over { IsSessionOver tables.now session.new }
+    ensures first { ServesListed session.new }
+    ensures stays { StaysKept tables.now session.old session.new }
+    ensures answered { IfOk result (IsLineOf (held_in tables.now session.old) asked.now line.now
+        room.new.items) }
+    ensures refused { IfErr result (IsRefusedLine (held_in tables.now session.old) asked.now) }
 {
-    keep(alloc, tables, list, asked, kept)?;
-    kept_line(tables, list, offered, kept, asked, room, line)
+    ask_list(tables, session, asked)?;
+    match session.keep(alloc, tables, asked) {
+        Ok(()) => kept_line(tables, session, asked, room, line),
+        Err(CliError::Memory) => Err(Refusal::Memory),
+        Err(_) => Err(Refusal::Table),
+    }
 }
 
-// The same over what is kept. What most lines ask for makes no work, as all is inlined; the others are apart, where a work
+// Asks for the list that a command asks for, which for `negotiate` is over settled tables.
+fn ask_list(tables: &Tables, session: &Session, asked: &LineCommand) -> Result<(), Refusal>
+    requires over { IsSessionOver tables.now session.now }
+    requires first { ServesListed session.now }
+    ensures there { IsOk result → HasList (held_in tables.now session.now) asked.now }
+    ensures served { IsOk result → IsServeTask asked.now.task → IsSome session.now.list }
+    ensures settled { IsOk result → asked.now.task ≡ Task.Negotiate
+        → IsSettledList session.now.list }
+    ensures refused { IfErr result (IsRefusedLine (held_in tables.now session.now) asked.now) }
+{
+    if !asked.task.row().lists {
+        return Ok(());
+    }
+    match (&session.list, asked.task) {
+        (None, _) => Err(Refusal::Negotiate),
+        (Some(KeptList::Unsettled(_)), Task::Negotiate) => Err(Refusal::Unsettled),
+        (Some(_), _) => Ok(()),
+    }
+}
+
+// The line over what is kept. What most lines ask for makes no work, as all is inlined; the others are apart, where a work
 // has room for the largest of its tools.
 #[inline(always)]
 fn kept_line<'r>(
     tables: &'r Tables,
-    list: &'r Option<KeptList>,
-    offered: &'r Offered,
-    kept: &'r Kept,
+    session: &'r Session,
     asked: &LineCommand,
     room: &mut Vec<u8>,
     line: &[u8],
 ) -> Result<bool, Refusal>
-    requires kept { AreKept tables.now list.now kept.now }
-    requires there { HasKept asked.now tables.now kept.now }
-    requires list { IfSome list.now (IsListOver tables.now) }
-    ensures answered { IfOk result (IsLineOf
-        (held tables.now list.now offered.now.wholes.items) asked.now line.now room.new.items) }
-    ensures refused { IfErr result (IsRefusedLine
-        (held tables.now list.now offered.now.wholes.items) asked.now) }
+    requires over { IsSessionOver tables.now session.now }
+    requires kept { HasKept asked.now tables.now session.now }
+    requires list { HasList (held_in tables.now session.now) asked.now }
+    ensures answered { IfOk result (IsLineOf (held_in tables.now session.now) asked.now line.now
+        room.new.items) }
+    ensures refused { IfErr result (IsRefusedLine (held_in tables.now session.now) asked.now) }
 {
-    let (syntax, places) = (asked.syntax, asked.places);
     match asked.task {
-        Task::Transform(form) => {
-            let tools = Tools::Transform(form, expander_over(tables)?);
-            answer(
-                &Work {
-                    syntax,
-                    places,
-                    tools,
-                },
-                room,
-                line,
-            )
-        }
-        Task::Canonicalize => {
-            let tools = Tools::Canonicalize(canonicalizer_over(tables, kept)?);
-            answer(
-                &Work {
-                    syntax,
-                    places,
-                    tools,
-                },
-                room,
-                line,
-            )
-        }
-        _ => further_line(tables, list, offered, kept, asked, room, line),
+        Task::Form(form) => match load_expander(tables) {
+            Ok(expander) => line_by(asked, Tools::Form(form, expander), room, line),
+            Err(_) => Err(Refusal::Table),
+        },
+        Task::Canonicalize => match load_whole_canonicalizer(tables, &session.rules) {
+            Ok(canonicalizer) => line_by(asked, Tools::Canonicalize(canonicalizer), room, line),
+            Err(_) => Err(Refusal::Table),
+        },
+        _ => further_line(tables, session, asked, room, line),
     }
+}
+
+// The line by tools of a command.
+#[inline(always)]
+fn line_by(
+    asked: &LineCommand,
+    tools: Tools<'_>,
+    room: &mut Vec<u8>,
+    line: &[u8],
+) -> Result<bool, Refusal>
+    ensures answered { (h : Held) → AreToolsOver asked.now.syntax asked.now.task h tools.entry
+        → IfOk result (IsLineOf h asked.now line.now room.new.items) }
+    ensures refused { IfErr result (λ e. e ≡ Refusal.Memory) }
+{
+    let work = Work {
+        syntax: asked.syntax,
+        places: asked.places,
+        tools,
+    };
+    told(&work, room, line)
 }
 
 // The line of any other task.
 #[inline(never)]
 fn further_line<'r>(
     tables: &'r Tables,
-    list: &'r Option<KeptList>,
-    offered: &'r Offered,
-    kept: &'r Kept,
+    session: &'r Session,
     asked: &LineCommand,
     room: &mut Vec<u8>,
     line: &[u8],
 ) -> Result<bool, Refusal>
-    requires kept { AreKept tables.now list.now kept.now }
-    requires there { HasKept asked.now tables.now kept.now }
-    requires list { IfSome list.now (IsListOver tables.now) }
-    ensures answered { IfOk result (IsLineOf
-        (held tables.now list.now offered.now.wholes.items) asked.now line.now room.new.items) }
-    ensures refused { IfErr result (IsRefusedLine
-        (held tables.now list.now offered.now.wholes.items) asked.now) }
+    requires over { IsSessionOver tables.now session.now }
+    requires kept { HasKept asked.now tables.now session.now }
+    requires list { HasList (held_in tables.now session.now) asked.now }
+    ensures answered { IfOk result (IsLineOf (held_in tables.now session.now) asked.now line.now
+        room.new.items) }
+    ensures refused { IfErr result (IsRefusedLine (held_in tables.now session.now) asked.now) }
 {
-    let (syntax, places) = (asked.syntax, asked.places);
-    match asked.task {
-        Task::Negotiate => {
-            let tools = Tools::Negotiate(negotiator_over(tables, list)?, offered);
-            answer(
-                &Work {
-                    syntax,
-                    places,
-                    tools,
-                },
-                room,
-                line,
-            )
-        }
-        Task::Serve(how) => {
-            let tools = Tools::Serve(how, server_over(tables, kept, how.limits)?, offered);
-            answer(
-                &Work {
-                    syntax,
-                    places,
-                    tools,
-                },
-                room,
-                line,
-            )
-        }
-        _ => answer(&loaded_work(tables, kept, asked)?, room, line),
+    match session.work(tables, asked) {
+        Ok(work) => told(&work, room, line),
+        Err(_) => Err(Refusal::Table),
     }
 }
 
-// The answer to a line, in the room of an earlier one.
+// The line of a work, in the room of an earlier one.
 #[inline(always)]
-fn answer(work: &Work<'_>, room: &mut Vec<u8>, line: &[u8]) -> Result<bool, Refusal>
+fn told(work: &Work<'_>, room: &mut Vec<u8>, line: &[u8]) -> Result<bool, Refusal>
     ensures answered { IfOk result (IsAnswer work.now line.now room.new.items) }
     ensures refused { IfErr result (λ e. e ≡ Refusal.Memory) }
 {
     match work.answer(room, line) {
         Ok(accepted) => Ok(accepted),
         Err(_) => Err(Refusal::Memory),
-    }
-}
-
-// The expander over the tables.
-fn expander_over(tables: &Tables) -> Result<LocaleExpander<'_>, Refusal>
-    ensures made { IfOk result (IsExpanderOf tables.entry.now) }
-    ensures loaded { is_ok result ≡ has_likely tables.entry.now }
-    ensures refused { IfErr result (λ e. e ≡ Refusal.Table) }
-{
-    match load_expander(tables) {
-        Ok(expander) => Ok(expander),
-        Err(_) => Err(Refusal::Table),
-    }
-}
-
-// The work of a command that asks for no list.
-fn loaded_work<'r>(
-    tables: &'r Tables,
-    kept: &'r Kept,
-    asked: &LineCommand,
-) -> Result<Work<'r>, Refusal>
-    requires list { asks_list asked.now.task ≡ false }
-    requires rules { HasRules asked.now tables.now kept.now.rules }
-    ensures work { IfOk result (λ w. (input : List ℕ)
-        → IsWorkOf asked.now tables.now input w × (text_answered asked.now input ≡ input)) }
-    ensures held { IfOk result (λ _. has_tables (Lines asked.now) tables.now ≡ true) }
-    ensures refused { IfErr result (IsNotHeld (has_tables (Lines asked.now) tables.now)) }
-{
-    match Loaded::load(asked, tables, &kept.rules) {
-        Ok(Loaded::Ready(work)) => Ok(work),
-        Ok(Loaded::Listing(_)) => unreachable!(),
-        Err(_) => Err(Refusal::Table),
     }
 }
 

@@ -1,64 +1,55 @@
 //! A list of what is available, kept beside the tables over which it was made, and negotiation over it.
-ghost use Rattle.std.specs.Prelude.{◌≡◌, true, List, IfOk, IfErr, IfSome};
-ghost use Rattle.icu_locale_extensions.specs.declared.identifier.LocaleIdentifier.{LocaleIdentifier};
-ghost use Rattle.icu_locale_lines.specs.Lists.{listed, IsAvailable};
-ghost use Rattle.icu_locale_lines.specs.Loads.{has_likely};
+ghost use Rattle.std.specs.Prelude.{IfOk, IfErr};
+ghost use Rattle.icu_locale_lines.specs.Held.{Held, IsNegotiationOf, IsSessionOver, ServesListed, held_in};
 ghost use Rattle.icu_locale_c.specs.Asked.{HasNoNegotiation};
-ghost use Rattle.icu_locale_c.specs.Held.{Held, IsListOver, IsNegotiationOf, held, identifiers_of_list};
-ghost use Rattle.icu_locale_c.specs.Negotiations.{IsListFault, IsMet, IsRefusedListing, IsRefusedRequests};
+ghost use Rattle.icu_locale_c.specs.Negotiations.{IsListFault, IsListed, IsMet, IsRefusedListing, IsRefusedRequests};
 
-use crate::kept_list::KeptList;
 use crate::refusal::Refusal;
 use icu_locale::NegotiatorRef;
 use icu_locale_core::ParseError;
 use icu_locale_extensions::Syntax;
-use icu_locale_lines::{Offered, fault_of_list, load_expander, read_available, read_list};
+use icu_locale_lines::{CliError, KeptList, Session, fault_of_list, read_list};
 use icu_tables::Tables;
 use std::alloc::Global;
 
-// The list that a line lists, over tables with likely tables, and how it is written.
+// A session with the list that a line lists, over tables with likely tables.
 pub fn list_available(
     alloc: Global,
     tables: &Tables,
     syntax: Option<Syntax>,
     line: &[u8],
-) -> Result<(KeptList, Offered), Refusal>
-    ensures spelled { IfOk result (λ a. IsAvailable syntax (listed line.now)
-        (identifiers_of_list a.0) a.1.wholes.items) }
-    ensures over { IfOk result (λ a. IsListOver tables.now a.0) }
+) -> Result<Session, Refusal>
+    ensures over { IfOk result (IsSessionOver tables.now) }
+    ensures first { IfOk result ServesListed }
+    ensures listed { IfOk result (λ s. IsListed syntax tables.now line.now
+        (held_in tables.now s)) }
     ensures refused { IfErr result (IsRefusedListing syntax tables.now line.now) }
 {
-    let Ok(expander) = load_expander(tables) else {
-        return Err(Refusal::Table);
-    };
-    let (identifiers, offered) = match read_available(alloc, syntax, line) {
-        Ok(read) => read,
-        Err(ParseError::Memory) => return Err(Refusal::Memory),
-        Err(_) => return Err(Refusal::List),
-    };
-    let list = KeptList::over(alloc, expander, identifiers)?;
-    Ok((list, offered))
+    match Session::with_list(alloc, tables, syntax, line) {
+        Ok(session) => Ok(session),
+        Err(CliError::Memory) => Err(Refusal::Memory),
+        Err(CliError::Available(_)) => Err(Refusal::List),
+        Err(_) => Err(Refusal::Table),
+    }
 }
 
 // The negotiator over a list that is kept.
 pub fn negotiator_over<'r>(
     tables: &'r Tables,
-    list: &'r Option<KeptList>,
+    session: &'r Session,
 ) -> Result<NegotiatorRef<'r>, Refusal>
-    requires { IfSome list.now (IsListOver tables.now) }
-    ensures over { (wholes : List LocaleIdentifier)
-        → IfOk result (IsNegotiationOf (held tables.now list.now wholes)) }
-    ensures held { IfOk result (λ _. has_likely tables.now ≡ true) }
-    ensures refused { (wholes : List LocaleIdentifier)
-        → IfErr result (HasNoNegotiation (held tables.now list.now wholes)) }
+    requires over { IsSessionOver tables.now session.now }
+    requires first { ServesListed session.now }
+    ensures over { IfOk result (IsNegotiationOf (held_in tables.now session.now)) }
+    ensures refused { IfErr result (HasNoNegotiation (held_in tables.now session.now)) }
 {
-    let available = match list {
-        Some(KeptList::Settled(available)) => available,
+    match &session.list {
+        Some(KeptList::Settled(_)) => {}
         Some(KeptList::Unsettled(_)) => return Err(Refusal::Unsettled),
         None => return Err(Refusal::Negotiate),
-    };
-    match load_expander(tables) {
-        Ok(expander) => Ok(NegotiatorRef::over(expander, available)),
+    }
+    match session.negotiator(tables) {
+        Ok(negotiator) => Ok(negotiator),
         Err(_) => unreachable!(),
     }
 }

@@ -1,32 +1,29 @@
 //! Tables that several handles have, and what one of them keeps beside them.
-ghost use Rattle.std.specs.Prelude.{◌≡◌, [], Some, IfOk, IfErr, IfSome};
+ghost use Rattle.std.specs.Prelude.{◌≡◌, Some, IfOk, IfErr};
 ghost use Rattle.icu_locale_c.specs.Calls.{IsCall, IsSettledCall, IsSupplemented};
-ghost use Rattle.icu_locale_c.specs.Data.{IsNamedCall};
+ghost use Rattle.icu_locale_c.specs.Data.{IsMissingCall, IsNamedCall};
 ghost use Rattle.icu_locale_c.specs.Flat.{IsFlatCall, IsLent};
-ghost use Rattle.icu_locale_c.specs.Held.{Held, AreKept, IsListOver, held, held_code, without_list};
+ghost use Rattle.icu_locale_lines.specs.Held.{Held, IsSessionOver, ServesListed, held_in, without_list};
+ghost use Rattle.icu_locale_c.specs.Held.{held_code};
 ghost use Rattle.icu_locale_c.specs.Negotiations.{IsListed, IsMet, IsRefusedListing, IsRefusedNegotiation};
 
-use crate::kept::Kept;
-use crate::kept_list::KeptList;
 use crate::lines::{line_of, put_line, put_text};
 use crate::negotiations::{list_available, negotiate, negotiator_over};
 use crate::refusal::Refusal;
 use crate::words::read_command;
 use icu_locale_extensions::Syntax;
-use icu_locale_lines::{Offered, load_expander};
+use icu_locale_lines::{Session, load_expander, missing_table};
 use icu_tables::{Supplement, TableError, Tables};
 use icu_tables_flat::{FlatError, FlatTexts};
 use std::alloc::Global;
 use std::marker::Model;
 use std::sync::Arc;
 
-// Tables, the list of what is available, where there is one, what was made of both when it was asked for, and the room
-// of the last answer.
+// Tables, what was made beside them, a list of what is available among it where there is one, and the room of the last
+// answer.
 pub struct Shared {
     tables: Arc<Tables>,
-    available: Option<KeptList>,
-    offered: Offered,
-    kept: Kept,
+    session: Session,
     room: Vec<u8>,
 }
 
@@ -35,19 +32,16 @@ impl Model for Shared {
 
     ghost coded = { held_code };
 
-    ghost view = { λ s. held s.tables.value s.available s.offered.wholes.items };
+    ghost view = { λ s. held_in s.tables.value s.session };
 
-    ghost invariant = { λ s. AreKept s.tables.value s.available s.kept
-        × IfSome s.available (IsListOver s.tables.value) };
+    ghost invariant = { λ s. IsSessionOver s.tables.value s.session × ServesListed s.session };
 }
 
 impl Drop for Shared {
     fn drop(self) {
         let Shared {
             tables: _,
-            available: _,
-            offered: _,
-            kept: _,
+            session: _,
             room: _,
         } = self;
     }
@@ -61,7 +55,7 @@ impl Shared {
         let Ok(tables) = Arc::new(alloc, tables) else {
             return Err(Refusal::Memory);
         };
-        boxed(alloc, tables, None, nothing(alloc))
+        alone(alloc, tables)
     }
 
     // Reads the supplement of the tables, in place of theirs, where no other handle has them.
@@ -77,7 +71,7 @@ impl Shared {
         match Arc::get_mut(&mut self.tables) {
             Some(tables) => {
                 tables.set_supplement(supplement);
-                self.kept.served = None;
+                self.session.served = None;
                 Ok(())
             }
             None => Err(Refusal::Shared),
@@ -95,7 +89,7 @@ impl Shared {
             return Err(Refusal::Shared);
         };
         tables.set_lent_names(names);
-        self.kept.served = None;
+        self.session.served = None;
         Ok(())
     }
 
@@ -124,7 +118,7 @@ impl Shared {
         let Ok(tables) = Arc::clone(&self.tables) else {
             return Err(Refusal::Memory);
         };
-        boxed(alloc, tables, None, nothing(alloc))
+        alone(alloc, tables)
     }
 
     // The same tables once more, with the list that a line lists.
@@ -137,11 +131,11 @@ impl Shared {
         ensures made { IfOk result (λ b. IsListed syntax self.now.tables line.now b.value) }
         ensures refused { IfErr result (IsRefusedListing syntax self.now.tables line.now) }
     {
-        let (available, offered) = list_available(alloc, &self.tables, syntax, line)?;
+        let session = list_available(alloc, &self.tables, syntax, line)?;
         let Ok(tables) = Arc::clone(&self.tables) else {
             return Err(Refusal::Memory);
         };
-        boxed(alloc, tables, Some(available), offered)
+        boxed(alloc, tables, session)
     }
 
     // The places of the first request of a line that is met and of what meets it.
@@ -154,7 +148,7 @@ impl Shared {
         ensures met { IfOk result (IsMet syntax self.now line.now) }
         ensures refused { IfErr result (IsRefusedNegotiation syntax self.now line.now) }
     {
-        let negotiator = negotiator_over(&self.tables, &self.available)?;
+        let negotiator = negotiator_over(&self.tables, &self.session)?;
         negotiate(alloc, &negotiator, syntax, line)
     }
 
@@ -166,6 +160,31 @@ impl Shared {
         match &self.tables.supplement.cldr {
             Some(name) => {
                 put_text(name.as_str().as_bytes(), out, written)?;
+                Ok(true)
+            }
+            None => Ok(false),
+        }
+    }
+
+    // Writes the name of the first table that a command needs and that is not held to the beginning of `out`, and tells
+    // whether there is one. No length has been told before.
+    pub fn put_missing(
+        &self,
+        alloc: Global,
+        command: &[u8],
+        out: &mut [u8],
+        written: &mut usize,
+    ) -> Result<bool, Refusal>
+        requires { written.old ≡ 0 }
+        ensures { IsMissingCall self.now.tables command.now out.old out.new written.new result }
+    {
+        let asked = match read_command(alloc, command) {
+            Ok(asked) => asked,
+            Err(refusal) => return Err(refusal),
+        };
+        match missing_table(&asked, &self.tables) {
+            Some(name) => {
+                put_text(name.as_bytes(), out, written)?;
                 Ok(true)
             }
             None => Ok(false),
@@ -202,9 +221,7 @@ impl Shared {
         let accepted = match line_of(
             alloc,
             &self.tables,
-            &mut self.kept,
-            &self.available,
-            &self.offered,
+            &mut self.session,
             &asked,
             &mut self.room,
             line,
@@ -219,34 +236,24 @@ impl Shared {
     }
 }
 
-// What is written of no list.
-fn nothing(alloc: Global) -> Offered
-    ensures { result.wholes.items ≡ [] }
+// Tables without a list.
+fn alone(alloc: Global, tables: Arc<Tables>) -> Result<Box<Shared>, Refusal>
+    ensures made { IfOk result (λ b. b.value ≡ without_list tables.value) }
+    ensures refused { IfErr result (λ e. e ≡ Refusal.Memory) }
 {
-    Offered {
-        wholes: Vec::new(alloc),
-    }
+    let session = Session::new(alloc);
+    boxed(alloc, tables, session)
 }
 
-fn boxed(
-    alloc: Global,
-    tables: Arc<Tables>,
-    available: Option<KeptList>,
-    offered: Offered,
-) -> Result<Box<Shared>, Refusal>
-    requires { IfSome available (IsListOver tables.value) }
-    ensures made { IfOk result (λ b.
-        b.value ≡ held tables.value available offered.wholes.items) }
+fn boxed(alloc: Global, tables: Arc<Tables>, session: Session) -> Result<Box<Shared>, Refusal>
+    requires over { IsSessionOver tables.value session }
+    requires first { ServesListed session }
+    ensures made { IfOk result (λ b. b.value ≡ held_in tables.value session) }
     ensures refused { IfErr result (λ e. e ≡ Refusal.Memory) }
 {
     let shared = Shared {
         tables,
-        available,
-        offered,
-        kept: Kept {
-            rules: None,
-            served: None,
-        },
+        session,
         room: Vec::new(alloc),
     };
     match Box::new(alloc, shared) {

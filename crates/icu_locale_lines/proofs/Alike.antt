@@ -53,7 +53,7 @@ use Rattle.icu_locale_lines.specs.declared.command.Wishes.TheVariants.{Header, R
 use Rattle.icu_locale_matching.specs.Service.{Service}
 use Rattle.icu_locale_lines.specs.Locales.{is_tab}
 use Rattle.icu_locale_lines.specs.Texts.{canonical_line, transformed_line, whole_line, mark}
-use Rattle.icu_locale_lines.specs.declared.work.form.Transform.{Transform}
+use Rattle.icu_locale_lines.specs.declared.work.form.Form.{Form}
 use Rattle.icu_locale_lines.specs.declared.work.Tools.{Tools}
 use Rattle.icu_locale_lines.specs.declared.work.Tools.TheVariants as tools
 use Rattle.icu_locale_lines.proofs.LineAnswers.{spelled_alone}
@@ -171,7 +171,7 @@ module _ (facts : SyntaxFacts) (s : Syntax) (line text : List ℕ) (a : Bool) wh
     each_alike IsWhole IsLine both =
         read_alike (whole_once facts.spelling s) (alone_once facts.spelling) IsWhole IsLine line text a (bare x) x spells_bare spells both
 
-    pub transformed_alike : (form : Transform) (table : LikelySubtags) → IsWholeTransformed form table (bare x) text a ↔ IsTransformed form table x text a
+    pub transformed_alike : (form : Form) (table : LikelySubtags) → IsWholeTransformed form table (bare x) text a ↔ IsTransformed form table x text a
     transformed_alike form table = (
       λ h. (h.0, h.1, h.2, h.3 ∙ line_bare h.0 h.1, h.4),
       λ h. (h.0, h.1, h.2, h.3 ∙ sym (line_bare h.0 h.1), h.4),
@@ -235,14 +235,14 @@ module _ (facts : SyntaxFacts) (s : Syntax) (line text : List ℕ) (a : Bool) wh
   wishes_alike Resolved how t ws (xs, each) = wanted_alike (IsResolvedLine how t ws) xs each
 
   pub answers_alike : (work : Tools) → HoldsIdentifiers work line → IsAnswerBy (Some s) work line text a ↔ IsAnswerBy None work line text a
-  answers_alike (tools.Transform form e) (none, x, is, spells) = each_alike x (is, spells) (IsWholeTransformed form (likely e))
+  answers_alike (tools.Form form e) (none, x, is, spells) = each_alike x (is, spells) (IsWholeTransformed form (likely e))
       (IsTransformed form (likely e)) (transformed_alike x (is, spells) form (likely e))
   answers_alike (tools.Canonicalize c) (none, x, is, spells) = canonical_answers_alike x (is, spells) (whole_rules c) none
   answers_alike (tools.Direction d) (none, x, is, spells) =
       each_alike x (is, spells) (λ w. IsDirected d w.locale.id) (IsDirected d) (λ h. h, λ h. h)
   answers_alike (tools.Negotiate n o) (xs, each) = lists_alike (IsNegotiatedLine n o.now.wholes.items) xs each
   answers_alike (tools.Serve how t o) holds = wishes_alike how.wishes how t o.now.wholes.items holds
-  answers_alike (tools.Distance d) (xs, each) = lists_alike (IsDistanceLine d.matching.now (likely d.expander)) xs each
+  answers_alike (tools.Distance e matching) (xs, each) = lists_alike (IsDistanceLine matching.now (likely e)) xs each
   answers_alike (tools.Name n) (raw, (none, x, is, spells)) =
       each_alike x (is, spells) (IsWholeNamed n) (IsNamed n) (named_alike x (is, spells) n raw)
   answers_alike (tools.Fallback f) (none, x, is, spells) =

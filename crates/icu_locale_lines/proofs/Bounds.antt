@@ -1,5 +1,5 @@
 -- Lines within a bound.
-use Rattle.std.proofs.Common.{◌≡◌, ◌≢◌, ◌⊎◌, ◌≤◌, ℕ, ◌+◌, ◌-◌, take, drop, subst, append-nil, length-append, true, false, ◌||◌, cond, List, [], ◌∷◌, ◌++◌, length, Option, None, Some, is_none, refl, ap}
+use Rattle.std.proofs.Common.{◌≡◌, ◌≢◌, ◌⊎◌, ◌≤◌, ℕ, ◌-◌, take, drop, subst, append-nil, length-append, ◌==◌, true, false, ◌||◌, cond, List, [], ◌∷◌, ◌++◌, length, Option, None, Some, is_none, refl, ap}
 use Rattle.std.proofs.Common.{sym, ◌∙◌, append_assoc, inl, inr, arith}
 use Rattle.std.specs.List.{list_any, slice_split, onto_first}
 use Rattle.std.proofs.lemmas.Bool.{false≢true, or_parts}
@@ -8,7 +8,7 @@ use Rattle.std.proofs.lemmas.List.{append_cancel_right}
 use Rattle.std.proofs.lemmas.List.Folds.{list_any-append}
 use Rattle.std.proofs.Math.Seq.{take-append_seam, drop-append_seam}
 use Rattle.icu_locale_lines.specs.Lines.{is_line_feed, without_empty_last, lines, first_line, after_first_line, exceeds, AreWithin}
-use Rattle.icu_locale_lines.specs.Streams.{part_size, EndsLines, IsUnended, BeginsTooLong, BeginsRefused}
+use Rattle.icu_locale_lines.specs.Streams.{part_size, EndsLines, IsUnended, IsFew}
 use Rattle.icu_locale_lines.specs.laws.Parts.{without_empty_last-more, lines_of_parts}
 use Rattle.icu_locale_lines.proofs.FirstLines.{IsWhole, IsCut, cut_at, alone, first_line-grows}
 
@@ -34,12 +34,24 @@ pieces_ended (c ∷ t) none =
     ap (λ b. cond b ([] ∷ ps) (onto_first c ps)) both.0 ∙ ap (onto_first c) (pieces_ended t both.1)
 
 -- so a line alone is one line, and with its line feed too
-pub lines_alone : (t : List ℕ) → list_any is_line_feed t ≡ false → length (lines t) ≤ 1
-lines_alone [] none = omega arith
-lines_alone (c ∷ t) none = let one = ap (λ ps. length (without_empty_last ps)) (pieces_alone (c ∷ t) none) in omega (arith, one)
+lines_alone : (t : List ℕ) → t ≢ [] → list_any is_line_feed t ≡ false → lines t ≡ t ∷ []
+lines_alone [] some none = absurd (some refl)
+lines_alone (c ∷ t) some none = ap without_empty_last (pieces_alone (c ∷ t) none)
 
 pub lines_ended : (line : List ℕ) → list_any is_line_feed line ≡ false → lines (line ++ 10 ∷ []) ≡ line ∷ []
 lines_ended line none = ap without_empty_last (pieces_ended line none) ∙ without_empty_last-more line [] []
+
+-- the first line, and those behind it
+pub lines_at : (t : List ℕ) → t ≢ [] → lines t ≡ first_line t ∷ lines (after_first_line t)
+lines_at t some = by (cut_at t)
+  where
+    by : IsWhole t ⊎ IsCut t → lines t ≡ first_line t ∷ lines (after_first_line t)
+    by (inl whole) = lines_alone t some whole.1 ∙ (λ i. sym whole.0 i ∷ lines (sym (alone t whole.1).1 i))
+    by (inr cut) = ap lines cut.0 ∙ lines_of_parts (first_line t) (after_first_line t)
+        ∙ ap (λ ls. ls ++ lines (after_first_line t)) (lines_ended (first_line t) cut.1)
+
+pub not_empty : (t : List ℕ) → false ≡ (length t == 0) → t ≢ []
+not_empty t some none = false≢true (some ∙ ap (λ x. length x == 0) none)
 
 module _ (longest : Option ℕ) where
   pub within_none : AreWithin longest []
@@ -51,8 +63,7 @@ module _ (longest : Option ℕ) where
   -- a line alone
   pub within_alone : (line : List ℕ) → IsUnended longest line → AreWithin longest line
   within_alone [] unended = refl
-  within_alone (c ∷ t) unended = ap (λ ps. list_any (exceeds longest) (without_empty_last ps)) (pieces_alone (c ∷ t) unended.0)
-      ∙ one_line (c ∷ t) unended.1
+  within_alone (c ∷ t) unended = ap (list_any (exceeds longest)) (lines_alone (c ∷ t) (λ e. absurd (cc)) unended.0) ∙ one_line (c ∷ t) unended.1
 
   -- a line with its line feed
   pub within_ended : (line : List ℕ) → list_any is_line_feed line ≡ false → exceeds longest line ≡ false → AreWithin longest (line ++ 10 ∷ [])
@@ -83,15 +94,6 @@ exceeds-unended longest held rest text is first later long =
     ∙ (λ i. first i || later i) in
     ap (exceeds longest) (alone text none).0 ∙ long
 
--- what was held was within the bound before the last part was read
-pub begins_too_long : (longest : Option ℕ) (held part left : List ℕ) → exceeds longest held ≡ false → length part ≤ part_size
-    → length left ≤ length held + length part → exceeds longest (first_line left) ≡ true → BeginsTooLong longest left
-begins_too_long None held part left within short fits is = absurd (false≢true is)
-begins_too_long (Some n) held part left within short fits is = (grind (arith, nat_tests), by (grind (arith, nat_tests)))
-  where
-    by : length held ≤ n → length left ≤ n + part_size
-    by low = omega (arith, low, short, fits)
-
 -- what follows a line feed that was not held is of the last part
 behind_held : (held part front left : List ℕ) → list_any is_line_feed held ≡ false → held ++ part ≡ (front ++ 10 ∷ []) ++ left
     → length left ≤ length part
@@ -106,27 +108,35 @@ behind_held (c ∷ held) part (d ∷ front) left none all =
     by : c ∷ (held ++ part) ≡ d ∷ ((front ++ 10 ∷ []) ++ left) → held ++ part ≡ (front ++ 10 ∷ []) ++ left
     by e = cc
 
--- where memory was refused for the first line of what is left
-pub begins_refused : (longest : Option ℕ) (held part ended left : List ℕ) → IsUnended longest held → length part ≤ part_size
-    → held ++ part ≡ ended ++ left → EndsLines ended → left ≢ [] → BeginsRefused longest left
-begins_refused longest held part ended left unended short all (inl none) some = record {
+few_part : (longest : Option ℕ) (left : List ℕ) → length left ≤ part_size → IsFew longest left
+few_part longest left short = record { begun = []; part = left; parted = refl; unended = (refl, nothing_exceeds longest); short = short }
+
+-- so no more is left than what was held, and the last part
+pub few_left : {P : Type 0} → (longest : Option ℕ) (held part ended left : List ℕ) → IsUnended longest held → length part ≤ part_size
+    → held ++ part ≡ ended ++ left → EndsLines ended ⊎ (P × (left ≡ [])) → IsFew longest left
+few_left longest held part ended left unended short all (inl (inl none)) = record {
   begun = held;
   part = part;
   parted = sym (all ∙ ap (λ e. e ++ left) none);
   unended = unended;
   short = short;
-  some = some;
 }
-begins_refused longest held part ended left unended short all (inr (front, is)) some = record {
-  begun = [];
-  part = left;
-  parted = refl;
-  unended = (refl, nothing_exceeds longest);
-  short = let less = behind_held held part front left unended.0 (all ∙ ap (λ e. e ++ left) is) in omega (arith, less, short);
-  some = some;
-}
+few_left longest held part ended left unended short all (inl (inr (front, is))) = few_part longest left
+    (let less = behind_held held part front left unended.0 (all ∙ ap (λ e. e ++ left) is) in omega (arith, less, short))
+few_left longest held part ended left unended short all (inr (p, none)) = few_part longest left (let size = ap length none in omega (arith, size))
 
 -- ---- whole lines whose first is cut off
+
+pub EndsLines-append : (a b : List ℕ) → EndsLines a → EndsLines b → EndsLines (a ++ b)
+EndsLines-append a b first (inl none) = subst EndsLines (sym (ap (λ x. a ++ x) none ∙ append-nil a)) first
+EndsLines-append a b first (inr (front, is)) = inr (a ++ front, ap (λ x. a ++ x) is ∙ sym (append_assoc a front (10 ∷ [])))
+
+-- they have a line feed, if there are some
+unended : (t : List ℕ) → EndsLines t → t ≢ [] → list_any is_line_feed t ≡ false → ⊥
+unended t (inl none) some alone = some none
+unended t (inr (front, is)) some alone =
+    let feed = sym (list_any-append is_line_feed front (10 ∷ [])) ∙ ap (list_any is_line_feed) (sym is) ∙ alone in
+    false≢true (sym (or_parts (list_any is_line_feed front) true feed).1)
 
 -- what follows in whole lines is whole lines
 ends_behind : (a b : List ℕ) → EndsLines (a ++ b) → EndsLines b
@@ -160,37 +170,27 @@ ends_split text front behind parted rest ends = (by (cut_at text), ends_behind f
 pub record WithinBefore (longest : Option ℕ) (text rest : List ℕ) : Type 0 where
   pub done : List ℕ
   pub parted : text ≡ done ++ rest
-  pub whole : EndsLines text → EndsLines done
-  pub within : EndsLines text → AreWithin longest done
+  pub whole : EndsLines done
+  pub within : AreWithin longest done
 
 pub WithinBefore-start : (longest : Option ℕ) (text : List ℕ) → WithinBefore longest text text
-WithinBefore-start longest text = record { done = []; parted = refl; whole = λ ends. inl refl; within = λ ends. within_none longest }
+WithinBefore-start longest text = record { done = []; parted = refl; whole = inl refl; within = within_none longest }
 
 -- one more line is
-pub WithinBefore-more : (longest : Option ℕ) (text rest : List ℕ) → WithinBefore longest text rest → exceeds longest (first_line rest) ≡ false
-    → WithinBefore longest text (after_first_line rest)
-WithinBefore-more longest text rest before short = by (cut_at rest)
+pub WithinBefore-more : (longest : Option ℕ) (text rest : List ℕ) → EndsLines text → rest ≢ [] → WithinBefore longest text rest
+    → exceeds longest (first_line rest) ≡ false → WithinBefore longest text (after_first_line rest)
+WithinBefore-more longest text rest ends some before short = by (cut_at rest)
   where
     by : IsWhole rest ⊎ IsCut rest → WithinBefore longest text (after_first_line rest)
-    by (inl whole) =
-        let all : text ≡ before.done ++ rest = before.parted in
-        let unended : IsUnended longest rest = (whole.1, ap (exceeds longest) (sym whole.0) ∙ short) in
-        record {
-          done = before.done ++ rest;
-          parted = all ∙ sym (append-nil (before.done ++ rest)) ∙ ap (λ r. (before.done ++ rest) ++ r) (sym (alone rest whole.1).1);
-          whole = λ ends. subst EndsLines all ends;
-          within = λ ends. within_after longest before.done rest (before.whole ends) (before.within ends) (within_alone longest rest unended);
-        }
+    by (inl whole) = absurd (unended rest (ends_behind before.done rest (subst EndsLines before.parted ends)) some whole.1)
     by (inr cut) =
-        let line = first_line rest in
-        let behind = after_first_line rest in
-        record {
-          done = before.done ++ (line ++ 10 ∷ []);
-          parted = before.parted ∙ ap (λ r. before.done ++ r) (cut.0 ∙ sym (append_assoc line (10 ∷ []) behind))
-              ∙ sym (append_assoc before.done (line ++ 10 ∷ []) behind);
-          whole = λ ends. inr (before.done ++ line, sym (append_assoc before.done line (10 ∷ [])));
-          within = λ ends. within_after longest before.done (line ++ 10 ∷ []) (before.whole ends) (before.within ends)
-              (within_ended longest line cut.1 short);
+        let line = first_line rest ++ 10 ∷ [] in
+        let ended = inr (first_line rest, refl) in record {
+          done = before.done ++ line;
+          parted = before.parted ∙ ap (λ r. before.done ++ r) (cut.0 ∙ sym (append_assoc (first_line rest) (10 ∷ []) (after_first_line rest)))
+              ∙ sym (append_assoc before.done line (after_first_line rest));
+          whole = EndsLines-append before.done line before.whole ended;
+          within = within_after longest before.done line before.whole before.within (within_ended longest (first_line rest) cut.1 short);
         }
 
 -- a text that is cut where rest begins

@@ -121,3 +121,12 @@ after_first_line-shorter [] some = absurd (some refl)
 after_first_line-shorter (c ∷ t) some =
     let left = length-drop (position_or_len is_line_feed (c ∷ t) + 1) (c ∷ t) in
     omega (arith, left)
+
+-- of a text that is empty both parts are
+pub none_front : (a b : List ℕ) → a ++ b ≡ [] → a ≡ []
+none_front [] b none = refl
+none_front (c ∷ a) b none = absurd (cc)
+
+pub none_left : (a b : List ℕ) → a ++ b ≡ [] → b ≡ []
+none_left [] b none = none
+none_left (c ∷ a) b none = absurd (cc)

@@ -1,6 +1,5 @@
 -- A first line that is read by parts.
-use Rattle.std.proofs.Common.{◌≡◌, ◌≤◌, ℕ, true, false, ◌||◌, List, [], ◌∷◌, ◌++◌, length, Option, None, Some, inr, ap, sym, subst, ◌∙◌, append_assoc}
-use Rattle.std.proofs.Common.{length-append, arith}
+use Rattle.std.proofs.Common.{◌≡◌, ◌≤◌, ℕ, true, false, ◌||◌, List, [], ◌∷◌, ◌++◌, length, Option, None, Some, inr, refl, ap, sym, subst, ◌∙◌, append_assoc}
 use Rattle.std.specs.List.{list_any}
 use Rattle.std.specs.Io.KnownBytes.{Consumes, prepend_known}
 use Rattle.std.proofs.KnownBytes.{Consumes-trans}
@@ -9,7 +8,6 @@ use Rattle.std.proofs.lemmas.List.Folds.{list_any-append}
 use Rattle.icu_locale_lines.specs.Lines.{is_line_feed, first_line, exceeds, Stream}
 use Rattle.icu_locale_lines.specs.Streams.{part_size, ReadsLine, ReadsNoLine}
 use Rattle.icu_locale_lines.specs.inner.Parts.{TakesLine}
-use Rattle.icu_locale_lines.proofs.Bounds.{begins_too_long}
 
 -- what was read and is not used stands before what is left
 consumed_front : (start new : Stream) (used rest : List ℕ) → Consumes start new (used ++ rest) → Consumes start (prepend_known rest new) used
@@ -20,13 +18,12 @@ consumed_front (Some xs) (Some ys) used rest all = all ∙ append_assoc used res
 -- the beginning of a line was read, and then one more part
 module _ (longest : Option ℕ) (start mid new : Stream) (line part : List ℕ) (before : Consumes start mid line) (more : Consumes mid new part) where
   -- the line is too long
-  pub no_line : exceeds longest line ≡ false → length part ≤ part_size → exceeds longest (first_line (line ++ part)) ≡ true
+  pub no_line : list_any is_line_feed line ≡ false → exceeds longest line ≡ false → length part ≤ part_size → exceeds longest (first_line (line ++ part)) ≡ true
       → ReadsNoLine longest start new
-  no_line within size long = (
+  no_line alone within size long = (
     line ++ part,
     Consumes-trans start mid new line part before more,
-    inr (begins_too_long longest line part (line ++ part) within size
-        (let all = length-append line part in omega (arith, all)) long),
+    (record { begun = line; part = part; parted = refl; unended = (alone, within); short = size }, inr long),
   )
 
   -- the part ends it
@@ -43,3 +40,8 @@ module _ (longest : Option ℕ) (start mid new : Stream) (line part : List ℕ) 
         within = within;
         at_end = λ ended. absurd (false≢true ended);
       }
+
+-- what was read before comes first
+pub Consumes-prepended : (first : List ℕ) (read : Stream) → Consumes (prepend_known first read) read first
+Consumes-prepended first None = tt
+Consumes-prepended first (Some xs) = refl

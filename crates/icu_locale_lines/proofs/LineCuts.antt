@@ -1,15 +1,12 @@
 -- Where a text is cut: at its first line feed, and at any other separator, as memchr finds it.
-use Rattle.std.proofs.Common.{◌≡◌, ℕ, ◌<◌, ◌≤◌, Bool, true, false, List, length, Option, Some, None, refl, ap, sym, ◌∙◌, arith, cond, nat_lt, ◌≢◌}
-use Rattle.std.proofs.Common.{◌+◌, [], ◌∷◌, take, drop}
+use Rattle.std.proofs.Common.{◌≡◌, ℕ, ◌<◌, ◌≤◌, Bool, true, false, List, length, Option, Some, None, refl, ap, sym, arith, cond, nat_lt}
+use Rattle.std.proofs.Common.{◌+◌, [], take, drop}
 use Rattle.std.specs.List.{position, position_or_len, before_first, after_first}
 use Rattle.std.proofs.lemmas.Bool.Decides.{nat_tests}
 use Rattle.std.proofs.lemmas.List.Sums.{position_or_len_is}
 use Rattle.std.proofs.lemmas.Option.{cond_some, none-some}
 use Rattle.std.proofs.lemmas.List.{take_all, drop_all}
 use Rattle.memchr.specs.Find.{IsFirstByte}
-use Rattle.icu_locale_core.specs.laws.Cuts.{slice_split-position, slice_split-no_position}
-use Rattle.icu_locale_lines.specs.Lines.{is_line_feed, without_empty_last, lines}
-use Rattle.icu_locale_lines.specs.laws.Parts.{has_pieces, without_empty_last-more}
 
 not_true : (b : Bool) → (b ≡ true → ⊥) → b ≡ false
 not_true true never = absurd (never refl)
@@ -25,17 +22,6 @@ position_from_first test t (Some k) (first, is) =
     (λ j below. not_true _ (first.before j (omega arith) below)) (λ _. is) in
     let high : k < length t = first.high in
     grind (arith, nat_tests)
-
-pub lines-position : (t : List ℕ) (n : ℕ) → position is_line_feed t ≡ Some n → lines t ≡ take n t ∷ lines (drop (n + 1) t)
-lines-position t n at =
-    let rest = has_pieces (drop (n + 1) t) in
-    ap without_empty_last (slice_split-position is_line_feed t n at ∙ ap (λ ps. take n t ∷ ps) rest.are)
-    ∙ without_empty_last-more (take n t) rest.first rest.others
-    ∙ ap (λ ps. take n t ∷ without_empty_last ps) (sym rest.are)
-
-pub lines-no_position : (t : List ℕ) → t ≢ [] → position is_line_feed t ≡ None → lines t ≡ t ∷ []
-lines-no_position [] some none = absurd (some refl)
-lines-no_position (c ∷ t) some none = ap without_empty_last (slice_split-no_position is_line_feed (c ∷ t) none)
 
 -- what is before and after the first separator of a text
 module _ (p : ℕ → Bool) (t : List ℕ) where

@@ -44,8 +44,8 @@ use Rattle.icu_locale_matching.specs.Resolved.{resolved}
 use Rattle.std.specs.List.{slice_get}
 use Rattle.icu_locale_lines.specs.declared.command.Wishes.TheVariants.{Header, Requests, Resolved}
 use Rattle.icu_locale_lines.specs.Lists.{ids_of, IsNegotiatedLine, TellsMatch, shown_at}
-use Rattle.icu_locale_lines.specs.declared.work.form.Transform.{Transform}
-use Rattle.icu_locale_lines.specs.declared.work.form.Transform.TheVariants.{Maximize, Minimize, MinimizeScript}
+use Rattle.icu_locale_lines.specs.declared.work.form.Form.{Form}
+use Rattle.icu_locale_lines.specs.declared.work.form.Form.TheVariants.{Maximize, Minimize, MinimizeScript}
 use Rattle.icu_locale_lines.specs.Answers.{IsAnswerBy, IsReported, IsAnswerOf, IsCanonicalAnswer, IsForm, IsFormedLine, IsTransformed, IsDirected, IsNamed, IsParted, IsWholeParted}
 use Rattle.icu_locale_lines.specs.Answers.{IsCanonicalized, IsCanonicalizedTo, IsNamedWith, IsWholeNamed, IsWholeTransformed, with_id}
 use Rattle.icu_locale_lines.specs.declared.work.name.Naming.{Naming}
@@ -84,13 +84,13 @@ module _ (one two : List ℕ) (a b : Bool) where
         let e = minimal_one favor table x y z p.0 q.0 in
         (e, result_one m n p.1 (subst (λ w. (n ≡ Modified) ↔ (w ≢ x)) (sym e) q.1))
 
-    form_one : (form : Transform) (table : LikelySubtags) (x y z : LanguageIdentifier) (m n : TransformResult) → IsForm form table x y m
+    form_one : (form : Form) (table : LikelySubtags) (x y z : LanguageIdentifier) (m n : TransformResult) → IsForm form table x y m
         → IsForm form table x z n → (y ≡ z) × (m ≡ n)
     form_one Maximize table x y z m n p q = (p.0 ∙ sym q.0, result_one m n p.1 q.1)
     form_one Minimize table x y z m n p q = minimal_fits RegionFirst table x y z m n p q
     form_one MinimizeScript table x y z m n p q = minimal_fits ScriptFirst table x y z m n p q
 
-    formed_one : {A : Type 0} (id : A → LanguageIdentifier) (written_with : A → LanguageIdentifier → List ℕ) (form : Transform) (table : LikelySubtags)
+    formed_one : {A : Type 0} (id : A → LanguageIdentifier) (written_with : A → LanguageIdentifier → List ℕ) (form : Form) (table : LikelySubtags)
         (x : A) → IsFormedLine id written_with form table x one a → IsFormedLine id written_with form table x two b → SameAnswer one two a b
     formed_one id written_with form table x h k =
         let e = form_one form table (id x) h.0 k.0 h.1 k.1 h.2 k.2 in
@@ -298,7 +298,7 @@ module _ (spelling : SpellingFacts) (minimal_one : (favor : Favor) (table : Like
       (λ new. IsNamedLine (whole_name_asked n new)) (λ new. named_one one two a b (whole_name_asked n new))
 
   pub answer_by_one : (syntax : Option Syntax) (work : Tools) → IsAnswerBy syntax work line one a → IsAnswerBy syntax work line two b → SameAnswer one two a b
-  answer_by_one syntax (tools.Transform form e) h k = answer_of_one syntax (IsTransformed form (likely e)) (IsWholeTransformed form (likely e))
+  answer_by_one syntax (tools.Form form e) h k = answer_of_one syntax (IsTransformed form (likely e)) (IsWholeTransformed form (likely e))
       (formed_one one two a b minimal_one (λ x. x) (λ x y. written y) form (likely e))
       (formed_one one two a b minimal_one (λ x. x.locale.id) (λ x y. extended.written (with_id x y)) form (likely e)) h k
   answer_by_one syntax (tools.Canonicalize c) h k = canonical_answer_one syntax (whole_rules c) h k
@@ -307,8 +307,8 @@ module _ (spelling : SpellingFacts) (minimal_one : (favor : Favor) (table : Like
   answer_by_one syntax (tools.Negotiate n o) h k = read_one (listed_once spelling syntax) one two a b
       (IsNegotiatedLine n o.now.wholes.items) (negotiated_line_one n o.now.wholes.items) line h k
   answer_by_one syntax (tools.Serve how s o) h k = wish_one how.wishes syntax how s o.now.wholes.items h k
-  answer_by_one syntax (tools.Distance d) h k = read_one (listed_once spelling syntax) one two a b
-      (IsDistanceLine d.matching.now (likely d.expander)) (distance_line_one d.matching.now (likely d.expander)) line h k
+  answer_by_one syntax (tools.Distance e matching) h k = read_one (listed_once spelling syntax) one two a b
+      (IsDistanceLine matching.now (likely e)) (distance_line_one matching.now (likely e)) line h k
   answer_by_one syntax (tools.Name n) h k = answer_of_one syntax (IsNamed n) (IsWholeNamed n)
       (λ x p q. named_one one two a b (name_asked n x) p q) (λ x p q. named_with_one n n.canonicalizer x p q) h k
   answer_by_one syntax (tools.Fallback f) h k = answer_of_one syntax (IsChained f) (λ x. IsChained f x.locale.id)

@@ -181,14 +181,14 @@ module _ (facts : SyntaxFacts) (line text : List ℕ) (a : Bool) where
 
   pub plain_answers_alike : (work : Tools) → HasNoSingleton work line
       → IsAnswerBy (Some Unicode) work line text a ↔ IsAnswerBy None work line text a
-  plain_answers_alike (tools.Transform form e) plain = each_plain plain (IsWholeTransformed form (likely e)) (IsTransformed form (likely e))
+  plain_answers_alike (tools.Form form e) plain = each_plain plain (IsWholeTransformed form (likely e)) (IsTransformed form (likely e))
       (λ x spells. transformed_alike facts Unicode line text a x spells form (likely e))
   plain_answers_alike (tools.Canonicalize c) (none, plain) = canonical_plain plain none (whole_rules c)
   plain_answers_alike (tools.Direction d) plain =
       each_plain plain (λ w. IsDirected d w.locale.id) (IsDirected d) (λ x spells. (λ h. h, λ h. h))
   plain_answers_alike (tools.Negotiate n o) plain = lists_plain plain (IsNegotiatedLine n o.now.wholes.items)
   plain_answers_alike (tools.Serve how t o) plain = plain_wishes_alike how.wishes how t o.now.wholes.items plain
-  plain_answers_alike (tools.Distance d) plain = lists_plain plain (IsDistanceLine d.matching.now (likely d.expander))
+  plain_answers_alike (tools.Distance e matching) plain = lists_plain plain (IsDistanceLine matching.now (likely e))
   plain_answers_alike (tools.Name n) (raw, plain) = each_plain plain (IsWholeNamed n) (IsNamed n)
       (λ x spells. named_alike facts Unicode line text a x spells n raw)
   plain_answers_alike (tools.Fallback f) plain =

@@ -1,203 +1,118 @@
--- How far a run has come.
-use Rattle.std.proofs.Common.{◌≡◌, ◌≢◌, ◌↔◌, ◌<◌, ◌≤◌, ℕ, Bool, true, false, ◌&&◌, List, [], ◌∷◌, ◌++◌, length, take, drop, Option, ⊎_elim, refl, ap}
-use Rattle.std.proofs.Common.{sym, subst, ◌∙◌, append_assoc, append-nil, length-drop, arith}
-use Rattle.std.specs.List.{AllZip}
-use Rattle.std.specs.Io.KnownBytes.{Appends}
-use Rattle.std.proofs.KnownBytes.{Appends-nil, Appends-trans}
-use Rattle.std.proofs.lemmas.Bool.{false≢true, cases_lt}
-use Rattle.std.proofs.lemmas.List.{take-append-drop, take-append-le, append_cancel_left}
-use Rattle.std.proofs.Math.Seq.{take-append_seam}
+-- How far the answers to lines came.
+use Rattle.std.proofs.Common.{◌≡◌, ◌↔◌, ℕ, Bool, true, false, ◌&&◌, List, [], ◌∷◌, ◌++◌, refl, ap, sym, subst, ◌∙◌, append_assoc, append-nil}
+use Rattle.std.specs.Io.KnownBytes.{Appends, Keeps}
+use Rattle.std.proofs.KnownBytes.{Appends-nil, Appends-trans, Appends-kept}
 use Rattle.std.proofs.lemmas.List.Folds.{list_all-append}
 use Rattle.std.proofs.lemmas.Grind.{flat_map-append}
 use Rattle.icu_locale_lines.specs.declared.runs.Status.{Status}
 use Rattle.icu_locale_lines.specs.declared.runs.Status.TheVariants.{Accepted}
 use Rattle.icu_locale_lines.specs.declared.work.Work.{Work}
 use Rattle.icu_locale_lines.specs.Answers.{AddsLine, IsAnswer}
-use Rattle.icu_locale_lines.specs.Lines.{lines}
-use Rattle.icu_locale_core.specs.Sinks.{AppendsPart}
-use Rattle.icu_locale_lines.proofs.ListReading.{AllZip-push}
-use Rattle.icu_locale_lines.specs.Runs.{AreAnswers, text_of_lines, all_accepted, WritesAll, WritesUpTo, WritesPart}
+use Rattle.icu_locale_lines.specs.Lines.{lines, Stream}
+use Rattle.icu_locale_lines.specs.Runs.{Answered, AnswersFirst, text_of_lines, all_accepted, WritesAll}
+use Rattle.icu_locale_lines.specs.laws.Parts.{AllZip-append, all_accepted_of_parts, status_of_parts}
 
-abbrev was_accepted : List ℕ × Bool → Bool
-was_accepted a = a.1
+text_of-append : (xs ys : List (List ℕ × Bool)) → text_of_lines (xs ++ ys) ≡ text_of_lines xs ++ text_of_lines ys
+text_of-append xs ys = flat_map-append (λ (t : List ℕ × Bool). t.0) xs ys
 
--- the lines up to rest are answered, and of the answers all is written but for what is pending
-pub record Progress (work : Work) (all : List (List ℕ)) (old new : Option (List ℕ)) (pending : List ℕ) (status : Status) (rest : List (List ℕ)) : Type 0 where
-  pub answered : List (List ℕ)
-  pub parted : all ≡ answered ++ rest
-  pub answers : List (List ℕ × Bool)
-  pub each : AreAnswers work answered answers
-  pub sent : List ℕ
-  pub written : Appends old new sent
-  pub whole : text_of_lines answers ≡ sent ++ pending
-  pub status_is : (status ≡ Accepted) ↔ (all_accepted answers ≡ true)
+and_true : (b : Bool) → (b && true) ≡ b
+and_true true = refl
+and_true false = refl
 
-text_of-push : (answers : List (List ℕ × Bool)) (text : List ℕ) (accepted : Bool)
-    → text_of_lines (answers ++ (text, accepted) ∷ []) ≡ text_of_lines answers ++ text
-text_of-push answers text accepted = flat_map-append (λ a. a.0) answers ((text, accepted) ∷ []) ∙ ap (λ t. text_of_lines answers ++ t) (append-nil text)
-
-and_true : (a b : Bool) → (a && (b && true)) ≡ true → (a ≡ true) × (b ≡ true)
-and_true true true e = (refl, refl)
-and_true true false e = absurd (false≢true e)
-and_true false b e = absurd (false≢true e)
-
-true_and : (a b : Bool) → a ≡ true → b ≡ true → (a && (b && true)) ≡ true
-true_and a b p q = λ i. p i && (q i && true)
-
--- a beginning of answers that is not the whole ends within one of them
-pub record Within (answers : List (List ℕ × Bool)) (part : List ℕ) : Type 0 where
-  pub before : List (List ℕ × Bool)
-  pub answer : List ℕ × Bool
-  pub after : List (List ℕ × Bool)
-  pub parted : answers ≡ before ++ answer ∷ after
-  pub front : List ℕ
-  pub left : List ℕ
-  pub cut : answer.0 ≡ front ++ left
-  pub short : left ≢ []
-  pub is : part ≡ text_of_lines before ++ front
-
-some_left : (xs : List ℕ) (n : ℕ) → n < length xs → drop n xs ≢ []
-some_left xs n lt none = absurd (omega (arith, lt, length-drop n xs, ap length none))
-
-pub cut_within : (answers : List (List ℕ × Bool)) (part left : List ℕ) → text_of_lines answers ≡ part ++ left → left ≢ [] → Within answers part
-cut_within [] [] left whole some = absurd (some (sym whole))
-cut_within [] (b ∷ part) left whole some = absurd (omega (arith, ap length whole))
-cut_within (a ∷ others) part left whole some = ⊎_elim
-    (λ (inside : length part < length a.0). record {
-      before = [];
-      answer = a;
-      after = others;
-      parted = refl;
-      front = part;
-      left = drop (length part) a.0;
-      cut = sym (take-append-drop (length part) a.0) ∙ ap (λ f. f ++ drop (length part) a.0) (fronts inside);
-      short = some_left a.0 (length part) inside;
-      is = refl;
-    })
-    (λ (past : length a.0 ≤ length part).
-    let behind = drop (length a.0) part in
-    let split : part ≡ a.0 ++ behind = sym (take-append-drop (length a.0) part) ∙ ap (λ f. f ++ behind) (front_of past) in
-    let later = cut_within others behind left (append_cancel_left a.0 _ _ (whole ∙ ap (λ p. p ++ left) split ∙ append_assoc a.0 behind left)) some in
-    record {
-      before = a ∷ later.before;
-      answer = later.answer;
-      after = later.after;
-      parted = ap (λ r. a ∷ r) later.parted;
-      front = later.front;
-      left = later.left;
-      cut = later.cut;
-      short = later.short;
-      is = split ∙ ap (λ r. a.0 ++ r) later.is ∙ sym (append_assoc a.0 (text_of_lines later.before) later.front);
-    })
-    (cases_lt (length part) (length a.0))
-  where
-    fronts : length part < length a.0 → take (length part) a.0 ≡ part
-    fronts inside = sym (take-append-le (length part) a.0 (text_of_lines others) (omega arith)) ∙ ap (take (length part)) whole ∙ take-append_seam part left
-
-    front_of : length a.0 ≤ length part → take (length a.0) part ≡ a.0
-    front_of past = sym (take-append-le (length a.0) part left (omega arith)) ∙ ap (take (length a.0)) (sym whole) ∙ take-append_seam a.0 (text_of_lines others)
-
--- so are the lines that they answer
-zip_cut : {A B : Type 0} (P : A → B → Type 0) (xs : List A) (before : List B) (y : B) (after : List B) → AllZip P xs (before ++ y ∷ after)
-    → (first : List A) × (x : A) × (later : List A) × (xs ≡ first ++ x ∷ later) × AllZip P first before × P x y
-zip_cut P [] [] y after each = absurd each
-zip_cut P [] (b ∷ before) y after each = absurd each
-zip_cut P (x ∷ xs) [] y after each = ([], x, xs, refl, tt, each.0)
-zip_cut P (x ∷ xs) (b ∷ before) y after each =
-    let (first, z, later, parted, zipped, one) = zip_cut P xs before y after each.1 in
-    (x ∷ first, z, later, ap (λ r. x ∷ r) parted, (each.0, zipped), one)
-
--- nothing is answered yet
-pub Progress-start : (work : Work) (all : List (List ℕ)) (old : Option (List ℕ)) → Progress work all old old [] Accepted all
-Progress-start work all old = record {
-  answered = [];
-  parted = refl;
+pub answered_none : (work : Work) (old : Stream) → Answered work [] [] old old Accepted
+answered_none work old = record {
   answers = [];
   each = tt;
   sent = [];
   written = Appends-nil old;
-  whole = refl;
+  parted = refl;
   status_is = (λ e. refl, λ e. refl);
 }
 
-module _ (work : Work) (all : List (List ℕ)) (old mid : Option (List ℕ)) (pending : List ℕ) (status : Status) where
-  -- one more line
-  pub Progress-more : (line : List ℕ) (rest : List (List ℕ)) → Progress work all old mid pending status (line ∷ rest)
-      → (accepted : Bool) (new : List ℕ) → AddsLine (IsAnswer work line) pending new accepted
-      → (later : Status) → (later ≡ Accepted) ↔ ((status ≡ Accepted) × (accepted ≡ true)) → Progress work all old mid new later rest
-  Progress-more line rest before accepted new adds later after = record {
-    answered = before.answered ++ line ∷ [];
-    parted = before.parted ∙ sym (append_assoc before.answered (line ∷ []) rest);
-    answers = before.answers ++ (adds.line, accepted) ∷ [];
-    each = AllZip-push (λ line a. IsAnswer work line a.0 a.1) before.answered before.answers line (adds.line, accepted) before.each adds.is;
-    sent = before.sent;
-    written = before.written;
-    whole = text_of-push before.answers adds.line accepted ∙ ap (λ t. t ++ adds.line) before.whole
-        ∙ append_assoc before.sent pending adds.line ∙ ap (λ t. before.sent ++ t) (sym adds.added);
-    status_is = (
-      λ e. let both = after.0 e in list_all-append was_accepted before.answers ((adds.line, accepted) ∷ [])
-          ∙ true_and (all_accepted before.answers) accepted (before.status_is.0 both.0) both.1,
-      λ e. let both = and_true (all_accepted before.answers) accepted (sym (list_all-append was_accepted before.answers
-          ((adds.line, accepted) ∷ [])) ∙ e) in after.1 (before.status_is.1 both.0, both.1),
-    );
-  }
+-- some lines, and then others
+pub answered_later : {work : Work} {ls ms : List (List ℕ)} {pending : List ℕ} {old mid new : Stream} {one two both : Status}
+    → Answered work ls [] old mid one → Answered work ms pending mid new two → (both ≡ Accepted) ↔ ((one ≡ Accepted) × (two ≡ Accepted))
+    → Answered work (ls ++ ms) pending old new both
+answered_later {work} {ls} {ms} {pending} {old} {mid} {new} {one} {two} {both} a b are = record {
+  answers = a.answers ++ b.answers;
+  each = AllZip-append (λ line t. IsAnswer work line t.0 t.1) ls ms a.answers b.answers a.each b.each;
+  sent = a.sent ++ b.sent;
+  written = Appends-trans old mid new a.sent b.sent a.written b.written;
+  parted = text_of-append a.answers b.answers ∙ (λ i. (a.parted ∙ append-nil a.sent) i ++ b.parted i) ∙ sym (append_assoc a.sent b.sent pending);
+  status_is = status_of_parts a.answers b.answers one two both a.status_is b.status_is are;
+}
 
-  module _ (rest : List (List ℕ)) (before : Progress work all old mid pending status rest) (new : Option (List ℕ)) where
-    -- what was pending is written
-    pub Progress-sent : Appends mid new pending → (left : List ℕ) → left ≡ [] → Progress work all old new left status rest
-    Progress-sent appended left none = record {
-      answered = before.answered;
-      parted = before.parted;
-      answers = before.answers;
-      each = before.each;
-      sent = before.sent ++ pending;
-      written = Appends-trans old mid new before.sent pending before.written appended;
-      whole = before.whole ∙ sym (append-nil (before.sent ++ pending)) ∙ ap (λ t. (before.sent ++ pending) ++ t) (sym none);
-      status_is = before.status_is;
-    }
+pub answered_flushed : {work : Work} {ls : List (List ℕ)} {pending : List ℕ} {old mid new : Stream} {status : Status}
+    → Answered work ls pending old mid status → Keeps mid new → Answered work ls pending old new status
+answered_flushed {old = old} {mid} {new} a kept = record {
+  answers = a.answers;
+  each = a.each;
+  sent = a.sent;
+  written = Appends-kept old mid new a.sent a.written kept;
+  parted = a.parted;
+  status_is = a.status_is;
+}
 
-    pub WritesUpTo-sent : (input : List ℕ) → all ≡ lines input → Appends mid new pending → WritesUpTo work input old new [] rest
-    WritesUpTo-sent input same appended = record {
-      answered = before.answered;
-      parted = sym same ∙ before.parted;
-      answers = before.answers;
-      each = before.each;
-      written = subst (Appends old new) (sym (append-nil (text_of_lines before.answers) ∙ before.whole))
-          (Appends-trans old mid new before.sent pending before.written appended);
-    }
+-- the first lines, and one more, or more of what is pending
+module _ {work : Work} {all : List (List ℕ)} {pending : List ℕ} {old mid : Stream} {status : Status} {rest : List (List ℕ)} where
+  pub first_more : {new : List ℕ} {accepted : Bool} {later : Status} (line : List ℕ) → AnswersFirst work all pending old mid status (line ∷ rest)
+      → AddsLine (IsAnswer work line) pending new accepted → (later ≡ Accepted) ↔ ((status ≡ Accepted) × (accepted ≡ true))
+      → AnswersFirst work all new old mid later rest
+  first_more {accepted = accepted} line f adds are =
+      let a = f.answered in
+      let one = (adds.line, accepted) ∷ [] in
+      let both = list_all-append (λ (t : List ℕ × Bool). t.1) a.answers one ∙ ap (λ b. all_accepted a.answers && b) (and_true accepted) in
+      let each = all_accepted_of_parts (all_accepted a.answers) accepted in
+      record {
+        first = f.first ++ line ∷ [];
+        parted = f.parted ∙ sym (append_assoc f.first (line ∷ []) rest);
+        answered = record {
+          answers = a.answers ++ one;
+          each = AllZip-append (λ line t. IsAnswer work line t.0 t.1) f.first (line ∷ []) a.answers one a.each (adds.is, tt);
+          sent = a.sent;
+          written = a.written;
+          parted = text_of-append a.answers one ∙ (λ i. a.parted i ++ append-nil adds.line i) ∙ append_assoc a.sent pending adds.line
+              ∙ ap (λ t. a.sent ++ t) (sym adds.added);
+          status_is = (
+            λ e. let at = are.0 e in both ∙ each.1 (a.status_is.0 at.0, at.1),
+            λ e. let at = each.0 (sym both ∙ e) in are.1 (a.status_is.1 at.0, at.1),
+          );
+        };
+      }
 
-    pub WritesAll-sent : (input : List ℕ) → all ≡ lines input → rest ≡ [] → Appends mid new pending → WritesAll work input old new status
-    WritesAll-sent input same none appended = record {
-      answers = before.answers;
-      each = subst (λ ls. AreAnswers work ls before.answers) (sym (sym same ∙ before.parted ∙ ap (λ r. before.answered ++ r) none
-          ∙ append-nil before.answered)) before.each;
-      written = subst (Appends old new) (sym before.whole) (Appends-trans old mid new before.sent pending before.written appended);
-      status_is = before.status_is;
-    }
+  pub first_sent : {new : Stream} (part left : List ℕ) → AnswersFirst work all pending old mid status rest
+      → pending ≡ part ++ left → Appends mid new part → AnswersFirst work all left old new status rest
+  first_sent {new} part left f is more =
+      let a = f.answered in record {
+        first = f.first;
+        parted = f.parted;
+        answered = record {
+          answers = a.answers;
+          each = a.each;
+          sent = a.sent ++ part;
+          written = Appends-trans old mid new a.sent part a.written more;
+          parted = a.parted ∙ ap (λ p. a.sent ++ p) is ∙ sym (append_assoc a.sent part left);
+          status_is = a.status_is;
+        };
+      }
 
-    -- a failed write leaves whole lines and a beginning of the next
-    pub WritesPart-from_part : (input : List ℕ) → all ≡ lines input → AppendsPart mid new pending → WritesPart work input old new
-    WritesPart-from_part input same part =
-        let whole : text_of_lines before.answers ≡ (before.sent ++ part.written) ++ part.left = before.whole
-        ∙ ap (λ p. before.sent ++ p) part.parted ∙ sym (append_assoc before.sent part.written part.left) in
-        let within = cut_within before.answers (before.sent ++ part.written) part.left whole part.short in
-        let (first, line, later, parted, zipped, one) = zip_cut (λ line a. IsAnswer work line a.0 a.1) before.answered within.before
-        within.answer within.after (subst (AreAnswers work before.answered) within.parted before.each) in
-        record {
-          line = line;
-          rest = later ++ rest;
-          text = within.answer.0;
-          accepted = within.answer.1;
-          answer = one;
-          part = within.front;
-          left = within.left;
-          cut = within.cut;
-          short = within.short;
-          earlier = record {
-            answered = first;
-            parted = sym same ∙ before.parted ∙ ap (λ a. a ++ rest) parted ∙ append_assoc first (line ∷ later) rest;
-            answers = within.before;
-            each = zipped;
-            written = subst (Appends old new) within.is (Appends-trans old mid new before.sent part.written before.written part.appended);
-          };
-        }
+-- all was written
+pub answered_all : {work : Work} {text : List ℕ} {old new : Stream} {status : Status} → WritesAll work text old new status
+    → Answered work (lines text) [] old new status
+answered_all all = record {
+  answers = all.answers;
+  each = all.each;
+  sent = text_of_lines all.answers;
+  written = all.written;
+  parted = sym (append-nil (text_of_lines all.answers));
+  status_is = all.status_is;
+}
+
+pub all_answered : {work : Work} {text : List ℕ} {old new : Stream} {status : Status} → Answered work (lines text) [] old new status
+    → WritesAll work text old new status
+all_answered {old = old} {new} a = record {
+  answers = a.answers;
+  each = a.each;
+  written = subst (Appends old new) (sym (a.parted ∙ append-nil a.sent)) a.written;
+  status_is = a.status_is;
+}

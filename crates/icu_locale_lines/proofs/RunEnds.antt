@@ -1,5 +1,5 @@
 -- How the ends of a run's parts make the ends of the run.
-use Rattle.std.proofs.Common.{◌≡◌, ◌↔◌, ◌⊎◌, ◌∙◌, true, false, List, ℕ, Option, Result, Ok, Err, IfOk, IfErr, inl, inr, ap, subst, sym}
+use Rattle.std.proofs.Common.{◌≡◌, ◌⊎◌, ◌∙◌, false, List, ℕ, Option, Result, Ok, Err, IfOk, IfErr, inl, inr, ap, subst, sym}
 use Rattle.std.proofs.lemmas.Bool.{false≢true}
 use Rattle.std.proofs.lemmas.Result.{IfOk-weaker, IfErr-weaker}
 use Rattle.icu_provider.specs.declared.error.DataError.{DataError}
@@ -13,31 +13,20 @@ use Rattle.icu_locale_lines.specs.declared.command.LineCommand.{LineCommand}
 use Rattle.icu_locale_lines.specs.declared.work.Work.{Work}
 use Rattle.icu_locale_lines.specs.Lines.{Stream}
 use Rattle.icu_locale_lines.specs.Runs.{ReadsAll, WritesAll, WritesEarlier, WritesPart}
-use Rattle.icu_locale_lines.specs.Commands.{text_answered, IsUnsettled, IsWorkOf, has_tables, holds_for, works_by_rules}
-use Rattle.icu_locale_lines.specs.Loads.{not_found}
-use Rattle.icu_locale_lines.specs.WholeRuns.{IsUnloaded, WritesLines, WritesUntil, StopsAmongLines, StopsLines, IsRun, IsRefusedRun, IsRefusedOutput, ReadsTables}
+use Rattle.icu_locale_lines.specs.Commands.{IsUnsettled, has_tables}
+use Rattle.icu_locale_lines.specs.Held.{IsReady, IsWorkOf, text_answered}
+use Rattle.icu_locale_lines.specs.declared.session.Session.{Session}
+use Rattle.icu_locale_lines.proofs.Sessions.{settled_for}
+use Rattle.icu_locale_lines.specs.WholeRuns.{WritesLines, WritesUntil, StopsAmongLines, StopsLines, IsRun, IsRefusedRun, IsRefusedOutput, ReadsTables}
 use Rattle.icu_locale_lines.specs.WholeRuns.{IsRefusedJsonRun}
 
--- where rules are not read, a table is not held or memory was refused, and nothing else is told
-module _ (c : LineCommand) (t : Tables) where
-  pub unread_data : (e : CliError) → (e ≡ Data not_found) ⊎ (e ≡ Memory) → IsUnloaded (Lines c) t e
-      → (e ≡ Data not_found) ↔ (has_tables (Lines c) t ≡ false)
-  unread_data e (inl is) why = (λ same. (subst (IsUnloaded (Lines c) t) is why).1, λ none. is)
-  unread_data e (inr is) why = (
-    λ same. absurd (subst is_memory (sym is ∙ same) tt),
-    λ none. absurd (false≢true (sym none ∙ (subst (IsUnloaded (Lines c) t) is why).1)),
-  )
-    where
-      is_memory : CliError → Type 0
-      is_memory Memory = Unit {0}
-      is_memory e = ⊥
+-- where all is ready, nothing is refused for a table
+module _ (c : LineCommand) (t : Tables) (s : Session) (ready : IsReady c t s) where
+  pub ready_held : has_tables (Lines c) t ≡ false → ⊥
+  ready_held none = false≢true (sym none ∙ ready.held)
 
-  pub unread_settled : (e : CliError) → (e ≡ Data not_found) ⊎ (e ≡ Memory) → IsUnloaded (Lines c) t e → ¬ (IsUnsettled (Lines c) t)
-  unread_settled e (inl is) why unsettled =
-      let none = subst (λ task. holds_for task t ≡ false) unsettled.negotiates (subst (IsUnloaded (Lines c) t) is why).1 in
-      false≢true (sym none ∙ unsettled.held)
-  unread_settled e (inr is) why unsettled =
-      false≢true (subst (λ task. works_by_rules c.syntax task t ≡ true) unsettled.negotiates (subst (IsUnloaded (Lines c) t) is why).0)
+  pub ready_settled : IsUnsettled (Lines c) t → ⊥
+  ready_settled u = let h = settled_for c t u.negotiates ready.lists in u.unsettled h.0 h.1 h.2
 
 module _ (t : Tables) (wrote wrote' read read' : Stream) (r : Result Status CliError) where
   -- lines of an input that was read

@@ -1,18 +1,12 @@
 -- Lines that are told by a test.
-use Rattle.std.proofs.Common.{◌≡◌, ℕ, Bool, true, false, List, Result, Ok, Err, IfOk, codes, refl, sym, ap, ◌∙◌}
+use Rattle.std.proofs.Common.{◌≡◌, ℕ, Bool, true, List, Result, Ok, Err, sym, ap, ◌∙◌}
 use Rattle.std.specs.Prelude.{if◌then◌else◌}
 use Rattle.std.specs.Str.{is_utf8}
-use Rattle.icu_provider.specs.Exemplars.{has_text}
-use Rattle.icu_provider.specs.declared.exemplars.ExemplarCharactersData.{ExemplarCharactersData}
 use Rattle.icu_locale_names.specs.Pieces.{Piece}
 use Rattle.icu_provider.specs.declared.error.DataError.{DataError}
-use Rattle.icu_locale_lines.specs.Answers.{AddsLine}
 use Rattle.icu_locale_lines.specs.Names.{IsNamedLine}
-use Rattle.icu_locale_lines.specs.Subtags.{Told, IsToldLine, exemplar_answer, language_line, refusal_of, refused, subtag_answer, told_by}
-use Rattle.icu_locale_lines.specs.Texts.{refused_line, settled_line}
-use Rattle.icu_locale_lines.specs.declared.error.CliError.{CliError}
+use Rattle.icu_locale_lines.specs.Subtags.{Told, IsToldLine, language_line, refusal_of, refused, subtag_answer, told_by}
 use Rattle.icu_locale_lines.specs.declared.work.subtag.SubtagNaming.{SubtagNaming}
-use Rattle.icu_locale_lines.proofs.LineAnswers.{if_adds}
 
 -- what is told of the text that a line is
 pub subtag_told : (n : SubtagNaming) (line word : List ℕ) → is_utf8 line ≡ true → word ≡ line → told_by n n.chain word ≡ subtag_answer n line

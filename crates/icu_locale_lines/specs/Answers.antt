@@ -17,8 +17,8 @@ use Rattle.icu_locale.specs.declared.expander.TransformResult.TheVariants.{Modif
 use Rattle.icu_locale.specs.declared.directionality.LocaleDirectionality.{LocaleDirectionality}
 use Rattle.icu_locale.specs.declared.expander.LocaleExpander.{LocaleExpander}
 use Rattle.icu_locale_lines.specs.declared.work.name.Naming.{Naming}
-use Rattle.icu_locale_lines.specs.declared.work.form.Transform.{Transform}
-use Rattle.icu_locale_lines.specs.declared.work.form.Transform.TheVariants.{Maximize, Minimize, MinimizeScript}
+use Rattle.icu_locale_lines.specs.declared.work.form.Form.{Form}
+use Rattle.icu_locale_lines.specs.declared.work.form.Form.TheVariants.{Maximize, Minimize, MinimizeScript}
 use Rattle.icu_locale_lines.specs.declared.work.Work.{Work}
 use Rattle.icu_locale_lines.specs.declared.work.Tools.{Tools}
 use Rattle.icu_locale_lines.specs.declared.work.Tools.TheVariants as tools
@@ -61,7 +61,7 @@ abbrev pub Keeps : (old new : List ℕ) → Type 0
 Keeps old new = take (length old) new ≡ old
 
 -- an identifier's form, and whether it was changed
-abbrev pub IsForm : Transform → LikelySubtags → LanguageIdentifier → LanguageIdentifier
+abbrev pub IsForm : Form → LikelySubtags → LanguageIdentifier → LanguageIdentifier
     → TransformResult → Type 0
 IsForm Maximize likely x y m = (y ≡ maximal likely x) × ((m ≡ Modified) ↔ IsModified likely x)
 IsForm Minimize likely x y m =
@@ -71,14 +71,14 @@ IsForm MinimizeScript likely x y m =
 
 -- the line of what has an identifier, which is brought to a form
 abbrev pub IsFormedLine : {A : Type 0} → (id : A → LanguageIdentifier)
-    → (written_with : A → LanguageIdentifier → List ℕ) → Transform → LikelySubtags → A → List ℕ
+    → (written_with : A → LanguageIdentifier → List ℕ) → Form → LikelySubtags → A → List ℕ
     → Bool → Type 0
 IsFormedLine id written_with form likely x text accepted = (y : LanguageIdentifier)
     × (m : TransformResult) × IsForm form likely (id x) y m
     × (text ≡ changed_line (written_with x y) m) × (accepted ≡ true)
 
 -- the line of an identifier that is brought to a form
-abbrev pub IsTransformed : Transform → LikelySubtags → LanguageIdentifier → List ℕ → Bool → Type 0
+abbrev pub IsTransformed : Form → LikelySubtags → LanguageIdentifier → List ℕ → Bool → Type 0
 IsTransformed form likely x text accepted =
     IsFormedLine (λ x. x) (λ x y. written y) form likely x text accepted
 
@@ -165,7 +165,7 @@ abbrev pub with_id : LocaleIdentifier → LanguageIdentifier → LocaleIdentifie
 with_id x id = with_locale x (record { id = id; extensions = x.locale.extensions })
 
 -- the line of a locale identifier whose identifier is brought to a form
-abbrev pub IsWholeTransformed : Transform → LikelySubtags → LocaleIdentifier → List ℕ → Bool
+abbrev pub IsWholeTransformed : Form → LikelySubtags → LocaleIdentifier → List ℕ → Bool
     → Type 0
 IsWholeTransformed form likely x text accepted = IsFormedLine (λ x. x.locale.id)
     (λ x y. extended.written (with_id x y)) form likely x text accepted
@@ -194,7 +194,7 @@ IsCanonicalAnswer syntax by line text accepted =
 -- no part in a direction, in what is decided of a list, or in a name where it is not known what they
 -- are called
 abbrev pub IsAnswerBy : Option Syntax → Tools → List ℕ → List ℕ → Bool → Type 0
-IsAnswerBy syntax (tools.Transform form e) line text accepted = IsAnswerOf syntax
+IsAnswerBy syntax (tools.Form form e) line text accepted = IsAnswerOf syntax
     (IsTransformed form (likely e)) (IsWholeTransformed form (likely e)) line text accepted
 IsAnswerBy syntax (tools.Canonicalize k) line text accepted =
     IsCanonicalAnswer syntax (whole_rules k) line text accepted
@@ -208,8 +208,8 @@ IsAnswerBy syntax (tools.Fallback f) line text accepted =
     IsAnswerOf syntax (IsChained f) (λ x. IsChained f x.locale.id) line text accepted
 IsAnswerBy syntax (tools.Serve how s offered) line text accepted =
     IsWishAnswer syntax how s offered.now.wholes.items line text accepted
-IsAnswerBy syntax (tools.Distance d) line text accepted =
-    IsListedAnswer syntax (IsDistanceLine d.matching.now (likely d.expander)) line text accepted
+IsAnswerBy syntax (tools.Distance e matching) line text accepted =
+    IsListedAnswer syntax (IsDistanceLine matching.now (likely e)) line text accepted
 IsAnswerBy syntax tools.Parts line text accepted =
     IsAnswerOf syntax IsParted IsWholeParted line text accepted
 IsAnswerBy syntax (tools.Key of k) line text accepted =
@@ -271,7 +271,7 @@ HoldsIdentifier line = (position is_tab line ≡ None)
 abbrev pub HoldsIdentifiers : Tools → List ℕ → Type 0
 HoldsIdentifiers (tools.Negotiate negotiation offered) line = ListsIdentifiers line
 HoldsIdentifiers (tools.Serve how s offered) line = WishesIdentifiers how.wishes line
-HoldsIdentifiers (tools.Distance d) line = ListsIdentifiers line
+HoldsIdentifiers (tools.Distance e matching) line = ListsIdentifiers line
 HoldsIdentifiers (tools.Name n) line = (n.canonicalizer ≡ None) × HoldsIdentifier line
 HoldsIdentifiers tools line = HoldsIdentifier line
 
@@ -293,7 +293,7 @@ WishesNoSingleton wishes line = ListsNoSingleton line
 abbrev pub HasNoSingleton : Tools → List ℕ → Type 0
 HasNoSingleton (tools.Negotiate negotiation offered) line = ListsNoSingleton line
 HasNoSingleton (tools.Serve how s offered) line = WishesNoSingleton how.wishes line
-HasNoSingleton (tools.Distance d) line = ListsNoSingleton line
+HasNoSingleton (tools.Distance e matching) line = ListsNoSingleton line
 HasNoSingleton (tools.Canonicalize k) line =
     (position is_tab line ≡ None) × (has_singleton line ≡ false)
 HasNoSingleton (tools.Name n) line = (n.canonicalizer ≡ None) × (has_singleton line ≡ false)

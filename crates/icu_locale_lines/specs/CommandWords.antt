@@ -28,11 +28,11 @@ use Rattle.icu_locale_lines.specs.declared.work.subtag.SubtagKind.{SubtagKind}
 use Rattle.icu_locale_lines.specs.declared.work.subtag.SubtagKind.TheVariants as kind
 use Rattle.icu_locale_lines.specs.declared.command.ServeTask.{ServeTask}
 use Rattle.icu_locale_lines.specs.declared.command.Task.{Task}
-use Rattle.icu_locale_lines.specs.declared.command.Task.TheVariants.{Transform, Canonicalize, Direction, Negotiate, Name, Fallback, Serve, Distance, Parts, Key, Validate, SubtagName, Exemplars, Subtags}
+use Rattle.icu_locale_lines.specs.declared.command.Task.TheVariants.{Form, Canonicalize, Direction, Negotiate, Name, Fallback, Serve, Distance, Parts, Key, Validate, SubtagName, Exemplars, Subtags}
 use Rattle.icu_locale_lines.specs.declared.command.KeyOf.TheVariants.{Whole, Identifier}
 use Rattle.icu_locale_lines.specs.declared.command.Wishes.{Wishes}
 use Rattle.icu_locale_lines.specs.declared.command.Wishes.TheVariants.{Header, Requests, Resolved}
-use Rattle.icu_locale_lines.specs.declared.work.form.Transform.TheVariants.{Maximize, Minimize, MinimizeScript}
+use Rattle.icu_locale_lines.specs.declared.work.form.Form.TheVariants.{Maximize, Minimize, MinimizeScript}
 
 -- the first of some things whose word it is
 abbrev pub named : {X : Type 0} → (X → List ℕ) → List X → List ℕ → Option X
@@ -109,9 +109,9 @@ subtag_chain_word subtag.Variant = codes "heavy"
 
 -- the word of each task; those of names, of exemplars and of lists have arguments
 abbrev pub task_word : Task → List ℕ
-task_word (Transform Maximize) = codes "maximize"
-task_word (Transform Minimize) = codes "minimize"
-task_word (Transform MinimizeScript) = codes "minimize-script"
+task_word (Form Maximize) = codes "maximize"
+task_word (Form Minimize) = codes "minimize"
+task_word (Form MinimizeScript) = codes "minimize-script"
 task_word Canonicalize = codes "canonicalize"
 task_word Direction = codes "direction"
 task_word Negotiate = codes "negotiate"
@@ -128,7 +128,7 @@ task_word (Exemplars marker preferences) = codes "exemplars"
 task_word (Subtags kind preferences) = codes "list"
 
 abbrev pub tasks : List Task
-tasks = Transform Maximize ∷ Transform Minimize ∷ Transform MinimizeScript ∷ Canonicalize
+tasks = Form Maximize ∷ Form Minimize ∷ Form MinimizeScript ∷ Canonicalize
     ∷ Direction ∷ Negotiate ∷ Fallback ∷ Serve (usual Header) ∷ Serve (usual Requests)
     ∷ Serve (usual Resolved) ∷ Distance ∷ Parts ∷ Key Whole ∷ Key Identifier ∷ Validate ∷ []
 

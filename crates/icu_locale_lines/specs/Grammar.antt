@@ -14,8 +14,9 @@ use Rattle.icu_locale_lines.specs.declared.asked.Source.TheVariants.{Sample, Jso
 use Rattle.icu_locale_lines.specs.declared.command.Command.{Command}
 use Rattle.icu_locale_lines.specs.declared.command.Command.TheVariants.{Settled, Lines}
 use Rattle.icu_locale_lines.specs.declared.command.Task.{Task}
-use Rattle.icu_locale_lines.specs.declared.command.Task.TheVariants.{Negotiate, Name, Fallback, Serve, Distance, Parts, Key, Validate, SubtagName, Exemplars, Subtags}
+use Rattle.icu_locale_lines.specs.declared.command.Task.TheVariants.{Name, Serve, SubtagName, Exemplars, Subtags}
 use Rattle.icu_locale_lines.specs.declared.given.Given.{Given}
+use Rattle.icu_locale_lines.specs.Tasks.{row_of}
 use Rattle.icu_locale_lines.specs.CommandWords.{kind_at, subtags_at, task_at, syntax_at, chain_at, subtag_chain_at, exemplars_at, preferences_at, bound_at, limit_at}
 
 -- what follows `json`
@@ -156,13 +157,7 @@ task_by given task = if is_unsaid given then Some task else None
 
 -- the place of a fault is told of lines that are each one locale identifier in the syntax of UTS #35
 abbrev pub tells_places : Option Syntax → Task → Bool
-tells_places (Some Unicode) Negotiate = false
-tells_places (Some Unicode) (Serve served) = false
-tells_places (Some Unicode) Distance = false
-tells_places (Some Unicode) (SubtagName chain preferences) = false
-tells_places (Some Unicode) (Exemplars marker preferences) = false
-tells_places (Some Unicode) (Subtags kind preferences) = false
-tells_places (Some Unicode) task = true
+tells_places (Some Unicode) task = (row_of task).places
 tells_places syntax task = false
 
 -- a task on lines of a syntax, with places only where they are told
@@ -190,21 +185,9 @@ parse ws = option_and_then (λ longest. parse_served longest.0 longest.1) (longe
 
 -- ---- the words of a run: of no bound, no syntax, no supplement and no task for streams alone
 
-abbrev pub is_streamed_task : Task → Bool
-is_streamed_task Fallback = true
-is_streamed_task (Serve served) = true
-is_streamed_task Distance = true
-is_streamed_task Parts = true
-is_streamed_task (Key of) = true
-is_streamed_task Validate = true
-is_streamed_task (SubtagName chain preferences) = true
-is_streamed_task (Exemplars marker preferences) = true
-is_streamed_task (Subtags kind preferences) = true
-is_streamed_task task = false
-
 abbrev pub is_for_runs : Command → Bool
 is_for_runs Settled = true
-is_for_runs (Lines c) = not (is_some c.syntax) && not (is_streamed_task c.task)
+is_for_runs (Lines c) = not (is_some c.syntax) && not ((row_of c.task).streamed)
 
 -- whether tables come as JSON, where that is a run's
 abbrev pub json_of : Source → Option Bool

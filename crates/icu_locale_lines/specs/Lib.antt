@@ -3,6 +3,7 @@ pub mod Chains
 pub mod CommandWords
 pub mod Commands
 pub mod Grammar
+pub mod Held
 pub mod Lines
 pub mod Lists
 pub mod Loads
@@ -11,10 +12,12 @@ pub mod Names
 pub mod Readings
 pub mod Refusals
 pub mod Runs
+pub mod SameRows
 pub mod Serving
 pub mod Streams
 pub mod SubtagLists
 pub mod Subtags
+pub mod Tasks
 pub mod Texts
 pub mod WholeRuns
 pub mod Wholes

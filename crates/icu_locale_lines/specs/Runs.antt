@@ -33,29 +33,30 @@ pub record WritesAll (work : Work) (input : List ℕ) (old new : Stream)
   pub written : Appends old new (text_of_lines answers)
   pub status_is : (status ≡ Accepted) ↔ (all_accepted answers ≡ true)
 
--- the answers to the first lines are written, in order, and then a part of a text
-pub record WritesUpTo (work : Work) (input : List ℕ) (old new : Stream) (part : List ℕ)
-    (rest : List (List ℕ)) : Type 0 where
-  pub answered : List (List ℕ)
-  pub parted : lines input ≡ answered ++ rest
+-- lines have answers, in order, whose text is written but for what is pending
+pub record Answered (work : Work) (ls : List (List ℕ)) (pending : List ℕ) (old new : Stream)
+    (status : Status) : Type 0 where
   pub answers : List (List ℕ × Bool)
-  pub each : AreAnswers work answered answers
-  pub written : Appends old new (text_of_lines answers ++ part)
+  pub each : AreAnswers work ls answers
+  pub sent : List ℕ
+  pub written : Appends old new sent
+  pub parted : text_of_lines answers ≡ sent ++ pending
+  pub status_is : (status ≡ Accepted) ↔ (all_accepted answers ≡ true)
+
+-- so have the first of them, up to rest
+pub record AnswersFirst (work : Work) (ls : List (List ℕ)) (pending : List ℕ) (old new : Stream)
+    (status : Status) (rest : List (List ℕ)) : Type 0 where
+  pub first : List (List ℕ)
+  pub parted : ls ≡ first ++ rest
+  pub answered : Answered work first pending old new status
 
 -- a line found no memory: the answers to all lines before it are written, and nothing else
 abbrev pub WritesEarlier : Work → List ℕ → Stream → Stream → Type 0
-WritesEarlier work input old new = (line : List ℕ) × (rest : List (List ℕ))
-    × WritesUpTo work input old new [] (line ∷ rest)
+WritesEarlier work input old new = (status : Status) × (line : List ℕ)
+    × (rest : List (List ℕ)) × AnswersFirst work (lines input) [] old new status (line ∷ rest)
 
--- the earlier lines are written whole, and of the next a beginning that is not the whole
-pub record WritesPart (work : Work) (input : List ℕ) (old new : Stream) : Type 0 where
-  pub line : List ℕ
-  pub rest : List (List ℕ)
-  pub text : List ℕ
-  pub accepted : Bool
-  pub answer : IsAnswer work line text accepted
-  pub part : List ℕ
-  pub left : List ℕ
-  pub cut : text ≡ part ++ left
-  pub short : left ≢ []
-  pub earlier : WritesUpTo work input old new part (line ∷ rest)
+-- of the answers to the first lines a beginning is written that is not the whole
+abbrev pub WritesPart : Work → List ℕ → Stream → Stream → Type 0
+WritesPart work input old new = (status : Status) × (pending : List ℕ)
+    × (rest : List (List ℕ)) × (pending ≢ [])
+    × AnswersFirst work (lines input) pending old new status rest

@@ -1,5 +1,5 @@
 -- A whole run: tables, input and output.
-use Rattle.std.specs.Prelude.{◌≡◌, ◌↔◌, ◌⊎◌, ℕ, Bool, true, false, List, [], Ok}
+use Rattle.std.specs.Prelude.{◌≡◌, ◌↔◌, ◌⊎◌, ℕ, Bool, true, false, List, [], None, Ok}
 use Rattle.std.specs.Io.KnownBytes.{Appends}
 use Rattle.icu_locale.specs.LikelyTable.{likely}
 use Rattle.icu_locale.specs.LikelySubtags.{AreSettled}
@@ -22,7 +22,8 @@ use Rattle.icu_locale_core.specs.Sinks.{AppendsPart}
 use Rattle.icu_locale_lines.specs.Runs.{ReadsAll, WritesAll, WritesEarlier, WritesPart}
 use Rattle.icu_locale_lines.specs.Refusals.{IsFaultyList, IsRefusedReading}
 use Rattle.icu_locale_lines.specs.Texts.{settled_line}
-use Rattle.icu_locale_lines.specs.Commands.{AnswersLines, ReadsRules, IsWorkOf, IsUnsettled, ListsOver, has_tables, text_answered}
+use Rattle.icu_locale_lines.specs.Commands.{AnswersLines, ReadsRules, IsUnsettled, ListsOver, has_tables}
+use Rattle.icu_locale_lines.specs.Held.{IsWorkOf, text_answered}
 
 -- the work of the command was done on every line that it answers
 pub record WritesLines (c : LineCommand) (t : Tables) (input : List ℕ) (wrote wrote' : Stream)
@@ -130,12 +131,16 @@ IsRefusedRun c t read read' wrote wrote' e =
     ⊎ ((input : List ℕ) × ReadsInput c read read read' input
     × StopsOutput c t input wrote wrote' e)
 
+-- tables have no supplement, and are lent no names
+abbrev pub StandAlone : Tables → Type 0
+StandAlone t = (t.supplement ≡ no_supplement) × (t.lent_names ≡ None)
+
 -- the reader was read to its end, and its first line gives tables with these rows
 pub record ReadsTables (read read' : Stream) (t : Tables) (rest : List ℕ) : Type 0 where
   pub input : List ℕ
   pub all_read : ReadsAll read read' input
   pub rows : rows_in (first_line input) ≡ Ok (rows_of t)
-  pub alone : t.supplement ≡ no_supplement
+  pub alone : StandAlone t
   pub rest_is : rest ≡ after_first_line input
 
 -- a run over the tables of the first line

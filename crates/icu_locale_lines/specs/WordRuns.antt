@@ -2,7 +2,6 @@
 use Rattle.std.specs.Prelude.{◌≡◌, ◌⊎◌, ℕ, Bool, true, false, List, Option, Some, Ok}
 use Rattle.icu_tables.specs.Rows.{rows_of}
 use Rattle.icu_tables.specs.File.{rows_in}
-use Rattle.icu_tables.specs.Supplement.{no_supplement}
 use Rattle.icu_tables.specs.Supplement as further
 use Rattle.icu_tables.specs.declared.supplement.Supplement.{Supplement}
 use Rattle.icu_tables.specs.declared.tables.Tables.{Tables}
@@ -16,12 +15,13 @@ use Rattle.icu_locale_lines.specs.declared.runs.Status.{Status}
 use Rattle.icu_locale_lines.specs.declared.sample_tables.TheConstants.{SAMPLE, SAMPLE_SUPPLEMENT}
 use Rattle.icu_locale_lines.specs.Grammar.{parse, parse_run}
 use Rattle.icu_locale_lines.specs.Lines.{Stream}
-use Rattle.icu_locale_lines.specs.Streams.{IsRunWithin, IsRefusedStream, IsJsonStream, IsRefusedJsonStream, IsSupplementStream, IsRefusedSupplementStream}
-use Rattle.icu_locale_lines.specs.WholeRuns.{IsRun, IsRefusedRun, IsJsonRun, IsRefusedJsonRun}
+use Rattle.icu_locale_lines.specs.Refusals.{IsRefusedReading, IsRefusedSupplement}
+use Rattle.icu_locale_lines.specs.Streams.{IsRunWithin, IsRefusedStream, ReadsTablesLine, ReadsBoth, ReadsRefused, LeavesBehind}
+use Rattle.icu_locale_lines.specs.WholeRuns.{StandAlone, IsRun, IsRefusedRun, IsJsonRun, IsRefusedJsonRun}
 
 -- the tables of the sample
 abbrev pub IsSample : Tables → Type 0
-IsSample t = (rows_in SAMPLE.now ≡ Ok (rows_of t)) × (t.supplement ≡ no_supplement)
+IsSample t = (rows_in SAMPLE.now ≡ Ok (rows_of t)) × StandAlone t
 
 -- the tables of the sample with their supplement
 pub record IsWholeSample (t : Tables) : Type 0 where
@@ -64,27 +64,35 @@ IsRefusedWordsRun words read read' wrote wrote' e =
 
 -- ---- streams
 
+-- the tables of a source were read, and mid is what is left after them, of which the reader still
+-- holds left
+abbrev pub ReadsFrom : Source → (read mid left : Stream) → Tables → Type 0
+ReadsFrom source.Sample read mid left t = IsWholeSample t × (mid ≡ read) × (left ≡ read)
+ReadsFrom source.Json read mid left t = ReadsTablesLine read mid t × LeavesBehind mid left
+ReadsFrom source.JsonAndSupplement read mid left t = ReadsBoth read mid t × LeavesBehind mid left
+
+-- none were read: the sample may find no memory, and a line may be refused
+abbrev pub ReadsNone : Source → Stream → Stream → CliError → Type 0
+ReadsNone source.Sample read read' e = (e ≡ error.Memory) × (read' ≡ read)
+ReadsNone source.Json read read' e = ReadsRefused IsRefusedReading read read' e
+ReadsNone source.JsonAndSupplement read read' e = ReadsRefused IsRefusedReading read read' e
+    ⊎ ((tables : Tables) × (between : Stream) × ReadsTablesLine read between tables
+    × ReadsRefused IsRefusedSupplement between read' e)
+
 -- a stream of a command over tables that come from a source
 abbrev pub IsStreamFrom : Source → Option ℕ → Command → Stream → Stream → Stream → Stream → Status
     → Type 0
-IsStreamFrom source.Sample longest c read read' wrote wrote' status = (t : Tables)
-    × IsWholeSample t × IsRunWithin longest c t read read read' wrote wrote' status
-IsStreamFrom source.Json longest c read read' wrote wrote' status =
-    IsJsonStream longest c read read' wrote wrote' status
-IsStreamFrom source.JsonAndSupplement longest c read read' wrote wrote' status =
-    IsSupplementStream longest c read read' wrote wrote' status
+IsStreamFrom source longest c read read' wrote wrote' status = (t : Tables) × (mid : Stream)
+    × (left : Stream) × ReadsFrom source read mid left t
+    × IsRunWithin longest c t mid left read' wrote wrote' status
 
--- what such a stream leaves where it is refused; the sample may find no memory
+-- what such a stream leaves where it is refused
 abbrev pub IsRefusedStreamFrom : Source → Option ℕ → Command → Stream → Stream → Stream → Stream
     → CliError → Type 0
-IsRefusedStreamFrom source.Sample longest c read read' wrote wrote' e =
-    ((e ≡ error.Memory) × LeavesAll read read' wrote wrote')
-    ⊎ ((t : Tables) × IsWholeSample t
-    × IsRefusedStream longest c t read read read' wrote wrote' e)
-IsRefusedStreamFrom source.Json longest c read read' wrote wrote' e =
-    IsRefusedJsonStream longest c read read' wrote wrote' e
-IsRefusedStreamFrom source.JsonAndSupplement longest c read read' wrote wrote' e =
-    IsRefusedSupplementStream longest c read read' wrote wrote' e
+IsRefusedStreamFrom source longest c read read' wrote wrote' e =
+    (ReadsNone source read read' e × (wrote' ≡ wrote))
+    ⊎ ((t : Tables) × (mid : Stream) × (left : Stream) × ReadsFrom source read mid left t
+    × IsRefusedStream longest c t mid left read' wrote wrote' e)
 
 -- the stream that words ask for
 abbrev pub IsWordsStream : List (List ℕ) → Stream → Stream → Stream → Stream → Status → Type 0

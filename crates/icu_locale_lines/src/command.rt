@@ -5,12 +5,13 @@ ghost use Rattle.std.specs.Str.{bytes_eq};
 ghost use Rattle.std.specs.String.{string_bytes};
 ghost use Rattle.icu_locale_lines.specs.Commands.{plain};
 ghost use Rattle.icu_locale_lines.specs.CommandWords.{syntax_at, task_at, usual};
-ghost use Rattle.icu_locale_lines.specs.Grammar.{is_for_runs, is_streamed_task, parse_run, run_of};
+ghost use Rattle.icu_locale_lines.specs.Grammar.{is_for_runs, parse_run, run_of};
+ghost use Rattle.icu_locale_lines.specs.Tasks.{row_of, task_row};
 
 use crate::asked::{Asked, Source};
 use crate::cursor::Words;
 use crate::error::CliError;
-use crate::work::form::Transform;
+use crate::work::form::Form;
 use crate::work::subtag::{SubtagChain, SubtagKind};
 use icu_locale_extensions::Syntax;
 use icu_locale_matching::MatchLimits;
@@ -42,7 +43,7 @@ pub struct LineCommand {
 #[derive(Clone, Copy, Debug, PartialEq, Eq)]
 pub enum Task {
     /// A form of each identifier over likely subtags.
-    Transform(Transform),
+    Form(Form),
     /// The canonical form of each locale. Without a syntax a line is an identifier, or an identifier, a tab and a value
     /// for `rg`.
     Canonicalize,
@@ -73,6 +74,67 @@ pub enum Task {
     /// The subtags of one kind that have names in the language of preferences, of those that begin with each line. Streams
     /// alone have it.
     Subtags(SubtagKind, DisplayNamesPreferences),
+}
+
+/// What a task asks for beside its line, and who may ask for it.
+#[derive(Clone, Copy, Debug, PartialEq, Eq)]
+pub struct TaskRow {
+    /// When it works by rules, which are read before its first line and take memory.
+    pub rules: ByRules,
+    /// Whether its first line lists what is available.
+    pub lists: bool,
+    /// Whether streams alone have it.
+    pub streamed: bool,
+    /// Whether the place of the fault of its line may be told.
+    pub places: bool,
+}
+
+/// When a task works by rules.
+#[derive(Clone, Copy, Debug, PartialEq, Eq)]
+pub enum ByRules {
+    /// Each time.
+    Always,
+    /// In a syntax, where the tables have some.
+    InSyntax,
+    /// Never.
+    Never,
+}
+
+impl Task {
+    /// The row of a task.
+    pub fn row(&self) -> TaskRow
+        ensures { result ≡ row_of self.now }
+    {
+        use ByRules::{Always, InSyntax, Never};
+        match self {
+            Task::Form(_) => task_row(Never, false, false, true),
+            Task::Canonicalize => task_row(Always, false, false, true),
+            Task::Direction => task_row(Never, false, false, true),
+            Task::Negotiate => task_row(Never, true, false, false),
+            Task::Name(_, _) => task_row(InSyntax, false, false, true),
+            Task::Fallback => task_row(Never, false, true, true),
+            Task::Serve(_) => task_row(Always, true, true, false),
+            Task::Distance => task_row(Never, false, true, false),
+            Task::Parts => task_row(Never, false, true, true),
+            Task::Key(_) => task_row(Always, false, true, true),
+            Task::Validate => task_row(Never, false, true, true),
+            Task::SubtagName(_, _) => task_row(Never, false, true, false),
+            Task::Exemplars(_, _) => task_row(Never, false, true, false),
+            Task::Subtags(_, _) => task_row(Never, false, true, false),
+        }
+    }
+}
+
+// A row by its fields, in their order.
+const fn task_row(rules: ByRules, lists: bool, streamed: bool, places: bool) -> TaskRow
+    ensures { result ≡ task_row rules lists streamed places }
+{
+    TaskRow {
+        rules,
+        lists,
+        streamed,
+        places,
+    }
 }
 
 /// What a key is made of.
@@ -172,26 +234,8 @@ fn is_for_runs(command: &Command) -> bool
     ensures { result ≡ is_for_runs command.now }
 {
     match command {
-        Command::Lines(lines) => lines.syntax.is_none() && !is_streamed_task(lines.task),
+        Command::Lines(lines) => lines.syntax.is_none() && !lines.task.row().streamed,
         Command::Settled => true,
-    }
-}
-
-// Whether a task is for streams alone.
-fn is_streamed_task(task: Task) -> bool
-    ensures { result ≡ is_streamed_task task }
-{
-    match task {
-        Task::Fallback => true,
-        Task::Serve(_) => true,
-        Task::Distance => true,
-        Task::Parts => true,
-        Task::Key(_) => true,
-        Task::Validate => true,
-        Task::SubtagName(_, _) => true,
-        Task::Exemplars(_, _) => true,
-        Task::Subtags(_, _) => true,
-        _ => false,
     }
 }
 
@@ -200,11 +244,11 @@ pub fn task_of(word: &[u8]) -> Option<Task>
     ensures { result ≡ task_at word.now }
 {
     if is_word(word, "maximize") {
-        Some(Task::Transform(Transform::Maximize))
+        Some(Task::Form(Form::Maximize))
     } else if is_word(word, "minimize") {
-        Some(Task::Transform(Transform::Minimize))
+        Some(Task::Form(Form::Minimize))
     } else if is_word(word, "minimize-script") {
-        Some(Task::Transform(Transform::MinimizeScript))
+        Some(Task::Form(Form::MinimizeScript))
     } else if is_word(word, "canonicalize") {
         Some(Task::Canonicalize)
     } else if is_word(word, "direction") {

@@ -134,14 +134,8 @@ fn placed_lines(places: bool, syntax: Option<Syntax>, task: Task) -> Option<Comm
 fn tells_places(syntax: Option<Syntax>, task: &Task) -> bool
     ensures { result ≡ tells_places syntax task.now }
 {
-    match (syntax, task) {
-        (Some(Syntax::Unicode), Task::Negotiate) => false,
-        (Some(Syntax::Unicode), Task::Serve(_)) => false,
-        (Some(Syntax::Unicode), Task::Distance) => false,
-        (Some(Syntax::Unicode), Task::SubtagName(_, _)) => false,
-        (Some(Syntax::Unicode), Task::Exemplars(_, _)) => false,
-        (Some(Syntax::Unicode), Task::Subtags(_, _)) => false,
-        (Some(Syntax::Unicode), _) => true,
+    match syntax {
+        Some(Syntax::Unicode) => task.row().places,
         _ => false,
     }
 }

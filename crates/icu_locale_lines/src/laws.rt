@@ -9,12 +9,16 @@ ghost use Rattle.icu_locale_extensions.specs.declared.syntax.Syntax.{Syntax};
 ghost use Rattle.icu_locale_extensions.specs.declared.syntax.Syntax.TheVariants.{Unicode};
 ghost use Rattle.icu_locale_lines.specs.Answers.{HasNoSingleton, HoldsIdentifiers, IsAnswer, IsAnswerBy};
 ghost use Rattle.icu_locale_lines.specs.Grammar.{parse};
+ghost use Rattle.icu_locale_lines.specs.Held.{Held, HoldsList, IsWorkOver};
 ghost use Rattle.icu_locale_lines.specs.Lists.{IsAvailable, listed, shown_at};
 ghost use Rattle.icu_locale_lines.specs.Lines.{Stream};
 ghost use Rattle.icu_locale_lines.specs.Runs.{WritesAll};
+ghost use Rattle.icu_locale_lines.specs.SameRows.{HaveSameRows};
 ghost use Rattle.icu_locale_lines.specs.Streams.{IsRunWithin};
-ghost use Rattle.icu_locale_lines.specs.WholeRuns.{IsRun};
+ghost use Rattle.icu_locale_lines.specs.WholeRuns.{IsRun, WritesOutput};
+ghost use Rattle.icu_locale_lines.specs.WordRuns.{IsWordsRun, IsWordsStream};
 ghost use Rattle.icu_locale_lines.specs.declared.command.Command.{Command};
+ghost use Rattle.icu_locale_lines.specs.declared.command.LineCommand.{LineCommand};
 ghost use Rattle.icu_locale_lines.specs.laws.Forms.{AreWordsOf};
 ghost use Rattle.icu_locale_core.specs.declared.langid.LanguageIdentifier.{LanguageIdentifier};
 ghost use Rattle.icu_locale_extensions.specs.declared.identifier.LocaleIdentifier.{LocaleIdentifier};
@@ -48,6 +52,56 @@ pub fn a_line_has_one_answer()
     the_nearest_to_requests_is_one();
     a_fault_has_one_place();
     named_keys_are_one();
+}
+
+/// Works of one command answer alike over the same that is held, and also over tables with the same rows and the same list.
+pub fn works_answer_alike()
+    ensures held { (c : LineCommand) (h : Held) (one two : Work) (line text : List ℕ)
+        (accepted : Bool) → IsWorkOver c h one → IsWorkOver c h two
+        → IsAnswer one line text accepted → IsAnswer two line text accepted }
+    ensures rows { (c : LineCommand) (h k : Held) (one two : Work) (line text : List ℕ)
+        (accepted : Bool) → HaveSameRows h.tables k.tables → h.available ≡ k.available
+        → h.wholes ≡ k.wholes → IsWorkOver c h one → IsWorkOver c k two
+        → IsAnswer one line text accepted → IsAnswer two line text accepted }
+{
+    spelled_once();
+}
+
+/// A line makes one list available.
+pub fn a_list_is_one()
+    ensures { (syntax : Option Syntax) (line : List ℕ) (h k : Held) → HoldsList syntax line h
+        → HoldsList syntax line k → (h.available ≡ k.available) × (h.wholes ≡ k.wholes) }
+{
+    spelled_once();
+    spelled_is_read();
+}
+
+/// Over tables with the same rows the input of a command determines the bytes that are written and the status.
+pub fn input_determines_output()
+    ensures { (c : Command) (t u : Tables) (input one two : List ℕ) (of_one of_two : Status)
+        → HaveSameRows t u → WritesOutput c t input (Some []) (Some one) of_one
+        → WritesOutput c u input (Some []) (Some two) of_two
+        → (one ≡ two) × (of_one ≡ of_two) }
+{
+    spelled_once();
+    spelled_is_read();
+    a_line_has_one_answer();
+}
+
+/// The words of a program and its input determine the bytes that are written and the status: of a run, and of a stream.
+pub fn words_determine_output()
+    ensures run { (words : List (List ℕ)) (input one two : List ℕ) (read also_read : Stream)
+        (of_one of_two : Status)
+        → IsWordsRun words (Some input) read (Some []) (Some one) of_one
+        → IsWordsRun words (Some input) also_read (Some []) (Some two) of_two
+        → (one ≡ two) × (of_one ≡ of_two) }
+    ensures stream { (words : List (List ℕ)) (input one two : List ℕ) (read also_read : Stream)
+        (of_one of_two : Status)
+        → IsWordsStream words (Some input) read (Some []) (Some one) of_one
+        → IsWordsStream words (Some input) also_read (Some []) (Some two) of_two
+        → (one ≡ two) × (of_one ≡ of_two) }
+{
+    input_determines_output();
 }
 
 /// A line that holds identifiers alone is answered alike in each syntax of locale identifiers and without one. In the

@@ -11,10 +11,13 @@ pub mod laws;
 mod program;
 mod runs;
 mod sample_tables;
+mod session;
 mod work;
 
 pub use asked::{Asked, Source};
-pub use command::{Command, KeyOf, LineCommand, ServeTask, Task, Wishes, syntax_of, task_of};
+pub use command::{
+    ByRules, Command, KeyOf, LineCommand, ServeTask, Task, TaskRow, Wishes, syntax_of, task_of,
+};
 pub use cursor::Words;
 pub use error::CliError;
 pub use given::Given;
@@ -24,11 +27,11 @@ pub use runs::input::read_all;
 pub use runs::stream::stream;
 pub use runs::whole::{run, run_json};
 pub use sample_tables::{SAMPLE, SAMPLE_SUPPLEMENT, sample, whole_sample};
-pub use work::form::Transform;
+pub use session::Session;
+pub use session::list::KeptList;
+pub use session::load::{load_expander, load_whole_canonicalizer, missing_table};
+pub use work::form::Form;
 pub use work::list::{fault_of_list, read_list};
-pub use work::listing::{ListOver, Listed, Listing};
-pub use work::load::{Loaded, lend_rules, load_expander, load_rules, reads_rules};
 pub use work::name::Naming;
-pub use work::offered::{Offered, read_available};
-pub use work::serving::{Distances, Serving};
+pub use work::offered::Offered;
 pub use work::{Tools, Work};

@@ -4,14 +4,15 @@ ghost use Rattle.std.specs.String.{string_bytes};
 ghost use Rattle.icu_locale_lines.specs.Grammar.{parse, parse_run};
 ghost use Rattle.icu_locale_lines.specs.WordRuns.{IsRunBy, IsRefusedRunBy, IsWordsRun, IsRefusedWordsRun, IsStreamFrom, IsRefusedStreamFrom, IsWordsStream, IsRefusedWordsStream};
 
-use crate::asked::{Asked, Source};
+use crate::asked::Asked;
 use crate::command::Command;
 use crate::cursor::Words;
 use crate::error::CliError;
 use crate::runs::Status;
-use crate::runs::stream::{stream_json_over, stream_over, stream_supplement_over};
+use crate::runs::head::read_head;
+use crate::runs::stream::stream_over;
 use crate::runs::whole::{run, run_json};
-use crate::sample_tables::{sample, whole_sample};
+use crate::sample_tables::sample;
 use std::alloc::Global;
 use std::io::{Read, Write};
 use std::{env, io};
@@ -114,17 +115,16 @@ pub fn stream_asked<R: Read, W: Write>(
         asked.now.command (R.remaining reader.old) (R.remaining reader.new)
         (W.contents writer.old) (W.contents writer.new)) }
 {
-    let (command, longest) = (&asked.command, asked.longest);
-    match asked.source {
-        Source::Sample => {
-            let tables = whole_sample(alloc)?;
-            stream_over(alloc, command, &tables, longest, &[], reader, writer)
-        }
-        Source::Json => stream_json_over(alloc, command, longest, reader, writer),
-        Source::JsonAndSupplement => {
-            stream_supplement_over(alloc, command, longest, reader, writer)
-        }
-    }
+    let head = read_head(alloc, asked.source, reader)?;
+    stream_over(
+        alloc,
+        &asked.command,
+        &head.tables,
+        asked.longest,
+        &head.rest,
+        reader,
+        writer,
+    )
 }
 
 /// The words after a program's name. It takes memory for them.

@@ -2,6 +2,7 @@
 ghost use Rattle.std.specs.Prelude.{◌≡◌, ◌↔◌, true};
 
 pub mod cut;
+pub mod head;
 pub mod input;
 pub mod stream;
 pub mod whole;

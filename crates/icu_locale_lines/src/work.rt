@@ -9,15 +9,12 @@ pub mod fallback;
 pub mod form;
 pub mod key;
 pub mod list;
-pub mod listing;
-pub mod load;
 pub mod locale;
 pub mod name;
 pub mod offered;
 pub mod parts;
 pub mod places;
 pub mod serve;
-pub mod serving;
 pub mod subtag;
 pub mod subtag_line;
 pub mod subtag_list;
@@ -29,7 +26,7 @@ use crate::error::CliError;
 use crate::work::direction::add_direction;
 use crate::work::exemplars::add_exemplar;
 use crate::work::fallback::add_chain;
-use crate::work::form::{Transform, add_form};
+use crate::work::form::{Form, add_form};
 use crate::work::key::add_key;
 use crate::work::list::add_requests;
 use crate::work::locale::add_locale;
@@ -38,7 +35,6 @@ use crate::work::offered::Offered;
 use crate::work::parts::add_parts;
 use crate::work::places::{add_placed, place_of};
 use crate::work::serve::{add_distance, add_served};
-use crate::work::serving::Distances;
 use crate::work::subtag::SubtagNaming;
 use crate::work::subtag_line::add_subtag_name;
 use crate::work::subtag_list::{SubtagList, add_list};
@@ -49,7 +45,7 @@ use icu_locale_fallback::LocaleFallbackerWithConfig;
 use icu_locale_matching::LocaleServer;
 use icu_locale_validity::Validity;
 use icu_locale_values::WholeCanonicalizer;
-use icu_provider::ExemplarCharactersData;
+use icu_provider::{ExemplarCharactersData, LanguageMatching};
 
 /// What a command works with: the syntax of its lines, whether places are told, and what it asks of each. It borrows all that it works with.
 #[derive(Debug, Drop)]
@@ -66,7 +62,7 @@ pub struct Work<'r> {
 #[derive(Debug, Drop)]
 pub enum Tools<'r> {
     /// Each identifier is brought to a form.
-    Transform(Transform, LocaleExpander<'r>),
+    Form(Form, LocaleExpander<'r>),
     /// Each locale is brought to its canonical form.
     Canonicalize(WholeCanonicalizer<'r>),
     /// The direction of each identifier is told.
@@ -80,7 +76,7 @@ pub enum Tools<'r> {
     /// Each line says what is wished, and has what is served as it is written.
     Serve(ServeTask, LocaleServer<'r>, &'r Offered),
     /// The distance of two identifiers is told.
-    Distance(Distances<'r>),
+    Distance(LocaleExpander<'r>, &'r LanguageMatching),
     /// The parts of each locale are told.
     Parts,
     /// Each locale is brought to its key.
@@ -166,7 +162,7 @@ impl<'r> Work<'r> {
     {
         let syntax = self.syntax;
         match &self.tools {
-            Tools::Transform(form, expander) => add_form(text, *form, *expander, syntax, line),
+            Tools::Form(form, expander) => add_form(text, *form, *expander, syntax, line),
             Tools::Canonicalize(canonicalizer) => add_locale(text, *canonicalizer, syntax, line),
             Tools::Direction(directionality) => add_direction(text, directionality, syntax, line),
             Tools::Negotiate(negotiator, offered) => {
@@ -177,7 +173,9 @@ impl<'r> Work<'r> {
             Tools::Serve(how, server, offered) => {
                 add_served(text, server, offered, *how, syntax, line)
             }
-            Tools::Distance(distances) => add_distance(text, distances, syntax, line),
+            Tools::Distance(expander, matching) => {
+                add_distance(text, expander, matching, syntax, line)
+            }
             Tools::Parts => add_parts(text, syntax, line),
             Tools::Key(of, canonicalizer) => add_key(text, *of, *canonicalizer, syntax, line),
             Tools::Validate(validity) => add_report(text, validity, syntax, line),

@@ -5,7 +5,7 @@ use icu_locale::{
     Negotiator, NegotiatorError, TransformResult, Turns,
 };
 use icu_locale_core::{Keywords, Language, Locale, ParseError};
-use icu_locale_lines::{CliError, Command, LineCommand, Naming, Status, Task, Tools, Transform};
+use icu_locale_lines::{CliError, Command, Form, LineCommand, Naming, Status, Task, Tools};
 use icu_locale_names::{
     LanguageDisplay, LanguageIdentifierDisplayName, LanguageIdentifierDisplayNameOptions,
     LanguageIdentifierNameFallbackError, NameChain, NameWriteError, RegionDisplayName,
@@ -159,7 +159,7 @@ fn made(rt: &impl Abort, alloc: Global, tables: &Tables) {
     let directionality = LocaleDirectionality::try_new_common_unstable(tables).expect(rt, "tables");
     shows(rt, alloc, &directionality, "Hebr");
     shows(rt, alloc, &Tools::Direction(directionality), "Hebr");
-    let work = Tools::Transform(Transform::Maximize, expander);
+    let work = Tools::Form(Form::Maximize, expander);
     shows(rt, alloc, &work, "Hans");
     let canonicalizer = LocaleCanonicalizer::try_new_common_unstable(alloc, tables);
     let canonicalizer = canonicalizer.expect(rt, "tables");

@@ -1,7 +1,7 @@
 //! Runs and streams of the programs: whole lines alone are written.
 use crate::budget::{Answered, Call, at_budget, stands};
 use icu_locale_lines::{
-    Asked, CliError, Command, LineCommand, SAMPLE, Source, Status, Task, Transform, run, run_by,
+    Asked, CliError, Command, Form, LineCommand, SAMPLE, Source, Status, Task, run, run_by,
     run_json, stream, stream_asked, stream_words,
 };
 use icu_tables::Tables;
@@ -16,7 +16,7 @@ const RUNS: [(Command, &str, &str); 4] = [
         Command::Lines(LineCommand {
             syntax: None,
             places: false,
-            task: Task::Transform(Transform::Maximize),
+            task: Task::Form(Form::Maximize),
         }),
         "zh-CN\nEN_us\n\n",
         "zh-Hans-CN\tM\nen-Latn-US\tM\n?\tInvalidLanguage\n",
@@ -25,7 +25,7 @@ const RUNS: [(Command, &str, &str); 4] = [
         Command::Lines(LineCommand {
             syntax: None,
             places: false,
-            task: Task::Transform(Transform::Maximize),
+            task: Task::Form(Form::Maximize),
         }),
         "zh-CN\nEN_us-posix\n\n",
         "zh-Hans-CN\tM\nen-Latn-US-posix\tM\n?\tInvalidLanguage\n",
@@ -168,7 +168,7 @@ impl Call for WholeRun<'_> {
         let mut reader = self.input.as_bytes();
         let ended = run_by(
             alloc,
-            &Command::Lines(LineCommand::plain(Task::Transform(Transform::Maximize))),
+            &Command::Lines(LineCommand::plain(Task::Form(Form::Maximize))),
             true,
             &mut reader,
             &mut writer,

@@ -1,10 +1,9 @@
 -- The parts of a line: what only private functions cite.
 use Rattle.std.specs.Prelude.{◌≡◌, ◌≢◌, ℕ, false, List, [], ◌∷◌, ◌++◌, Option, Some, None, ◌⊎◌, true, Bool}
 use Rattle.std.specs.List.{list_any}
-use Rattle.icu_locale_lines.specs.Lines.{is_line_feed, first_line, exceeds, Stream}
-use Rattle.icu_locale_lines.specs.Streams.{AnswersEnded, LeavesEnded}
+use Rattle.icu_locale_lines.specs.Lines.{is_line_feed, Stream}
+use Rattle.icu_locale_lines.specs.Streams.{AnswersUpTo, StopsAt}
 use Rattle.icu_locale_lines.specs.declared.error.CliError.{CliError}
-use Rattle.icu_locale_lines.specs.declared.error.CliError.TheVariants as error
 use Rattle.icu_locale_lines.specs.declared.runs.Status.{Status}
 use Rattle.icu_locale_lines.specs.declared.work.Work.{Work}
 use Rattle.icu_locale_core.specs.declared.langid.LanguageIdentifier.{LanguageIdentifier}
@@ -17,20 +16,15 @@ use Rattle.icu_locale.specs.declared.canonicalizer.CanonicalizeError.{Canonicali
 use Rattle.icu_locale.specs.declared.canonicalizer.CanonicalizeError.TheVariants as refusal
 use Rattle.icu_locale_lines.specs.Texts.{refused_line}
 
--- the lines of a text are answered but for what is left, and IsLeft says what that is
-abbrev pub AnswersBefore : (List ℕ → Type 0) → Option ℕ → Work → List ℕ → Stream → Stream → Type 0
-AnswersBefore IsLeft longest work text old new = (left : List ℕ) × (status : Status)
-    × AnswersEnded longest work text left old new status × IsLeft left
-
--- what the lines leave that a part ends, where it stops early: at one that is too long, at one for
--- which memory was refused, or within an answer
-abbrev pub StopsPart : Option ℕ → Work → List ℕ → Stream → Stream → CliError → Type 0
-StopsPart longest work text old new error.Read =
-    AnswersBefore (λ left. exceeds longest (first_line left) ≡ true) longest work text old new
-StopsPart longest work text old new error.Memory =
-    AnswersBefore (λ left. left ≢ []) longest work text old new
-StopsPart longest work text old new error.Write = LeavesEnded longest work text old new
-StopsPart longest work text old new e = ⊥
+-- what the lines of a text leave that stop early
+pub record StopsText (Last : Type 0) (longest : Option ℕ) (work : Work) (text : List ℕ)
+    (old new : Stream) (e : CliError) : Type 0 where
+  pub left : List ℕ
+  pub pending : List ℕ
+  pub status : Status
+  pub answered : AnswersUpTo ((pending ≢ []) × Last) longest work text left pending
+      old new status
+  pub why : StopsAt longest e left pending
 
 -- a part is appended to the beginning of a line, up to its first line feed; rest is what follows that
 abbrev pub TakesLine : List ℕ → List ℕ → List ℕ → Option (List ℕ) → Type 0

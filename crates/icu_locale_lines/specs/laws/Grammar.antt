@@ -31,12 +31,12 @@ use Rattle.icu_locale_lines.specs.declared.asked.Source.TheVariants.{Sample, Jso
 use Rattle.icu_locale_lines.specs.declared.command.Command.{Command}
 use Rattle.icu_locale_lines.specs.declared.command.Command.TheVariants.{Settled, Lines}
 use Rattle.icu_locale_lines.specs.declared.command.Task.{Task}
-use Rattle.icu_locale_lines.specs.declared.command.Task.TheVariants.{Transform, Canonicalize, Direction, Negotiate, Name, Fallback, Serve, Distance, Parts, Key, Validate, SubtagName, Exemplars, Subtags}
+use Rattle.icu_locale_lines.specs.declared.command.Task.TheVariants.{Form, Canonicalize, Direction, Negotiate, Name, Fallback, Serve, Distance, Parts, Key, Validate, SubtagName, Exemplars, Subtags}
 use Rattle.icu_locale_lines.specs.declared.command.KeyOf.TheVariants.{Whole, Identifier}
 use Rattle.icu_locale_lines.specs.declared.command.Wishes.{Wishes}
 use Rattle.icu_locale_lines.specs.declared.given.Given.{Given}
 use Rattle.icu_locale_lines.specs.declared.command.Wishes.TheVariants.{Header, Requests, Resolved}
-use Rattle.icu_locale_lines.specs.declared.work.form.Transform.TheVariants.{Maximize, Minimize, MinimizeScript}
+use Rattle.icu_locale_lines.specs.declared.work.form.Form.TheVariants.{Maximize, Minimize, MinimizeScript}
 use Rattle.icu_locale_lines.specs.laws.Forms.{arguments, HasPreferences, source_words, syntax_words, command_words, CommandHas, number_words, IsSaid, word_said, given_words, AreWordsOf}
 
 pub chain_found : (c : NameChain) → chain_at (chain_word c) ≡ Some c
@@ -106,9 +106,9 @@ wish_apart Resolved = (refl, refl)
 
 -- the word of a task is none of them, and that of no syntax
 apart : (t : Task) → (syntax_at (task_word t) ≡ None) × (is_before (task_word t) ≡ false)
-apart (Transform Maximize) = (refl, refl)
-apart (Transform Minimize) = (refl, refl)
-apart (Transform MinimizeScript) = (refl, refl)
+apart (Form Maximize) = (refl, refl)
+apart (Form Minimize) = (refl, refl)
+apart (Form MinimizeScript) = (refl, refl)
 apart Canonicalize = (refl, refl)
 apart Direction = (refl, refl)
 apart Negotiate = (refl, refl)
@@ -161,9 +161,9 @@ module _ (longest : Option ℕ) (s : Source) (text : List ℕ) where
 
   task_parsed : (syntax : Option Syntax) (t : Task) → HasPreferences t text
       → parse_command longest syntax (task_word t) (arguments t text ++ source_words s) ≡ asks (lines_of syntax (usual_task t))
-  task_parsed syntax (Transform Maximize) has = alone (lines_of syntax (Transform Maximize))
-  task_parsed syntax (Transform Minimize) has = alone (lines_of syntax (Transform Minimize))
-  task_parsed syntax (Transform MinimizeScript) has = alone (lines_of syntax (Transform MinimizeScript))
+  task_parsed syntax (Form Maximize) has = alone (lines_of syntax (Form Maximize))
+  task_parsed syntax (Form Minimize) has = alone (lines_of syntax (Form Minimize))
+  task_parsed syntax (Form MinimizeScript) has = alone (lines_of syntax (Form MinimizeScript))
   task_parsed syntax Canonicalize has = alone (lines_of syntax Canonicalize)
   task_parsed syntax Direction has = alone (lines_of syntax Direction)
   task_parsed syntax Negotiate has = alone (lines_of syntax Negotiate)
@@ -196,7 +196,7 @@ module _ (longest : Option ℕ) (s : Source) (text : List ℕ) where
 
 -- what is given overrides what is usual
 task_usually : (given : Given) (t : Task) → task_by given (usual_task t) ≡ task_by given t
-task_usually given (Transform form) = refl
+task_usually given (Form form) = refl
 task_usually given Canonicalize = refl
 task_usually given Direction = refl
 task_usually given Negotiate = refl

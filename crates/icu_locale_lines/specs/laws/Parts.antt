@@ -104,6 +104,19 @@ answers_of_parts work a b xs ys first second = subst (λ ls. AreAnswers work ls 
     (AllZip-append (λ line t. IsAnswer work line t.0 t.1) (lines (a ++ 10 ∷ [])) (lines b)
     xs ys first second)
 
+-- the status of both
+pub status_of_parts : (xs ys : List (List ℕ × Bool)) (one two both : Status)
+    → (one ≡ Accepted) ↔ (all_accepted xs ≡ true)
+    → (two ≡ Accepted) ↔ (all_accepted ys ≡ true)
+    → (both ≡ Accepted) ↔ ((one ≡ Accepted) × (two ≡ Accepted))
+    → (both ≡ Accepted) ↔ (all_accepted (xs ++ ys) ≡ true)
+status_of_parts xs ys one two both of_one of_two are =
+    let all = list_all-append (λ (t : List ℕ × Bool). t.1) xs ys in
+    let each = all_accepted_of_parts (all_accepted xs) (all_accepted ys) in (
+      λ e. let at = are.0 e in all ∙ each.1 (of_one.0 at.0, of_two.0 at.1),
+      λ e. let at = each.0 (sym all ∙ e) in are.1 (of_one.1 at.0, of_two.1 at.1),
+    )
+
 -- what runs over two parts write, one after the other, is what a run over the whole may write: it
 -- accepts every line exactly where they do
 pub outputs_of_parts : (work : Work) (a b one two : List ℕ) (of_one of_two whole : Status)
@@ -116,12 +129,6 @@ outputs_of_parts work a b one two of_one of_two whole first second both = record
   each = answers_of_parts work a b first.answers second.answers first.each second.each;
   written = (λ i. first.written i ++ second.written i)
       ∙ sym (flat_map-append (λ (t : List ℕ × Bool). t.0) first.answers second.answers);
-  status_is =
-      let all = list_all-append (λ (t : List ℕ × Bool). t.1) first.answers second.answers in
-      let each = all_accepted_of_parts (all_accepted first.answers) (all_accepted second.answers) in (
-        λ e. let at = both.0 e in
-            all ∙ each.1 (first.status_is.0 at.0, second.status_is.0 at.1),
-        λ e. let at = each.0 (sym all ∙ e) in
-            both.1 (first.status_is.1 at.0, second.status_is.1 at.1),
-      );
+  status_is = status_of_parts first.answers second.answers of_one of_two whole first.status_is
+      second.status_is both;
 }

@@ -17,12 +17,12 @@ use Rattle.icu_locale_lines.specs.declared.asked.Asked.{Asked}
 use Rattle.icu_locale_lines.specs.declared.asked.Source.TheVariants.{Sample}
 use Rattle.icu_locale_lines.specs.declared.command.Command.{Command}
 use Rattle.icu_locale_lines.specs.declared.command.Task.{Task}
-use Rattle.icu_locale_lines.specs.declared.command.Task.TheVariants.{Transform, Canonicalize, Direction, Negotiate, Name, Fallback, Serve, Distance, Parts, Key, Validate, SubtagName, Exemplars, Subtags}
+use Rattle.icu_locale_lines.specs.declared.command.Task.TheVariants.{Form, Canonicalize, Direction, Negotiate, Name, Fallback, Serve, Distance, Parts, Key, Validate, SubtagName, Exemplars, Subtags}
 use Rattle.icu_locale_lines.specs.declared.command.KeyOf.TheVariants.{Whole, Identifier}
 use Rattle.icu_locale_lines.specs.declared.command.Wishes.{Wishes}
 use Rattle.icu_locale_lines.specs.declared.given.Given.{Given}
 use Rattle.icu_locale_lines.specs.declared.command.Wishes.TheVariants.{Header, Requests, Resolved}
-use Rattle.icu_locale_lines.specs.declared.work.form.Transform.TheVariants.{Maximize, Minimize, MinimizeScript}
+use Rattle.icu_locale_lines.specs.declared.work.form.Form.TheVariants.{Maximize, Minimize, MinimizeScript}
 use Rattle.icu_locale_lines.specs.laws.Forms.{AreWordsOf, IsSaid, command_words, given_words, number_words, source_words, word_said}
 use Rattle.icu_locale_lines.specs.laws.Grammar.{words_parsed}
 use Rattle.icu_locale_lines.specs.laws.CommandWords.{lone, lines_told, unsaid, AreTold, IsLone, named_sound}
@@ -137,9 +137,9 @@ words_told a words e = by (longest_next words) refl e
 
 -- a text that is the word of a task has no space
 one_word : (t : Task) → slice_split is_space (task_word t) ≡ task_word t ∷ []
-one_word (Transform Maximize) = refl
-one_word (Transform Minimize) = refl
-one_word (Transform MinimizeScript) = refl
+one_word (Form Maximize) = refl
+one_word (Form Minimize) = refl
+one_word (Form MinimizeScript) = refl
 one_word Canonicalize = refl
 one_word Direction = refl
 one_word Negotiate = refl

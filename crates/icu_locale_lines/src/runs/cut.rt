@@ -98,9 +98,9 @@ pub fn cut_behind_lines(text: &[u8]) -> (&[u8], &[u8])
 
 // A text of whole lines up to the first that is too long, and the rest.
 pub fn cut_before_long(longest: Option<usize>, text: &[u8]) -> (&[u8], &[u8])
+    requires { EndsLines text.now }
     ensures parted { text.now ≡ result.0.now ++ result.1.now }
-    ensures front { EndsLines text.now
-        → EndsLines result.0.now × AreWithin longest result.0.now }
+    ensures front { EndsLines result.0.now × AreWithin longest result.0.now }
     ensures rest { (result.1.now ≡ []) ⊎ (exceeds longest (first_line result.1.now) ≡ true) }
 {
     if longest.is_none() {

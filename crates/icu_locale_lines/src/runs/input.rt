@@ -1,5 +1,5 @@
 //! The input, read to its end, or up to the end of its first line.
-ghost use Rattle.std.specs.Prelude.{◌≡◌, ◌⊎◌, ◌<◌, ◌≤◌, ◌++◌, length, true, false, IfOk, IfErr, Err, option_map};
+ghost use Rattle.std.specs.Prelude.{◌≡◌, ◌⊎◌, ◌<◌, ◌≤◌, ◌++◌, length, true, false, IfOk, IfErr, Err, [], option_map};
 ghost use Rattle.std.specs.List.{list_any};
 ghost use Rattle.std.specs.Io.KnownBytes.{Consumes, IsAtEnd, prepend_known};
 ghost use Rattle.icu_locale_lines.specs.Lines.{is_line_feed, first_line, exceeds};
@@ -72,6 +72,7 @@ pub fn read_first_line<R: Read>(
         (prepend_known before.now (R.remaining reader.old))
         (prepend_known l.rest.items (R.remaining reader.new)) l.line.items l.has_ended) }
     ensures short { IfOk result (λ l. length l.rest.items < part_size) }
+    ensures alone { IfOk result (λ l. l.has_ended ≡ true → l.rest.items ≡ []) }
     ensures none { result ≡ Err CliError.Read → ReadsNoLine longest
         (prepend_known before.now (R.remaining reader.old)) (R.remaining reader.new) }
     ensures refused { IfErr result (λ e. (e ≡ CliError.Read) ⊎ (e ≡ CliError.Memory)) }

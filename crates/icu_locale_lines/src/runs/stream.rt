@@ -1,31 +1,27 @@
 //! A run that answers lines as they come: each answer is written before more is read.
-ghost use Rattle.icu_tables.specs.Supplement.{rows_in, rows_of};
-ghost use Rattle.icu_locale_lines.specs.Refusals.{IsRefusedSupplement};
-ghost use Rattle.std.specs.Prelude.{◌≡◌, ◌≢◌, ◌↔◌, ◌≤◌, Ok, Err, IfOk, IfErr, OnOk, None, Some, false, [], ◌++◌, length, List, ℕ};
+ghost use Rattle.std.specs.Prelude.{◌≡◌, ◌≢◌, ◌↔◌, ◌≤◌, Err, IfOk, IfErr, OnOk, false, [], ◌++◌, length, List, ℕ};
 ghost use Rattle.std.specs.Io.KnownBytes.{prepend_known};
-ghost use Rattle.icu_tables.specs.declared.tables.Tables.{Tables};
-ghost use Rattle.icu_locale_lines.specs.Loads.{not_found};
-ghost use Rattle.icu_locale_lines.specs.Streams.{part_size, IsRunWithin, IsRefusedStream, IsJsonStream, IsRefusedJsonStream, IsSupplementStream, IsRefusedSupplementStream};
-ghost use Rattle.icu_locale_lines.specs.Streams.{IsUnended, StopsLoaded, EndsLines, AnswersEnded, StopsStream};
-ghost use Rattle.icu_locale_lines.specs.inner.Parts.{StopsPart};
-ghost use Rattle.icu_locale_lines.specs.Commands.{IsListing, IsUnsettled, has_tables};
-ghost use Rattle.icu_locale_lines.specs.declared.command.Command.TheVariants.{Lines};
-ghost use Rattle.icu_locale_lines.specs.declared.command.LineCommand.{LineCommand};
 ghost use Rattle.std.specs.List.{list_any};
+ghost use Rattle.icu_locale_lines.specs.Commands.{IsUnsettled, has_tables};
+ghost use Rattle.icu_locale_lines.specs.Held.{IsReady};
 ghost use Rattle.icu_locale_lines.specs.Lines.{is_line_feed, AreWithin};
+ghost use Rattle.icu_locale_lines.specs.Loads.{not_found};
 ghost use Rattle.icu_locale_lines.specs.Runs.{ReadsAll, WritesAll};
+ghost use Rattle.icu_locale_lines.specs.Streams.{part_size, IsRunWithin, IsRefusedStream, StopsLoaded, StopsStream};
+ghost use Rattle.icu_locale_lines.specs.Streams.{IsUnended, EndsLines, AnswersUpTo};
+ghost use Rattle.icu_locale_lines.specs.declared.command.Command.TheVariants.{Lines};
+ghost use Rattle.icu_locale_lines.specs.inner.Parts.{StopsText};
 
-use crate::command::Command;
+use crate::command::{Command, LineCommand};
 use crate::error::CliError;
 use crate::runs::Status;
 use crate::runs::cut::{cut_before_long, cut_behind_lines, is_too_long, split_first_line};
 use crate::runs::input::{MOST_READS, PART, read_first_line};
-use crate::runs::whole::{read_tables, write_settled};
+use crate::runs::whole::write_settled;
 use crate::runs::writing::write_answers;
+use crate::session::Session;
 use crate::work::Work;
-use crate::work::listing::Listing;
-use crate::work::load::{Loaded, load_rules};
-use icu_tables::{Supplement, TableError, Tables};
+use icu_tables::Tables;
 use std::alloc::Global;
 use std::io::{Read, Write};
 
@@ -69,76 +65,6 @@ pub fn stream<R: Read, W: Write>(
     stream_over(alloc, command, tables, longest, &[], reader, writer)
 }
 
-// Takes the tables of the first line, which may be of any length since it comes from who runs this, and answers what
-// follows.
-pub fn stream_json_over<R: Read, W: Write>(
-    alloc: Global,
-    command: &Command,
-    longest: Option<usize>,
-    reader: &mut R,
-    writer: &mut W,
-) -> Result<Status, CliError>
-    ensures output { IfOk result (IsJsonStream longest command.now (R.remaining reader.old)
-        (R.remaining reader.new) (W.contents writer.old) (W.contents writer.new)) }
-    ensures refused { IfErr result (IsRefusedJsonStream longest command.now
-        (R.remaining reader.old) (R.remaining reader.new) (W.contents writer.old)
-        (W.contents writer.new)) }
-{
-    let first = read_first_line(alloc, None, &[], reader)?;
-    let tables = read_tables(alloc, &first.line)?;
-    stream_over(
-        alloc,
-        command,
-        &tables,
-        longest,
-        &first.rest,
-        reader,
-        writer,
-    )
-}
-
-// Takes the tables of the first line and their supplement of the second, and answers what follows.
-pub fn stream_supplement_over<R: Read, W: Write>(
-    alloc: Global,
-    command: &Command,
-    longest: Option<usize>,
-    reader: &mut R,
-    writer: &mut W,
-) -> Result<Status, CliError>
-    ensures output { IfOk result (IsSupplementStream longest command.now (R.remaining reader.old)
-        (R.remaining reader.new) (W.contents writer.old) (W.contents writer.new)) }
-    ensures refused { IfErr result (IsRefusedSupplementStream longest command.now
-        (R.remaining reader.old) (R.remaining reader.new) (W.contents writer.old)
-        (W.contents writer.new)) }
-{
-    let first = read_first_line(alloc, None, &[], reader)?;
-    let mut tables = read_tables(alloc, &first.line)?;
-    let second = read_first_line(alloc, None, &first.rest, reader)?;
-    let supplement = read_supplement(alloc, &second.line)?;
-    tables.set_supplement(supplement);
-    stream_over(
-        alloc,
-        command,
-        &tables,
-        longest,
-        &second.rest,
-        reader,
-        writer,
-    )
-}
-
-// The supplement of a JSON text.
-fn read_supplement(alloc: Global, json: &[u8]) -> Result<Supplement, CliError>
-    ensures rows { IfOk result (λ s. rows_in json.now ≡ Ok (rows_of s)) }
-    ensures refused { IfErr result (IsRefusedSupplement json.now) }
-{
-    match Supplement::from_json(alloc, json) {
-        Ok(supplement) => Ok(supplement),
-        Err(TableError::Memory) => Err(CliError::Memory),
-        Err(refusal) => Err(CliError::Supplement(refusal)),
-    }
-}
-
 // What a command answers to what is left of a reader, after what was read of it before. `Settled` reads no more.
 pub fn stream_over<R: Read, W: Write>(
     alloc: Global,
@@ -164,37 +90,39 @@ pub fn stream_over<R: Read, W: Write>(
     let Command::Lines(command) = command else {
         return write_settled(tables, writer);
     };
-    let rules = load_rules(alloc, command, tables)?;
-    match Loaded::load(command, tables, &rules)? {
-        Loaded::Ready(work) => stream_lines(alloc, &work, longest, before, reader, writer),
-        Loaded::Listing(listing) => {
-            stream_listed(alloc, listing, longest, before, reader, writer)
-        }
-    }
+    let session = Session::open(alloc, tables, command)?;
+    stream_session(
+        alloc, session, command, tables, longest, before, reader, writer,
+    )
 }
 
-// The answers to lines after a first line that lists what is available.
-fn stream_listed<R: Read, W: Write>(
+// The same for lines, with what they ask for before the first. That one is read where it lists what is available.
+fn stream_session<R: Read, W: Write>(
     alloc: Global,
-    listing: Listing<'_>,
+    session: Session,
+    command: &LineCommand,
+    tables: &Tables,
     longest: Option<usize>,
     before: &[u8],
     reader: &mut R,
     writer: &mut W,
 ) -> Result<Status, CliError>
+    requires ready { IsReady command.now tables.now session }
     requires short { length before.now ≤ part_size }
-    ensures output { (c : LineCommand) (t : Tables) → IsListing c t listing.entry
-        → IfOk result (IsRunWithin longest (Lines c) t
+    ensures output { IfOk result (IsRunWithin longest (Lines command.now) tables.now
         (prepend_known before.now (R.remaining reader.old)) (R.remaining reader.old)
         (R.remaining reader.new) (W.contents writer.old) (W.contents writer.new)) }
-    ensures refused { (c : LineCommand) (t : Tables) → IsListing c t listing.entry
-        → IfErr result (StopsLoaded longest (Lines c) t
+    ensures refused { IfErr result (StopsLoaded longest (Lines command.now) tables.now
         (prepend_known before.now (R.remaining reader.old)) (R.remaining reader.old)
         (R.remaining reader.new) (W.contents writer.old) (W.contents writer.new)) }
 {
+    if !command.task.row().lists {
+        let work = session.work(tables, command)?;
+        return stream_lines(alloc, &work, longest, before, reader, writer);
+    }
     let first = read_first_line(alloc, longest, before, reader)?;
-    let listed = listing.over(alloc, &first.line)?;
-    let work = listed.work();
+    let session = session.listing(alloc, tables, command, &first.line)?;
+    let work = session.work(tables, command)?;
     if first.has_ended {
         return Ok(Status::Accepted);
     }
@@ -255,11 +183,11 @@ fn answer_part<W: Write>(
     writer: &mut W,
 ) -> Result<Status, CliError>
     requires { list_any is_line_feed carry.old.items ≡ false }
-    ensures whole { IfOk result (AnswersEnded longest work.now
-        (carry.old.items ++ part.now) carry.new.items
+    ensures whole { IfOk result (AnswersUpTo ⊥ longest work.now
+        (carry.old.items ++ part.now) carry.new.items []
         (W.contents writer.old) (W.contents writer.new)) }
     ensures unended { IfOk result (λ _. IsUnended longest carry.new.items) }
-    ensures refused { IfErr result (StopsPart longest work.now (carry.old.items ++ part.now)
+    ensures refused { IfErr result (StopsText ⊥ longest work.now (carry.old.items ++ part.now)
         (W.contents writer.old) (W.contents writer.new)) }
 {
     let (front, rest) = cut_behind_lines(part);
@@ -295,11 +223,11 @@ fn answer_front<W: Write>(
 ) -> Result<Status, CliError>
     requires alone { list_any is_line_feed carry.old.items ≡ false }
     requires whole { EndsLines front.now }
-    ensures whole { IfOk result (AnswersEnded longest work.now
-        (carry.old.items ++ front.now) carry.new.items
+    ensures whole { IfOk result (AnswersUpTo ⊥ longest work.now
+        (carry.old.items ++ front.now) carry.new.items []
         (W.contents writer.old) (W.contents writer.new)) }
     ensures alone { IfOk result (λ _. list_any is_line_feed carry.new.items ≡ false) }
-    ensures refused { IfErr result (StopsPart longest work.now (carry.old.items ++ front.now)
+    ensures refused { IfErr result (StopsText ⊥ longest work.now (carry.old.items ++ front.now)
         (W.contents writer.old) (W.contents writer.new)) }
 {
     if front.is_empty() {
@@ -325,10 +253,9 @@ fn answer_lines<W: Write>(
     writer: &mut W,
 ) -> Result<Status, CliError>
     requires { EndsLines input.now }
-    ensures whole { IfOk result (WritesAll work.now input.now (W.contents writer.old)
-        (W.contents writer.new)) }
-    ensures within { IfOk result (λ _. AreWithin longest input.now) }
-    ensures refused { IfErr result (StopsPart longest work.now input.now
+    ensures whole { IfOk result (AnswersUpTo ⊥ longest work.now input.now [] []
+        (W.contents writer.old) (W.contents writer.new)) }
+    ensures refused { IfErr result (StopsText ⊥ longest work.now input.now
         (W.contents writer.old) (W.contents writer.new)) }
 {
     let (short, long) = cut_before_long(longest, input);

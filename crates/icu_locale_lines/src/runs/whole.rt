@@ -2,22 +2,22 @@
 ghost use Rattle.std.specs.Prelude.{◌≡◌, ◌↔◌, [], Ok, Err, IfOk, IfErr, false};
 ghost use Rattle.icu_tables.specs.Rows.{rows_of};
 ghost use Rattle.icu_tables.specs.File.{rows_in};
-ghost use Rattle.icu_tables.specs.Supplement.{no_supplement};
 ghost use Rattle.icu_tables.specs.declared.tables.Tables.{Tables};
 ghost use Rattle.icu_locale_lines.specs.Loads.{not_found};
 ghost use Rattle.icu_locale_lines.specs.Texts.{settled_line};
-ghost use Rattle.icu_locale_lines.specs.Commands.{IsLoaded, IsUnsettled, has_tables};
-ghost use Rattle.icu_locale_lines.specs.declared.command.LineCommand.{LineCommand};
-ghost use Rattle.icu_locale_lines.specs.WholeRuns.{IsRun, IsRefusedRun, WritesSettled, WritesLines, StopsLines, WritesOutput, IsRefusedOutput, IsJsonRun, IsRefusedJsonRun};
+ghost use Rattle.icu_locale_lines.specs.Commands.{IsUnsettled, has_tables};
+ghost use Rattle.icu_locale_lines.specs.Held.{IsReady};
+ghost use Rattle.icu_locale_lines.specs.WholeRuns.{IsRun, IsRefusedRun, WritesSettled, WritesLines, StopsLines, WritesOutput, IsRefusedOutput, IsJsonRun, IsRefusedJsonRun, StandAlone};
 ghost use Rattle.icu_locale_lines.specs.Refusals.{IsRefusedReading};
 
-use crate::command::Command;
+use crate::command::{Command, LineCommand};
 use crate::error::CliError;
 use crate::runs::Status;
 use crate::runs::cut::cut;
 use crate::runs::input::{MOST_READS, read_all};
 use crate::runs::writing::{write_answers, write_bytes};
-use crate::work::load::{Loaded, load_expander, load_rules};
+use crate::session::Session;
+use crate::session::load::load_expander;
 use icu_tables::{TableError, Tables};
 use std::alloc::Global;
 use std::io::{Read, Write};
@@ -54,10 +54,9 @@ pub fn run<R: Read, W: Write>(
     let Command::Lines(command) = command else {
         return write_settled(tables, writer);
     };
-    let rules = load_rules(alloc, command, tables)?;
-    let loaded = Loaded::load(command, tables, &rules)?;
+    let session = Session::open(alloc, tables, command)?;
     let input = read_all(alloc, reader, MOST_READS)?;
-    loaded.write(alloc, &input, writer)
+    answer_input(alloc, tables, command, session, &input, writer)
 }
 
 /// Reads the reader to its end, takes the tables of its first line as JSON, and does as `run` with the lines that are
@@ -87,47 +86,43 @@ pub fn run_json<R: Read, W: Write>(
     write_output(alloc, command, &tables, rest, writer)
 }
 
-impl Loaded<'_> {
-    /// The answers to the lines of an input. `Negotiate` and `Serve` use the first line for the identifiers that are
-    /// available.
-    ///
-    /// # Errors
-    ///
-    /// - `Available` where that first line has a fault: nothing was written.
-    /// - `Write` where a write failed or took no byte, and `Memory` where memory was refused, as `run` answers them.
-    pub fn write<W: Write>(
-        self,
-        alloc: Global,
-        input: &[u8],
-        writer: &mut W,
-    ) -> Result<Status, CliError>
-        ensures output { (c : LineCommand) (t : Tables) → IsLoaded c t self.entry
-            → IfOk result (WritesLines c t input.now (W.contents writer.old)
-            (W.contents writer.new)) }
-        ensures left { (c : LineCommand) (t : Tables) → IsLoaded c t self.entry
-            → IfErr result (StopsLines c t input.now (W.contents writer.old)
-            (W.contents writer.new)) }
-    {
-        let mut text = Vec::new(alloc);
-        match self {
-            Loaded::Ready(work) => write_answers(&work, &mut text, input, writer),
-            Loaded::Listing(listing) => {
-                let (first, rest) = cut(input);
-                let listed = listing.over(alloc, first)?;
-                write_answers(&listed.work(), &mut text, rest, writer)
-            }
-        }
+// The answers to the lines of an input. A command that asks for a list takes it of the first line.
+fn answer_input<W: Write>(
+    alloc: Global,
+    tables: &Tables,
+    command: &LineCommand,
+    session: Session,
+    input: &[u8],
+    writer: &mut W,
+) -> Result<Status, CliError>
+    requires { IsReady command.now tables.now session }
+    ensures output { IfOk result (WritesLines command.now tables.now input.now
+        (W.contents writer.old) (W.contents writer.new)) }
+    ensures left { IfErr result (StopsLines command.now tables.now input.now
+        (W.contents writer.old) (W.contents writer.new)) }
+{
+    let mut text = Vec::new(alloc);
+    if !command.task.row().lists {
+        let work = session.work(tables, command)?;
+        return write_answers(&work, &mut text, input, writer);
     }
+    let (first, rest) = cut(input);
+    let session = session.listing(alloc, tables, command, first)?;
+    let work = session.work(tables, command)?;
+    write_answers(&work, &mut text, rest, writer)
 }
 
 // The tables of a JSON text.
 pub fn read_tables(alloc: Global, json: &[u8]) -> Result<Tables, CliError>
     ensures rows { IfOk result (λ tables. rows_in json.now ≡ Ok (rows_of tables)) }
-    ensures alone { IfOk result (λ tables. tables.supplement ≡ no_supplement) }
+    ensures alone { IfOk result StandAlone }
     ensures refused { IfErr result (IsRefusedReading json.now) }
 {
     match Tables::from_json(alloc, json) {
-        Ok(tables) => Ok(tables),
+        Ok(mut tables) => {
+            tables.lent_names = None;
+            Ok(tables)
+        }
         Err(TableError::Memory) => Err(CliError::Memory),
         Err(refusal) => Err(CliError::Tables(refusal)),
     }
@@ -149,8 +144,8 @@ fn write_output<W: Write>(
     match command {
         Command::Settled => write_settled(tables, writer),
         Command::Lines(command) => {
-            let rules = load_rules(alloc, command, tables)?;
-            Loaded::load(command, tables, &rules)?.write(alloc, input, writer)
+            let session = Session::open(alloc, tables, command)?;
+            answer_input(alloc, tables, command, session, input, writer)
         }
     }
 }

@@ -1,9 +1,10 @@
 //! The answers to all lines of an input, written.
-ghost use Rattle.std.specs.Prelude.{◌≡◌, ◌⊎◌, ◌∷◌, [], List, ℕ, Err, IfOk, IfErr, OnOk, OnErr};
+ghost use Rattle.std.specs.Prelude.{◌≡◌, ◌≢◌, ◌⊎◌, ◌∷◌, [], List, ℕ, Err, IfOk, IfErr, OnOk, OnErr};
 ghost use Rattle.std.specs.Io.KnownBytes.{Appends};
 ghost use Rattle.icu_locale_core.specs.Sinks.{AppendsPart};
 ghost use Rattle.icu_locale_lines.specs.Lines.{lines};
-ghost use Rattle.icu_locale_lines.specs.Runs.{WritesAll, WritesEarlier, WritesPart, WritesUpTo};
+ghost use Rattle.icu_locale_lines.specs.Runs.{AnswersFirst, WritesAll, WritesEarlier, WritesPart};
+ghost use Rattle.icu_locale_lines.specs.declared.runs.Status.{Status};
 
 use crate::error::CliError;
 use crate::runs::Status;
@@ -45,13 +46,12 @@ fn write_lines<W: Write>(
 ) -> Result<Status, CliError>
     ensures whole { (input : List ℕ) → left.old ≡ lines input → IfOk result
         (WritesAll work.now input (W.contents writer.old) (W.contents writer.new)) }
-    ensures memory { (input : List ℕ) → left.old ≡ lines input
-        → result ≡ Err CliError.Memory
-        → (line : List ℕ) × WritesUpTo work.now input (W.contents writer.old)
-        (W.contents writer.new) [] (line ∷ left.new) }
-    ensures write { (input : List ℕ) → left.old ≡ lines input
-        → result ≡ Err CliError.Write
-        → WritesPart work.now input (W.contents writer.old) (W.contents writer.new) }
+    ensures memory { result ≡ Err CliError.Memory → (status : Status) × (line : List ℕ)
+        × AnswersFirst work.now left.old [] (W.contents writer.old) (W.contents writer.new)
+        status (line ∷ left.new) }
+    ensures write { result ≡ Err CliError.Write → (status : Status) × (pending : List ℕ)
+        × (rest : List (List ℕ)) × (pending ≢ []) × AnswersFirst work.now left.old pending
+        (W.contents writer.old) (W.contents writer.new) status rest }
     ensures refused { IfErr result (λ e. (e ≡ CliError.Memory) ⊎ (e ≡ CliError.Write)) }
 {
     let mut status = Status::Accepted;

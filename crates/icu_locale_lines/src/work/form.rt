@@ -15,7 +15,7 @@ use icu_locale_extensions::{LocaleIdentifier, Syntax};
 
 /// A form of an identifier.
 #[derive(Clone, Copy, Debug, PartialEq, Eq)]
-pub enum Transform {
+pub enum Form {
     /// The maximal form.
     Maximize,
     /// The minimal form, the region kept before the script.
@@ -24,7 +24,7 @@ pub enum Transform {
     MinimizeScript,
 }
 
-impl Transform {
+impl Form {
     // Brings an identifier to the form, and tells whether that changed anything.
     pub(crate) fn apply(
         self,
@@ -34,9 +34,9 @@ impl Transform {
         ensures { IsForm self (likely expander.now) identifier.old identifier.new result }
     {
         match self {
-            Transform::Maximize => expander.maximize(identifier),
-            Transform::Minimize => expander.minimize(identifier),
-            Transform::MinimizeScript => expander.minimize_favor_script(identifier),
+            Form::Maximize => expander.maximize(identifier),
+            Form::Minimize => expander.minimize(identifier),
+            Form::MinimizeScript => expander.minimize_favor_script(identifier),
         }
     }
 }
@@ -44,7 +44,7 @@ impl Transform {
 // A form, and what brings identifiers to it.
 #[derive(Clone, Copy)]
 struct Forming<'d> {
-    form: Transform,
+    form: Form,
     expander: LocaleExpander<'d>,
 }
 
@@ -78,7 +78,7 @@ impl<'d> Answering for Forming<'d> {
 #[inline(always)]
 pub fn add_form(
     text: &mut Vec<u8>,
-    form: Transform,
+    form: Form,
     expander: LocaleExpander<'_>,
     syntax: Option<Syntax>,
     line: &[u8],

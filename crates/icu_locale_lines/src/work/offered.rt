@@ -1,8 +1,10 @@
 //! What is available, as a line lists it and as it is written.
 ghost use Rattle.std.specs.Prelude.{◌≡◌, ◌⊎◌, Some, IfOk, IfErr};
 ghost use Rattle.std.specs.List.{AllZip};
+ghost use Rattle.icu_locale_lines.specs.Refusals.{IsFaultyList};
 ghost use Rattle.icu_locale_lines.specs.Lists.{listed, ids_of, IsAvailable, IsFaultIn, IsFirstFault, SpellsWanted};
 
+use crate::error::CliError;
 use crate::work::list::read_list;
 use icu_locale_core::{LanguageIdentifier, ParseError};
 use icu_locale_extensions::{LocaleIdentifier, Syntax};
@@ -47,6 +49,23 @@ pub fn read_available(
             let identifiers = ids_of(alloc, &wholes)?;
             Ok((identifiers, Offered { wholes }))
         }
+    }
+}
+
+// The same for a run, which ends where the line lists none.
+pub fn listed_in(
+    alloc: Global,
+    syntax: Option<Syntax>,
+    line: &[u8],
+) -> Result<(Vec<LanguageIdentifier>, Offered), CliError>
+    ensures available { IfOk result (λ a.
+        IsAvailable syntax (listed line.now) a.0.items a.1.wholes.items) }
+    ensures refused { IfErr result (IsFaultyList syntax line.now) }
+{
+    match read_available(alloc, syntax, line) {
+        Ok(available) => Ok(available),
+        Err(ParseError::Memory) => Err(CliError::Memory),
+        Err(refusal) => Err(CliError::Available(refusal)),
     }
 }
 

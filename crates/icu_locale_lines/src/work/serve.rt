@@ -15,11 +15,12 @@ use crate::error::CliError;
 use crate::work::form::Written;
 use crate::work::list::{add_match, read_list};
 use crate::work::offered::{Offered, ids_of, read_wanted};
-use crate::work::serving::Distances;
+use icu_locale::LocaleExpander;
 use icu_locale_core::{LanguageIdentifier, ParseError};
 use icu_locale_extensions::{LocaleIdentifier, Syntax};
 use icu_locale_matching::laws::what_is_served_is_available;
 use icu_locale_matching::{LocaleServer, Match, bring_to_resolved, distance_of};
+use icu_provider::LanguageMatching;
 
 // The answer to a line of wishes.
 pub fn add_served(
@@ -215,18 +216,19 @@ fn add_own(
 // The answer to a line of two identifiers.
 pub fn add_distance(
     text: &mut Vec<u8>,
-    distances: &Distances<'_>,
+    expander: &LocaleExpander<'_>,
+    matching: &LanguageMatching,
     syntax: Option<Syntax>,
     line: &[u8],
 ) -> Result<bool, CliError>
     ensures answer { IfOk result (AddsLine (IsListedAnswer syntax
-        (IsDistanceLine distances.now.matching.now (likely distances.now.expander)) line.now)
+        (IsDistanceLine matching.now (likely expander.now)) line.now)
         text.old.items text.new.items) }
     ensures refused { IfErr result (λ e. e ≡ CliError.Memory) }
     ensures kept { OnErr result (Keeps text.old.items text.new.items) }
 {
     match read_list(*text.allocator(), syntax, line) {
-        Ok(identifiers) => add_distance_of(text, distances, &identifiers),
+        Ok(identifiers) => add_distance_of(text, expander, matching, &identifiers),
         Err(refusal) => add_fault(text, refusal),
     }
 }
@@ -234,17 +236,18 @@ pub fn add_distance(
 // The line of the distance of two identifiers.
 fn add_distance_of(
     text: &mut Vec<u8>,
-    distances: &Distances<'_>,
+    expander: &LocaleExpander<'_>,
+    matching: &LanguageMatching,
     identifiers: &[LanguageIdentifier],
 ) -> Result<bool, CliError>
-    ensures answer { IfOk result (AddsLine (IsDistanceLine distances.now.matching.now
-        (likely distances.now.expander) identifiers.now) text.old.items text.new.items) }
+    ensures answer { IfOk result (AddsLine (IsDistanceLine matching.now
+        (likely expander.now) identifiers.now) text.old.items text.new.items) }
     ensures refused { IfErr result (λ e. e ≡ CliError.Memory) }
     ensures kept { OnErr result (Keeps text.old.items text.new.items) }
 {
     match identifiers {
         [desired, supported] => {
-            let far = distance_of(&distances.expander, distances.matching, desired, supported);
+            let far = distance_of(expander, matching, desired, supported);
             add_number(text, far as usize)?;
             add_text(text, "\n")?;
             Ok(true)

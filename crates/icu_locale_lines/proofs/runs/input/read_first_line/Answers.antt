@@ -1,12 +1,12 @@
 use Rattle.std.proofs.Common.{◌≤◌, length, ap, sym, subst, ◌∙◌, rules, option_map}
 use Rattle.std.specs.Io.KnownBytes.{Consumes, prepend_known}
 use Rattle.std.proofs.KnownBytes.{Consumes-nil}
-use Rattle.icu_locale_lines.specs.Lines.{exceeds}
+use Rattle.std.specs.List.{list_any}
+use Rattle.icu_locale_lines.specs.Lines.{is_line_feed, exceeds}
 use Rattle.icu_locale_lines.specs.Streams.{part_size}
 use Rattle.icu_locale_lines.specs.inner.Parts.{TakesLine}
-use Rattle.icu_locale_lines.proofs.FirstReads.{no_line, line_ended}
+use Rattle.icu_locale_lines.proofs.FirstReads.{Consumes-prepended, no_line, line_ended}
 use Rattle.icu_locale_lines.proofs.Bounds.{nothing_exceeds}
-use Rattle.icu_locale_lines.proofs.Streaming.{Consumes-prepended}
 use Rattle.icu_locale_lines.proofs.runs.input.read_first_line.Goals as goal
 
 -- the line was too long in what was read before
@@ -18,7 +18,7 @@ returns-in_err-rest-clause-none g c = λ refused.
     let longest = c.args.longest in
     let line = c.new-line.result.items in
     no_line longest start start read line before (subst (Consumes start start) (sym c.new-line.ensures.items) (Consumes-nil start))
-    (Consumes-prepended before read) (ap (exceeds longest) c.new-line.ensures.items ∙ nothing_exceeds longest) c.requires.short
+    (Consumes-prepended before read) (ap (list_any is_line_feed) c.new-line.ensures.items) (ap (exceeds longest) c.new-line.ensures.items ∙ nothing_exceeds longest) c.requires.short
     (c.in_err-rest.ensures.long (search rules))
 
 -- it was too long with one more part
@@ -30,7 +30,7 @@ returns-in_err-rest-in-Ok-clause-none g c = λ refused.
     let more = subst (Consumes (read c.loop.reader) (read c.read.new.self)) (sym c.split_at.ensures.front) c.in-Ok.ensures.bytes.0 in
     let size : length part ≤ part_size = search rules in
     no_line c.args.longest start (read c.loop.reader) (read c.read.new.self) c.loop.line.items part c.loop.invariant.consumed more
-    c.loop.invariant.within size (c.in_err-rest-in-Ok.ensures.long (search rules))
+    c.loop.invariant.alone c.loop.invariant.within size (c.in_err-rest-in-Ok.ensures.long (search rules))
 
 -- one more part ends it
 pub returns-in-Some-2-clause-line : goal.returns-in-Some-2-clause-line

@@ -1,4 +1,4 @@
-use Rattle.std.proofs.Common.{◌≡◌, ◌++◌, IfOk, arith, length, subst, take, ◌∙◌}
+use Rattle.std.proofs.Common.{◌≡◌, IfOk, arith, length, subst, take, ◌∙◌}
 use Rattle.std.proofs.lemmas.List.{take-append-le, take_all}
 use Rattle.icu_locale_lines.specs.Answers.{AddsLine, IsAnswer, IsPlaceOf}
 use Rattle.icu_locale_lines.proofs.LineAnswers.{if_adds}

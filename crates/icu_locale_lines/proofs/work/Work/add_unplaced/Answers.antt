@@ -3,9 +3,9 @@ use Rattle.icu_locale_lines.specs.Answers.{IsAnswerBy}
 use Rattle.icu_locale_lines.proofs.LineAnswers.{if_adds}
 use Rattle.icu_locale_lines.proofs.work.Work.add_unplaced.Goals as goal
 
-pub returns-in-Transform-clause-answer : goal.returns-in-Transform-clause-answer
-returns-in-Transform-clause-answer c =
-    if_adds _ _ (λ t a h. subst (λ tools. IsAnswerBy c.args.self.now.syntax tools c.args.line.now t a) (sym c.in-Transform.is) h) _ _
+pub returns-in-Form-clause-answer : goal.returns-in-Form-clause-answer
+returns-in-Form-clause-answer c =
+    if_adds _ _ (λ t a h. subst (λ tools. IsAnswerBy c.args.self.now.syntax tools c.args.line.now t a) (sym c.in-Form.is) h) _ _
     c.add_form.result c.add_form.ensures.answer
 
 pub returns-in-Key-clause-answer : goal.returns-in-Key-clause-answer

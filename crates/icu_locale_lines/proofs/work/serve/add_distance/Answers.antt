@@ -10,7 +10,7 @@ returns-in-Ok-clause-answer c =
     if_adds _ _ (λ t a h. inl (
       c.in-Ok.identifiers.items,
       c.in-Ok.ensures.read,
-      subst (λ list. IsDistanceLine c.args.distances.now.matching.now (likely c.args.distances.now.expander) list t a) c.deref.ensures.value h,
+      subst (λ list. IsDistanceLine c.args.matching.now (likely c.args.expander.now) list t a) c.deref.ensures.value h,
     )) _ _ c.add_distance_of.result c.add_distance_of.ensures.answer
 
 pub returns-in-Err-clause-answer : goal.returns-in-Err-clause-answer

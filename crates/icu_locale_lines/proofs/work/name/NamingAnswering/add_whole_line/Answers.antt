@@ -1,4 +1,4 @@
-use Rattle.std.proofs.Common.{◌≡◌, Some, None, inl, inr, sym, subst}
+use Rattle.std.proofs.Common.{inl, inr, sym, subst}
 use Rattle.icu_locale_lines.specs.Answers.{IsNamedWith}
 use Rattle.icu_locale_lines.proofs.LineAnswers.{if_adds}
 use Rattle.icu_locale_lines.proofs.work.name.NamingAnswering.add_whole_line.Goals as goal
