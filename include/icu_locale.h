@@ -71,13 +71,15 @@ enum {
     ICU_LOCALE_DONE = 0,
 
     /* icu_locale_answer: the line is accepted, and `out` begins with the answer. icu_locale_flat_names: `out` begins with
-       the names. icu_locale_fault: the text is a locale identifier. */
+       the names. icu_locale_missing: `out` begins with the name of a table. icu_locale_fault: the text is a locale
+       identifier. */
     ICU_LOCALE_ACCEPTED = 0,
 
     /* icu_locale_answer: the line is refused, and `out` begins with the program's answer to that: `?`, a tab and the name
        of the refusal, as `InvalidLanguage`, `InvalidSubtag`, `NoFixedPoint`, `NoSubdivisionFixedPoint`,
        `NoValueFixedPoint`, `NoFieldFixedPoint`, `Circle` or `IdentifierNotFound`. icu_locale_fault: the text is none.
-       icu_locale_data_name: the data has no name. icu_locale_refusal_text: the number has no text. */
+       icu_locale_data_name: the data has no name. icu_locale_missing: no table is missing. icu_locale_refusal_text: the
+       number has no text. */
     ICU_LOCALE_REFUSED = 1,
 
     /* icu_locale_is_settled. */
@@ -94,8 +96,8 @@ enum {
     /* Any call on a handle but icu_locale_open and icu_locale_close: the handle is closed. */
     ICU_LOCALE_CLOSED = 2,
 
-    /* icu_locale_answer, icu_locale_flat_names, icu_locale_data_name and icu_locale_refusal_text: there is too little
-       room. */
+    /* icu_locale_answer, icu_locale_flat_names, icu_locale_missing, icu_locale_data_name and icu_locale_refusal_text: there
+       is too little room. */
     ICU_LOCALE_ROOM = 3,
 
     /* Memory was asked for and refused. */
@@ -108,12 +110,12 @@ enum {
        icu_locale_lend_names: the bytes have not the flat form. icu_locale_flat_names: the names have none. */
     ICU_LOCALE_SHAPE = 6,
 
-    /* icu_locale_answer: no command has these words. icu_locale_available_in, icu_locale_negotiate_in and
+    /* icu_locale_answer and icu_locale_missing: no command has these words. icu_locale_available_in, icu_locale_negotiate_in and
        icu_locale_list_fault: the word is that of no syntax. */
     ICU_LOCALE_COMMAND = 7,
 
     /* icu_locale_answer, icu_locale_is_settled, icu_locale_available and icu_locale_available_in: the tables leave out one that
-       is needed. */
+       is needed. icu_locale_missing tells which. */
     ICU_LOCALE_TABLE = 8,
 
     /* icu_locale_negotiate and icu_locale_negotiate_in, and icu_locale_answer at `negotiate`, `serve`, `nearest` and `resolved`:
@@ -240,6 +242,19 @@ int32_t icu_locale_share(struct icu_locale *from, struct icu_locale *to);
  */
 int32_t icu_locale_answer(struct icu_locale *handle, const uint8_t *command, size_t command_length, const uint8_t *line,
                           size_t line_length, uint8_t *out, size_t room, size_t *written);
+
+/*
+ * Writes the first table that a command needs and that the handle's tables leave out, by its name in JSON, to `out`:
+ * `likely_language`, `likely_script_region`, `aliases`, `direction` or `exemplars` of the tables, `matching` or `validity` of
+ * the supplement. `command` has the words that icu_locale_answer takes; no list is needed for those that ask one. What
+ * icu_locale_is_settled and the calls of lists need, `maximize` needs.
+ *
+ * ICU_LOCALE_ACCEPTED: `out` begins with the name, which has `*written` bytes; 20 are enough for each. ICU_LOCALE_REFUSED:
+ * no table is missing. ICU_LOCALE_ROOM: `*written` is how many bytes the name has. ICU_LOCALE_CLOSED, ICU_LOCALE_COMMAND.
+ * `out` is as it was, and `*written` 0 but for ICU_LOCALE_ROOM. Memory is taken for reading the words alone.
+ */
+int32_t icu_locale_missing(struct icu_locale *handle, const uint8_t *command, size_t command_length, uint8_t *out,
+                           size_t room, size_t *written);
 
 /*
  * Tells whether the likely tables are settled, as the program's `settled` does: it looks at each row.

@@ -189,6 +189,8 @@ static long requests_of(struct icu_locale *handle, const char *command, const ch
 // tables are left out.
 static void stays_kept(struct icu_locale *handle) {
     struct icu_locale bare = {0};
+    uint8_t out[32];
+    size_t written;
     const char *likely = "{\"likely_language\":{\"und\":[\"en\",\"Latn\",\"US\"]},\"likely_script_region\":{}}";
     requests_of(handle, "canonicalize", "e", 64, ICU_LOCALE_REFUSED);
     want(requests_of(handle, "canonicalize", "sh", 64, ICU_LOCALE_ACCEPTED) == 0, "a refused line loses what is kept");
@@ -201,6 +203,14 @@ static void stays_kept(struct icu_locale *handle) {
     requests_of(&bare, "direction", "zh-TW", 64, ICU_LOCALE_TABLE);
     requests_of(&bare, "canonicalize", "zh-TW", 64, ICU_LOCALE_TABLE);
     want(requests_of(&bare, "maximize", "zh-TW", 64, ICU_LOCALE_ACCEPTED) == 0, "a table that is left out loses what is kept");
+    requests = 0;
+    want(icu_locale_missing(&bare, (const uint8_t *)"locales key", 11, out, sizeof out, &written) == ICU_LOCALE_ACCEPTED
+             && written == 7 && !memcmp(out, "aliases", 7), "the table that is left out");
+    want(icu_locale_missing(&bare, (const uint8_t *)"exemplars main en", 17, out, sizeof out, &written) == ICU_LOCALE_ACCEPTED,
+         "the set that is left out");
+    want(icu_locale_missing(&bare, (const uint8_t *)"maximize", 8, out, sizeof out, &written) == ICU_LOCALE_REFUSED, "no table");
+    want(requests == 0, "what is missing takes memory");
+    want(requests_of(&bare, "maximize", "zh-TW", 64, ICU_LOCALE_ACCEPTED) == 0, "what is missing loses what is kept");
     icu_locale_close(&bare);
 }
 
