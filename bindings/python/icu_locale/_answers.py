@@ -1,10 +1,10 @@
 """What tables are asked about one identifier, and the menu of several."""
 from typing import Iterable, List, Literal, NamedTuple, Optional, Tuple
 
-from ._held import NO_LIKELY, Held
+from ._held import Held
 from ._menu import Key, MenuRow, in_order, key_of
 from ._negotiator import gathered, line_of
-from ._refusals import InvalidSubtag, NameMissing, NoCommand, TableMissing, Text, as_bytes, line_refusal, refuse, shown
+from ._refusals import InvalidSubtag, NameMissing, NoCommand, Text, as_bytes, line_refusal, shown
 
 Direction = Literal["ltr", "rtl"]
 # How a text is read: a locale identifier of UTS #35, besides a tag of RFC 5646, or besides a name of a POSIX locale.
@@ -244,12 +244,10 @@ long-heavy, menu-light, menu-heavy, short-menu-light, short-menu-heavy
         slot = self._take()
         try:
             number = self._calls.is_settled(slot.handle)
+            if number > 1:
+                self._refuse(number, slot)
         finally:
             self._give_back(slot)
-        if number == TableMissing.number:
-            raise TableMissing(NO_LIKELY)
-        if number > 1:
-            refuse(number)
         return bool(number == 1)
 
 

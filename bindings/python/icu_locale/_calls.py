@@ -31,6 +31,7 @@ class Calls:
         self.supplement = _call(long.icu_locale_supplement, _HANDLE, *_TEXT)
         self.share = _call(short.icu_locale_share, _HANDLE, _HANDLE)
         self.answer = _call(short.icu_locale_answer, _HANDLE, *_TEXT, *_TEXT, ctypes.c_void_p, SIZE, size_at)
+        self.missing = _call(short.icu_locale_missing, _HANDLE, *_TEXT, ctypes.c_void_p, SIZE, size_at)
         self.is_settled = _call(long.icu_locale_is_settled, _HANDLE)
         self.available = _call(long.icu_locale_available_in, _HANDLE, *_TEXT, *_TEXT, _HANDLE)
         self.negotiate = _call(short.icu_locale_negotiate_in, _HANDLE, *_TEXT, *_TEXT, size_at, size_at)

@@ -2,7 +2,7 @@
 from typing import Callable, List, Literal, NamedTuple, Optional, Tuple, cast
 
 from ._answers import CHAINS, Answers, Chain, Named, Syntax, no_command
-from ._held import EXEMPLARS, ROOM
+from ._held import EXEMPLARS
 from ._refusals import LineRefused, NoCommand, Text, as_bytes, place_in, refuse
 
 # What a part of an identifier is, and why it is not valid: docs/PROGRAM.md of the repository tells both.
@@ -53,7 +53,7 @@ class Codes(Answers):
         >>> Tables.from_json(TABLES).validate("en")
         Traceback (most recent call last):
             ...
-        icu_locale.TableMissing: The tables have no table of validity: the supplement that has it is missing.
+        icu_locale.TableMissing: The tables leave out `validity`, which is needed: the supplement that has it is missing.
         """
         told = self._told(b"validate", identifier, syntax)
         return [] if told == VALID else [_invalid(part, identifier) for part in told.split("\t")]
@@ -166,17 +166,12 @@ class Codes(Answers):
         return told.decode()
 
     def _written(self, call: Callable[..., int]) -> Tuple[int, bytes]:
-        """The number of a call that writes into a room, and what it has written. It is made again where it wants more room."""
+        """The number of a call that writes into a room, and what it has written."""
         slot = self._take()
         try:
-            number = call(slot.handle, slot.out_at, slot.room, slot.written_at)
-            if number == ROOM:
-                slot.make_room(slot.written.value)
-                number = call(slot.handle, slot.out_at, slot.room, slot.written_at)
-            told: bytes = slot.out[:slot.written.value]
+            return slot.written_by(call)
         finally:
             self._give_back(slot)
-        return number, told
 
 
 def _invalid(told: str, identifier: Text) -> Invalid:

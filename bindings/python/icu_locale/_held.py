@@ -9,7 +9,7 @@ import ctypes
 import os
 import threading
 from types import TracebackType
-from typing import Any, List, NoReturn, Optional, SupportsIndex, Tuple, Type, TypeVar
+from typing import Any, Callable, List, NoReturn, Optional, SupportsIndex, Tuple, Type, TypeVar
 
 from ._calls import SIZE, Handle, calls
 from ._refusals import (Closed, InvalidList, LineRefused, TableMissing, Text, as_bytes, cut, line_refusal, list_refusal,
@@ -18,18 +18,12 @@ from ._refusals import (Closed, InvalidList, LineRefused, TableMissing, Text, as
 ACCEPTED = 0
 ROOM = 3
 LARGEST = 1 << 16  # bytes of room that a handle keeps
-# What else a command needs of the tables comes first: another command that needs the rest, and then what it needs itself.
-NEEDS_FIRST = {b"canonicalize": b"maximize", b"direction": b"maximize", b"distance": b"maximize", b"serve": b"canonicalize",
-               b"nearest": b"canonicalize", b"resolved": b"canonicalize", b"key": b"maximize",
-               b"identifier-key": b"maximize"}
-NO_ALIASES = "The tables leave out `aliases`, which are needed."
-NEEDS = {b"canonicalize": NO_ALIASES, b"key": NO_ALIASES, b"identifier-key": NO_ALIASES,
-         b"direction": "The tables leave out `direction`, which is needed.",
-         b"validate": "The tables have no table of validity: the supplement that has it is missing."}
 # The command that has a set and a locale behind it.
 EXEMPLARS = b"exemplars"
-NO_LIKELY = "The tables leave out `likely_language` or `likely_script_region`, which are needed."
-NO_MATCH_RULES = "The tables have no match rules: the supplement that has them is missing."
+# The command that needs what a list and `is_settled` need.
+LIKELY = b"maximize"
+# Tables that a supplement has.
+OF_SUPPLEMENT = ("matching", "validity")
 
 
 class Slot:
@@ -48,6 +42,15 @@ class Slot:
         """Room for an answer."""
         self.room, self.out = room, ctypes.create_string_buffer(room)
         self.out_at = ctypes.addressof(self.out)
+
+    def written_by(self, call: Callable[..., int], *words: Any) -> Tuple[int, bytes]:
+        """The number of a call that writes into a room, and what it has written. It is made again where it wants more room."""
+        number = call(self.handle, *words, self.out_at, self.room, self.written_at)
+        if number == ROOM:
+            self.make_room(self.written.value)
+            number = call(self.handle, *words, self.out_at, self.room, self.written_at)
+        told: bytes = self.out[:self.written.value]
+        return number, told
 
 
 class NoCopies:
@@ -177,29 +180,23 @@ class Held(NoCopies):
                     break
                 slot.make_room(slot.written.value)
             told: bytes = slot.out[:slot.written.value]
+            if number == TableMissing.number:
+                self._refuse(number, slot, words)
         finally:
             self._give_back(slot)
         if number == ACCEPTED:
             return told.decode()
         if number == LineRefused.number:
             raise line_refusal(told.decode().split("\t")[1], line, words.partition(b" ")[0].decode("ascii", "replace"))
-        if number == TableMissing.number:
-            raise self._table_missing(*words.split(b" "))
         refuse(number)
 
-    def _table_missing(self, *words: bytes) -> TableMissing:
-        """What the tables leave out that a command needs, as the answer of another one tells."""
-        if EXEMPLARS in words:
-            kind, locale = (each.decode("utf-8", "replace") for each in words[-2:])
-            return TableMissing(f"The tables leave out `exemplars`, the set {kind} of the locale {cut(locale)}.")
-        task = words[-1]
-        if task in NEEDS_FIRST:
-            try:
-                self.answer(NEEDS_FIRST[task], b"und")
-            except TableMissing as fault:
-                return TableMissing(str(fault))
-            return TableMissing(NEEDS.get(task, NO_MATCH_RULES))
-        return TableMissing(NEEDS.get(task, NO_LIKELY))
+    def _refuse(self, number: int, slot: Slot, words: bytes = LIKELY) -> NoReturn:
+        """Raises what a number stands for. Of a table that a command needs, the library tells the name."""
+        if number == TableMissing.number:
+            number, name = slot.written_by(self._calls.missing, words, len(words))
+            if number == ACCEPTED:
+                raise table_missing(name.decode(), words)
+        refuse(number)
 
     def _list_refusal(self, listed: Tuple[Text, ...], word: bytes = b"") -> InvalidList:
         """Why a list is refused, in the syntax of a word or in none: the first that is no identifier."""
@@ -208,6 +205,15 @@ class Held(NoCopies):
         if number != InvalidList.number:
             refuse(number)
         return list_refusal(place.value, listed[place.value])
+
+
+def table_missing(name: str, words: bytes) -> TableMissing:
+    """What is raised where the tables leave out one that a command needs."""
+    if name == EXEMPLARS.decode():
+        kind, locale = (each.decode("utf-8", "replace") for each in words.split(b" ")[-2:])
+        return TableMissing(f"The tables leave out `{name}`, the set {kind} of the locale {cut(locale)}.")
+    source = ": the supplement that has it is missing" if name in OF_SUPPLEMENT else ""
+    return TableMissing(f"The tables leave out `{name}`, which is needed{source}.")
 
 
 os.register_at_fork(before=Held._rooted.acquire, after_in_parent=Held._rooted.release,

@@ -2,8 +2,8 @@
 from typing import Iterable, NamedTuple, Optional, Tuple, TypeVar
 
 from ._calls import SIZE
-from ._held import NO_LIKELY, Held, Slot
-from ._refusals import TEXTS, InvalidList, TableMissing, Text, as_bytes, list_refusal, refuse
+from ._held import Held, Slot
+from ._refusals import TEXTS, InvalidList, Text, as_bytes, list_refusal, refuse
 
 Tag = TypeVar("Tag", bound=Text)
 
@@ -61,12 +61,10 @@ class Negotiator(Held):
         slot, tables = Slot(), super()._fresh()
         try:
             number = self._calls.available(tables.handle, self._word, len(self._word), self._line, len(self._line), slot.handle)
+            if number:
+                self._refuse(number, tables)
         finally:
             self._calls.close(tables.handle)
-        if number == TableMissing.number:
-            raise TableMissing(NO_LIKELY)
-        if number:
-            refuse(number)
         return slot
 
     def _about(self) -> str:

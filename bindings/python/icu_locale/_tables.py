@@ -246,7 +246,7 @@ class Tables(Codes):
         >>> Tables.from_json(TABLES).serve("en", ["en"])
         Traceback (most recent call last):
             ...
-        icu_locale.TableMissing: The tables have no match rules: the supplement that has them is missing.
+        icu_locale.TableMissing: The tables leave out `matching`, which is needed: the supplement that has it is missing.
         """
         found = gathered(available)
         return Switcher(self._kept_over(found), found, default).serve(headers)

@@ -22,6 +22,11 @@ NO_TEXTS = [5, 3 * 10 ** 9, None, 1.5, ["en"], object()]
 TOP = Path(__file__).resolve().parents[3]
 
 
+def without(text, *members):
+    """A text of JSON without some members."""
+    return json.dumps({name: its for name, its in json.loads(text).items() if name not in members})
+
+
 class Examples(unittest.TestCase):
     def test_room(self):
         with Tables.from_json(TABLES) as tables:
@@ -145,24 +150,28 @@ class WrongUses(unittest.TestCase):
             self.assertRaises(Refused, tables.answer, b"\xff", b"\xff")
 
     def test_missing_members(self):
-        likely = json.dumps({name: json.loads(TABLES)[name] for name in ("likely_language", "likely_script_region")})
-        wanted = {"{}": dict.fromkeys(("maximize", "canonicalize", "direction", "fallback"), "likely_script_region"),
-                  likely: {"canonicalize": "`aliases`", "direction": "`direction`"}}
-        for text, members in wanted.items():
-            with Tables.from_json(text, SUPPLEMENT) as tables:
-                for call, member in members.items():
-                    for command in (call, f"locales {call}"):
-                        with self.assertRaisesRegex(TableMissing, member):
-                            tables.answer(command, "en")
-        with Tables.from_json("{}") as tables:
-            for call in (lambda: tables.is_settled, lambda: tables.negotiator(["en"])):
-                with self.assertRaisesRegex(TableMissing, "likely_script_region"):
-                    call()
-        with Tables.from_json(likely) as tables:
-            with self.assertRaisesRegex(TableMissing, "match rules"):
-                tables.distance("en", "de")
-            with self.assertRaisesRegex(TableMissing, "`aliases`"):
-                tables.serve("en", ["en"])
+        likely = ("maximize", "minimize", "fallback", "direction", "canonicalize", "key", "distance")
+        wanted = {"likely_language": likely, "likely_script_region": likely, "aliases": ("canonicalize", "key", "identifier-key"),
+                  "direction": ("direction",), "matching": ("distance",), "validity": ("validate",)}
+        for member, commands in wanted.items():
+            with Tables.from_json(without(TABLES, member), without(SUPPLEMENT, member)) as tables:
+                for command in (*commands, *(f"posix {each}" for each in commands)):
+                    with self.assertRaises(TableMissing) as told:
+                        tables.answer(command, "en")
+                    source = ": the supplement that has it is missing" if member in ("matching", "validity") else ""
+                    self.assertEqual(str(told.exception), f"The tables leave out `{member}`, which is needed{source}.")
+        with Tables.from_json(without(TABLES, "likely_script_region", "aliases"), SUPPLEMENT) as tables:
+            for call in (lambda: tables.is_settled, lambda: tables.negotiator(["en"]), lambda: tables.serve("en", ["en"])):
+                self.assertRaisesRegex(TableMissing, "`likely_script_region`", call)
+
+    def test_missing_members_of_what_is_served(self):
+        with Tables.from_json(without(TABLES, "aliases"), SUPPLEMENT) as tables:
+            self.assertRaisesRegex(TableMissing, "`aliases`", tables.serve, "en", ["en"])
+        with Tables.from_json(without(TABLES, "aliases")) as tables:
+            self.assertRaisesRegex(TableMissing, "`matching`", tables.serve, "en", ["en"])
+            with mock.patch.object(tables._calls, "answer", wraps=tables._calls.answer) as asked:
+                self.assertRaisesRegex(TableMissing, "`matching`", tables.distance, "en", "de")
+            self.assertEqual(asked.call_count, 1)
 
     def test_long_texts(self):
         with Tables.from_json(TABLES) as tables:

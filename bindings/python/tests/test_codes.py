@@ -89,7 +89,7 @@ class Small(unittest.TestCase):
     def test_missing_tables(self):
         with Tables.from_json(TABLES, SUPPLEMENT) as tables:
             for call in (tables.validate, tables.is_valid):
-                self.assertRaisesRegex(TableMissing, "table of validity", call, "en")
+                self.assertRaisesRegex(TableMissing, "`validity`.* supplement", call, "en")
             self.assertRaisesRegex(TableMissing, "set main of the locale de", tables.has_exemplar, "main", "de", "a")
             self.assertRaisesRegex(TableMissing, "set numbers of the locale en", tables.answer, "locales exemplars numbers en", "a")
         tables.close()

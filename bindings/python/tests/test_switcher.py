@@ -33,7 +33,7 @@ BY_CLDR = [
     ("sr", ["en", "sr-Latn"], "sr-Latn"), ("iw, zh-HK;q=0.1", ["en", "he", "zh-Hant"], "he"), ("uk", ["en", "ru"], "ru"),
     ("de", ["gsw"], None), ("ja-Latn", ["ja"], "ja"), ("de", ["nl", "en"], None), ("fr", ["en", "de"], None),
 ]
-NO_RULES = "the supplement that has them is missing"
+NO_RULES = "`matching`, which is needed: the supplement that has it is missing"
 
 
 class Switchers(unittest.TestCase):
