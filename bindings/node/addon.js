@@ -32,5 +32,6 @@ module.exports = {
   listFault: (syntax, list) => calls.listFault(wordsOf(syntax), bytes(list)),
   fault: (text) => calls.fault(bytes(text)),
   answer: (held, command, line) => calls.answer(held, wordsOf(command), bytes(line)),
+  missing: (held, command) => calls.missing(held, wordsOf(command)),
   giveBack: (held, ...list) => calls.giveBack(held, ...list.map(bytes)),
 };

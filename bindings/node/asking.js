@@ -7,6 +7,7 @@ const LINE_REFUSED = 1;
 const SHAPE = 6;
 const TABLE = 8;
 const LIST = 10;
+const LIKELY = 'maximize'; // the command that needs what a list and `isSettled` need
 const SYNTAXES = ['locales', 'bcp47', 'posix'];
 const LARGEST = 65535; // threshold, and demotion
 const LONG_ANSWER = 65536; // an answer that is longer leaves no room that is kept
@@ -115,19 +116,18 @@ function listRefusal(word, list) {
   return noIdentifier(place, list[place]);
 }
 
-// Whether a handle's tables leave out what a command wants.
-function leavesOut(held) {
-  return (command) => {
-    const told = behind.calls.answer(held, command, 'und');
-    return typeof told !== 'string' && told[0] === TABLE;
-  };
+/** The refusal of a number that a handle tells, by the words of a command. Of a table that is left out C tells the name. */
+function refusalOf(number, held, command) {
+  if (number !== TABLE) return numbered(number);
+  const told = behind.calls.missing(held, command);
+  return typeof told === 'string' ? leftOut(told, command) : numbered(told[0]);
 }
 
 /** What a call of icu_locale.h tells, by its name, that is handed the word of a syntax and a list. */
 function overList(call, held, word, list) {
   const told = behind.calls[call](held, word, list.join(' '));
   if (told === LIST) throw listRefusal(word, list);
-  if (told === TABLE) throw leftOut('maximize', leavesOut(held));
+  if (told === TABLE) throw refusalOf(told, held, LIKELY);
   return told;
 }
 
@@ -161,11 +161,10 @@ function answered(held, command, line, word, list) {
   const [number, answer] = told;
   const words = typeof command === 'string' ? command : new TextDecoder().decode(command);
   if (number === LINE_REFUSED) throw lineRefusal(words, answer.split('\t')[1], line);
-  if (number === TABLE) throw leftOut(words, leavesOut(held));
-  throw numbered(number);
+  throw refusalOf(number, held, words);
 }
 
 module.exports = {
-  DONE, LINE_REFUSED, SHAPE, TABLE, LIST, LONG_ANSWER, behind, stand, text, string, optionsOf, wordsIn, wordOf, matchingWords, made, listed,
-  joined, headerOf, listRefusal, leavesOut, overList, placesIn, answered,
+  DONE, LINE_REFUSED, SHAPE, LIST, LIKELY, LONG_ANSWER, behind, stand, text, string, optionsOf, wordsIn, wordOf, matchingWords, made, listed,
+  joined, headerOf, listRefusal, refusalOf, overList, placesIn, answered,
 };

@@ -1,6 +1,7 @@
 // The calls of icu_locale.h for Node.js, by Node-API: `open(json)` makes an object that stands for tables, and
-// `supplement`, `lendNames`, `flatNames`, `share`, `available`, `answer`, `giveBack`, `dataName`, `negotiate`, `isSettled`,
-// `lend` and `close` take one; `borrow(number)` makes one of what another worker has lent. index.js has what is made of these.
+// `supplement`, `lendNames`, `flatNames`, `share`, `available`, `answer`, `giveBack`, `missing`, `dataName`, `negotiate`,
+// `isSettled`, `lend` and `close` take one; `borrow(number)` makes one of what another worker has lent. index.js has what is
+// made of these.
 #include "icu_locale.h"
 #include <node_api.h>
 #include <pthread.h>
@@ -353,6 +354,24 @@ static napi_value give_back(napi_env env, napi_callback_info info) {
     return NULL;
 }
 
+// missing(tables, command): the name of the first table that a command needs and the tables leave out, and else a list of a
+// number and an empty text.
+static napi_value missing(napi_env env, napi_callback_info info) {
+    size_t count = 2, length, written = 0;
+    napi_value values[2];
+    const uint8_t *command;
+    if (napi_get_cb_info(env, info, &count, values, NULL, NULL) != napi_ok || count < 2) return wrong(env);
+    struct tables *tables = tables_of(env, values[0]);
+    if (!tables || !bytes_of(env, values[1], &command, &length)) return wrong(env);
+    int32_t number;
+    for (;;) {
+        number = icu_locale_missing(&tables->handle, command, length, tables->out, tables->room, &written);
+        if (number != ICU_LOCALE_ROOM) break;
+        if (!widen(tables, written)) return told(env, tables, ICU_LOCALE_MEMORY, 0);
+    }
+    return told(env, tables, number, written);
+}
+
 // dataName(tables): the name of the data, and else a list of a number and an empty text.
 static napi_value data_name(napi_env env, napi_callback_info info) {
     size_t count = 1, written = 0;
@@ -412,8 +431,8 @@ NAPI_MODULE_INIT() {
         napi_callback call;
     } calls[] = {{"open", open_tables}, {"supplement", supplement}, {"lendNames", lend_names}, {"flatNames", flat_names},
                  {"share", share_tables}, {"available", available_of}, {"answer", answer}, {"giveBack", give_back},
-                 {"dataName", data_name}, {"negotiate", negotiate}, {"listFault", list_fault}, {"fault", fault},
-                 {"isSettled", is_settled}, {"lend", lend}, {"borrow", borrow}, {"close", close_tables}};
+                 {"missing", missing}, {"dataName", data_name}, {"negotiate", negotiate}, {"listFault", list_fault},
+                 {"fault", fault}, {"isSettled", is_settled}, {"lend", lend}, {"borrow", borrow}, {"close", close_tables}};
     for (size_t place = 0; place < sizeof calls / sizeof *calls; place++) {
         napi_value call;
         napi_create_function(env, calls[place].name, NAPI_AUTO_LENGTH, calls[place].call, NULL, &call);

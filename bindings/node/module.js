@@ -241,6 +241,14 @@ class Module {
     return told;
   }
 
+  /** The name of the first table that a command needs and a handle's tables leave out, and else a list of a number and a text. */
+  missing(held, command) {
+    const words = this.#words(command);
+    if (!words) return [MEMORY, ''];
+    return this.#told(() => (
+      this.#its.icu_locale_missing(held.place, ...words, this.#out.place, BigInt(this.#out.room), this.#numbers)));
+  }
+
   /**
    * Lets go what a long answer has taken in the library, whose handle comes to hold the same once more: tables, or a list
    * too, in the syntax of a word. Where memory is refused, it stays.

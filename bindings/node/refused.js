@@ -2,7 +2,8 @@
 // Why a call gives no answer, in words.
 
 const LONGEST = 60; // of a text that is shown
-const MATCH_RULES = 'the match rules of a supplement';
+const EXEMPLARS = 'exemplars'; // the table of which sets of locales are left out
+const OF_SUPPLEMENT = ['matching', 'validity']; // tables that a supplement has
 
 // The numbers of icu_locale.h, and the one below 0 of a loan that there is not.
 const NUMBERS = {
@@ -31,22 +32,6 @@ const OF_LINES = {
   Circle: 'the parents behind the locale lead round in a circle',
   IdentifierNotFound: 'the tables were made without the locale of the preferences',
 };
-
-const ALIASES = 'the member `aliases`';
-
-// What a command wants of the tables: a command that wants all of it but for one member, if there is one, and that member.
-const WANTS = {
-  canonicalize: ['maximize', ALIASES],
-  key: ['maximize', ALIASES],
-  'identifier-key': ['maximize', ALIASES],
-  direction: ['maximize', 'the member `direction`'],
-  distance: ['maximize', MATCH_RULES],
-  serve: ['canonicalize', MATCH_RULES],
-  nearest: ['canonicalize', MATCH_RULES],
-  resolved: ['canonicalize', MATCH_RULES],
-  validate: [null, 'the table of validity of a supplement'],
-};
-const EXEMPLARS = 'exemplars'; // the command that has a set and a locale behind it
 
 /** A call that gives no answer. `code` names the refusal; `place` is that of what is no identifier in a list. */
 class Refused extends Error {
@@ -84,16 +69,12 @@ function noIdentifier(place, identifier) {
   return refusal('List', `what stands at place ${place} is no identifier: ${shown(identifier)}`, place);
 }
 
-/** The refusal of a command whose table is left out. `isLeftOut` tells whether one is of a command that wants less. */
-function leftOut(command, isLeftOut) {
-  const words = command.split(' ');
-  if (words.includes(EXEMPLARS)) {
-    const [set, locale] = words.slice(-2);
-    return refusal('Table', `the tables leave out the member \`exemplars\`: the set ${set} of the locale ${locale}`);
-  }
-  const [less, member] = WANTS[words.pop()] || [];
-  if (less && isLeftOut(less)) return leftOut(less, isLeftOut);
-  return refusal('Table', `the tables leave out ${member || 'the member `likely_language` or `likely_script_region`'}`);
+/** The refusal of a command by its words, whose tables leave out a member. */
+function leftOut(member, command) {
+  const [set, locale] = command.split(' ').slice(-2);
+  const where = member === EXEMPLARS ? `: the set ${set} of the locale ${locale}` : '';
+  const source = OF_SUPPLEMENT.includes(member) ? ', which a supplement has' : '';
+  return refusal('Table', `the tables leave out the member \`${member}\`${where}${source}`);
 }
 
 module.exports = { Refused, shown, refusal, numbered, ofLine, noIdentifier, leftOut };

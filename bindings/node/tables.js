@@ -1,8 +1,8 @@
 'use strict';
 // Tables of locale identifiers, over the calls of the package. index.d.ts says what each call takes.
-const { refusal, numbered, ofLine, leftOut } = require('./refused.js');
+const { refusal, numbered, ofLine } = require('./refused.js');
 const {
-  DONE, LINE_REFUSED, SHAPE, TABLE, LONG_ANSWER, behind, text, string, optionsOf, wordsIn, wordOf, matchingWords, made, listed, joined, leavesOut,
+  DONE, LINE_REFUSED, SHAPE, LIKELY, LONG_ANSWER, behind, text, string, optionsOf, wordsIn, wordOf, matchingWords, made, listed, joined, refusalOf,
   overList, answered,
 } = require('./asking.js');
 const { CHAINS, Codes, beforeMark, namedBy } = require('./codes.js');
@@ -313,8 +313,7 @@ class Tables extends Codes {
   /** Whether the likely tables are settled. It looks at each row. */
   isSettled() {
     const number = behind.calls.isSettled(this.#at);
-    if (number === TABLE) throw leftOut('maximize', leavesOut(this.#at));
-    if (number > 1) throw numbered(number);
+    if (number > 1) throw refusalOf(number, this.#at, LIKELY);
     return number === 1;
   }
 }

@@ -55,7 +55,7 @@ for (const [text, code] of [['', 'InvalidLanguage'], ['english', 'InvalidLanguag
 assert.throws(() => tables.validate('en-Latm1-US'), { code: 'InvalidSubtag', start: 9, end: 11, subtag: 'US' });
 for (const call of ['validate', 'isValid']) {
   assert.throws(() => tables[call]('en', { syntax: 'utf8' }), RangeError);
-  assert.throws(() => plain[call]('en'), { code: 'Table', message: 'Table: the tables leave out the table of validity of a supplement' });
+  assert.throws(() => plain[call]('en'), { code: 'Table', message: 'Table: the tables leave out the member `validity`, which a supplement has' });
 }
 
 // a call, what it names, in which locale and by which chain, and the name; it is raw where there is none

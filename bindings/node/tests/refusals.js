@@ -16,8 +16,8 @@ const aliases = { language_len2: { aa: 'bb', bb: 'aa' }, subdivision: { abcdefg:
 const turning = Tables.fromJson(JSON.stringify({ ...JSON.parse(example), aliases }));
 const closed = Tables.fromJson(example);
 closed.close();
-const likely = 'Table: the tables leave out the member `likely_language` or `likely_script_region`';
-const rules = 'Table: the tables leave out the match rules of a supplement';
+const leftOut = (member) => `Table: the tables leave out the member \`${member}\``;
+const rules = `${leftOut('matching')}, which a supplement has`;
 const unsettled = '{"likely_language":{"und":["en","Latn","US"],"language":{"xx":["Zzzz","DE"]}},"likely_script_region":{}}';
 
 // A call, and the message of its refusal.
@@ -55,15 +55,17 @@ for (const [call, message] of REFUSED) {
   assert.throws(call, { name: 'Refused', code, message });
 }
 
-// what is left out
-for (const [members, call, message] of [
-  [['likely_language'], (it) => it.maximize('en'), likely], [['likely_script_region'], (it) => it.isSettled(), likely],
-  [['likely_language', 'aliases'], (it) => it.canonicalize('en'), likely], [['likely_language'], (it) => it.negotiator([]), likely],
-  [['likely_language'], (it) => it.distance('en', 'de'), likely], [['likely_script_region'], (it) => it.fallback('en'), likely],
-  [['aliases'], (it) => it.canonicalize('en'), 'Table: the tables leave out the member `aliases`'],
-  [['aliases'], (it) => it.serve('en', []), 'Table: the tables leave out the member `aliases`'],
-  [['direction'], (it) => it.direction('en'), 'Table: the tables leave out the member `direction`'],
-]) assert.throws(() => call(without(...members)), { name: 'Refused', code: 'Table', message });
+// what is left out: members of which the first is told, and a call
+for (const [members, call] of [
+  [['likely_language'], (it) => it.maximize('en')], [['likely_script_region'], (it) => it.maximize('en')],
+  [['likely_language'], (it) => it.isSettled()], [['likely_script_region'], (it) => it.isSettled()],
+  [['likely_language', 'aliases'], (it) => it.canonicalize('en')], [['likely_script_region', 'aliases'], (it) => it.serve('en', [])],
+  [['likely_language'], (it) => it.negotiator([])], [['likely_script_region'], (it) => it.negotiator(['en'], { syntax: 'posix' })],
+  [['likely_language'], (it) => it.distance('en', 'de')], [['likely_script_region'], (it) => it.fallback('en')],
+  [['aliases'], (it) => it.canonicalize('en')], [['aliases'], (it) => it.key('en')], [['aliases'], (it) => it.serve('en', [])],
+  [['aliases'], (it) => it.answer(Buffer.from('bcp47 identifier-key'), 'en')],
+  [['direction'], (it) => it.direction('en')], [['likely_script_region', 'direction'], (it) => it.direction('en', { syntax: 'posix' })],
+]) assert.throws(() => call(without(...members)), { name: 'Refused', code: 'Table', message: leftOut(members[0]) });
 for (const options of [undefined, { supplement: '{"parents":{}}' }]) {
   const bare = Tables.fromJson(example, options);
   for (const call of [() => bare.serve(null, []), () => bare.nearest([], []), () => bare.distance('en', 'de')]) {
