@@ -2,6 +2,7 @@
 use crate::calls;
 use crate::menu::{in_order, MenuRow};
 use crate::names::before_mark;
+use crate::pool::{refusal, LIKELY};
 use crate::{Chain, Direction, Name, Refusal, Tables};
 
 impl Tables {
@@ -287,11 +288,13 @@ impl Tables {
     ///
     /// `Table` where a likely table is left out.
     pub fn is_settled(&self) -> Result<bool, Refusal> {
-        // SAFETY: no other call is made on the handle, by `&mut`.
-        match self.pool.with(|handle| unsafe { calls::icu_locale_is_settled(handle) })? {
-            0 => Ok(false),
-            1 => Ok(true),
-            number => Err(Refusal::of_number(number)),
-        }
+        self.pool.with(|handle| {
+            // SAFETY: no other call is made on the handle, by `&mut`.
+            match unsafe { calls::icu_locale_is_settled(handle) } {
+                0 => Ok(false),
+                1 => Ok(true),
+                number => Err(refusal(number, handle, LIKELY)),
+            }
+        })?
     }
 }

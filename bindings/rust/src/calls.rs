@@ -49,6 +49,14 @@ extern "C" {
         room: usize,
         written: *mut usize,
     ) -> i32;
+    pub fn icu_locale_missing(
+        handle: *mut Handle,
+        command: *const u8,
+        command_length: usize,
+        out: *mut u8,
+        room: usize,
+        written: *mut usize,
+    ) -> i32;
     pub fn icu_locale_is_settled(handle: *mut Handle) -> i32;
     pub fn icu_locale_available_in(
         from: *mut Handle,

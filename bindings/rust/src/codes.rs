@@ -158,7 +158,7 @@ impl Tables {
     /// let (kind, status) = (PartKind::Region, CodeStatus::Deprecated);
     /// assert_eq!(tables.validate("de-DD")?, [Invalid { kind, text: "DD".into(), status, place: 3..5 }]);
     /// assert_eq!(tables.validate("de-AT")?, []);
-    /// assert_eq!(Tables::from_json(EXAMPLE.as_bytes())?.validate("de"), Err(Refusal::Table));
+    /// assert_eq!(Tables::from_json(EXAMPLE.as_bytes())?.validate("de"), Err(Refusal::Table { member: "validity" }));
     /// # Ok::<(), Refusal>(())
     /// ```
     pub fn validate(&self, identifier: &str) -> Result<Vec<Invalid>, Refusal> {
@@ -282,7 +282,7 @@ impl Tables {
     /// let tables = Tables::from_json(EXAMPLE.as_bytes())?;
     /// assert_eq!(tables.has_exemplar(ExemplarSet::Main, "en", "ng"), Ok(true));
     /// assert_eq!(tables.has_exemplar(ExemplarSet::Main, "en", "A"), Ok(false));
-    /// assert_eq!(tables.has_exemplar(ExemplarSet::Index, "en", "A"), Err(Refusal::Table));
+    /// assert_eq!(tables.has_exemplar(ExemplarSet::Index, "en", "A"), Err(Refusal::Table { member: "exemplars" }));
     /// # Ok::<(), Refusal>(())
     /// ```
     pub fn has_exemplar(&self, set: ExemplarSet, locale: &str, text: &str) -> Result<bool, Refusal> {

@@ -10,7 +10,10 @@ const DONE: i32 = 0;
 const ACCEPTED: i32 = 0;
 const LINE_REFUSED: i32 = 1;
 const ROOM: i32 = 3;
+const TABLE: i32 = 8;
 const PLACES: usize = 32;
+/// The command that needs what a list and `is_settled` need.
+pub const LIKELY: &str = "maximize";
 // Bytes of an answer whose room a handle keeps.
 const LARGEST: usize = 1 << 16;
 
@@ -64,7 +67,7 @@ impl Pool {
         match number {
             ACCEPTED => Ok(String::from_utf8(out).expect("an answer is a text")),
             LINE_REFUSED => Err(Refusal::of_name(String::from_utf8_lossy(&out).trim_start_matches("?\t"))),
-            number => Err(Refusal::of_number(number)),
+            number => Err(self.with(|handle| refusal(number, handle, command))?),
         }
     }
 
@@ -170,8 +173,24 @@ impl Pool {
         };
         match number {
             DONE => Ok(handle),
-            number => Err(Refusal::of_number(number)),
+            number => Err(refusal(number, &mut tables, LIKELY)),
         }
+    }
+}
+
+/// The refusal of a number that a handle tells, by the words of a command. Of a table that is left out C tells the name.
+pub fn refusal(number: i32, handle: &mut Handle, command: &str) -> Refusal {
+    if number != TABLE {
+        return Refusal::of_number(number);
+    }
+    let (mut out, mut written) = ([0; 64], 0);
+    // SAFETY: the slices are Rust's, `out` and `written` overlap nothing by `&mut`, and so the handle is this call's.
+    let number = unsafe {
+        calls::icu_locale_missing(handle, command.as_ptr(), command.len(), out.as_mut_ptr(), out.len(), &mut written)
+    };
+    match number {
+        ACCEPTED => Refusal::of_member(&out[..written]),
+        number => Refusal::of_number(number),
     }
 }
 

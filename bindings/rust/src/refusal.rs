@@ -13,8 +13,12 @@ pub enum Refusal {
     Shape,
     /// No command has these words.
     Command,
-    /// The tables leave out one that is needed. Match rules and validity are in their supplement.
-    Table,
+    /// The tables leave out a member that is needed.
+    Table {
+        /// Its name: `likely_language`, `likely_script_region`, `aliases`, `direction`, `exemplars` of a set and a locale, or
+        /// `matching` or `validity`, which a supplement has.
+        member: &'static str,
+    },
     /// The command is `negotiate`, `serve`, `nearest` or `resolved`, and there is no list of what is available: a `Negotiator`
     /// and a `Switcher` have one.
     Negotiate,
@@ -58,6 +62,10 @@ pub enum Refusal {
     Preferences,
 }
 
+// The members that tables and a supplement may leave out, of which a command needs one.
+const MEMBERS: [&str; 7] =
+    ["likely_language", "likely_script_region", "aliases", "direction", "exemplars", "matching", "validity"];
+
 impl Refusal {
     pub(crate) fn of_number(number: i32) -> Self {
         match number {
@@ -65,13 +73,18 @@ impl Refusal {
             5 => Refusal::Json,
             6 => Refusal::Shape,
             7 => Refusal::Command,
-            8 => Refusal::Table,
             9 => Refusal::Negotiate,
             10 => Refusal::List,
             11 => Refusal::Unsettled,
             12 => Refusal::Shared,
             _ => unreachable!("the number {number} is that of no refusal of an open handle"),
         }
+    }
+
+    // That of a member that is left out.
+    pub(crate) fn of_member(name: &[u8]) -> Self {
+        let member = MEMBERS.into_iter().find(|it| it.as_bytes() == name);
+        Refusal::Table { member: member.expect("the library names a member of tables or of a supplement") }
     }
 
     // That of a command whose words are those that there are, but for the preferences.
@@ -98,6 +111,13 @@ impl fmt::Display for Refusal {
     fn fmt(&self, f: &mut fmt::Formatter<'_>) -> fmt::Result {
         f.write_str(match self {
             Refusal::NoLocale { place } => return write!(f, "CLDR has no names for the locale at place {place} of the list"),
+            Refusal::Table { member: member @ "exemplars" } => {
+                return write!(f, "the tables leave out `{member}` of that set and locale, which is needed")
+            }
+            Refusal::Table { member: member @ ("matching" | "validity") } => {
+                return write!(f, "the tables leave out `{member}`, which is needed: a supplement has it")
+            }
+            Refusal::Table { member } => return write!(f, "the tables leave out `{member}`, which is needed"),
             Refusal::Damaged { file } => return write!(f, "the file {file}.gz of CLDR's data inside is damaged"),
             Refusal::Preferences => "the preferences are no identifier without variants",
             Refusal::NoData => "this crate was made without CLDR's data; `from_json` takes tables of it",
@@ -105,11 +125,6 @@ impl fmt::Display for Refusal {
             Refusal::Json => "the text is no JSON",
             Refusal::Shape => "the JSON has not the shape of tables, or the bytes have not that of names in the flat form",
             Refusal::Command => "no command has these words",
-            Refusal::Table => {
-                "the tables leave out a member that is needed: `likely_language`, `likely_script_region`, at `canonicalize` and \
-                 `serve` also `aliases`, at `direction` also `direction`, at `serve` the match rules of their supplement, at \
-                 `validate` its validity, or at `exemplars` the set of that locale"
-            }
             Refusal::Negotiate => "there is no list of what is available",
             Refusal::List => "the list has something that is no identifier",
             Refusal::Unsettled => "the likely tables are not settled",

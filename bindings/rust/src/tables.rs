@@ -320,7 +320,7 @@ impl Tables {
     /// assert_eq!(tables.serve("fr, en;q=0.5", ["en", "zh_hant"])?, Some("en"));
     /// assert_eq!(tables.serve(["fr;q=0.1", "de-AT, *;q=0.2"], ["en", "zh_hant"])?, Some("en"));
     /// assert_eq!(tables.serve(None::<&str>, ["en", "zh_hant"])?, None);
-    /// assert_eq!(Tables::from_json(EXAMPLE.as_bytes())?.serve(["en"], ["en"]), Err(Refusal::Table));
+    /// assert_eq!(Tables::from_json(EXAMPLE.as_bytes())?.serve(["en"], ["en"]), Err(Refusal::Table { member: "matching" }));
     /// # Ok::<(), Refusal>(())
     /// ```
     pub fn serve<H, I>(&self, headers: H, available: I) -> Result<Option<I::Item>, Refusal>

@@ -74,9 +74,9 @@ fn validity() {
     for (text, refusal) in [("", Refusal::InvalidLanguage), ("english", Refusal::InvalidLanguage), ("en-", Refusal::InvalidSubtag)] {
         assert_eq!((tables.validate(text), tables.is_valid(text)), (Err(refusal), Ok(false)), "{text}");
     }
-    assert_eq!(small().validate("en"), Err(Refusal::Table));
-    assert_eq!(small().is_valid("en"), Err(Refusal::Table));
-    assert!(Refusal::Table.to_string().contains("validity"));
+    let refusal = Refusal::Table { member: "validity" };
+    assert_eq!((small().validate("en"), small().is_valid("en")), (Err(refusal), Err(refusal)));
+    assert_eq!(refusal.to_string(), "the tables leave out `validity`, which is needed: a supplement has it");
     let tables = tables.with_syntax(Syntax::Posix);
     assert_eq!(tables.validate("de_DD"), Ok(vec![invalid((PartKind::Region, "DD", Deprecated, 3))]));
     assert_eq!(tables.is_valid("en_US.UTF-8@latin"), Ok(true));
@@ -147,7 +147,9 @@ fn exemplars() {
     for (text, wanted) in [("a", true), ("z", true), ("ng", true), ("A", false), ("ab", false), ("", false), ("a\n", false), ("\u{e4}", false)] {
         assert_eq!(tables.has_exemplar(ExemplarSet::Main, "en", text), Ok(wanted), "{text}");
     }
-    assert_eq!(tables.has_exemplar(ExemplarSet::Main, "de", "a"), Err(Refusal::Table));
+    let refusal = Refusal::Table { member: "exemplars" };
+    assert_eq!(tables.has_exemplar(ExemplarSet::Main, "de", "a"), Err(refusal));
+    assert_eq!(refusal.to_string(), "the tables leave out `exemplars` of that set and locale, which is needed");
     assert_eq!(tables.answer("exemplars main en", b"\xff"), Err(Refusal::InvalidText));
     assert!(Refusal::InvalidText.to_string().contains("UTF-8"));
 }

@@ -11,8 +11,8 @@ const FAULTY: [&str; 10] = ["", " ", "en ", " en", "en zh", "e", "en-", "en\n", 
 #[test]
 fn refusals() {
     let tables = Tables::from_json(b"{}").unwrap();
-    assert_eq!(tables.maximize("en"), Err(Refusal::Table));
-    assert_eq!(tables.is_settled(), Err(Refusal::Table));
+    assert_eq!(tables.maximize("en"), Err(Refusal::Table { member: "likely_language" }));
+    assert_eq!(tables.is_settled(), Err(Refusal::Table { member: "likely_language" }));
     assert_eq!(tables.name("en", "en"), Err(Refusal::NameMissing));
     for preferences in ["en-fonipa", "", "e", "en en", "en-u-ca-roc"] {
         assert_eq!(tables.name("en", preferences), Err(Refusal::Preferences), "{preferences}");
@@ -246,11 +246,44 @@ fn distances_and_what_is_the_same() {
 fn missing_match_rules() {
     let tables = Tables::from_json(EXAMPLE.as_bytes()).unwrap();
     let none: [&str; 0] = [];
-    assert_eq!(tables.serve(none, none), Err(Refusal::Table));
-    assert_eq!(tables.switcher(["en"]).unwrap().nearest(["en"]), Err(Refusal::Table));
-    assert_eq!(tables.switcher(["en"]).unwrap().resolved(["en"]), Err(Refusal::Table));
-    assert_eq!(tables.distance("en", "de"), Err(Refusal::Table));
-    assert!(Refusal::Table.to_string().contains("match rules"));
+    let refusal = Refusal::Table { member: "matching" };
+    assert_eq!(tables.serve(none, none), Err(refusal));
+    assert_eq!(tables.switcher(["en"]).unwrap().nearest(["en"]), Err(refusal));
+    assert_eq!(tables.switcher(["en"]).unwrap().resolved(["en"]), Err(refusal));
+    assert_eq!(tables.distance("en", "de"), Err(refusal));
+    assert_eq!(refusal.to_string(), "the tables leave out `matching`, which is needed: a supplement has it");
+}
+
+// The first member that is needed and left out is told.
+#[test]
+fn missing_members() {
+    let [language, others] = ["\"likely_language\":{\"und\":[\"en\",\"Latn\",\"US\"]}", "\"likely_script_region\":{}"];
+    let aliases = "\"aliases\":{\"language_len2\":{\"iw\":\"he\"}}";
+    for (texts, command, member) in [
+        ([others, aliases], "maximize", "likely_language"),
+        ([others, aliases], "locales canonicalize", "likely_language"),
+        ([language, aliases], "maximize", "likely_script_region"),
+        ([language, aliases], "bcp47 distance", "likely_script_region"),
+        ([language, aliases], "direction", "likely_script_region"),
+        ([language, others], "canonicalize", "aliases"),
+        ([language, others], "posix key", "aliases"),
+        ([language, others], "direction", "direction"),
+        ([language, others], "exemplars main en", "exemplars"),
+        ([language, others], "validate", "validity"),
+    ] {
+        let json = format!("{{{}}}", texts.join(","));
+        let tables = Tables::from_json_with(json.as_bytes(), EXAMPLE_SUPPLEMENT.as_bytes()).unwrap();
+        let refusal = Refusal::Table { member };
+        assert_eq!(tables.answer(command, b"en").err(), Some(refusal), "{json} {command}");
+        assert!(refusal.to_string().contains(&format!("`{member}`")), "{refusal}");
+        if member.starts_with("likely") {
+            assert_eq!(tables.is_settled(), Err(refusal));
+            assert_eq!(tables.negotiator(["en"]).err(), Some(refusal));
+        }
+        if member == "aliases" {
+            assert_eq!(tables.serve("en", ["en"]), Err(refusal));
+        }
+    }
 }
 
 #[test]
@@ -274,7 +307,7 @@ fn aliases_of_values() {
 #[test]
 fn refused_tables() {
     let empty = Tables::from_json(b"{}").unwrap();
-    assert_eq!(empty.negotiator(["en-"]).err(), Some(Refusal::Table));
+    assert_eq!(empty.negotiator(["en-"]).err(), Some(Refusal::Table { member: "likely_language" }));
     let unsettled = Tables::from_json(UNSETTLED.as_bytes()).unwrap();
     assert_eq!(unsettled.negotiator(["en-"]).err(), Some(Refusal::List));
     let negotiator = unsettled.negotiator(["en"]).unwrap();
