@@ -10,13 +10,13 @@ use Rattle.icu_locale_runs.specs.Run.{IsLaterEnd}
 use Rattle.icu_locale.specs.Canonical.{IsCanonical, is_applied, answer_of, without_extensions}
 use Rattle.icu_locale.specs.Canonicalization.{Canonicalizes}
 use Rattle.icu_locale.specs.Cost.{AddsNoVariants}
-use Rattle.icu_locale.specs.Refusals.{IsMemory}
+use Rattle.icu_locale.specs.Refusals.{IsRunRefusal, IsMemory}
 use Rattle.icu_locale.specs.declared.expander.TransformResult.{TransformResult}
 use Rattle.icu_locale.specs.declared.expander.TransformResult.TheVariants.{Modified, Unmodified}
 use Rattle.icu_locale.specs.declared.canonicalizer.rules.Rules.{Rules}
 use Rattle.icu_locale.specs.declared.canonicalizer.changes.Changes.{Changes}
 use Rattle.icu_locale.specs.declared.canonicalizer.CanonicalizeError.{CanonicalizeError}
-use Rattle.icu_locale.specs.inner.CanonicalParts.{IsRunRefusal, AreChanges}
+use Rattle.icu_locale.specs.inner.CanonicalParts.{AreChanges}
 use Rattle.icu_locale.proofs.CanonicalAgain.{unmodified_exactly}
 use Rattle.icu_locale.proofs.Canonicals.{IsCanonical-with_changes, memory_from_end, no_repeat, no_value_repeat, named, named_value, refused_id}
 use Rattle.icu_locale.proofs.Canonicals.{refused_identifiers}

@@ -13,9 +13,9 @@ use Rattle.icu_locale.specs.Kinds.{next, by_language_alias, next_of}
 use Rattle.icu_locale_runs.specs.Run.{EndsAt, IsLaterEnd, IsRepeat, HasDistinct, EndsOrRepeats}
 use Rattle.icu_locale.specs.inner.Universe.{universe}
 use Rattle.icu_locale.specs.Canonical.{rg, sd, next_value, IsCanonical}
-use Rattle.icu_locale.specs.Refusals.{IdentifiersEnd, RulesEnd, ComesAgainFirst, ValueComesAgainFirst, IsRefusal, IsMemory, IsOutOfMemory}
+use Rattle.icu_locale.specs.Refusals.{IsRunRefusal, IdentifiersEnd, RulesEnd, ComesAgainFirst, ValueComesAgainFirst, IsRefusal, IsMemory, IsOutOfMemory}
 use Rattle.icu_locale.specs.Cost.{HasIdentifiers, CountsRun, CountsSearches, AddsNoVariants, NeedsNoMemory, HasNothingToCopy}
-use Rattle.icu_locale.specs.inner.CanonicalParts.{IsRunRefusal, IsRunRefusalOf, IsIdentifierRefusal, IsValuesRefusal, CountsSearchesOf, AreLaterEnds}
+use Rattle.icu_locale.specs.inner.CanonicalParts.{IsRunRefusalOf, IsIdentifierRefusal, IsValuesRefusal, CountsSearchesOf, AreLaterEnds}
 use Rattle.icu_locale.specs.inner.CanonicalParts.{AreChanges, with_changes}
 use Rattle.icu_locale.specs.declared.canonicalizer.rules.Rules.{Rules}
 use Rattle.icu_locale.specs.declared.canonicalizer.changes.Changes.{Changes}

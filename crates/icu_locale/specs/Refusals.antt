@@ -1,5 +1,5 @@
 -- Why a locale is not canonicalized.
-use Rattle.std.specs.Prelude.{◌⊎◌, ℕ, List, codes, Result, Ok, Err, IfSome, IsSomeAnd}
+use Rattle.std.specs.Prelude.{◌⊎◌, ℕ, List, codes, Option, Result, Ok, Err, IfSome, IsSomeAnd}
 use Rattle.icu_locale_core.specs.Keywords.{KeywordRows}
 use Rattle.icu_locale_core.specs.Maps.{value_at}
 use Rattle.icu_locale_core.specs.TextSet.{text_cmp}
@@ -37,6 +37,13 @@ pub record EndsInPlace (likely : LikelySubtags) (rules : Rules) (old : Locale) :
       (λ v. EndsAt (next_value rules) v v)
   pub subdivision : IfSome (value_at text_cmp old.extensions.unicode.keywords sd)
       (λ v. EndsAt (next_value rules) v v)
+
+-- a refusal of the run of an identifier other than want of memory names the first that comes again
+abbrev pub IsRunRefusal : (LanguageIdentifier → Option LanguageIdentifier) → LanguageIdentifier
+    → CanonicalizeError → Type 0
+IsRunRefusal next x Memory = Unit {0}
+IsRunRefusal next x (NoFixedPoint z) = IsRepeat next x z
+IsRunRefusal next x (NoSubdivisionFixedPoint v) = ⊥
 
 -- z is the first identifier to come again in the run of the identifier, or, where that ends, in that of the transform language
 abbrev pub ComesAgainFirst : LikelySubtags → Rules → Locale → LanguageIdentifier → Type 0

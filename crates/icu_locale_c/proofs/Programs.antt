@@ -68,7 +68,7 @@ all_is true text = refl
 all_is false text = refl
 
 -- two answers are one where each is accepted just where the other is
-same_answer : (a b : Bool) → (a ≡ true) ↔ (b ≡ true) → a ≡ b
+pub same_answer : (a b : Bool) → (a ≡ true) ↔ (b ≡ true) → a ≡ b
 same_answer true b both = sym (both.0 refl)
 same_answer false true both = both.1 refl
 same_answer false false both = refl

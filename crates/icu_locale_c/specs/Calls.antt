@@ -4,7 +4,6 @@ use Rattle.std.specs.List.{slice_split}
 use Rattle.std.specs.Str.{IsUtf8}
 use Rattle.icu_tables.specs.Rows.{rows_of}
 use Rattle.icu_tables.specs.File.{rows_in}
-use Rattle.icu_tables.specs.Supplement.{no_supplement}
 use Rattle.icu_tables.specs.Supplement as further
 use Rattle.icu_tables.specs.declared.error.TableError.TheVariants as table
 use Rattle.icu_tables.specs.declared.supplement.Supplement.{Supplement}
@@ -12,7 +11,7 @@ use Rattle.icu_locale_lines.specs.Answers.{IsAnswer}
 use Rattle.icu_locale_lines.specs.Commands.{has_tables}
 use Rattle.icu_locale_lines.specs.Grammar.{parse}
 use Rattle.icu_locale_lines.specs.Lists.{is_space}
-use Rattle.icu_locale_lines.specs.WholeRuns.{TellsSettled}
+use Rattle.icu_locale_lines.specs.WholeRuns.{StandAlone, TellsSettled}
 use Rattle.icu_locale_lines.specs.declared.command.Command.TheVariants.{Settled, Lines}
 use Rattle.icu_locale_lines.specs.declared.asked.Asked.{Asked}
 use Rattle.icu_locale_lines.specs.declared.asked.Source.TheVariants.{Sample}
@@ -115,11 +114,11 @@ IsRefusedOpen json refusal.Shape = rows_in json ≡ Err table.Shape
 IsRefusedOpen json refusal.Memory = Unit {0}
 IsRefusedOpen json e = ⊥
 
--- tables are read and held without a list, or what was held stays
+-- tables are read and held alone, without a list, or what was held stays
 abbrev pub IsOpened : List ℕ → Option Held → Option Held → Result (Unit {0}) Refusal → Type 0
 IsOpened json old new (Ok u) =
     IsSomeAnd new (λ h. (rows_in json ≡ Ok (rows_of h.tables))
-    × (h.tables.supplement ≡ no_supplement) × (h.available ≡ None))
+    × StandAlone h.tables × (h.available ≡ None))
 IsOpened json old new (Err e) = (new ≡ old) × IsRefusedOpen json e
 
 -- what is held, with another supplement of its tables

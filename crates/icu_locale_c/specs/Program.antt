@@ -2,7 +2,8 @@
 use Rattle.std.specs.Prelude.{◌≡◌, ◌↔◌, ℕ, Bool, true, false, List, [], ◌∷◌, ◌++◌, Option, Some}
 use Rattle.icu_tables.specs.declared.tables.Tables.{Tables}
 use Rattle.icu_locale_extensions.specs.declared.syntax.Syntax.{Syntax}
-use Rattle.icu_locale_lines.specs.WholeRuns.{WritesOutput}
+use Rattle.icu_locale_lines.specs.Lines.{Stream}
+use Rattle.icu_locale_lines.specs.WholeRuns.{IsJsonRun, WritesOutput}
 use Rattle.icu_locale_lines.specs.declared.command.Command.TheVariants.{Lines}
 use Rattle.icu_locale_lines.specs.declared.command.LineCommand.{LineCommand}
 use Rattle.icu_locale_lines.specs.declared.runs.Status.{Status}
@@ -19,7 +20,7 @@ abbrev pub AsksListIn : Option Syntax → List ℕ → Type 0
 AsksListIn syntax command =
     (c : LineCommand) → Names command c → (asks_list c.task ≡ true) × (c.syntax ≡ syntax)
 
--- a text as the program's one line, and behind a line that lists what is available
+-- a text as the program's one line, and behind a line that has tables or lists what is available
 abbrev pub as_line : List ℕ → List ℕ
 as_line line = line ++ 10 ∷ []
 
@@ -34,5 +35,18 @@ pub record IsWrittenFor (t : Tables) (command input text : List ℕ) (accepted :
   pub whole : List ℕ
   pub status : Status
   pub written : WritesOutput (Lines asked) t input (Some []) (Some whole) status
+  pub status_is : (status ≡ Accepted) ↔ (accepted ≡ true)
+  pub text_is : text ≡ unended whole
+
+-- the program, asked by the words of a text and `json`, takes its tables of the first line, and writes this text and a line
+-- feed for the one behind it; its status says whether that is accepted
+pub record IsWrittenOverJson (json command line text : List ℕ) (accepted : Bool) : Type 0 where
+  pub asked : LineCommand
+  pub named : Names command asked
+  pub left : Stream
+  pub whole : List ℕ
+  pub status : Status
+  pub written : IsJsonRun (Lines asked) (Some (behind_list json line)) left (Some []) (Some whole)
+      status
   pub status_is : (status ≡ Accepted) ↔ (accepted ≡ true)
   pub text_is : text ≡ unended whole

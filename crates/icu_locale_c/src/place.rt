@@ -15,7 +15,7 @@ pub fn put_place(
 ) -> Result<bool, Refusal>
     ensures { IsPlaced text.now (from.old, to.old) (from.new, to.new) result }
 {
-    laws::derived_is_read();
+    laws::refusals_are_faults();
     let fault = match read_at(alloc, text) {
         Ok(_identifier) => return Ok(true),
         Err(fault) => fault,

@@ -64,6 +64,8 @@ impl LanguageIdentifier {
     /// - `InvalidLanguage` exactly where the first piece is no language.
     /// - `InvalidSubtag` where a variant comes twice.
     /// - `Memory` only where there is a variant, and never in place of `InvalidLanguage`.
+    ///
+    /// The pieces are as they were then.
     #[inline(always)]
     pub fn read_front(alloc: Global, pieces: &mut Pieces<'_>) -> Result<Self, ParseError>
         ensures read { (result ≡ Err ParseError.Memory) ⊎ (result ≡ read_front pieces.old) }
@@ -72,8 +74,12 @@ impl LanguageIdentifier {
             → is_language (slice_index_or pieces.old 0 []) ≡ true }
         ensures memory { result ≡ Err ParseError.Memory
             → list_any is_variant (front_variants pieces.old) ≡ true }
+        ensures unchanged { OnErr result (pieces.new ≡ pieces.old) }
     {
-        read_front(alloc, pieces)
+        let mut rest = pieces.duplicate();
+        let id = read_front(alloc, &mut rest)?;
+        *pieces = rest;
+        Ok(id)
     }
 
     /// Nothing, but that each subtag belongs to its class and is in its written case.

@@ -42,6 +42,17 @@ impl<'a> Pieces<'a> {
     {
         self.first
     }
+
+    /// The same pieces once more.
+    #[inline(always)]
+    pub fn duplicate(&self) -> Self
+        ensures { result ≡ self.now }
+    {
+        Pieces {
+            first: self.first,
+            rest: self.rest,
+        }
+    }
 }
 
 impl<'a> Iterator for Pieces<'a> {

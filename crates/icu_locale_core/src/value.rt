@@ -1,5 +1,5 @@
 //! Values of keywords.
-ghost use Rattle.std.specs.Prelude.{OnOk, ◌≡◌, ◌≢◌, ◌++◌, ◌∷◌, [], false, filter, not, codes, ◌==◌, Some, Err, IsOk, IfOk, IfErr, nat_eq, List, ℕ};
+ghost use Rattle.std.specs.Prelude.{OnErr, OnOk, ◌≡◌, ◌≢◌, ◌++◌, ◌∷◌, [], false, filter, not, codes, ◌==◌, Some, Err, IsOk, IfOk, IfErr, nat_eq, List, ℕ};
 ghost use Rattle.std.proofs.Common.{rules};
 ghost use Rattle.std.specs.Cmp.{partial_order_from_own_ties};
 ghost use Rattle.std.specs.Cmp.Lexicographic.{pointwise, slice_cmp};
@@ -82,8 +82,21 @@ impl Value {
     ///
     /// # Errors
     ///
-    /// `Memory` where the list of pieces could not grow.
+    /// `Memory` where the list of pieces could not grow. The pieces are as they were then.
     pub fn read_front(alloc: Global, pieces: &mut Pieces<'_>) -> Result<Self, ParseError>
+        ensures read { IfOk result
+            (λ v. v ≡ read_subtags (front (other_than is_subtag) pieces.old)) }
+        ensures rest { OnOk result (pieces.new ≡ from (other_than is_subtag) pieces.old) }
+        ensures refused { IfErr result (λ e. e ≡ ParseError.Memory) }
+        ensures unchanged { OnErr result (pieces.new ≡ pieces.old) }
+    {
+        let mut rest = pieces.duplicate();
+        let value = Value::take_front(alloc, &mut rest)?;
+        *pieces = rest;
+        Ok(value)
+    }
+
+    fn take_front(alloc: Global, pieces: &mut Pieces<'_>) -> Result<Self, ParseError>
         ensures read { IfOk result
             (λ v. v ≡ read_subtags (front (other_than is_subtag) pieces.old)) }
         ensures rest { OnOk result (pieces.new ≡ from (other_than is_subtag) pieces.old) }

@@ -23,10 +23,10 @@ use Rattle.icu_locale_extensions.specs.Grammar.{One, one, AtMostOne, absent, pre
 use Rattle.icu_locale_extensions.specs.Grammar.{Meaning, unicode_of, transform_of, other_of, IsUnicodeExtension, of_keywords, of_attributes, IsLanguageId, IsTransformedExtension, of_tlang, of_tfields, IsOtherExtension, of_other}
 use Rattle.icu_locale_extensions.specs.Grammar.{IsExtension, unicode, transformed, other, IsPrivateUse, singleton, add, add_all, add_rows, add_language, add_private_use}
 use Rattle.icu_locale_extensions.specs.Grammar as grammar
-use Rattle.icu_locale_extensions.specs.Reader.{first_is, belongs, added, marked, opened_unicode, opened_transform, opened_other, has_unicode, has_transform, and_then, read, read_on, with_read}
+use Rattle.icu_locale_extensions.specs.laws.Reader.{first_is, belongs, added, marked, opened_unicode, opened_transform, opened_other, has_unicode, has_transform, and_then, read, read_on, with_read}
 use Rattle.icu_locale_extensions.specs.Built.{with_language, with_private_use, with_attributes, with_keywords, with_fields, with_others}
 use Rattle.icu_locale_core.specs.Maps.{add_first}
-use Rattle.icu_locale_extensions.specs.Reader.Part.{whole, attributes, keywords, language, fields, keyword as in_keyword, field as in_field, other as in_other, private_use as in_private_use}
+use Rattle.icu_locale_extensions.specs.laws.Reader.Part.{whole, attributes, keywords, language, fields, keyword as in_keyword, field as in_field, other as in_other, private_use as in_private_use}
 use Rattle.icu_locale_extensions.specs.inner.Takes.{read_opened}
 use Rattle.icu_locale_extensions.proofs.Languages.{begins_at_mark, front_whole, singletons_end}
 use Rattle.icu_locale_extensions.proofs.Taking.{key_none}

@@ -20,7 +20,7 @@ use Rattle.icu_locale_extensions.specs.Built.{bare}
 use Rattle.icu_locale_extensions.specs.declared.identifier.LocaleIdentifier.{LocaleIdentifier}
 use Rattle.icu_locale_extensions.specs.Grammar.{one, AnyNumber, done, next, first, Meaning, unicode_of, transform_of, other_of, of_keywords, of_attributes, of_tlang, of_tfields, of_other}
 use Rattle.icu_locale_extensions.specs.Grammar.{IsExtension, unicode, transformed, other, are_different, singleton, add, add_rows}
-use Rattle.icu_locale_extensions.specs.Reader.{any_row, has_unicode, has_transform}
+use Rattle.icu_locale_extensions.specs.laws.Reader.{any_row, has_unicode, has_transform}
 use Rattle.icu_locale_core.specs.Maps.{add_first}
 use Rattle.icu_locale_extensions.proofs.Derived.{has, are_fresh, other_lower}
 

@@ -16,8 +16,8 @@ use Rattle.icu_locale_core.specs.laws.Identifiers.{same_text}
 use Rattle.icu_locale_core.specs.laws.TextSets.{text_total, is_among, contains-from_list, length-rising_empty}
 use Rattle.icu_locale_core.specs.Cuts.{optional_subtag, after_optional_subtag}
 use Rattle.icu_locale_extensions.specs.Grammar.{One, one, AtMostOne, absent, present, AnyNumber, done, next, are_different, IsLanguageId, language_id}
-use Rattle.icu_locale_extensions.specs.Reader.{first_is, belongs}
-use Rattle.icu_locale_extensions.specs.Reader.Part.{language}
+use Rattle.icu_locale_extensions.specs.laws.Reader.{first_is, belongs}
+use Rattle.icu_locale_extensions.specs.laws.Reader.Part.{language}
 use Rattle.icu_locale_extensions.proofs.Derived.{each_any}
 use Rattle.icu_locale_extensions.proofs.Languages.{ends_language, ends_languages}
 

@@ -13,9 +13,9 @@ use Rattle.icu_locale_core.specs.declared.parse_error.ParseError.TheVariants.{In
 use Rattle.icu_locale_core.specs.Cuts.{front, from, other_than, optional_subtag, after_optional_subtag}
 use Rattle.icu_locale_extensions.specs.Extensions.{is_singleton, is_tkey}
 use Rattle.icu_locale_extensions.specs.declared.identifier.LocaleIdentifier.{LocaleIdentifier}
-use Rattle.icu_locale_extensions.specs.Reader.{first_is, belongs, begins, added, marked, with_read, and_then, read_on}
+use Rattle.icu_locale_extensions.specs.laws.Reader.{first_is, belongs, begins, added, marked, with_read, and_then, read_on}
 use Rattle.icu_locale_extensions.specs.Built.{with_language}
-use Rattle.icu_locale_extensions.specs.Reader.Part.{fields, language}
+use Rattle.icu_locale_extensions.specs.laws.Reader.Part.{fields, language}
 use Rattle.icu_locale_extensions.proofs.Steps.{taken}
 
 abbrev pub begins_at_mark : (List ℕ → Bool) → List (List ℕ) → Bool

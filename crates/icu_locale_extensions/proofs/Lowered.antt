@@ -1,11 +1,8 @@
 -- Whether there is a piece.
-use Rattle.std.proofs.Common.{◌≡◌, ◌<◌, ℕ, zero, suc, Bool, true, false, not, ◌||◌, List, [], ◌∷◌, ◌++◌, get_or, length, Option, None, Some}
-use Rattle.std.proofs.Common.{IsTrue, ◌↔◌, refl, ap, sym, arith}
-use Rattle.std.specs.Char.{is_ascii_alphanumeric}
+use Rattle.std.proofs.Common.{◌≡◌, ℕ, Bool, true, false, not, ◌||◌, List, [], ◌∷◌, ◌++◌, Option, None, Some}
+use Rattle.std.proofs.Common.{IsTrue, ◌↔◌, refl, ap, sym}
 use Rattle.std.specs.Option.{is_some}
-use Rattle.std.proofs.lemmas.Bool.{and_parts, false≢true}
-use Rattle.std.proofs.lemmas.Bool.Decides.{nat_tests}
-use Rattle.icu_locale_core.specs.Subtag.{is_alphanumeric}
+use Rattle.std.proofs.lemmas.Bool.{false≢true}
 use Rattle.icu_locale_core.specs.declared.langid.LanguageIdentifier.{LanguageIdentifier}
 use Rattle.icu_locale_core.specs.Cuts.{Block}
 use Rattle.icu_locale_extensions.specs.Extensions.{any_piece}

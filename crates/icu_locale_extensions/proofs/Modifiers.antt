@@ -5,8 +5,8 @@ use Rattle.icu_locale_core.specs.TextSet.{TextSet, difference, empty}
 use Rattle.icu_locale_core.specs.laws.TextSets.{contains-difference, contains-empty, same_set}
 use Rattle.icu_locale_core.specs.TextSet.{contains}
 use Rattle.icu_locale_extensions.specs.Locales.{IsLocaleIdentifier}
-use Rattle.icu_locale_extensions.specs.Reader.{and_then}
-use Rattle.icu_locale_extensions.specs.Syntaxes.{base_text, modifier_text, with_modifier, ReadsBy}
+use Rattle.icu_locale_extensions.specs.laws.Reader.{and_then, ReadsAs}
+use Rattle.icu_locale_extensions.specs.Syntaxes.{base_text, modifier_text, with_modifier}
 use Rattle.icu_locale_core.specs.declared.parse_error.ParseError.{ParseError}
 use Rattle.icu_locale_extensions.specs.declared.identifier.LocaleIdentifier.{LocaleIdentifier}
 use Rattle.icu_locale_extensions.specs.declared.syntax.Syntax.TheVariants.{Posix, Unicode}
@@ -20,8 +20,8 @@ IfOk-map f (Err e) h = tt
 pub difference_none : (s : TextSet) → difference s empty ≡ s
 difference_none s = same_set (difference s empty) s (λ q. contains-difference s empty q ∙ ap (λ b. not b && contains s q) (contains-empty q))
 
-pub posix_read : (t : List ℕ) (y z : LocaleIdentifier) → ReadsBy Unicode (base_text t) (Ok y) → IsLocaleIdentifier z
-    → z ≡ with_modifier (modifier_text t) y → ReadsBy Posix t (Ok z)
+pub posix_read : (t : List ℕ) (y z : LocaleIdentifier) → ReadsAs Unicode (base_text t) (Ok y) → IsLocaleIdentifier z
+    → z ≡ with_modifier (modifier_text t) y → ReadsAs Posix t (Ok z)
 posix_read t y z reads known is = record {
   read = elim reads.read [
     | inl memory ↦ absurd (cc memory)

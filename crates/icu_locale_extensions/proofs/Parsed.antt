@@ -18,11 +18,11 @@ use Rattle.icu_locale_extensions.specs.declared.identifier.LocaleIdentifier.{Loc
 use Rattle.icu_locale_extensions.specs.Grammar.{One, one, AtMostOne, absent, present, AnyNumber, done, next, AtLeastOne, first, IsTypes, IsKeyword, keyword, IsTfield, tfield}
 use Rattle.icu_locale_extensions.specs.Grammar.{Meaning, unicode_of, transform_of, other_of, of_keywords, of_attributes, of_tlang, of_tfields, of_other}
 use Rattle.icu_locale_extensions.specs.Grammar.{IsLanguageId, IsExtension, unicode, transformed, other, IsPrivateUse, private_use, singleton, add, add_all, add_rows, add_private_use}
-use Rattle.icu_locale_extensions.specs.Reader.{Part, first_is, belongs, begins, added, closed, marked, opened_unicode, opened_transform, opened_other, has_unicode, has_transform, and_then, read, read_on}
+use Rattle.icu_locale_extensions.specs.laws.Reader.{Part, first_is, belongs, begins, added, closed, marked, opened_unicode, opened_transform, opened_other, has_unicode, has_transform, and_then, read, read_on}
 use Rattle.icu_locale_core.specs.Maps.{add_first}
-use Rattle.icu_locale_extensions.specs.Reader.{with_read}
+use Rattle.icu_locale_extensions.specs.laws.Reader.{with_read}
 use Rattle.icu_locale_extensions.specs.Built.{with_attributes, with_keywords, with_language, with_fields, with_private_use}
-use Rattle.icu_locale_extensions.specs.Reader.Part.{whole, attributes, keywords, language, fields, nothing, keyword as in_keyword, field as in_field, other as in_other, private_use as in_private_use}
+use Rattle.icu_locale_extensions.specs.laws.Reader.Part.{whole, attributes, keywords, language, fields, nothing, keyword as in_keyword, field as in_field, other as in_other, private_use as in_private_use}
 use Rattle.icu_locale_extensions.specs.inner.Takes.{read_opened}
 use Rattle.icu_locale_extensions.proofs.Derived.{has, are_fresh, at_u, at_t, at_x, at_other, other_lower}
 use Rattle.icu_locale_extensions.specs.Built.{bare}

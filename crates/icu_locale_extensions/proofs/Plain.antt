@@ -18,10 +18,11 @@ use Rattle.icu_locale_core.specs.Cuts.{from}
 use Rattle.icu_locale_extensions.specs.Extensions.{is_singleton, is_t, is_tkey, IsField, IsOther}
 use Rattle.icu_locale_extensions.specs.Grammar.{IsLocaleId}
 use Rattle.icu_locale_extensions.specs.Locales.{IsLocaleIdentifier}
-use Rattle.icu_locale_extensions.specs.Reader.{read}
+use Rattle.icu_locale_extensions.specs.laws.Reader.{read, ReadsAs}
 use Rattle.icu_locale_extensions.specs.Syntaxes.{ReadsBy, is_kept, takes_memory}
 use Rattle.icu_locale_extensions.specs.declared.identifier.LocaleIdentifier.{LocaleIdentifier}
 use Rattle.icu_locale_extensions.specs.declared.syntax.Syntax.TheVariants.{Unicode}
+use Rattle.icu_locale_extensions.proofs.ByGrammar.{from_reader, to_reader}
 use Rattle.icu_locale_extensions.proofs.Refused.{language_refused, language_told, memory_never, plain_read}
 
 pub bare_is : (x : LanguageIdentifier) → IsIdentifier x → IsLocaleIdentifier (bare x)
@@ -116,14 +117,14 @@ module _ (derived : (ps : List (List ℕ)) (x : LocaleIdentifier) → IsLocaleId
     found_back (Err e) h = tt
 
     there : (r : Result LanguageIdentifier ParseError) → ReadsIdentifier t r → ReadsBy Unicode t (as_locale r)
-    there r reads = record {
+    there r reads = from_reader derived Unicode t (as_locale r) (record {
       read = is_read r reads;
       found = found_there r reads.found;
       language = (λ e. reads.language.0 (err_of r InvalidLanguage e), λ e. ap as_locale (reads.language.1 e));
       memory = λ e. only_variants t plain ∙ reads.memory (err_of r Memory e);
-    }
+    })
 
-    back : (r : Result LanguageIdentifier ParseError) → ReadsBy Unicode t (as_locale r) → ReadsIdentifier t r
+    back : (r : Result LanguageIdentifier ParseError) → ReadsAs Unicode t (as_locale r) → ReadsIdentifier t r
     back r reads = record {
       found = found_back r reads.found;
       only = λ x is s. elim reads.read [
@@ -141,7 +142,7 @@ module _ (derived : (ps : List (List ℕ)) (x : LocaleIdentifier) → IsLocaleId
   -- such a text is read as an identifier alone is
   pub plain_alike : (t : List ℕ) (r : Result LanguageIdentifier ParseError) → list_any is_singleton (pieces t) ≡ false
       → ReadsIdentifier t r ↔ ReadsBy Unicode t (as_locale r)
-  plain_alike t r plain = (there t plain r, back t plain r)
+  plain_alike t r plain = (there t plain r, λ reads. back t plain r (to_reader derived Unicode t (as_locale r) reads))
 
   -- and spells an identifier alone
   pub plain_spelled : (t : List ℕ) (x : LocaleIdentifier) → list_any is_singleton (pieces t) ≡ false → IsLocaleId (pieces t) x

@@ -8,7 +8,7 @@ use Rattle.icu_locale_core.specs.Identifier.{is_separator, pieces}
 use Rattle.icu_locale_core.specs.Readings.{read_front, after_front}
 use Rattle.icu_locale_core.specs.Subtag.{is_script, is_region, is_variant, und}
 use Rattle.icu_locale_extensions.specs.Extensions.{is_singleton}
-use Rattle.icu_locale_extensions.specs.Reader.{first_is}
+use Rattle.icu_locale_extensions.specs.laws.Reader.{first_is}
 use Rattle.icu_locale_extensions.proofs.WrittenPieces.{whole_plain}
 
 -- a singleton is no script, no region and no variant

@@ -11,8 +11,8 @@ use Rattle.icu_locale_core.specs.Cuts.{front, from, other_than, optional_subtag,
 use Rattle.icu_locale_extensions.specs.Extensions.{is_singleton}
 use Rattle.icu_locale_extensions.specs.Built.{bare, as_locale}
 use Rattle.icu_locale_extensions.specs.declared.identifier.LocaleIdentifier.{LocaleIdentifier}
-use Rattle.icu_locale_extensions.specs.Reader.{Part, belongs, begins, added, closed, opened, and_then, with_part, with_read, read, read_on}
-use Rattle.icu_locale_extensions.specs.Reader.Part.{whole, attributes, keywords, keyword, language, fields, field, other, private_use, nothing}
+use Rattle.icu_locale_extensions.specs.laws.Reader.{Part, belongs, begins, added, closed, opened, and_then, with_part, with_read, read, read_on}
+use Rattle.icu_locale_extensions.specs.laws.Reader.Part.{whole, attributes, keywords, keyword, language, fields, field, other, private_use, nothing}
 use Rattle.icu_locale_extensions.proofs.Languages.{begins_at_mark, singletons_end, front_parts, front_err, front_ok, marked_none}
 use Rattle.icu_locale_extensions.proofs.Languages as languages
 use Rattle.icu_locale_extensions.proofs.Taking.{end_front}

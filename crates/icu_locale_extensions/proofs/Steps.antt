@@ -5,9 +5,9 @@ use Rattle.std.proofs.lemmas.List.{append-nil}
 use Rattle.icu_locale_core.specs.declared.parse_error.ParseError.{ParseError}
 use Rattle.icu_locale_core.specs.Cuts.{front, from, other_than}
 use Rattle.icu_locale_extensions.specs.declared.identifier.LocaleIdentifier.{LocaleIdentifier}
-use Rattle.icu_locale_extensions.specs.Reader.{Part, belongs, added, closed, opened, and_then, read_on}
+use Rattle.icu_locale_extensions.specs.laws.Reader.{Part, belongs, added, closed, opened, and_then, read_on}
 use Rattle.icu_locale_extensions.specs.inner.Takes.{read_opened}
-use Rattle.icu_locale_extensions.specs.Reader.Part.{whole, attributes, keywords, keyword, language, fields, field, other, private_use, nothing}
+use Rattle.icu_locale_extensions.specs.laws.Reader.Part.{whole, attributes, keywords, keyword, language, fields, field, other, private_use, nothing}
 
 -- where all is closed, a piece opens a part
 pub at_closed : (part : Part) (y : LocaleIdentifier) (p : List ℕ) (ps : List (List ℕ))

@@ -19,8 +19,8 @@ use Rattle.icu_locale_extensions.specs.declared.syntax.Syntax.{Syntax}
 use Rattle.icu_locale_extensions.specs.declared.syntax.Syntax.TheVariants.{Unicode, Bcp47, Posix}
 use Rattle.icu_locale_extensions.specs.Grammar as g
 use Rattle.icu_locale_extensions.specs.Grammar.{One, one, AtMostOne, absent, present, AnyNumber, done, next, AtLeastOne, first}
-use Rattle.icu_locale_extensions.specs.Reader.{and_then, read}
-use Rattle.icu_locale_extensions.specs.Syntaxes.{with_modifier, read_by}
+use Rattle.icu_locale_extensions.specs.laws.Reader.{and_then, read, read_by}
+use Rattle.icu_locale_extensions.specs.Syntaxes.{with_modifier}
 use Rattle.icu_locale_extensions.proofs.Languages.{begins_at_mark}
 use Rattle.icu_locale_extensions.proofs.Parsed.{locale_parsed}
 use Rattle.icu_locale_extensions.proofs.Derived.{is_one}
@@ -297,7 +297,7 @@ preferred-strict ps begins =
     let also : may_begin (pieces row.0) ≡ true = sym (may_begin-lowercase (pieces row.0)) ∙ ap may_begin (sym alike) ∙ may_begin-lowercase ps ∙ begins in
     false≢true (sym (ap not also) ∙ other)))
 
-language_no_x : (p : List ℕ) → is_language p ≡ true → is_x p ≡ false
+pub language_no_x : (p : List ℕ) → is_language p ≡ true → is_x p ≡ false
 language_no_x p is = false_from_ne_true _ (λ x. short p is (is_one p 120 x))
   where
     short : (p : List ℕ) → is_language p ≡ true → is_singleton p ≡ true → ⊥
@@ -311,7 +311,7 @@ private-strict (p ∷ []) begins = language_no_x p begins
 private-strict (p ∷ q ∷ ps) begins = language_no_x p (and_parts (is_language p) _ begins).0
 
 -- root has four letters
-language_no_root : (p : List ℕ) → is_language p ≡ true → same_text (lowercase p) (codes "root") ≡ false
+pub language_no_root : (p : List ℕ) → is_language p ≡ true → same_text (lowercase p) (codes "root") ≡ false
 language_no_root p is = false_from_ne_true _ (λ root. short p is (sym (length-lowercase p) ∙ ap length ((bytes_eq-Decides (lowercase p) (codes "root")).0 root)))
   where
     short : (p : List ℕ) → is_language p ≡ true → length p ≡ 4 → ⊥

@@ -16,7 +16,7 @@ use Rattle.icu_locale_core.specs.Value.{written_value}
 use Rattle.icu_locale_core.specs.laws.Identifiers.{same_text, values_decide}
 use Rattle.icu_locale_extensions.specs.Extensions.{any_piece, is_singleton, is_x}
 use Rattle.icu_locale_extensions.specs.Syntaxes.{is_extended, is_private, is_root, legacy, preferred, root_text, same_pieces, tag_text, value_of}
-use Rattle.icu_locale_extensions.specs.Reader.{first_is}
+use Rattle.icu_locale_extensions.specs.laws.Reader.{first_is}
 use Rattle.icu_locale_extensions.specs.inner.Lent.{und_before}
 use Rattle.icu_locale_extensions.specs.inner.Texts.{spelled}
 use Rattle.icu_locale_extensions.proofs.Spellings.{any_piece-pieces, joined-spelled, pieces-spelled}

@@ -12,11 +12,12 @@ use Rattle.icu_locale_core.specs.declared.parse_error.ParseError.{ParseError}
 use Rattle.icu_locale_core.specs.declared.parse_error.ParseError.TheVariants.{Memory}
 use Rattle.icu_locale_core.specs.Cuts.{front, from, other_than, optional_subtag, after_optional_subtag}
 use Rattle.icu_locale_extensions.specs.Extensions.{any_piece, is_piece, is_singleton, is_t, is_tkey}
+use Rattle.icu_locale_extensions.specs.Syntaxes.{is_kept}
 use Rattle.icu_locale_extensions.specs.declared.identifier.LocaleIdentifier.{LocaleIdentifier}
-use Rattle.icu_locale_extensions.specs.Reader.{Part, first_is, belongs, begins, added, closed, marked, and_then, read_on}
+use Rattle.icu_locale_extensions.specs.laws.Reader.{Part, first_is, belongs, begins, added, closed, marked, and_then, read_on}
 use Rattle.icu_locale_extensions.specs.Built.{with_attributes, with_private_use}
-use Rattle.icu_locale_extensions.specs.Reader.Part.{whole, attributes, keywords, private_use, nothing}
-use Rattle.icu_locale_extensions.specs.inner.Takes.{Reads, read_opened, IsEnd, takes_memory, IsKept}
+use Rattle.icu_locale_extensions.specs.laws.Reader.Part.{whole, attributes, keywords, private_use, nothing}
+use Rattle.icu_locale_extensions.specs.inner.Takes.{Reads, read_opened, IsEnd, is_kept_behind, IsKept}
 use Rattle.icu_locale_extensions.proofs.Steps.{taken}
 
 -- ---- pieces of a class
@@ -176,8 +177,8 @@ kept_variant [] some = absurd (cc some)
 kept_variant (p ∷ ps) some = by (is_variant p) refl some (kept_variant ps)
   where
     by : (b : Bool) → is_variant p ≡ b → (b || list_any is_variant ps) ≡ true → (list_any is_variant ps ≡ true → IsKept ps) → IsKept (p ∷ ps)
-    by true e some rest = or_left (takes_memory p) (list_any takes_memory ps) (or_left (is_variant p) (is_tkey p || (is_singleton p && not (is_t p))) e)
-    by false e some rest = or_right (takes_memory p) (list_any takes_memory ps) (rest some)
+    by true e some rest = or_left (is_kept_behind p) (list_any is_kept_behind ps) (or_left (is_kept p) (is_tkey p) (or_left (is_variant p) (is_singleton p && not (is_t p)) e))
+    by false e some rest = or_right (is_kept_behind p) (list_any is_kept_behind ps) (rest some)
 
 front_any : (m n : List ℕ → Bool) (ps : List (List ℕ)) → list_any n (front m ps) ≡ true → list_any n ps ≡ true
 front_any m n [] some = some
@@ -233,17 +234,16 @@ from_behind m (q ∷ own) ps some = by (is_singleton q) (from_behind m own ps so
 
 pub kept_behind : (p : List ℕ) (left all : List (List ℕ)) → IsEnd (p ∷ left) all → is_singleton p ≡ true → IsKept (p ∷ left) → IsKept (from is_singleton all)
 kept_behind p left all end single some =
-    subst (λ ps. IsKept (from is_singleton ps)) (sym end.parts) (from_behind takes_memory end.own (p ∷ left)
-    (subst (λ b. list_any takes_memory (if b then p ∷ left else from is_singleton left) ≡ true) (sym single) some))
+    subst (λ ps. IsKept (from is_singleton ps)) (sym end.parts) (from_behind is_kept_behind end.own (p ∷ left)
+    (subst (λ b. list_any is_kept_behind (if b then p ∷ left else from is_singleton left) ≡ true) (sym single) some))
 
 pub kept_after : (left all : List (List ℕ)) → IsEnd left all → IsKept (from is_singleton left) → IsKept (from is_singleton all)
-kept_after left all end some = subst (λ ps. IsKept (from is_singleton ps)) (sym end.parts) (from_behind takes_memory end.own left some)
+kept_after left all end some = subst (λ ps. IsKept (from is_singleton ps)) (sym end.parts) (from_behind is_kept_behind end.own left some)
 
 -- of a field that comes first
 pub kept_field : (ps : List (List ℕ)) → first_is is_tkey ps ≡ true → IsKept ps
 kept_field [] some = absurd (cc some)
-kept_field (p ∷ ps) some = or_left (takes_memory p) (list_any takes_memory ps) (or_right (is_variant p) (is_tkey p || (is_singleton p && not (is_t p)))
-    (or_left (is_tkey p) (is_singleton p && not (is_t p)) some))
+kept_field (p ∷ ps) some = or_left (is_kept_behind p) (list_any is_kept_behind ps) (or_right (is_kept p) (is_tkey p) some)
 
 -- of fields of which some were read
 pub fields_kept : (all ps : List (List ℕ)) (s : List ℕ) → (ps ≡ all) ⊎ (first_is is_tkey all ≡ true) → optional_subtag is_tkey lowercase ps ≡ Some s → first_is is_tkey all ≡ true

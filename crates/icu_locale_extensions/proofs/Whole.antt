@@ -14,30 +14,28 @@ use Rattle.icu_locale_core.specs.Cuts.{from}
 use Rattle.icu_locale_extensions.specs.Extensions.{is_singleton, is_t, is_tkey}
 use Rattle.icu_locale_extensions.specs.Grammar.{IsLocaleId}
 use Rattle.icu_locale_extensions.specs.Locales.{IsLocaleIdentifier}
-use Rattle.icu_locale_extensions.specs.Reader.{and_then, read, read_on}
-use Rattle.icu_locale_extensions.specs.Reader.Part.{whole}
-use Rattle.icu_locale_extensions.specs.Syntaxes.{ReadsBy, is_kept, takes_memory}
+use Rattle.icu_locale_extensions.specs.laws.Reader.{and_then, read, read_on, ReadsAs}
+use Rattle.icu_locale_extensions.specs.laws.Reader.Part.{whole}
+use Rattle.icu_locale_extensions.specs.Syntaxes.{is_kept, takes_memory}
 use Rattle.icu_locale_extensions.specs.declared.identifier.LocaleIdentifier.{LocaleIdentifier}
 use Rattle.icu_locale_extensions.specs.declared.syntax.Syntax.TheVariants.{Unicode}
-use Rattle.icu_locale_extensions.specs.inner.Takes.{ReadsBehind, IsKept}
-use Rattle.icu_locale_extensions.specs.inner.Takes as takes
+use Rattle.icu_locale_extensions.specs.inner.Takes.{ReadsBehind, IsKept, is_kept_behind}
 use Rattle.icu_locale_extensions.proofs.Refused.{language_told, language_refused}
 use Rattle.icu_locale_extensions.proofs.Taking.{any_from, end_front, kept_after, kept_front_variant}
 
 -- ---- memory
 
 -- what is kept is a variant, a singleton or the key of a field
-parted : (a b c : Bool) (x y z : Bool) → (x ≡ true → (y || z) ≡ true) → ((a || (b || c)) || x) ≡ true → (((a || c) || y) || (b || z)) ≡ true
-parted true b c x y z rest some = refl
-parted false b true x y z rest some = refl
-parted false true false x true z rest some = refl
-parted false true false x false z rest some = refl
-parted false false false x true z rest some = refl
-parted false false false x false z rest some = rest some
+parted : (a b : Bool) (x y z : Bool) → (x ≡ true → (y || z) ≡ true) → ((a || b) || x) ≡ true → ((a || y) || (b || z)) ≡ true
+parted true b x y z rest some = refl
+parted false true x true z rest some = refl
+parted false true x false z rest some = refl
+parted false false x true z rest some = refl
+parted false false x false z rest some = rest some
 
 kept_parts : (ps : List (List ℕ)) → IsKept ps → (list_any is_kept ps || list_any is_tkey ps) ≡ true
 kept_parts [] some = absurd (false≢true some)
-kept_parts (p ∷ ps) some = parted (is_variant p) (is_tkey p) (is_singleton p && not (is_t p)) (list_any takes.takes_memory ps)
+kept_parts (p ∷ ps) some = parted (is_kept p) (is_tkey p) (list_any is_kept_behind ps)
     (list_any is_kept ps) (list_any is_tkey ps) (kept_parts ps) some
 
 either : (a b c : Bool) → (a ≡ true → b ≡ true) → (a || c) ≡ true → (b || c) ≡ true
@@ -79,7 +77,7 @@ module _ (derived : (ps : List (List ℕ)) (x : LocaleIdentifier) → IsLocaleId
   found ps (Err e) is known = known
 
   reads : (t : List ℕ) (r : Result LocaleIdentifier ParseError) → (r ≡ Err Memory) ⊎ (r ≡ read (pieces t)) → IfOk r IsLocaleIdentifier
-      → (r ≡ Err Memory → starts_with_language t ≡ true) → (r ≡ Err Memory → takes_memory t ≡ true) → ReadsBy Unicode t r
+      → (r ≡ Err Memory → starts_with_language t ≡ true) → (r ≡ Err Memory → takes_memory t ≡ true) → ReadsAs Unicode t r
   reads t r is known begins memory = record {
     read = is;
     found = found (pieces t) r is known;
@@ -100,7 +98,7 @@ module _ (derived : (ps : List (List ℕ)) (x : LocaleIdentifier) → IsLocaleId
 
   -- the identifier was read
   pub behind_reads : (t : List ℕ) (ps left : List (List ℕ)) (l : LanguageIdentifier) (r : Result LocaleIdentifier ParseError) → ps ≡ pieces t
-      → read_front ps ≡ Ok l → left ≡ after_front ps → ReadsBehind left l r → ReadsBy Unicode t r
+      → read_front ps ≡ Ok l → left ≡ after_front ps → ReadsBehind left l r → ReadsAs Unicode t r
   behind_reads t ps left l r same front rest behind =
       let at : read_front (pieces t) ≡ Ok l = ap read_front (sym same) ∙ front in
       let left_is : left ≡ after_front (pieces t) = rest ∙ ap after_front same in
@@ -114,7 +112,7 @@ module _ (derived : (ps : List (List ℕ)) (x : LocaleIdentifier) → IsLocaleId
   pub front_refused : (t : List ℕ) (ps : List (List ℕ)) (f : Result LanguageIdentifier ParseError) (e : ParseError) (r : Result LocaleIdentifier ParseError)
       → ps ≡ pieces t → f ≡ Err e → r ≡ Err e → (f ≡ Err Memory) ⊎ (f ≡ read_front ps)
       → (f ≡ Err Memory → is_language (slice_index_or ps 0 []) ≡ true) → (f ≡ Err Memory → list_any is_variant (front_variants ps) ≡ true)
-      → ReadsBy Unicode t r
+      → ReadsAs Unicode t r
   front_refused t ps f e r same was is front begins memory =
       let handed = λ (m : r ≡ Err Memory). (let same : e ≡ Memory = cc (sym is ∙ m) in was ∙ ap Err same) in
       reads t r (elim front [

@@ -38,10 +38,10 @@ use Rattle.icu_locale_extensions.specs.Locales as locales
 use Rattle.icu_locale_extensions.specs.Built.{bare}
 use Rattle.icu_locale_extensions.specs.Rows.{flat, below_t, above_t}
 use Rattle.icu_locale_extensions.specs.declared.identifier.LocaleIdentifier.{LocaleIdentifier}
-use Rattle.icu_locale_extensions.specs.Reader.{Part, first_is, belongs, added, closed, marked, opened_unicode, opened_transform, and_then, read, read_on, with_read}
+use Rattle.icu_locale_extensions.specs.laws.Reader.{Part, first_is, belongs, added, closed, marked, opened_unicode, opened_transform, and_then, read, read_on, with_read}
 use Rattle.icu_locale_extensions.specs.Built.{with_private_use, with_attributes, with_keywords, with_fields, with_others}
 use Rattle.icu_locale_core.specs.Maps.{add_first}
-use Rattle.icu_locale_extensions.specs.Reader.Part.{whole, attributes, keywords, keyword, language, fields, field, other, private_use}
+use Rattle.icu_locale_extensions.specs.laws.Reader.Part.{whole, attributes, keywords, keyword, language, fields, field, other, private_use}
 use Rattle.icu_locale_extensions.specs.inner.Takes.{read_opened}
 use Rattle.icu_locale_extensions.proofs.Steps.{taken}
 use Rattle.icu_locale_extensions.proofs.Taking.{key_none}

@@ -4,8 +4,8 @@ pub mod ExtendedLanguages
 pub mod Extensions
 pub mod Grammar
 pub mod Locales
-pub mod Reader
 pub mod Rows
 pub mod Syntaxes
 pub mod Tags
 pub mod inner
+pub mod laws

@@ -1,6 +1,6 @@
 -- Texts of the world that name a locale: tags of BCP 47 (RFC 5646) and names of POSIX locales, by what each stands for
 -- in the strict grammar.
-use Rattle.std.specs.Prelude.{◌≡◌, ◌↔◌, ◌⊎◌, ℕ, Bool, false, not, ◌&&◌, ◌||◌, ◌==◌, IsTrue, List, [], ◌∷◌, ◌++◌, length, map, codes, Option, Some, None}
+use Rattle.std.specs.Prelude.{◌≡◌, ◌↔◌, ◌⊎◌, ℕ, Bool, true, false, not, ◌&&◌, ◌||◌, ◌==◌, IsTrue, List, [], ◌∷◌, ◌++◌, length, slice_index_or, map, codes, Option, Some, None}
 use Rattle.std.specs.Prelude.{unwrap_or, Result, Ok, Err, IfOk, if◌then◌else◌}
 use Rattle.std.specs.List.{before_first, after_first, list_any}
 use Rattle.std.specs.Option.{option_or}
@@ -11,14 +11,13 @@ use Rattle.icu_locale_core.specs.TextSet.{from_list, union}
 use Rattle.icu_locale_core.specs.laws.Identifiers.{same_text}
 use Rattle.icu_locale_core.specs.declared.langid.LanguageIdentifier.{LanguageIdentifier}
 use Rattle.icu_locale_core.specs.declared.parse_error.ParseError.{ParseError}
-use Rattle.icu_locale_core.specs.declared.parse_error.ParseError.TheVariants.{InvalidLanguage, Memory}
+use Rattle.icu_locale_core.specs.declared.parse_error.ParseError.TheVariants.{InvalidLanguage, InvalidSubtag, Memory}
 use Rattle.icu_locale_extensions.specs.Built.{with_id}
 use Rattle.icu_locale_core.specs.Cuts.{from}
 use Rattle.icu_locale_extensions.specs.ExtendedLanguages.{extended_languages}
 use Rattle.icu_locale_extensions.specs.Extensions.{is_singleton, is_t, is_tkey, is_x}
-use Rattle.icu_locale_extensions.specs.Grammar.{Spells}
+use Rattle.icu_locale_extensions.specs.Grammar.{IsLocaleId, Spells}
 use Rattle.icu_locale_extensions.specs.Locales.{IsLocaleIdentifier}
-use Rattle.icu_locale_extensions.specs.Reader.{and_then, read}
 use Rattle.icu_locale_extensions.specs.declared.identifier.LocaleIdentifier.{LocaleIdentifier}
 use Rattle.icu_locale_extensions.specs.declared.syntax.Syntax.{Syntax}
 use Rattle.icu_locale_extensions.specs.declared.syntax.Syntax.TheVariants.{Unicode, Bcp47, Posix}
@@ -169,21 +168,27 @@ SpellsBy Unicode t x = Spells t x
 SpellsBy Bcp47 t x = Spells (tag_text t) x
 SpellsBy Posix t x = SpellsPosix t x
 
--- what a text is read as, memory aside: what it spells, or why it spells nothing
-abbrev pub read_by : Syntax → List ℕ → Result LocaleIdentifier ParseError
-read_by Unicode t = read (pieces t)
-read_by Bcp47 t = read (pieces (tag_text t))
-read_by Posix t = and_then (read (pieces (base_text t))) (λ x. Ok (with_modifier (modifier_text t) x))
-
--- t is at fault for this reason; memory is none
-abbrev pub IsFaultBy : Syntax → List ℕ → ParseError → Type 0
-IsFaultBy s t e = read_by s t ≡ Err e
+-- the text of the strict grammar that t stands for, modifiers aside
+abbrev pub meant : Syntax → List ℕ → List ℕ
+meant Unicode t = t
+meant Bcp47 t = tag_text t
+meant Posix t = base_text t
 
 -- the first piece of what t stands for is a language
 abbrev pub starts_by : Syntax → List ℕ → Bool
-starts_by Unicode t = starts_with_language t
-starts_by Bcp47 t = starts_with_language (tag_text t)
-starts_by Posix t = starts_with_language (base_text t)
+starts_by s t = starts_with_language (meant s t)
+
+-- pieces are refused for this reason: the first is no language, or it is one and the grammar derives nothing of them;
+-- memory is none
+abbrev pub IsRefused : List (List ℕ) → ParseError → Type 0
+IsRefused ps InvalidLanguage = is_language (slice_index_or ps 0 []) ≡ false
+IsRefused ps InvalidSubtag =
+    (is_language (slice_index_or ps 0 []) ≡ true) × ((x : LocaleIdentifier) → ¬ (IsLocaleId ps x))
+IsRefused ps Memory = ⊥
+
+-- t is at fault for this reason
+abbrev pub IsFaultBy : Syntax → List ℕ → ParseError → Type 0
+IsFaultBy s t e = IsRefused (pieces (meant s t)) e
 
 -- ---- reading
 
@@ -202,15 +207,15 @@ takes_memory_by Unicode t = takes_memory t
 takes_memory_by Bcp47 t = takes_memory (tag_text t)
 takes_memory_by Posix t = takes_memory (base_text t) || names_valencia (modifier_text t)
 
+-- x was read, or memory was refused
+abbrev pub IsOkUnlessMemory : Result LocaleIdentifier ParseError → LocaleIdentifier → Type 0
+IsOkUnlessMemory r x = (r ≡ Ok x) ⊎ (r ≡ Err Memory)
+
 -- t is read as what it spells, or refused for its fault, or for memory, which is asked for what is kept in it alone, and
 -- never where its first piece is no language
 pub record ReadsBy (s : Syntax) (t : List ℕ) (result : Result LocaleIdentifier ParseError)
     : Type 0 where
-  pub read : (result ≡ Err Memory) ⊎ (result ≡ read_by s t)
   pub found : IfOk result (λ x. IsLocaleIdentifier x × SpellsBy s t x)
+  pub only : (x : LocaleIdentifier) → SpellsBy s t x → IsOkUnlessMemory result x
   pub language : (result ≡ Err InvalidLanguage) ↔ (starts_by s t ≡ false)
   pub memory : result ≡ Err Memory → IsTrue (takes_memory_by s t)
-
--- x was read, or memory was refused
-abbrev pub IsOkUnlessMemory : Result LocaleIdentifier ParseError → LocaleIdentifier → Type 0
-IsOkUnlessMemory r x = (r ≡ Ok x) ⊎ (r ≡ Err Memory)

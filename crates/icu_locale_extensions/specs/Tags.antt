@@ -1,11 +1,14 @@
 -- Tags of BCP 47 that are well-formed (RFC 5646, section 2.1), over the subtags of a text, each production with what it
 -- means: a constructor for each production, and before it the production. Legacy tags and private use alone are apart.
-use Rattle.std.specs.Prelude.{◌≡◌, ◌≤◌, ℕ, Bool, not, ◌&&◌, List, [], ◌∷◌, ◌++◌, length, Option, unwrap_or}
-use Rattle.icu_locale_core.specs.Subtag.{has_length, is_alphabetic, is_alphanumeric, is_region, is_script, is_variant, lowercase, titlecase, uppercase}
-use Rattle.icu_locale_core.specs.TextSet.{from_list}
+use Rattle.std.specs.Prelude.{◌≡◌, ◌≤◌, ℕ, Bool, true, not, ◌&&◌, ◌||◌, codes, filter, map, List, [], ◌∷◌, ◌++◌, length, Option, unwrap_or}
+use Rattle.icu_locale_core.specs.Subtag.{has_length, is_alphabetic, is_alphanumeric, is_language, is_region, is_script, is_variant, lowercase, titlecase, uppercase}
+use Rattle.icu_locale_core.specs.TextSet.{from_list, text_cmp}
+use Rattle.icu_locale_core.specs.Maps.{FindsAlike}
+use Rattle.icu_locale_core.specs.laws.Identifiers.{same_text}
 use Rattle.icu_locale_core.specs.Cuts.{Block}
 use Rattle.icu_locale_extensions.specs.Extensions.{is_piece, is_singleton, is_x}
-use Rattle.icu_locale_extensions.specs.Grammar.{One, AtMostOne, AnyNumber, AtLeastOne, IsPrivateUse}
+use Rattle.icu_locale_extensions.specs.Grammar.{One, AtMostOne, AnyNumber, AtLeastOne, IsPrivateUse, IsExtension, Meaning, are_different, singleton}
+use Rattle.icu_locale_extensions.specs.Syntaxes.{is_registered}
 use Rattle.icu_locale_extensions.specs.declared.identifier.LocaleIdentifier.{LocaleIdentifier}
 
 -- low to high letters
@@ -59,12 +62,38 @@ pub data IsLangtag : List (List ℕ) → Tag → Type 0 where
       → IsLangtag
       (language ++ (script ++ (region ++ (variants ++ (extensions ++ private_use))))) tag
 
--- pieces are a well-formed tag with the language, script, region, variants and private use of x
+-- the language that those of a tag name: its only one, or an extended one that is registered with the prefix before it
+-- (section 4.5)
+abbrev pub NamesLanguage : List (List ℕ) → List ℕ → Type 0
+NamesLanguage (l ∷ []) m = l ≡ m
+NamesLanguage (p ∷ l ∷ []) m = (is_registered p l ≡ true) × (l ≡ m)
+NamesLanguage ls m = ⊥
+
+-- an extension that UTS #35 gives no meaning: not that of `u` or `t`
+abbrev pub is_apart : Block → Bool
+is_apart row = not (same_text row.0 (codes "u") || same_text row.0 (codes "t"))
+
+-- pieces are a well-formed tag with the language, script, region, variants, private use and other extensions of x
 pub record IsTagOf (ps : List (List ℕ)) (x : LocaleIdentifier) : Type 0 where
   pub tag : Tag
   pub well_formed : IsLangtag ps tag
-  pub language : tag.language ≡ x.locale.id.language ∷ []
+  pub language : NamesLanguage tag.language x.locale.id.language
   pub script : tag.script ≡ x.locale.id.script
   pub region : tag.region ≡ x.locale.id.region
   pub variants : from_list tag.variants ≡ x.locale.id.variants
   pub private_use : tag.private_use ≡ x.private_use
+  pub others : FindsAlike text_cmp (filter is_apart tag.extensions) x.others
+
+-- pieces are a tag that can be read: its language has two or three letters, or is registered with a prefix that has; no
+-- variant and no singleton comes twice; what `u`, `t` and other singletons begin is by UTS #35
+pub data IsKnownTag : List (List ℕ) → Type 0 where
+  known : (language script region variants extensions private_use : List (List ℕ))
+      (ls : List (List ℕ)) (l : List ℕ) (s r : Option (List ℕ)) (vs : List (List ℕ))
+      (es : List Meaning) (o : Option (List (List ℕ)))
+      → IsTagLanguage language ls → NamesLanguage ls l → is_language l ≡ true
+      → AtMostOne (One is_script titlecase) script s
+      → AtMostOne (One is_region uppercase) region r
+      → AnyNumber (One is_variant lowercase) variants vs → are_different vs ≡ true
+      → AnyNumber IsExtension extensions es → are_different (map singleton es) ≡ true
+      → AtMostOne IsPrivateUse private_use o
+      → IsKnownTag (language ++ (script ++ (region ++ (variants ++ (extensions ++ private_use)))))

@@ -4,7 +4,7 @@ ghost use Rattle.icu_locale_core.specs.Identifier.{pieces, pieces_if_any};
 ghost use Rattle.icu_locale_core.specs.Subtag.{has_length, is_alphabetic, is_language, lowercase};
 ghost use Rattle.icu_locale_core.specs.laws.Identifiers.{same_text};
 ghost use Rattle.icu_locale_extensions.specs.Extensions.{is_singleton};
-ghost use Rattle.icu_locale_extensions.specs.Reader.{first_is};
+ghost use Rattle.icu_locale_extensions.specs.laws.Reader.{first_is, ReadsAs};
 ghost use Rattle.icu_locale_extensions.specs.Syntaxes.{has_row, is_extended, is_registered, is_root, tag_text, ReadsBy};
 ghost use Rattle.icu_locale_extensions.specs.inner.Lent.{und_before};
 ghost use Rattle.icu_locale_extensions.specs.inner.Tables.{rows_of};
@@ -36,12 +36,13 @@ impl LocaleIdentifier {
     pub fn try_from_bcp47(alloc: Global, text: &[u8]) -> Result<Self, ParseError>
         ensures { ReadsBy Syntax.Bcp47 text.now result }
     {
+        laws::reading_is_by_the_grammar();
         read_tag(alloc, text)
     }
 }
 
 fn read_tag(alloc: Global, text: &[u8]) -> Result<LocaleIdentifier, ParseError>
-    ensures { ReadsBy Syntax.Unicode (tag_text text.now) result }
+    ensures { ReadsAs Syntax.Unicode (tag_text text.now) result }
 {
     let (first, behind) = cut(text);
     if let Some(value) = preferred(first, behind) {
@@ -79,7 +80,7 @@ fn is_singleton(text: &[u8]) -> bool
 // `und`, alone or before what a singleton begins.
 fn read_root(alloc: Global, behind: Option<&[u8]>) -> Result<LocaleIdentifier, ParseError>
     requires { IfSome behind (λ rest. first_is is_singleton (pieces rest.now) ≡ true) }
-    ensures { ReadsBy Syntax.Unicode (und_before behind.entry) result }
+    ensures { ReadsAs Syntax.Unicode (und_before behind.entry) result }
 {
     match behind {
         Some(rest) => read_after_und(alloc, rest),
@@ -90,7 +91,7 @@ fn read_root(alloc: Global, behind: Option<&[u8]>) -> Result<LocaleIdentifier, P
 // What a singleton begins, after `und`.
 fn read_after_und(alloc: Global, text: &[u8]) -> Result<LocaleIdentifier, ParseError>
     requires { first_is is_singleton (pieces text.now) ≡ true }
-    ensures { ReadsBy Syntax.Unicode (codes "und-" ++ text.now) result }
+    ensures { ReadsAs Syntax.Unicode (codes "und-" ++ text.now) result }
 {
     laws::derived_is_read();
     let id = LanguageIdentifier::read_front(alloc, &mut Pieces::new(b"und"))?;

@@ -1,5 +1,5 @@
 //! Facts about locale identifiers. Each function here takes nothing, answers nothing and carries a proved fact.
-ghost use Rattle.std.specs.Prelude.{◌≡◌, ◌↔◌, false, List, ℕ, Result, Ok, Err};
+ghost use Rattle.std.specs.Prelude.{◌≡◌, ◌↔◌, false, List, ℕ, None, Result, Ok, Err};
 ghost use Rattle.std.specs.List.{list_any};
 ghost use Rattle.icu_locale_core.specs.Agreement.{TellsEquality};
 ghost use Rattle.icu_locale_core.specs.Identifier.{pieces, IsIdentifier, ReadsIdentifier};
@@ -11,9 +11,9 @@ ghost use Rattle.icu_locale_extensions.specs.Built.{as_locale, bare};
 ghost use Rattle.icu_locale_extensions.specs.Extensions.{is_singleton};
 ghost use Rattle.icu_locale_extensions.specs.Grammar.{IsLocaleId, Spells};
 ghost use Rattle.icu_locale_extensions.specs.Locales.{IsLocaleIdentifier, written};
-ghost use Rattle.icu_locale_extensions.specs.Reader.{read};
-ghost use Rattle.icu_locale_extensions.specs.Syntaxes.{IsFaultBy, IsOkUnlessMemory, ReadsBy, SpellsBy, read_by, starts_by};
-ghost use Rattle.icu_locale_extensions.specs.Tags.{IsTagOf};
+ghost use Rattle.icu_locale_extensions.specs.laws.Reader.{read, read_by, ReadsAs};
+ghost use Rattle.icu_locale_extensions.specs.Syntaxes.{IsFaultBy, IsRefused, IsOkUnlessMemory, ReadsBy, SpellsBy, is_private, is_root, preferred, starts_by};
+ghost use Rattle.icu_locale_extensions.specs.Tags.{IsKnownTag, IsTagOf};
 ghost use Rattle.icu_locale_extensions.specs.declared.identifier.LocaleIdentifier.{LocaleIdentifier};
 
 use crate::{Attributes, Fields, LocaleIdentifier, Others, Syntax};
@@ -31,6 +31,18 @@ pub fn derived_is_read()
 pub fn spelled_is_read()
     ensures { (s : Syntax) (t : List ℕ) (x : LocaleIdentifier)
         → SpellsBy s t x ↔ (read_by s t ≡ Ok x) }
+{
+    derived_is_read();
+}
+
+/// The reader reads what the grammar derives, and what is at fault it refuses for that reason.
+pub fn reading_is_by_the_grammar()
+    ensures reads { (s : Syntax) (t : List ℕ) (result : Result LocaleIdentifier ParseError)
+        → ReadsBy s t result ↔ ReadsAs s t result }
+    ensures faults { (s : Syntax) (t : List ℕ) (e : ParseError)
+        → IsFaultBy s t e ↔ (read_by s t ≡ Err e) }
+    ensures refusals { (ps : List (List ℕ)) (e : ParseError)
+        → IsRefused ps e ↔ (read ps ≡ Err e) }
 {
     derived_is_read();
 }
@@ -74,7 +86,6 @@ pub fn written_reads_back()
 {
     written_spells();
     strict_texts_read_alike();
-    spelled_is_read();
 }
 
 /// A text without singletons spells an identifier alone, and is read as one is, with the same refusals.
@@ -121,17 +132,30 @@ pub fn refusals_are_faults()
         → IsFaultBy s t ParseError.InvalidLanguage ↔ (starts_by s t ≡ false) }
     ensures memory { (s : Syntax) (t : List ℕ) → ¬ (IsFaultBy s t ParseError.Memory) }
 {
-    spelled_is_read();
+    derived_is_read();
 }
 
-/// What the grammar derives is a well-formed tag of RFC 5646, section 2.1, with the same parts; so is what Display writes.
+/// What the grammar derives is a well-formed tag of RFC 5646, section 2.1, with the same parts; so is what Display writes,
+/// and what is read as a tag, an extended language among its parts. Legacy tags, private use alone and `root` are none.
 pub fn texts_are_tags()
     ensures derived { (ps : List (List ℕ)) (x : LocaleIdentifier)
         → IsLocaleId ps x → IsTagOf ps x }
     ensures written { (x : LocaleIdentifier) → IsLocaleIdentifier x
         → IsTagOf (pieces (written x)) x }
+    ensures read { (t : List ℕ) (x : LocaleIdentifier) → preferred (pieces t) ≡ None
+        → is_private (pieces t) ≡ false → is_root (pieces t) ≡ false
+        → SpellsBy Syntax.Bcp47 t x → IsTagOf (pieces t) x }
 {
     written_spells();
+}
+
+/// A well-formed tag is read, legacy tags aside: its language has two or three letters or is registered with a prefix that
+/// has, nothing comes twice, and `u` and `t` are by UTS #35.
+pub fn known_tags_are_read()
+    ensures { (t : List ℕ) → preferred (pieces t) ≡ None → IsKnownTag (pieces t)
+        → (x : LocaleIdentifier) × SpellsBy Syntax.Bcp47 t x }
+{
+    strict_texts_read_alike();
 }
 
 /// `==` of locale identifiers and of their parts passes exactly where they are equal.

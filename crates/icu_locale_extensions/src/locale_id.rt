@@ -4,7 +4,7 @@ ghost use Rattle.icu_locale_extensions.specs.Grammar.{Spells};
 ghost use Rattle.icu_locale_extensions.specs.Syntaxes.{takes_memory};
 ghost use Rattle.icu_locale_extensions.specs.declared.identifier.LocaleIdentifier.{LocaleIdentifier};
 
-use crate::{LocaleIdentifier, laws};
+use crate::LocaleIdentifier;
 use icu_locale_core::ParseError;
 use std::alloc::{AllocError, Global};
 
@@ -18,7 +18,6 @@ pub fn is_locale_id(alloc: Global, text: &str) -> Result<bool, AllocError>
         (λ told. IsTrue told ↔ ((x : LocaleIdentifier) × Spells text.now x)) }
     ensures free { takes_memory text.now ≡ false → IsOk result }
 {
-    laws::spelled_is_read();
     match LocaleIdentifier::try_from_str(alloc, text) {
         Ok(_) => Ok(true),
         Err(ParseError::Memory) => Err(AllocError),

@@ -4,9 +4,11 @@ ghost use Rattle.std.specs.List.{before_first, position};
 ghost use Rattle.icu_locale_core.specs.Subtag.{IsScript};
 ghost use Rattle.icu_locale_core.specs.TextSet.{from_list, union};
 ghost use Rattle.icu_locale_core.specs.laws.Identifiers.{same_text};
+ghost use Rattle.icu_locale_extensions.specs.laws.Reader.{ReadsAs};
 ghost use Rattle.icu_locale_extensions.specs.Syntaxes.{base_text, ends_base, marks_modifier, modified, modifier_text, names_valencia, script_named, ReadsBy};
 
 use crate::identifier::LocaleIdentifier;
+use crate::laws;
 use crate::reader::read_locale;
 use crate::syntax::Syntax;
 use icu_locale_core::{LanguageIdentifier, ParseError, Script, Variant, Variants};
@@ -29,11 +31,18 @@ impl LocaleIdentifier {
     pub fn try_from_posix(alloc: Global, text: &[u8]) -> Result<Self, ParseError>
         ensures { ReadsBy Syntax.Posix text.now result }
     {
-        let mut whole = read_locale(alloc, base(text))?;
-        modify(alloc, &mut whole.locale.id, modifier(text))?;
-        whole.known();
-        Ok(whole)
+        laws::reading_is_by_the_grammar();
+        read_name(alloc, text)
     }
+}
+
+fn read_name(alloc: Global, text: &[u8]) -> Result<LocaleIdentifier, ParseError>
+    ensures { ReadsAs Syntax.Posix text.now result }
+{
+    let mut whole = read_locale(alloc, base(text))?;
+    modify(alloc, &mut whole.locale.id, modifier(text))?;
+    whole.known();
+    Ok(whole)
 }
 
 // What is before the codeset and the modifier: of the locale of the standard and of `root` what each stands for.

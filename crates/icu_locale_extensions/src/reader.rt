@@ -8,8 +8,8 @@ ghost use Rattle.icu_locale_core.specs.Subtag.{lowercase, is_variant};
 ghost use Rattle.icu_locale_extensions.specs.Built.{bare};
 ghost use Rattle.icu_locale_extensions.specs.Extensions.{is_singleton, is_tkey, is_other_singleton};
 ghost use Rattle.icu_locale_extensions.specs.Locales.{IsLocaleIdentifier};
-ghost use Rattle.icu_locale_extensions.specs.Reader.{has_unicode, has_transform, opened_unicode, opened_transform, opened_other, marked, read_on, begins, first_is};
-ghost use Rattle.icu_locale_extensions.specs.Reader.Part.{whole, attributes, keywords, language, fields, private_use};
+ghost use Rattle.icu_locale_extensions.specs.laws.Reader.{has_unicode, has_transform, opened_unicode, opened_transform, opened_other, marked, read_on, begins, first_is, ReadsAs};
+ghost use Rattle.icu_locale_extensions.specs.laws.Reader.Part.{whole, attributes, keywords, language, fields, private_use};
 ghost use Rattle.icu_locale_extensions.specs.Syntaxes.{ReadsBy};
 ghost use Rattle.icu_locale_extensions.specs.inner.Takes.{Reads, ReadsBehind, read_opened, IsEnd, IsKept};
 
@@ -48,13 +48,14 @@ impl LocaleIdentifier {
     pub fn try_from_utf8(alloc: Global, text: &[u8]) -> Result<Self, ParseError>
         ensures { ReadsBy Syntax.Unicode text.now result }
     {
+        laws::reading_is_by_the_grammar();
         read_locale(alloc, text)
     }
 }
 
 // The identifier, and what follows it.
 pub fn read_locale(alloc: Global, text: &[u8]) -> Result<LocaleIdentifier, ParseError>
-    ensures { ReadsBy Syntax.Unicode text.now result }
+    ensures { ReadsAs Syntax.Unicode text.now result }
 {
     laws::derived_is_read();
     icu_locale_core::laws::pieces_are_read();

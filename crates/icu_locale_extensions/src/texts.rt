@@ -74,7 +74,26 @@ impl<const LOW: usize> Subtags<LOW> {
     ///
     /// - `InvalidSubtag` exactly where there is none.
     /// - `Memory` where the text could not grow.
+    ///
+    /// The pieces are as they were then.
     pub fn read_front(alloc: Global, pieces: &mut Pieces<'_>) -> Result<Self, ParseError>
+        ensures read { IfOk result
+            (λ ps. ps ≡ map lowercase (front (other_than (is_piece LOW)) pieces.old)) }
+        ensures rest { OnOk result (pieces.new ≡ from (other_than (is_piece LOW)) pieces.old) }
+        ensures some { IsOk result
+            → any_piece (front (other_than (is_piece LOW)) pieces.old) ≡ true }
+        ensures refused { result ≡ Err ParseError.InvalidSubtag
+            → any_piece (front (other_than (is_piece LOW)) pieces.old) ≡ false }
+        ensures language { ¬ (result ≡ Err ParseError.InvalidLanguage) }
+        ensures unchanged { OnErr result (pieces.new ≡ pieces.old) }
+    {
+        let mut rest = pieces.duplicate();
+        let read = Subtags::take_front(alloc, &mut rest)?;
+        *pieces = rest;
+        Ok(read)
+    }
+
+    fn take_front(alloc: Global, pieces: &mut Pieces<'_>) -> Result<Self, ParseError>
         ensures read { IfOk result
             (λ ps. ps ≡ map lowercase (front (other_than (is_piece LOW)) pieces.old)) }
         ensures rest { OnOk result (pieces.new ≡ from (other_than (is_piece LOW)) pieces.old) }

@@ -9,7 +9,7 @@ use Rattle.std.proofs.lemmas.Slice.Eq.{bytes_eq-Decides}
 use Rattle.icu_locale_core.specs.Subtag.{und}
 use Rattle.icu_locale_core.specs.declared.langid.LanguageIdentifier.{LanguageIdentifier}
 use Rattle.icu_locale_core.specs.laws.Identifiers.{same_parts, identifiers_decide}
-use Rattle.icu_locale_runs.specs.Run.{EndsAt}
+use Rattle.icu_locale_runs.specs.Run.{BecomesEnd, EndsAt}
 use Rattle.icu_locale.specs.Kinds.{next}
 use Rattle.icu_locale.specs.Refusals.{IsMemory}
 use Rattle.icu_locale.specs.LikelySubtags.{LikelySubtags, Triple, known_subtag, unknown_script, unknown_region, bare_locale, keys, first_found}
@@ -24,7 +24,6 @@ use Rattle.icu_locale.specs.declared.expander.TransformResult.TheVariants.{Modif
 use Rattle.icu_provider.specs.declared.data_locale.DataLocale.{DataLocale}
 use Rattle.icu_locale_core.specs.Maps.{IsSortedMap}
 use Rattle.icu_locale_core.specs.TextSet.{text_cmp}
-use Rattle.icu_locale.specs.Canonical.{IsCanonicalTransform}
 use Rattle.icu_locale_runs.specs.laws.LaterEnds.{alone}
 use Rattle.icu_locale_values.specs.Aliases.{next_field, next_whole}
 use Rattle.icu_locale_extensions.specs.Built.{bare, with_id}
@@ -159,19 +158,19 @@ only_memory likely rules x none (NoSubdivisionFixedPoint v) why = absurd why
 pub refusal_of_bare : (by : WholeRules) (x : LanguageIdentifier) (e : CanonicalizeError) → IsKeyRefusal by.likely by.rules x e
     → IsWholeKeyRefusal by (bare x) (of_identifier e)
 refusal_of_bare by x Memory why = tt
-refusal_of_bare by x (NoFixedPoint z) why = inl (λ key. tt, (λ key. tt, inl why))
+refusal_of_bare by x (NoFixedPoint z) why = inl (λ key. tt, inr (record { keywords = λ key. tt; transform = tt }, inl why))
 refusal_of_bare by x (NoSubdivisionFixedPoint v) why = absurd why
 
 -- and so is what is refused of its canonical form
-pub refusal_of_canonical : (by : WholeRules) (x : LocaleIdentifier) (e : CanonicalizeError) (c : LocaleIdentifier) → AreMaps c → IsWhole by x c
+pub refusal_of_canonical : (by : WholeRules) (x : LocaleIdentifier) (e : CanonicalizeError) (c : LocaleIdentifier) → IsWhole by x c
     → IsStableKeyRefusal RegionFirst by.likely by.rules c.locale.id e → IsWholeKeyRefusal by x (of_identifier e)
-refusal_of_canonical by x Memory c maps whole why = tt
-refusal_of_canonical by x (NoFixedPoint z) c maps whole why = inr (record { canonical = c; maps = maps; whole = whole; reason = why })
-refusal_of_canonical by x (NoSubdivisionFixedPoint v) c maps whole why = absurd why
+refusal_of_canonical by x Memory c whole why = tt
+refusal_of_canonical by x (NoFixedPoint z) c whole why = inr (record { canonical = c; whole = whole; reason = why })
+refusal_of_canonical by x (NoSubdivisionFixedPoint v) c whole why = absurd why
 
 -- ---- an identifier alone
 
-pub bare_maps : (x : LanguageIdentifier) → AreMaps (bare x)
+bare_maps : (x : LanguageIdentifier) → AreMaps (bare x)
 unfolding IsStrictlySortedBy
 bare_maps x = record { keywords = tt; fields = tt }
 
@@ -182,13 +181,13 @@ bare_whole by x c ends = record {
   attributes = refl;
   others = refl;
   private_use = refl;
+  maps = bare_maps c;
 }
 
 pub bare_key : (by : WholeRules) (x c k : LanguageIdentifier) → EndsAt (next by.likely by.rules) x c
     → IsStableKey RegionFirst by.likely by.rules c k → IsWholeKey by (bare x) (bare k)
 bare_key by x c k ends stays = record {
   canonical = bare c;
-  maps = bare_maps c;
   whole = bare_whole by x c ends;
   key = k;
   stays = stays;
@@ -209,19 +208,20 @@ module _ (by : WholeRules) (x : LocaleIdentifier) (none : HasNoValues x) where
   own_whole last = record {
     locale = record {
       id = alone (next by.likely by.rules) x.locale.id last;
-      transform = subst (λ o. IsCanonicalTransform by.rules o o) (sym none.transform) refl;
+      transform = subst (λ o. BecomesEnd (next by.likely by.rules) o o) (sym none.transform) refl;
       keywords = subst (λ rows. BecomeEnds (next_whole by.rules by.keywords) rows rows) (sym none.keywords) (λ key. refl);
     };
     fields = subst (λ rows. BecomeEnds (next_field by.fields) rows rows) (sym none.fields) (λ key. refl);
     attributes = refl;
     others = refl;
     private_use = refl;
+    maps = own_maps;
   }
 
   whole_key_at_once : (k : LanguageIdentifier) → next by.likely by.rules x.locale.id ≡ None
       → IsStableKey RegionFirst by.likely by.rules x.locale.id k → IsWholeKey by x (with_id x k)
   whole_key_at_once k last stays =
-      record { canonical = x; maps = own_maps; whole = own_whole last; key = k; stays = stays; is = refl }
+      record { canonical = x; whole = own_whole last; key = k; stays = stays; is = refl }
 
   pub if_whole_at_once : {X : Type 0} (k : LanguageIdentifier) (told : Option X) → OnSome told (next by.likely by.rules x.locale.id ≡ None)
       → OnSome told (IsStableKey RegionFirst by.likely by.rules x.locale.id k) → OnSome told (IsWholeKey by x (with_id x k))

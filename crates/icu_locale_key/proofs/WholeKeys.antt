@@ -10,7 +10,7 @@ use Rattle.icu_locale.specs.declared.expander.Favor.TheVariants.{RegionFirst}
 use Rattle.icu_locale_extensions.specs.Built.{with_id}
 use Rattle.icu_locale_extensions.specs.declared.identifier.LocaleIdentifier.{LocaleIdentifier}
 use Rattle.icu_locale_values.specs.Refusals.{IsWholeRefusal, IsMemory}
-use Rattle.icu_locale_values.specs.Whole.{WholeRules, IsWhole, AreMaps}
+use Rattle.icu_locale_values.specs.Whole.{WholeRules, IsWhole}
 use Rattle.icu_locale_values.specs.declared.error.WholeError.{WholeError}
 use Rattle.icu_locale_values.specs.declared.error.WholeError.TheVariants.{Memory, NoFixedPoint, NoSubdivisionFixedPoint, NoValueFixedPoint, NoFieldFixedPoint}
 use Rattle.icu_locale_key.specs.Keys.{IsKey}
@@ -23,7 +23,7 @@ use Rattle.icu_locale_key.proofs.Unsettled as unsettled
 
 -- the facts of canonical forms and of minimal forms that are cited
 pub record Facts : Type 0 where
-  pub one : (by : WholeRules) (old new other : LocaleIdentifier) → AreMaps new → AreMaps other → IsWhole by old new → IsWhole by old other → new ≡ other
+  pub one : (by : WholeRules) (old new other : LocaleIdentifier) → IsWhole by old new → IsWhole by old other → new ≡ other
   pub stays : (by : WholeRules) (old new : LocaleIdentifier) → IsWhole by old new → IsWhole by new new
   pub none : (by : WholeRules) (old new : LocaleIdentifier) (e : WholeError) → IsWhole by old new → IsWholeRefusal by old e → IsMemory e
   pub once : (by : WholeRules) (old : LocaleIdentifier) (e f : WholeError) → IsWholeRefusal by old e → IsWholeRefusal by old f → ¬ (IsMemory e)
@@ -44,7 +44,7 @@ module _ (facts : Facts) (by : WholeRules) where
 
   pub whole_key_one : (x k l : LocaleIdentifier) → IsWholeKey by x k → IsWholeKey by x l → k ≡ l
   whole_key_one x k l a b =
-      let same : a.canonical ≡ b.canonical = facts.one by x a.canonical b.canonical a.maps b.maps a.whole b.whole in
+      let same : a.canonical ≡ b.canonical = facts.one by x a.canonical b.canonical a.whole b.whole in
       let stays = subst (λ (c : LocaleIdentifier). IsStableKey RegionFirst by.likely by.rules c.locale.id a.key) same a.stays in
       let key = stable_is_one by.likely by.rules (facts.form by.likely) b.canonical.locale.id a.key b.key stays b.stays in
       a.is ∙ (λ i. with_id (same i) (key i)) ∙ sym b.is
@@ -52,7 +52,7 @@ module _ (facts : Facts) (by : WholeRules) where
   -- a key and a reason why there is none are never of one locale identifier
   keyless : (x k : LocaleIdentifier) (z : LanguageIdentifier) → IsWholeKey by x k → HasNoKey by x z → ⊥
   keyless x k z a b =
-      let same : b.canonical ≡ a.canonical = facts.one by x b.canonical a.canonical b.maps a.maps b.whole a.whole in
+      let same : b.canonical ≡ a.canonical = facts.one by x b.canonical a.canonical b.whole a.whole in
       let form = facts.form by.likely in
       unsettled.no_reason by.likely by.rules form a.canonical.locale.id a.key z (ends_stable by.likely by.rules form a.canonical.locale.id a.key a.stays)
       (subst (λ (c : LocaleIdentifier). Reason c.locale.id z) same b.reason)
@@ -83,7 +83,7 @@ module _ (facts : Facts) (by : WholeRules) where
   same_reason x e f (inr (z, is, none)) (inl other) no_e no_f = absurd (no_f (facts.none by x none.canonical f none.whole other))
   same_reason x e f (inr (y, is, none)) (inr (z, also, other)) no_e no_f =
       let same : none.canonical ≡ other.canonical =
-      facts.one by x none.canonical other.canonical none.maps other.maps none.whole other.whole in
+      facts.one by x none.canonical other.canonical none.whole other.whole in
       let reason = subst (λ (c : LocaleIdentifier). Reason c.locale.id y) same none.reason in
       is ∙ ap NoFixedPoint (unsettled.one_reason by.likely by.rules (facts.form by.likely) other.canonical.locale.id y z reason other.reason) ∙ sym also
 
@@ -100,6 +100,7 @@ module _ (facts : Facts) (by : WholeRules) where
     attributes = refl;
     others = refl;
     private_use = refl;
+    maps = record { keywords = stays.maps.keywords; fields = stays.maps.fields };
   }
 
   pub whole_key_own : (x k : LocaleIdentifier) → IsWholeKey by x k → IsWholeKey by k k
@@ -107,19 +108,18 @@ module _ (facts : Facts) (by : WholeRules) where
       let own = a.stays.own in
       subst (λ w. IsWholeKey by w w) (sym a.is) (record {
         canonical = with_id a.canonical own.canonical;
-        maps = record { keywords = a.maps.keywords; fields = a.maps.fields };
         whole = with_end a.canonical a.key own (facts.stays by x a.canonical a.whole);
         key = a.key;
         stays = own_of_end by.likely by.rules a.key own;
         is = refl;
       })
 
-  pub whole_keys_equal : (x y c d k l : LocaleIdentifier) → AreMaps c → AreMaps d → IsWhole by x c → IsWhole by y d → with_id d c.locale.id ≡ c
+  pub whole_keys_equal : (x y c d k l : LocaleIdentifier) → IsWhole by x c → IsWhole by y d → with_id d c.locale.id ≡ c
       → maximal by.likely c.locale.id ≡ maximal by.likely d.locale.id → IsWholeKey by x k → IsWholeKey by y l → k ≡ l
-  whole_keys_equal x y c d k l maps_c maps_d whole_c whole_d alike same a b =
+  whole_keys_equal x y c d k l whole_c whole_d alike same a b =
       let form = facts.form by.likely in
-      let here : a.canonical ≡ c = facts.one by x a.canonical c a.maps maps_c a.whole whole_c in
-      let there : b.canonical ≡ d = facts.one by y b.canonical d b.maps maps_d b.whole whole_d in
+      let here : a.canonical ≡ c = facts.one by x a.canonical c a.whole whole_c in
+      let there : b.canonical ≡ d = facts.one by y b.canonical d b.whole whole_d in
       let stays_c = subst (λ (w : LocaleIdentifier). IsStableKey RegionFirst by.likely by.rules w.locale.id a.key) here a.stays in
       let stays_d = subst (λ (w : LocaleIdentifier). IsStableKey RegionFirst by.likely by.rules w.locale.id b.key) there b.stays in
       let least = form c.locale.id in

@@ -6,7 +6,7 @@ use Rattle.icu_locale.specs.declared.expander.Favor.TheVariants.{RegionFirst}
 use Rattle.icu_locale_extensions.specs.Built.{with_id}
 use Rattle.icu_locale_extensions.specs.declared.identifier.LocaleIdentifier.{LocaleIdentifier}
 use Rattle.icu_locale_values.specs.Refusals.{IsWholeRefusal}
-use Rattle.icu_locale_values.specs.Whole.{WholeRules, IsWhole, AreMaps}
+use Rattle.icu_locale_values.specs.Whole.{WholeRules, IsWhole}
 use Rattle.icu_locale_values.specs.declared.error.WholeError.{WholeError}
 use Rattle.icu_locale_values.specs.declared.error.WholeError.TheVariants.{NoFixedPoint}
 use Rattle.icu_locale_key.specs.Stable.{IsStableKey, IsStuck, ComesRound}
@@ -14,7 +14,6 @@ use Rattle.icu_locale_key.specs.Stable.{IsStableKey, IsStuck, ComesRound}
 -- k is the key of x: the whole canonical form of x, with the key that stays in place of its identifier
 pub record IsWholeKey (by : WholeRules) (x k : LocaleIdentifier) : Type 0 where
   pub canonical : LocaleIdentifier
-  pub maps : AreMaps canonical
   pub whole : IsWhole by x canonical
   pub key : LanguageIdentifier
   pub stays : IsStableKey RegionFirst by.likely by.rules canonical.locale.id key
@@ -23,7 +22,6 @@ pub record IsWholeKey (by : WholeRules) (x k : LocaleIdentifier) : Type 0 where
 -- x has a whole canonical form, and its identifier has no key that stays: z comes again first
 pub record HasNoKey (by : WholeRules) (x : LocaleIdentifier) (z : LanguageIdentifier) : Type 0 where
   pub canonical : LocaleIdentifier
-  pub maps : AreMaps canonical
   pub whole : IsWhole by x canonical
   pub reason : IsStuck RegionFirst by.likely by.rules canonical.locale.id z
       ⊎ ComesRound RegionFirst by.likely by.rules canonical.locale.id z

@@ -18,7 +18,7 @@ ghost use Rattle.icu_locale_key.specs.Whole.{IsWholeKey, IsWholeKeyRefusal};
 ghost use Rattle.icu_locale_extensions.specs.Built.{with_id};
 ghost use Rattle.icu_locale_extensions.specs.declared.identifier.LocaleIdentifier.{LocaleIdentifier};
 ghost use Rattle.icu_locale_values.specs.Refusals.{IsMemory};
-ghost use Rattle.icu_locale_values.specs.Whole.{WholeRules, IsWhole, AreMaps};
+ghost use Rattle.icu_locale_values.specs.Whole.{WholeRules, IsWhole};
 ghost use Rattle.icu_locale_values.specs.declared.error.WholeError.{WholeError};
 
 /// Minimal forms are canonical where less is asked than that maximal forms are settled: that maximizing them again changes
@@ -216,7 +216,7 @@ pub fn whole_key_is_one()
         → ¬ (IsMemory f) → e ≡ f }
     ensures own { (by : WholeRules) (x k : LocaleIdentifier) → IsWholeKey by x k
         → IsWholeKey by k k }
-    ensures equal { (by : WholeRules) (x y c d k l : LocaleIdentifier) → AreMaps c → AreMaps d
+    ensures equal { (by : WholeRules) (x y c d k l : LocaleIdentifier)
         → IsWhole by x c → IsWhole by y d → with_id d c.locale.id ≡ c
         → maximal by.likely c.locale.id ≡ maximal by.likely d.locale.id
         → IsWholeKey by x k → IsWholeKey by y l → k ≡ l }
@@ -226,4 +226,20 @@ pub fn whole_key_is_one()
     icu_locale_values::laws::whole_form_stays();
     icu_locale_values::laws::whole_where_runs_end();
     icu_locale_values::laws::a_refusal_is_one();
+}
+
+/// Locale identifiers with one key have whole canonical forms that differ by their identifiers alone, and these identifiers
+/// mean the same, where the classes of the canonical forms on the way have members. So an index that is unique by keys takes
+/// none for another.
+pub fn whole_keys_mean_the_same()
+    ensures forms { (by : WholeRules) (x y c d k : LocaleIdentifier) → IsWhole by x c
+        → IsWhole by y d → IsWholeKey by x k → IsWholeKey by y k → with_id d c.locale.id ≡ c }
+    ensures identifiers { (by : WholeRules) (x y c d k : LocaleIdentifier) → IsWhole by x c
+        → IsWhole by y d → IsWholeKey by x k → IsWholeKey by y k
+        → KeysHaveClasses RegionFirst by.likely by.rules c.locale.id
+        → KeysHaveClasses RegionFirst by.likely by.rules d.locale.id
+        → MeanTheSame by.likely by.rules c.locale.id d.locale.id }
+{
+    icu_locale_values::laws::whole_form_is_one();
+    stable_keys_mean_the_same();
 }

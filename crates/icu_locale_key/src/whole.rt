@@ -7,7 +7,7 @@ ghost use Rattle.icu_locale_extensions.specs.declared.identifier.LocaleIdentifie
 ghost use Rattle.icu_locale_key.specs.Whole.{IsWholeKey, IsWholeKeyRefusal};
 ghost use Rattle.icu_locale_key.specs.inner.AtOnce.{HasNoValues, of_identifier};
 ghost use Rattle.icu_locale_values.specs.Refusals.{IsOutOfMemory};
-ghost use Rattle.icu_locale_values.specs.Whole.{whole_rules, AreMaps};
+ghost use Rattle.icu_locale_values.specs.Whole.{whole_rules};
 
 use crate::at_once::{bring_at_once, bring_canonical_to_stable_key};
 use crate::keys::canonical_copy;
@@ -105,7 +105,6 @@ fn key_of_whole(
     if let Err(refusal) = canonicalizer.canonicalize(&mut key) {
         return Err(refusal);
     }
-    know_maps(&key);
     match bring_canonical_to_stable_key(&canonicalizer.rules, &mut key.locale.id) {
         Ok(()) => Ok(key),
         Err(refusal) => Err(of_rules(refusal)),
@@ -205,12 +204,4 @@ fn of_rules(refusal: CanonicalizeError) -> WholeError
         CanonicalizeError::NoFixedPoint(first) => WholeError::NoFixedPoint(first),
         _ => WholeError::Memory,
     }
-}
-
-// The keywords and the fields of a locale identifier are maps.
-fn know_maps(locale: &LocaleIdentifier)
-    ensures { AreMaps locale.now }
-{
-    locale.locale.extensions.unicode.keywords.known();
-    locale.fields.known();
 }

@@ -21,7 +21,7 @@ use Rattle.icu_locale.specs.Canonical.{IsCanonical, answer_of, is_applied, put_o
 use Rattle.icu_locale.specs.Kinds.{next}
 use Rattle.icu_locale_runs.specs.Run.{EndsAt}
 use Rattle.icu_locale_parts.specs.Parts.{identifier_parts, identifier_parts_text, parts_text, tabbed}
-use Rattle.icu_locale_values.specs.Refusals.{IsWholeRefusal}
+use Rattle.icu_locale_values.specs.Refusals.{FirstRunsEnd, IsWholeRefusal}
 use Rattle.icu_locale_values.specs.Whole.{WholeRules, IsWhole, AreMaps, whole_rules}
 use Rattle.icu_locale_values.specs.declared.error.WholeError.{WholeError}
 use Rattle.icu_locale_values.specs.declared.error.WholeError.TheVariants.{Memory, NoFixedPoint, NoSubdivisionFixedPoint, NoValueFixedPoint, NoFieldFixedPoint}
@@ -80,6 +80,10 @@ module _ (table : LikelySubtags) (rules : Rules) (x : LanguageIdentifier) (new :
       let lang : new.extensions.transform.lang ≡ None = canonical.transform in
       λ i. record { id = new.id; extensions = record { unicode = record { keywords = keywords i }; transform = record { lang = lang i } } }
 
+bare_maps : (z : LanguageIdentifier) → AreMaps (bare z)
+unfolding IsStrictlySortedBy
+bare_maps z = record { keywords = tt; fields = tt }
+
 -- the bare locale identifier of the end of a run is the whole canonical form of a bare one
 module _ (by : WholeRules) (x z : LanguageIdentifier) (ends : EndsAt (next by.likely by.rules) x z) where
   whole_bare : IsWhole by (bare x) (bare z)
@@ -89,6 +93,7 @@ module _ (by : WholeRules) (x z : LanguageIdentifier) (ends : EndsAt (next by.li
     attributes = refl;
     others = refl;
     private_use = refl;
+    maps = bare_maps z;
   }
 
   canonical_bare : IsCanonical by.likely by.rules (without_extensions x) (without_extensions z)
@@ -98,40 +103,40 @@ module _ (by : WholeRules) (x z : LanguageIdentifier) (ends : EndsAt (next by.li
     keywords = record { region_override = None; subdivision = None; region_override_end = refl; subdivision_end = refl; whole = refl };
   }
 
-bare_maps : (z : LanguageIdentifier) → AreMaps (bare z)
-unfolding IsStrictlySortedBy
-bare_maps z = record { keywords = tt; fields = tt }
-
 -- the forms of a locale identifier are one
 abbrev pub HasOneForm : Type 0
-HasOneForm = (by : WholeRules) (old new other : LocaleIdentifier) → AreMaps new → AreMaps other → IsWhole by old new → IsWhole by old other → new ≡ other
+HasOneForm = (by : WholeRules) (old new other : LocaleIdentifier) → IsWhole by old new → IsWhole by old other → new ≡ other
 
 module _ (one : HasOneForm) (by : WholeRules) (x : LanguageIdentifier) (text : List ℕ) (a : Bool) where
   to_canonical : IsWholeCanonicalized by (bare x) text a → IsCanonicalized by.likely by.rules (without_extensions x) text a
   to_canonical (inl h) =
       let z = h.0.locale.id in
-      let ends = h.2.locale.id in
-      let same = one by (bare x) h.0 (bare z) h.1 (bare_maps z) h.2 (whole_bare by x z ends) in
+      let ends = h.1.locale.id in
+      let same = one by (bare x) h.0 (bare z) h.1 (whole_bare by x z ends) in
       let m = answer_of (is_applied by.likely by.rules (without_extensions x)) in
-      inl (without_extensions z, canonical_bare by x z ends, h.3.0 ∙ ap (λ w. whole_line w m) same ∙ line_bare z m, h.3.1)
+      inl (without_extensions z, canonical_bare by x z ends, h.2.0 ∙ ap (λ w. whole_line w m) same ∙ line_bare z m, h.2.1)
   to_canonical (inr h) = refused h.0 h.1 h.2
     where
       refused : (e : WholeError) → IsWholeRefusal by (bare x) e → TellsWholeRefusal e text a
           → IsCanonicalized by.likely by.rules (without_extensions x) text a
       refused Memory why tells = absurd tells
-      refused (NoFixedPoint z) why tells = inr (inl (z, why.1.1, tells.0, tells.1))
+      refused (NoFixedPoint z) (all, inl (ended, repeats)) tells = absurd repeats
+      refused (NoFixedPoint z) (all, inr (ended, again)) tells = inr (inl (z, again, tells.0, tells.1))
       refused (NoSubdivisionFixedPoint v) why tells = inr (inr (v, why.1.1, tells.0, tells.1))
       refused (NoValueFixedPoint key v) why tells = absurd why.1.repeats
       refused (NoFieldFixedPoint key v) why tells = absurd why.repeats
+
+  first_runs : FirstRunsEnd by (without_extensions x)
+  first_runs = record { keywords = λ key. tt; transform = tt }
 
   from_canonical : IsCanonicalized by.likely by.rules (without_extensions x) text a → IsWholeCanonicalized by (bare x) text a
   from_canonical (inl h) =
       let z = h.0.id in
       let m = answer_of (is_applied by.likely by.rules (without_extensions x)) in
       let plain = ap (λ l. canonical_line l m) (no_extensions by.likely by.rules x h.0 h.1) in
-      inl (bare z, bare_maps z, whole_bare by x z h.1.id, (h.2 ∙ plain ∙ sym (line_bare z m), h.3))
-  from_canonical (inr (inl h)) = inr (NoFixedPoint h.0, (λ key. tt, (λ key. tt, h.1)), (h.2, h.3))
-  from_canonical (inr (inr h)) = inr (NoSubdivisionFixedPoint h.0, (λ key. tt, (λ key. tt, h.1)), (h.2, h.3))
+      inl (bare z, whole_bare by x z h.1.id, (h.2 ∙ plain ∙ sym (line_bare z m), h.3))
+  from_canonical (inr (inl h)) = inr (NoFixedPoint h.0, (λ key. tt, inr (first_runs, h.1)), (h.2, h.3))
+  from_canonical (inr (inr h)) = inr (NoSubdivisionFixedPoint h.0, (λ key. tt, (first_runs, h.1)), (h.2, h.3))
 
 -- the key of an identifier alone is that of its bare locale identifier
 pub keyed_alike : (of : KeyOf) (by : WholeRules) (x : LanguageIdentifier) {text : List ℕ} {a : Bool}

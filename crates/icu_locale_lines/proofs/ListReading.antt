@@ -1,17 +1,19 @@
 -- How a line of identifiers is read, text by text.
-use Rattle.std.proofs.Common.{◌≡◌, ◌⊎◌, ℕ, ◌<◌, Bool, true, false, ◌==◌, List, [], ◌∷◌, ◌++◌, length, get_or, take, drop, Option, Result, Err, inl}
+use Rattle.std.proofs.Common.{◌≡◌, ◌⊎◌, ℕ, ◌<◌, Bool, true, false, ◌==◌, List, [], ◌∷◌, ◌++◌, length, get_or, take, drop, Option, Result, Ok, Err, IfErr, inl}
 use Rattle.std.proofs.Common.{inr, refl, ap, sym, subst, ◌∙◌, arith, map, zero, suc, None, Some}
 use Rattle.std.specs.Borrow.{Bor}
 use Rattle.std.proofs.lemmas.Bool.{false≢true}
 use Rattle.std.proofs.lemmas.List.{map-append}
 use Rattle.std.specs.List.{AllZip, slice_split}
-use Rattle.icu_locale_core.specs.Identifier.{ReadsIdentifier, starts_with_language}
+use Rattle.icu_locale_core.specs.Identifier.{ReadsIdentifier, pieces, starts_with_language}
 use Rattle.icu_locale_core.specs.declared.langid.LanguageIdentifier.{LanguageIdentifier}
 use Rattle.icu_locale_core.specs.declared.parse_error.ParseError.{ParseError}
 use Rattle.icu_locale_core.specs.declared.parse_error.ParseError.TheVariants.{InvalidLanguage, InvalidSubtag, Memory}
-use Rattle.icu_locale_extensions.specs.Syntaxes.{ReadsBy, IsFaultBy}
+use Rattle.icu_locale_extensions.specs.Grammar.{IsLocaleId}
+use Rattle.icu_locale_extensions.specs.Syntaxes.{ReadsBy, SpellsBy, IsFaultBy, meant, modifier_text, starts_by, with_modifier}
 use Rattle.icu_locale_extensions.specs.declared.identifier.LocaleIdentifier.{LocaleIdentifier}
 use Rattle.icu_locale_extensions.specs.declared.syntax.Syntax.{Syntax}
+use Rattle.icu_locale_extensions.specs.declared.syntax.Syntax.TheVariants.{Unicode, Bcp47, Posix}
 use Rattle.icu_locale_lines.specs.Lists.{is_space, listed, ids_of, IsAvailable, SpellsAll, SpellsIn, SpellsWanted, IsFault, IsFaultAt, IsFaultIn, IsFirstFault, TellsFault}
 
 -- one more at the end of both lists
@@ -59,7 +61,27 @@ refusal_from_reading t Memory reads = inl refl
 
 -- the same of a locale identifier
 pub fault_from_reading : (syntax : Syntax) (t : List ℕ) (e : ParseError) → ReadsBy syntax t (Err e) → (e ≡ Memory) ⊎ IsFaultBy syntax t e
-fault_from_reading syntax t e reads = elim reads.read [ inl memory ↦ inl (cc memory) | inr same ↦ inr (sym same) ]
+fault_from_reading syntax t InvalidLanguage reads = inr (reads.language.0 refl)
+fault_from_reading syntax t InvalidSubtag reads = inr (by (starts_by syntax t) refl, λ x derived. none (spelled syntax x derived))
+  where
+    by : (b : Bool) → starts_by syntax t ≡ b → starts_by syntax t ≡ true
+    by true is = is
+    by false is = absurd (cc (reads.language.1 is))
+
+    spelled : (s : Syntax) (x : LocaleIdentifier) → IsLocaleId (pieces (meant s t)) x → (y : LocaleIdentifier) × SpellsBy s t y
+    spelled Unicode x derived = (x, derived)
+    spelled Bcp47 x derived = (x, derived)
+    spelled Posix x derived = (with_modifier (modifier_text t) x, record { base = x; spells = derived; changed = refl })
+
+    none : (y : LocaleIdentifier) × SpellsBy syntax t y → ⊥
+    none (y, spells) = elim (reads.only y spells) [ inl read ↦ cc read | inr memory ↦ cc memory ]
+fault_from_reading syntax t Memory reads = inl refl
+
+-- the same of what reading gives
+pub if_fault_from_reading : (syntax : Syntax) (t : List ℕ) (r : Result LocaleIdentifier ParseError) → ReadsBy syntax t r
+    → IfErr r (λ e. (e ≡ Memory) ⊎ IsFaultBy syntax t e)
+if_fault_from_reading syntax t (Ok x) reads = tt
+if_fault_from_reading syntax t (Err e) reads = fault_from_reading syntax t e reads
 
 -- as many identifiers as texts
 spelled_length : (syntax : Option Syntax) (texts : List (List ℕ)) (xs : List LanguageIdentifier) → SpellsAll syntax texts xs → length texts ≡ length xs

@@ -32,7 +32,7 @@ use Rattle.icu_provider.specs.declared.matching.LanguageMatching.{LanguageMatchi
 use Rattle.icu_locale.specs.Canonical.{answer_of}
 use Rattle.icu_locale_values.specs.Refusals.{IsWholeRefusal, whole_error_name}
 use Rattle.icu_locale_values.specs.Refusals as values
-use Rattle.icu_locale_values.specs.Whole.{WholeRules, IsWhole, AreMaps, is_whole_applied, whole_rules}
+use Rattle.icu_locale_values.specs.Whole.{WholeRules, IsWhole, is_whole_applied, whole_rules}
 use Rattle.icu_locale_values.specs.declared.error.WholeError.{WholeError}
 use Rattle.icu_locale_values.specs.declared.error.WholeError.TheVariants as whole_error
 use Rattle.icu_locale_key.specs.Whole.{IsWholeKey, IsWholeKeyRefusal}
@@ -104,7 +104,7 @@ pub record CanonicalFacts (likely : LikelySubtags) (rules : Rules) : Type 0 wher
 
 -- the facts of whole canonical forms that are cited
 pub record WholeFacts : Type 0 where
-  pub one : (by : WholeRules) (old new other : LocaleIdentifier) → AreMaps new → AreMaps other → IsWhole by old new → IsWhole by old other → new ≡ other
+  pub one : (by : WholeRules) (old new other : LocaleIdentifier) → IsWhole by old new → IsWhole by old other → new ≡ other
   pub none : (by : WholeRules) (old new : LocaleIdentifier) (e : WholeError) → IsWhole by old new → IsWholeRefusal by old e → values.IsMemory e
   pub once : (by : WholeRules) (old : LocaleIdentifier) (e f : WholeError) → IsWholeRefusal by old e → IsWholeRefusal by old f
       → ¬ (values.IsMemory e) → ¬ (values.IsMemory f) → e ≡ f
@@ -136,10 +136,10 @@ module _ (facts : WholeFacts) (by : WholeRules) (x : LocaleIdentifier) (one two 
   module _ (IsLine : LocaleIdentifier → List ℕ → Bool → Type 0)
       (line_one : (new : LocaleIdentifier) → IsLine new one a → IsLine new two b → SameAnswer one two a b) where
     canonical_then_one : IsCanonicalThen IsLine by x one a → IsCanonicalThen IsLine by x two b → SameAnswer one two a b
-    canonical_then_one (inl (new, maps, is, line)) (inl (other, maps', is', line')) =
-        line_one new line (subst (λ form. IsLine form two b) (sym (facts.one by x new other maps maps' is is')) line')
-    canonical_then_one (inl (new, maps, is, line)) (inr (e, why, tells)) = absurd (no_line e two b tells (facts.none by x new e is why))
-    canonical_then_one (inr (e, why, tells)) (inl (new, maps, is, line)) = absurd (no_line e one a tells (facts.none by x new e is why))
+    canonical_then_one (inl (new, is, line)) (inl (other, is', line')) =
+        line_one new line (subst (λ form. IsLine form two b) (sym (facts.one by x new other is is')) line')
+    canonical_then_one (inl (new, is, line)) (inr (e, why, tells)) = absurd (no_line e two b tells (facts.none by x new e is why))
+    canonical_then_one (inr (e, why, tells)) (inl (new, is, line)) = absurd (no_line e one a tells (facts.none by x new e is why))
     canonical_then_one (inr h) (inr k) =
         let e = facts.once by x h.0 k.0 h.1 k.1 (no_line h.0 one a h.2) (no_line k.0 two b k.2) in
         let first = told h.0 one a h.2 in

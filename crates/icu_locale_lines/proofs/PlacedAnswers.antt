@@ -1,32 +1,28 @@
 -- Answers with places: a line has one.
-use Rattle.std.proofs.Common.{◌≡◌, ℕ, Bool, true, false, List, Option, None, Some, Result, Ok, Err, refl, sym, ap, ◌∙◌, subst}
-use Rattle.std.specs.Prelude.{is_ok}
+use Rattle.std.proofs.Common.{◌≡◌, ℕ, Bool, true, false, List, Option, None, Some, refl, sym, ap, ◌∙◌, subst}
 use Rattle.std.proofs.lemmas.Bool.{false≢true}
-use Rattle.icu_locale_core.specs.declared.parse_error.ParseError.{ParseError}
-use Rattle.icu_locale_extensions.specs.declared.identifier.LocaleIdentifier.{LocaleIdentifier}
+use Rattle.icu_locale_extensions.specs.Syntaxes.{IsFaultBy}
 use Rattle.icu_locale_places.specs.Places.{IsWrongAt}
 use Rattle.icu_locale_extensions.specs.declared.syntax.Syntax.{Syntax}
+use Rattle.icu_locale_extensions.specs.declared.syntax.Syntax.TheVariants.{Unicode}
 use Rattle.icu_locale_lines.specs.Answers.{IsAnswerAt, IsAnswerBy, IsPlaceOf, IsTold, told}
+use Rattle.icu_locale_lines.specs.Lists.{SpellsWhole}
 use Rattle.icu_locale_lines.specs.declared.work.Tools.{Tools}
 use Rattle.icu_locale_lines.specs.declared.work.places.Place.{Place}
-
--- the reason of a refusal
-abbrev reason : ParseError → Result LocaleIdentifier ParseError → ParseError
-reason e (Ok x) = e
-reason e (Err f) = f
+use Rattle.icu_locale_lines.proofs.Readings.{ReadsOnce}
 
 same_place : (p q : Place) → p.refusal ≡ q.refusal → p.from ≡ q.from → p.to ≡ q.to → Some p ≡ Some q
 same_place p q refusal from to = λ i. Some (record { refusal = refusal i; from = from i; to = to i })
 
 -- a line has one place
-module _ (line : List ℕ) (one : (from to from' to' : ℕ) → IsWrongAt line from to → IsWrongAt line from' to' → (from ≡ from') × (to ≡ to')) where
+module _ (line : List ℕ) (once : ReadsOnce (SpellsWhole Unicode) (IsFaultBy Unicode)) (one : (from to from' to' : ℕ) → IsWrongAt line from to → IsWrongAt line from' to' → (from ≡ from') × (to ≡ to')) where
   place_one : (p q : Option Place) → IsPlaceOf line p → IsPlaceOf line q → p ≡ q
   place_one None None h k = refl
-  place_one None (Some q) h k = absurd (false≢true (sym (ap is_ok k.0) ∙ h))
-  place_one (Some p) None h k = absurd (false≢true (sym (ap is_ok h.0) ∙ k))
+  place_one None (Some q) h k = absurd (once.apart line h.0 q.refusal h.1 k.0)
+  place_one (Some p) None h k = absurd (once.apart line k.0 p.refusal k.1 h.0)
   place_one (Some p) (Some q) h k =
       let span = one p.from p.to q.from q.to h.1 k.1 in
-      same_place p q (ap (reason p.refusal) (sym h.0 ∙ k.0)) span.0 span.1
+      same_place p q (once.fault line p.refusal q.refusal h.0 k.0) span.0 span.1
 
   told_one : (plain other : List ℕ) (a b : Bool) → plain ≡ other → a ≡ b → (one two : List ℕ) → IsTold line plain a one → IsTold line other b two → one ≡ two
   told_one plain other true true same accepted one two h k = h ∙ same ∙ sym k

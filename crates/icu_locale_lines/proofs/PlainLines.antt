@@ -8,7 +8,7 @@ use Rattle.icu_locale_core.specs.declared.langid.LanguageIdentifier.{LanguageIde
 use Rattle.icu_locale_core.specs.declared.parse_error.ParseError.{ParseError}
 use Rattle.icu_locale_core.specs.declared.parse_error.ParseError.TheVariants.{InvalidLanguage, InvalidSubtag, Memory}
 use Rattle.icu_locale_extensions.specs.Built.{bare}
-use Rattle.icu_locale_extensions.specs.Syntaxes.{IsFaultBy, read_by}
+use Rattle.icu_locale_extensions.specs.Syntaxes.{IsFaultBy}
 use Rattle.icu_locale_extensions.specs.declared.identifier.LocaleIdentifier.{LocaleIdentifier}
 use Rattle.icu_locale_extensions.specs.declared.syntax.Syntax.{Syntax}
 use Rattle.icu_locale_extensions.specs.declared.syntax.Syntax.TheVariants.{Unicode}
@@ -46,27 +46,12 @@ module _ (facts : SyntaxFacts) (t : List ℕ) (plain : has_singleton t ≡ false
   from_whole : (w : LocaleIdentifier) → SpellsWhole Unicode t w → SpellsIn None t w.locale.id
   from_whole w whole = (facts.plain t w plain whole.1).0
 
-  begins : (e : ParseError) → IsFaultBy Unicode t e → ¬ (e ≡ InvalidLanguage) → (b : Bool) → starts_with_language t ≡ b → b ≡ true
-  begins e why other true is = refl
-  begins e why other false is = absurd (other (cc (sym why ∙ (facts.language Unicode t).1 is)))
-
-  refused : (r : Result LocaleIdentifier ParseError) → read_by Unicode t ≡ r → starts_with_language t ≡ true
-      → ((x : LanguageIdentifier) → IsIdentifier x → ¬ (core.Spells t x)) → r ≡ Err InvalidSubtag
-  refused (Ok w) is begun none =
-      let spelled = (facts.plain t w plain ((facts.spelling.read Unicode t w).1 is)).0 in absurd (none w.locale.id spelled.0 spelled.1)
-  refused (Err InvalidSubtag) is begun none = refl
-  refused (Err InvalidLanguage) is begun none = absurd (false≢true (sym ((facts.language Unicode t).0 is) ∙ begun))
-  refused (Err Memory) is begun none = absurd (facts.memory Unicode t is)
-
   -- and is refused alike
   fault_alike : (e : ParseError) → IsFaultBy Unicode t e ↔ IsFault t e
   fault_alike InvalidLanguage = facts.language Unicode t
   fault_alike InvalidSubtag = (
-    λ why. (
-      begins InvalidSubtag why (λ same. cc same) (starts_with_language t) refl,
-      λ x is s. cc (sym why ∙ (facts.spelling.read Unicode t (bare x)).0 (facts.alike Unicode t x is s)),
-    ),
-    λ why. refused (read_by Unicode t) refl why.0 why.1,
+    λ why. (why.0, λ x is s. why.1 (bare x) (facts.alike Unicode t x is s)),
+    λ why. (why.0, λ w spells. (let spelled = (facts.plain t w plain spells).0 in why.1 w.locale.id spelled.0 spelled.1)),
   )
   fault_alike Memory = (facts.memory Unicode t, λ why. absurd why)
 

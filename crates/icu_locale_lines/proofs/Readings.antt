@@ -1,5 +1,5 @@
 -- A line is read as one thing at most, and a line that is read is not refused.
-use Rattle.std.proofs.Common.{◌≡◌, ◌↔◌, ◌⊎◌, ℕ, Bool, true, false, ◌&&◌, List, [], ◌∷◌, ◌++◌, map, Option, Some, None, Ok, refl, ap, sym, subst, ◌∙◌}
+use Rattle.std.proofs.Common.{◌≡◌, ◌↔◌, ◌⊎◌, ℕ, Bool, true, false, ◌&&◌, List, [], ◌∷◌, ◌++◌, map, Option, Some, None, Ok, Err, refl, ap, sym, subst, ◌∙◌}
 use Rattle.std.proofs.Common.{inl, inr, arith}
 use Rattle.std.specs.Prelude.{slice_index_or, nat_le}
 use Rattle.std.specs.List.{AllZip, list_all}
@@ -13,7 +13,8 @@ use Rattle.icu_locale_core.specs.declared.langid.LanguageIdentifier.{LanguageIde
 use Rattle.icu_locale_core.specs.declared.locale.Locale.{Locale}
 use Rattle.icu_locale_core.specs.declared.parse_error.ParseError.{ParseError}
 use Rattle.icu_locale_core.specs.declared.parse_error.ParseError.TheVariants.{InvalidLanguage, InvalidSubtag, Memory}
-use Rattle.icu_locale_extensions.specs.Syntaxes.{SpellsBy, IsFaultBy, read_by}
+use Rattle.icu_locale_extensions.specs.Syntaxes.{SpellsBy, IsFaultBy}
+use Rattle.icu_locale_extensions.specs.laws.Reader.{read_by}
 use Rattle.icu_locale_extensions.specs.declared.identifier.LocaleIdentifier.{LocaleIdentifier}
 use Rattle.icu_locale_extensions.specs.declared.syntax.Syntax.{Syntax}
 use Rattle.icu_locale_extensions.specs.Built.{bare}
@@ -172,6 +173,7 @@ not_refused t x Memory spells fault = fault
 pub record SpellingFacts : Type 0 where
   pub alone : (t : List ℕ) (x y : LanguageIdentifier) → IsIdentifier x → IsIdentifier y → Spells t x → Spells t y → x ≡ y
   pub read : (s : Syntax) (t : List ℕ) (x : LocaleIdentifier) → SpellsBy s t x ↔ (read_by s t ≡ Ok x)
+  pub faults : (s : Syntax) (t : List ℕ) (e : ParseError) → IsFaultBy s t e ↔ (read_by s t ≡ Err e)
 
 module _ (facts : SpellingFacts) where
   pub alone_once : ReadsOnce (SpellsIn None) IsFault
@@ -184,8 +186,8 @@ module _ (facts : SpellingFacts) where
   pub whole_once : (s : Syntax) → ReadsOnce (SpellsWhole s) (IsFaultBy s)
   whole_once s = record {
     one = λ t x y p q. cc (sym ((facts.read s t x).0 p.1) ∙ (facts.read s t y).0 q.1);
-    apart = λ t x e p fault. cc (sym ((facts.read s t x).0 p.1) ∙ fault);
-    fault = λ t e f p q. cc (sym p ∙ q);
+    apart = λ t x e p fault. cc (sym ((facts.read s t x).0 p.1) ∙ (facts.faults s t e).0 fault);
+    fault = λ t e f p q. cc (sym ((facts.faults s t e).0 p) ∙ (facts.faults s t f).0 q);
   }
 
   -- an identifier, alone or in a syntax

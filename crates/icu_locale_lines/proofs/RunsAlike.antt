@@ -19,7 +19,7 @@ use Rattle.icu_locale.specs.declared.expander.Favor.{Favor}
 use Rattle.icu_locale_key.specs.Keys.{IsKey}
 use Rattle.icu_locale_key.specs.Stable.{ComesRound, IsStableKey, IsStuck, Leads}
 use Rattle.icu_locale_matching.specs.Header.{Wish}
-use Rattle.icu_locale_matching.specs.Requests.{AreAsked, AreCanonical, AreRefusals, AreRequests, IsBrought, IsCanonicalOf, IsOnly, IsRefusal, IsRequest}
+use Rattle.icu_locale_matching.specs.Requests.{AreAsked, AreCanonical, AreRefusals, AreRequests, Asks, IsBrought, IsCanonicalOf, IsOnly, IsRefusal, IsRequest}
 use Rattle.icu_locale_runs.specs.Run.{BecomesEnd, EndsAt, EndsIfAny, IsLaterEndOf, IsRepeat}
 use Rattle.icu_tables.specs.Rows.{seen_rows}
 use Rattle.icu_locale_lines.proofs.RulesRead.{SameRules}
@@ -160,14 +160,13 @@ module _ (table : LikelySubtags) (r s : Rules) (same : TurnAlike table r s) wher
   form_alike x y (ends, is) = (ends, brought_alike x y ends is)
 
   pub forms_alike : (xs ys : List LanguageIdentifier) → AreCanonical table r xs ys → AreCanonical table s xs ys
-  forms_alike [] ys h = h
-  forms_alike (x ∷ xs) ys (y, rest, of, more, is) = (y, rest, form_alike x y of, forms_alike xs rest more, is)
+  forms_alike [] [] h = h
+  forms_alike [] (y ∷ ys) h = absurd h
+  forms_alike (x ∷ xs) [] h = absurd h
+  forms_alike (x ∷ xs) (y ∷ ys) (of, more) = (form_alike x y of, forms_alike xs ys more)
 
-  request_alike : (range : List ℕ) (y : LanguageIdentifier) → IsRequest table r range y → IsRequest table s range y
-  request_alike range y h = record { tag = h.tag; known = h.known; spells = h.spells; canonical = ends_alike table r s same h.tag.locale.id y h.canonical }
-
-  refusal_alike : (range : List ℕ) (y : LanguageIdentifier) → IsRefusal table r range y → IsRefusal table s range y
-  refusal_alike range y h =
+  asks_alike : (bare_alone : Bool) (range : List ℕ) (y : LanguageIdentifier) → Asks bare_alone table r range y → Asks bare_alone table s range y
+  asks_alike bare_alone range y h =
       record { tag = h.tag; known = h.known; spells = h.spells; plain = h.plain; canonical = form_alike h.tag.locale.id y h.canonical }
 
 module _ (P Q : List ℕ → LanguageIdentifier → Type 0) (forth : (range : List ℕ) (y : LanguageIdentifier) → P range y → Q range y)
@@ -182,10 +181,10 @@ module _ (P Q : List ℕ → LanguageIdentifier → Type 0) (forth : (range : Li
 
 module _ (table : LikelySubtags) (r s : Rules) (same : TurnAlike table r s) (ws : List Wish) (ys : List LanguageIdentifier) where
   pub requests_alike : AreRequests table r ws ys → AreRequests table s ws ys
-  requests_alike = asked_alike (IsRequest table r) (IsRequest table s) (request_alike table r s same) (request_alike table s r (turned table r s same)) ws ys
+  requests_alike = asked_alike (IsRequest table r) (IsRequest table s) (asks_alike table r s same false) (asks_alike table s r (turned table r s same) false) ws ys
 
   pub refusals_alike : AreRefusals table r ws ys → AreRefusals table s ws ys
-  refusals_alike = asked_alike (IsRefusal table r) (IsRefusal table s) (refusal_alike table r s same) (refusal_alike table s r (turned table r s same)) ws ys
+  refusals_alike = asked_alike (IsRefusal table r) (IsRefusal table s) (asks_alike table r s same true) (asks_alike table s r (turned table r s same) true) ws ys
 
 -- ---- keys
 

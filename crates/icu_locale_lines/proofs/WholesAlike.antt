@@ -1,6 +1,6 @@
 -- Rules that make the same turns give the same lines.
 use Rattle.std.proofs.Common.{◌≡◌, ◌⊎◌, ℕ, Bool, true, List, Option, ap, subst, ◌∙◌, inl, inr, ◌||◌}
-use Rattle.std.specs.Prelude.{if◌then◌else◌}
+use Rattle.std.specs.Prelude.{if◌then◌else◌, is_some, IsSomeAnd, option_and_then}
 use Rattle.icu_locale_core.specs.declared.langid.LanguageIdentifier.{LanguageIdentifier}
 use Rattle.icu_locale_core.specs.declared.locale.Locale.{Locale}
 use Rattle.icu_locale.specs.Canonical.{answer_of}
@@ -10,10 +10,10 @@ use Rattle.icu_locale.specs.declared.expander.Favor.TheVariants.{RegionFirst}
 use Rattle.icu_locale_extensions.specs.declared.identifier.LocaleIdentifier.{LocaleIdentifier}
 use Rattle.icu_locale_key.specs.Stable.{ComesRound, IsStuck}
 use Rattle.icu_locale_key.specs.Whole.{IsWholeKey, IsWholeKeyRefusal}
-use Rattle.icu_locale_runs.specs.Run.{BecomesEnd}
+use Rattle.icu_locale_runs.specs.Run.{BecomesEnd, EndsIfAny, IsRepeat}
 use Rattle.icu_locale_values.specs.Aliases.{AliasTable, is_ruled, next_field, next_keyword}
-use Rattle.icu_locale_values.specs.Refusals.{IsWholeRefusal}
-use Rattle.icu_locale_values.specs.Whole.{BecomeEnds, IsWhole, WholeRules, is_any_followed, is_whole_applied}
+use Rattle.icu_locale_values.specs.Refusals.{FirstRunsEnd, IsWholeRefusal}
+use Rattle.icu_locale_values.specs.Whole.{BecomeEnds, IsWhole, WholeRules, is_any_followed, is_whole_applied, without_language}
 use Rattle.icu_locale_values.specs.declared.error.WholeError.{WholeError}
 use Rattle.icu_locale_values.specs.declared.error.WholeError.TheVariants as whole_error
 use Rattle.icu_locale_lines.specs.Answers.{IsCanonicalized}
@@ -32,7 +32,7 @@ module _ (table : LikelySubtags) (r s : Rules) (same : TurnAlike table r s) (key
   whole_alike x y h = record {
     locale = record {
       id = ends_alike table r s same x.locale.id y.locale.id h.locale.id;
-      transform = subst (λ f. BecomesEnd f x.locale.extensions.transform.lang y.locale.extensions.transform.lang) same.alias h.locale.transform;
+      transform = subst (λ f. BecomesEnd f x.locale.extensions.transform.lang y.locale.extensions.transform.lang) same.turn h.locale.transform;
       keywords = subst (λ (f : List (List ℕ) → Option (List (List ℕ))). BecomeEnds (λ key v. if is_ruled key then f v else next_field keywords key v)
           x.locale.extensions.unicode.keywords y.locale.extensions.unicode.keywords) same.value h.locale.keywords;
     };
@@ -40,18 +40,30 @@ module _ (table : LikelySubtags) (r s : Rules) (same : TurnAlike table r s) (key
     attributes = h.attributes;
     others = h.others;
     private_use = h.private_use;
+    maps = h.maps;
+  }
+
+  first_alike : (x : Locale) → FirstRunsEnd before x → FirstRunsEnd after x
+  first_alike x h = record {
+    keywords = h.keywords;
+    transform = subst (λ f. EndsIfAny f x.extensions.transform.lang) same.turn h.transform;
   }
 
   refused_alike : (x : LocaleIdentifier) (e : WholeError) → IsWholeRefusal before x e → IsWholeRefusal after x e
   refused_alike x whole_error.Memory h = h
-  refused_alike x (whole_error.NoFixedPoint z) (a, (b, again)) = (a, (b, again_alike table r s same x.locale z again))
-  refused_alike x (whole_error.NoSubdivisionFixedPoint v) (a, (b, again)) = (a, (b, value_again_alike table r s same x.locale v again))
+  refused_alike x (whole_error.NoFixedPoint z) (a, inl (b, again)) =
+      (a, inl (b, subst (λ f. IsSomeAnd x.locale.extensions.transform.lang (λ l. IsRepeat f l z)) same.turn again))
+  refused_alike x (whole_error.NoFixedPoint z) (a, inr (b, again)) =
+      (a, inr (first_alike x.locale b, again_alike table r s same (without_language x.locale) z again))
+  refused_alike x (whole_error.NoSubdivisionFixedPoint v) (a, (b, again)) =
+      (a, (first_alike x.locale b, value_again_alike table r s same (without_language x.locale) v again))
   refused_alike x (whole_error.NoValueFixedPoint key v) h = h
   refused_alike x (whole_error.NoFieldFixedPoint key v) h = h
 
   whole_applied_alike : (x : LocaleIdentifier) → is_whole_applied before x ≡ is_whole_applied after x
-  whole_applied_alike x = ap (λ b. is_any_followed (next_field fields) x.fields
-      || (is_any_followed (next_keyword keywords) x.locale.extensions.unicode.keywords || b)) (applied_alike table r s same x.locale)
+  whole_applied_alike x = λ i. is_any_followed (next_field fields) x.fields
+      || (is_any_followed (next_keyword keywords) x.locale.extensions.unicode.keywords
+      || (is_some (option_and_then (same.turn i) x.locale.extensions.transform.lang) || applied_alike table r s same (without_language x.locale) i))
 
   -- ---- lines
 
@@ -64,7 +76,7 @@ module _ (table : LikelySubtags) (r s : Rules) (same : TurnAlike table r s) (key
 
     pub then_alike : (L M : LocaleIdentifier → List ℕ → Bool → Type 0) → ((new : LocaleIdentifier) → L new text a → M new text a) → (x : LocaleIdentifier)
         → IsCanonicalThen L before x text a → IsCanonicalThen M after x text a
-    then_alike L M moved x (inl (new, maps, is, line)) = inl (new, maps, whole_alike x new is, moved new line)
+    then_alike L M moved x (inl (new, is, line)) = inl (new, whole_alike x new is, moved new line)
     then_alike L M moved x (inr (e, why, tells)) = inr (e, refused_alike x e why, tells)
 
     pub whole_line_alike : (x : LocaleIdentifier) → IsWholeCanonicalized before x text a → IsWholeCanonicalized after x text a
@@ -75,7 +87,6 @@ module _ (table : LikelySubtags) (r s : Rules) (same : TurnAlike table r s) (key
   whole_key_alike : (x k : LocaleIdentifier) → IsWholeKey before x k → IsWholeKey after x k
   whole_key_alike x k h = record {
     canonical = h.canonical;
-    maps = h.maps;
     whole = whole_alike x h.canonical h.whole;
     key = h.key;
     stays = stable_alike RegionFirst table r s same h.canonical.locale.id h.key h.stays;
@@ -92,7 +103,6 @@ module _ (table : LikelySubtags) (r s : Rules) (same : TurnAlike table r s) (key
   no_key_alike x (whole_error.NoFixedPoint z) (inl h) = inl (refused_alike x (whole_error.NoFixedPoint z) h)
   no_key_alike x (whole_error.NoFixedPoint z) (inr h) = inr (record {
     canonical = h.canonical;
-    maps = h.maps;
     whole = whole_alike x h.canonical h.whole;
     reason = reason_alike h.canonical.locale.id z h.reason;
   })

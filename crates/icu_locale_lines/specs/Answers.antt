@@ -1,5 +1,5 @@
 -- What is written for each line that is read.
-use Rattle.std.specs.Prelude.{◌≡◌, ◌≢◌, ◌↔◌, ◌⊎◌, ℕ, Bool, true, false, List, ◌++◌, take, length, codes, Option, None, Some, Err, is_ok, MatchOption}
+use Rattle.std.specs.Prelude.{◌≡◌, ◌≢◌, ◌↔◌, ◌⊎◌, ℕ, Bool, true, false, List, ◌++◌, take, length, codes, Option, None, Some, MatchOption}
 use Rattle.std.specs.List.{list_any, position}
 use Rattle.icu_locale_core.specs.Identifier.{IsIdentifier, Spells, parse_error_name, pieces, written}
 use Rattle.icu_locale_core.specs.declared.langid.LanguageIdentifier.{LanguageIdentifier}
@@ -42,10 +42,10 @@ use Rattle.icu_locale_lines.specs.declared.work.places.Place.{Place}
 use Rattle.icu_locale_extensions.specs.Built.{bare}
 use Rattle.icu_locale_extensions.specs.Extensions.{is_singleton}
 use Rattle.icu_locale_extensions.specs.Locales as extended
-use Rattle.icu_locale_extensions.specs.Reader.{read}
 use Rattle.icu_locale_extensions.specs.Syntaxes.{IsFaultBy}
 use Rattle.icu_locale_extensions.specs.declared.identifier.LocaleIdentifier.{LocaleIdentifier}
 use Rattle.icu_locale_extensions.specs.declared.syntax.Syntax.{Syntax}
+use Rattle.icu_locale_extensions.specs.declared.syntax.Syntax.TheVariants.{Unicode}
 use Rattle.icu_locale_parts.specs.Parts.{identifier_parts_text, parts_text}
 use Rattle.icu_locale_places.specs.Places.{IsWrongAt}
 
@@ -225,9 +225,9 @@ IsAnswerBy syntax (tools.Subtags list) line text accepted = IsListedLine list li
 
 -- the place of the fault of a line, if it is no locale identifier in the syntax of UTS #35
 abbrev pub IsPlaceOf : List ℕ → Option Place → Type 0
-IsPlaceOf line None = is_ok (read (pieces line)) ≡ true
+IsPlaceOf line None = (x : LocaleIdentifier) × SpellsWhole Unicode line x
 IsPlaceOf line (Some place) =
-    (read (pieces line) ≡ Err place.refusal) × IsWrongAt line place.from place.to
+    IsFaultBy Unicode line place.refusal × IsWrongAt line place.from place.to
 
 -- a line with its place, if it has one
 abbrev pub told : (plain : List ℕ) → Option Place → List ℕ

@@ -6,7 +6,7 @@ use Rattle.icu_locale.specs.declared.expander.TransformResult.TheVariants.{Modif
 use Rattle.icu_locale_extensions.specs.Built.{bare}
 use Rattle.icu_locale_extensions.specs.declared.identifier.LocaleIdentifier.{LocaleIdentifier}
 use Rattle.icu_locale_values.specs.Refusals.{IsWholeRefusal, whole_error_name}
-use Rattle.icu_locale_values.specs.Whole.{WholeRules, IsWhole, AreMaps, is_whole_applied}
+use Rattle.icu_locale_values.specs.Whole.{WholeRules, IsWhole, is_whole_applied}
 use Rattle.icu_locale_values.specs.declared.error.WholeError.{WholeError}
 use Rattle.icu_locale_values.specs.declared.error.WholeError.TheVariants.{Memory}
 use Rattle.icu_locale_key.specs.Whole.{IsWholeKey, IsWholeKeyRefusal}
@@ -24,7 +24,7 @@ TellsWholeRefusal e text accepted =
 abbrev pub IsCanonicalThen : (LocaleIdentifier → List ℕ → Bool → Type 0) → WholeRules
     → LocaleIdentifier → List ℕ → Bool → Type 0
 IsCanonicalThen IsLine by x text accepted =
-    ((new : LocaleIdentifier) × AreMaps new × IsWhole by x new × IsLine new text accepted)
+    ((new : LocaleIdentifier) × IsWhole by x new × IsLine new text accepted)
     ⊎ ((e : WholeError) × IsWholeRefusal by x e × TellsWholeRefusal e text accepted)
 
 -- the line of a locale identifier that becomes canonical

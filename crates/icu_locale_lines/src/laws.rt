@@ -26,7 +26,8 @@ ghost use Rattle.icu_locale_extensions.specs.declared.identifier.LocaleIdentifie
 use icu_locale::laws::{canonical_form_is_one, minimal_form_is_one};
 use icu_locale_core::laws::spelled_once;
 use icu_locale_extensions::laws::{
-    identifiers_read_alike, plain_texts_read_alike, refusals_are_faults, spelled_is_read,
+    identifiers_read_alike, plain_texts_read_alike, reading_is_by_the_grammar, refusals_are_faults,
+    spelled_is_read,
 };
 use icu_locale_full_names::laws::identifiers_keep_their_names;
 use icu_locale_key::laws::whole_key_is_one;
@@ -42,6 +43,7 @@ pub fn a_line_has_one_answer()
 {
     spelled_once();
     spelled_is_read();
+    reading_is_by_the_grammar();
     minimal_form_is_one();
     canonical_form_is_one();
     whole_form_is_one();
@@ -74,6 +76,7 @@ pub fn a_list_is_one()
 {
     spelled_once();
     spelled_is_read();
+    reading_is_by_the_grammar();
 }
 
 /// Over tables with the same rows the input of a command determines the bytes that are written and the status.
@@ -85,6 +88,7 @@ pub fn input_determines_output()
 {
     spelled_once();
     spelled_is_read();
+    reading_is_by_the_grammar();
     a_line_has_one_answer();
 }
 
@@ -105,8 +109,9 @@ pub fn words_determine_output()
 }
 
 /// A line that holds identifiers alone is answered alike in each syntax of locale identifiers and without one. In the
-/// syntax of UTS #35 so is each line without a piece of one character, also where it is refused. Where a first line lists
-/// identifiers alone, the same is available, and is written alike.
+/// syntax of UTS #35 so is each line without a piece of one character, also where it is refused, but at `name` over rules,
+/// and but for a tab at `canonicalize`. Where a first line lists identifiers alone, the same is available, and is written
+/// alike.
 pub fn syntaxes_answer_alike()
     ensures alike { (tools : Tools) (s : Syntax) (line text : List ℕ) (accepted : Bool)
         → HoldsIdentifiers tools line
@@ -123,6 +128,7 @@ pub fn syntaxes_answer_alike()
 {
     spelled_once();
     spelled_is_read();
+    reading_is_by_the_grammar();
     refusals_are_faults();
     plain_texts_read_alike();
     identifiers_read_alike();

@@ -91,13 +91,16 @@ pub const SAMPLE_SUPPLEMENT: &str = "{\
             \"regular\":\"AM AU CN DE EG GB HK RU SA TW US\",\
             \"macroregion\":\"001 150\",\"unknown\":\"ZZ\",\"deprecated\":\"DD SU\"},\
         \"variant\":{\"regular\":\"1996 alalc97 fonipa polyton\"},\
+        \"subdivision\":{\"regular\":\"gbeng usca\",\"unknown\":\"gbzzzz uszzzz\"},\
         \"currency\":{\"regular\":\"eur usd\"},\
         \"keywords\":{\
             \"ca\":{\"types\":{\
                 \"regular\":\"buddhist ethioaa gregory islamic-civil\",\"deprecated\":\"islamicc\"}},\
             \"cu\":{\"kind\":\"currency\"},\
-            \"hc\":{\"types\":{\"regular\":\"h11~2 h23~4\"}}},\
-        \"fields\":{\"m0\":{\"types\":{\"regular\":\"ungegn\"},\"kind\":\"date\",\"many\":true}}}}";
+            \"hc\":{\"types\":{\"regular\":\"h11~2 h23~4\"}},\
+            \"rg\":{\"kind\":\"region_override\"},\"sd\":{\"kind\":\"subdivision\"}},\
+        \"fields\":{\"h0\":{\"types\":{\"regular\":\"hybrid\"},\"kind\":\"date\"},\
+            \"m0\":{\"types\":{\"regular\":\"ungegn\"},\"kind\":\"date\"}}}}";
 
 /// The sample tables: common likely subtags, rules of canonicalization, directions, an exemplar set, and names with their
 /// patterns. The text gives tables, as its tests show, so a refusal is want of memory.

@@ -27,10 +27,10 @@ use Rattle.icu_provider.specs.declared.matching.LanguageMatching.{LanguageMatchi
 
 -- ---- when it is 0
 
-texts_tell : (t u : List ℕ) → Tells (bytes_eq t u) (t ≡ u)
+pub texts_tell : (t u : List ℕ) → Tells (bytes_eq t u) (t ≡ u)
 texts_tell t u = bytes_eq-Decides t u
 
-subtags_tell : (o p : Option (List ℕ)) → Tells (option_eq bytes_eq o p) (o ≡ p)
+pub subtags_tell : (o p : Option (List ℕ)) → Tells (option_eq bytes_eq o p) (o ≡ p)
 subtags_tell o p = options_tell bytes_eq texts_tell o p
 
 first_above : (b : Bool) (r : MatchRule) (rest : Option MatchRule) (other : ℕ) → 0 < r.distance → 0 < option_map_or (λ r. r.distance) rest other

@@ -1,8 +1,9 @@
 -- Canonical forms, one by one, and what ranges ask for.
-use Rattle.std.proofs.Common.{◌≡◌, ◌⊎◌, ℕ, ◌+◌, ◌<◌, Bool, true, false, List, [], ◌∷◌, ◌++◌, length, map, take, get_or, Option, Some, None, Result, Ok, Err, IsOk, IfOk, refl, ap, sym, ◌∙◌, subst, ⊎_elim}
+use Rattle.std.proofs.Common.{◌≡◌, ◌⊎◌, ℕ, suc, ◌+◌, ◌<◌, Bool, true, false, List, [], ◌∷◌, ◌++◌, length, map, take, get_or, Option, Some, None, Result, Ok, Err, IsOk, IfOk, refl, ap, sym, ◌∙◌, subst, ⊎_elim}
 use Rattle.std.specs.List.{cons_option, slice_get}
 use Rattle.std.proofs.lemmas.Bool.{false≢true}
 use Rattle.std.proofs.lemmas.List.{take_more, map-append}
+use Rattle.std.proofs.lemmas.List.Elements.{AllZip-push}
 use Rattle.std.proofs.lemmas.Option.{get_or_from_slice_get}
 use Rattle.icu_locale_core.specs.declared.langid.LanguageIdentifier.{LanguageIdentifier}
 use Rattle.icu_locale.specs.Canonical.{without_extensions}
@@ -54,9 +55,7 @@ module _ (likely : LikelySubtags) (rules : Rules) where
 
   pub canonical_more : (xs ys : List LanguageIdentifier) (x y : LanguageIdentifier) → AreCanonical likely rules xs ys → IsCanonicalOf likely rules x y
       → AreCanonical likely rules (xs ++ x ∷ []) (ys ++ y ∷ [])
-  canonical_more [] ys x y are is = (y, [], is, refl, ap (λ zs. zs ++ y ∷ []) are)
-  canonical_more (w ∷ ws) ys x y are is =
-      (are.0, are.1 ++ y ∷ [], are.2, canonical_more ws are.1 x y are.3 is, ap (λ zs. zs ++ y ∷ []) are.4)
+  canonical_more xs ys x y are is = AllZip-push (IsCanonicalOf likely rules) xs ys x y are is
 
 -- ---- one more request
 
@@ -84,3 +83,13 @@ module _ (P : List ℕ → LanguageIdentifier → Type 0) where
       ap (map shown) (take_more ws i d within) ∙ map-append shown (take i ws) (get_or ws i d ∷ []) in
       subst (λ vs. AreAsked P vs (ys ++ cons_option o [])) (sym step)
       (asked_more (map shown (take i ws)) ys (shown (get_or ws i d)) o are only)
+
+-- ---- those that no rule matches
+
+pub canonical_as_they_are : (likely : LikelySubtags) (rules : Rules) (xs : List LanguageIdentifier)
+    → ((k : ℕ) (x : LanguageIdentifier) → slice_get xs k ≡ Some x → next likely rules x ≡ None) → AreCanonical likely rules xs xs
+canonical_as_they_are likely rules [] none = tt
+canonical_as_they_are likely rules (x ∷ xs) none = (
+  (true, record { stands = (0, refl); last = none 0 x refl }),
+  canonical_as_they_are likely rules xs (λ k y is. none (suc k) y is),
+)

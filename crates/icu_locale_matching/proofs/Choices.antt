@@ -1,5 +1,5 @@
 -- What is chosen.
-use Rattle.std.proofs.Common.{◌≡◌, ◌∙◌, ℕ, suc, arith, ◌<◌, Bool, true, false, cond, nat_lt, ◌==◌, List, [], ◌∷◌, length, Option, Some, None, Result, Ok, Err, IfOk, is_some, refl, ap, sym, subst}
+use Rattle.std.proofs.Common.{◌≡◌, ◌∙◌, ℕ, suc, arith, ◌<◌, Bool, true, false, ◌&&◌, cond, nat_lt, ◌==◌, List, [], ◌∷◌, length, Option, Some, None, Result, Ok, Err, IfOk, is_some, refl, ap, sym, subst}
 use Rattle.std.specs.List.{position, position_or_len, slice_get}
 use Rattle.std.specs.Option.{option_map, option_or}
 use Rattle.std.proofs.lemmas.Bool.{ltb-true, false≢true}
@@ -100,3 +100,7 @@ pub first_of_all : (requests : List LanguageIdentifier) (any : Bool) (xs : List 
 first_of_all requests any [] is some = absurd (false≢true (sym some))
 first_of_all requests true (x ∷ xs) is some = sym (ap (λ b. cond b (Some 0) None) (first_inside (length (allowed requests [] false xs))))
 first_of_all requests false (x ∷ xs) is some = absurd (false≢true is)
+
+pub and_true : (b : Bool) → (b && true) ≡ b
+and_true true = refl
+and_true false = refl

@@ -10,7 +10,7 @@ use Rattle.std.proofs.lemmas.Cmp.{ranked}
 use Rattle.std.proofs.lemmas.Option.{same_Some, none-some}
 use Rattle.icu_locale_core.specs.declared.langid.LanguageIdentifier.{LanguageIdentifier}
 use Rattle.icu_locale_matching.specs.Distance.{distance}
-use Rattle.icu_locale_matching.specs.Nearest.{Question, IsOffer, IsLeastOf, form_of, rank_cmp, rank_of, match_of, IsNearest, IsPart, IsNoFarther, moved_to}
+use Rattle.icu_locale_matching.specs.Nearest.{Question, IsOffer, IsLeastOf, form_of, rank_cmp, rank_of, match_of, IsNearest, IsAmong, IsPart, IsNoFarther, moved_to, without_place}
 use Rattle.icu_locale_matching.specs.declared.rank.Rank.{Rank}
 use Rattle.icu_locale_matching.specs.declared.matcher.Match.{Match}
 use Rattle.icu_locale_matching.proofs.Serving.{no_dearer, no_later}
@@ -53,45 +53,52 @@ in_order r s k l places le =
     (last_by (bool_cmp r.off_paradigm s.off_paradigm) _ _
     (λ last. number_upto k l _ (ranked k l _ refl) (places (upto_number r.available s.available _ (ranked r.available s.available _ refl) last)))))))) le
 
-module _ (p q : Question) (f : ℕ → ℕ) (part : IsPart p q f) where
+module _ (p q : Question) (likely : p.likely ≡ q.likely) (matching : p.matching ≡ q.matching) (limits : p.limits ≡ q.limits) (requests : p.requests ≡ q.requests) where
   same_rank : (i : ℕ) (x : LanguageIdentifier) (j k : ℕ) (y : LanguageIdentifier) → at_place k (rank_of p i x j y) ≡ rank_of q i x k y
   same_rank i x j k y = λ e. at_place k (rank_of (record {
-    likely = part.likely e;
-    matching = part.matching e;
-    limits = part.limits e;
-    requests = part.requests e;
+    likely = likely e;
+    matching = matching e;
+    limits = limits e;
+    requests = requests e;
     available = p.available;
     may = p.may;
   }) i x j y)
 
   same_distance : (x y : LanguageIdentifier) → distance p.matching (form_of p.likely x) (form_of p.likely y)
       ≡ distance q.matching (form_of q.likely x) (form_of q.likely y)
-  same_distance x y = λ e. distance (part.matching e) (form_of (part.likely e) x) (form_of (part.likely e) y)
+  same_distance x y = λ e. distance (matching e) (form_of (likely e) x) (form_of (likely e) y)
 
-  lifted : (s : Rank) → IsOffer p s → IsOffer q (at_place (f s.available) s)
-  lifted s o = record {
+  lifted_to : (s : Rank) (o : IsOffer p s) (l : ℕ) → slice_get q.available l ≡ Some o.identifier → q.may l ≡ true → IsOffer q (at_place l s)
+  lifted_to s o l offered may = record {
     request = o.request;
     identifier = o.identifier;
-    requested = ap (λ xs. slice_get xs s.request) (sym part.requests) ∙ o.requested;
-    offered = part.offered s.available o.identifier o.offered;
-    is = ap (at_place (f s.available)) o.is ∙ same_rank s.request o.request s.available (f s.available) o.identifier;
-    below = omega (arith, o.below, ap (λ l. l.threshold) part.limits, same_distance o.request o.identifier);
-    may = part.may s.available o.may;
+    requested = ap (λ xs. slice_get xs s.request) (sym requests) ∙ o.requested;
+    offered = offered;
+    is = ap (at_place l) o.is ∙ same_rank s.request o.request s.available l o.identifier;
+    below = omega (arith, o.below, ap (λ l. l.threshold) limits, same_distance o.request o.identifier);
+    may = may;
   }
 
-  -- ---- the whole is no farther
+-- ---- the whole is no farther
+
+module _ (p q : Question) (among : IsAmong p q) where
+  lifted_among : (s : Rank) → IsOffer p s → (l : ℕ) × IsOffer q (at_place l s)
+  lifted_among s o =
+      let there = among.each s.available o.identifier o.offered o.may in
+      (there.0, lifted_to p q among.likely among.matching among.limits among.requests s o there.0 there.1 there.2)
 
   farther_by : (m : Match) (r : Rank) (best : Option Rank) → IsLeastOf (IsOffer p) (Some r) → match_of r ≡ m → IsLeastOf (IsOffer q) best
       → IsSomeAnd (option_map match_of best) (IsNoFarther m)
-  farther_by m r None least is whole = absurd (whole _ (lifted r least.0))
+  farther_by m r None least is whole = let there = lifted_among r least.0 in absurd (whole _ there.1)
   farther_by m r (Some s) least is whole =
-      let le = whole.1 _ (lifted r least.0) in
-      let cost = ap (λ (n : Match). n.distance) is in
+      let there = lifted_among r least.0 in
+      let le = whole.1 _ there.1 in
+      let cost = ap (λ (n : Match). n.cost) is in
       let request = ap (λ (n : Match). n.request) is in
-      let dear = no_dearer s (at_place (f r.available) r) le in
+      let dear = no_dearer s (at_place there.0 r) le in
       record {
         cost = omega (arith, dear, cost);
-        request = λ same. let early = no_later s (at_place (f r.available) r) le (same ∙ sym cost) in omega (arith, early, request);
+        request = λ same. let early = no_later s (at_place there.0 r) le (same ∙ sym cost) in omega (arith, early, request);
       }
 
   whole_by : (m : Match) (result : Option Match) (best : Option Rank) → IsLeastOf (IsOffer p) best → Some m ≡ option_map match_of best → IsNearest q result
@@ -100,7 +107,29 @@ module _ (p q : Question) (f : ℕ → ℕ) (part : IsPart p q f) where
   whole_by m result (Some r) least is nearest = subst (λ o. IsSomeAnd o (IsNoFarther m)) (sym nearest.is)
       (farther_by m r nearest.best least (same_Some (match_of r) m (sym is)) nearest.least)
 
-  -- ---- the part has the same
+pub whole_is_no_farther : (p q : Question) (m : Match) (result : Option Match) → IsAmong p q → IsNearest p (Some m) → IsNearest q result
+    → IsSomeAnd result (IsNoFarther m)
+whole_is_no_farther p q m result among nearest whole = whole_by p q among m result nearest.best nearest.least nearest.is whole
+
+-- each the other's part
+pub order_alike : (p q : Question) (a b : Option Match) → IsAmong p q → IsAmong q p → IsNearest p a → IsNearest q b
+    → option_map without_place a ≡ option_map without_place b
+order_alike p q None None there back first second = refl
+order_alike p q None (Some n) there back first second = absurd (whole_is_no_farther q p n None back second first)
+order_alike p q (Some m) None there back first second = absurd (whole_is_no_farther p q m None there first second)
+order_alike p q (Some m) (Some n) there back first second =
+    let less : IsNoFarther m n = whole_is_no_farther p q m (Some n) there first second in
+    let more : IsNoFarther n m = whole_is_no_farther q p n (Some m) back second first in
+    let cost : m.cost ≡ n.cost = omega (arith, less.cost, more.cost) in
+    let request : m.request ≡ n.request = omega (arith, less.request (sym cost), more.request cost) in
+    λ i. Some (cost i, request i)
+
+-- ---- the part has the same
+
+module _ (p q : Question) (f : ℕ → ℕ) (part : IsPart p q f) where
+  lifted : (s : Rank) → IsOffer p s → IsOffer q (at_place (f s.available) s)
+  lifted s o = lifted_to p q part.likely part.matching part.limits part.requests s o (f s.available)
+      (part.offered s.available o.identifier o.offered) (part.may s.available o.may)
 
   places_back : (k l : ℕ) → f k ≤ f l → k ≤ l
   places_back k l le = ⊎_elim (λ less. absurd (let rise = part.rises l k less in omega (arith, rise, le))) (λ upto. upto) (cases_lt l k)
@@ -115,8 +144,8 @@ module _ (p q : Question) (f : ℕ → ℕ) (part : IsPart p q f) where
             identifier = o.identifier;
             requested = ap (λ xs. slice_get xs r.request) part.requests ∙ o.requested;
             offered = stands ∙ ap Some same;
-            is = ap (at_place k) o.is ∙ sym (same_rank r.request o.request k k o.identifier);
-            below = omega (arith, o.below, ap (λ l. l.threshold) part.limits, same_distance o.request o.identifier);
+            is = ap (at_place k) o.is ∙ sym (same_rank p q part.likely part.matching part.limits part.requests r.request o.request k k o.identifier);
+            below = omega (arith, o.below, ap (λ l. l.threshold) part.limits, same_distance p q part.likely part.matching part.limits part.requests o.request o.identifier);
             may = may;
           },
           λ s offer. in_order r (at_place (f s.available) s) k s.available
@@ -133,10 +162,6 @@ module _ (p q : Question) (f : ℕ → ℕ) (part : IsPart p q f) where
           least = kept r (ap (λ (n : Match). n.available) same ∙ there) least;
           is = ap Some (sym (ap (moved_to k) same));
         }
-
-pub whole_is_no_farther : (p q : Question) (f : ℕ → ℕ) (m : Match) (result : Option Match) → IsPart p q f → IsNearest p (Some m) → IsNearest q result
-    → IsSomeAnd result (IsNoFarther m)
-whole_is_no_farther p q f m result part nearest whole = whole_by p q f part m result nearest.best nearest.least nearest.is whole
 
 pub part_has_the_same : (p q : Question) (f : ℕ → ℕ) (k : ℕ) (x : LanguageIdentifier) (m : Match) → IsPart p q f → slice_get p.available k ≡ Some x
     → p.may k ≡ true → m.available ≡ f k → IsNearest q (Some m) → IsNearest p (Some (moved_to k m))

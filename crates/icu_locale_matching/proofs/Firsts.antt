@@ -7,7 +7,8 @@ use Rattle.std.proofs.Math.Seq.{drop-cons}
 use Rattle.std.proofs.lemmas.Option.{none-some, same_Some, get_or_from_slice_get, slice_get_within}
 use Rattle.icu_provider.specs.declared.data_locale.DataLocale.{DataLocale}
 use Rattle.icu_provider.specs.declared.matching.MatchRule.{MatchRule}
-use Rattle.icu_locale_matching.specs.Distance.{fits, fits_pattern, serves_at, serving_of, Level, level_distance}
+use Rattle.icu_locale_matching.specs.Distance.{fits, fits_pattern, Level, level_distance}
+use Rattle.icu_locale_matching.specs.inner.Known.{serves_at, serving_of}
 use Rattle.icu_locale_matching.specs.inner.Known.{AreKnown, AreServing, fits_at}
 
 -- the distance of the rules from a place on

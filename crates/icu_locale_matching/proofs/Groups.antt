@@ -16,7 +16,7 @@ use Rattle.icu_locale_core.specs.TextSet.{text_cmp}
 use Rattle.icu_locale_core.specs.Maps.{value_at}
 use Rattle.icu_locale_core.specs.laws.TextSets.{text_same}
 use Rattle.icu_provider.specs.SortedMaps.{Holds}
-use Rattle.icu_locale_matching.specs.Nearest.{candidate_of, candidates_of, has_language, IsGrouped}
+use Rattle.icu_locale_matching.specs.inner.Made.{candidate_of, candidates_of, has_language, IsGrouped}
 use Rattle.icu_locale_matching.specs.inner.Asked.{IsRowOf}
 use Rattle.icu_locale_core.specs.declared.langid.LanguageIdentifier.{LanguageIdentifier}
 use Rattle.icu_provider.specs.declared.matching.LanguageMatching.{LanguageMatching}

@@ -1,3 +1,4 @@
+pub mod Additions
 pub mod Apart
 pub mod Brought
 pub mod Choices
@@ -6,13 +7,16 @@ pub mod Fewer
 pub mod Firsts
 pub mod Greatest
 pub mod Groups
+pub mod Heard
 pub mod Inserts
+pub mod Led
 pub mod Near
 pub mod OneService
 mod Ranks
 pub mod Resolving
 pub mod Serving
 pub mod Spelled
+pub mod Standing
 pub mod Trims
 pub mod Wished
 pub mod Within

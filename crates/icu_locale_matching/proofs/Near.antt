@@ -10,7 +10,8 @@ use Rattle.icu_locale_core.specs.declared.langid.LanguageIdentifier.{LanguageIde
 use Rattle.icu_locale_core.specs.Maps.{value_at}
 use Rattle.icu_locale.specs.LikelyTable.{likely}
 use Rattle.icu_locale_matching.specs.Distance.{Levels, distance, levels_of, share}
-use Rattle.icu_locale_matching.specs.Nearest.{Question, candidate_of, candidates_of, demotion_at, form_of, has_language}
+use Rattle.icu_locale_matching.specs.Nearest.{Question, demotion_at, form_of}
+use Rattle.icu_locale_matching.specs.inner.Made.{candidate_of, candidates_of, has_language}
 use Rattle.icu_locale_matching.specs.inner.Levels.{shown}
 use Rattle.icu_locale_matching.specs.inner.Asked.{asked_of, IsAsked, IsOfferAt, Beats, BeatsEach, limit}
 use Rattle.icu_locale_matching.specs.declared.candidates.Candidate.{Candidate}

@@ -9,7 +9,6 @@ use Rattle.icu_locale.specs.Kinds.{next}
 use Rattle.icu_locale.specs.LikelySubtags.{LikelySubtags}
 use Rattle.icu_locale.specs.LikelyTable.{likely}
 use Rattle.icu_locale.specs.declared.canonicalizer.rules.Rules.{Rules}
-use Rattle.icu_locale_runs.specs.Run.{EndsAt}
 use Rattle.icu_locale_runs.specs.laws.Runs.{end_is_unique}
 use Rattle.icu_locale_extensions.specs.Syntaxes.{SpellsBy}
 use Rattle.icu_locale_extensions.specs.declared.identifier.LocaleIdentifier.{LocaleIdentifier}
@@ -17,7 +16,7 @@ use Rattle.icu_locale_extensions.specs.declared.syntax.Syntax.{Syntax}
 use Rattle.icu_locale_extensions.specs.declared.syntax.Syntax.TheVariants.{Bcp47}
 use Rattle.icu_locale_matching.specs.Header.{Wish, has_weight, AreByWeight, wanted, refused, refuses_any, wants_any, wishes_of}
 use Rattle.icu_locale_matching.specs.Nearest.{Matching, question, IsNearest, may_of, all_may}
-use Rattle.icu_locale_matching.specs.Requests.{IsOnly, IsRequest, IsRefusal, AreAsked, IsBrought, IsCanonicalOf, AreCanonical}
+use Rattle.icu_locale_matching.specs.Requests.{Asks, IsOnly, IsRequest, IsRefusal, AreAsked, IsBrought, IsCanonicalOf, AreCanonical}
 use Rattle.icu_locale_matching.specs.Service.{Service, IsServed, IsServedFor, IsNearestTo, IsChoice, allowed, first_allowed, place_of, matching_of}
 use Rattle.icu_locale_matching.specs.declared.matcher.Match.{Match}
 use Rattle.icu_locale_matching.proofs.Inserts.{filter_none}
@@ -102,22 +101,20 @@ module _ (likely : LikelySubtags) (rules : Rules) where
   brought_one x y z false true p q = absurd (p.0 z q)
   brought_one x y z false false p q = p.1 ∙ sym q.1
 
-  canonical_one : (xs ys zs : List LanguageIdentifier) → AreCanonical likely rules xs ys → AreCanonical likely rules xs zs → ys ≡ zs
-  canonical_one [] ys zs p q = p ∙ sym q
-  canonical_one (x ∷ xs) ys zs p q =
-      let first = brought_one x p.0 q.0 p.2.0 q.2.0 p.2.1 q.2.1 in
-      let later = canonical_one xs p.1 q.1 p.3 q.3 in
-      p.4 ∙ (λ i. first i ∷ later i) ∙ sym q.4
+  pub canonical_one : (xs ys zs : List LanguageIdentifier) → AreCanonical likely rules xs ys → AreCanonical likely rules xs zs → ys ≡ zs
+  canonical_one [] [] [] p q = refl
+  canonical_one [] (y ∷ ys) zs p q = absurd p
+  canonical_one [] [] (z ∷ zs) p q = absurd q
+  canonical_one (x ∷ xs) [] zs p q = absurd p
+  canonical_one (x ∷ xs) (y ∷ ys) [] p q = absurd q
+  canonical_one (x ∷ xs) (y ∷ ys) (z ∷ zs) p q =
+      let first : y ≡ z = brought_one x y z p.0.0 q.0.0 p.0.1 q.0.1 in
+      let later = canonical_one xs ys zs p.1 q.1 in
+      λ i. first i ∷ later i
 
   module _ (spelled : (s : Syntax) (t : List ℕ) (x y : LocaleIdentifier) → SpellsBy s t x → SpellsBy s t y → x ≡ y) where
-    pub request_one : (range : List ℕ) (y z : LanguageIdentifier) → IsRequest likely rules range y → IsRequest likely rules range z → y ≡ z
-    request_one range y z p q =
-        let tags = spelled Bcp47 range p.tag q.tag p.spells q.spells in
-        end_is_unique (next likely rules) q.tag.locale.id y z
-        (subst (λ (x : LocaleIdentifier). EndsAt (next likely rules) x.locale.id y) tags p.canonical) q.canonical
-
-    pub refusal_one : (range : List ℕ) (y z : LanguageIdentifier) → IsRefusal likely rules range y → IsRefusal likely rules range z → y ≡ z
-    refusal_one range y z p q =
+    pub asks_one : (bare_alone : Bool) (range : List ℕ) (y z : LanguageIdentifier) → Asks bare_alone likely rules range y → Asks bare_alone likely rules range z → y ≡ z
+    asks_one bare_alone range y z p q =
         let tags = spelled Bcp47 range p.tag q.tag p.spells q.spells in
         let here = subst (λ (x : LocaleIdentifier). IsCanonicalOf likely rules x.locale.id y) tags p.canonical in
         brought_one q.tag.locale.id y z here.0 q.canonical.0 here.1 q.canonical.1
@@ -129,7 +126,7 @@ module _ (P : List ℕ → LanguageIdentifier → Type 0) (one : (range : List �
   only_one range (Some y) None p q = absurd (q y p)
   only_one range (Some y) (Some z) p q = ap (λ x. Some x) (one range y z p q)
 
-  asked_one : (ws : List Wish) (ys zs : List LanguageIdentifier) → AreAsked P ws ys → AreAsked P ws zs → ys ≡ zs
+  pub asked_one : (ws : List Wish) (ys zs : List LanguageIdentifier) → AreAsked P ws ys → AreAsked P ws zs → ys ≡ zs
   asked_one [] ys zs p q = p ∙ sym q
   asked_one (w ∷ ws) ys zs p q =
       let first = only_one w.0 p.0 q.0 p.2 q.2 in
@@ -149,8 +146,8 @@ module _ (spelled : (s : Syntax) (t : List ℕ) (x y : LocaleIdentifier) → Spe
   served_for_one ws a b p q =
       let l = likely s.expander in
       let r = s.rules in
-      let requests = asked_one (IsRequest l r) (request_one l r spelled) (wanted ws) p.requests q.requests p.requested q.requested in
-      let out = asked_one (IsRefusal l r) (refusal_one l r spelled) (refused ws) p.out q.out p.taken_out q.taken_out in
+      let requests = asked_one (IsRequest l r) (asks_one l r spelled false) (wanted ws) p.requests q.requests p.requested q.requested in
+      let out = asked_one (IsRefusal l r) (asks_one l r spelled true) (refused ws) p.out q.out p.taken_out q.taken_out in
       let canonical = canonical_one l r s.available p.canonical q.canonical p.canonicalized q.canonicalized in
       let named = refuses_any ws in
       choice_one (matching_of s q.canonical) q.requests (allowed q.requests q.out named q.canonical) (wants_any ws) a b

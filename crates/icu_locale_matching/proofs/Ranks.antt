@@ -6,12 +6,13 @@ use Rattle.std.specs.declared.cmp.Ordering.{Ordering}
 use Rattle.std.specs.declared.cmp.Ordering.TheVariants.{Less, Equal, Greater}
 use Rattle.std.specs.Ordering.{is_lt, is_le, is_gt, ordering_reverse, ordering_then, MatchOrdering}
 use Rattle.std.specs.Cmp.{IsTotalOrder, bool_cmp_total}
+use Rattle.std.specs.Ordering.{bool_cmp}
 use Rattle.std.proofs.lemmas.Bool.{cases_lt, false≢true, leb-true}
 use Rattle.std.proofs.lemmas.Cmp.{then_total, on_total, nat_cmp_total, tied_itself, ranked, upto}
 use Rattle.std.proofs.lemmas.Option.{same_Some, slice_get_within}
 use Rattle.icu_locale_core.specs.declared.langid.LanguageIdentifier.{LanguageIdentifier}
 use Rattle.icu_locale_matching.specs.Nearest.{Question, IsOffer, IsLeastOf, demotion_at, form_of, rank_cmp, rank_of}
-use Rattle.icu_locale_matching.specs.inner.Asked.{IsAsked, IsOfferBefore, IsOfferAt, Beats, Improves, BeatsUpto, IsWithin, is_settled, limit, lesser}
+use Rattle.icu_locale_matching.specs.inner.Asked.{IsAsked, IsOfferBefore, IsOfferAt, Beats, Improves, BeatsUpto, BeatsThere, IsWithin, is_settled, limit, lesser}
 use Rattle.icu_locale.specs.LikelyTable.{likely}
 use Rattle.icu_provider.specs.declared.data_locale.DataLocale.{DataLocale}
 use Rattle.icu_locale_matching.specs.Distance.{distance, favored}
@@ -77,6 +78,36 @@ le_by_request : (r s : Rank) → r.cost ≤ s.cost → r.request < s.request →
 le_by_request r s least less = le_second r.cost s.cost _ _ (ranked r.cost s.cost _ refl) least
     (le_first r.request s.request _ _ (ranked r.request s.request _ refl) less)
 
+-- a flag that is raised no sooner
+le_flag : (a b : Bool) (p : Ordering) → (a ≡ true → b ≡ true) → is_le p ≡ true → is_le (ordering_then (bool_cmp a b) p) ≡ true
+le_flag true true p raised rest = rest
+le_flag true false p raised rest = absurd (false≢true (raised refl))
+le_flag false true p raised rest = refl
+le_flag false false p raised rest = rest
+
+le_last : (m n : ℕ) (o : Ordering) → MatchOrdering o (m < n) (m ≡ n) (n < m) → m ≤ n → is_le o ≡ true
+le_last m n Less is least = refl
+le_last m n Equal is least = refl
+le_last m n Greater is least = absurd (omega (arith, is, least))
+
+-- a rank that is no greater in each step is no greater
+pub le_in_each : (r s : Rank) → r.cost ≤ s.cost → r.request ≤ s.request → (r.spelled_otherwise ≡ true → s.spelled_otherwise ≡ true)
+    → (r.varied ≡ true → s.varied ≡ true) → r.unlikeliness ≤ s.unlikeliness → (r.off_paradigm ≡ true → s.off_paradigm ≡ true)
+    → r.available ≤ s.available → is_le (rank_cmp r s) ≡ true
+le_in_each r s cost request spelled varied unlikely paradigm place =
+    le_second r.cost s.cost _ _ (ranked r.cost s.cost _ refl) cost
+    (le_second r.request s.request _ _ (ranked r.request s.request _ refl) request
+    (le_flag r.spelled_otherwise s.spelled_otherwise _ spelled
+    (le_flag r.varied s.varied _ varied
+    (le_second r.unlikeliness s.unlikeliness _ _ (ranked r.unlikeliness s.unlikeliness _ refl) unlikely
+    (le_flag r.off_paradigm s.off_paradigm _ paradigm
+    (le_last r.available s.available _ (ranked r.available s.available _ refl) place))))))
+
+-- what beats a rank beats a greater one
+pub beats_greater : (best : Option Rank) (r s : Rank) → Beats best r → is_le (rank_cmp r s) ≡ true → Beats best s
+beats_greater None r s beats le = absurd beats
+beats_greater (Some b) r s beats le = le_through b r s beats le
+
 -- ---- the least of a set
 
 -- sets with the same members have the same least
@@ -137,6 +168,22 @@ beats_more q i part n c old new stands better beats here = λ k d s upto is o at
     here s o (at ∙ ap (λ (e : Candidate). e.place) one))
     (cases_lt k n)
 
+pub there_kept : (q : Question) (i : ℕ) (region : Option (List ℕ)) (part : List Candidate) (n : ℕ) (old new : Option Rank) → Improves q i old new
+    → BeatsThere q i region part n old → BeatsThere q i region part n new
+there_kept q i region part n old new better beats = λ k c s within is has o at. better.keeps s (beats k c s within is has o at)
+
+-- one more candidate, that may have a region
+pub there_more : (q : Question) (i : ℕ) (region : Option (List ℕ)) (part : List Candidate) (n : ℕ) (c : Candidate) (old new : Option Rank)
+    → slice_get part n ≡ Some c → Improves q i old new → BeatsThere q i region part n old
+    → ((s : Rank) → c.form.region ≡ region → IsOfferAt q i s → s.available ≡ c.place → Beats new s) → BeatsThere q i region part (n + 1) new
+there_more q i region part n c old new stands better beats here = λ k d s upto is has o at. ⊎_elim
+    (λ earlier. better.keeps s (beats k d s earlier is has o at))
+    (λ later.
+    let same : k ≡ n = omega arith in
+    let one : d ≡ c = same_Some _ _ (sym is ∙ ap (slice_get part) same ∙ stands) in
+    here s (ap (λ (e : Candidate). e.form.region) (sym one) ∙ has) o (at ∙ ap (λ (e : Candidate). e.place) one))
+    (cases_lt k n)
+
 -- an offer that is too far is beaten
 pub dear_beaten : (q : Question) (best : Option Rank) (s : Rank) (o : IsOffer q s)
     → limit q.limits.threshold (demotion_at q.limits.demotion s.request) best ≤ distance q.matching (form_of q.likely o.request) (form_of q.likely o.identifier)
@@ -161,7 +208,7 @@ module _ (q : Question) (i j : ℕ) (x y : LanguageIdentifier) (requested : slic
       o.offer.is ∙ (λ k. rank_of q (o.at k) (same_x k) (b k) (same_y k))
 
   module _ (may : q.may j ≡ true) where
-    this : distance q.matching (form_of q.likely x) (form_of q.likely y) < q.limits.threshold → IsOfferAt q i (rank_of q i x j y)
+    pub this : distance q.matching (form_of q.likely x) (form_of q.likely y) < q.limits.threshold → IsOfferAt q i (rank_of q i x j y)
     this below = record {
       offer = record { request = x; identifier = y; requested = requested; offered = offered; is = refl; below = below; may = may };
       at = refl;

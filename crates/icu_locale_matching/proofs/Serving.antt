@@ -88,15 +88,15 @@ nearest_is_one q a b first second =
 
 -- ---- it is below the threshold, the demotion aside
 
-below_of : (q : Question) (m : Match) (best : Option Rank) → IsLeastOf (IsOffer q) best → Some m ≡ option_map match_of best → m.distance < q.limits.threshold + demotion_at q.limits.demotion m.request
+below_of : (q : Question) (m : Match) (best : Option Rank) → IsLeastOf (IsOffer q) best → Some m ≡ option_map match_of best → m.cost < q.limits.threshold + demotion_at q.limits.demotion m.request
 below_of q m None least is = absurd (none-some m (sym is))
 below_of q m (Some r) least is =
     let same : m ≡ match_of r = same_Some m (match_of r) is in
-    let cost = ap (λ (n : Match). n.distance) same in
+    let cost = ap (λ (n : Match). n.cost) same in
     let request = ap (λ (n : Match). demotion_at q.limits.demotion n.request) same in
     omega (arith, cost, request, offer_cost q r least.0, least.0.below)
 
-pub served_below : (q : Question) (m : Match) → IsNearest q (Some m) → m.distance < q.limits.threshold + demotion_at q.limits.demotion m.request
+pub served_below : (q : Question) (m : Match) → IsNearest q (Some m) → m.cost < q.limits.threshold + demotion_at q.limits.demotion m.request
 served_below q m nearest = below_of q m nearest.best nearest.least nearest.is
 
 -- ---- it may be served
@@ -279,8 +279,8 @@ module _ (q : Question) (j : ℕ) (room : 0 < q.limits.threshold) (spelled : IsS
         available = place i;
       }
 
-  own_match : match_of (rank_of q 0 spelled.request j spelled.request) ≡ record { request = 0; available = j; distance = 0 }
-  own_match = λ i. record { request = 0; available = j; distance = own_costs_nothing i }
+  own_match : match_of (rank_of q 0 spelled.request j spelled.request) ≡ record { request = 0; available = j; cost = 0 }
+  own_match = λ i. record { request = 0; available = j; cost = own_costs_nothing i }
 
   own_same : (s : Rank) → s ≡ rank_of q 0 spelled.request j spelled.request → is_le (rank_cmp (rank_of q 0 spelled.request j spelled.request) s) ≡ true
   own_same s same = ap is_le (ap (rank_cmp (rank_of q 0 spelled.request j spelled.request)) same
@@ -294,7 +294,7 @@ module _ (q : Question) (j : ℕ) (room : 0 < q.limits.threshold) (spelled : IsS
   own_upto s offer Equal is back = own_same s (own_least s offer (ap is_le is))
   own_upto s offer Greater is back = ap is_le back
 
-  own_by : (best : Option Rank) → IsLeastOf (IsOffer q) best → option_map match_of best ≡ Some (record { request = 0; available = j; distance = 0 })
+  own_by : (best : Option Rank) → IsLeastOf (IsOffer q) best → option_map match_of best ≡ Some (record { request = 0; available = j; cost = 0 })
   own_by None least = absurd (least _ own_offer)
   own_by (Some r) least = ap Some (ap match_of (own_least r least.0 (least.1 _ own_offer)) ∙ own_match)
 
@@ -302,12 +302,12 @@ module _ (q : Question) (j : ℕ) (room : 0 < q.limits.threshold) (spelled : IsS
   own_is_least = (own_offer, λ s offer. own_upto s offer (rank_cmp s (rank_of q 0 spelled.request j spelled.request)) refl (rank_total.antisymm (rank_of q 0 spelled.request j spelled.request) s))
 
 pub own_spelling_is_served : (q : Question) (j : ℕ) (result : Option Match) → 0 < q.limits.threshold → IsSpelledFirst q j → IsNearest q result
-    → result ≡ Some (record { request = 0; available = j; distance = 0 })
+    → result ≡ Some (record { request = 0; available = j; cost = 0 })
 own_spelling_is_served q j result room spelled nearest = nearest.is ∙ own_by q j room spelled nearest.best nearest.least
 
 -- and it is the nearest
 pub own_spelling_is_nearest : (q : Question) (j : ℕ) → 0 < q.limits.threshold → IsSpelledFirst q j
-    → IsNearest q (Some (record { request = 0; available = j; distance = 0 }))
+    → IsNearest q (Some (record { request = 0; available = j; cost = 0 }))
 own_spelling_is_nearest q j room spelled = record {
   best = Some (rank_of q 0 spelled.request j spelled.request);
   least = own_is_least q j room spelled;
@@ -345,7 +345,7 @@ module _ (q : Question) (j : ℕ) (tells : TellsApart q.matching) (room : 0 < q.
   }
 
   formed_least : (r : Rank) → IsOffer q r → is_le (rank_cmp r (rank_of q 0 formed.request j formed.identifier)) ≡ true
-      → match_of r ≡ record { request = 0; available = j; distance = 0 }
+      → match_of r ≡ record { request = 0; available = j; cost = 0 }
   formed_least r o le =
       let s = rank_of q 0 formed.request j formed.identifier in
       let none : r.cost ≡ 0 = omega (arith, no_dearer r _ le, formed_costs_nothing) in
@@ -378,15 +378,59 @@ module _ (q : Question) (j : ℕ) (tells : TellsApart q.matching) (room : 0 < q.
       let before : r.available ≤ j = upto_number r.available j _ (ranked r.available j _ refl) e in
       let behind : j ≤ r.available = formed.first r.available o.identifier o.offered o.may form variants in
       let place : r.available ≡ j = omega (arith, before, behind) in
-      λ i. record { request = first i; available = place i; distance = none i }
+      λ i. record { request = first i; available = place i; cost = none i }
 
-  formed_by : (best : Option Rank) → IsLeastOf (IsOffer q) best → option_map match_of best ≡ Some (record { request = 0; available = j; distance = 0 })
+  -- an offer that is no greater is this one
+  formed_one : (r : Rank) → IsOffer q r → is_le (rank_cmp r (rank_of q 0 formed.request j formed.identifier)) ≡ true
+      → r ≡ rank_of q 0 formed.request j formed.identifier
+  formed_one r o le =
+      let same = formed_least r o le in
+      let first : r.request ≡ 0 = ap (λ (m : Match). m.request) same in
+      let place : r.available ≡ j = ap (λ (m : Match). m.available) same in
+      let asked : o.request ≡ formed.request = same_Some o.request formed.request
+      (sym o.requested ∙ ap (slice_get q.requests) first ∙ formed.requested) in
+      let served : o.identifier ≡ formed.identifier = same_Some o.identifier formed.identifier
+      (sym o.offered ∙ ap (slice_get q.available) place ∙ formed.offered) in
+      o.is ∙ (λ i. rank_of q (first i) (asked i) (place i) (served i))
+
+  formed_same : (s : Rank) → s ≡ rank_of q 0 formed.request j formed.identifier
+      → is_le (rank_cmp (rank_of q 0 formed.request j formed.identifier) s) ≡ true
+  formed_same s same = ap is_le (ap (rank_cmp (rank_of q 0 formed.request j formed.identifier)) same
+      ∙ tied_itself rank_total (rank_of q 0 formed.request j formed.identifier))
+
+  formed_upto : (s : Rank) → IsOffer q s → (o : Ordering) → rank_cmp s (rank_of q 0 formed.request j formed.identifier) ≡ o
+      → rank_cmp (rank_of q 0 formed.request j formed.identifier) s ≡ ordering_reverse o
+      → is_le (rank_cmp (rank_of q 0 formed.request j formed.identifier) s) ≡ true
+  formed_upto s offer Less is back = formed_same s (formed_one s offer (ap is_le is))
+  formed_upto s offer Equal is back = formed_same s (formed_one s offer (ap is_le is))
+  formed_upto s offer Greater is back = ap is_le back
+
+  formed_is_least : IsLeastOf (IsOffer q) (Some (rank_of q 0 formed.request j formed.identifier))
+  formed_is_least = (
+    formed_offer,
+    λ s offer. formed_upto s offer (rank_cmp s (rank_of q 0 formed.request j formed.identifier)) refl
+        (rank_total.antisymm (rank_of q 0 formed.request j formed.identifier) s),
+  )
+
+  formed_match : match_of (rank_of q 0 formed.request j formed.identifier) ≡ record { request = 0; available = j; cost = 0 }
+  formed_match = λ i. record { request = 0; available = j; cost = formed_costs_nothing i }
+
+  formed_by : (best : Option Rank) → IsLeastOf (IsOffer q) best → option_map match_of best ≡ Some (record { request = 0; available = j; cost = 0 })
   formed_by None least = absurd (least _ formed_offer)
   formed_by (Some r) least = ap Some (formed_least r least.0 (least.1 _ formed_offer))
 
 pub own_form_is_served : (q : Question) (j : ℕ) (result : Option Match) → TellsApart q.matching → 0 < q.limits.threshold → IsFormedFirst q j
-    → IsNearest q result → result ≡ Some (record { request = 0; available = j; distance = 0 })
+    → IsNearest q result → result ≡ Some (record { request = 0; available = j; cost = 0 })
 own_form_is_served q j result tells room formed nearest = nearest.is ∙ formed_by q j tells room formed nearest.best nearest.least
+
+-- and it is the nearest
+pub own_form_is_nearest : (q : Question) (j : ℕ) → TellsApart q.matching → 0 < q.limits.threshold → IsFormedFirst q j
+    → IsNearest q (Some (record { request = 0; available = j; cost = 0 }))
+own_form_is_nearest q j tells room formed = record {
+  best = Some (rank_of q 0 formed.request j formed.identifier);
+  least = formed_is_least q j tells room formed;
+  is = sym (ap Some (formed_match q j tells room formed));
+}
 
 -- ---- what it depends on
 

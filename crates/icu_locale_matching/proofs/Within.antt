@@ -1,9 +1,10 @@
 -- What is served is among what is available.
-use Rattle.std.proofs.Common.{◌≡◌, ℕ, suc, ◌<◌, Bool, true, List, [], ◌∷◌, length, Option, Some, None, refl, sym, ap, ◌∙◌, subst}
+use Rattle.std.proofs.Common.{◌≡◌, ℕ, ◌<◌, Bool, true, List, length, Option, Some, None, refl, sym, ap, ◌∙◌, subst}
 use Rattle.std.specs.List.{slice_get}
 use Rattle.std.specs.Option.{option_map}
 use Rattle.std.proofs.lemmas.Bool.{false≢true}
 use Rattle.std.proofs.lemmas.List.{length-map}
+use Rattle.std.proofs.lemmas.Slice.Zip.{AllZip-long}
 use Rattle.std.proofs.lemmas.Option.{none-some, same_Some, slice_get_within}
 use Rattle.icu_locale_core.specs.declared.langid.LanguageIdentifier.{LanguageIdentifier}
 use Rattle.icu_locale.specs.LikelySubtags.{LikelySubtags}
@@ -11,7 +12,7 @@ use Rattle.icu_locale.specs.LikelyTable.{likely}
 use Rattle.icu_locale.specs.declared.canonicalizer.rules.Rules.{Rules}
 use Rattle.icu_locale_matching.specs.Header.{refuses_any, wants_any}
 use Rattle.icu_locale_matching.specs.Nearest.{Question, IsOffer, IsLeastOf, match_of, may_of, is_true}
-use Rattle.icu_locale_matching.specs.Requests.{AreCanonical}
+use Rattle.icu_locale_matching.specs.Requests.{AreCanonical, IsCanonicalOf}
 use Rattle.icu_locale_matching.specs.Service.{Service, IsServed, IsNearestTo, allowed, is_allowed, matching_of}
 use Rattle.icu_locale_matching.specs.declared.matcher.Match.{Match}
 use Rattle.icu_locale_matching.specs.declared.rank.Rank.{Rank}
@@ -19,9 +20,7 @@ use Rattle.icu_locale_matching.proofs.Choices.{chosen_may}
 
 -- there are as many canonical forms as identifiers
 canonical_long : (likely : LikelySubtags) (rules : Rules) (xs ys : List LanguageIdentifier) → AreCanonical likely rules xs ys → length ys ≡ length xs
-canonical_long likely rules [] ys are = ap length are
-canonical_long likely rules (x ∷ xs) ys are =
-    ap length are.4 ∙ ap suc (canonical_long likely rules xs are.1 are.3)
+canonical_long likely rules xs ys are = AllZip-long (IsCanonicalOf likely rules) xs ys are
 
 within_by : (q : Question) (m : Match) (best : Option Rank) → IsLeastOf (IsOffer q) best → Some m ≡ option_map match_of best
     → m.available < length q.available

@@ -1,7 +1,7 @@
 -- The distance of a supported form from a desired one, by match rules (UTS #35 Part 1, section 4.4, Language Matching).
 use Rattle.std.specs.Prelude.{◌≡◌, ℕ, ◌+◌, ◌/◌, ◌<◌, Bool, true, false, ◌&&◌, not, max, List, [], ◌∷◌, map, length, Option, Some, None, is_some, Vec, if◌then◌else◌}
 use Rattle.std.specs.Global.{Global}
-use Rattle.std.specs.List.{All, find, slice_get}
+use Rattle.std.specs.List.{All, find}
 use Rattle.std.specs.Option.{option_eq, option_map_or}
 use Rattle.std.specs.Str.{bytes_eq}
 use Rattle.std.specs.Vec.{with_items}
@@ -42,18 +42,6 @@ fits_pattern p x = fits_script p.script x.script && fits_region p.region x.regio
 abbrev pub fits : DataLocale → DataLocale → MatchRule → Bool
 fits desired supported r = bytes_eq supported.language r.language
     && (fits_pattern r.desired desired && fits_pattern r.supported supported)
-
--- the rule at a place is for the language of a supported form, and its supported pattern fits; false past the end
-abbrev pub serves_at : List MatchRule → DataLocale → ℕ → Bool
-serves_at rules s k =
-    option_map_or (λ r. bytes_eq s.language r.language && fits_pattern r.supported s)
-    (slice_get rules k) false
-
--- the same of each of the first eight rules
-abbrev pub serving_of : List MatchRule → DataLocale → List Bool
-serving_of rules s =
-    serves_at rules s 0 ∷ serves_at rules s 1 ∷ serves_at rules s 2 ∷ serves_at rules s 3
-    ∷ serves_at rules s 4 ∷ serves_at rules s 5 ∷ serves_at rules s 6 ∷ serves_at rules s 7 ∷ []
 
 -- the rules of one level, in their order, and the distance where none fits
 pub record Level : Type 0 where

@@ -1,5 +1,5 @@
 -- The header Accept-Language (RFC 9110, section 12.5.4).
-use Rattle.std.specs.Prelude.{◌≡◌, ◌≤◌, ℕ, Bool, ◌==◌, ◌||◌, ◌&&◌, List, [], ◌∷◌, filter, take, length, codes, nat_lt, Option, Some, None, if◌then◌else◌, AllPairs}
+use Rattle.std.specs.Prelude.{◌≡◌, ◌≤◌, ℕ, Bool, ◌==◌, ◌||◌, ◌&&◌, not, List, [], ◌∷◌, filter, take, length, codes, nat_lt, Option, Some, None, if◌then◌else◌, AllPairs}
 use Rattle.std.specs.List.{slice_split, filter_map, list_any, before_first, after_first}
 use Rattle.std.specs.Option.{option_map}
 use Rattle.std.specs.Str.{bytes_eq}
@@ -54,13 +54,25 @@ abbrev pub wish_of : List (List ℕ) → Option Wish
 wish_of [] = None
 wish_of (r ∷ ps) = if length (trim r) == 0 then None else option_map (λ w. (trim r, w)) (weight ps)
 
--- an element as a wish, if it can be read; `;` is 59
+-- an element as a wish, if it can be read; `;` is 59. Parameters that are no weight are passed over
 abbrev pub read_element : List ℕ → Option Wish
 read_element e = wish_of (slice_split (λ b. b == 59) e)
 
--- the elements, apart by `,`, which is 44
+-- the parts of a header, apart by `,`, which is 44
+abbrev pub parts_of : List ℕ → List (List ℕ)
+parts_of header = slice_split (λ b. b == 44) header
+
+-- a part is empty, white space aside
+abbrev pub is_blank : List ℕ → Bool
+is_blank part = length (trim part) == 0
+
+-- of some parts those that are elements: an empty one is none (section 5.6.1.2)
+abbrev pub elements_among : List (List ℕ) → List (List ℕ)
+elements_among parts = filter (λ p. not (is_blank p)) parts
+
+-- the elements of a header
 abbrev pub elements_of : List ℕ → List (List ℕ)
-elements_of header = slice_split (λ b. b == 44) header
+elements_of header = elements_among (parts_of header)
 
 -- the wishes of the first hundred elements
 abbrev pub wishes_of : List ℕ → List Wish

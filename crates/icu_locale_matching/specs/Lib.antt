@@ -1,9 +1,9 @@
 pub mod Distance
 pub mod Header
+pub mod Made
 pub mod Nearest
 pub mod Requests
 pub mod Resolved
 pub mod Service
-pub mod Spelled
 pub mod Weights
 pub mod inner

@@ -1,10 +1,7 @@
 -- The nearest available locale (UTS #35 Part 1, section 4.4, Language Matching).
-use Rattle.std.specs.Prelude.{◌≡◌, ℕ, ◌+◌, ◌*◌, ◌<◌, ◌≤◌, min, Bool, true, false, ◌&&◌, not, List, map, Option, Some, None, IsSome, Vec, length, if◌then◌else◌}
-use Rattle.std.specs.List.{All, enumerate_from, filter, list_any, slice_get}
-use Rattle.std.specs.Global.{Global}
+use Rattle.std.specs.Prelude.{◌≡◌, ℕ, ◌+◌, ◌*◌, ◌<◌, ◌≤◌, min, Bool, true, false, ◌&&◌, not, List, map, Option, Some, None, if◌then◌else◌}
+use Rattle.std.specs.List.{All, list_any, slice_get}
 use Rattle.std.specs.Str.{bytes_eq}
-use Rattle.icu_locale_core.specs.TextSet.{text_cmp}
-use Rattle.icu_locale_core.specs.Maps.{value_at}
 use Rattle.std.specs.Option.{option_eq, option_map}
 use Rattle.std.specs.Ordering.{ordering_then, nat_cmp, bool_cmp, is_le}
 use Rattle.std.specs.declared.cmp.Ordering.{Ordering}
@@ -14,11 +11,9 @@ use Rattle.icu_provider.specs.declared.data_locale.DataLocale.{DataLocale}
 use Rattle.icu_locale.specs.LikelySubtags.{LikelySubtags, maximal_locale, subtags_of}
 use Rattle.icu_locale.specs.LikelyTable.{likely}
 use Rattle.icu_locale.specs.declared.expander.LocaleExpander.{LocaleExpander}
-use Rattle.icu_locale_matching.specs.Spelled.{AreSpelled}
-use Rattle.icu_locale_matching.specs.Distance.{distance, favored, is_macro, levels_for, serving_of, AgreeAt}
+use Rattle.icu_locale_matching.specs.Distance.{distance, favored, levels_for, AgreeAt}
 use Rattle.icu_provider.specs.declared.matching.LanguageMatching.{LanguageMatching}
 use Rattle.icu_locale_matching.specs.declared.limits.MatchLimits.{MatchLimits}
-use Rattle.icu_locale_matching.specs.declared.candidates.Candidate.{Candidate}
 use Rattle.icu_locale_matching.specs.declared.candidates.Candidates.{Candidates}
 use Rattle.icu_locale_matching.specs.declared.rank.Rank.{Rank}
 use Rattle.icu_locale_matching.specs.declared.matcher.Match.{Match}
@@ -53,42 +48,6 @@ paradigms_of likely t = map (maximal_locale likely) t.paradigms.items
 -- m is one of these forms
 abbrev pub is_among : List DataLocale → DataLocale → Bool
 is_among forms m = list_any (λ x. same_form x m) forms
-
--- what a matcher knows of an available identifier at a place
-abbrev pub candidate_of : LikelySubtags → LanguageMatching → ℕ → LanguageIdentifier → Candidate
-candidate_of likely t place x = let form = form_of likely x in record {
-  place = place;
-  form = form;
-  is_macro = is_macro t.macros form.region;
-  unlikeliness = unlikeliness likely form;
-  off_paradigm = not (is_among (paradigms_of likely t) form);
-  serving = serving_of (levels_for t form.language).region.rules form;
-}
-
--- what it knows of each
-abbrev pub candidates_of : LikelySubtags → LanguageMatching → List LanguageIdentifier
-    → List Candidate
-candidates_of likely t xs = map (λ p. candidate_of likely t p.0 p.1) (enumerate_from 0 xs)
-
--- whether a candidate has a language
-abbrev pub has_language : List ℕ → Candidate → Bool
-has_language l c = bytes_eq c.form.language l
-
--- a group has the candidates of its language, and each of the first n candidates has a group
-pub record IsGrouped (forms : List Candidate) (n : ℕ) (groups : List (List ℕ × Vec Candidate Global))
-    : Type 0 where
-  pub group : (l : List ℕ) (g : Vec Candidate Global) → value_at text_cmp groups l ≡ Some g
-      → g.items ≡ filter (has_language l) forms
-  pub each : (k : ℕ) (c : Candidate) → k < n → slice_get forms k ≡ Some c
-      → IsSome (value_at text_cmp groups c.form.language)
-
--- a list was made over a likely table and match rules, of which it keeps for each identifier what does not depend on a
--- request; it knows where identifiers are in their own spelling
-pub record IsMadeOver (likely : LikelySubtags) (t : LanguageMatching) (c : Candidates)
-    : Type 0 where
-  pub forms : c.forms.items ≡ candidates_of likely t c.identifiers.items
-  pub grouped : IsGrouped c.forms.items (length c.forms.items) c.groups
-  pub spelled : AreSpelled c.identifiers.items 0 c.spelled
 
 -- the available identifiers, as they were handed in
 abbrev pub identifiers_of : Candidates → List LanguageIdentifier
@@ -187,7 +146,7 @@ IsLeastOf P (Some r) = P r × ((s : Rank) → P s → is_le (rank_cmp r s) ≡ t
 
 -- what a rank says to the caller
 abbrev pub match_of : Rank → Match
-match_of r = record { request = r.request; available = r.available; distance = r.cost }
+match_of r = record { request = r.request; available = r.available; cost = r.cost }
 
 -- the match with the least rank, and none where no pair is below the threshold
 pub record IsNearest (q : Question) (result : Option Match) : Type 0 where
@@ -198,7 +157,7 @@ pub record IsNearest (q : Question) (result : Option Match) : Type 0 where
 -- a match serves the first request at no distance, by an identifier with the maximal form of the request, variants aside
 pub record ServesFirst (q : Question) (m : Match) : Type 0 where
   pub first : m.request ≡ 0
-  pub near : m.distance ≡ 0
+  pub near : m.cost ≡ 0
   pub request : LanguageIdentifier
   pub identifier : LanguageIdentifier
   pub requested : slice_get q.requests 0 ≡ Some request
@@ -229,6 +188,15 @@ pub record IsFormedFirst (q : Question) (j : ℕ) : Type 0 where
       → q.may k ≡ true → form_of q.likely x ≡ form_of q.likely request
       → x.variants ≡ request.variants → j ≤ k
 
+-- what p may serve, q may too, perhaps at another place; they are asked the same
+pub record IsAmong (p q : Question) : Type 0 where
+  pub likely : p.likely ≡ q.likely
+  pub matching : p.matching ≡ q.matching
+  pub limits : p.limits ≡ q.limits
+  pub requests : p.requests ≡ q.requests
+  pub each : (k : ℕ) (x : LanguageIdentifier) → slice_get p.available k ≡ Some x → p.may k ≡ true
+      → (l : ℕ) × (slice_get q.available l ≡ Some x) × (q.may l ≡ true)
+
 -- what p is asked over is a part of what q is: at k what is at f k there, in the same order, and it may be served there
 -- too
 pub record IsPart (p q : Question) (f : ℕ → ℕ) : Type 0 where
@@ -243,12 +211,16 @@ pub record IsPart (p q : Question) (f : ℕ → ℕ) : Type 0 where
 
 -- a match costs less, or the same for an earlier request, or the same for the same
 pub record IsNoFarther (m n : Match) : Type 0 where
-  pub cost : n.distance ≤ m.distance
-  pub request : n.distance ≡ m.distance → n.request ≤ m.request
+  pub cost : n.cost ≤ m.cost
+  pub request : n.cost ≡ m.cost → n.request ≤ m.request
+
+-- the cost of a match, and the request that it serves
+abbrev pub without_place : Match → ℕ × ℕ
+without_place m = (m.cost, m.request)
 
 -- a match at another place
 abbrev pub moved_to : ℕ → Match → Match
-moved_to k m = record { request = m.request; available = k; distance = m.distance }
+moved_to k m = record { request = m.request; available = k; cost = m.cost }
 
 -- a table agrees with that of a question on what is asked
 pub record AgreeOn (q : Question) (u : LanguageMatching) : Type 0 where

@@ -1,6 +1,6 @@
 -- What language ranges ask for, and canonical forms of what is available.
 use Rattle.std.specs.Prelude.{◌≡◌, ℕ, Bool, true, false, List, [], ◌∷◌, Option, MatchOption}
-use Rattle.std.specs.List.{cons_option}
+use Rattle.std.specs.List.{AllZip, cons_option}
 use Rattle.icu_locale_core.specs.declared.langid.LanguageIdentifier.{LanguageIdentifier}
 use Rattle.icu_locale.specs.Kinds.{next}
 use Rattle.icu_locale.specs.LikelySubtags.{LikelySubtags}
@@ -13,14 +13,6 @@ use Rattle.icu_locale_extensions.specs.declared.identifier.LocaleIdentifier.{Loc
 use Rattle.icu_locale_extensions.specs.declared.syntax.Syntax.TheVariants.{Bcp47}
 use Rattle.icu_locale_matching.specs.Header.{Wish}
 
--- a range is a tag of BCP 47, and y the canonical form of its identifier, extensions dropped (UTS #35 Part 1, Annex C)
-pub record IsRequest (likely : LikelySubtags) (rules : Rules) (range : List ℕ)
-    (y : LanguageIdentifier) : Type 0 where
-  pub tag : LocaleIdentifier
-  pub known : IsLocaleIdentifier tag
-  pub spells : SpellsBy Bcp47 range tag
-  pub canonical : EndsAt (next likely rules) tag.locale.id y
-
 -- a value with P, or none where there is none
 abbrev pub IsOnly : {X : Type 0} → (X → Type 0) → Option X → Type 0
 IsOnly {X} P o = MatchOption o ((x : X) → P x → ⊥) P
@@ -29,17 +21,7 @@ IsOnly {X} P o = MatchOption o ((x : X) → P x → ⊥) P
 abbrev pub IsTag : List ℕ → LocaleIdentifier → Type 0
 IsTag range x = IsLocaleIdentifier x × SpellsBy Bcp47 range x
 
--- what the ranges of wishes stand for by P, in their order; a range that stands for nothing is passed over
-abbrev pub AreAsked : (List ℕ → LanguageIdentifier → Type 0) → List Wish → List LanguageIdentifier
-    → Type 0
-AreAsked P [] ys = ys ≡ []
-AreAsked P (w ∷ ws) ys =
-    (o : Option LanguageIdentifier) × (rest : List LanguageIdentifier)
-    × IsOnly (P w.0) o × AreAsked P ws rest × (ys ≡ cons_option o rest)
-
--- what wishes ask for
-abbrev pub AreRequests : LikelySubtags → Rules → List Wish → List LanguageIdentifier → Type 0
-AreRequests likely rules = AreAsked (IsRequest likely rules)
+-- ---- canonical forms
 
 -- y is the canonical form of x, or x as it is, where the rules come to no end
 abbrev pub IsBrought : LikelySubtags → Rules → LanguageIdentifier → Bool → LanguageIdentifier
@@ -55,20 +37,39 @@ IsCanonicalOf likely rules x y = (ends : Bool) × IsBrought likely rules x ends 
 -- the canonical forms of some identifiers, in their order
 abbrev pub AreCanonical : LikelySubtags → Rules → List LanguageIdentifier
     → List LanguageIdentifier → Type 0
-AreCanonical likely rules [] ys = ys ≡ []
-AreCanonical likely rules (x ∷ xs) ys =
-    (y : LanguageIdentifier) × (rest : List LanguageIdentifier)
-    × IsCanonicalOf likely rules x y × AreCanonical likely rules xs rest × (ys ≡ y ∷ rest)
+AreCanonical likely rules xs ys = AllZip (IsCanonicalOf likely rules) xs ys
 
--- a range that is refused is a tag of BCP 47 without extensions and private use, and y the canonical form of its
--- identifier, or that as it is, where the rules come to no end
-pub record IsRefusal (likely : LikelySubtags) (rules : Rules) (range : List ℕ)
+-- ---- what ranges ask for
+
+-- a range is a tag of BCP 47, a bare one if that is asked for, without extensions and private use, and y the canonical form
+-- of its identifier (UTS #35 Part 1, Annex C)
+pub record Asks (bare_alone : Bool) (likely : LikelySubtags) (rules : Rules) (range : List ℕ)
     (y : LanguageIdentifier) : Type 0 where
   pub tag : LocaleIdentifier
   pub known : IsLocaleIdentifier tag
   pub spells : SpellsBy Bcp47 range tag
-  pub plain : tag ≡ bare tag.locale.id
+  pub plain : bare_alone ≡ true → tag ≡ bare tag.locale.id
   pub canonical : IsCanonicalOf likely rules tag.locale.id y
+
+-- a range that is wanted asks for y, its extensions dropped
+abbrev pub IsRequest : LikelySubtags → Rules → List ℕ → LanguageIdentifier → Type 0
+IsRequest = Asks false
+
+-- a range that is refused asks for y; one with extensions refuses nothing
+abbrev pub IsRefusal : LikelySubtags → Rules → List ℕ → LanguageIdentifier → Type 0
+IsRefusal = Asks true
+
+-- what the ranges of wishes stand for by P, in their order; a range that stands for nothing is passed over
+abbrev pub AreAsked : (List ℕ → LanguageIdentifier → Type 0) → List Wish → List LanguageIdentifier
+    → Type 0
+AreAsked P [] ys = ys ≡ []
+AreAsked P (w ∷ ws) ys =
+    (o : Option LanguageIdentifier) × (rest : List LanguageIdentifier)
+    × IsOnly (P w.0) o × AreAsked P ws rest × (ys ≡ cons_option o rest)
+
+-- what wishes ask for
+abbrev pub AreRequests : LikelySubtags → Rules → List Wish → List LanguageIdentifier → Type 0
+AreRequests likely rules = AreAsked (IsRequest likely rules)
 
 -- what wishes refuse
 abbrev pub AreRefusals : LikelySubtags → Rules → List Wish → List LanguageIdentifier → Type 0

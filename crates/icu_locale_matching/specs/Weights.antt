@@ -20,7 +20,7 @@ digit ds i = slice_index ds i - 48
 abbrev pub thousandths : List ℕ → ℕ
 thousandths ds = 100 * digit ds 0 + 10 * digit ds 1 + digit ds 2
 
--- what is before a point, and the digits after it: 0 to 1; nothing before the point is 0
+-- what is before a point, and the digits after it: 0 to 1. Nothing before the point is 0, which the RFC leaves out
 abbrev pub weight_of : (whole digits : List ℕ) → Option ℕ
 weight_of whole digits =
     if are_digits digits then

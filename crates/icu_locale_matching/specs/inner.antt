@@ -2,5 +2,8 @@
 pub mod Added
 pub mod Asked
 pub mod Known
+pub mod Leaders
 pub mod Levels
+pub mod Made
 pub mod Parts
+pub mod Spelled

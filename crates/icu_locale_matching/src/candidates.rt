@@ -1,15 +1,21 @@
 //! What is available, with what a match asks of it.
-ghost use Rattle.std.specs.Prelude.{◌≡◌, IfOk, OnOk, length};
+ghost use Rattle.std.specs.Prelude.{◌≡◌, List, map, IfOk, OnOk, length};
 ghost use Rattle.std.specs.List.{filter};
 ghost use Rattle.icu_locale_core.specs.TextSet.{text_cmp};
 ghost use Rattle.icu_locale.specs.LikelyTable.{likely};
 ghost use Rattle.icu_locale.specs.LikelySubtags.{maximal_locale, subtags_of};
 ghost use Rattle.icu_provider.specs.SortedMaps.{Holds};
-ghost use Rattle.icu_locale_matching.specs.Nearest.{alone, without_region, same_form, form_of, unlikeliness, paradigms_of, is_among, candidate_of, candidates_of, has_language, identifiers_of, IsGrouped, IsMadeOver};
+ghost use Rattle.icu_locale_matching.specs.Nearest.{alone, without_region, same_form, form_of, unlikeliness, paradigms_of, is_among, identifiers_of};
+ghost use Rattle.icu_locale_matching.specs.inner.Made.{candidate_of, candidates_of, has_language, in_form, IsGrouped};
+ghost use Rattle.icu_locale_matching.specs.Made.{IsMadeOver};
+ghost use Rattle.icu_locale_matching.specs.inner.Spelled.{AreSpelled};
+ghost use Rattle.icu_locale_matching.specs.declared.candidates.Candidate.{Candidate as TheCandidate};
 
 use crate::distances::levels_for;
+use crate::leading::leading_of;
 use crate::macros::is_macro;
 use crate::spellings::{Spellings, spellings_of};
+use crate::telling::tells_apart;
 use icu_locale::LocaleExpander;
 use icu_locale_core::{Language, LanguageIdentifier};
 use icu_provider::{DataLocale, LanguageMatching, NotedMap};
@@ -37,8 +43,14 @@ pub struct Candidates {
     pub(crate) identifiers: Vec<LanguageIdentifier>,
     pub(crate) forms: Vec<Candidate>,
     pub(crate) groups: NotedMap<Language, Vec<Candidate>>,
+    // Those that stand for the others of their language.
+    pub(crate) leaders: NotedMap<Language, Vec<Candidate>>,
     // Where each is in its own spelling.
     pub(crate) spelled: Spellings,
+    // Where each is in its maximal form.
+    pub(crate) formed: Spellings,
+    // Only equal forms have the distance 0.
+    pub(crate) tells_apart: bool,
 }
 
 impl Drop for Candidates {
@@ -47,14 +59,18 @@ impl Drop for Candidates {
             identifiers: _,
             forms: _,
             groups: _,
+            leaders: _,
             spelled: _,
+            formed: _,
+            tells_apart: _,
         } = self;
     }
 }
 
 impl Candidates {
-    /// Over likely subtags, match rules and the identifiers that are available. It takes memory for two entries an
-    /// identifier, one list a language, and notes of the identifiers' spellings.
+    /// Over likely subtags, match rules and the identifiers that are available. It takes memory for three entries an
+    /// identifier at most, two lists a language, a copy of each identifier that is dropped again, and notes of their
+    /// spellings and of their maximal forms.
     ///
     /// # Errors
     ///
@@ -71,12 +87,18 @@ impl Candidates {
         let paradigms = paradigms_of(alloc, expander, matching)?;
         let forms = forms_of(alloc, expander, matching, &paradigms, &identifiers)?;
         let groups = groups_of(alloc, &forms)?;
+        let leading = leading_of(alloc, matching, &identifiers, &forms)?;
+        let leaders = groups_of(alloc, &leading)?;
         let spelled = spellings_of(alloc, &identifiers)?;
+        let formed = formed_of(alloc, expander, &identifiers)?;
         Ok(Candidates {
             identifiers,
             forms,
             groups,
+            leaders,
             spelled,
+            formed,
+            tells_apart: tells_apart(matching),
         })
     }
 
@@ -93,10 +115,31 @@ impl Candidates {
         requires { IsGrouped self.now.forms.items (length self.now.forms.items) self.now.groups }
         ensures { result.now ≡ filter (has_language language.now) self.now.forms.items }
     {
-        match self.groups.get(language) {
-            Some(group) => group,
-            None => &[],
-        }
+        group_at(&self.groups, language)
+    }
+
+    // Those that stand for the others of a language.
+    #[inline(always)]
+    pub(crate) fn leaders_of(&self, language: &Language) -> &[Candidate]
+        ensures { (leading : List TheCandidate) → IsGrouped leading (length leading) self.now.leaders
+            → result.now ≡ filter (has_language language.now) leading }
+    {
+        group_at(&self.leaders, language)
+    }
+}
+
+// The group of a language.
+#[inline(always)]
+fn group_at<'g>(
+    groups: &'g NotedMap<Language, Vec<Candidate>>,
+    language: &Language,
+) -> &'g [Candidate]
+    ensures { (forms : List TheCandidate) → IsGrouped forms (length forms) groups.now
+        → result.now ≡ filter (has_language language.now) forms }
+{
+    match groups.get(language) {
+        Some(group) => group,
+        None => &[],
     }
 }
 
@@ -148,6 +191,52 @@ fn group_of(
         .copied()
         .filter(|candidate| candidate.form.language == language)
         .collect(alloc)
+}
+
+// Where each is in its maximal form.
+fn formed_of(
+    alloc: Global,
+    expander: &LocaleExpander<'_>,
+    identifiers: &[LanguageIdentifier],
+) -> Result<Spellings, AllocError>
+    ensures { IfOk result (AreSpelled (map (in_form (likely expander.now)) identifiers.now) 0) }
+{
+    let forms = in_forms(alloc, expander, identifiers)?;
+    spellings_of(alloc, &forms)
+}
+
+// Each with the subtags of its maximal form.
+fn in_forms(
+    alloc: Global,
+    expander: &LocaleExpander<'_>,
+    identifiers: &[LanguageIdentifier],
+) -> Result<Vec<LanguageIdentifier>, AllocError>
+    ensures { IfOk result (λ list. list.items
+        ≡ map (in_form (likely expander.now)) identifiers.now) }
+{
+    let mut list = Vec::with_capacity(alloc, identifiers.len())?;
+    for id in identifiers {
+        list.push(in_form(expander, id)?)?;
+    }
+    Ok(list)
+}
+
+// An identifier with the subtags of its maximal form.
+fn in_form(
+    expander: &LocaleExpander<'_>,
+    id: &LanguageIdentifier,
+) -> Result<LanguageIdentifier, AllocError>
+    ensures { IfOk result (λ x. x ≡ in_form (likely expander.now) id.now) }
+{
+    let form = form_of(expander, id);
+    let mut copy = match id.try_clone() {
+        Ok(copy) => copy,
+        Err(_) => return Err(AllocError),
+    };
+    copy.language = form.language;
+    copy.script = form.script;
+    copy.region = form.region;
+    Ok(copy)
 }
 
 // What a match asks of each.

@@ -6,7 +6,8 @@ ghost use Rattle.std.specs.Str.{bytes_eq};
 ghost use Rattle.std.specs.List.{find, slice_get};
 ghost use Rattle.icu_locale.specs.LikelyTable.{likely};
 ghost use Rattle.icu_locale_matching.specs.Nearest.{form_of};
-ghost use Rattle.icu_locale_matching.specs.Distance.{fits, serves_at, serving_of, level_distance, distance_by, distance, levels_over, levels_for, is_macro, with_region, greatest, greatest_to, region_distance};
+ghost use Rattle.icu_locale_matching.specs.Distance.{fits, level_distance, distance_by, distance, levels_over, levels_for, is_macro, with_region, greatest, greatest_to, region_distance};
+ghost use Rattle.icu_locale_matching.specs.inner.Known.{serves_at, serving_of};
 ghost use Rattle.icu_locale_matching.specs.inner.Known.{AreKnown, AreServing, fits_at};
 ghost use Rattle.icu_locale_matching.specs.inner.Levels.{shown_level, shown, distance_favoring, IsBelow};
 

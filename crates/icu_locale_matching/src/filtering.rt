@@ -1,27 +1,26 @@
-//! What refused ranges take out (RFC 4647, section 3.3.1, basic filtering).
+//! What ranges cover (RFC 4647, section 3.3.1, basic filtering, where variants are a set).
 ghost use Rattle.std.specs.Prelude.{◌≡◌, ◌++◌, ◌∷◌, ◌&&◌, List, ℕ, not, map, IfOk};
 ghost use Rattle.std.specs.List.{list_any};
 ghost use Rattle.std.specs.Option.{option_to_list};
-ghost use Rattle.icu_locale_matching.specs.Service.{subtags_of, begins, refuses, is_begun, is_allowed, allowed};
+ghost use Rattle.icu_locale_matching.specs.Service.{subtags_of, begins, covers, is_covered, is_allowed, allowed};
 
-use icu_locale_core::{Language, LanguageIdentifier, Region, Script, VariantsIter};
+use icu_locale_core::{Language, LanguageIdentifier, Region, Script};
 use std::alloc::{AllocError, Global};
 use std::marker::Model;
 
-// The subtags that are left of an identifier.
+// The subtags that are left of an identifier without variants.
 #[derive(Debug, Drop)]
-struct Subtags<'x> {
+struct Subtags {
     language: Option<Language>,
     script: Option<Script>,
     region: Option<Region>,
-    variants: VariantsIter<'x>,
 }
 
-impl<'x> Model for Subtags<'x> {
+impl Model for Subtags {
     ghost Value = { List (List ℕ) };
 
     ghost view = { λ s. option_to_list s.language ++ (option_to_list s.script
-        ++ (option_to_list s.region ++ s.variants)) };
+        ++ option_to_list s.region) };
 }
 
 // Which identifiers may be served.
@@ -41,7 +40,7 @@ pub(crate) fn allowed(
         .collect(alloc)
 }
 
-// Whether no refused range begins an identifier, and a wanted one, where it is to be named.
+// Whether no refused range covers an identifier, and a wanted one does, where it is to be named.
 fn is_allowed(
     requests: &[LanguageIdentifier],
     out: &[LanguageIdentifier],
@@ -50,18 +49,24 @@ fn is_allowed(
 ) -> bool
     ensures { result ≡ is_allowed requests.now out.now named id.now }
 {
-    !is_begun(out, id) && (!named || is_begun(requests, id))
+    !is_covered(out, id) && (!named || is_covered(requests, id))
 }
 
-fn is_begun(ranges: &[LanguageIdentifier], id: &LanguageIdentifier) -> bool
-    ensures { result ≡ is_begun ranges.now id.now }
+fn is_covered(ranges: &[LanguageIdentifier], id: &LanguageIdentifier) -> bool
+    ensures { result ≡ is_covered ranges.now id.now }
 {
-    ranges.iter().any(|range| refuses(range, id))
+    ranges.iter().any(|range| covers(range, id))
 }
 
-// Whether the subtags of a range begin those of an identifier.
-fn refuses(range: &LanguageIdentifier, id: &LanguageIdentifier) -> bool
-    ensures { result ≡ refuses range.now id.now }
+fn covers(range: &LanguageIdentifier, id: &LanguageIdentifier) -> bool
+    ensures { result ≡ covers range.now id.now }
+{
+    begins(range, id) && range.variants.is_subset(&id.variants)
+}
+
+// Whether the language, the script and the region of a range begin those of an identifier.
+fn begins(range: &LanguageIdentifier, id: &LanguageIdentifier) -> bool
+    ensures { result ≡ begins (subtags_of range.now) (subtags_of id.now) }
 {
     let mut rest = Subtags::of(id);
     if !rest.takes(range.language.as_str()) {
@@ -70,22 +75,18 @@ fn refuses(range: &LanguageIdentifier, id: &LanguageIdentifier) -> bool
     if !rest.takes_script(&range.script) {
         return false;
     }
-    if !rest.takes_region(&range.region) {
-        return false;
-    }
-    rest.takes_all(range.variants.iter())
+    rest.takes_region(&range.region)
 }
 
-impl<'x> Subtags<'x> {
-    // All subtags of an identifier.
-    fn of(id: &'x LanguageIdentifier) -> Self
+impl Subtags {
+    // The language, the script and the region of an identifier.
+    fn of(id: &LanguageIdentifier) -> Self
         ensures { result ≡ subtags_of id.now }
     {
         Subtags {
             language: Some(id.language),
             script: id.script,
             region: id.region,
-            variants: id.variants.iter(),
         }
     }
 
@@ -106,10 +107,7 @@ impl<'x> Subtags<'x> {
             self.region = None;
             return region.as_str() == text;
         }
-        match self.variants.next() {
-            Some(variant) => variant.as_str() == text,
-            None => false,
-        }
+        false
     }
 
     // The same of a script that there may be.
@@ -123,26 +121,13 @@ impl<'x> Subtags<'x> {
         }
     }
 
-    // The same of a region that there may be.
+    // Whether what is left begins with a region that there may be.
     fn takes_region(&mut self, region: &Option<Region>) -> bool
-        ensures { (ps : List (List ℕ)) → begins (option_to_list region.now ++ ps) self.old
-            ≡ (result && begins ps self.new) }
+        ensures { result ≡ begins (option_to_list region.now) self.old }
     {
         match region {
             Some(region) => self.takes(region.as_str()),
             None => true,
         }
-    }
-
-    // The same of each of some variants.
-    fn takes_all(&mut self, variants: VariantsIter<'_>) -> bool
-        ensures { result ≡ begins variants.entry self.old }
-    {
-        for variant in variants {
-            if !self.takes(variant.as_str()) {
-                return false;
-            }
-        }
-        true
     }
 }

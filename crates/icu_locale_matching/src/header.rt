@@ -1,13 +1,16 @@
 //! Reading the header.
-ghost use Rattle.std.specs.Prelude.{◌≡◌, ◌==◌, ◌++◌, ◌∷◌, [], ◌≤◌, List, length, map, nat_lt, filter, AllPairs, None, IfOk, IsOk, OnOk};
-ghost use Rattle.std.specs.List.{cons_option, position, position_or_len, list_any};
-ghost use Rattle.icu_locale_matching.specs.Header.{AreByWeight, Wish, shown, wanted, refused, is_any, refuses_any, wants_any, has_weight, is_weight, weight, read_element, wishes_of};
-ghost use Rattle.icu_locale_matching.specs.inner.Parts.{parts_if_any, shown_if_any};
+ghost use Rattle.std.specs.Prelude.{◌≡◌, ◌==◌, ◌++◌, ◌∷◌, [], ◌≤◌, List, length, map, nat_lt, filter, AllPairs, Some, None, IfSome, IfOk, IsOk, OnOk, MatchOption};
+ghost use Rattle.std.specs.List.{slice_split, cons_option, position, position_or_len, list_any};
+ghost use Rattle.icu_locale_matching.specs.Header.{AreByWeight, Wish, shown, wanted, refused, is_any, refuses_any, wants_any, has_weight, is_blank, is_weight, weight, read_element, wishes_of};
+ghost use Rattle.icu_locale_matching.specs.inner.Parts.{elements_if_any, parts_if_any, shown_if_any};
 
 use crate::parts::{cut, halves, trimmed};
 use crate::weights::qvalue;
 use std::alloc::{AllocError, Global};
 use std::marker::Model;
+
+// As many wishes as most headers have.
+const FEW: usize = 8;
 
 /// A language range, and its weight in thousandths: 0 where it is refused.
 #[derive(Clone, Copy, Debug, PartialEq, Eq)]
@@ -20,7 +23,7 @@ pub struct LentWish<'h> {
 
 /// The header Accept-Language (RFC 9110, section 12.5.4): the wishes of its first hundred elements by falling weight,
 /// those of equal weight in their order. What cannot be read is passed over. Several headers are one, joined by `,`.
-/// Contracts see the list of wishes.
+/// An empty element is none. Contracts see the list of wishes.
 #[derive(Debug, Drop)]
 pub struct AcceptLanguage<'h> {
     wishes: Vec<LentWish<'h>>,
@@ -108,15 +111,37 @@ fn read_wishes(alloc: Global, header: &[u8]) -> Result<Vec<LentWish<'_>>, AllocE
     let mut list = Vec::new(alloc);
     let mut rest = Some(header);
     for i in 0..100usize {
-        let text = match rest {
-            Some(text) => text,
+        let (first, others) = match next_element(rest) {
+            Some(found) => found,
             None => return Ok(list),
         };
-        let (first, others) = cut(text, b',');
         add_element(&mut list, first)?;
         rest = others;
     }
     Ok(list)
+}
+
+// The first part that is not empty, and what is left behind it.
+fn next_element(text: Option<&[u8]>) -> Option<(&[u8], Option<&[u8]>)>
+    ensures { MatchOption result (elements_if_any text.entry ≡ [])
+        (λ found. elements_if_any text.entry ≡ found.0.now ∷ elements_if_any found.1) }
+{
+    let mut rest = text;
+    while let Some(text) = rest {
+        let (first, others) = cut(text, b',');
+        if !is_blank(first) {
+            return Some((first, others));
+        }
+        rest = others;
+    }
+    None
+}
+
+// Whether a part is empty, white space aside.
+fn is_blank(part: &[u8]) -> bool
+    ensures { result ≡ is_blank part.now }
+{
+    trimmed(part).is_empty()
 }
 
 // The wishes that are wanted, and those that are refused, of a list by falling weight.
@@ -147,8 +172,19 @@ fn add_wish<'h>(list: &mut Vec<LentWish<'h>>, wish: LentWish<'h>) -> Result<(), 
     ensures { OnOk result ((wishes : List Wish) → AreByWeight wishes (map shown list.old.items)
         → AreByWeight (wishes ++ shown wish.entry ∷ []) (map shown list.new.items)) }
 {
+    make_room(list)?;
     let place = place_for(list, wish.weight);
     list.insert(place, wish)?;
+    Ok(())
+}
+
+// Makes room for the first wishes, as many as most headers have.
+fn make_room(list: &mut Vec<LentWish<'_>>) -> Result<(), AllocError>
+    ensures { OnOk result (list.new.items ≡ list.old.items) }
+{
+    if list.is_empty() {
+        list.reserve(FEW)?;
+    }
     Ok(())
 }
 
@@ -186,6 +222,63 @@ fn read_element(text: &[u8]) -> Option<LentWish<'_>>
 
 // The weight that parameters give.
 fn weight(parameters: Option<&[u8]>) -> Option<u16>
+    ensures { result ≡ weight (parts_if_any 59 parameters.entry) }
+{
+    match parameters {
+        Some(text) => weight_of(text),
+        None => Some(1000),
+    }
+}
+
+// The weight that the parameters of a text give.
+fn weight_of(text: &[u8]) -> Option<u16>
+    ensures { result ≡ weight (slice_split (λ b. b == 59) text.now) }
+{
+    match tenths(text) {
+        Some(weight) => Some(weight),
+        None => searched_weight(Some(text)),
+    }
+}
+
+// The weight of a text as most headers have it.
+fn tenths(text: &[u8]) -> Option<u16>
+    ensures { IfSome result (λ w. weight (slice_split (λ b. b == 59) text.now) ≡ Some w) }
+{
+    if text.len() != 5 {
+        return None;
+    }
+    if text == b"q=0.9".as_slice() {
+        return Some(900);
+    }
+    if text == b"q=0.8".as_slice() {
+        return Some(800);
+    }
+    if text == b"q=0.7".as_slice() {
+        return Some(700);
+    }
+    if text == b"q=0.6".as_slice() {
+        return Some(600);
+    }
+    if text == b"q=0.5".as_slice() {
+        return Some(500);
+    }
+    if text == b"q=0.4".as_slice() {
+        return Some(400);
+    }
+    if text == b"q=0.3".as_slice() {
+        return Some(300);
+    }
+    if text == b"q=0.2".as_slice() {
+        return Some(200);
+    }
+    if text == b"q=0.1".as_slice() {
+        return Some(100);
+    }
+    None
+}
+
+// The weight that parameters give, by a search for the first that is one.
+fn searched_weight(parameters: Option<&[u8]>) -> Option<u16>
     ensures { result ≡ weight (parts_if_any 59 parameters.entry) }
 {
     let mut rest = parameters;

@@ -1,14 +1,15 @@
 //! Laws of language matching: what follows from the definitions alone, over every table. Their functions do nothing.
 ghost use Rattle.std.specs.Prelude.{◌≡◌, ◌↔◌, ◌+◌, ◌<◌, ◌≤◌, ℕ, Bool, true, false, List, codes, length, Option, Some, IsSome, IsSomeAnd};
 ghost use Rattle.std.specs.List.{slice_get};
+ghost use Rattle.std.specs.Option.{option_map};
 ghost use Rattle.icu_locale.specs.Negotiation.{IsMatch};
 ghost use Rattle.icu_provider.specs.declared.data_locale.DataLocale.{DataLocale};
 ghost use Rattle.icu_locale_matching.specs.Distance.{distance, favored, TellsApart, AgreeAt};
-ghost use Rattle.icu_locale_matching.specs.Nearest.{Matching, may_of, Question, question, AgreeOn, with_matching, IsNearest, ServesFirst, IsSpelledFirst, IsFormedFirst, IsPart, IsNoFarther, moved_to, ScriptsAreFar, KeepsScript, demotion_at, form_of};
+ghost use Rattle.icu_locale_matching.specs.Nearest.{Matching, may_of, Question, question, AgreeOn, with_matching, IsNearest, ServesFirst, IsSpelledFirst, IsFormedFirst, IsAmong, IsPart, IsNoFarther, without_place, moved_to, ScriptsAreFar, KeepsScript, demotion_at, form_of};
 ghost use Rattle.icu_locale_matching.specs.Resolved.{is_varied, resolved};
 ghost use Rattle.icu_locale_extensions.specs.Built.{with_id};
 ghost use Rattle.icu_locale_extensions.specs.declared.identifier.LocaleIdentifier.{LocaleIdentifier};
-ghost use Rattle.icu_locale_matching.specs.Service.{Service, IsChoice, IsServed, IsNearestTo, IsRefusedIn, IsCanonicalAt, IsUnread, refuses, first_place};
+ghost use Rattle.icu_locale_matching.specs.Service.{Service, IsChoice, IsServed, IsServedBy, IsNearestTo, IsRefusedIn, IsWantedIn, LetsServe, IsNear, IsPlain, IsCanonicalAt, IsUnread, AreAmong, with_available, covers, first_place, place_of};
 ghost use Rattle.icu_locale_matching.specs.declared.limits.FavorSubtag.{FavorSubtag};
 ghost use Rattle.icu_locale_matching.specs.declared.limits.FavorSubtag.TheVariants.{Language};
 ghost use Rattle.icu_locale_matching.specs.declared.matcher.Match.{Match};
@@ -55,7 +56,7 @@ pub fn the_nearest_is_one()
 #[tactic(auto, using(crate::proofs::Serving::served_below))]
 pub fn what_is_served_is_below_the_threshold()
     ensures { (q : Question) (m : Match) → IsNearest q (Some m)
-        → m.distance < q.limits.threshold + demotion_at q.limits.demotion m.request }
+        → m.cost < q.limits.threshold + demotion_at q.limits.demotion m.request }
 {}
 
 /// What is near enough to some request and may be served is never lost: something is served, however many requests come
@@ -90,7 +91,7 @@ pub fn what_negotiates_is_served()
 pub fn what_is_spelled_as_asked_is_served()
     ensures { (q : Question) (j : ℕ) (result : Option Match) → 0 < q.limits.threshold
         → IsSpelledFirst q j → IsNearest q result
-        → result ≡ Some (record { request = 0; available = j; distance = 0 }) }
+        → result ≡ Some (record { request = 0; available = j; cost = 0 }) }
 {}
 
 /// Where each rule has a distance above 0, and the first request is not available in its own spelling, the first place of
@@ -98,16 +99,34 @@ pub fn what_is_spelled_as_asked_is_served()
 pub fn what_means_as_asked_is_served()
     ensures { (q : Question) (j : ℕ) (result : Option Match) → TellsApart q.matching
         → 0 < q.limits.threshold → IsFormedFirst q j → IsNearest q result
-        → result ≡ Some (record { request = 0; available = j; distance = 0 }) }
+        → result ≡ Some (record { request = 0; available = j; cost = 0 }) }
 {}
 
-/// What is added to what is available only brings the answer nearer: the distance is no greater, and where it is the
-/// same, the request is no later.
+/// What is added to what is available only brings the answer nearer: the cost is no greater, and where it is the same, the
+/// request is no later.
 pub fn what_is_added_is_no_farther()
-    ensures { (p q : Question) (f : ℕ → ℕ) (m : Match) (result : Option Match)
-        → IsPart p q f → IsNearest p (Some m) → IsNearest q result
+    ensures { (p q : Question) (m : Match) (result : Option Match)
+        → IsAmong p q → IsNearest p (Some m) → IsNearest q result
         → IsSomeAnd result (IsNoFarther m) }
 {}
+
+/// In whatever order identifiers are available, and however often, the same request is served, at the same cost.
+pub fn the_order_of_what_is_available_does_not_count()
+    ensures nearest { (p q : Question) (a b : Option Match) → IsAmong p q → IsAmong q p
+        → IsNearest p a → IsNearest q b
+        → option_map without_place a ≡ option_map without_place b }
+    ensures requests { (s : Service) (others requests : List LanguageIdentifier)
+        (a b : Option Match) → AreAmong s.available others → AreAmong others s.available
+        → IsNearestTo s requests a → IsNearestTo (with_available s others) requests b
+        → option_map without_place a ≡ option_map without_place b }
+    ensures header { (s : Service) (others : List LanguageIdentifier) (header : List ℕ)
+        (a b : Option ℕ) (found other : Option Match) → AreAmong s.available others
+        → AreAmong others s.available → IsServedBy s header a found
+        → IsServedBy (with_available s others) header b other
+        → option_map without_place found ≡ option_map without_place other }
+{
+    icu_locale_extensions::laws::spelled_once_by();
+}
 
 /// What is not served may be taken away: the same is served, at its new place.
 pub fn what_is_not_served_may_be_taken_away()
@@ -135,26 +154,63 @@ pub fn what_is_served_keeps_the_script()
         → KeepsScript q m }
 {}
 
-/// What is served for a header may be served: no refused range is it or begins it.
+/// What is served for a header may be served: no refused range covers it.
 pub fn what_is_chosen_may_be()
     ensures { (m : Matching) (requests : List LanguageIdentifier) (may : List Bool) (any : Bool)
         (place : ℕ) → IsChoice m requests may any (Some place) → may_of may place ≡ true }
 {}
 
-/// An element of weight 0 excludes: what its range asks for is not served, nor what that begins.
+/// An element of weight 0 excludes: what its range covers is not served.
 pub fn what_is_refused_is_not_served()
     ensures { (s : Service) (header : List ℕ) (place : ℕ) (range y : LanguageIdentifier)
         → IsRefusedIn s header range → IsCanonicalAt s place y
-        → IsServed s header (Some place) → refuses range y ≡ false }
+        → IsServed s header (Some place) → covers range y ≡ false }
 {
     icu_locale_extensions::laws::spelled_once_by();
 }
 
-/// An element that cannot be read changes nothing.
+/// An element that cannot be read changes nothing, nor does an empty one.
 pub fn what_cannot_be_read_changes_nothing()
     ensures { (s : Service) (more fewer : List ℕ) (result : Option ℕ) → IsUnread more fewer
         → (IsServed s more result) ↔ (IsServed s fewer result) }
 {}
+
+/// What is near to a range of a header that is wanted is not lost: something is served, if no refused range covers what
+/// is near, and a wanted one does, where `*` is refused.
+pub fn what_is_near_to_a_header_is_not_lost()
+    ensures { (s : Service) (header : List ℕ) (place : ℕ) (range y : LanguageIdentifier)
+        (result : Option ℕ) → IsWantedIn s header range → IsCanonicalAt s place y
+        → LetsServe s header y → IsNear s range y → IsServed s header result → IsSome result }
+{
+    icu_locale_extensions::laws::spelled_once_by();
+}
+
+/// What is added to what is available serves no worse. For a header something is served still, and the nearest of what it
+/// lets be served costs no more; so does the nearest for requests.
+pub fn what_is_added_serves_no_worse()
+    ensures served { (s : Service) (more : List LanguageIdentifier) (header : List ℕ) (place : ℕ)
+        (result : Option ℕ) → AreAmong s.available more → IsServed s header (Some place)
+        → IsServed (with_available s more) header result → IsSome result }
+    ensures header { (s : Service) (more : List LanguageIdentifier) (header : List ℕ)
+        (a b : Option ℕ) (m : Match) (found : Option Match) → AreAmong s.available more
+        → IsServedBy s header a (Some m) → IsServedBy (with_available s more) header b found
+        → IsSomeAnd found (IsNoFarther m) }
+    ensures requests { (s : Service) (more requests : List LanguageIdentifier) (m : Match)
+        (result : Option Match) → AreAmong s.available more → IsNearestTo s requests (Some m)
+        → IsNearestTo (with_available s more) requests result → IsSomeAnd result (IsNoFarther m) }
+{
+    icu_locale_extensions::laws::spelled_once_by();
+}
+
+/// A header of ranges without extensions, in falling weight, none refused, is served what is nearest for them as requests.
+pub fn a_plain_header_asks_for_the_nearest()
+    ensures { (s : Service) (header : List ℕ) (requests : List LanguageIdentifier)
+        (result : Option ℕ) (found : Option Match) → IsPlain header requests
+        → IsServed s header result → IsNearestTo s requests found → result ≡ place_of found }
+{
+    icu_locale_extensions::laws::spelled_once_by();
+    icu_locale_extensions::laws::refusals_are_faults();
+}
 
 /// `*` alone has the first served, if there is one.
 pub fn any_alone_serves_the_first()

@@ -7,6 +7,7 @@ mod distances;
 mod filtering;
 mod header;
 pub mod laws;
+mod leading;
 mod limits;
 mod macros;
 mod matcher;
@@ -18,6 +19,7 @@ mod resolved;
 mod search;
 mod server;
 mod spellings;
+mod telling;
 mod weights;
 
 pub use candidates::Candidates;

@@ -4,7 +4,8 @@ ghost use Rattle.std.specs.Option.{option_map};
 ghost use Rattle.std.specs.Coded.{codes};
 ghost use Rattle.icu_locale_core.specs.TextSet.{text_set_code};
 ghost use Rattle.icu_locale.specs.LikelyTable.{likely};
-ghost use Rattle.icu_locale_matching.specs.Nearest.{identifiers_of, IsMadeOver, Matching, question, all_may, may_of, match_of, IsNearest};
+ghost use Rattle.icu_locale_matching.specs.Nearest.{identifiers_of, Matching, question, all_may, may_of, match_of, IsNearest};
+ghost use Rattle.icu_locale_matching.specs.Made.{IsMadeOver};
 ghost use Rattle.icu_locale_matching.specs.inner.Asked.{may_shown};
 
 use crate::candidates::Candidates;
@@ -24,7 +25,7 @@ pub struct Match {
     /// The place of the available identifier.
     pub available: usize,
     /// The distance of their maximal forms, by what is favored, and a demotion for each request before, 65,535 at most.
-    pub distance: u32,
+    pub cost: u32,
 }
 
 /// Finds the nearest available identifier, over tables and a list that it borrows. Contracts see the expander, the
@@ -97,8 +98,8 @@ impl<'r> LocaleMatcher<'r> {
         self.nearest_by(requests, Some(may))
     }
 
-    // Where the first request is there in its own spelling, no search is needed.
-    #[tactic(auto, using(crate::proofs::Serving::own_spelling_is_nearest))]
+    // Where the first request is there in its own spelling, or in its maximal form, no search is needed.
+    #[tactic(auto, using(crate::proofs::Serving::own_spelling_is_nearest, crate::proofs::Serving::own_form_is_nearest))]
     fn nearest_by(&self, requests: &[LanguageIdentifier], may: Option<&[bool]>) -> Option<Match>
         ensures { IsNearest (question self.now requests.now (may_shown may.entry)) result }
     {
@@ -113,7 +114,14 @@ impl<'r> LocaleMatcher<'r> {
             return Some(Match {
                 request: 0,
                 available: place,
-                distance: 0,
+                cost: 0,
+            });
+        }
+        if let Some(place) = search.formed_first(requests) {
+            return Some(Match {
+                request: 0,
+                available: place,
+                cost: 0,
             });
         }
         match_of(search.least(requests))
@@ -128,7 +136,7 @@ fn match_of(rank: Option<Rank>) -> Option<Match>
         Some(rank) => Some(Match {
             request: rank.request,
             available: rank.available,
-            distance: rank.cost,
+            cost: rank.cost,
         }),
         None => None,
     }

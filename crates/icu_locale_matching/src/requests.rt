@@ -9,7 +9,7 @@ ghost use Rattle.icu_locale.specs.Refusals.{IsMemory};
 ghost use Rattle.icu_locale.specs.RuleSet.{lent};
 ghost use Rattle.icu_locale_extensions.specs.Built.{bare};
 ghost use Rattle.icu_locale_matching.specs.Header.{Wish, shown};
-ghost use Rattle.icu_locale_matching.specs.Requests.{IsRequest, IsRefusal, IsOnly, IsTag, AreRequests, AreRefusals, IsBrought, IsCanonicalOf, AreCanonical};
+ghost use Rattle.icu_locale_matching.specs.Requests.{Asks, AreAsked, IsOnly, IsTag, IsBrought, IsCanonicalOf, AreCanonical};
 ghost use Rattle.icu_locale_matching.specs.inner.Added.{IsAdded, IsIdentifierOf};
 
 use crate::header::LentWish;
@@ -18,128 +18,86 @@ use icu_locale_core::{LanguageIdentifier, ParseError};
 use icu_locale_extensions::LocaleIdentifier;
 use std::alloc::{AllocError, Global};
 
-// What wishes ask for, each by its range.
-pub(crate) fn requests_of(
+// What wishes ask for, each by its range: those without extensions, where `bare_alone`.
+pub(crate) fn asked_by(
     alloc: Global,
     rules: &CanonicalizerRef<'_>,
     wishes: &[LentWish<'_>],
+    bare_alone: bool,
 ) -> Result<Vec<LanguageIdentifier>, AllocError>
-    ensures { IfOk result (λ list. AreRequests (likely rules.now.expander) (lent rules.now.rules)
-        (map shown wishes.now) list.items) }
+    ensures { IfOk result (λ list. AreAsked (Asks bare_alone (likely rules.now.expander)
+        (lent rules.now.rules)) (map shown wishes.now) list.items) }
 {
-    let mut list = Vec::new(alloc);
+    let mut list = Vec::with_capacity(alloc, wishes.len())?;
     for wish in wishes {
-        add_request(alloc, rules, &mut list, wish)?;
+        add_asked(alloc, rules, &mut list, wish, bare_alone)?;
     }
     Ok(list)
 }
 
 // Appends what a wish asks for, if anything, to a list.
-fn add_request(
+fn add_asked(
     alloc: Global,
     rules: &CanonicalizerRef<'_>,
     list: &mut Vec<LanguageIdentifier>,
     wish: &LentWish<'_>,
+    bare_alone: bool,
 ) -> Result<(), AllocError>
-    ensures { OnOk result (IsAdded (IsRequest (likely rules.now.expander) (lent rules.now.rules)
-        wish.now.range.now) list.old.items list.new.items) }
+    ensures { OnOk result (IsAdded (Asks bare_alone (likely rules.now.expander)
+        (lent rules.now.rules) wish.now.range.now) list.old.items list.new.items) }
 {
-    match request_of(alloc, rules, wish.range) {
+    match asked_of(alloc, rules, wish.range, bare_alone) {
         Ok(Some(id)) => Ok(list.push(id)?),
         Ok(None) => Ok(()),
         Err(error) => Err(error),
     }
 }
 
-// What a range asks for: its canonical form without extensions, if it is a tag of BCP 47 and has one.
-fn request_of(
+// What a range asks for: the canonical form of its identifier, or that as it is where the rules come to no end.
+fn asked_of(
     alloc: Global,
     rules: &CanonicalizerRef<'_>,
     range: &[u8],
+    bare_alone: bool,
 ) -> Result<Option<LanguageIdentifier>, AllocError>
-    ensures { IfOk result (IsOnly (IsRequest (likely rules.now.expander) (lent rules.now.rules)
-        range.now)) }
+    ensures { IfOk result (IsOnly (Asks bare_alone (likely rules.now.expander)
+        (lent rules.now.rules) range.now)) }
 {
-    // a law for the proof: no code runs
-    icu_locale_extensions::laws::spelled_once_by();
-    let mut id = match identifier_in(alloc, range) {
+    let mut id = match identifier_in(alloc, range, bare_alone) {
         Ok(Some(id)) => id,
         Ok(None) => return Ok(None),
         Err(error) => return Err(error),
     };
     match bring(rules, &mut id) {
-        Ok(true) => Ok(Some(id)),
-        Ok(false) => Ok(None),
+        Ok(_) => Ok(Some(id)),
         Err(error) => Err(error),
     }
 }
 
 // The identifier of the tag that a range is, if it is one. Most are identifiers alone, and are read as such.
-fn identifier_in(alloc: Global, range: &[u8]) -> Result<Option<LanguageIdentifier>, AllocError>
-    ensures { IfOk result (IsOnly (IsIdentifierOf range.now)) }
+fn identifier_in(
+    alloc: Global,
+    range: &[u8],
+    bare_alone: bool,
+) -> Result<Option<LanguageIdentifier>, AllocError>
+    ensures { IfOk result (IsOnly (IsIdentifierOf bare_alone range.now)) }
 {
     // a law for the proof: no code runs
     icu_locale_extensions::laws::identifiers_read_alike();
     match LanguageIdentifier::try_from_utf8(alloc, range) {
         Ok(id) => Ok(Some(id)),
         Err(ParseError::Memory) => Err(AllocError),
-        Err(_) => identifier_of_tag(alloc, range),
+        Err(_) => identifier_of_tag(alloc, range, bare_alone),
     }
 }
 
-// The same of any tag.
-fn identifier_of_tag(alloc: Global, range: &[u8]) -> Result<Option<LanguageIdentifier>, AllocError>
-    ensures { IfOk result (IsOnly (IsIdentifierOf range.now)) }
-{
-    match read_tag(alloc, range) {
-        Ok(Some(tag)) => Ok(Some(identifier_of(tag))),
-        Ok(None) => Ok(None),
-        Err(error) => Err(error),
-    }
-}
-
-// What wishes refuse, each by its range.
-pub(crate) fn refusals_of(
+// The same of any tag. One with extensions is none, where `bare_alone`.
+fn identifier_of_tag(
     alloc: Global,
-    rules: &CanonicalizerRef<'_>,
-    wishes: &[LentWish<'_>],
-) -> Result<Vec<LanguageIdentifier>, AllocError>
-    ensures { IfOk result (λ list. AreRefusals (likely rules.now.expander) (lent rules.now.rules)
-        (map shown wishes.now) list.items) }
-{
-    let mut list = Vec::new(alloc);
-    for wish in wishes {
-        add_refusal(alloc, rules, &mut list, wish)?;
-    }
-    Ok(list)
-}
-
-// Appends what a wish refuses, if anything, to a list.
-fn add_refusal(
-    alloc: Global,
-    rules: &CanonicalizerRef<'_>,
-    list: &mut Vec<LanguageIdentifier>,
-    wish: &LentWish<'_>,
-) -> Result<(), AllocError>
-    ensures { OnOk result (IsAdded (IsRefusal (likely rules.now.expander) (lent rules.now.rules)
-        wish.now.range.now) list.old.items list.new.items) }
-{
-    match refusal_of(alloc, rules, wish.range) {
-        Ok(Some(id)) => Ok(list.push(id)?),
-        Ok(None) => Ok(()),
-        Err(error) => Err(error),
-    }
-}
-
-// What a range refuses: its canonical form, or itself where it has none, if it is a tag of BCP 47 without extensions. One
-// with extensions begins no identifier.
-fn refusal_of(
-    alloc: Global,
-    rules: &CanonicalizerRef<'_>,
     range: &[u8],
+    bare_alone: bool,
 ) -> Result<Option<LanguageIdentifier>, AllocError>
-    ensures { IfOk result (IsOnly (IsRefusal (likely rules.now.expander) (lent rules.now.rules)
-        range.now)) }
+    ensures { IfOk result (IsOnly (IsIdentifierOf bare_alone range.now)) }
 {
     // a law for the proof: no code runs
     icu_locale_extensions::laws::spelled_once_by();
@@ -148,14 +106,10 @@ fn refusal_of(
         Ok(None) => return Ok(None),
         Err(error) => return Err(error),
     };
-    if !is_plain(&tag) {
+    if bare_alone && !is_plain(&tag) {
         return Ok(None);
     }
-    let mut id = identifier_of(tag);
-    match bring(rules, &mut id) {
-        Ok(_) => Ok(Some(id)),
-        Err(error) => Err(error),
-    }
+    Ok(Some(identifier_of(tag)))
 }
 
 // Whether a locale identifier has no extensions and no private use.
@@ -223,6 +177,22 @@ fn no_end(error: CanonicalizeError) -> Result<bool, AllocError>
         CanonicalizeError::NoFixedPoint(_) => Ok(false),
         CanonicalizeError::NoSubdivisionFixedPoint(_) => Ok(false),
     }
+}
+
+// Whether each of some identifiers is its own canonical form.
+pub(crate) fn are_canonical(
+    rules: &CanonicalizerRef<'_>,
+    identifiers: &[LanguageIdentifier],
+) -> bool
+    ensures { IsTrue result → AreCanonical (likely rules.now.expander) (lent rules.now.rules)
+        identifiers.now identifiers.now }
+{
+    for id in identifiers {
+        if !rules.is_canonical(id) {
+            return false;
+        }
+    }
+    true
 }
 
 // The canonical forms of identifiers.

@@ -1,11 +1,14 @@
 //! The search for the nearest available locale.
-ghost use Rattle.std.specs.Prelude.{◌≡◌, ◌+◌, ◌<◌, ◌^◌, ℕ, Some, IfSome, true, length, option_copied};
+ghost use Rattle.std.specs.Prelude.{◌≡◌, ◌+◌, ◌<◌, ◌^◌, ℕ, Some, IfSome, IsTrue, true, length, option_copied};
 ghost use Rattle.std.specs.List.{All, filter, slice_get};
 ghost use Rattle.icu_locale_core.specs.laws.Identifiers.{same_parts, same_texts};
 ghost use Rattle.icu_locale.specs.LikelyTable.{likely};
-ghost use Rattle.icu_locale_matching.specs.Nearest.{is_true, has_language, IsMadeOver, IsLeastOf, IsOffer, IsSpelledFirst, demotion_at};
-ghost use Rattle.icu_locale_matching.specs.inner.Asked.{may_shown, asked_of, IsOfferBefore, IsOfferAt, Beats, BeatsEach, Improves, IsRowOf, IsWithin, IsAsked, IsRankAt, is_settled, limit, lesser};
-ghost use Rattle.icu_locale_matching.specs.Distance.{levels_for, serving_of};
+ghost use Rattle.icu_locale_matching.specs.Nearest.{is_true, IsLeastOf, IsOffer, IsSpelledFirst, IsFormedFirst, demotion_at};
+ghost use Rattle.icu_locale_matching.specs.inner.Made.{has_language};
+ghost use Rattle.icu_locale_matching.specs.Made.{IsMadeOver};
+ghost use Rattle.icu_locale_matching.specs.inner.Asked.{may_shown, asked_of, IsOfferBefore, IsOfferAt, Beats, BeatsEach, BeatsThere, Improves, IsRowOf, IsWithin, IsAsked, IsRankAt, is_settled, limit, lesser};
+ghost use Rattle.icu_locale_matching.specs.Distance.{favored, levels_for, TellsApart};
+ghost use Rattle.icu_locale_matching.specs.inner.Known.{serving_of};
 ghost use Rattle.icu_locale_matching.specs.inner.Known.{AreServing};
 ghost use Rattle.icu_provider.specs.declared.matching.LanguageMatching.{LanguageMatching as TheMatching};
 ghost use Rattle.icu_provider.specs.declared.matching.MatchRule.{MatchRule};
@@ -13,13 +16,16 @@ ghost use Rattle.icu_locale_matching.specs.declared.rank.Rank.{Rank as TheRank};
 
 use crate::candidates::{Candidate, Candidates, form_of};
 use crate::distances::{LentLevels, levels_for};
-use crate::limits::{MatchLimits, share};
+use crate::limits::{FavorSubtag, MatchLimits, share};
 use crate::macros::is_macro;
 use crate::rank::Rank;
-use crate::spellings::place_spelled;
+use crate::spellings::{is_unspelled, place_formed, place_spelled};
 use icu_locale::LocaleExpander;
 use icu_locale_core::LanguageIdentifier;
 use icu_provider::{DataLocale, LanguageMatching};
+
+// A group of less is compared whole.
+const FEW: usize = 8;
 
 // What a search goes over.
 #[derive(Clone, Copy, Debug)]
@@ -94,6 +100,50 @@ impl<'r> Search<'r> {
         match place_spelled(&self.candidates.spelled, request) {
             Some(place) => self.served_at(place),
             None => None,
+        }
+    }
+
+    // The place of the first request in its maximal form, where it is not known in its own spelling, and that is known and
+    // may be served.
+    pub(crate) fn formed_first(&self, requests: &[LanguageIdentifier]) -> Option<usize>
+        requires { IsMadeOver (likely self.now.expander) self.now.matching.now
+            self.now.candidates.now }
+        ensures room { IfSome result (λ j. 0 < self.now.limits.threshold) }
+        ensures tells { IfSome result (λ j. TellsApart (asked_of self.now requests.now).matching) }
+        ensures first { IfSome result (IsFormedFirst (asked_of self.now requests.now)) }
+    {
+        if self.limits.threshold == 0 {
+            return None;
+        }
+        if !self.tells_apart() {
+            return None;
+        }
+        let [request, ..] = requests else {
+            return None;
+        };
+        // Few are compared as quickly.
+        if self.candidates.of_language(&request.language).len() < FEW {
+            return None;
+        }
+        if !is_unspelled(&self.candidates.spelled, request) {
+            return None;
+        }
+        match place_formed(&self.candidates.formed, &form_of(&self.expander, request)) {
+            Some(place) => self.served_at(place),
+            None => None,
+        }
+    }
+
+    // Whether only equal forms have the distance 0, by what is favored.
+    fn tells_apart(&self) -> bool
+        requires { IsMadeOver (likely self.now.expander) self.now.matching.now
+            self.now.candidates.now }
+        ensures { IsTrue result
+            → TellsApart (favored self.now.limits.favor self.now.matching.now) }
+    {
+        match self.limits.favor {
+            FavorSubtag::Language => self.candidates.tells_apart,
+            FavorSubtag::Script => false,
         }
     }
 
@@ -199,13 +249,84 @@ impl<'r> Search<'r> {
             → BeatsEach (asked_of self.now asked.now.requests.now) asked.now.place
             (filter (has_language r.language) self.now.candidates.now.forms.items) result }
     {
-        let own = self.candidates.of_language(&asked.form.language);
-        let mut near = self.best_among(asked, own, best);
+        let mut near = self.best_own(asked, best);
         for rule in asked.levels.language.rules {
             let named = self.candidates.of_language(&rule.language);
             near = self.best_among(asked, named, near);
         }
         near
+    }
+
+    // The best of the language of a request.
+    fn best_own(&self, asked: &Asked<'_, '_>, best: Option<Rank>) -> Option<Rank>
+        requires made { IsMadeOver (likely self.now.expander) self.now.matching.now
+            self.now.candidates.now }
+        requires asked { IsAsked self.now asked.now }
+        requires best { IsWithin self.now.limits.threshold best }
+        ensures improves { Improves (asked_of self.now asked.now.requests.now) asked.now.place
+            best result }
+        ensures own { BeatsEach (asked_of self.now asked.now.requests.now) asked.now.place
+            (filter (has_language asked.now.form.language) self.now.candidates.now.forms.items)
+            result }
+    {
+        let own = self.candidates.of_language(&asked.form.language);
+        if self.may.is_some() {
+            return self.best_among(asked, own, best);
+        }
+        let near = self.best_in_region(asked, own, best);
+        self.best_among(
+            asked,
+            self.candidates.leaders_of(&asked.form.language),
+            near,
+        )
+    }
+
+    // The best of those of some candidates that have the region of a request, or the best so far.
+    fn best_in_region(
+        &self,
+        asked: &Asked<'_, '_>,
+        part: &[Candidate],
+        mut best: Option<Rank>,
+    ) -> Option<Rank>
+        requires asked { IsAsked self.now asked.now }
+        requires part { All (IsRowOf (likely self.now.expander) self.now.matching.now
+            self.now.candidates.now.identifiers.items) part.now }
+        requires best { IsWithin self.now.limits.threshold best }
+        ensures improves { Improves (asked_of self.now asked.now.requests.now) asked.now.place
+            best result }
+        ensures within { IsWithin self.now.limits.threshold result }
+        ensures beats { BeatsThere (asked_of self.now asked.now.requests.now) asked.now.place
+            asked.now.form.region part.now (length part.now) result }
+    {
+        for candidate in part {
+            best = self.better_in_region(asked, candidate, best);
+        }
+        best
+    }
+
+    // The better of the best so far and a candidate, if that has the region of a request.
+    #[inline(always)]
+    fn better_in_region(
+        &self,
+        asked: &Asked<'_, '_>,
+        candidate: &Candidate,
+        best: Option<Rank>,
+    ) -> Option<Rank>
+        requires asked { IsAsked self.now asked.now }
+        requires row { IsRowOf (likely self.now.expander) self.now.matching.now
+            self.now.candidates.now.identifiers.items candidate.now }
+        requires best { IsWithin self.now.limits.threshold best }
+        ensures improves { Improves (asked_of self.now asked.now.requests.now) asked.now.place
+            best result }
+        ensures beats { (s : TheRank) → candidate.now.form.region ≡ asked.now.form.region
+            → IsOfferAt (asked_of self.now asked.now.requests.now) asked.now.place s
+            → s.available ≡ candidate.now.place → Beats result s }
+    {
+        if candidate.form.region == asked.form.region {
+            self.better(asked, candidate, best)
+        } else {
+            best
+        }
     }
 
     // The best of some candidates, or the best so far.
@@ -232,6 +353,7 @@ impl<'r> Search<'r> {
     }
 
     // The better of the best so far and a candidate.
+    #[inline(always)]
     fn better(
         &self,
         asked: &Asked<'_, '_>,
@@ -360,7 +482,7 @@ fn lesser(best: Option<Rank>, rank: Rank) -> Rank
 }
 
 // Whether two identifiers have equal variants.
-fn has_same_variants(one: &LanguageIdentifier, other: &LanguageIdentifier) -> bool
+pub(crate) fn has_same_variants(one: &LanguageIdentifier, other: &LanguageIdentifier) -> bool
     ensures { result ≡ same_texts one.now.variants other.now.variants }
 {
     one.variants == other.variants

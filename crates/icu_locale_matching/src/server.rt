@@ -15,7 +15,7 @@ use crate::filtering::allowed;
 use crate::header::AcceptLanguage;
 use crate::limits::MatchLimits;
 use crate::matcher::{LocaleMatcher, Match};
-use crate::requests::{canonical_forms, refusals_of, requests_of};
+use crate::requests::{are_canonical, asked_by, canonical_forms};
 use icu_locale::CanonicalizerRef;
 use icu_locale_core::LanguageIdentifier;
 use icu_provider::LanguageMatching;
@@ -134,8 +134,8 @@ impl<'r> LocaleServer<'r> {
     }
 
     /// The place of what is served for the header Accept-Language, in its bytes. Each range is read as a tag of BCP 47,
-    /// brought to its canonical form, and asks for that without extensions; one that has none is passed over. What a
-    /// refused range is or begins is taken out, and where `*` is refused, what no wanted range is or begins; one with
+    /// brought to its canonical form, and asks for that without extensions; one whose rules come to no end asks as it
+    /// is. What a refused range covers is taken out, and where `*` is refused, what no wanted range covers; one with
     /// extensions refuses nothing. Of the rest the nearest is served, else the first where `*` is wanted, else none. It
     /// takes memory for the wishes, for what they ask for, and, where a range is refused, for a mark an available
     /// identifier.
@@ -158,7 +158,8 @@ impl<'r> LocaleServer<'r> {
     }
 
     /// The nearest available locale for requests, and which request it serves, over canonical forms on both sides; a
-    /// request whose rules come to no end asks as it is. It takes memory for a copy of each request.
+    /// request whose rules come to no end asks as it is. Where a rule matches one, it takes memory for a copy of each
+    /// request.
     ///
     /// # Errors
     ///
@@ -200,8 +201,11 @@ fn nearest_to(
       available = identifiers_of served.now;
     }) requests.now) }
 {
-    let asked = canonical_forms(alloc, rules, requests)?;
     let matcher = LocaleMatcher::over(rules.expander, matching, limits, &served.candidates);
+    if are_canonical(rules, requests) {
+        return Ok(matcher.nearest(requests));
+    }
+    let asked = canonical_forms(alloc, rules, requests)?;
     Ok(matcher.nearest(&asked))
 }
 
@@ -251,8 +255,8 @@ fn place_for(
       available = identifiers_of served.now;
     }) header.now) }
 {
-    let requests = requests_of(alloc, rules, header.wanted())?;
-    let out = refusals_of(alloc, rules, header.refused())?;
+    let requests = asked_by(alloc, rules, header.wanted(), false)?;
+    let out = asked_by(alloc, rules, header.refused(), true)?;
     let matcher = LocaleMatcher::over(rules.expander, matching, limits, &served.candidates);
     choice_without(
         alloc,
@@ -264,7 +268,7 @@ fn place_for(
     )
 }
 
-// The choice among what no refused range begins.
+// The choice among what no refused range covers.
 fn choice_without(
     alloc: Global,
     matcher: &LocaleMatcher<'_>,

@@ -1,11 +1,12 @@
 //! Where identifiers stand in their own spelling.
-ghost use Rattle.std.specs.Prelude.{◌≡◌, ◌+◌, ◌<◌, ◌≤◌, length, Some, IfOk, IfSome, OnOk};
+ghost use Rattle.std.specs.Prelude.{◌≡◌, ◌+◌, ◌<◌, ◌≤◌, length, IsTrue, Some, None, IfOk, IfSome, OnOk};
 ghost use Rattle.icu_locale_core.specs.TextSet.{empty};
-ghost use Rattle.icu_locale_matching.specs.Spelled.{key_of, place_at, AreSpelled};
+ghost use Rattle.icu_locale_core.specs.declared.langid.LanguageIdentifier.{LanguageIdentifier as TheIdentifier};
+ghost use Rattle.icu_locale_matching.specs.inner.Spelled.{key_of, place_at, AreSpelled};
 
 use icu_locale_core::LanguageIdentifier;
 use icu_provider::laws::requests_in_order;
-use icu_provider::{NameKey, NotedMap};
+use icu_provider::{DataLocale, NameKey, NotedMap};
 use std::alloc::{AllocError, Global};
 
 // The first place of each identifier without variants, at its key.
@@ -70,6 +71,33 @@ pub(crate) fn place_spelled(rows: &Spellings, id: &LanguageIdentifier) -> Option
         return None;
     }
     match rows.get(&key_of(id)) {
+        Some(place) => Some(*place),
+        None => None,
+    }
+}
+
+// Whether an identifier has no variants, and no place is noted for it.
+#[inline(always)]
+pub(crate) fn is_unspelled(rows: &Spellings, id: &LanguageIdentifier) -> bool
+    ensures plain { IsTrue result → id.now.variants ≡ empty }
+    ensures none { IsTrue result → place_at rows.now id.now ≡ None }
+{
+    if !id.variants.is_empty() {
+        return false;
+    }
+    match rows.get(&key_of(id)) {
+        Some(_) => false,
+        None => true,
+    }
+}
+
+// The place that is noted for the subtags of a form.
+#[inline(always)]
+pub(crate) fn place_formed(rows: &Spellings, form: &DataLocale) -> Option<usize>
+    ensures { (x : TheIdentifier) → x.language ≡ form.now.language → x.script ≡ form.now.script
+        → x.region ≡ form.now.region → result ≡ place_at rows.now x }
+{
+    match rows.get(&NameKey::Language(form.language, form.script, form.region)) {
         Some(place) => Some(*place),
         None => None,
     }

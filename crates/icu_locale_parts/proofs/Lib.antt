@@ -1,2 +1,4 @@
+mod Columns
+mod Joins
 mod Plain
 mod Tabs

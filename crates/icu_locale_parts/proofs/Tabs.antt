@@ -15,7 +15,7 @@ use Rattle.icu_locale_parts.proofs.Plain.{IsPlain, plain_pieces}
 abbrev is_plain : ℕ → Bool
 is_plain c = is_ascii_alphanumeric c || (c == 45)
 
-plain_text : (p : List ℕ) → IsPlain p → list_all is_plain p ≡ true
+plain_text : (p : List ℕ) → is_alphanumeric p ≡ true → list_all is_plain p ≡ true
 plain_text [] is = refl
 plain_text (c ∷ p) is =
     let both = and_parts (is_ascii_alphanumeric c) (is_alphanumeric p) is in
@@ -24,12 +24,12 @@ plain_text (c ∷ p) is =
 plain_dashed : (ps : List (List ℕ)) → All IsPlain ps → list_all is_plain (flat_map (λ p. codes "-" ++ p) ps) ≡ true
 plain_dashed [] each = refl
 plain_dashed (p ∷ ps) each = list_all-append is_plain p (flat_map (λ p. codes "-" ++ p) ps)
-    ∙ (λ i. plain_text p (All-head IsPlain p ps each) i && plain_dashed ps (All-tail IsPlain p ps each) i)
+    ∙ (λ i. plain_text p (All-head IsPlain p ps each).plain i && plain_dashed ps (All-tail IsPlain p ps each) i)
 
 plain_joined : (ps : List (List ℕ)) → All IsPlain ps → list_all is_plain (join_by (λ p. p) (codes "-") ps) ≡ true
 plain_joined [] each = refl
 plain_joined (p ∷ ps) each = list_all-append is_plain p (flat_map (λ p. codes "-" ++ p) ps)
-    ∙ (λ i. plain_text p (All-head IsPlain p ps each) i && plain_dashed ps (All-tail IsPlain p ps each) i)
+    ∙ (λ i. plain_text p (All-head IsPlain p ps each).plain i && plain_dashed ps (All-tail IsPlain p ps each) i)
 
 abbrev first : List ℕ → ℕ
 first [] = 0

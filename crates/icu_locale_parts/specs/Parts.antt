@@ -53,6 +53,10 @@ extension_parts x =
     ∷ language_if_any x.locale.extensions.transform.lang ∷ pairs x.fields ∷ pairs x.others
     ∷ pieces_if_any x.private_use ∷ []
 
+-- the parts of a locale identifier: those of its identifier, and those of its extensions
+abbrev pub columns : LocaleIdentifier → List (List ℕ)
+columns x = identifier_parts x.locale.id ++ extension_parts x
+
 -- each text after a tab
 abbrev pub tabbed : List (List ℕ) → List ℕ
 tabbed ps = flat_map (λ p. codes "\t" ++ p) ps

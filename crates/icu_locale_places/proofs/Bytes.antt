@@ -4,7 +4,7 @@ use Rattle.std.specs.List.{onto_first}
 use Rattle.std.proofs.lemmas.List.{drop-drop, get_or-drop}
 use Rattle.std.proofs.lemmas.List.Splits.{length-slice_split}
 use Rattle.icu_locale_core.specs.Identifier.{is_separator, pieces}
-use Rattle.icu_locale_places.specs.Places.{IsSpan, spaced}
+use Rattle.icu_locale_places.specs.inner.Spans.{HasBytes, spaced}
 
 -- the last byte of a piece, and one more
 abbrev pub stop_of : List (List ℕ) → ℕ → ℕ
@@ -149,7 +149,7 @@ piece_bytes (c ∷ t) n inside = by (is_separator c) (piece_bytes t) n inside
         ap (λ m. take (length (get_or (pieces t) n [])) (drop m t)) same ∙ ih n (omega arith)
     by false ih n less = onto_one (pieces t) ih (has_first t) n less
 
-pub span_bytes : (t : List ℕ) (n start stop : ℕ) → n < length (pieces t) → IsSpan t n start stop → take (stop - start) (drop start t) ≡ get_or (pieces t) n []
+pub span_bytes : (t : List ℕ) (n start stop : ℕ) → n < length (pieces t) → HasBytes t n start stop → take (stop - start) (drop start t) ≡ get_or (pieces t) n []
 span_bytes t n start stop inside span =
     let bytes = span.piece inside in
     let long : stop - start ≡ length (get_or (pieces t) n []) = omega (arith, bytes.1) in
@@ -157,15 +157,15 @@ span_bytes t n start stop inside span =
 
 -- ---- the text up to the end of a piece
 
-span_stop : (t : List ℕ) (n start stop : ℕ) → n < length (pieces t) → IsSpan t n start stop → stop ≡ stop_of (pieces t) n
+span_stop : (t : List ℕ) (n start stop : ℕ) → n < length (pieces t) → HasBytes t n start stop → stop ≡ stop_of (pieces t) n
 span_stop t n start stop inside span =
     let bytes = span.piece inside in
     bytes.1 ∙ ap (λ m. m + length (get_or (pieces t) n [])) bytes.0 ∙ sym (stops (pieces t) n inside)
 
-pub span_within : (t : List ℕ) (n start stop : ℕ) → n < length (pieces t) → IsSpan t n start stop → stop ≤ length t
+pub span_within : (t : List ℕ) (n start stop : ℕ) → n < length (pieces t) → HasBytes t n start stop → stop ≤ length t
 span_within t n start stop inside span = omega (arith, span_stop t n start stop inside span, stop_within (pieces t) n inside, spaced_pieces t)
 
-pub span_front : (t : List ℕ) (n start stop : ℕ) → n < length (pieces t) → IsSpan t n start stop → pieces (take stop t) ≡ take (suc n) (pieces t)
+pub span_front : (t : List ℕ) (n start stop : ℕ) → n < length (pieces t) → HasBytes t n start stop → pieces (take stop t) ≡ take (suc n) (pieces t)
 span_front t n start stop inside span = ap (λ m. pieces (take m t)) (span_stop t n start stop inside span) ∙ front_pieces t n inside
 
 -- one piece more than separators

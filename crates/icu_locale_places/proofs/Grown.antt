@@ -8,8 +8,8 @@ use Rattle.icu_locale_core.specs.declared.langid.LanguageIdentifier.{LanguageIde
 use Rattle.icu_locale_core.specs.declared.parse_error.ParseError.{ParseError}
 use Rattle.icu_locale_core.specs.declared.parse_error.ParseError.TheVariants.{InvalidLanguage, InvalidSubtag}
 use Rattle.icu_locale_extensions.specs.Built.{bare}
-use Rattle.icu_locale_extensions.specs.Reader.{Part, belongs, first_is, begins, with_read, added, closed, opened, and_then, with_part, read_on, read}
-use Rattle.icu_locale_extensions.specs.Reader.Part.{whole, attributes, keywords, keyword, language, fields, field, other, private_use, nothing}
+use Rattle.icu_locale_extensions.specs.laws.Reader.{Part, belongs, first_is, begins, with_read, added, closed, opened, and_then, with_part, read_on, read}
+use Rattle.icu_locale_extensions.specs.laws.Reader.Part.{whole, attributes, keywords, keyword, language, fields, field, other, private_use, nothing}
 use Rattle.icu_locale_extensions.specs.declared.identifier.LocaleIdentifier.{LocaleIdentifier}
 use Rattle.icu_locale_places.specs.Places.{begins_some, probe}
 use Rattle.icu_locale_places.proofs.Heads.{AreVariants, IsCut, IsHeadStill, cuts, heads, is_end, ok_variants, pieces_front, region_of, script_of}

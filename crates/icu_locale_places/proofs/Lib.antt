@@ -3,5 +3,6 @@ mod Grown
 mod Heads
 mod Once
 mod Probed
+mod Spans
 mod Stopped
 mod Told

@@ -5,10 +5,12 @@ use Rattle.std.proofs.lemmas.List.{take-append-drop, take_all, take_at}
 use Rattle.icu_locale_core.specs.Identifier.{pieces, starts_with_language}
 use Rattle.icu_locale_core.specs.Subtag.{is_language}
 use Rattle.icu_locale_extensions.specs.Grammar.{IsLocaleId}
-use Rattle.icu_locale_extensions.specs.Reader.{read}
-use Rattle.icu_locale_places.specs.Places.{BeginsSome, BeginsText, IsPlace, IsWrongAt, IsSpan, begins_some, probe}
+use Rattle.icu_locale_extensions.specs.laws.Reader.{read}
+use Rattle.icu_locale_places.specs.Places.{BeginsSome, BeginsText, IsPlace, IsWrongAt, begins_some, probe}
+use Rattle.icu_locale_places.specs.inner.Spans.{HasBytes}
 use Rattle.icu_locale_places.proofs.Bytes.{HasFirst, front_pieces, has_first, joined_pieces, some_piece, stop_of}
 use Rattle.icu_locale_places.proofs.Grown.{language_read}
+use Rattle.icu_locale_places.proofs.Spans.{to_span}
 use Rattle.icu_locale_places.proofs.Told.{BeginsIsTold, DerivedIsRead, place_here, one_place, value}
 
 -- a text that is not read, with a piece more
@@ -51,20 +53,20 @@ module _ (law : BeginsIsTold) (t : List ℕ) where
       by (suc n) place is = absurd (omega arith)
 
   -- the first piece is the place
-  pub wrong_at_first : (from to : ℕ) → starts_with_language t ≡ false → IsSpan t 0 from to → IsWrongAt t from to
+  pub wrong_at_first : (from to : ℕ) → starts_with_language t ≡ false → HasBytes t 0 from to → IsWrongAt t from to
   wrong_at_first from to not_one span = record {
     piece = 0;
     place = first_is_place not_one;
-    span = span;
+    span = to_span t 0 from to (omega arith) span;
   }
 
   -- a piece with which those before it begin nothing
   pub wrong_at_piece : (n from to : ℕ) → n < length (pieces t) → begins_some (take n (pieces t)) ≡ true → begins_some (take (suc n) (pieces t)) ≡ false
-      → IsSpan t n from to → IsWrongAt t from to
+      → HasBytes t n from to → IsWrongAt t from to
   wrong_at_piece n from to inside before there span = record {
     piece = n;
     place = place_here law (pieces t) n (omega arith) before (λ inside. there);
-    span = span;
+    span = to_span t n from to (omega arith) span;
   }
 
   -- the end
@@ -73,7 +75,8 @@ module _ (law : BeginsIsTold) (t : List ℕ) where
     piece = length (pieces t);
     place = place_here law (pieces t) (length (pieces t)) (omega arith)
         (ap begins_some (take_all (length (pieces t)) (pieces t) (omega arith)) ∙ before) (λ inside. absurd (omega arith));
-    span = record { piece = λ inside. absurd (omega arith); ending = λ is. (refl, refl) };
+    span = to_span t (length (pieces t)) (length t) (length t) (omega arith)
+        (record { piece = λ inside. absurd (omega arith); ending = λ is. (refl, refl) });
   }
 
 -- ---- texts

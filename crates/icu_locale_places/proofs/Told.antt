@@ -4,7 +4,7 @@ use Rattle.std.proofs.lemmas.Bool.{cases_order, false≢true, or_cases}
 use Rattle.std.proofs.lemmas.List.{append-nil, take-append-drop, take-take}
 use Rattle.icu_locale_core.specs.declared.parse_error.ParseError.{ParseError}
 use Rattle.icu_locale_extensions.specs.Grammar.{IsLocaleId}
-use Rattle.icu_locale_extensions.specs.Reader.{read}
+use Rattle.icu_locale_extensions.specs.laws.Reader.{read}
 use Rattle.icu_locale_extensions.specs.declared.identifier.LocaleIdentifier.{LocaleIdentifier}
 use Rattle.icu_locale_places.specs.Places.{BeginsSome, IsPlace, begins_some, probe}
 use Rattle.icu_locale_places.proofs.Grown.{language_read, read_grown}

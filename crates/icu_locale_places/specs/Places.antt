@@ -1,12 +1,14 @@
 -- Where a text is wrong: the place of the first piece that no locale identifier can have there (UTS #35 Part 1,
 -- section 3.2, unicode_locale_id).
-use Rattle.std.specs.Prelude.{◌≡◌, ◌⊎◌, ◌<◌, ◌≤◌, ◌+◌, suc, ℕ, Bool, true, ◌||◌, IsTrue, List, [], ◌∷◌, ◌++◌, length, take, slice_index_or, codes, Err, is_ok}
-use Rattle.icu_locale_core.specs.Identifier.{pieces, starts_with_language}
+use Rattle.std.specs.Prelude.{◌≡◌, ◌⊎◌, ◌<◌, ◌≤◌, ◌+◌, suc, ℕ, Bool, true, ◌||◌, IsTrue, List, [], ◌∷◌, ◌++◌, length, take, slice_index_or, codes, is_ok}
+use Rattle.std.specs.Fmt.{decimal}
+use Rattle.icu_locale_core.specs.Identifier.{parse_error_name, pieces, starts_with_language}
 use Rattle.icu_locale_core.specs.declared.parse_error.ParseError.{ParseError}
 use Rattle.icu_locale_core.specs.declared.parse_error.ParseError.TheVariants.{InvalidSubtag}
 use Rattle.icu_locale_extensions.specs.Grammar.{IsLocaleId, Spells}
-use Rattle.icu_locale_extensions.specs.Reader.{read}
-use Rattle.icu_locale_extensions.specs.Syntaxes.{takes_memory}
+use Rattle.icu_locale_extensions.specs.laws.Reader.{read}
+use Rattle.icu_locale_extensions.specs.Syntaxes.{IsFaultBy, IsRefused, takes_memory}
+use Rattle.icu_locale_extensions.specs.declared.syntax.Syntax.TheVariants.{Unicode}
 use Rattle.icu_locale_extensions.specs.declared.identifier.LocaleIdentifier.{LocaleIdentifier}
 use Rattle.icu_locale_places.specs.declared.place.Fault.{Fault}
 use Rattle.icu_locale_places.specs.declared.place.Fault.TheVariants.{Memory, At}
@@ -28,22 +30,23 @@ abbrev pub BeginsText : List (List ℕ) → Type 0
 BeginsText ps = (t : List ℕ) × ((x : LocaleIdentifier)
     × ((take (length ps) (pieces t) ≡ ps) × Spells t x))
 
--- the reader has stopped within these pieces: it refuses them, and answers the same whatever follows
+-- these pieces are refused, and for one reason whatever follows: a reader has stopped within them
 abbrev pub HasStopped : List (List ℕ) → Type 0
-HasStopped ps = (e : ParseError) × ((qs : List (List ℕ)) → read (ps ++ qs) ≡ Err e)
+HasStopped ps = (e : ParseError) × ((qs : List (List ℕ)) → IsRefused (ps ++ qs) e)
 
 -- ---- its bytes
 
--- how many bytes pieces have, with a separator after each
-abbrev pub spaced : List (List ℕ) → ℕ
-spaced [] = 0
-spaced (p ∷ ps) = suc (length p + spaced ps)
-
--- piece n of t has the bytes after the pieces before it; the end is after the last byte
+-- piece n of t lies between these bytes: the text is cut before it and behind it; the end lies behind the last byte
 pub record IsSpan (t : List ℕ) (n from to : ℕ) : Type 0 where
-  pub piece : n < length (pieces t) → (from ≡ spaced (take n (pieces t)))
-      × (to ≡ from + length (slice_index_or (pieces t) n []))
-  pub ending : n ≡ length (pieces t) → (from ≡ length t) × (to ≡ length t)
+  pub before : List ℕ
+  pub own : List ℕ
+  pub behind : List ℕ
+  pub text : t ≡ before ++ (own ++ behind)
+  pub begins : from ≡ length before
+  pub ends : to ≡ from + length own
+  pub piece : n < length (pieces t) → (own ≡ slice_index_or (pieces t) n [])
+      × (pieces (before ++ own) ≡ take (suc n) (pieces t))
+  pub ending : n ≡ length (pieces t) → (own ≡ []) × (behind ≡ [])
 
 -- t is wrong at these bytes: its place has them
 pub record IsWrongAt (t : List ℕ) (from to : ℕ) : Type 0 where
@@ -51,12 +54,18 @@ pub record IsWrongAt (t : List ℕ) (from to : ℕ) : Type 0 where
   pub place : IsPlace (pieces t) piece
   pub span : IsSpan t piece from to
 
--- why t is no locale identifier, as the reader says it, and where; where it begins with a language, memory is asked for
+-- why t is no locale identifier, and where; where it begins with a language, memory is asked for
 -- what is kept of it, and to find a later piece
 abbrev pub IsFault : List ℕ → Fault → Type 0
-IsFault t (At refusal from to) = (read (pieces t) ≡ Err refusal) × IsWrongAt t from to
+IsFault t (At refusal from to) = IsFaultBy Unicode t refusal × IsWrongAt t from to
 IsFault t Memory = IsTrue (starts_with_language t)
-    × (IsTrue (takes_memory t) ⊎ (read (pieces t) ≡ Err InvalidSubtag))
+    × (IsTrue (takes_memory t) ⊎ IsFaultBy Unicode t InvalidSubtag)
+
+-- what Display writes: the reason, and its first byte and the byte after it
+abbrev pub fault_text : Fault → List ℕ
+fault_text Memory = codes "Memory"
+fault_text (At refusal from to) =
+    parse_error_name refusal ++ (codes " at " ++ (decimal from ++ (codes ".." ++ decimal to)))
 
 -- ---- told by the reader
 

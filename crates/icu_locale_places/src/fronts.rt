@@ -1,8 +1,9 @@
 //! Which first pieces of a text begin some text that is read.
 ghost use Rattle.std.specs.Prelude.{◌≡◌, ◌<◌, ◌++◌, ◌∷◌, suc, true, false, IfOk, is_ok, length, take, drop, slice_index_or, count_by, []};
 ghost use Rattle.icu_locale_core.specs.Identifier.{is_separator, pieces, starts_with_language};
-ghost use Rattle.icu_locale_extensions.specs.Reader.{read};
-ghost use Rattle.icu_locale_places.specs.Places.{IsWrongAt, IsSpan, begins_some, probe};
+ghost use Rattle.icu_locale_extensions.specs.laws.Reader.{read};
+ghost use Rattle.icu_locale_places.specs.Places.{IsWrongAt, begins_some, probe};
+ghost use Rattle.icu_locale_places.specs.inner.Spans.{HasBytes};
 
 use crate::laws;
 use icu_locale_core::{ParseError, Pieces};
@@ -78,6 +79,7 @@ fn is_read_with_more(alloc: Global, text: &[u8], room: &mut Vec<u8>) -> Result<b
 fn is_read(alloc: Global, text: &[u8]) -> Result<bool, AllocError>
     ensures { IfOk result (λ b. b ≡ is_ok (read (pieces text.now))) }
 {
+    icu_locale_extensions::laws::reading_is_by_the_grammar();
     match LocaleIdentifier::try_from_utf8(alloc, text) {
         Ok(_) => Ok(true),
         Err(ParseError::Memory) => Err(AllocError),
@@ -99,7 +101,7 @@ fn front(text: &[u8], piece: usize) -> &[u8]
 // The bytes of a piece.
 fn span(text: &[u8], piece: usize) -> (usize, usize)
     requires { piece < length (pieces text.now) }
-    ensures { IsSpan text.now piece result.0 result.1 }
+    ensures { HasBytes text.now piece result.0 result.1 }
 {
     let mut pieces = Pieces::new(text);
     let mut from = 0;

@@ -39,6 +39,7 @@ pub fn the_reader_stops_there()
         → ¬ (HasStopped (take m ps)) }
 {
     icu_locale_extensions::laws::derived_is_read();
+    icu_locale_extensions::laws::reading_is_by_the_grammar();
 }
 
 /// A text is wrong at the same bytes always.

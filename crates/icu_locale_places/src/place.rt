@@ -1,17 +1,18 @@
 //! The reader that tells where a text is wrong.
-ghost use Rattle.std.specs.Prelude.{◌≡◌, IfOk, IfErr, Ok, Err};
-ghost use Rattle.icu_locale_core.specs.Identifier.{pieces};
+ghost use Rattle.std.specs.Prelude.{IfOk, IfErr, Err, Some};
+ghost use Rattle.icu_locale_extensions.specs.Grammar.{Spells};
 ghost use Rattle.icu_locale_extensions.specs.Locales.{IsLocaleIdentifier};
-ghost use Rattle.icu_locale_extensions.specs.Reader.{read};
 ghost use Rattle.icu_locale_extensions.specs.Syntaxes.{ReadsBy};
-ghost use Rattle.icu_locale_places.specs.Places.{IsFault};
+ghost use Rattle.icu_locale_places.specs.Places.{IsFault, fault_text};
 
 use crate::fronts::{find_place, first_span};
 use icu_locale_core::ParseError;
 use icu_locale_extensions::{LocaleIdentifier, Syntax};
 use std::alloc::Global;
+use std::error::Error;
+use std::fmt;
 
-/// Why a text is no locale identifier.
+/// Why a text is no locale identifier. `Display` writes the reason and the bytes, as `InvalidSubtag at 3..5`.
 #[derive(Clone, Copy, Debug, PartialEq, Eq)]
 pub enum Fault {
     /// Memory was asked for and refused.
@@ -28,6 +29,19 @@ pub enum Fault {
     },
 }
 
+impl Error for Fault {}
+
+impl fmt::Display for Fault {
+    ghost output = { λ fault. Some (fault_text fault) };
+
+    fn fmt<W: fmt::Write>(&self, f: &mut fmt::Formatter<W>) -> fmt::Result {
+        match self {
+            Fault::Memory => f.write_str("Memory"),
+            Fault::At { refusal, from, to } => write!(f, "{refusal} at {from}..{to}"),
+        }
+    }
+}
+
 /// Reads a locale identifier as `LocaleIdentifier::try_from_utf8` does, and says of a text that it refuses where it
 /// is wrong: at the first piece that no locale identifier can have there, or at the end, where each piece can be. A
 /// text that is read costs that reading and its memory alone. To find a piece behind the language, the reader is
@@ -40,7 +54,7 @@ pub enum Fault {
 /// - `Memory` only where variants, extensions or private use are kept, or a text is refused by `InvalidSubtag`, and
 ///   never in place of `InvalidLanguage`.
 pub fn read_at(alloc: Global, text: &[u8]) -> Result<LocaleIdentifier, Fault>
-    ensures read { IfOk result (λ x. IsLocaleIdentifier x × (read (pieces text.now) ≡ Ok x)) }
+    ensures read { IfOk result (λ x. IsLocaleIdentifier x × Spells text.now x) }
     ensures refused { IfErr result (IsFault text.now) }
 {
     match LocaleIdentifier::try_from_utf8(alloc, text) {
@@ -54,6 +68,7 @@ fn fault_of(alloc: Global, text: &[u8], refusal: ParseError) -> Fault
     requires { ReadsBy Syntax.Unicode text.now (Err refusal) }
     ensures { IsFault text.now result }
 {
+    icu_locale_extensions::laws::reading_is_by_the_grammar();
     let (from, to) = match refusal {
         ParseError::Memory => return Fault::Memory,
         ParseError::InvalidLanguage => first_span(text),

@@ -1,6 +1,8 @@
+mod Bases
 mod FirstFaults
 mod Lies
 mod Ones
+mod Spelled
 mod Stands
 mod Told
 mod WholeLaws

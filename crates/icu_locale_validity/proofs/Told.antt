@@ -4,15 +4,12 @@ use Rattle.std.specs.List.{flat_map, join_by, list_all}
 use Rattle.std.proofs.Math.Seq.{take-append_seam}
 use Rattle.std.proofs.lemmas.Bool.{and_from, and_parts, false≢true}
 use Rattle.std.proofs.lemmas.Grind.{flat_map-append}
-use Rattle.icu_locale_core.specs.Value.{written_value}
-use Rattle.icu_locale_extensions.specs.Extensions.{any_piece}
 use Rattle.icu_locale_extensions.specs.declared.identifier.LocaleIdentifier.{LocaleIdentifier}
-use Rattle.icu_locale_validity.specs.Parts.{Part, code_part, id_parts, is_valid, is_valid_part, kind_word, lang_parts, parts_of, row_part, status_of}
+use Rattle.icu_locale_validity.specs.Parts.{Part, code_part, id_parts, is_valid, is_valid_part, keyword_part, kind_word, lang_parts, parts_of, row_part, status_of}
 use Rattle.icu_locale_validity.specs.Places.{place_of}
-use Rattle.icu_locale_validity.specs.Reports.{fault_text, faults, part_text, place_text, report_of, told}
-use Rattle.icu_locale_validity.specs.Statuses.{listed_word}
-use Rattle.icu_locale_validity.specs.inner.Lines.{ending, line, lines, unlisted, whole_lines}
-use Rattle.icu_locale_validity.specs.declared.part.PartKind.TheVariants.{Attribute, Keyword, Field, Extension}
+use Rattle.icu_locale_validity.specs.Reports.{fault_text, fault_word, faults, part_text, place_text, report_of, told}
+use Rattle.icu_locale_validity.specs.inner.Lines.{fault_line, line, lines, unlisted, whole_lines}
+use Rattle.icu_locale_validity.specs.declared.part.PartKind.TheVariants.{Attribute, Field, Extension}
 use Rattle.icu_locale_validity.specs.declared.table.Validity.{Validity}
 
 -- ---- texts with a mark after each, and between two
@@ -85,18 +82,15 @@ module _ (v : Validity) (t : List ℕ) where
   others behind [] = refl
   others behind (row ∷ rows) = ap (λ rest. line t None (row_part Extension behind row) ++ rest) (others behind rows)
 
-  abbrev whole_line : Part → List ℕ
-  whole_line part = (kind_word part.kind ++ codes " ") ++ (part_text part ++ ending t part.behind (status_of v part) (part_text part))
-
   line_none : (part : Part) → is_valid_part v part ≡ true → line t (status_of v part) part ≡ []
-  line_none part e = ap (λ b. if b then [] else whole_line part) e
+  line_none part e = ap (λ b. if b then [] else fault_line t (status_of v part) part) e
 
   line_is : (part : Part) → is_valid_part v part ≡ false → line t (status_of v part) part ≡ fault_text v t part ++ codes "\t"
   line_is part e =
       let text = part_text part in
-      ap (λ b. if b then [] else whole_line part) e
-      ∙ spread (kind_word part.kind) (codes " ") text (codes " ") (listed_word (status_of v part)) (codes " ")
-      (place_text (place_of t part.behind text)) (codes "\t")
+      ap (λ b. if b then [] else fault_line t (status_of v part) part) e
+      ∙ spread (kind_word part.kind) (codes " ") text (codes " ") (fault_word (status_of v part)) (codes " ")
+      (place_text (place_of t part.kind part.behind text)) (codes "\t")
 
   abbrev each : List Part → List ℕ
   each ps = flat_map (λ q. fault_text v t q ++ codes "\t") ps
@@ -134,7 +128,7 @@ module _ (v : Validity) (t : List ℕ) where
     whole : whole_lines v t x ≡ lines v t (parts_of x)
     whole =
         let a = map (code_part Attribute us) x.attributes in
-        let k = map (row_part Keyword us) x.locale.extensions.unicode.keywords in
+        let k = map (keyword_part x.locale.id.region) x.locale.extensions.unicode.keywords in
         let l = lang_parts x.locale.extensions.transform.lang in
         let f = map (row_part Field ts) x.fields in
         let o = map (row_part Extension []) x.others in

@@ -8,9 +8,9 @@ use Rattle.std.proofs.lemmas.List.Sums.{AllPass-from_list_all, list_all-from_All
 use Rattle.icu_locale_core.specs.TextSet.{rising}
 use Rattle.icu_locale_core.specs.declared.langid.LanguageIdentifier.{LanguageIdentifier}
 use Rattle.icu_locale_extensions.specs.declared.identifier.LocaleIdentifier.{LocaleIdentifier}
-use Rattle.icu_locale_validity.specs.Parts.{Part, code_part, id_parts, is_valid, is_valid_part, lang_parts, row_part, tail_parts}
+use Rattle.icu_locale_validity.specs.Parts.{Part, code_part, id_parts, is_valid, is_valid_part, keyword_part, lang_parts, row_part, tail_parts}
 use Rattle.icu_locale_validity.specs.inner.Wholes.{are_fields, are_keywords, are_variants, is_id, is_id_if_any, is_nothing, is_region_if_any, is_script_if_any, is_unicode, is_whole}
-use Rattle.icu_locale_validity.specs.declared.part.PartKind.TheVariants.{Language, Script, Region, Variant, Attribute, Keyword, Field, Extension}
+use Rattle.icu_locale_validity.specs.declared.part.PartKind.TheVariants.{Language, Script, Region, Variant, Attribute, Field, Extension}
 use Rattle.icu_locale_validity.specs.declared.table.Validity.{Validity}
 
 and_true : (b : Bool) → b ≡ (b && true)
@@ -45,9 +45,9 @@ module _ (v : Validity) where
   others behind [] = refl
   others behind (row ∷ rows) = refl
 
-  keywords : (behind : List (List ℕ)) (rows : List (List ℕ × List (List ℕ))) → are_keywords v rows ≡ each (map (row_part Keyword behind) rows)
-  keywords behind [] = refl
-  keywords behind (row ∷ rows) = ap (λ b. is_valid_part v (row_part Keyword behind row) && b) (keywords behind rows)
+  keywords : (region : Option (List ℕ)) (rows : List (List ℕ × List (List ℕ))) → are_keywords v region rows ≡ each (map (keyword_part region) rows)
+  keywords region [] = refl
+  keywords region (row ∷ rows) = ap (λ b. is_valid_part v (keyword_part region row) && b) (keywords region rows)
 
   fields : (behind : List (List ℕ)) (rows : List (List ℕ × List (List ℕ))) → are_fields v rows ≡ each (map (row_part Field behind) rows)
   fields behind [] = refl
@@ -75,13 +75,14 @@ module _ (v : Validity) where
       let u = codes "u" ∷ [] in
       let t = codes "t" ∷ [] in
       let ks = x.locale.extensions.unicode.keywords in
+      let region = x.locale.id.region in
       let l = x.locale.extensions.transform.lang in
       let end = joined (map (row_part Field t) x.fields) (map (row_part Extension []) x.others) _ _ (fields t x.fields) (others [] x.others) in
       let behind = joined (lang_parts l) _ _ _ (lang l) end in
-      let keys = joined (map (row_part Keyword u) ks) _ _ _ (keywords u ks) behind in
+      let keys = joined (map (keyword_part region) ks) _ _ _ (keywords region ks) behind in
       let all = joined (map (code_part Attribute u) x.attributes) _ _ _ (attributes u x.attributes) keys in
       ap (λ b. is_id v x.locale.id && (is_unicode v x && b)) (and_assoc (is_id_if_any v l) (are_fields v x.fields) (is_nothing x.others))
-      ∙ ap (λ b. is_id v x.locale.id && b) (and_assoc (is_nothing x.attributes) (are_keywords v ks) _)
+      ∙ ap (λ b. is_id v x.locale.id && b) (and_assoc (is_nothing x.attributes) (are_keywords v region ks) _)
       ∙ joined (id_parts [] x.locale.id) _ _ _ (id [] x.locale.id) all
 
 -- the test of each part is that each is valid

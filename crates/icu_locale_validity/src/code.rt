@@ -5,7 +5,7 @@ ghost use Rattle.std.specs.List.{list_all};
 ghost use Rattle.icu_locale_core.specs.Maps.{value_at};
 ghost use Rattle.icu_locale_core.specs.Subtag.{is_numeric};
 ghost use Rattle.icu_locale_core.specs.TextSet.{text_cmp};
-ghost use Rattle.icu_locale_validity.specs.Types.{code_of_kind, is_code_point, is_date, of_form};
+ghost use Rattle.icu_locale_validity.specs.Types.{code_of_kind, is_code_point, is_date, is_whole_region, of_form};
 
 use crate::{CodeKind, Status, Validity};
 use icu_locale_core::{Language, Region, Script, Subtag, Variant};
@@ -45,12 +45,23 @@ impl Validity {
     {
         match kind? {
             CodeKind::Script => self.script_of(piece),
-            CodeKind::Subdivision => self.subdivisions.get(&piece).copied(),
+            CodeKind::Subdivision => self.subdivision_of(piece),
+            CodeKind::RegionOverride => self.subdivisions.get(&piece).copied(),
             CodeKind::Currency => self.currencies.get(&piece).copied(),
             CodeKind::CodePoint => of_form(is_code_point(piece)),
-            CodeKind::Date => of_form(is_date(piece)),
+            CodeKind::Date => of_form(is_date(piece.as_str().as_bytes())),
             CodeKind::Any => Some(Status::PrivateUse),
         }
+    }
+
+    // The status of a piece as a subdivision, which is no region as a whole.
+    fn subdivision_of(&self, piece: Subtag) -> Option<Status>
+        ensures { result ≡ code_of_kind self.now (Some CodeKind.Subdivision) piece }
+    {
+        if is_whole_region(piece) {
+            return None;
+        }
+        self.subdivisions.get(&piece).copied()
     }
 
     // The status of a piece as a script.
@@ -62,6 +73,12 @@ impl Validity {
             Err(_) => None,
         }
     }
+}
+
+fn is_whole_region(piece: Subtag) -> bool
+    ensures { result ≡ is_whole_region piece }
+{
+    piece.as_str().as_bytes().ends_with(b"zzzz".as_slice())
 }
 
 fn of_form(is: bool) -> Option<Status>
@@ -91,12 +108,11 @@ fn are_hexadecimal(text: &[u8]) -> bool
     true
 }
 
-// A date: 4 to 8 digits.
-fn is_date(piece: Subtag) -> bool
-    ensures { result ≡ is_date piece }
+// A date: 4, 6 or 8 digits.
+pub fn is_date(text: &[u8]) -> bool
+    ensures { result ≡ is_date text.now }
 {
-    let text = piece.as_str().as_bytes();
-    4 <= text.len() && text.len() <= 8 && are_digits(text)
+    are_digits(text) && (text.len() == 4 || text.len() == 6 || text.len() == 8)
 }
 
 fn are_digits(text: &[u8]) -> bool

@@ -2,13 +2,15 @@
 ghost use Rattle.std.specs.Prelude.{◌≡◌, ◌++◌, [], ◌∷◌, codes, length, map, take, None, Some, OnOk, OnErr};
 ghost use Rattle.std.specs.Option.{option_to_list};
 ghost use Rattle.icu_locale_core.specs.TextSet.{rising};
-ghost use Rattle.icu_locale_validity.specs.Parts.{code_part, id_parts, lang_parts, row_part};
-ghost use Rattle.icu_locale_validity.specs.inner.Lines.{lines, tail_lines, transform_lines, unicode_lines, unlisted, whole_lines};
+ghost use Rattle.icu_locale_validity.specs.Parts.{code_part, id_parts, keyword_part, lang_parts, row_part};
+ghost use Rattle.icu_locale_validity.specs.inner.Lines.{line, lines, tail_lines, transform_lines, unicode_lines, unlisted, whole_lines};
 ghost use Rattle.icu_locale_validity.specs.inner.Marks.{marks};
 
-use crate::lines::{append_code, append_row};
+use crate::lines::{append_code, append_row, append_row_fault};
 use crate::place::Behind;
-use crate::{PartKind, Validity};
+use crate::region::is_of_region;
+use crate::table::is_valid_status;
+use crate::{PartKind, Status, Validity};
 use icu_locale_core::{Key, LanguageIdentifier, Region, Script, Value, Variants};
 use icu_locale_extensions::{Attributes, FieldKey, LocaleIdentifier, Singleton, Subtags};
 use std::alloc::AllocError;
@@ -47,6 +49,7 @@ fn append_unicode(
     append_keywords(
         table,
         text,
+        &x.locale.id.region,
         x.locale.extensions.unicode.keywords.iter().as_slice(),
         report,
     )
@@ -237,24 +240,43 @@ fn append_attributes(
 fn append_keywords(
     table: &Validity,
     text: &[u8],
+    region: &Option<Region>,
     rows: &[(Key, Value)],
     report: &mut Vec<u8>,
 ) -> Result<(), AllocError>
     ensures appended { OnOk result (report.new.items
         ≡ report.old.items ++ lines table.now text.now
-        (map (row_part PartKind.Keyword (codes "u" ∷ [])) rows.now)) }
+        (map (keyword_part region.now) rows.now)) }
     ensures part { OnErr result
         (take (length report.old.items) report.new.items ≡ report.old.items) }
 {
+    for row in rows {
+        let status = table.keyword(row.0, &row.1);
+        append_keyword(text, region, row, status, report)?;
+    }
+    Ok(())
+}
+
+fn append_keyword(
+    text: &[u8],
+    region: &Option<Region>,
+    row: &(Key, Value),
+    status: Option<Status>,
+    report: &mut Vec<u8>,
+) -> Result<(), AllocError>
+    ensures appended { OnOk result (report.new.items
+        ≡ report.old.items ++ line text.now status (keyword_part region.now row.now)) }
+    ensures part { OnErr result
+        (take (length report.old.items) report.new.items ≡ report.old.items) }
+{
+    if is_of_region(region, row) && is_valid_status(status) {
+        return Ok(());
+    }
     let behind = Behind {
         singleton: Some(b'u'),
         language: None,
     };
-    for row in rows {
-        let status = table.keyword(row.0, &row.1);
-        append_row(text, &behind, PartKind::Keyword, row, status, report)?;
-    }
-    Ok(())
+    append_row_fault(text, &behind, PartKind::Keyword, row, status, report)
 }
 
 fn append_lang(

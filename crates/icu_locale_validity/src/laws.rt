@@ -1,12 +1,14 @@
 //! Laws of validity. Each function here takes nothing, answers nothing and carries a proved fact.
-ghost use Rattle.std.specs.Prelude.{◌≡◌, ◌↔◌, ◌≤◌, [], codes, false, true, length, List, ℕ, Option};
+ghost use Rattle.std.specs.Prelude.{◌≡◌, ◌↔◌, ◌⊎◌, ◌≤◌, [], codes, false, true, length, List, ℕ, Option};
+ghost use Rattle.icu_locale_core.specs.Identifier.{pieces};
 ghost use Rattle.icu_locale_extensions.specs.declared.identifier.LocaleIdentifier.{LocaleIdentifier};
 ghost use Rattle.icu_locale_validity.specs.Parts.{IsValid, is_valid};
-ghost use Rattle.icu_locale_validity.specs.Places.{place_of};
+ghost use Rattle.icu_locale_validity.specs.Places.{base_of, bytes_at, place_of, spells_part};
 ghost use Rattle.icu_locale_validity.specs.Reports.{report_of};
+ghost use Rattle.icu_locale_validity.specs.declared.part.PartKind.{PartKind};
 ghost use Rattle.icu_locale_validity.specs.declared.table.Validity.{Validity};
 
-/// A locale is valid exactly where each of its parts is listed and may be used.
+/// A locale is valid exactly where each of its parts is listed and may be used, and its subdivision is one of its region.
 pub fn valid_by_parts()
     ensures { (v : Validity) (x : LocaleIdentifier)
         → (is_valid v x ≡ true) ↔ IsValid v x }
@@ -33,9 +35,17 @@ pub fn private_use_is_free()
         → report_of v t (record x { private_use = p }) ≡ report_of v t x }
 {}
 
+/// The bytes at the place of a part spell it, where it is not all of the text.
+pub fn places_spell_parts()
+    ensures { (t : List ℕ) (kind : PartKind) (marks : List (List ℕ)) (wanted : List ℕ)
+        → (place_of t kind marks wanted ≡ (0, length t))
+        ⊎ (spells_part kind (pieces wanted)
+        (pieces (bytes_at (base_of t) (place_of t kind marks wanted))) ≡ true) }
+{}
+
 /// The place of a part lies in the text.
 pub fn places_lie_in_texts()
-    ensures { (t : List ℕ) (marks : List (List ℕ)) (wanted : List ℕ)
-        → ((place_of t marks wanted).0 ≤ (place_of t marks wanted).1)
-        × ((place_of t marks wanted).1 ≤ length t) }
+    ensures { (t : List ℕ) (kind : PartKind) (marks : List (List ℕ)) (wanted : List ℕ)
+        → ((place_of t kind marks wanted).0 ≤ (place_of t kind marks wanted).1)
+        × ((place_of t kind marks wanted).1 ≤ length t) }
 {}

@@ -8,6 +8,7 @@ mod lines;
 mod listed;
 mod part;
 mod place;
+mod region;
 mod report;
 mod table;
 mod whole;

@@ -1,5 +1,5 @@
 //! What a table says of a key and its value.
-ghost use Rattle.std.specs.Prelude.{◌≡◌, ◌∷◌, [], List, ℕ, IfSome, MatchResult, length, map};
+ghost use Rattle.std.specs.Prelude.{◌≡◌, ◌∷◌, [], IfSome, MatchResult, None, if◌then◌else◌};
 ghost use Rattle.std.specs.List.{All};
 ghost use Rattle.std.specs.Option.{option_or};
 ghost use Rattle.std.specs.Ordering.{ordering_then};
@@ -8,8 +8,9 @@ ghost use Rattle.icu_locale_core.specs.Places.{IsAt, IsGapFor};
 ghost use Rattle.icu_locale_core.specs.Subtag.{IsSubtag};
 ghost use Rattle.icu_locale_core.specs.Value.{only_piece};
 ghost use Rattle.icu_locale_validity.specs.inner.Ones.{longer};
-ghost use Rattle.icu_locale_validity.specs.Types.{code_of_kind, field_status, first_fault, is_told_by_pieces, keyword_status, piece_status, pieces_status, type_status, value_cmp};
+ghost use Rattle.icu_locale_validity.specs.Types.{code_of_kind, field_status, first_fault, is_told_by_pieces, keyword_status, kind_before, piece_status, statuses, takes_dates, type_status, value_cmp};
 
+use crate::code::is_date;
 use crate::table::is_valid_status;
 use crate::{CodeKind, KeyTypes, Status, Validity};
 use icu_locale_core::{Key, Pieces, Subtag, Value};
@@ -53,7 +54,7 @@ impl Validity {
         if let Some(status) = row.types.get(value) {
             return Some(*status);
         }
-        if !is_told_by_pieces(row.many, pieces.len()) {
+        if !is_told_by_subtags(row.many, row.kind, pieces) {
             return None;
         }
         self.first_value_fault(row, pieces)
@@ -68,10 +69,10 @@ impl Validity {
         if let Some(status) = row.types.get(pieces) {
             return Some(*status);
         }
-        if !is_told_by_pieces(row.many, pieces.len()) {
+        let _ = pieces.as_str();
+        if !is_told_by_pieces(row.many, row.kind, pieces.iter()) {
             return None;
         }
-        let _ = pieces.as_str();
         self.first_piece_fault(row, pieces.iter())
     }
 
@@ -97,10 +98,10 @@ impl Validity {
 
     // The status of the first piece that is not valid, else `Regular`.
     fn first_value_fault(&self, row: &KeyTypes<Value>, mut pieces: &[Subtag]) -> Option<Status>
-        ensures { result ≡ first_fault (map (piece_status self.now row.now) pieces.now) }
+        ensures { result ≡ first_fault (statuses self.now row.now pieces.now) }
     {
         'pieces: while let Some((first, rest)) = pieces.split_first() {
-            let status = self.value_piece(row, *first);
+            let status = self.value_piece(row, *first, rest);
             if !is_valid_status(status) {
                 return status;
             }
@@ -115,10 +116,10 @@ impl Validity {
         mut pieces: Pieces<'_>,
     ) -> Option<Status>
         requires { All IsSubtag pieces }
-        ensures { result ≡ first_fault (map (piece_status self.now row.now) pieces.entry) }
+        ensures { result ≡ first_fault (statuses self.now row.now pieces.entry) }
     {
         'pieces: while let Some(first) = pieces.next() {
-            let status = self.field_piece(row, first);
+            let status = self.field_piece(row, first, &pieces);
             if !is_valid_status(status) {
                 return status;
             }
@@ -126,34 +127,97 @@ impl Validity {
         Some(Status::Regular)
     }
 
-    // The status of one piece.
-    fn value_piece(&self, row: &KeyTypes<Value>, piece: Subtag) -> Option<Status>
-        ensures { result ≡ piece_status self.now row.now piece }
+    // The status of one piece before others.
+    fn value_piece(&self, row: &KeyTypes<Value>, piece: Subtag, others: &[Subtag]) -> Option<Status>
+        ensures { result ≡ piece_status self.now row.now piece others.now }
     {
         match value_of_one(&row.types, piece) {
             Some(status) => Some(status),
-            None => self.code_of_kind(row.kind, piece),
+            None => self.code_of_kind(kind_before_subtags(row.kind, others), piece),
         }
     }
 
-    fn field_piece(&self, row: &KeyTypes<Subtags<3>>, piece: &[u8]) -> Option<Status>
+    fn field_piece(
+        &self,
+        row: &KeyTypes<Subtags<3>>,
+        piece: &[u8],
+        others: &Pieces<'_>,
+    ) -> Option<Status>
         requires { IsSubtag piece.now }
-        ensures { result ≡ piece_status self.now row.now piece.now }
+        ensures { result ≡ piece_status self.now row.now piece.now others.now }
     {
         let piece = Subtag::try_from_bytes(piece)?;
         match pieces_of_one(&row.types, piece) {
             Some(status) => Some(status),
-            None => self.code_of_kind(row.kind, piece),
+            None => self.code_of_kind(kind_before_pieces(row.kind, others), piece),
         }
     }
 }
 
-// Whether a value of so many pieces is told by them.
-fn is_told_by_pieces(many: bool, pieces: usize) -> bool
-    ensures { (value : List (List ℕ)) → length value ≡ pieces
-        → result ≡ is_told_by_pieces many value }
+// Whether a key takes dates.
+fn takes_dates(kind: Option<CodeKind>) -> bool
+    ensures { result ≡ takes_dates kind }
 {
-    pieces == 1 || (pieces > 1 && many)
+    match kind {
+        Some(CodeKind::Date) => true,
+        Some(CodeKind::Script)
+        | Some(CodeKind::Subdivision)
+        | Some(CodeKind::RegionOverride)
+        | Some(CodeKind::Currency)
+        | Some(CodeKind::CodePoint)
+        | Some(CodeKind::Any)
+        | None => false,
+    }
+}
+
+// The kind of a code before others.
+fn kind_inside(kind: Option<CodeKind>) -> Option<CodeKind>
+    ensures { result ≡ (if takes_dates kind then None else kind) }
+{
+    if takes_dates(kind) { None } else { kind }
+}
+
+fn kind_before_subtags(kind: Option<CodeKind>, others: &[Subtag]) -> Option<CodeKind>
+    ensures { result ≡ kind_before kind others.now }
+{
+    match others.split_first() {
+        Some(_) => kind_inside(kind),
+        None => kind,
+    }
+}
+
+fn kind_before_pieces(kind: Option<CodeKind>, others: &Pieces<'_>) -> Option<CodeKind>
+    ensures { result ≡ kind_before kind others.now }
+{
+    match others.peek() {
+        Some(_) => kind_inside(kind),
+        None => kind,
+    }
+}
+
+// Whether a value is told by its pieces.
+fn is_told_by_subtags(many: bool, kind: Option<CodeKind>, pieces: &[Subtag]) -> bool
+    ensures { result ≡ is_told_by_pieces many kind pieces.now }
+{
+    let Some((_, behind)) = pieces.split_first() else {
+        return false;
+    };
+    let Some((second, others)) = behind.split_first() else {
+        return true;
+    };
+    many || (takes_dates(kind_before_subtags(kind, others)) && is_date(second.as_str().as_bytes()))
+}
+
+fn is_told_by_pieces(many: bool, kind: Option<CodeKind>, mut pieces: Pieces<'_>) -> bool
+    ensures { result ≡ is_told_by_pieces many kind pieces.entry }
+{
+    if pieces.next().is_none() {
+        return false;
+    }
+    let Some(second) = pieces.next() else {
+        return true;
+    };
+    many || (takes_dates(kind_before_pieces(kind, &pieces)) && is_date(second))
 }
 
 // The piece of a field that has exactly one, else none.

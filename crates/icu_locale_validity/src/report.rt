@@ -9,9 +9,9 @@ use icu_locale_extensions::LocaleIdentifier;
 
 impl Validity {
     /// Appends what is to be told of a locale that a text spells: `valid` where each part is. Else each part that is
-    /// not, with a tab between two: its kind, its pieces with `-` between them, its status or `unlisted`, its first byte
-    /// in the text and the byte after its last, with a space between two. A part that does not stand in the text has all
-    /// of it. It takes memory where what is appended has no room.
+    /// not, with a tab between two: its kind, its pieces with `-` between them, its status, `unlisted` or `other_region`,
+    /// its first byte in the text and the byte after its last, with a space between two. A part that does not lie in the
+    /// text has all of it. It takes memory where what is appended has no room.
     ///
     /// # Errors
     ///

@@ -74,13 +74,15 @@ pub fn is_valid_status(status: Option<Status>) -> bool
 pub enum CodeKind {
     /// A script: `SCRIPT_CODE` of CLDR.
     Script,
-    /// A subdivision, or a region with `zzzz`: `SUBDIVISION_CODE` and `RG_KEY_VALUE`.
+    /// A subdivision: `SUBDIVISION_CODE`.
     Subdivision,
+    /// A subdivision, or a region as a whole with `zzzz` after it: `RG_KEY_VALUE`.
+    RegionOverride,
     /// A currency.
     Currency,
     /// A code point in hexadecimal digits: `CODEPOINTS`.
     CodePoint,
-    /// A date: four to eight digits (RFC 6497, section 2.2).
+    /// A date, which comes last: four, six or eight digits (RFC 6497, section 2.2).
     Date,
     /// Any: `PRIVATE_USE`.
     Any,
@@ -95,7 +97,7 @@ pub struct KeyTypes<V: Ord> {
     pub types: SortedMap<V, Status>,
     /// What each subtag of a value may be beside.
     pub kind: Option<CodeKind>,
-    /// Whether a value may have more than one such subtag.
+    /// Whether a value may have more than one subtag, without a date at its end.
     pub many: bool,
 }
 

@@ -5,12 +5,14 @@ ghost use Rattle.icu_locale_validity.specs.Parts.{IsValid, is_valid};
 ghost use Rattle.icu_locale_validity.specs.inner.Wholes.{are_fields, are_keywords, are_variants, is_id, is_id_if_any, is_nothing, is_region_if_any, is_script_if_any, is_transform, is_unicode, is_whole};
 
 use crate::Validity;
+use crate::region::is_of_region;
 use crate::table::is_valid_status;
 use icu_locale_core::{Key, LanguageIdentifier, Region, Script, Value, Variants};
 use icu_locale_extensions::{Attributes, FieldKey, LocaleIdentifier, Others, Subtags};
 
 impl Validity {
-    /// Whether each part of a locale is listed and may be used. Private use always may. It takes no memory.
+    /// Whether each part of a locale is listed and may be used, and a subdivision at `sd` is one of its region, if it has
+    /// one (UTS #35 Part 1, section 3.6.5). Private use is always valid. It takes no memory.
     pub fn is_valid(&self, x: &LocaleIdentifier) -> bool
         ensures test { result ≡ is_valid self.now x.now }
         ensures each { (result ≡ true) ↔ IsValid self.now x.now }
@@ -31,7 +33,10 @@ impl Validity {
         ensures { result ≡ is_unicode self.now x.now }
     {
         has_no_attributes(&x.attributes)
-            && self.are_valid_keywords(x.locale.extensions.unicode.keywords.iter().as_slice())
+            && self.are_valid_keywords(
+                &x.locale.id.region,
+                x.locale.extensions.unicode.keywords.iter().as_slice(),
+            )
     }
 
     fn is_valid_transform(&self, x: &LocaleIdentifier) -> bool
@@ -89,11 +94,11 @@ impl Validity {
         true
     }
 
-    fn are_valid_keywords(&self, rows: &[(Key, Value)]) -> bool
-        ensures { result ≡ are_keywords self.now rows.now }
+    fn are_valid_keywords(&self, region: &Option<Region>, rows: &[(Key, Value)]) -> bool
+        ensures { result ≡ are_keywords self.now region.now rows.now }
     {
         for row in rows {
-            if !is_valid_status(self.keyword(row.0, &row.1)) {
+            if !is_of_region(region, row) || !is_valid_status(self.keyword(row.0, &row.1)) {
                 return false;
             }
         }

@@ -4,7 +4,6 @@ use Rattle.std.specs.Cmp.Lexicographic.{pointwise}
 use Rattle.std.specs.declared.cmp.Ordering.{Ordering}
 use Rattle.std.proofs.lemmas.Bool.{cases_Bool, false≢true}
 use Rattle.std.proofs.lemmas.Option.{none-some}
-use Rattle.icu_locale.specs.Cost.{HasIdentifiers}
 use Rattle.icu_locale_core.specs.Keywords.{KeywordRows}
 use Rattle.icu_locale_core.specs.declared.locale.Locale.{Locale}
 use Rattle.icu_locale_core.specs.laws.Identifiers.{same_text, values_decide}
@@ -15,7 +14,7 @@ use Rattle.icu_locale_runs.specs.laws.Lists.{Contains-here}
 use Rattle.icu_locale_values.specs.Aliases.{Pieces, AliasTable, pieces_cmp, preferred, next_field, next_keyword}
 use Rattle.icu_locale_values.specs.Cost.{CountsAtMost, HasValues, CountsWhole}
 use Rattle.icu_locale_values.specs.Whole.{WholeRules}
-use Rattle.icu_locale_values.specs.inner.Counted.{CountsRun, CountsValues, CountsLocale, IsCountedWalk}
+use Rattle.icu_locale_values.specs.inner.Counted.{CountsRest, CountsRun, CountsTransform, CountsValues, CountsLocale, IsCountedWalk}
 use Rattle.icu_locale_values.specs.inner.Walked.{universe, IsWalked}
 use Rattle.icu_locale_values.proofs.Universes.{IsUniverse-rows}
 
@@ -90,19 +89,25 @@ module _ {K V : Type 0} (order : K → K → Ordering) (next : K → V → Optio
 -- ---- the whole
 
 module _ (by : WholeRules) where
-  -- the rules are asked after the keywords, or not at all
-  pub CountsLocale-rules : (old : Locale) (before middle after : ℕ) → CountsValues (next_keyword by.keywords) old.extensions.unicode.keywords before middle
-      → (m : ℕ) → (m ≡ 0) ⊎ HasIdentifiers by.likely by.rules old m → CountsAtMost middle after m → CountsLocale by old before after
-  CountsLocale-rules old before middle after (n, has, counts) m rules more = (
-    n + m,
-    record { in_keywords = n; in_rules = m; sum = refl; of_keywords = has; of_rules = rules },
-    record { forward = omega (arith, counts.forward, more.forward); most = omega (arith, counts.most, more.most) },
+  -- the transform language is asked after the keywords and the rules last, or not at all
+  pub CountsLocale-all : (old : Locale) (before first second after : ℕ) → CountsValues (next_keyword by.keywords) old.extensions.unicode.keywords before first
+      → CountsTransform by old.extensions.transform.lang first second → CountsRest by old second after → CountsLocale by old before after
+  CountsLocale-all old before first second after (n, has, counts) (m, transform, more) (k, rules, last) = (
+    n + (m + k),
+    record { in_keywords = n; in_transform = m; in_rules = k; sum = refl; of_keywords = has; of_transform = transform; of_rules = rules },
+    record { forward = omega (arith, counts.forward, more.forward, last.forward); most = omega (arith, counts.most, more.most, last.most) },
   )
+
+  none_counted : (at : ℕ) → CountsAtMost at at 0
+  none_counted at = record { forward = omega arith; most = omega arith }
+
+  pub CountsLocale-transform : (old : Locale) (before middle after : ℕ) → CountsValues (next_keyword by.keywords) old.extensions.unicode.keywords before middle
+      → CountsTransform by old.extensions.transform.lang middle after → CountsLocale by old before after
+  CountsLocale-transform old before middle after counts more = CountsLocale-all old before middle after after counts more (0, inl refl, none_counted after)
 
   pub CountsLocale-refused : (old : Locale) (before after : ℕ) → CountsValues (next_keyword by.keywords) old.extensions.unicode.keywords before after
       → CountsLocale by old before after
-  CountsLocale-refused old before after counts =
-      CountsLocale-rules old before after after counts 0 (inl refl) (record { forward = omega arith; most = omega arith })
+  CountsLocale-refused old before after counts = CountsLocale-transform old before after after counts (0, inl refl, none_counted after)
 
   pub CountsWhole-locale : (old : LocaleIdentifier) (before middle after : ℕ) → CountsValues (next_field by.fields) old.fields before middle
       → CountsLocale by old.locale middle after → CountsWhole by old before after
@@ -111,10 +116,12 @@ module _ (by : WholeRules) where
     record {
       in_fields = n;
       in_keywords = states.in_keywords;
+      in_transform = states.in_transform;
       in_rules = states.in_rules;
       sum = ap (λ k. n + k) states.sum;
       of_fields = has;
       of_keywords = states.of_keywords;
+      of_transform = states.of_transform;
       of_rules = states.of_rules;
     },
     record { forward = omega (arith, counts.forward, more.forward); most = omega (arith, counts.most, more.most) },

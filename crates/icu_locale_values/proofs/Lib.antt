@@ -1,6 +1,7 @@
 pub mod Counting
 pub mod Followed
 pub mod Found
+pub mod Languages
 pub mod Made
 pub mod OneRefusal
 pub mod Putting

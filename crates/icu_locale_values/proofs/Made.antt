@@ -1,12 +1,13 @@
 -- Where each run ends, there is a whole canonical form.
-use Rattle.std.proofs.Common.{inl, inr, ℕ, List, [], ◌∷◌, Option, Some, None, refl, sym, ap, ◌∙◌, subst}
+use Rattle.std.proofs.Common.{◌≡◌, inl, inr, ℕ, List, [], ◌∷◌, Option, Some, None, refl, sym, ap, ◌∙◌, subst}
+use Rattle.std.specs.List.Sorted.{IsStrictlySortedBy}
 use Rattle.std.specs.Map.{keys_of}
 use Rattle.std.proofs.lemmas.Map.Keys.{sorted_tail}
 use Rattle.icu_locale_core.specs.Keywords.{KeywordRows}
 use Rattle.icu_locale_core.specs.Maps.{value_at, IsSortedMap}
 use Rattle.icu_locale_core.specs.TextSet.{text_cmp}
 use Rattle.icu_locale_core.specs.laws.TextSets.{text_total, text_same}
-use Rattle.icu_locale.specs.Kinds.{by_language_alias}
+use Rattle.icu_locale.specs.Kinds.{next}
 use Rattle.icu_locale_extensions.specs.Locales.{IsLocaleIdentifier}
 use Rattle.icu_locale_extensions.specs.declared.identifier.LocaleIdentifier.{LocaleIdentifier}
 use Rattle.icu_locale_runs.specs.Run.{EndsIfAny, BecomesEnd}
@@ -20,8 +21,8 @@ end_of n (Some x) ends = (Some ends.0, ends.1)
 
 -- at each key the end of the run there
 made : (next : List ℕ → Pieces → Option Pieces) (rows : KeywordRows) → IsSortedMap text_cmp rows → AllEnd next rows
-    → (new : KeywordRows) × BecomeEnds next rows new
-made next [] sorted ends = ([], λ key. refl)
+    → (new : KeywordRows) × BecomeEnds next rows new × (keys_of new ≡ keys_of rows)
+made next [] sorted ends = ([], (λ key. refl), refl)
 made next (row ∷ rows) sorted ends =
     let rest = made next rows (sorted_tail text_cmp row.0 (keys_of rows) sorted) (λ key. elim (same_key text_cmp text_total text_same key row.0) [
       | inl same ↦ subst (EndsIfAny (next key))
@@ -43,13 +44,14 @@ made next (row ∷ rows) sorted ends =
             (subst (BecomesEnd (next key) (value_at text_cmp rows key))
             (sym (found_behind text_cmp text_total text_same (row.0, first.0) rest.0 key other)) (rest.1 key))
       ],
+      ap (λ ks. row.0 ∷ ks) rest.2,
     )
 
 pub whole_made : (by : WholeRules) (old : LocaleIdentifier) → IsLocaleIdentifier old → RunsEnd by old → (new : LocaleIdentifier) × IsWhole by old new
 whole_made by old known ends =
     let keywords = made (next_whole by.rules by.keywords) old.locale.extensions.unicode.keywords known.keywords ends.keywords in
     let fields = made (next_field by.fields) old.fields known.fields ends.fields in
-    let lang = end_of (by_language_alias by.rules) old.locale.extensions.transform.lang ends.transform in (
+    let lang = end_of (next by.likely by.rules) old.locale.extensions.transform.lang ends.transform in (
       record {
         locale = record {
           id = ends.id.0;
@@ -66,5 +68,9 @@ whole_made by old known ends =
         attributes = refl;
         others = refl;
         private_use = refl;
+        maps = record {
+          keywords = subst (IsStrictlySortedBy text_cmp) (sym keywords.2) known.keywords;
+          fields = subst (IsStrictlySortedBy text_cmp) (sym fields.2) known.fields;
+        };
       },
     )

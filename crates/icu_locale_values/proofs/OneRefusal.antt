@@ -20,7 +20,7 @@ use Rattle.icu_locale_runs.specs.Run.{IsRepeat}
 use Rattle.icu_locale_runs.specs.laws.LaterEnds.{not_both}
 use Rattle.icu_locale_runs.specs.laws.Runs.{repeat_is_unique}
 use Rattle.icu_locale_values.specs.Aliases.{Pieces, next_field, next_keyword}
-use Rattle.icu_locale_values.specs.Whole.{WholeRules, AllEnd}
+use Rattle.icu_locale_values.specs.Whole.{WholeRules, AllEnd, without_language}
 use Rattle.icu_locale_values.specs.Refusals.{IsFirstRepeat, IsLocaleRefusal, IsWholeRefusal, IsMemory}
 use Rattle.icu_locale_values.specs.declared.error.WholeError.{WholeError}
 use Rattle.icu_locale_values.specs.declared.error.WholeError.TheVariants.{Memory, NoFixedPoint, NoSubdivisionFixedPoint, NoValueFixedPoint, NoFieldFixedPoint}
@@ -76,24 +76,39 @@ module _ (likely : LikelySubtags) (rules : Rules) (old : Locale) where
 
 module _ (by : WholeRules) (apart : (likely : LikelySubtags) (rules : Rules) (old : Locale) (z : LanguageIdentifier) (v : Pieces)
     → ComesAgainFirst likely rules old z → ValueComesAgainFirst likely rules old v → ⊥) where
+  module _ (old : Locale) where
+    values_end : (y : LanguageIdentifier) → IsLocaleRefusal by old (NoFixedPoint y) → AllEnd (next_keyword by.keywords) old.extensions.unicode.keywords
+    values_end y (inl p) = p.0
+    values_end y (inr p) = p.0.keywords
+
+    fixed_one : (y z : LanguageIdentifier) → IsLocaleRefusal by old (NoFixedPoint y) → IsLocaleRefusal by old (NoFixedPoint z) → y ≡ z
+    fixed_one y z (inl p) (inl q) = repeat_one (next by.likely by.rules) old.extensions.transform.lang y z p.1 q.1
+    fixed_one y z (inl p) (inr q) = absurd (not_both (next by.likely by.rules) old.extensions.transform.lang y q.0.transform p.1)
+    fixed_one y z (inr p) (inl q) = absurd (not_both (next by.likely by.rules) old.extensions.transform.lang z p.0.transform q.1)
+    fixed_one y z (inr p) (inr q) = identifier_one by.likely by.rules (without_language old) y z p.1 q.1
+
+    fixed_apart : (y : LanguageIdentifier) (w : Pieces) → IsLocaleRefusal by old (NoFixedPoint y) → IsLocaleRefusal by old (NoSubdivisionFixedPoint w) → ⊥
+    fixed_apart y w (inl p) q = not_both (next by.likely by.rules) old.extensions.transform.lang y q.0.transform p.1
+    fixed_apart y w (inr p) q = apart by.likely by.rules (without_language old) y w p.1 q.1
+
   locale_one : (old : Locale) (e f : WholeError) → IsLocaleRefusal by old e → IsLocaleRefusal by old f → (IsMemory e → ⊥) → (IsMemory f → ⊥) → e ≡ f
   locale_one old Memory f p q other also = absurd (other tt)
   locale_one old (NoFieldFixedPoint k v) f p q other also = absurd p
   locale_one old e Memory p q other also = absurd (also tt)
   locale_one old e (NoFieldFixedPoint k v) p q other also = absurd q
-  locale_one old (NoFixedPoint y) (NoFixedPoint z) p q other also = ap (λ x. NoFixedPoint x) (identifier_one by.likely by.rules old y z p.1 q.1)
-  locale_one old (NoFixedPoint y) (NoSubdivisionFixedPoint w) p q other also = absurd (apart by.likely by.rules old y w p.1 q.1)
+  locale_one old (NoFixedPoint y) (NoFixedPoint z) p q other also = ap (λ x. NoFixedPoint x) (fixed_one old y z p q)
+  locale_one old (NoFixedPoint y) (NoSubdivisionFixedPoint w) p q other also = absurd (fixed_apart old y w p q)
   locale_one old (NoFixedPoint y) (NoValueFixedPoint l w) p q other also =
-      absurd (no_repeat (next_keyword by.keywords) old.extensions.unicode.keywords l w p.0 q)
-  locale_one old (NoSubdivisionFixedPoint v) (NoFixedPoint z) p q other also = absurd (apart by.likely by.rules old z v q.1 p.1)
+      absurd (no_repeat (next_keyword by.keywords) old.extensions.unicode.keywords l w (values_end old y p) q)
+  locale_one old (NoSubdivisionFixedPoint v) (NoFixedPoint z) p q other also = absurd (fixed_apart old z v q p)
   locale_one old (NoSubdivisionFixedPoint v) (NoSubdivisionFixedPoint w) p q other also =
-      ap (λ x. NoSubdivisionFixedPoint x) (value_one by.likely by.rules old v w p.1 q.1)
+      ap (λ x. NoSubdivisionFixedPoint x) (value_one by.likely by.rules (without_language old) v w p.1 q.1)
   locale_one old (NoSubdivisionFixedPoint v) (NoValueFixedPoint l w) p q other also =
-      absurd (no_repeat (next_keyword by.keywords) old.extensions.unicode.keywords l w p.0 q)
+      absurd (no_repeat (next_keyword by.keywords) old.extensions.unicode.keywords l w p.0.keywords q)
   locale_one old (NoValueFixedPoint k v) (NoFixedPoint z) p q other also =
-      absurd (no_repeat (next_keyword by.keywords) old.extensions.unicode.keywords k v q.0 p)
+      absurd (no_repeat (next_keyword by.keywords) old.extensions.unicode.keywords k v (values_end old z q) p)
   locale_one old (NoValueFixedPoint k v) (NoSubdivisionFixedPoint w) p q other also =
-      absurd (no_repeat (next_keyword by.keywords) old.extensions.unicode.keywords k v q.0 p)
+      absurd (no_repeat (next_keyword by.keywords) old.extensions.unicode.keywords k v q.0.keywords p)
   locale_one old (NoValueFixedPoint k v) (NoValueFixedPoint l w) p q other also =
       let e = first_one (next_keyword by.keywords) old.extensions.unicode.keywords k l v w p q in λ i. NoValueFixedPoint (e.0 i) (e.1 i)
 

@@ -4,19 +4,20 @@ use Rattle.icu_locale_core.specs.Keywords.{KeywordRows}
 use Rattle.icu_locale_core.specs.Maps.{value_at}
 use Rattle.icu_locale_core.specs.Subtag.{rg, sd}
 use Rattle.icu_locale_core.specs.TextSet.{text_cmp}
+use Rattle.icu_locale_core.specs.declared.langid.LanguageIdentifier.{LanguageIdentifier}
 use Rattle.icu_locale_core.specs.declared.locale.Locale.{Locale}
 use Rattle.icu_locale.specs.Canonical.{next_value}
-use Rattle.icu_locale.specs.Kinds.{next, by_language_alias}
-use Rattle.icu_locale.specs.Refusals.{IsRefusal}
+use Rattle.icu_locale.specs.Kinds.{next}
+use Rattle.icu_locale.specs.Refusals.{IsRefusal, IsRunRefusal}
 use Rattle.icu_locale.specs.declared.canonicalizer.CanonicalizeError.{CanonicalizeError}
 use Rattle.icu_locale.specs.declared.canonicalizer.CanonicalizeError.TheVariants as rules
 use Rattle.icu_locale_extensions.specs.declared.identifier.LocaleIdentifier.{LocaleIdentifier}
 use Rattle.icu_locale_runs.specs.Run.{EndsIfAny, IsRepeat}
 use Rattle.icu_locale_runs.specs.laws.LaterEnds.{EndsIfAny-later_end, not_both}
 use Rattle.icu_locale_values.specs.Aliases.{Pieces, is_ruled, next_field, next_keyword, next_whole}
-use Rattle.icu_locale_values.specs.Whole.{WholeRules, AllEnd, RunsEnd}
-use Rattle.icu_locale_values.specs.Refusals.{IsLocaleRefusal, IsWholeRefusal, IsMemory}
-use Rattle.icu_locale_values.specs.inner.Walked.{AreLaterEnds, of_rules}
+use Rattle.icu_locale_values.specs.Whole.{WholeRules, AllEnd, RunsEnd, without_language}
+use Rattle.icu_locale_values.specs.Refusals.{FirstRunsEnd, IsLocaleRefusal, IsWholeRefusal, IsMemory}
+use Rattle.icu_locale_values.specs.inner.Walked.{AreLaterEnds, IsRestRefusal, IsTransformRefusal, of_rules}
 use Rattle.icu_locale_values.specs.declared.error.WholeError.{WholeError}
 use Rattle.icu_locale_values.specs.declared.error.WholeError.TheVariants.{Memory, NoFixedPoint, NoSubdivisionFixedPoint, NoValueFixedPoint, NoFieldFixedPoint}
 use Rattle.icu_locale_values.proofs.Ruled.{ruled_cases, keyword_is, whole_is, none_ruled}
@@ -28,11 +29,31 @@ AllEnd-later next rows ends later key =
     EndsIfAny-later_end (next key) (value_at text_cmp rows key) (value_at text_cmp ends key) (later key)
 
 module _ (by : WholeRules) where
-  pub refused_by_rules : (old : Locale) → AllEnd (next_keyword by.keywords) old.extensions.unicode.keywords
-      → (e : CanonicalizeError) → IsRefusal by.likely by.rules old e → IsLocaleRefusal by old (of_rules e)
-  refused_by_rules old all rules.Memory h = tt
-  refused_by_rules old all (rules.NoFixedPoint z) h = (all, h)
-  refused_by_rules old all (rules.NoSubdivisionFixedPoint v) h = (all, h)
+  pub transform_refusal : (l : LanguageIdentifier) (e : CanonicalizeError) → IsRunRefusal (next by.likely by.rules) l e
+      → IsTransformRefusal by (Some l) (of_rules e)
+  transform_refusal l rules.Memory h = tt
+  transform_refusal l (rules.NoFixedPoint z) h = h
+  transform_refusal l (rules.NoSubdivisionFixedPoint v) h = absurd h
+
+  pub rest_refusal : (old : Locale) (e : CanonicalizeError) → IsRefusal by.likely by.rules (without_language old) e → IsRestRefusal by old (of_rules e)
+  rest_refusal old rules.Memory h = tt
+  rest_refusal old (rules.NoFixedPoint z) h = h
+  rest_refusal old (rules.NoSubdivisionFixedPoint v) h = h
+
+  pub refused_by_transform : (old : Locale) → AllEnd (next_keyword by.keywords) old.extensions.unicode.keywords
+      → (e : WholeError) → IsTransformRefusal by old.extensions.transform.lang e → IsLocaleRefusal by old e
+  refused_by_transform old all Memory h = tt
+  refused_by_transform old all (NoFixedPoint z) h = inl (all, h)
+  refused_by_transform old all (NoSubdivisionFixedPoint v) h = absurd h
+  refused_by_transform old all (NoValueFixedPoint key v) h = absurd h
+  refused_by_transform old all (NoFieldFixedPoint key v) h = absurd h
+
+  pub refused_by_rest : (old : Locale) → FirstRunsEnd by old → (e : WholeError) → IsRestRefusal by old e → IsLocaleRefusal by old e
+  refused_by_rest old ends Memory h = tt
+  refused_by_rest old ends (NoFixedPoint z) h = inr (ends, h)
+  refused_by_rest old ends (NoSubdivisionFixedPoint v) h = (ends, h)
+  refused_by_rest old ends (NoValueFixedPoint key v) h = absurd h
+  refused_by_rest old ends (NoFieldFixedPoint key v) h = absurd h
 
   module _ (old : LocaleIdentifier) where
     pub refused_by_locale : AllEnd (next_field by.fields) old.fields → (e : WholeError) → IsLocaleRefusal by old.locale e → IsWholeRefusal by old e
@@ -58,10 +79,11 @@ module _ (by : WholeRules) where
     module _ (all : RunsEnd by old) where
       pub refused_memory : (e : WholeError) → IsWholeRefusal by old e → IsMemory e
       refused_memory Memory h = tt
-      refused_memory (NoFixedPoint z) (others, (ended, inl repeats)) =
+      refused_memory (NoFixedPoint z) (others, inl (ended, repeats)) =
+          not_both (next by.likely by.rules) old.locale.extensions.transform.lang z all.transform repeats
+      refused_memory (NoFixedPoint z) (others, inr (ended, inl repeats)) =
           not_both (next by.likely by.rules) (Some old.locale.id) z all.id repeats
-      refused_memory (NoFixedPoint z) (others, (ended, inr (end, repeats))) =
-          not_both (by_language_alias by.rules) old.locale.extensions.transform.lang z all.transform repeats
+      refused_memory (NoFixedPoint z) (others, inr (ended, inr (end, repeats))) = absurd repeats
       refused_memory (NoSubdivisionFixedPoint v) (others, (ended, (identifiers, inl repeats))) =
           not_both (next_value by.rules) (value_at text_cmp old.locale.extensions.unicode.keywords rg) v (all.keywords rg) repeats
       refused_memory (NoSubdivisionFixedPoint v) (others, (ended, (identifiers, inr (first, repeats)))) =

@@ -8,14 +8,14 @@ use Rattle.icu_locale_core.specs.TextSet.{text_cmp, empty}
 use Rattle.icu_locale_core.specs.laws.Maps.{same_sorted_map}
 use Rattle.icu_locale_core.specs.laws.TextSets.{text_total, text_same}
 use Rattle.icu_locale.specs.Canonical.{next_value, is_applied, subdivision_alias}
-use Rattle.icu_locale.specs.Kinds.{next, by_language_alias}
+use Rattle.icu_locale.specs.Kinds.{next}
 use Rattle.icu_locale_extensions.specs.Locales.{IsLocaleIdentifier}
 use Rattle.icu_locale_extensions.specs.declared.identifier.LocaleIdentifier.{LocaleIdentifier}
 use Rattle.icu_locale_runs.specs.Run.{BecomesEnd}
 use Rattle.icu_locale_runs.specs.laws.LaterEnds.{alone, kept, none_behind, none_stands_behind, none_behind_any, EndsIfAny-becomes}
 use Rattle.icu_locale_runs.specs.laws.Runs.{end_is_unique}
 use Rattle.icu_locale_values.specs.Aliases.{is_ruled, next_field, next_keyword, next_whole}
-use Rattle.icu_locale_values.specs.Whole.{AreMaps, WholeRules, IsWhole, is_any_followed, is_locale_applied, is_whole_applied, HasNoAlias, NeedsNoMemory, RunsEnd}
+use Rattle.icu_locale_values.specs.Whole.{AreMaps, WholeRules, IsWhole, is_any_followed, is_locale_applied, is_whole_applied, without_language, HasNoAlias, NeedsNoMemory, RunsEnd}
 use Rattle.icu_locale_values.specs.inner.Still.{IsStill}
 use Rattle.icu_locale_values.proofs.Followed.{none_followed, followed_none}
 use Rattle.icu_locale_values.proofs.Ruled.{ruled_cases, keyword_is, whole_is, none_ruled}
@@ -59,7 +59,7 @@ module _ (by : WholeRules) where
   pub IsStill-whole : (old new : LocaleIdentifier) → IsWhole by old new → IsStill by new
   IsStill-whole old new is = record {
     id = is.locale.id.last;
-    transform = none_behind (by_language_alias by.rules) old.locale.extensions.transform.lang new.locale.extensions.transform.lang is.locale.transform;
+    transform = none_behind (next by.likely by.rules) old.locale.extensions.transform.lang new.locale.extensions.transform.lang is.locale.transform;
     keywords = λ key. none_behind (next_whole by.rules by.keywords key) (value_at text_cmp old.locale.extensions.unicode.keywords key)
         (value_at text_cmp new.locale.extensions.unicode.keywords key) (is.locale.keywords key);
     fields = λ key. none_behind (next_field by.fields key) (value_at text_cmp old.fields key) (value_at text_cmp new.fields key) (is.fields key);
@@ -93,19 +93,23 @@ module _ (by : WholeRules) where
               (whole_is by.rules by.keywords key unruled ∙ sym (keyword_is by.rules by.keywords key unruled)) (still.keywords key)
         ]
 
+    abbrev rest_applied : Bool
+    rest_applied = is_some (option_and_then (next by.likely by.rules) old.locale.extensions.transform.lang) || is_applied by.likely by.rules (without_language old.locale)
+
     pub IsStill-unapplied : is_whole_applied by old ≡ false → IsStill by old
     IsStill-unapplied off =
         let fields = first_false (is_any_followed (next_field by.fields) old.fields) (is_locale_applied by old.locale) off in
         let locale = second_false (is_any_followed (next_field by.fields) old.fields) (is_locale_applied by old.locale) off in
-        let keywords = first_false (is_any_followed (next_keyword by.keywords) old.locale.extensions.unicode.keywords) (is_applied by.likely by.rules old.locale) locale in
-        let rules = second_false (is_any_followed (next_keyword by.keywords) old.locale.extensions.unicode.keywords) (is_applied by.likely by.rules old.locale) locale in
-        let below = second_false (is_some (next by.likely by.rules old.locale.id)) _ rules in
-        let values = second_false (is_some (option_and_then (by_language_alias by.rules) old.locale.extensions.transform.lang)) _ below in
+        let keywords = first_false (is_any_followed (next_keyword by.keywords) old.locale.extensions.unicode.keywords) rest_applied locale in
+        let rest = second_false (is_any_followed (next_keyword by.keywords) old.locale.extensions.unicode.keywords) rest_applied locale in
+        let language = first_false (is_some (option_and_then (next by.likely by.rules) old.locale.extensions.transform.lang)) _ rest in
+        let rules = second_false (is_some (option_and_then (next by.likely by.rules) old.locale.extensions.transform.lang)) (is_applied by.likely by.rules (without_language old.locale)) rest in
+        let values = second_false (is_some (next by.likely by.rules old.locale.id)) _ rules in
         let at_rg = first_false (is_some (subdivision_alias by.rules old.locale.extensions.unicode.keywords rg)) _ values in
         let at_sd = second_false (is_some (subdivision_alias by.rules old.locale.extensions.unicode.keywords rg)) _ values in
         record {
           id = none_is (next by.likely by.rules old.locale.id) (first_false _ _ rules);
-          transform = none_is (option_and_then (by_language_alias by.rules) old.locale.extensions.transform.lang) (first_false _ _ below);
+          transform = none_is (option_and_then (next by.likely by.rules) old.locale.extensions.transform.lang) language;
           keywords = whole_none (none_followed (next_keyword by.keywords) old.locale.extensions.unicode.keywords keywords)
               (none_is (subdivision_alias by.rules old.locale.extensions.unicode.keywords rg) at_rg)
               (none_is (subdivision_alias by.rules old.locale.extensions.unicode.keywords sd) at_sd);
@@ -121,53 +125,54 @@ module _ (by : WholeRules) where
 
       pub unapplied_still : is_whole_applied by old ≡ false
       unapplied_still =
-          let rules : is_applied by.likely by.rules old.locale ≡ false =
-          or_off _ _ (ap is_some still.id) (or_off _ _ (ap is_some still.transform)
-          (or_off _ _ (ap is_some (still.keywords rg)) (ap is_some (still.keywords sd)))) in
-          or_off _ _ HasNoAlias-still.fields (or_off _ _ HasNoAlias-still.keywords rules)
+          let rules : is_applied by.likely by.rules (without_language old.locale) ≡ false =
+          or_off _ _ (ap is_some still.id) (or_off _ _ (ap is_some (still.keywords rg)) (ap is_some (still.keywords sd))) in
+          or_off _ _ HasNoAlias-still.fields (or_off _ _ HasNoAlias-still.keywords (or_off _ _ (ap is_some still.transform) rules))
 
       pub NeedsNoMemory-still : NeedsNoMemory by old
       NeedsNoMemory-still = record {
         aliases = HasNoAlias-still;
+        transform = none_behind_any (next by.likely by.rules) (λ z. z.variants ≡ empty) old.locale.extensions.transform.lang still.transform;
         rules = record {
           id = none_stands_behind (next by.likely by.rules) (λ z. z.variants ≡ empty) old.locale.id still.id;
-          transform = none_behind_any (by_language_alias by.rules) (λ z. z.variants ≡ empty) old.locale.extensions.transform.lang still.transform;
+          transform = tt;
           region_override = none_behind_any (next_value by.rules) (λ w. w ≡ []) (value_at text_cmp old.locale.extensions.unicode.keywords rg) (still.keywords rg);
           subdivision = none_behind_any (next_value by.rules) (λ w. w ≡ []) (value_at text_cmp old.locale.extensions.unicode.keywords sd) (still.keywords sd);
         };
       }
 
-    pub IsWhole-still : IsStill by old → IsWhole by old old
-    IsWhole-still still = record {
+    pub IsWhole-still : IsStill by old → AreMaps old → IsWhole by old old
+    IsWhole-still still maps = record {
       locale = record {
         id = alone (next by.likely by.rules) old.locale.id still.id;
-        transform = kept (by_language_alias by.rules) old.locale.extensions.transform.lang still.transform;
+        transform = kept (next by.likely by.rules) old.locale.extensions.transform.lang still.transform;
         keywords = λ key. kept (next_whole by.rules by.keywords key) (value_at text_cmp old.locale.extensions.unicode.keywords key) (still.keywords key);
       };
       fields = λ key. kept (next_field by.fields key) (value_at text_cmp old.fields key) (still.fields key);
       attributes = refl;
       others = refl;
       private_use = refl;
+      maps = maps;
     }
 
   -- ---- one form
 
-  pub one_whole : (old a b : LocaleIdentifier) → AreMaps a → AreMaps b → IsWhole by old a → IsWhole by old b → a ≡ b
-  one_whole old a b known_a known_b p q =
-      let keywords = same_rows a.locale.extensions.unicode.keywords b.locale.extensions.unicode.keywords known_a.keywords known_b.keywords
+  pub one_whole : (old a b : LocaleIdentifier) → IsWhole by old a → IsWhole by old b → a ≡ b
+  one_whole old a b p q =
+      let keywords = same_rows a.locale.extensions.unicode.keywords b.locale.extensions.unicode.keywords p.maps.keywords q.maps.keywords
       (λ key. one_end (next_whole by.rules by.keywords key) (value_at text_cmp old.locale.extensions.unicode.keywords key)
       (value_at text_cmp a.locale.extensions.unicode.keywords key) (value_at text_cmp b.locale.extensions.unicode.keywords key)
       (p.locale.keywords key) (q.locale.keywords key)) in
-      let fields = same_rows a.fields b.fields known_a.fields known_b.fields
+      let fields = same_rows a.fields b.fields p.maps.fields q.maps.fields
       (λ key. one_end (next_field by.fields key) (value_at text_cmp old.fields key) (value_at text_cmp a.fields key) (value_at text_cmp b.fields key)
       (p.fields key) (q.fields key)) in
       same_whole a b (end_is_unique (next by.likely by.rules) old.locale.id a.locale.id b.locale.id p.locale.id q.locale.id)
-      (one_end (by_language_alias by.rules) old.locale.extensions.transform.lang a.locale.extensions.transform.lang
+      (one_end (next by.likely by.rules) old.locale.extensions.transform.lang a.locale.extensions.transform.lang
       b.locale.extensions.transform.lang p.locale.transform q.locale.transform)
       keywords fields (p.attributes ∙ sym q.attributes) (p.others ∙ sym q.others) (p.private_use ∙ sym q.private_use)
 
   pub whole_stays : (old new : LocaleIdentifier) → IsWhole by old new → IsWhole by new new
-  whole_stays old new is = IsWhole-still new (IsStill-whole old new is)
+  whole_stays old new is = IsWhole-still new (IsStill-whole old new is) is.maps
 
   pub whole_unapplied : (old new : LocaleIdentifier) → IsLocaleIdentifier new → IsWhole by old new → is_whole_applied by new ≡ false
   whole_unapplied old new known is = unapplied_still new known (IsStill-whole old new is)
@@ -178,7 +183,7 @@ module _ (by : WholeRules) where
   pub whole_ends : (old new : LocaleIdentifier) → IsWhole by old new → RunsEnd by old
   whole_ends old new is = record {
     id = (new.locale.id, is.locale.id);
-    transform = EndsIfAny-becomes (by_language_alias by.rules) old.locale.extensions.transform.lang new.locale.extensions.transform.lang is.locale.transform;
+    transform = EndsIfAny-becomes (next by.likely by.rules) old.locale.extensions.transform.lang new.locale.extensions.transform.lang is.locale.transform;
     keywords = λ key. EndsIfAny-becomes (next_whole by.rules by.keywords key) (value_at text_cmp old.locale.extensions.unicode.keywords key)
         (value_at text_cmp new.locale.extensions.unicode.keywords key) (is.locale.keywords key);
     fields = λ key. EndsIfAny-becomes (next_field by.fields key) (value_at text_cmp old.fields key) (value_at text_cmp new.fields key) (is.fields key);
@@ -192,6 +197,6 @@ module _ (by : WholeRules) where
     λ applied same. false≢true (sym (subst (λ x. is_whole_applied by x ≡ false) (sym same) (whole_unapplied old new known is)) ∙ applied),
     λ differ. elim (cases_Bool (is_whole_applied by old)) [
       | inl applied ↦ applied
-      | inr off ↦ absurd (differ (one_whole old old new (maps_of old known_old) (maps_of new known) (IsWhole-still old (IsStill-unapplied old off)) is))
+      | inr off ↦ absurd (differ (one_whole old old new (IsWhole-still old (IsStill-unapplied old off) (maps_of old known_old)) is))
     ],
   )

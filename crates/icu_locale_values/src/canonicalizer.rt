@@ -1,20 +1,23 @@
 //! Whole canonical forms of locale identifiers.
-ghost use Rattle.std.specs.Prelude.{◌≡◌, ◌⊎◌, false, IsOk, IfOk, IfErr, OnOk, OnErr};
+ghost use Rattle.std.specs.Prelude.{◌≡◌, ◌⊎◌, false, is_some, if◌then◌else◌, IfSome, IsOk, IfOk, IfErr, OnOk, OnErr};
+ghost use Rattle.std.specs.Option.{option_or};
 ghost use Rattle.icu_locale_core.specs.TextSet.{text_cmp};
-ghost use Rattle.icu_locale.specs.Canonical.{answer_of};
+ghost use Rattle.icu_locale.specs.Canonical.{IsCanonical, answer_of, is_applied};
 ghost use Rattle.icu_locale.specs.Cost as cost;
+ghost use Rattle.icu_locale.specs.Kinds.{next};
+ghost use Rattle.icu_locale_runs.specs.Run.{IsLaterEndOf};
 ghost use Rattle.icu_locale_values.specs.Aliases.{next_field, next_keyword};
 ghost use Rattle.icu_locale_values.specs.Cost.{CountsWhole};
-ghost use Rattle.icu_locale_values.specs.Whole.{whole_rules, IsWhole, IsWholeLocale, is_any_followed, is_locale_applied, is_whole_applied, NeedsNoMemory, RunsEnd};
+ghost use Rattle.icu_locale_values.specs.Whole.{whole_rules, IsWhole, IsWholeLocale, is_any_followed, is_locale_applied, is_whole_applied, without_language, NeedsNoMemory, RunsEnd};
 ghost use Rattle.icu_locale_values.specs.Refusals.{IsLocaleRefusal, IsWholeRefusal, IsOutOfMemory};
-ghost use Rattle.icu_locale_values.specs.inner.Counted.{CountsLocale, CountsValues};
-ghost use Rattle.icu_locale_values.specs.inner.Walked.{has_row, of_rules, AreLaterEnds};
+ghost use Rattle.icu_locale_values.specs.inner.Counted.{CountsLocale, CountsRest, CountsTransform, CountsValues};
+ghost use Rattle.icu_locale_values.specs.inner.Walked.{has_row, of_rules, AreLaterEnds, IsRestRefusal, IsTransformRefusal};
 
 use crate::puts::put_ends;
 use crate::walk::{Refusal, later_ends};
 use crate::{ValueAliases, WholeError};
 use icu_locale::{CanonicalizeError, CanonicalizerRef, TransformResult, Turns};
-use icu_locale_core::{Key, Locale, Value};
+use icu_locale_core::{Key, LanguageIdentifier, Locale, Value};
 use icu_locale_extensions::{FieldKey, LocaleIdentifier, Subtags};
 
 /// Brings locale identifiers to their whole canonical form (UTS #35 Part 1, Annex C, "LocaleId Canonicalization"): by
@@ -28,9 +31,10 @@ pub struct WholeCanonicalizer<'d> {
 }
 
 impl<'d> WholeCanonicalizer<'d> {
-    /// Brings a locale identifier to its whole canonical form: its locale to what `CanonicalizerRef::canonicalize` makes
-    /// of it, and the value of each field and of each keyword to the end of its run by aliases. At `rg` and `sd` the rules
-    /// speak, and no alias is asked. All else stays. The answer is `Modified` exactly where a rule or an alias was applied.
+    /// Brings a locale identifier to its whole canonical form: its identifier and its transform language to the ends of
+    /// their runs by all rules, and the value of each field and of each keyword to the end of its run by aliases. At `rg`
+    /// and `sd` the rules speak, and no alias is asked. All else stays. The answer is `Modified` exactly where a rule or an
+    /// alias was applied.
     ///
     /// For each row of the locale identifier a table is asked for its key, at most once. Memory is taken for the states of
     /// runs that go on, and for a list of the ends; where no value has an alias only the rules take some.
@@ -42,8 +46,9 @@ impl<'d> WholeCanonicalizer<'d> {
     /// - `NoFieldFixedPoint` where the run of a field's value has no end: it names the first such field, by rising key,
     ///   and the first of its values that comes again.
     /// - `NoValueFixedPoint`: the same of a keyword.
-    /// - `NoFixedPoint` and `NoSubdivisionFixedPoint` where the rules come to no end, as `CanonicalizerRef::canonicalize`
-    ///   says.
+    /// - `NoFixedPoint` where the run of the transform language has no end: it names the first identifier that comes again.
+    /// - `NoFixedPoint` and `NoSubdivisionFixedPoint` where the rules come to no end at what else there is, as
+    ///   `CanonicalizerRef::canonicalize` says.
     /// - `Memory` where memory was asked for and refused: never where no value has an alias and the rules need none.
     ///
     /// The locale identifier is unchanged then.
@@ -86,8 +91,11 @@ impl<'d> WholeCanonicalizer<'d> {
         ensures count { CountsWhole (whole_rules self.now) locale.old turns.old turns.new }
     {
         let ends = self.field_ends(locale, turns)?;
-        let answer = self.canonicalize_locale(&mut locale.locale, turns)?;
-        Ok(put_ends(&mut locale.fields, ends, answer))
+        let by_locale = self.canonicalize_locale(&mut locale.locale, turns)?;
+        let answer = put_ends(&mut locale.fields, ends, by_locale);
+        locale.fields.known();
+        locale.locale.extensions.unicode.keywords.known();
+        Ok(answer)
     }
 
     // Brings a locale to its whole canonical form.
@@ -104,18 +112,70 @@ impl<'d> WholeCanonicalizer<'d> {
             ≡ answer_of (is_locale_applied (whole_rules self.now) locale.old)) }
         ensures free { is_any_followed (next_keyword (whole_rules self.now).keywords)
             locale.old.extensions.unicode.keywords ≡ false
+            → IfSome locale.old.extensions.transform.lang (cost.AddsNoVariants
+            (next (whole_rules self.now).likely (whole_rules self.now).rules))
             → cost.NeedsNoMemory (whole_rules self.now).likely (whole_rules self.now).rules
-            locale.old → ¬ (IsOutOfMemory result) }
+            (without_language locale.old) → ¬ (IsOutOfMemory result) }
         ensures count { CountsLocale (whole_rules self.now) locale.old turns.old turns.new }
     {
         icu_locale::laws::canonical_keywords_by_key();
         let ends = self.keyword_ends(locale, turns)?;
-        let answer = match self.rules.canonicalize_counted(locale, turns) {
-            Ok(answer) => answer,
-            Err(error) => return Err(of_rules(error)),
-        };
+        let transform = self.transform_end(&locale.extensions.transform.lang, turns)?;
+        let by_rules = self.canonicalize_rest(locale, turns)?;
+        let answer = put_language(&mut locale.extensions.transform.lang, transform, by_rules);
         let keywords = &mut locale.extensions.unicode.keywords;
         Ok(put_ends(keywords, ends, answer))
+    }
+
+    // Where the run of the transform language ends, if there is one and its end is at a later place than its start.
+    fn transform_end(
+        &self,
+        lang: &Option<LanguageIdentifier>,
+        turns: &mut Turns,
+    ) -> Result<Option<LanguageIdentifier>, WholeError>
+        ensures end { IfOk result (IsLaterEndOf
+            (next (whole_rules self.now).likely (whole_rules self.now).rules) lang.now) }
+        ensures refusal { IfErr result (IsTransformRefusal (whole_rules self.now) lang.now) }
+        ensures free { IfSome lang.now (cost.AddsNoVariants
+            (next (whole_rules self.now).likely (whole_rules self.now).rules))
+            → ¬ (IsOutOfMemory result) }
+        ensures count { CountsTransform (whole_rules self.now) lang.now turns.old turns.new }
+    {
+        let Some(lang) = lang else {
+            return Ok(None);
+        };
+        match self.rules.canonical_form_counted(lang, turns) {
+            Ok(end) => Ok(end),
+            Err(error) => Err(of_rules(error)),
+        }
+    }
+
+    // Brings a locale to its canonical form by the rules, but for its transform language, which stays.
+    fn canonicalize_rest(
+        &self,
+        locale: &mut Locale,
+        turns: &mut Turns,
+    ) -> Result<TransformResult, WholeError>
+        ensures canonical { OnOk result (IsCanonical (whole_rules self.now).likely
+            (whole_rules self.now).rules (without_language locale.old)
+            (without_language locale.new)) }
+        ensures transform { locale.new.extensions.transform ≡ locale.old.extensions.transform }
+        ensures refusal { IfErr result (IsRestRefusal (whole_rules self.now) locale.old) }
+        ensures unchanged { OnErr result (locale.new ≡ locale.old) }
+        ensures answer { IfOk result (λ a. a ≡ answer_of (is_applied (whole_rules self.now).likely
+            (whole_rules self.now).rules (without_language locale.old))) }
+        ensures free { cost.NeedsNoMemory (whole_rules self.now).likely
+            (whole_rules self.now).rules (without_language locale.old)
+            → ¬ (IsOutOfMemory result) }
+        ensures count { CountsRest (whole_rules self.now) locale.old turns.old turns.new }
+    {
+        let lang = locale.extensions.transform.lang.take();
+        let result = self.rules.canonicalize_counted(locale, turns);
+        locale.extensions.transform.lang = lang;
+        match result {
+            Ok(answer) => Ok(answer),
+            Err(error) => Err(of_rules(error)),
+        }
     }
 
     // Where the runs of the fields' values end, each if that is at a later place than its start.
@@ -169,6 +229,24 @@ impl<'d> WholeCanonicalizer<'d> {
             Err(Refusal::Memory) => Err(WholeError::Memory),
             Err(Refusal::Repeats(key, first)) => Err(WholeError::NoValueFixedPoint(key, first)),
         }
+    }
+}
+
+// Puts the end of the transform language's run in its place, if there is a later one, and answers `Modified` then.
+fn put_language(
+    lang: &mut Option<LanguageIdentifier>,
+    end: Option<LanguageIdentifier>,
+    answer: TransformResult,
+) -> TransformResult
+    ensures put { lang.new ≡ option_or end lang.old }
+    ensures answer { result ≡ (if is_some end then TransformResult.Modified else answer) }
+{
+    match end {
+        Some(end) => {
+            *lang = Some(end);
+            TransformResult::Modified
+        }
+        None => answer,
     }
 }
 

@@ -5,7 +5,7 @@ ghost use Rattle.icu_locale_core.specs.declared.locale.Locale.{Locale};
 ghost use Rattle.icu_locale_extensions.specs.Locales.{IsLocaleIdentifier};
 ghost use Rattle.icu_locale_extensions.specs.declared.identifier.LocaleIdentifier.{LocaleIdentifier};
 ghost use Rattle.icu_locale_values.specs.Refusals.{IsWholeRefusal, IsMemory};
-ghost use Rattle.icu_locale_values.specs.Whole.{WholeRules, IsWhole, AreMaps, is_whole_applied, HasNoAlias, NeedsNoMemory, RunsEnd};
+ghost use Rattle.icu_locale_values.specs.Whole.{WholeRules, IsWhole, AreMaps, is_whole_applied, HasNoAlias, GoesByLanguages, NeedsNoMemory, RunsEnd};
 ghost use Rattle.icu_locale_values.specs.declared.error.WholeError.{WholeError};
 
 /// A whole canonical form is its own: nothing more is applied to it, and no memory is needed to find that. So
@@ -22,8 +22,8 @@ pub fn whole_form_stays()
 /// A locale identifier has one whole canonical form, whose keywords and fields are maps, as those of every locale
 /// identifier are.
 pub fn whole_form_is_one()
-    ensures one { (by : WholeRules) (old new other : LocaleIdentifier) → AreMaps new
-        → AreMaps other → IsWhole by old new → IsWhole by old other → new ≡ other }
+    ensures one { (by : WholeRules) (old new other : LocaleIdentifier)
+        → IsWhole by old new → IsWhole by old other → new ≡ other }
     ensures maps { (x : LocaleIdentifier) → IsLocaleIdentifier x → AreMaps x }
 {}
 
@@ -45,12 +45,14 @@ pub fn applied_where_changed()
         → (is_whole_applied by old ≡ true) ↔ (old ≢ new) }
 {}
 
-/// Where no value has an alias, what `canonicalize` of `icu_locale` makes of the locale is its whole canonical form, with
-/// all else as it was. Without rows no value has an alias.
+/// Where no value has an alias, and no rule but one of languages matches the transform language and what follows it, what
+/// `canonicalize` of `icu_locale` makes of the locale is its whole canonical form, with all else as it was. Without rows
+/// no value has an alias.
 pub fn without_aliases()
     ensures whole { (by : WholeRules) (old : LocaleIdentifier) (new : Locale) → HasNoAlias by old
+        → GoesByLanguages by old.locale.extensions.transform.lang
         → IsCanonical by.likely by.rules old.locale new
-        → IsWhole by old (record old { locale = new }) }
+        → AreMaps (record old { locale = new }) → IsWhole by old (record old { locale = new }) }
     ensures none { (by : WholeRules) (old : LocaleIdentifier) → by.keywords ≡ []
         → by.fields ≡ [] → HasNoAlias by old }
 {

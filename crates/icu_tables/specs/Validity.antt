@@ -37,6 +37,7 @@ abbrev pub kinds : List (List ℕ × CodeKind)
 kinds =
     (codes "script", kind.Script)
     ∷ (codes "subdivision", kind.Subdivision)
+    ∷ (codes "region_override", kind.RegionOverride)
     ∷ (codes "currency", kind.Currency)
     ∷ (codes "code_point", kind.CodePoint)
     ∷ (codes "date", kind.Date)

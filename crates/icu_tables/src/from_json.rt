@@ -56,6 +56,7 @@ impl Tables {
     pub fn from_json(alloc: Global, text: &[u8]) -> Result<Tables, TableError>
         ensures rows { IfOk result (λ tables. rows_in text.now ≡ Ok (rows_of tables)) }
         ensures alone { IfOk result (λ tables. tables.supplement ≡ no_supplement) }
+        ensures lent { IfOk result (λ tables. tables.lent_names ≡ None) }
         ensures refused { IfErr result (λ e. e ≢ TableError.Memory
             → rows_in text.now ≡ Err e) }
     {
@@ -70,11 +71,12 @@ impl Tables {
     }
 }
 
-// The tables without a supplement.
+// The tables without a supplement and without names that are lent.
 fn alone(alloc: Global, mut tables: Tables) -> Tables
-    ensures { result ≡ record tables { supplement = no_supplement } }
+    ensures { result ≡ record tables { supplement = no_supplement; lent_names = None } }
 {
     tables.supplement = Supplement::new(alloc);
+    tables.lent_names = None;
     tables
 }
 

@@ -43,6 +43,16 @@ impl Step<Option<Plain>> for ByLanguage<'_> {
     }
 }
 
+// One turn of a transform language by all rules, where there is one.
+#[derive(Clone, Copy)]
+struct LanguageByAll<'w>(World<'w>);
+
+impl Step<Option<Plain>> for LanguageByAll<'_> {
+    fn next(&self, x: &Option<Plain>) -> Option<Option<Plain>> {
+        Some(Some(ByAll(self.0).next(x.as_ref()?)?))
+    }
+}
+
 // One step of a value, where there is one.
 #[derive(Clone, Copy)]
 struct ByRow<'w>(World<'w>);
@@ -70,6 +80,15 @@ impl PlainLocale {
             lang: Drawn::draw(numbers, subtags),
             rg: Drawn::draw(numbers, subtags),
             sd: Drawn::draw(numbers, subtags),
+        }
+    }
+
+    fn with_language(&self, lang: Option<Plain>) -> PlainLocale {
+        PlainLocale {
+            id: self.id,
+            lang,
+            rg: self.rg,
+            sd: self.sd,
         }
     }
 
@@ -134,6 +153,27 @@ pub fn outcome_of(alloc: Global, world: World<'_>, old: &PlainLocale) -> Result<
         Run::Repeats(again) => return Ok(Outcome::ValueRepeats(again)),
     };
     Ok(Outcome::Canonical(PlainLocale { id, lang, rg, sd }))
+}
+
+/// The same of a whole canonical form: the transform language's run by all rules is asked first.
+pub fn whole_outcome_of(
+    alloc: Global,
+    world: World<'_>,
+    old: &PlainLocale,
+) -> Result<Outcome, Fault> {
+    let lang = match walk(alloc, &LanguageByAll(world), old.lang)? {
+        Run::Ends(lang) => lang,
+        Run::Repeats(again) => return Ok(Outcome::Repeats(again)),
+    };
+    Ok(match outcome_of(alloc, world, &old.with_language(None))? {
+        Outcome::Canonical(new) => Outcome::Canonical(new.with_language(lang)),
+        refusal => refusal,
+    })
+}
+
+/// Whether some rule or row is applied for a whole canonical form.
+pub fn is_whole_applied(world: World<'_>, old: &PlainLocale) -> bool {
+    LanguageByAll(world).next(&old.lang).is_some() || is_applied(world, &old.with_language(None))
 }
 
 /// Whether some rule or row is applied.

@@ -123,6 +123,7 @@ impl<'w> Maker<'w> {
             (Making::Read, _) => {
                 let aliases = self.tables.load_aliases()?;
                 let read = ReadRules::read(alloc, aliases)?;
+                let read = LocaleCanonicalizer::over(read, aliases, expander).into_rules();
                 Ok(LocaleCanonicalizer::over(read, aliases, expander))
             }
         }

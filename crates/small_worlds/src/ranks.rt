@@ -63,7 +63,7 @@ impl Rank {
     pub fn is_told_by(&self, found: &Match) -> bool {
         found.request == self.request
             && found.available == self.available
-            && u64::from(found.distance) == self.cost
+            && u64::from(found.cost) == self.cost
     }
 }
 

@@ -37,6 +37,19 @@ fn compare_search(
     Ok(())
 }
 
+// Whether no rule matches, asked of the canonicalizer and of what it lends.
+fn compare_is_canonical(
+    report: &mut Report,
+    canonicalizer: &LocaleCanonicalizer<'_>,
+    world: World<'_>,
+    (x, id): (&Plain, &LanguageIdentifier),
+) {
+    let wanted = next(world.rules, world.rows, world.subtags, x).is_none();
+    let is_so = canonicalizer.is_canonical(id) == wanted;
+    let is_so_lent = canonicalizer.lend().is_canonical(id) == wanted;
+    report.see(is_so && is_so_lent, "is_canonical", x);
+}
+
 fn compare_rule(
     alloc: Global,
     report: &mut Report,
@@ -70,6 +83,7 @@ pub fn compare_steps(
     for transform in [false, true] {
         compare_search(report, canonicalizer, world, (x, &id), transform)?;
     }
+    compare_is_canonical(report, canonicalizer, world, (x, &id));
     compare_own_rules(alloc, report, world, (x, &id))
 }
 

@@ -1,4 +1,4 @@
-//! Whole canonical forms: fields, then keywords, then what the rules say.
+//! Whole canonical forms: fields, then keywords, then the transform language, then what the rules say.
 use crate::canonical::{self, PlainLocale, World};
 use crate::fault::Fault;
 use crate::forms::tells;
@@ -63,7 +63,7 @@ enum Outcome {
     ByRules(canonical::Outcome),
 }
 
-// The fields are asked first, then the keywords, and then the rules.
+// The fields are asked first, then the keywords, then the transform language, and then the rules.
 fn outcome_of(
     alloc: Global,
     world: World<'_>,
@@ -79,10 +79,15 @@ fn outcome_of(
         Ends::Repeats(key, again) => return Ok(Outcome::KeywordRepeats(key, again)),
     };
     let words = Words { keywords, fields };
-    Ok(match canonical::outcome_of(alloc, world, &old.locale)? {
-        canonical::Outcome::Canonical(locale) => Outcome::Whole(PlainIdentifier { locale, words }),
-        refusal => Outcome::ByRules(refusal),
-    })
+    Ok(
+        match canonical::whole_outcome_of(alloc, world, &old.locale)? {
+            canonical::Outcome::Canonical(locale) => Outcome::Whole(PlainIdentifier {
+                locale,
+                words,
+            }),
+            refusal => Outcome::ByRules(refusal),
+        },
+    )
 }
 
 // Whether an answer is the one that has to be given.
@@ -143,7 +148,7 @@ struct Wanted {
 fn what_becomes(alloc: Global, asked: Asked<'_>, old: &PlainIdentifier) -> Result<Wanted, Fault> {
     let (world, links) = (asked.world, asked.links);
     let outcome = outcome_of(alloc, world, links, old)?;
-    let applied = links.is_applied(&old.words) || canonical::is_applied(world, &old.locale);
+    let applied = links.is_applied(&old.words) || canonical::is_whole_applied(world, &old.locale);
     Ok(Wanted { outcome, applied })
 }
 

@@ -1,5 +1,5 @@
 //! A run or a stream of words: by what parts its input comes, what fails, and what is wanted of it.
-use icu_locale_lines::{CliError, Command, Status, run, run_words, stream_words};
+use icu_locale_lines::{CliError, Command, Status, run, run_words, stream, stream_words};
 use icu_tables::Tables;
 use std::alloc::Global;
 use std::io;
@@ -13,7 +13,7 @@ use tests_shared::known::{text, words};
 pub struct Case<'c> {
     /// A stream, or a run.
     pub is_stream: bool,
-    /// The tables of a run; none for those that its words say.
+    /// The tables; none for those that the words say.
     pub tables: Option<&'c Tables>,
     pub words: &'c str,
     pub input: &'c [u8],
@@ -98,14 +98,15 @@ fn ended<R: Read, W: Write>(
     writer: &mut W,
 ) -> Result<Status, CliError> {
     let asked = words(alloc, case.words).expect(rt, "words");
-    if case.is_stream {
-        return stream_words(alloc, &asked, reader, writer);
-    }
     match case.tables {
         Some(tables) => {
             let (command, _) = Command::from_words(alloc, &asked).expect(rt, "a command");
+            if case.is_stream {
+                return stream(alloc, &command, tables, None, reader, writer);
+            }
             run(alloc, &command, tables, reader, writer)
         }
+        None if case.is_stream => stream_words(alloc, &asked, reader, writer),
         None => run_words(alloc, &asked, reader, writer),
     }
 }

@@ -95,6 +95,29 @@ fn long_circle(
     assert!(rt; first == Some(numbered(rt, 7)));
 }
 
+// The same of an identifier with a variant, whose chain is listed and written.
+fn long_circle_of_an_identifier(
+    rt: &impl Abort,
+    alloc: Global,
+    tables: &Tables,
+    parents: &SortedMap<DataLocale, DataLocale>,
+) {
+    let fallbacker = LocaleFallbacker {
+        expander: expander(rt, tables),
+        parents,
+    };
+    let id = identifier(alloc, "aaa-fonipa").expect(rt, "identifier");
+    let chain = fallbacker
+        .for_config(BY_LANGUAGE)
+        .fallback_for_identifier(alloc, id);
+    let refused = chain.to_list(alloc).err();
+    assert!(rt; refused == Some(FallbackError::Circle(numbered(rt, 7))));
+    let mut text = Vec::new(alloc);
+    let refused = chain.append_to(&mut text).err();
+    assert!(rt; refused == Some(FallbackError::Circle(numbered(rt, 7))));
+    assert!(rt; text.is_empty());
+}
+
 #[test]
 fn chains_of_four_thousand(rt: HostRuntime) {
     let alloc = rt.alloc();
@@ -104,6 +127,7 @@ fn chains_of_four_thousand(rt: HostRuntime) {
     let inserted = parents.insert(numbered(&rt, 4_000), numbered(&rt, 7));
     inserted.expect(&rt, "memory");
     long_circle(&rt, alloc, &tables, &parents);
+    long_circle_of_an_identifier(&rt, alloc, &tables, &parents);
 }
 
 #[test]

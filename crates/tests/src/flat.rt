@@ -146,3 +146,35 @@ fn a_key_of_another_kind_than_its_marker_is_left_out(rt: HostRuntime) {
         None => assert!(rt; true),
     }
 }
+
+#[test]
+fn refusals_display_their_names(rt: HostRuntime) {
+    let refusals = [
+        (FlatError::Form, "Form"),
+        (FlatError::Long, "Long"),
+        (FlatError::Memory, "Memory"),
+    ];
+    for (refusal, name) in refusals {
+        let text = format!(in rt.alloc(); "{refusal}").expect(&rt, "memory");
+        assert!(rt; text.as_str() == name);
+    }
+}
+
+// How many bytes the names of two regions take.
+fn bytes_of_two(rt: &impl Abort, alloc: std::alloc::Global, first: &str, second: &str) -> usize {
+    let mut tables = Tables::new(alloc);
+    for (code, name) in [("150", first), ("AT", second)] {
+        let name = text(alloc, &name).expect(rt, "text");
+        tables
+            .insert_name(REGIONS, english(rt), region_key(rt, code), name)
+            .expect(rt, "memory");
+    }
+    tables.names.to_flat(alloc).expect(rt, "memory").len()
+}
+
+#[test]
+fn equal_texts_are_written_once(rt: HostRuntime) {
+    let equal = bytes_of_two(&rt, rt.alloc(), "Europe", "Europe");
+    let other = bytes_of_two(&rt, rt.alloc(), "Europe", "Austri");
+    assert!(rt; equal < other && other - equal == 6);
+}

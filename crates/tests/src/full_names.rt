@@ -1,13 +1,15 @@
 //! Names of locale identifiers, with what their extensions say.
 use icu_locale_extensions::LocaleIdentifier;
 use icu_locale_full_names::LocaleDisplayName;
-use icu_locale_names::{LanguageIdentifierDisplayNameOptions, NameChain};
-use icu_provider::{DataError, ExtensionNames};
+use icu_locale_names::{LanguageIdentifierDisplayNameOptions, NameChain, NameWriteError};
+use icu_provider::{DataError, DataErrorKind, DataProvider, ExtensionNames, NameKey};
 use icu_tables::{Supplement, Tables};
 use std::alloc::Global;
 use std::process::Abort;
-use tests_shared::known::{english, sample};
+use tests_shared::fakes::HeldWriter;
+use tests_shared::known::{english, language, sample};
 use tests_shared::names::called;
+use tests_shared::refusing::{refusal, willing};
 use tests_shared::values::whole_identifier;
 
 // Texts, what each is called, and where raw parts are in that. The first are of CLDR's own suite.
@@ -60,16 +62,16 @@ static NAMES: [(&str, &str, &[(usize, usize)]); 18] = [
     ),
 ];
 
-pub fn name_of(
+pub fn name_of<P: DataProvider>(
     rt: &impl Abort,
     alloc: Global,
-    tables: &Tables,
+    provider: &P,
     names: &ExtensionNames,
     subject: &LocaleIdentifier,
 ) -> Result<LocaleDisplayName, DataError> {
     LocaleDisplayName::try_new_unstable(
         alloc,
-        tables,
+        provider,
         names,
         NameChain::Light,
         english().expect(rt, "english"),
@@ -117,6 +119,57 @@ fn extensions_are_named(rt: HostRuntime) {
         .expect(&rt, "English");
     for row in &NAMES {
         is_called(&rt, alloc, &tables, names, *row);
+    }
+}
+
+// A name that is written to sinks of every length but its own.
+fn failed_writes(rt: &impl Abort, alloc: Global, name: &LocaleDisplayName, text: &[u8]) {
+    for room in 0..text.len() {
+        let mut sink = HeldWriter::new(room);
+        let mut parts = Vec::new(alloc);
+        parts.push((1, 2)).expect(rt, "memory");
+        let written = name.try_write_to_parts(&mut sink, &mut parts);
+        assert!(rt; written.err() == Some(NameWriteError::Sink));
+        assert!(rt; sink.written() == &text[..room]);
+        assert!(rt; parts.as_slice() == [(1, 2)].as_slice());
+    }
+}
+
+#[test]
+fn writes_that_fail(rt: HostRuntime) {
+    let alloc = rt.alloc();
+    let tables = sample(alloc).expect(&rt, "sample");
+    let supplement = called(alloc).expect(&rt, "called");
+    let names = supplement
+        .extension_names
+        .get(&english().expect(&rt, "english").locale)
+        .expect(&rt, "English");
+    for row in &NAMES {
+        let (text, wanted, _) = *row;
+        let subject = whole_identifier(alloc, text).expect(&rt, "whole identifier");
+        let name = name_of(&rt, alloc, &tables, names, &subject).expect(&rt, "a name");
+        failed_writes(&rt, alloc, &name, wanted.as_bytes());
+    }
+}
+
+// The name of `en` is refused: of an identifier, and of the language of `t`.
+#[test]
+fn a_refused_name_of_a_language(rt: HostRuntime) {
+    let alloc = rt.alloc();
+    let tables = sample(alloc).expect(&rt, "sample");
+    let supplement = called(alloc).expect(&rt, "called");
+    let names = supplement
+        .extension_names
+        .get(&english().expect(&rt, "english").locale)
+        .expect(&rt, "English");
+    let en = language("en").expect(&rt, "language");
+    let mut provider = willing(&tables);
+    provider.names = refusal(DataErrorKind::Custom);
+    provider.names_of = Some(NameKey::Language(en, None, None));
+    for text in ["en-u-ca-buddhist", "it-t-en"] {
+        let subject = whole_identifier(alloc, text).expect(&rt, "whole identifier");
+        let refused = name_of(&rt, alloc, &provider, names, &subject).err();
+        assert!(rt; refused == refusal(DataErrorKind::Custom));
     }
 }
 

@@ -1,5 +1,7 @@
 //! Texts that the grammar of UTS #35 derives, and texts that it does not, where reading takes memory.
-use icu_locale_extensions::is_locale_id;
+use icu_locale_core::ParseError;
+use icu_locale_extensions::{Subtags, is_locale_id};
+use std::alloc::Global;
 use std::process::Abort;
 
 #[test]
@@ -25,5 +27,31 @@ fn texts_do_not_follow_the_grammar(rt: HostRuntime) {
     ] {
         let told = is_locale_id(rt.alloc(), text).expect(&rt, "memory");
         assert!(rt; !told, "{text}");
+    }
+}
+
+// What is refused of the pieces of an extension, which have at least two letters or digits.
+fn refused_pieces(alloc: Global, text: &str) -> [Option<ParseError>; 2] {
+    let of_text: Result<Subtags<2>, ParseError> = Subtags::try_from_str(alloc, text);
+    let of_bytes: Result<Subtags<2>, ParseError> = Subtags::try_from_utf8(alloc, text.as_bytes());
+    [of_text.err(), of_bytes.err()]
+}
+
+#[test]
+fn pieces_have_two_to_eight_letters_or_digits(rt: HostRuntime) {
+    for text in ["ab", "ab-cd", "a1-abcdefgh", "12345678"] {
+        assert!(rt; refused_pieces(rt.alloc(), text) == [None; 2], "{text}");
+    }
+    for text in [
+        "a",
+        "ab-c",
+        "abcdefghi",
+        "ab-",
+        "ab--cd",
+        "-ab",
+        "ab-\u{fc}b",
+    ] {
+        let wanted = [Some(ParseError::InvalidSubtag); 2];
+        assert!(rt; refused_pieces(rt.alloc(), text) == wanted, "{text}");
     }
 }

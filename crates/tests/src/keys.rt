@@ -1,8 +1,9 @@
 //! Keys over small tables: keys that are not their own, that have no key, that come round, and both minimal forms.
-use icu_locale::{CanonicalizeError, CanonicalizerRef, LocaleCanonicalizer};
+use icu_locale::{CanonicalizeError, CanonicalizerRef, LocaleCanonicalizer, Turns};
 use icu_locale_core::{Language, LanguageIdentifier, Region, Script};
 use icu_locale_key::{
-    bring_to_key, bring_to_key_favor_script, bring_to_stable_key, is_own_key, keys_are_stable,
+    bring_to_key, bring_to_key_favor_script, bring_to_stable_key, bring_to_stable_key_counted,
+    is_own_key, keys_are_stable,
 };
 use icu_provider::{
     Aliases, LanguageStrStrPair, LikelySubtagsForLanguage, LikelySubtagsForScriptRegion, StrStrPair,
@@ -94,9 +95,9 @@ fn has_stable_key(
 }
 
 // What a refusal names.
-fn named_by(answer: Result<(), CanonicalizeError>) -> Option<LanguageIdentifier> {
-    match answer {
-        Err(CanonicalizeError::NoFixedPoint(first)) => Some(first),
+fn named_by(refused: Option<CanonicalizeError>) -> Option<LanguageIdentifier> {
+    match refused {
+        Some(CanonicalizeError::NoFixedPoint(first)) => Some(first),
         _ => None,
     }
 }
@@ -110,9 +111,23 @@ fn has_no_stable_key(
     wanted: &str,
 ) {
     let mut id = identifier(rt, alloc, text);
-    let named = named_by(bring_to_stable_key(canonicalizer, &mut id));
     let wanted = Some(identifier(rt, alloc, wanted));
-    assert!(rt; named == wanted);
+    let refused = bring_to_stable_key(canonicalizer, &mut id).err();
+    assert!(rt; named_by(refused) == wanted);
+    let refused = bring_to_stable_key_counted(canonicalizer, &mut id, &mut Turns::new()).err();
+    assert!(rt; named_by(refused) == wanted);
+    let given = identifier(rt, alloc, text);
+    assert!(rt; id == given);
+}
+
+// An identifier that comes again by the rules has no key, and is named.
+fn has_no_key(rt: &impl Abort, alloc: Global, canonicalizer: &CanonicalizerRef<'_>, text: &str) {
+    let mut id = identifier(rt, alloc, text);
+    let wanted = Some(identifier(rt, alloc, text));
+    let refused = bring_to_key(canonicalizer, &mut id).err();
+    assert!(rt; named_by(refused) == wanted);
+    let refused = bring_to_key_favor_script(canonicalizer, &mut id).err();
+    assert!(rt; named_by(refused) == wanted);
     let given = identifier(rt, alloc, text);
     assert!(rt; id == given);
 }
@@ -158,6 +173,7 @@ fn keys_that_have_no_key(rt: HostRuntime) {
     has_key(&rt, alloc, &lent, "und-US", "en", false);
     has_no_stable_key(&rt, alloc, &lent, "und-US", "en");
     has_no_stable_key(&rt, alloc, &lent, "fr", "fr");
+    has_no_key(&rt, alloc, &lent, "fr");
 }
 
 // The key of `en` is `fr`, and that of `fr` is `en`.

@@ -10,6 +10,8 @@ mod case;
 #[cfg(test)]
 mod chains;
 #[cfg(test)]
+mod circles;
+#[cfg(test)]
 mod constructors;
 #[cfg(test)]
 mod faults;

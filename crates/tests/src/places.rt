@@ -97,3 +97,16 @@ fn subtag(from: usize, to: usize) -> Option<Fault> {
     let refusal = ParseError::InvalidSubtag;
     Some(Fault::At { refusal, from, to })
 }
+
+#[test]
+fn faults_display_the_reason_and_the_bytes(rt: HostRuntime) {
+    let wrong = Fault::At {
+        refusal: ParseError::InvalidSubtag,
+        from: 3,
+        to: 5,
+    };
+    for (fault, wanted) in [(wrong, "InvalidSubtag at 3..5"), (Fault::Memory, "Memory")] {
+        let text = format!(in rt.alloc(); "{fault}").expect(&rt, "memory");
+        assert!(rt; text.as_str() == wanted);
+    }
+}

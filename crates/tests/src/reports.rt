@@ -8,7 +8,7 @@ use std::process::Abort;
 // A syntax, a text, and what is told of it: each part that is not valid, with its first byte and the byte after it.
 type Row = (Syntax, &'static str, &'static str);
 
-const VALID: [&str; 14] = [
+const VALID: [&str; 17] = [
     "en-Latn-US",
     "und-Zzzz-ZZ",
     "mul-Zyyy-XA-1901-fonipa",
@@ -22,6 +22,10 @@ const VALID: [&str; 14] = [
     // private use
     "de-x-dd-heploc-1",
     "de-t-en-u-hc-h12-x-u-foo",
+    // a subdivision is one of the region, where there is one
+    "en-us-u-sd-ustx",
+    "en-u-sd-gbeng",
+    "de-t-en-us-u-sd-gbeng",
     "EN_us_u_KN",
     "und-x-iw",
 ];
@@ -40,7 +44,7 @@ fn what_is_listed_is_valid(rt: HostRuntime) {
     }
 }
 
-const INVALID: [Row; 17] = [
+const INVALID: [Row; 22] = [
     (
         Syntax::Unicode,
         "xx-latm-DD-1996-heploc",
@@ -85,7 +89,29 @@ const INVALID: [Row; 17] = [
         "EN_us-U-CA-ISLAMICC",
         "keyword ca-islamicc deprecated 8 19",
     ),
-    (Syntax::Unicode, "en-u-zz-true", "keyword zz unlisted 5 7"),
+    // `true` is left out of a keyword, and not of its place
+    (Syntax::Unicode, "en-u-zz-true", "keyword zz unlisted 5 12"),
+    (
+        Syntax::Unicode,
+        "en-u-kn-true-foo-t-de",
+        "keyword kn-foo unlisted 5 16",
+    ),
+    (
+        Syntax::Unicode,
+        "en-t-de-m0-true-u-ca-true",
+        "keyword ca unlisted 18 25\tfield m0-true unlisted 8 15",
+    ),
+    // a subdivision of another region, and one whose status is told in place of that
+    (
+        Syntax::Unicode,
+        "en-US-u-rg-gbzzzz-sd-gbeng",
+        "keyword sd-gbeng other_region 18 26",
+    ),
+    (
+        Syntax::Unicode,
+        "en-DE-u-sd-usvi",
+        "keyword sd-usvi deprecated 8 15",
+    ),
     (
         Syntax::Unicode,
         "foo-u-foo",
@@ -111,7 +137,8 @@ const INVALID: [Row; 17] = [
         "language art unlisted 0 3\tvariant lojban unlisted 4 10",
     ),
     (Syntax::Bcp47, "sgn-BE-FR", "language sfb unlisted 0 9"),
-    (Syntax::Posix, "de_DD.UTF-8", "region DD deprecated 0 11"),
+    (Syntax::Posix, "de_DD.UTF-8", "region DD deprecated 3 5"),
+    (Syntax::Posix, "en_DD.x_dd", "region DD deprecated 3 5"),
     (
         Syntax::Posix,
         "sr_RS@cyrillic",

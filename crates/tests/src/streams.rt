@@ -3,6 +3,7 @@ use crate::case::{ALL, Case, Sink, ends};
 use icu_locale_lines::SAMPLE;
 use std::alloc::Global;
 use std::process::Abort;
+use tests_shared::known::sample;
 
 const RUN: Case<'_> = Case {
     is_stream: false,
@@ -131,6 +132,35 @@ fn runs_with_faults(rt: HostRuntime) {
     }
 }
 
+// Runs that are refused before a line is answered.
+const REFUSED: [Row; 5] = [
+    ("maximize json", "{\n", "", "tables: Json"),
+    ("maximize json", "{\"colour\":1}\n", "", "tables: Shape"),
+    ("maximize json", "{}\nen\n", "", "data: IdentifierNotFound"),
+    ("negotiate", "en-\nen\n", "", "available: InvalidSubtag"),
+    (
+        "negotiate json",
+        "{\"likely_language\":{\"und\":[\"en\",\"Latn\",\"US\"],\
+        \"language\":{\"xx\":[\"Zzzz\",\"DE\"]}},\"likely_script_region\":{}}\nen\nen\n",
+        "",
+        "tables not settled",
+    ),
+];
+
+#[test]
+fn runs_that_are_refused(rt: HostRuntime) {
+    for (words, input, output, status) in REFUSED {
+        let case = Case {
+            words,
+            input: input.as_bytes(),
+            output: output.as_bytes(),
+            status,
+            ..RUN
+        };
+        let _ = ends(&rt, rt.alloc(), &case);
+    }
+}
+
 const STREAM: Case<'_> = Case {
     is_stream: true,
     ..RUN
@@ -186,6 +216,33 @@ fn streams_with_faults_of_reads(rt: HostRuntime) {
             let _ = ends(&rt, rt.alloc(), &case);
         }
     }
+}
+
+// Over tables that are lent, the read behind the second line fails, and a write of the first.
+#[test]
+fn streams_with_faults_over_lent_tables(rt: HostRuntime) {
+    let alloc = rt.alloc();
+    let tables = sample(alloc).expect(&rt, "sample");
+    let read = Case {
+        tables: Some(&tables),
+        words: "maximize",
+        input: b"zh-CN\nde\n",
+        fails: true,
+        output: b"zh-Hans-CN\tM\nde-Latn-DE\tM\n",
+        status: "read failed",
+        ..STREAM
+    };
+    let _ = ends(&rt, alloc, &read);
+    let written = Case {
+        tables: Some(&tables),
+        words: "maximize",
+        input: b"zh-CN\nde\n",
+        sink: Sink { room: 5, ..ALL },
+        output: b"zh-Ha",
+        status: "write failed",
+        ..STREAM
+    };
+    let _ = ends(&rt, alloc, &written);
 }
 
 // An input that comes line by line, whether the read after it fails, after how many flushes one fails, what is written,

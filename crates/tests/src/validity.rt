@@ -25,10 +25,11 @@ pub const LISTED: &str = "{\"validity\":{\
     \"kh\":{\"status\":\"deprecated\",\"types\":{\"regular\":\"false true\"}},\
     \"kn\":{\"types\":{\"regular\":\"false true\"}},\
     \"kr\":{\"types\":{\"regular\":\"currency digit punct\"},\"kind\":\"script\",\"many\":true},\
-    \"rg\":{\"kind\":\"subdivision\"},\"sd\":{\"kind\":\"subdivision\"},\
+    \"rg\":{\"kind\":\"region_override\"},\"sd\":{\"kind\":\"subdivision\"},\
     \"vt\":{\"status\":\"deprecated\",\"kind\":\"code_point\",\"many\":true}},\
-    \"fields\":{\"d0\":{\"types\":{\"regular\":\"ascii hex\"},\"kind\":\"date\",\"many\":true},\
-    \"m0\":{\"types\":{\"regular\":\"prprname ungegn\"},\"kind\":\"date\",\"many\":true},\
+    \"fields\":{\"d0\":{\"types\":{\"regular\":\"ascii hex\"},\"kind\":\"date\"},\
+    \"k0\":{\"types\":{\"regular\":\"osx extended\"},\"kind\":\"date\",\"many\":true},\
+    \"m0\":{\"types\":{\"regular\":\"prprname ungegn\"},\"kind\":\"date\"},\
     \"x0\":{\"kind\":\"any\",\"many\":true}}}}";
 
 // Keys that take code points, as `vt` did before it was deprecated, one date, and anything; and one that is reserved.
@@ -143,7 +144,7 @@ fn regions_and_variants(rt: &impl Abort, table: &Validity) {
 }
 
 // A key, a value, and their status. The value `true` is spelled by nothing too (UTS #35 Part 1, section 3.2.1).
-const KEYWORDS: [(&str, &str, Option<Status>); 34] = [
+const KEYWORDS: [(&str, &str, Option<Status>); 35] = [
     ("ca", "buddhist", Some(Status::Regular)),
     ("CA", "ISLAMIC-civil", Some(Status::Regular)),
     ("ca", "islamicc", Some(Status::Deprecated)),
@@ -176,6 +177,8 @@ const KEYWORDS: [(&str, &str, Option<Status>); 34] = [
     ("rg", "usvi", Some(Status::Deprecated)),
     ("sd", "gbeng", Some(Status::Regular)),
     ("sd", "gbxyz", None),
+    // a region as a whole is no subdivision
+    ("sd", "gbzzzz", None),
     ("kh", "true", Some(Status::Deprecated)),
     ("vt", "nocode", Some(Status::Deprecated)),
     ("zz", "true", None),
@@ -195,7 +198,7 @@ fn keywords_have_the_status_of_cldr(rt: HostRuntime) {
     }
 }
 
-// Code points have four to six digits, and are at most 10FFFF (UTS #35 Part 1, section 3.6.4); dates four to eight.
+// Code points have four to six digits, and are at most 10FFFF (UTS #35 Part 1, section 3.6.4); dates four, six or eight.
 #[test]
 fn values_have_forms(rt: HostRuntime) {
     let alloc = rt.alloc();
@@ -216,6 +219,8 @@ fn values_have_forms(rt: HostRuntime) {
         ("vb", "200710", Some(Status::Regular)),
         ("vb", "20071031", Some(Status::Regular)),
         ("vb", "207", None),
+        ("vb", "20071", None),
+        ("vb", "2007103", None),
         ("vb", "2007a", None),
         // it takes one
         ("vb", "2007-2008", None),
@@ -246,6 +251,14 @@ fn fields_have_the_status_of_cldr(rt: HostRuntime) {
         ("m0", "ungegn-2007", Some(Status::Regular)),
         ("m0", "ungegn-20070131", Some(Status::Regular)),
         ("m0", "ungegn-207", None),
+        // a date comes last, and there is one type where the key takes no more
+        ("m0", "2007-ungegn", None),
+        ("m0", "ungegn-2007-2008", None),
+        ("m0", "ungegn-prprname", None),
+        ("m0", "ungegn-prprname-2007", None),
+        ("d0", "hex-hex", None),
+        ("k0", "extended-osx-2007", Some(Status::Regular)),
+        ("k0", "extended-2007-osx", None),
         ("m0", "hex", None),
         ("x0", "any-thing", Some(Status::Regular)),
         ("z0", "hex", None),

@@ -1,5 +1,5 @@
 //! Keys in a store.
-use crate::budget::{Answered, Call, stands};
+use crate::budget::{Answered, Call, asks_nothing, stands};
 use icu_locale::{CanonicalizeError, CanonicalizerRef, LocaleExpander, ReadRules, TransformResult};
 use icu_locale_core::LanguageIdentifier;
 use icu_locale_extensions::LocaleIdentifier;
@@ -95,6 +95,23 @@ fn told(is_wanted: bool) -> Answered {
     }
 }
 
+// Bringing an identifier to a key that is seen at once, which is its own.
+#[derive(Drop)]
+struct KeepKey<'d>(WholeCanonicalizer<'d>, &'d LanguageIdentifier);
+
+impl Call for KeepKey<'_> {
+    fn answer(&self, _alloc: Global) -> Answered {
+        let Ok(mut id) = self.1.try_clone() else {
+            return Answered::Refused;
+        };
+        match bring_identifier_to_key(&self.0, &mut id) {
+            Ok(TransformResult::Unmodified) => told(id == *self.1),
+            Err(WholeError::Memory) => Answered::Refused,
+            _ => Answered::Wrong,
+        }
+    }
+}
+
 fn keys_stand(rt: &impl Abort, alloc: Global, rules: CanonicalizerRef<'_>) {
     let from = identifier(alloc, "ja-Latn-hepburn-heploc").expect(rt, "identifier");
     let to = identifier(alloc, "ja-Latn-alalc97").expect(rt, "identifier");
@@ -118,6 +135,8 @@ fn whole_keys_stand(rt: &impl Abort, alloc: Global, rules: CanonicalizerRef<'_>)
     let from = identifier(alloc, "ja-Latn-hepburn-heploc").expect(rt, "identifier");
     let to = identifier(alloc, "ja-Latn-alalc97").expect(rt, "identifier");
     stands(rt, alloc, &BringIdentifierToKey(canonicalizer, &from, &to));
+    let own = identifier(alloc, "en").expect(rt, "identifier");
+    asks_nothing(rt, alloc, &KeepKey(canonicalizer, &own));
 }
 
 #[test]

@@ -1,5 +1,5 @@
 //! Reading locale identifiers in each syntax, copying and writing them.
-use crate::budget::{Answered, Call, asks_nothing, stands, take_all};
+use crate::budget::{Answered, Call, asks_nothing, at_budget, stands, take_all};
 use icu_locale_core::ParseError;
 use icu_locale_extensions::{LocaleIdentifier, Syntax};
 use icu_locale_places::{Fault, read_at};
@@ -97,6 +97,9 @@ fn places(rt: HostRuntime) {
     stands(&rt, alloc, &ReadAt("de-1901-u-co-phonebk-u-nu", 21, 22));
     stands(&rt, alloc, &ReadAt("en-a-bcd-x", 10, 10));
     asks_nothing(&rt, alloc, &ReadAt("1en-US", 0, 3));
+    // room is asked for once: for the text, and four bytes
+    let answered = at_budget(alloc, &ReadAt("en-US-US", 6, 8), 16);
+    assert!(rt; answered.expect(&rt, "memory") == Answered::Whole);
 }
 
 // Writing a locale identifier after a text, which stays as it was where memory was refused.

@@ -1,5 +1,5 @@
 //! What is served, and the nearest.
-use crate::budget::{Answered, Call, stands};
+use crate::budget::{Answered, Call, asks_nothing, stands};
 use icu_locale::{CanonicalizerRef, LocaleExpander, ReadRules};
 use icu_locale_core::LanguageIdentifier;
 use icu_locale_extensions::LocaleIdentifier;
@@ -21,6 +21,28 @@ impl Call for Serve<'_> {
             Ok(Some(1)) => Answered::Whole,
             Err(_) => Answered::Refused,
             Ok(_) => Answered::Wrong,
+        }
+    }
+}
+
+// Making a list of what is available.
+#[derive(Drop)]
+struct Make<'d>(CanonicalizerRef<'d>, &'d LanguageMatching);
+
+impl Call for Make<'_> {
+    fn answer(&self, alloc: Global) -> Answered {
+        let Some(available) = identifiers(alloc, &["en-US", "en-GB", "de-1996"]) else {
+            return Answered::Refused;
+        };
+        match ServedLocales::try_new(alloc, &self.0, self.1, available) {
+            Ok(served) => {
+                if served.identifiers().len() == 3 {
+                    Answered::Whole
+                } else {
+                    Answered::Wrong
+                }
+            }
+            Err(_) => Answered::Refused,
         }
     }
 }
@@ -63,14 +85,18 @@ fn over_tables(rt: &impl Abort, alloc: Global, tables: &Tables) {
     let read = ReadRules::read(alloc, aliases).expect(rt, "tables");
     let rules = CanonicalizerRef::over(&read, aliases, expander);
     let matching = LanguageMatching::new(alloc, 80, 50, 4);
+    stands(rt, alloc, &Make(rules, &matching));
     let available = identifiers(alloc, &["en-US", "en-GB", "de"]).expect(rt, "identifiers");
     let served = ServedLocales::try_new(alloc, &rules, &matching, available);
     let served = served.expect(rt, "memory");
     let server = LocaleServer::over(rules, &matching, MatchLimits::default(), &served);
     stands(rt, alloc, &Serve(server));
-    let requests = identifiers(alloc, &["fr-1694acad", "de-CH-1996"]).expect(rt, "identifiers");
+    let requests = identifiers(alloc, &["fr-polytoni", "de-CH-1996"]).expect(rt, "identifiers");
     let server = LocaleServer::over(rules, &matching, MatchLimits::default(), &served);
     stands(rt, alloc, &Nearest(server, &requests));
+    let requests = identifiers(alloc, &["fr-1694acad", "de-CH-1996"]).expect(rt, "identifiers");
+    let server = LocaleServer::over(rules, &matching, MatchLimits::default(), &served);
+    asks_nothing(rt, alloc, &Nearest(server, &requests));
 }
 
 #[test]

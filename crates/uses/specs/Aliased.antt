@@ -1,5 +1,5 @@
 -- Aliases of what is not valid (UTS #35 Part 1, section 3.11, and Annex C "LocaleId Canonicalization").
-use Rattle.std.specs.Prelude.{◌≡◌, ℕ, true, false, List, [], ◌∷◌, Some, if◌then◌else◌, IsSome}
+use Rattle.std.specs.Prelude.{◌≡◌, ℕ, true, false, List, [], ◌∷◌, Option, Some, if◌then◌else◌, IsSome}
 use Rattle.std.specs.List.{All, list_all}
 use Rattle.icu_locale_core.specs.Maps.{value_at}
 use Rattle.icu_locale_core.specs.Subtag.{rg, sd}
@@ -62,6 +62,14 @@ abbrev pub AreValidSigns : Validity → Rules → Type 0
 AreValidSigns v rules = (region language : List ℕ)
     → value_at text_cmp rules.aliases.sgn_region region ≡ Some language
     → is_valid_part v (code_part Language [] language) ≡ true
+
+-- a locale with another transform language
+abbrev pub with_transform : LocaleIdentifier → Option LanguageIdentifier → LocaleIdentifier
+with_transform x lang = record x {
+  locale = record x.locale {
+    extensions = record x.locale.extensions { transform = record { lang = lang } };
+  };
+}
 
 -- a locale with another identifier
 abbrev pub with_identifier : LocaleIdentifier → LanguageIdentifier → LocaleIdentifier

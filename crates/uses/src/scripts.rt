@@ -1,7 +1,8 @@
 //! What is served in the script that was asked for, however near another one is.
 ghost use Rattle.std.specs.Prelude.{◌≡◌, IfSome};
 ghost use Rattle.icu_locale.specs.LikelyTable.{likely};
-ghost use Rattle.icu_locale_matching.specs.Nearest.{IsMadeOver, form_of};
+ghost use Rattle.icu_locale_matching.specs.Made.{IsMadeOver};
+ghost use Rattle.icu_locale_matching.specs.Nearest.{form_of};
 ghost use Rattle.uses.specs.Scripts.{IsInItsScript, have_one_script};
 
 use icu_locale::LocaleExpander;

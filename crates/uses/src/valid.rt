@@ -1,5 +1,5 @@
 //! What is valid, and its canonical form.
-ghost use Rattle.std.specs.Prelude.{◌≡◌, ◌↔◌, None, false, IsTrue, IfOk, OnErr};
+ghost use Rattle.std.specs.Prelude.{◌≡◌, ◌↔◌, Option, None, false, IsTrue, IfOk, IfSome, OnErr};
 ghost use Rattle.icu_locale_core.specs.declared.langid.LanguageIdentifier.{LanguageIdentifier};
 ghost use Rattle.icu_locale_extensions.specs.declared.identifier.LocaleIdentifier.{LocaleIdentifier};
 ghost use Rattle.icu_locale.specs.Canonical.{IsCanonical};
@@ -8,8 +8,8 @@ ghost use Rattle.icu_locale.specs.LikelySubtags.{LikelySubtags};
 ghost use Rattle.icu_locale.specs.declared.canonicalizer.rules.Rules.{Rules};
 ghost use Rattle.icu_locale_validity.specs.Parts.{IsValid};
 ghost use Rattle.icu_locale_validity.specs.declared.table.Validity.{Validity};
-ghost use Rattle.icu_locale_values.specs.Whole.{IsWhole, WholeRules, whole_rules};
-ghost use Rattle.uses.specs.Aliased.{AllAreOfInvalid, AreOfInvalid, AreValidSigns, with_identifier};
+ghost use Rattle.icu_locale_values.specs.Whole.{AreMaps, IsWhole, WholeRules, whole_rules};
+ghost use Rattle.uses.specs.Aliased.{AllAreOfInvalid, AreOfInvalid, AreValidSigns, with_identifier, with_transform};
 
 use icu_locale_extensions::LocaleIdentifier;
 use icu_locale_validity::Validity;
@@ -32,17 +32,20 @@ pub fn valid_is_canonical()
         × IsValid v (with_identifier x id) }
 {}
 
-/// The same of whole canonical forms, where a value that has an alias at a key is not valid there.
+/// The same of whole canonical forms, where a value that has an alias at a key is not valid there: the transform language
+/// may be another too.
 pub fn valid_is_whole()
-    ensures kept { (v : Validity) (by : WholeRules) (x : LocaleIdentifier)
+    ensures kept { (v : Validity) (by : WholeRules) (x : LocaleIdentifier) → AreMaps x
         → AllAreOfInvalid v by → IsValid v x
-        → by_sign_region by.rules x.locale.id ≡ None → IsWhole by x x }
-    ensures valid { (v : Validity) (by : WholeRules) (x : LocaleIdentifier)
+        → by_sign_region by.rules x.locale.id ≡ None
+        → IfSome x.locale.extensions.transform.lang (λ l. by_sign_region by.rules l ≡ None)
+        → IsWhole by x x }
+    ensures valid { (v : Validity) (by : WholeRules) (x : LocaleIdentifier) → AreMaps x
         → AllAreOfInvalid v by → AreValidSigns v by.rules → IsValid v x
-        → (id : LanguageIdentifier)
-        × IsWhole by x (with_identifier x id) × IsValid v (with_identifier x id) }
+        → (id : LanguageIdentifier) × ((lang : Option LanguageIdentifier)
+        × IsWhole by x (with_identifier (with_transform x lang) id)
+        × IsValid v (with_identifier (with_transform x lang) id)) }
 {
-    valid_is_canonical();
     laws::without_aliases();
 }
 

@@ -28,13 +28,6 @@ rewritten rules x (Subtags l s r) =
 rewritten rules x Variants =
     record x { variants = image (λ v. unwrap_or (variant_alias rules v) v) x.variants }
 
--- a refusal of a run names its first repeat
-abbrev pub IsRunRefusal : (LanguageIdentifier → Option LanguageIdentifier) → LanguageIdentifier
-    → CanonicalizeError → Type 0
-IsRunRefusal next x Memory = Unit {0}
-IsRunRefusal next x (NoFixedPoint z) = IsRepeat next x z
-IsRunRefusal next x (NoSubdivisionFixedPoint v) = ⊥
-
 -- the turns along a run that there may be
 abbrev pub CountsSearchesOf : {T : Type 0} → (LanguageIdentifier → Option LanguageIdentifier)
     → Option LanguageIdentifier → Result T CanonicalizeError → ℕ → ℕ → Type 0

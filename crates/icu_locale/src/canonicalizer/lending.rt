@@ -1,13 +1,13 @@
 //! Canonicalization by rules and an expander that are lent: all the work.
-ghost use Rattle.std.specs.Prelude.{◌≡◌, ◌↔◌, Some, None, IsTrue, IfOk, IfErr, IfSome};
+ghost use Rattle.std.specs.Prelude.{◌≡◌, ◌↔◌, ℕ, Some, None, IsTrue, IfOk, IfErr, IfSome};
 ghost use Rattle.icu_locale.specs.Kinds.{by_language_alias, next};
 ghost use Rattle.icu_locale.specs.LikelyTable.{likely};
 ghost use Rattle.icu_locale.specs.RuleSet.{lent, rules_over};
 ghost use Rattle.icu_locale.specs.Canonical.{without_extensions};
 ghost use Rattle.icu_locale.specs.Canonicalization.{Canonicalizes};
-ghost use Rattle.icu_locale.specs.Refusals.{IsRefusal, IsOutOfMemory};
-ghost use Rattle.icu_locale.specs.Cost.{CountsRun, CountsRuns, NeedsNoMemory, AddsNoVariants};
-ghost use Rattle.icu_locale_runs.specs.Run.{IsLaterEndOf};
+ghost use Rattle.icu_locale.specs.Refusals.{IsRefusal, IsRunRefusal, IsOutOfMemory};
+ghost use Rattle.icu_locale.specs.Cost.{CountsRun, CountsRuns, CountsSearches, NeedsNoMemory, AddsNoVariants};
+ghost use Rattle.icu_locale_runs.specs.Run.{HasDistinct, IsLaterEnd, IsLaterEndOf};
 ghost use Rattle.icu_locale.specs.inner.CanonicalParts.{IsRunRefusalOf, IsIdentifierRefusal, CountsSearchesOf, AreLaterEnds, AreChanges};
 
 use super::changes::Changes;
@@ -123,6 +123,31 @@ impl<'r> CanonicalizerRef<'r> {
             return Ok(TransformResult::Unmodified);
         }
         self.rewrite_identifier(id, turns)
+    }
+
+    /// The canonical form of an identifier, where it is another: the end of the run of `canonicalize_identifier`, or none
+    /// where nothing is applied. With a count of the searches for a rule that matches.
+    ///
+    /// # Errors
+    ///
+    /// - `NoFixedPoint` where the run has no end: it names the first identifier that comes again.
+    /// - `Memory` where memory was asked for and refused, and never where no identifier after the first has variants.
+    pub fn canonical_form_counted(
+        &self,
+        id: &LanguageIdentifier,
+        turns: &mut Turns,
+    ) -> Result<Option<LanguageIdentifier>, CanonicalizeError>
+        ensures end { IfOk result
+            (IsLaterEnd (next (likely self.now.expander) (lent self.now.rules)) id.now) }
+        ensures refusal { IfErr result
+            (IsRunRefusal (next (likely self.now.expander) (lent self.now.rules)) id.now) }
+        ensures free { AddsNoVariants (next (likely self.now.expander) (lent self.now.rules)) id.now
+            → ¬ (IsOutOfMemory result) }
+        ensures count { (n : ℕ)
+            × HasDistinct (next (likely self.now.expander) (lent self.now.rules)) id.now n
+            × CountsSearches result turns.old turns.new n }
+    {
+        later_end(self, id, false, turns)
     }
 
     // Brings an identifier to the end of its run. It stays apart from the search before it, which answers most calls.

@@ -198,7 +198,6 @@ module _ {K V : Type 0} {compare : K → K → Ordering} (total : IsTotalOrder c
         sorted = rw rows (IsSortedMap-insert_entry total old key value sorted);
         found = found;
         others = λ other apart. sets other ∙ ap (λ tied. if tied then Some value else value_at compare old other) (not_tied (compare key other) apart);
-        stands = λ ties. stands_where_found total (λ x y tied. (ties x y).0 tied) new key value found;
       }
 
   -- a value that is written over the key's row

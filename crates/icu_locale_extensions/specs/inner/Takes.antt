@@ -1,16 +1,16 @@
 -- What the reader of a part does.
-use Rattle.std.specs.Prelude.{IfOk, ◌≡◌, ◌⊎◌, ℕ, Bool, true, not, ◌&&◌, ◌||◌, ◌++◌, List, [], Option, Result, Ok, Err, if◌then◌else◌}
+use Rattle.std.specs.Prelude.{IfOk, ◌≡◌, ◌⊎◌, ℕ, Bool, true, ◌||◌, ◌++◌, List, [], Option, Result, Ok, Err, if◌then◌else◌}
 use Rattle.std.specs.List.{list_any}
-use Rattle.icu_locale_core.specs.Subtag.{is_variant}
 use Rattle.icu_locale_core.specs.declared.langid.LanguageIdentifier.{LanguageIdentifier}
 use Rattle.icu_locale_core.specs.declared.parse_error.ParseError.{ParseError}
 use Rattle.icu_locale_core.specs.declared.parse_error.ParseError.TheVariants.{InvalidSubtag, Memory}
 use Rattle.icu_locale_core.specs.Cuts.{from}
-use Rattle.icu_locale_extensions.specs.Extensions.{is_singleton, is_t, is_tkey}
+use Rattle.icu_locale_extensions.specs.Extensions.{is_singleton, is_tkey}
 use Rattle.icu_locale_extensions.specs.Built.{bare}
 use Rattle.icu_locale_extensions.specs.Locales.{IsLocaleIdentifier}
-use Rattle.icu_locale_extensions.specs.Reader.{Part, begins, read_on, with_part}
-use Rattle.icu_locale_extensions.specs.Reader.Part.{whole}
+use Rattle.icu_locale_extensions.specs.laws.Reader.{Part, begins, read_on, with_part}
+use Rattle.icu_locale_extensions.specs.laws.Reader.Part.{whole}
+use Rattle.icu_locale_extensions.specs.Syntaxes.{is_kept}
 use Rattle.icu_locale_extensions.specs.declared.identifier.LocaleIdentifier.{LocaleIdentifier}
 
 -- what all pieces give is given by what is left, or refused for this reason, memory aside
@@ -30,13 +30,13 @@ pub record IsEnd (left all : List (List ℕ)) : Type 0 where
   pub own : List (List ℕ)
   pub parts : all ≡ own ++ left
 
--- a piece for which memory is taken: a variant, the key of a field, or a singleton but t
-abbrev pub takes_memory : List ℕ → Bool
-takes_memory p = is_variant p || (is_tkey p || (is_singleton p && not (is_t p)))
+-- a piece of an extension for which memory is taken: the key of a field too
+abbrev pub is_kept_behind : List ℕ → Bool
+is_kept_behind p = is_kept p || is_tkey p
 
 -- there is one
 abbrev pub IsKept : List (List ℕ) → Type 0
-IsKept ps = list_any takes_memory ps ≡ true
+IsKept ps = list_any is_kept_behind ps ≡ true
 
 -- what follows an identifier is read
 pub record ReadsBehind (ps : List (List ℕ)) (id : LanguageIdentifier)

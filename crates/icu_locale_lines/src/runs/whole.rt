@@ -119,10 +119,7 @@ pub fn read_tables(alloc: Global, json: &[u8]) -> Result<Tables, CliError>
     ensures refused { IfErr result (IsRefusedReading json.now) }
 {
     match Tables::from_json(alloc, json) {
-        Ok(mut tables) => {
-            tables.lent_names = None;
-            Ok(tables)
-        }
+        Ok(tables) => Ok(tables),
         Err(TableError::Memory) => Err(CliError::Memory),
         Err(refusal) => Err(CliError::Tables(refusal)),
     }

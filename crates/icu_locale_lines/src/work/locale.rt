@@ -10,7 +10,7 @@ ghost use Rattle.icu_locale_lines.specs.Wholes.{IsWholeCanonicalized, TellsWhole
 ghost use Rattle.icu_locale_lines.specs.inner.Parts.{TellsRefusal};
 ghost use Rattle.icu_locale.specs.Canonical.{answer_of, without_extensions};
 ghost use Rattle.icu_locale_values.specs.Refusals.{IsWholeRefusal};
-ghost use Rattle.icu_locale_values.specs.Whole.{AreMaps, IsWhole, is_whole_applied, whole_rules};
+ghost use Rattle.icu_locale_values.specs.Whole.{IsWhole, is_whole_applied, whole_rules};
 
 use crate::answer::add_known;
 use crate::error::CliError;
@@ -89,16 +89,12 @@ pub fn bring_to_canonical(
     canonicalizer: &WholeCanonicalizer<'_>,
     whole: &mut LocaleIdentifier,
 ) -> Result<TransformResult, WholeError>
-    ensures maps { AreMaps whole.new }
     ensures form { IfOk result (λ _. IsWhole (whole_rules canonicalizer.now) whole.old whole.new) }
     ensures changed { IfOk result
         (λ m. m ≡ answer_of (is_whole_applied (whole_rules canonicalizer.now) whole.old)) }
     ensures refused { IfErr result (IsWholeRefusal (whole_rules canonicalizer.now) whole.old) }
 {
-    let outcome = canonicalizer.canonicalize(whole);
-    whole.locale.extensions.unicode.keywords.known();
-    whole.fields.known();
-    outcome
+    canonicalizer.canonicalize(whole)
 }
 
 // The line of a refusal of a locale identifier. Want of memory has none.

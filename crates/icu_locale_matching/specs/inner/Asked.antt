@@ -8,7 +8,8 @@ use Rattle.icu_locale.specs.LikelyTable.{likely}
 use Rattle.icu_provider.specs.declared.data_locale.DataLocale.{DataLocale}
 use Rattle.icu_provider.specs.declared.matching.LanguageMatching.{LanguageMatching}
 use Rattle.icu_locale_matching.specs.Distance.{favored, levels_for, level_distance, is_macro}
-use Rattle.icu_locale_matching.specs.Nearest.{Question, all_may, may_of, IsOffer, candidate_of, form_of, rank_cmp, rank_at, demotion_at}
+use Rattle.icu_locale_matching.specs.Nearest.{Question, all_may, may_of, IsOffer, form_of, rank_cmp, rank_at, demotion_at}
+use Rattle.icu_locale_matching.specs.inner.Made.{candidate_of}
 use Rattle.icu_locale_matching.specs.inner.Known.{AreKnown}
 use Rattle.icu_locale_matching.specs.inner.Levels.{shown, shown_level}
 use Rattle.icu_locale_matching.specs.declared.candidates.Candidate.{Candidate}
@@ -61,6 +62,12 @@ BeatsUpto q i part n best = (k : ℕ) (c : Candidate) (s : Rank) → k < n → s
 -- by each of them
 abbrev pub BeatsEach : Question → ℕ → List Candidate → Option Rank → Type 0
 BeatsEach q i part best = BeatsUpto q i part (length part) best
+
+-- the best beats each offer of request i by those of the first n of some candidates that have a region
+abbrev pub BeatsThere : Question → ℕ → Option (List ℕ) → List Candidate → ℕ → Option Rank → Type 0
+BeatsThere q i region part n best = (k : ℕ) (c : Candidate) (s : Rank) → k < n
+    → slice_get part k ≡ Some c → c.form.region ≡ region → IsOfferAt q i s
+    → s.available ≡ c.place → Beats best s
 
 -- the best costs less than the threshold and the greatest demotion
 abbrev pub IsWithin : ℕ → Option Rank → Type 0

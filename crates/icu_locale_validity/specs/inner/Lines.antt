@@ -1,28 +1,34 @@
 -- What is appended for each part.
-use Rattle.std.specs.Prelude.{ℕ, List, [], ◌∷◌, ◌++◌, map, codes, Option, None, if◌then◌else◌}
+use Rattle.std.specs.Prelude.{ℕ, ◌&&◌, List, [], ◌∷◌, ◌++◌, map, codes, Option, None, if◌then◌else◌}
 use Rattle.std.specs.List.{flat_map}
 use Rattle.std.specs.Option.{option_to_list}
 use Rattle.icu_locale_core.specs.TextSet.{rising}
 use Rattle.icu_locale_core.specs.declared.langid.LanguageIdentifier.{LanguageIdentifier}
 use Rattle.icu_locale_extensions.specs.declared.identifier.LocaleIdentifier.{LocaleIdentifier}
-use Rattle.icu_locale_validity.specs.Parts.{Part, code_part, id_parts, kind_word, lang_parts, row_part, status_of}
+use Rattle.icu_locale_validity.specs.Parts.{Part, code_part, id_parts, is_of_region, keyword_part, kind_word, lang_parts, row_part, status_of}
 use Rattle.icu_locale_validity.specs.Places.{place_of}
-use Rattle.icu_locale_validity.specs.Reports.{part_text, place_text}
-use Rattle.icu_locale_validity.specs.Statuses.{is_valid_status, listed_word}
-use Rattle.icu_locale_validity.specs.declared.part.PartKind.TheVariants.{Script, Region, Variant, Attribute, Keyword, Field, Extension}
+use Rattle.icu_locale_validity.specs.Reports.{fault_word, part_text, place_text}
+use Rattle.icu_locale_validity.specs.Statuses.{is_valid_status}
+use Rattle.icu_locale_validity.specs.declared.part.PartKind.{PartKind}
+use Rattle.icu_locale_validity.specs.declared.part.PartKind.TheVariants.{Script, Region, Variant, Attribute, Field, Extension}
 use Rattle.icu_locale_validity.specs.declared.table.Status.{Status}
 use Rattle.icu_locale_validity.specs.declared.table.Validity.{Validity}
 
 -- what follows the pieces of a part that is not valid
-abbrev pub ending : List ℕ → List (List ℕ) → Option Status → List ℕ → List ℕ
-ending t marks status wanted = (codes " " ++ (listed_word status ++ codes " "))
-    ++ (place_text (place_of t marks wanted) ++ codes "\t")
+abbrev pub ending : List ℕ → PartKind → List (List ℕ) → Option Status → List ℕ → List ℕ
+ending t kind marks status wanted = (codes " " ++ (fault_word status ++ codes " "))
+    ++ (place_text (place_of t kind marks wanted) ++ codes "\t")
 
--- a part of this status, with a tab after it, and nothing of one that is valid
+-- a part of this status, with a tab after it
+abbrev pub fault_line : List ℕ → Option Status → Part → List ℕ
+fault_line t status part = (kind_word part.kind ++ codes " ")
+    ++ (part_text part ++ ending t part.kind part.behind status (part_text part))
+
+-- the same, but nothing of a part that is valid
 abbrev pub line : List ℕ → Option Status → Part → List ℕ
-line t status part = if is_valid_status status then []
-    else (kind_word part.kind ++ codes " ")
-    ++ (part_text part ++ ending t part.behind status (part_text part))
+line t status part =
+    if is_of_region part.region part.first part.rest && is_valid_status status then []
+    else fault_line t status part
 
 -- each of some parts
 abbrev pub lines : Validity → List ℕ → List Part → List ℕ
@@ -41,7 +47,7 @@ tail_lines v t marks x = lines v t (map (code_part Script marks) (option_to_list
 -- the parts of the Unicode extension
 abbrev pub unicode_lines : Validity → List ℕ → LocaleIdentifier → List ℕ
 unicode_lines v t x = unlisted t (map (code_part Attribute (codes "u" ∷ [])) x.attributes)
-    ++ lines v t (map (row_part Keyword (codes "u" ∷ [])) x.locale.extensions.unicode.keywords)
+    ++ lines v t (map (keyword_part x.locale.id.region) x.locale.extensions.unicode.keywords)
 
 -- the parts of the transform extension
 abbrev pub transform_lines : Validity → List ℕ → LocaleIdentifier → List ℕ

@@ -1,16 +1,20 @@
 -- The walk over the rows of a map: what it has found so far, and what it refuses.
-use Rattle.std.specs.Prelude.{◌≡◌, ◌++◌, ◌||◌, Bool, true, false, List, [], ◌∷◌, map, Option, Some, None, IsSome, if◌then◌else◌}
+use Rattle.std.specs.Prelude.{◌≡◌, ◌++◌, ◌||◌, Bool, true, false, List, [], ◌∷◌, map, Option, Some, None, IsSome, IsSomeAnd, if◌then◌else◌}
 use Rattle.std.specs.Option.{option_or}
 use Rattle.std.specs.declared.cmp.Ordering.{Ordering}
+use Rattle.icu_locale.specs.Kinds.{next}
+use Rattle.icu_locale.specs.Refusals.{ComesAgainFirst, ValueComesAgainFirst}
 use Rattle.icu_locale.specs.declared.canonicalizer.CanonicalizeError.{CanonicalizeError}
 use Rattle.icu_locale.specs.declared.canonicalizer.CanonicalizeError.TheVariants as rules
 use Rattle.icu_locale.specs.declared.expander.TransformResult.{TransformResult}
 use Rattle.icu_locale.specs.declared.expander.TransformResult.TheVariants.{Modified}
 use Rattle.icu_locale_core.specs.Maps.{IsSortedMap, value_at}
+use Rattle.icu_locale_core.specs.declared.langid.LanguageIdentifier.{LanguageIdentifier}
+use Rattle.icu_locale_core.specs.declared.locale.Locale.{Locale}
 use Rattle.icu_locale_runs.specs.Run.{IsLaterEndOf, IsRepeat}
 use Rattle.icu_locale_values.specs.Aliases.{preferred}
 use Rattle.icu_locale_values.specs.Refusals.{IsFirstRepeat}
-use Rattle.icu_locale_values.specs.Whole.{is_any_followed}
+use Rattle.icu_locale_values.specs.Whole.{WholeRules, is_any_followed, without_language}
 use Rattle.icu_locale_values.specs.declared.error.WholeError.{WholeError}
 use Rattle.icu_locale_values.specs.declared.error.WholeError.TheVariants.{Memory, NoFixedPoint, NoSubdivisionFixedPoint}
 use Rattle.icu_locale_values.specs.declared.walk.Refusal.{Refusal}
@@ -78,6 +82,21 @@ abbrev pub of_rules : CanonicalizeError → WholeError
 of_rules rules.Memory = Memory
 of_rules (rules.NoFixedPoint z) = NoFixedPoint z
 of_rules (rules.NoSubdivisionFixedPoint v) = NoSubdivisionFixedPoint v
+
+-- a refusal of the run of the transform language, if there is one, names the first that comes again
+abbrev pub IsTransformRefusal : WholeRules → Option LanguageIdentifier → WholeError → Type 0
+IsTransformRefusal by lang Memory = Unit {0}
+IsTransformRefusal by lang (NoFixedPoint z) =
+    IsSomeAnd lang (λ l. IsRepeat (next by.likely by.rules) l z)
+IsTransformRefusal by lang e = ⊥
+
+-- a refusal by the rules of all but the transform language
+abbrev pub IsRestRefusal : WholeRules → Locale → WholeError → Type 0
+IsRestRefusal by old Memory = Unit {0}
+IsRestRefusal by old (NoFixedPoint z) = ComesAgainFirst by.likely by.rules (without_language old) z
+IsRestRefusal by old (NoSubdivisionFixedPoint v) =
+    ValueComesAgainFirst by.likely by.rules (without_language old) v
+IsRestRefusal by old e = ⊥
 
 -- so far: with what is left of the ends, the map is as it will be; and so is the answer
 pub record IsPutting {K V : Type 0} (order : K → K → Ordering) (ends old left now : List (K × V))

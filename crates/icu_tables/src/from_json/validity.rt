@@ -33,9 +33,10 @@ pub(crate) fn status_named(name: &str) -> Option<Status>
     named_among(&STATUSES, name)
 }
 
-const KINDS: [(&str, CodeKind); 6] = [
+const KINDS: [(&str, CodeKind); 7] = [
     ("script", CodeKind::Script),
     ("subdivision", CodeKind::Subdivision),
+    ("region_override", CodeKind::RegionOverride),
     ("currency", CodeKind::Currency),
     ("code_point", CodeKind::CodePoint),
     ("date", CodeKind::Date),

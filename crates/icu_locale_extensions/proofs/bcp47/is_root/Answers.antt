@@ -3,7 +3,7 @@ use Rattle.icu_locale_core.specs.Identifier.{pieces}
 use Rattle.icu_locale_core.specs.Subtag.{lowercase}
 use Rattle.icu_locale_core.specs.laws.Identifiers.{same_text}
 use Rattle.icu_locale_extensions.specs.Extensions.{is_singleton}
-use Rattle.icu_locale_extensions.specs.Reader.{first_is}
+use Rattle.icu_locale_extensions.specs.laws.Reader.{first_is}
 use Rattle.icu_locale_extensions.specs.Syntaxes.{is_root}
 use Rattle.icu_locale_core.specs.Identifier.{pieces_if_any}
 use Rattle.icu_locale_extensions.proofs.Spellings.{any_piece-pieces}

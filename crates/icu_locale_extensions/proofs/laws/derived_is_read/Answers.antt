@@ -2,7 +2,7 @@ use Rattle.std.proofs.Common.{◌≡◌, ℕ, List, Ok, sym, ◌∙◌, subst}
 use Rattle.icu_locale_extensions.specs.Built.{bare}
 use Rattle.icu_locale_extensions.specs.declared.identifier.LocaleIdentifier.{LocaleIdentifier}
 use Rattle.icu_locale_extensions.specs.Grammar.{IsLocaleId, locale_id, add_all, add_private_use}
-use Rattle.icu_locale_extensions.specs.Reader.{read}
+use Rattle.icu_locale_extensions.specs.laws.Reader.{read}
 use Rattle.icu_locale_extensions.proofs.Derived.{locale_read}
 use Rattle.icu_locale_extensions.proofs.Fresh.{fresh_different}
 use Rattle.icu_locale_extensions.proofs.LanguageIds.{language_ids_read}

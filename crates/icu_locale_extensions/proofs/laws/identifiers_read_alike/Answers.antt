@@ -4,7 +4,7 @@ use Rattle.icu_locale_core.specs.Readings.{read_pieces}
 use Rattle.icu_locale_core.specs.declared.langid.LanguageIdentifier.{LanguageIdentifier}
 use Rattle.icu_locale_extensions.specs.Built.{bare}
 use Rattle.icu_locale_extensions.specs.Grammar.{absent, done}
-use Rattle.icu_locale_extensions.specs.Reader.{read}
+use Rattle.icu_locale_extensions.specs.laws.Reader.{read}
 use Rattle.icu_locale_extensions.proofs.Derived.{locale_read}
 use Rattle.icu_locale_extensions.proofs.LanguageIds.{language_ids_read, read_derived}
 use Rattle.icu_locale_extensions.proofs.Plain.{bare_is}

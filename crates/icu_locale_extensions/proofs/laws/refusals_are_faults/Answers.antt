@@ -1,15 +1,14 @@
-use Rattle.std.proofs.Common.{sym, ◌∙◌}
-use Rattle.icu_locale_extensions.proofs.Faults.{fault_of, language_fault, memory_fault}
+use Rattle.icu_locale_extensions.proofs.ByGrammar.{fault_spells, refusal_fault}
 use Rattle.icu_locale_extensions.proofs.laws.refusals_are_faults.Goals as goal
 
 pub returns-clause-told : goal.returns-clause-told
-returns-clause-told c = fault_of
+returns-clause-told c = refusal_fault c.derived_is_read.ensures
 
 pub returns-clause-nothing : goal.returns-clause-nothing
-returns-clause-nothing c = λ s t e x fault spells. cc (sym fault ∙ (c.spelled_is_read.ensures s t x).0 spells)
+returns-clause-nothing c = fault_spells c.derived_is_read.ensures
 
 pub returns-clause-language : goal.returns-clause-language
-returns-clause-language c = language_fault
+returns-clause-language c = λ s t. (λ is. is, λ is. is)
 
 pub returns-clause-memory : goal.returns-clause-memory
-returns-clause-memory c = memory_fault
+returns-clause-memory c = λ s t is. is

@@ -1,7 +1,7 @@
 use Rattle.std.proofs.Common.{rules, ◌≡◌, [], ◌∷◌, Err, IfOk, ap, sym, subst, inl, inr, ◌∙◌}
 use Rattle.icu_locale_extensions.specs.Locales.{IsLocaleIdentifier}
-use Rattle.icu_locale_extensions.specs.Reader.{read_on}
-use Rattle.icu_locale_extensions.specs.Reader.Part.{whole}
+use Rattle.icu_locale_extensions.specs.laws.Reader.{read_on}
+use Rattle.icu_locale_extensions.specs.laws.Reader.Part.{whole}
 use Rattle.icu_locale_extensions.specs.inner.Takes.{IsEnd}
 use Rattle.icu_locale_extensions.proofs.Taking.{end_both, end_none, handed_memory, kept_behind}
 use Rattle.icu_locale_extensions.proofs.Whole.{same_err}

@@ -1,7 +1,7 @@
 use Rattle.std.proofs.Common.{◌≡◌, [], length}
 use Rattle.icu_locale_extensions.specs.Built.{bare}
-use Rattle.icu_locale_extensions.specs.Reader.{read_on}
-use Rattle.icu_locale_extensions.specs.Reader.Part.{whole}
+use Rattle.icu_locale_extensions.specs.laws.Reader.{read_on}
+use Rattle.icu_locale_extensions.specs.laws.Reader.Part.{whole}
 use Rattle.icu_locale_extensions.specs.inner.Takes.{IsEnd}
 use Rattle.icu_locale_extensions.proofs.reader.read_behind.Given as goal
 

@@ -2,9 +2,9 @@ use Rattle.std.proofs.Common.{[], ◌∷◌, ◌++◌, map, refl, ap, sym, ◌�
 use Rattle.std.proofs.lemmas.List.{map-append}
 use Rattle.icu_locale_core.specs.Subtag.{is_subtag, lowercase}
 use Rattle.icu_locale_core.specs.TextSet.{from_list, rising}
-use Rattle.icu_locale_extensions.specs.Reader.{read_on}
+use Rattle.icu_locale_extensions.specs.laws.Reader.{read_on}
 use Rattle.icu_locale_extensions.specs.Built.{with_attributes}
-use Rattle.icu_locale_extensions.specs.Reader.Part.{keywords}
+use Rattle.icu_locale_extensions.specs.laws.Reader.Part.{keywords}
 use Rattle.icu_locale_extensions.specs.inner.Takes.{IsEnd}
 use Rattle.icu_locale_extensions.proofs.Taking.{next_some, next_none, attributes_step, attributes_next, attributes_none, end_none, end_both, end_next, rising_none}
 use Rattle.icu_locale_extensions.proofs.reader.take_attributes.Goals as goal

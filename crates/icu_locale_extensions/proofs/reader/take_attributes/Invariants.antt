@@ -1,10 +1,10 @@
 use Rattle.std.proofs.Common.{◌≡◌, ℕ, List, [], map, length}
 use Rattle.icu_locale_core.specs.Subtag.{lowercase}
 use Rattle.icu_locale_core.specs.TextSet.{from_list, rising}
-use Rattle.icu_locale_extensions.specs.Reader.{read_on}
+use Rattle.icu_locale_extensions.specs.laws.Reader.{read_on}
 use Rattle.icu_locale_extensions.specs.Built.{with_attributes}
 use Rattle.icu_locale_extensions.specs.inner.Takes.{IsEnd}
-use Rattle.icu_locale_extensions.specs.Reader.Part.{attributes}
+use Rattle.icu_locale_extensions.specs.laws.Reader.Part.{attributes}
 use Rattle.icu_locale_extensions.proofs.reader.take_attributes.Given as goal
 
 -- these pieces were read

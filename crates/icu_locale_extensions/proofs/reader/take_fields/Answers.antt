@@ -1,10 +1,10 @@
 use Rattle.std.proofs.Common.{inr, [], Some, refl, ap, sym, ◌∙◌}
 use Rattle.icu_locale_extensions.specs.Extensions.{is_piece, is_tkey}
-use Rattle.icu_locale_extensions.specs.Reader.{read_on}
+use Rattle.icu_locale_extensions.specs.laws.Reader.{read_on}
 use Rattle.icu_locale_extensions.specs.Built.{with_fields}
 use Rattle.icu_locale_core.specs.Maps.{add_first}
 use Rattle.icu_locale_core.specs.TextSet.{text_cmp}
-use Rattle.icu_locale_extensions.specs.Reader.Part.{fields, field}
+use Rattle.icu_locale_extensions.specs.laws.Reader.Part.{fields, field}
 use Rattle.icu_locale_extensions.specs.inner.Takes.{read_opened}
 use Rattle.icu_locale_extensions.proofs.Taking.{key_next, opened_taken, first-front, left_shorter, end_both, end_from, end_next, fields_kept, kept_field}
 use Rattle.icu_locale_extensions.proofs.reader.take_fields.Goals as goal

@@ -1,8 +1,8 @@
 use Rattle.std.proofs.Common.{◌≡◌, ◌⊎◌, true, [], length}
 use Rattle.icu_locale_extensions.specs.Extensions.{is_tkey}
-use Rattle.icu_locale_extensions.specs.Reader.{first_is, read_on}
+use Rattle.icu_locale_extensions.specs.laws.Reader.{first_is, read_on}
 use Rattle.icu_locale_extensions.specs.inner.Takes.{IsEnd}
-use Rattle.icu_locale_extensions.specs.Reader.Part.{fields}
+use Rattle.icu_locale_extensions.specs.laws.Reader.Part.{fields}
 use Rattle.icu_locale_extensions.proofs.reader.take_fields.Given as goal
 
 abbrev pub invariant-pieces : goal.invariant-pieces

@@ -1,10 +1,10 @@
 use Rattle.std.proofs.Common.{[], Some, refl, ap, sym, ◌∙◌}
 use Rattle.icu_locale_core.specs.Subtag.{is_key}
-use Rattle.icu_locale_extensions.specs.Reader.{read_on}
+use Rattle.icu_locale_extensions.specs.laws.Reader.{read_on}
 use Rattle.icu_locale_extensions.specs.Built.{with_keywords}
 use Rattle.icu_locale_core.specs.Maps.{add_first}
 use Rattle.icu_locale_core.specs.TextSet.{text_cmp}
-use Rattle.icu_locale_extensions.specs.Reader.Part.{keywords, keyword}
+use Rattle.icu_locale_extensions.specs.laws.Reader.Part.{keywords, keyword}
 use Rattle.icu_locale_extensions.specs.inner.Takes.{read_opened}
 use Rattle.icu_locale_extensions.proofs.Taking.{key_next, opened_taken, left_shorter, end_both, end_from, end_next}
 use Rattle.icu_locale_extensions.proofs.reader.take_keywords.Goals as goal

@@ -1,7 +1,7 @@
 use Rattle.std.proofs.Common.{◌≡◌, [], length}
-use Rattle.icu_locale_extensions.specs.Reader.{read_on}
+use Rattle.icu_locale_extensions.specs.laws.Reader.{read_on}
 use Rattle.icu_locale_extensions.specs.inner.Takes.{IsEnd}
-use Rattle.icu_locale_extensions.specs.Reader.Part.{keywords}
+use Rattle.icu_locale_extensions.specs.laws.Reader.Part.{keywords}
 use Rattle.icu_locale_extensions.proofs.reader.take_keywords.Given as goal
 
 abbrev pub invariant-pieces : goal.invariant-pieces

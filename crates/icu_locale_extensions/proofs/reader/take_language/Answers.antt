@@ -1,8 +1,8 @@
 use Rattle.std.proofs.Common.{[], Err, ap, sym, subst, ◌∙◌, inl, inr}
-use Rattle.icu_locale_extensions.specs.Reader.{read_on}
+use Rattle.icu_locale_extensions.specs.laws.Reader.{read_on}
 use Rattle.icu_locale_extensions.specs.Built.{with_language}
 use Rattle.icu_locale_extensions.specs.inner.Takes.{IsEnd}
-use Rattle.icu_locale_extensions.specs.Reader.Part.{fields}
+use Rattle.icu_locale_extensions.specs.laws.Reader.Part.{fields}
 use Rattle.icu_locale_extensions.proofs.Languages.{language_read, language_refused}
 use Rattle.icu_locale_extensions.proofs.Taking.{end_front, handed_on, handed_memory, kept_front}
 use Rattle.icu_locale_extensions.proofs.reader.take_language.Goals as goal

@@ -4,10 +4,10 @@ use denote.Ref.{Bor}
 use Rattle.icu_locale_core.specs.Maps.{value_at}
 use Rattle.icu_locale_core.specs.TextSet.{text_cmp}
 use Rattle.icu_locale_extensions.specs.Extensions.{is_piece}
-use Rattle.icu_locale_extensions.specs.Reader.{read_on}
+use Rattle.icu_locale_extensions.specs.laws.Reader.{read_on}
 use Rattle.icu_locale_extensions.specs.Built.{with_others}
 use Rattle.icu_locale_core.specs.Maps.{add_first}
-use Rattle.icu_locale_extensions.specs.Reader.Part.{whole, other}
+use Rattle.icu_locale_extensions.specs.laws.Reader.Part.{whole, other}
 use Rattle.icu_locale_extensions.specs.inner.Takes.{read_opened}
 use Rattle.icu_locale_extensions.proofs.Taking.{opened_taken, first-front, end_from}
 use Rattle.icu_locale_extensions.proofs.reader.take_other.Goals as goal

@@ -1,7 +1,7 @@
 use Rattle.std.proofs.Common.{[], refl, ap, ◌∙◌, inr}
-use Rattle.icu_locale_extensions.specs.Reader.{read_on}
+use Rattle.icu_locale_extensions.specs.laws.Reader.{read_on}
 use Rattle.icu_locale_extensions.specs.Built.{with_private_use}
-use Rattle.icu_locale_extensions.specs.Reader.Part.{nothing}
+use Rattle.icu_locale_extensions.specs.laws.Reader.Part.{nothing}
 use Rattle.icu_locale_extensions.proofs.Taking.{end_from, private_taken}
 use Rattle.icu_locale_extensions.proofs.reader.take_private_use.Goals as goal
 

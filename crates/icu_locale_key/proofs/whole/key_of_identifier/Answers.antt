@@ -2,7 +2,7 @@ use Rattle.std.proofs.Common.{inr, sym, subst}
 use Rattle.icu_locale_extensions.specs.Built.{bare}
 use Rattle.icu_locale_values.specs.Whole.{whole_rules}
 use Rattle.icu_locale_key.specs.Whole.{IsWholeKeyRefusal}
-use Rattle.icu_locale_key.proofs.AtOnce.{bare_key, bare_maps, bare_whole, refusal_of_bare, refusal_of_canonical}
+use Rattle.icu_locale_key.proofs.AtOnce.{bare_key, bare_whole, refusal_of_bare, refusal_of_canonical}
 use Rattle.icu_locale_key.proofs.whole.key_of_identifier.Goals as goal
 
 -- the rules come to no end
@@ -31,7 +31,7 @@ returns-in-Err-bring_canonical_to_stable_key-clause-refused c =
     let x = c.args.id.now in
     let form = c.in-Ok.key in
     subst (IsWholeKeyRefusal by (bare x)) (sym c.of_rules-in-Err-bring_canonical_to_stable_key.ensures)
-    (refusal_of_canonical by (bare x) c.in-Err-bring_canonical_to_stable_key.refusal (bare form) (bare_maps form) (bare_whole by x form c.in-Ok.ensures.end)
+    (refusal_of_canonical by (bare x) c.in-Err-bring_canonical_to_stable_key.refusal (bare form) (bare_whole by x form c.in-Ok.ensures.end)
     c.in-Err-bring_canonical_to_stable_key.ensures.refused)
 
 pub returns-in-Err-bring_canonical_to_stable_key-clause-there : goal.returns-in-Err-bring_canonical_to_stable_key-clause-there
@@ -40,6 +40,6 @@ returns-in-Err-bring_canonical_to_stable_key-clause-there c k is =
     let x = c.args.id.now in
     let form = c.in-Ok.key in
     let why = subst (IsWholeKeyRefusal by (bare x)) (sym c.of_rules-in-Err-bring_canonical_to_stable_key.ensures)
-    (refusal_of_canonical by (bare x) c.in-Err-bring_canonical_to_stable_key.refusal (bare form) (bare_maps form) (bare_whole by x form c.in-Ok.ensures.end)
+    (refusal_of_canonical by (bare x) c.in-Err-bring_canonical_to_stable_key.refusal (bare form) (bare_whole by x form c.in-Ok.ensures.end)
     c.in-Err-bring_canonical_to_stable_key.ensures.refused) in
     inr (c.whole_key_is_one.ensures.not_both by (bare x) k c.of_rules-in-Err-bring_canonical_to_stable_key.result is why)

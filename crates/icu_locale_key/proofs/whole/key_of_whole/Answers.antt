@@ -29,7 +29,6 @@ returns-in-Ok-bring_canonical_to_stable_key-clause-key c =
     let canonical = c.canonicalize.new.locale in
     record {
       canonical = canonical;
-      maps = c.know_maps.ensures;
       whole = subst (λ (x : LocaleIdentifier). IsWhole by x canonical) c.in-Ok.ensures.same c.in_default.ensures.canonical;
       key = c.bring_canonical_to_stable_key.new.id;
       stays = c.in-Ok-bring_canonical_to_stable_key.ensures.key;
@@ -48,7 +47,7 @@ returns-in-Err-bring_canonical_to_stable_key-clause-refused c =
     let canonical = c.canonicalize.new.locale in
     let whole = subst (λ (x : LocaleIdentifier). IsWhole by x canonical) c.in-Ok.ensures.same c.in_default.ensures.canonical in
     subst (IsWholeKeyRefusal by x) (sym c.of_rules.ensures)
-    (refusal_of_canonical by x c.in-Err-bring_canonical_to_stable_key.refusal canonical c.know_maps.ensures whole
+    (refusal_of_canonical by x c.in-Err-bring_canonical_to_stable_key.refusal canonical whole
     c.in-Err-bring_canonical_to_stable_key.ensures.refused)
 
 pub returns-in-Err-bring_canonical_to_stable_key-clause-there : goal.returns-in-Err-bring_canonical_to_stable_key-clause-there
@@ -58,6 +57,6 @@ returns-in-Err-bring_canonical_to_stable_key-clause-there c k is =
     let canonical = c.canonicalize.new.locale in
     let whole = subst (λ (x : LocaleIdentifier). IsWhole by x canonical) c.in-Ok.ensures.same c.in_default.ensures.canonical in
     let why = subst (IsWholeKeyRefusal by x) (sym c.of_rules.ensures)
-    (refusal_of_canonical by x c.in-Err-bring_canonical_to_stable_key.refusal canonical c.know_maps.ensures whole
+    (refusal_of_canonical by x c.in-Err-bring_canonical_to_stable_key.refusal canonical whole
     c.in-Err-bring_canonical_to_stable_key.ensures.refused) in
     inr (c.whole_key_is_one.ensures.not_both by x k c.of_rules.result is why)

@@ -1,8 +1,9 @@
 use Rattle.icu_locale.specs.LikelySubtags.{LikelySubtags}
 use Rattle.icu_locale.specs.declared.canonicalizer.rules.Rules.{Rules}
+use Rattle.icu_locale_extensions.specs.declared.syntax.Syntax.TheVariants.{Unicode}
 use Rattle.icu_locale_lines.proofs.OneAnswer.{CanonicalFacts, KeyFacts, WholeFacts, answer_by_one}
 use Rattle.icu_locale_lines.proofs.PlacedAnswers.{answer_at_one}
-use Rattle.icu_locale_lines.proofs.Readings.{SpellingFacts}
+use Rattle.icu_locale_lines.proofs.Readings.{SpellingFacts, whole_once}
 use Rattle.icu_locale_lines.proofs.laws.a_line_has_one_answer.Goals as goal
 
 pub returns : goal.returns
@@ -26,8 +27,9 @@ returns c = λ work line one two a b h k.
     let spelling : SpellingFacts = record {
       alone = c.spelled_once.ensures;
       read = c.spelled_is_read.ensures;
+      faults = c.reading_is_by_the_grammar.ensures.faults;
     } in
-    answer_at_one line (c.a_fault_has_one_place.ensures line) work.syntax work.tools (λ one two a b h k.
+    answer_at_one line (whole_once spelling Unicode) (c.a_fault_has_one_place.ensures line) work.syntax work.tools (λ one two a b h k.
     let answers = answer_by_one spelling c.minimal_form_is_one.ensures.one facts wholes keys c.what_is_served_is_one.ensures
     c.the_nearest_to_requests_is_one.ensures c.named_keys_are_one.ensures line one two a b work.syntax work.tools h k in
     (answers.text, answers.accepted)) work.places one two a b h k

@@ -9,6 +9,7 @@ returns c =
       spelling = record {
         alone = c.spelled_once.ensures;
         read = c.spelled_is_read.ensures;
+        faults = c.reading_is_by_the_grammar.ensures.faults;
       };
       known = c.identifiers_read_alike.ensures.known;
       alike = c.identifiers_read_alike.ensures.alike;

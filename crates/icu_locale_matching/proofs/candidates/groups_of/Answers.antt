@@ -1,6 +1,6 @@
 use Rattle.std.proofs.Common.{◌+◌, length, refl, sym, ◌∙◌, subst}
 use Rattle.std.proofs.lemmas.Option.{slice_get_read}
-use Rattle.icu_locale_matching.specs.Nearest.{IsGrouped}
+use Rattle.icu_locale_matching.specs.inner.Made.{IsGrouped}
 use Rattle.icu_locale_matching.proofs.Groups.{IsGrouped-kept, IsGrouped-put}
 use Rattle.icu_locale_matching.proofs.candidates.groups_of.Goals as goal
 use Rattle.icu_locale_matching.proofs.candidates.groups_of.Goals.{then-not-contains_key+in_ok-group+in_ok-put, else-not-contains_key}

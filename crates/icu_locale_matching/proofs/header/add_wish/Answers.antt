@@ -1,4 +1,4 @@
-use Rattle.std.proofs.Common.{◌≡◌, ◌∙◌, ◌++◌, ◌∷◌, [], sym, ap, subst, map, nat_lt, Bool}
+use Rattle.std.proofs.Common.{◌≡◌, ◌∙◌, ◌++◌, ◌∷◌, [], sym, ap, subst, map, nat_lt, Bool, List}
 use Rattle.std.specs.List.{position_or_len}
 use Rattle.icu_locale_matching.specs.Header.{AreByWeight}
 use Rattle.icu_locale_matching.specs.Header.{shown}
@@ -7,8 +7,9 @@ use Rattle.icu_locale_matching.proofs.Inserts.{lighter, IsPlaceFor, IsPlaceFor-f
 use Rattle.icu_locale_matching.proofs.header.add_wish.Goals as goal
 
 pub returns : goal.returns
-returns c = λ wishes are.
-    let old = c.args.list.now.items in
+returns c = λ wishes before.
+    let old = c.make_room.new.list.items in
+    let are = subst (λ (items : List LentWish). AreByWeight wishes (map shown items)) (sym c.in_ok-make_room.ensures) before in
     let wish = c.args.wish in
     let at = c.place_for-place.result in
     let lists = map shown old in

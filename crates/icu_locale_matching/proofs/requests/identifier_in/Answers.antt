@@ -10,5 +10,6 @@ returns-in-Ok c =
     record {
       tag = bare id;
       is = (c.identifiers_read_alike.ensures.known id read.0, c.identifiers_read_alike.ensures.alike Bcp47 c.args.range.now id read.0 read.1);
+      plain = λ _. refl;
       at = refl;
     }

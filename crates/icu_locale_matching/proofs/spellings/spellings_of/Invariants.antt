@@ -1,5 +1,5 @@
 use Rattle.std.proofs.Common.{◌≤◌, length}
-use Rattle.icu_locale_matching.specs.Spelled.{AreSpelled}
+use Rattle.icu_locale_matching.specs.inner.Spelled.{AreSpelled}
 use Rattle.icu_locale_matching.proofs.spellings.spellings_of.Given as goal
 
 abbrev pub invariant-loop-place : goal.invariant-loop-place

@@ -1,7 +1,7 @@
 use Rattle.std.proofs.Common.{◌≡◌, ◌++◌, ◌∷◌, [], false, is_ok, sym, ◌∙◌}
 use Rattle.std.proofs.lemmas.Result.{IfOk-weaker}
 use Rattle.icu_locale_core.specs.Identifier.{pieces}
-use Rattle.icu_locale_extensions.specs.Reader.{read}
+use Rattle.icu_locale_extensions.specs.laws.Reader.{read}
 use Rattle.icu_locale_places.specs.Places.{begins_some, probe}
 use Rattle.icu_locale_places.proofs.Probed.{probed}
 use Rattle.icu_locale_places.proofs.fronts.begins_some.Goals as goal

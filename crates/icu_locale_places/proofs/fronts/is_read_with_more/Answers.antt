@@ -1,7 +1,7 @@
 use Rattle.std.proofs.Common.{◌≡◌, ◌++◌, ◌∷◌, [], codes, is_ok, ap, ◌∙◌}
 use Rattle.std.proofs.lemmas.Result.{IfOk-weaker}
 use Rattle.icu_locale_core.specs.Identifier.{pieces}
-use Rattle.icu_locale_extensions.specs.Reader.{read}
+use Rattle.icu_locale_extensions.specs.laws.Reader.{read}
 use Rattle.icu_locale_places.specs.Places.{probe}
 use Rattle.icu_locale_places.proofs.Bytes.{joined_pieces}
 use Rattle.icu_locale_places.proofs.fronts.is_read_with_more.Goals as goal

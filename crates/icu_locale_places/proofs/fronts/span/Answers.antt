@@ -1,6 +1,6 @@
 use Rattle.std.proofs.Common.{◌≡◌, ◌+◌, [], length, take, get_or, sym, ap, ◌∙◌, add-one, arith}
 use Rattle.icu_locale_core.specs.Identifier.{pieces}
-use Rattle.icu_locale_places.specs.Places.{spaced}
+use Rattle.icu_locale_places.specs.inner.Spans.{spaced}
 use Rattle.icu_locale_places.proofs.Bytes.{next_left, next_long, separator_within, spaced_more, within_text}
 use Rattle.icu_locale_places.proofs.fronts.span.Goals as goal
 

@@ -1,6 +1,6 @@
 use Rattle.std.proofs.Common.{◌≡◌, drop, take}
 use Rattle.icu_locale_core.specs.Identifier.{pieces}
-use Rattle.icu_locale_places.specs.Places.{spaced}
+use Rattle.icu_locale_places.specs.inner.Spans.{spaced}
 use Rattle.icu_locale_places.proofs.fronts.span.Given as goal
 
 abbrev pub invariant-pieces : goal.invariant-pieces

@@ -7,8 +7,8 @@ use Rattle.icu_locale_validity.proofs.place.stand.Given as goal
 
 abbrev pub invariant-pieces : goal.invariant-pieces
 invariant-pieces l = record {
-  same : stand (marks l.fn.singleton l.fn.language) (pieces l.wanted) (pieces l.text)
-      ≡ option_map (λ n. l.from + n) (stand (marks l.singleton l.language) (pieces l.wanted) (pieces_left l.left));
+  same : stand l.kind (marks l.fn.singleton l.fn.language) (pieces l.wanted) (pieces l.text)
+      ≡ option_map (λ n. l.from + n) (stand l.kind (marks l.singleton l.language) (pieces l.wanted) (pieces_left l.left));
   bytes : l.from + bytes_left l.left ≡ suc (length l.text);
 }
 

@@ -4,11 +4,12 @@ use Rattle.icu_locale_core.specs.TextSet.{text_cmp}
 use Rattle.icu_locale_runs.specs.laws.LaterEnds.{kept, no_later_end}
 use Rattle.icu_locale_values.specs.Aliases.{next_field, next_keyword}
 use Rattle.icu_locale_values.proofs.Followed.{none_followed, unfollowed}
+use Rattle.icu_locale_values.proofs.Languages.{by_languages}
 use Rattle.icu_locale_values.proofs.Ruled.{BecomeEnds-whole, none_without_rows}
 use Rattle.icu_locale_values.proofs.laws.without_aliases.Goals as goal
 
 pub returns-clause-whole : goal.returns-clause-whole
-returns-clause-whole c = λ by old new none is.
+returns-clause-whole c = λ by old new none languages is maps.
     let before = old.locale.extensions.unicode.keywords in
     let after = new.extensions.unicode.keywords in
     let keys = c.canonical_keywords_by_key.ensures in
@@ -16,7 +17,7 @@ returns-clause-whole c = λ by old new none is.
     record {
       locale = record {
         id = is.id;
-        transform = is.transform;
+        transform = by_languages by old.locale.extensions.transform.lang new.extensions.transform.lang languages is.transform;
         keywords = BecomeEnds-whole by.rules by.keywords before after after []
             (λ key. no_later_end (next_keyword by.keywords key) (value_at text_cmp before key) (still key)) (λ key. refl)
             (keys.region_override by.rules before after is.keywords) (keys.subdivision by.rules before after is.keywords) (keys.others by.rules before after is.keywords);
@@ -25,6 +26,7 @@ returns-clause-whole c = λ by old new none is.
       attributes = refl;
       others = refl;
       private_use = refl;
+      maps = maps;
     }
 
 pub returns-clause-none : goal.returns-clause-none

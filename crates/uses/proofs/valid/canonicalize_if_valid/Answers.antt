@@ -1,7 +1,7 @@
 use Rattle.std.proofs.Common.{◌≡◌, sym, subst}
 use Rattle.icu_locale_validity.specs.Parts.{IsValid}
-use Rattle.icu_locale_values.specs.Whole.{AreMaps, whole_rules}
-use Rattle.uses.specs.Aliased.{with_identifier}
+use Rattle.icu_locale_values.specs.Whole.{whole_rules}
+use Rattle.uses.specs.Aliased.{with_identifier, with_transform}
 use Rattle.uses.proofs.valid.canonicalize_if_valid.Goals as goal
 
 -- the canonical form is the one that is valid, since there is one
@@ -12,9 +12,7 @@ returns-clause-valid c = λ aliased signs told.
     let old = c.args.locale.now in
     let new = c.canonicalize.new.locale in
     let one = c.whole_form_is_one.ensures in
-    let form = c.valid_is_whole.ensures.valid v by old aliased signs (c.is_valid.ensures.each.0 c.if-not-is_valid.false) in
-    let maps = one.maps old c.known.ensures in
-    let form_maps : AreMaps (with_identifier old form.0) = record { keywords = maps.keywords; fields = maps.fields } in
-    let same : new ≡ with_identifier old form.0 = one.one by old new (with_identifier old form.0) (one.maps new c.known-2.ensures) form_maps
-    c.in_ok-canonicalize.ensures.canonical form.1 in
-    subst (IsValid v) (sym same) form.2
+    let form = c.valid_is_whole.ensures.valid v by old (one.maps old c.known.ensures) aliased signs (c.is_valid.ensures.each.0 c.if-not-is_valid.false) in
+    let same : new ≡ with_identifier (with_transform old form.1.0) form.0 =
+    one.one by old new (with_identifier (with_transform old form.1.0) form.0) c.in_ok-canonicalize.ensures.canonical form.1.1 in
+    subst (IsValid v) (sym same) form.1.2

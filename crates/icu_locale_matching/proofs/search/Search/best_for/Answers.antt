@@ -1,7 +1,7 @@
 use Rattle.std.proofs.Common.{◌≤◌, ap, subst, List, refl, arith}
 use Rattle.icu_locale.specs.LikelyTable.{likely}
 use Rattle.icu_locale_matching.specs.Distance.{share}
-use Rattle.icu_locale_matching.specs.Nearest.{candidate_of}
+use Rattle.icu_locale_matching.specs.inner.Made.{candidate_of}
 use Rattle.icu_locale_matching.specs.inner.Asked.{asked_of, BeatsEach, limit}
 use Rattle.icu_locale_matching.specs.declared.candidates.Candidate.{Candidate}
 use Rattle.icu_locale_matching.proofs.Groups.{rows_known}

@@ -1,6 +1,6 @@
 use Rattle.std.proofs.Common.{◌≡◌, ℕ, ◌<◌, Some}
 use Rattle.std.specs.List.{filter, slice_get}
-use Rattle.icu_locale_matching.specs.Nearest.{has_language}
+use Rattle.icu_locale_matching.specs.inner.Made.{has_language}
 use Rattle.icu_locale_matching.specs.inner.Asked.{asked_of, Improves, BeatsEach}
 use Rattle.icu_provider.specs.declared.matching.MatchRule.{MatchRule}
 use Rattle.icu_locale_matching.proofs.search.Search.best_near.Given as goal

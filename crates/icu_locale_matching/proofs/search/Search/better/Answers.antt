@@ -5,7 +5,8 @@ use Rattle.std.proofs.lemmas.Option.{same_Some}
 use Rattle.icu_locale.specs.LikelyTable.{likely}
 use Rattle.icu_provider.specs.declared.data_locale.DataLocale.{DataLocale}
 use Rattle.icu_provider.specs.declared.matching.MatchRule.{MatchRule}
-use Rattle.icu_locale_matching.specs.Distance.{Levels, distance, levels_for, serving_of}
+use Rattle.icu_locale_matching.specs.Distance.{Levels, distance, levels_for}
+use Rattle.icu_locale_matching.specs.inner.Known.{serving_of}
 use Rattle.icu_locale_matching.specs.inner.Known.{AreServing}
 use Rattle.icu_locale_matching.specs.Nearest.{demotion_at, form_of, rank_at, rank_of}
 use Rattle.icu_locale_matching.specs.inner.Asked.{asked_of, limit, lesser, Improves, Beats}

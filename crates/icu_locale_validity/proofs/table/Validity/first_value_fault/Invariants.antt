@@ -1,10 +1,10 @@
-use Rattle.std.proofs.Common.{◌≡◌, length, map}
-use Rattle.icu_locale_validity.specs.Types.{first_fault, piece_status}
+use Rattle.std.proofs.Common.{◌≡◌, length}
+use Rattle.icu_locale_validity.specs.Types.{first_fault, statuses}
 use Rattle.icu_locale_validity.proofs.table.Validity.first_value_fault.Given as goal
 
 abbrev pub invariant-pieces : goal.invariant-pieces
 invariant-pieces l =
-    first_fault (map (piece_status l.self l.row) l.fn.pieces) ≡ first_fault (map (piece_status l.self l.row) l.pieces)
+    first_fault (statuses l.self l.row l.fn.pieces) ≡ first_fault (statuses l.self l.row l.pieces)
 
 abbrev pub decreases-pieces : goal.decreases-pieces
 decreases-pieces l = length l.pieces

@@ -14,7 +14,7 @@ pub returns-in-Ok-clause-answer : goal.returns-in-Ok-clause-answer
 returns-in-Ok-clause-answer c =
     let n = c.args.self.now in
     if_adds _ _ (λ t a h. subst (λ by. IsNamedWith n by c.args.whole.now t a) (sym c.in-Some.is)
-    (inl (c.bring_to_canonical.new.whole, c.bring_to_canonical.ensures.maps, c.in-Ok.ensures.form, h))) _ _ c.add_spelled-in-Ok.result c.add_spelled-in-Ok.ensures.answer
+    (inl (c.bring_to_canonical.new.whole, c.in-Ok.ensures.form, h))) _ _ c.add_spelled-in-Ok.result c.add_spelled-in-Ok.ensures.answer
 
 pub returns-in-Err-clause-answer : goal.returns-in-Err-clause-answer
 returns-in-Err-clause-answer c =
