@@ -43,7 +43,7 @@ export interface Named {
 export interface Invalid {
   kind: 'language' | 'script' | 'region' | 'variant' | 'attribute' | 'keyword' | 'field' | 'extension';
   text: string;
-  status: 'deprecated' | 'reserved' | 'unlisted';
+  status: 'deprecated' | 'reserved' | 'unlisted' | 'other_region';
   start: number;
   end: number;
 }

@@ -9,7 +9,7 @@ from .names_suite import COMMON
 
 KINDS = ("language", "script", "region", "variant", "subdivision", "currency")
 # How a code is asked for.
-ASKED_AS = {"language": "{}", "script": "und-{}", "region": "und-{}", "variant": "und-{}", "subdivision": "und-u-sd-{}",
+ASKED_AS = {"language": "{}", "script": "und-{}", "region": "und-{}", "variant": "und-{}", "subdivision": "und-u-rg-{}",
             "currency": "und-u-cu-{}"}
 SIGNS = set(string.ascii_lowercase + string.digits)
 VALID = "valid"
@@ -37,7 +37,7 @@ class Question:
         kind = {"-u-": "keyword", "-t-": "field"}[mark] if mark else self.kind
         text = value.lower().removesuffix("-true") if mark else self.code
         start = len(self.tag) - len(value or text)
-        return f"{kind} {text} {self.status or 'unlisted'} {start} {start + len(text)}"
+        return f"{kind} {text} {self.status or 'unlisted'} {start} {len(self.tag)}"
 
 
 def parsed(name):

@@ -41,9 +41,10 @@ function reports(over) {
 reports(tables);
 reports(tables.share());
 assert.deepStrictEqual(tables.validate('de_DD', { syntax: 'posix' }), [part(['region', 'DD', 'deprecated', 3, 5])]);
+assert.deepStrictEqual(tables.validate('de_DD.x_dd', { syntax: 'posix' }), [part(['region', 'DD', 'deprecated', 3, 5])]);
 // what is no piece of the text has the whole as its place: code units of a string, and bytes of others
-for (const [text, length] of [['xx_DD.é😀', 9], [Buffer.from('xx_DD.é😀'), 12]]) {
-  const wanted = [['language', 'xx', 'unlisted', 0, 2], ['region', 'DD', 'deprecated', 0, length]];
+for (const [text, length] of [['xx.é😀@cyrillic', 15], [Buffer.from('xx.é😀@cyrillic'), 18]]) {
+  const wanted = [['language', 'xx', 'unlisted', 0, 2], ['script', 'Cyrl', 'unlisted', 0, length]];
   assert.deepStrictEqual(tables.validate(text, { syntax: 'posix' }), wanted.map(part));
 }
 assert.deepStrictEqual(tables.validate('i-klingon', { syntax: 'bcp47' }), [part(['language', 'tlh', 'unlisted', 0, 9])]);

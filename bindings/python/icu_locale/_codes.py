@@ -7,7 +7,7 @@ from ._refusals import LineRefused, NoCommand, Text, as_bytes, place_in, refuse
 
 # What a part of an identifier is, and why it is not valid: docs/PROGRAM.md of the repository tells both.
 PartKind = Literal["language", "script", "region", "variant", "attribute", "keyword", "field", "extension"]
-CodeStatus = Literal["deprecated", "reserved", "unlisted"]
+CodeStatus = Literal["deprecated", "reserved", "unlisted", "other_region"]
 # Which names are asked of a script, of a region and of a variant, in order.
 ScriptChain = Literal["tiny", "light", "heavy", "short-heavy"]
 RegionChain = Literal["tiny", "short-tiny", "light", "short-light"]

@@ -59,9 +59,10 @@ class Small(unittest.TestCase):
         with Tables.from_json(TABLES, VALIDITY) as tables:
             self.assertEqual(tables.validate("de_DD", syntax="posix"), [Invalid("region", "DD", "deprecated", 3, 5)])
             # what is no piece of the text has the whole as its place: characters of a str, and bytes of others
-            for text, length in (("xx_DD.\xe9", 7), ("xx_DD.\xe9".encode(), 8)):
+            for text, length in (("xx.\xe9@cyrillic", 13), ("xx.\xe9@cyrillic".encode(), 14)):
                 self.assertEqual(tables.validate(text, syntax="posix"),
-                                 [("language", "xx", "unlisted", 0, 2), ("region", "DD", "deprecated", 0, length)])
+                                 [("language", "xx", "unlisted", 0, 2), ("script", "Cyrl", "unlisted", 0, length)])
+            self.assertEqual(tables.validate("de_DD.x_dd", syntax="posix"), [Invalid("region", "DD", "deprecated", 3, 5)])
             self.assertEqual(tables.validate("en_US.UTF-8@latin", syntax="posix"), [])
             self.assertEqual(tables.validate("i-klingon", syntax="bcp47"), [Invalid("language", "tlh", "unlisted", 0, 9)])
             self.assertFalse(tables.is_valid("x-mine", syntax="bcp47"))  # und is not listed here

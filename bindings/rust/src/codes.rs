@@ -60,6 +60,8 @@ words! {
         Reserved "reserved",
         /// It is not listed.
         Unlisted "unlisted",
+        /// It is a subdivision of another region.
+        OtherRegion "other_region",
     }
 
     /// Which names of a script are asked, in order.

@@ -80,9 +80,10 @@ fn validity() {
     let tables = tables.with_syntax(Syntax::Posix);
     assert_eq!(tables.validate("de_DD"), Ok(vec![invalid((PartKind::Region, "DD", Deprecated, 3))]));
     assert_eq!(tables.is_valid("en_US.UTF-8@latin"), Ok(true));
+    assert_eq!(tables.validate("de_DD.x_dd"), Ok(vec![invalid((PartKind::Region, "DD", Deprecated, 3))]));
     // what is no piece of the text has the whole as its place
-    let german = Invalid { kind: PartKind::Region, text: "DD".to_owned(), status: Deprecated, place: 0..11 };
-    assert_eq!(tables.validate("de_DD.UTF-8"), Ok(vec![german]));
+    let german = Invalid { kind: PartKind::Script, text: "Cyrl".to_owned(), status: Unlisted, place: 0..14 };
+    assert_eq!(tables.validate("de_DE@cyrillic"), Ok(vec![german]));
     let klingon = Invalid { kind: PartKind::Language, text: "tlh".to_owned(), status: Unlisted, place: 0..9 };
     assert_eq!(tables.with_syntax(Syntax::Bcp47).validate("i-klingon"), Ok(vec![klingon]));
 }

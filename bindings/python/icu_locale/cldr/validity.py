@@ -16,7 +16,7 @@ MEMBERS = {"language": "language", "script": "script", "region": "region", "vari
 STATUSES = ("regular", "special", "macroregion", "unknown", "private_use", "deprecated", "reserved")
 # Types that stand for all codes of a kind.
 KINDS = {"SCRIPT_CODE": "script", "REORDER_CODE": "script", "SUBDIVISION_CODE": "subdivision",
-         "RG_KEY_VALUE": "subdivision", "CODEPOINTS": "code_point", "PRIVATE_USE": "any"}
+         "RG_KEY_VALUE": "region_override", "CODEPOINTS": "code_point", "PRIVATE_USE": "any"}
 OF_CURRENCIES = ("u", "cu")
 DTD = "dtd/ldmlSupplemental.dtd"
 VERSION = re.compile(r'<!ATTLIST version cldrVersion CDATA #FIXED "([0-9.]+)"')
@@ -127,7 +127,7 @@ def key_of(extension, key, parts, account):
         else:
             types.setdefault("deprecated" if row.get("deprecated") == "true" else "regular", []).append(name.lower())
     if extension == "t" and not kinds:
-        kinds.add("date")  # a mechanism may have a date after its types (RFC 6497, section 2.2)
+        kinds.add("date")  # a mechanism may have a date after its type (RFC 6497, section 2.2)
     return described(parts, by_status(types), kinds)
 
 
@@ -140,6 +140,6 @@ def described(parts, types, kinds):
         row["types"] = types
     if kinds:
         row["kind"] = max(kinds)
-    if kinds == {"date"} or any(part.get("valueType") in ("multiple", "any") for part in parts):
+    if any(part.get("valueType") in ("multiple", "any") for part in parts):
         row["many"] = True
     return row
