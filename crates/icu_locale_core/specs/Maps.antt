@@ -1,5 +1,5 @@
 -- A finite map as the list of its rows, a key and its value each.
-use Rattle.std.specs.Prelude.{◌≡◌, ◌↔◌, ◌≢◌, List, Option, Some, is_some, if◌then◌else◌}
+use Rattle.std.specs.Prelude.{◌≡◌, ◌↔◌, List, Option, Some, is_some, if◌then◌else◌}
 use Rattle.std.specs.declared.cmp.Ordering.{Ordering}
 use Rattle.std.specs.declared.cmp.Ordering.TheVariants.{Equal}
 use Rattle.std.specs.List.Sorted.{IsStrictlySortedBy}
@@ -34,14 +34,3 @@ add_first compare rows key value =
 -- an order ties equal keys alone
 abbrev pub TiesEqualAlone : {K : Type 0} → (K → K → Ordering) → Type 0
 TiesEqualAlone {K} compare = (x y : K) → (compare x y ≡ Equal) ↔ (x ≡ y)
-
--- the row is put among the others, in the place of one with its key: new is a map, which finds the value at the key and at
--- each other key what old finds
-pub record Holds {K V : Type 0} (compare : K → K → Ordering) (old new : List (K × V)) (key : K)
-    (value : V) : Type 0 where
-  pub rows : new ≡ insert_entry compare old key value
-  pub sets : SetsOnly compare old new key (Some value)
-  pub sorted : IsSortedMap compare new
-  pub found : value_at compare new key ≡ Some value
-  pub others : (other : K) → compare key other ≢ Equal
-      → value_at compare new other ≡ value_at compare old other

@@ -4,6 +4,7 @@ use Rattle.std.specs.Prelude.{Vec}
 use Rattle.std.specs.Global.{Global}
 use Rattle.std.specs.List.{All, slice_get, filter, enumerate_from}
 use Rattle.std.specs.Option.{option_map}
+use Rattle.std.specs.BTreeMap.{insert_entry}
 use Rattle.std.specs.declared.cmp.Ordering.{Ordering}
 use Rattle.std.specs.declared.cmp.Ordering.TheVariants.{Less, Equal, Greater}
 use Rattle.std.proofs.lemmas.Bool.{cases_lt, false≢true}
@@ -14,8 +15,8 @@ use Rattle.std.proofs.lemmas.List.FromFn.{length-enumerate_from}
 use Rattle.std.proofs.lemmas.Slice.Eq.{bytes_eq-Decides}
 use Rattle.icu_locale_core.specs.TextSet.{text_cmp}
 use Rattle.icu_locale_core.specs.Maps.{value_at}
-use Rattle.icu_locale_core.specs.laws.TextSets.{text_same}
-use Rattle.icu_provider.specs.SortedMaps.{Holds}
+use Rattle.icu_locale_core.specs.laws.TextSets.{text_same, text_total}
+use Rattle.icu_provider.specs.laws.SortedMaps.{found_inserted, others_inserted}
 use Rattle.icu_locale_matching.specs.inner.Made.{candidate_of, candidates_of, has_language, IsGrouped}
 use Rattle.icu_locale_matching.specs.inner.Asked.{IsRowOf}
 use Rattle.icu_locale_core.specs.declared.langid.LanguageIdentifier.{LanguageIdentifier}
@@ -53,23 +54,26 @@ module _ (forms : List Candidate) (n : ℕ) (c : Candidate) (stands : slice_get 
 
   -- its language gets one
   module _ (old new : List (List ℕ × Vec Candidate Global)) (g : Vec Candidate Global) (grouped : IsGrouped forms n old)
-      (is_group : g.items ≡ filter (has_language c.form.language) forms) (holds : Holds text_cmp old new c.form.language g) where
+      (is_group : g.items ≡ filter (has_language c.form.language) forms) (rows : new ≡ insert_entry text_cmp old c.form.language g) where
+    found_new : value_at text_cmp new c.form.language ≡ Some g
+    found_new = found_inserted text_total old new c.form.language g rows
+
     new_at : (l : List ℕ) → (c.form.language ≡ l) ⊎ (value_at text_cmp new l ≡ value_at text_cmp old l)
     new_at l = ⊎_elim
         (λ tied. inl (text_same c.form.language l tied))
-        (λ other. inr (holds.others l other))
+        (λ other. inr (others_inserted text_total old new c.form.language g rows l other))
         (tie_or_not (text_cmp c.form.language l))
 
     pub IsGrouped-put : IsGrouped forms (n + 1) new
     IsGrouped-put = record {
       group = λ l h found. ⊎_elim
           (λ same.
-          let one : g ≡ h = same_Some _ _ (sym holds.found ∙ ap (value_at text_cmp new) same ∙ found) in
+          let one : g ≡ h = same_Some _ _ (sym found_new ∙ ap (value_at text_cmp new) same ∙ found) in
           ap (λ (v : Vec Candidate Global). v.items) (sym one) ∙ is_group ∙ ap (λ k. filter (has_language k) forms) same)
           (λ kept. grouped.group l h (sym kept ∙ found))
           (new_at l);
-      each = each_more new (some_of _ g holds.found) (λ k d earlier is. ⊎_elim
-          (λ same. some_of _ g (ap (value_at text_cmp new) (sym same) ∙ holds.found))
+      each = each_more new (some_of _ g found_new) (λ k d earlier is. ⊎_elim
+          (λ same. some_of _ g (ap (value_at text_cmp new) (sym same) ∙ found_new))
           (λ kept. subst IsSome (sym kept) (grouped.each k d earlier is))
           (new_at d.form.language));
     }

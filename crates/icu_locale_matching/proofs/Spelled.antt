@@ -1,6 +1,7 @@
 -- One more place of an identifier in its own spelling.
 use Rattle.std.proofs.Common.{◌≡◌, ◌≢◌, ◌⊎◌, ℕ, zero, suc, ◌+◌, ◌≤◌, List, [], ◌∷◌, map, length, Option, Some, None, IfSome, true, refl, ap, sym, subst, ◌∙◌, inl, inr, ⊎_elim, arith}
 use Rattle.std.specs.List.{slice_get}
+use Rattle.std.specs.BTreeMap.{insert_entry}
 use Rattle.std.specs.declared.cmp.Ordering.{Ordering}
 use Rattle.std.specs.declared.cmp.Ordering.TheVariants.{Less, Equal, Greater}
 use Rattle.std.specs.Prelude.{is_some, IsSome}
@@ -11,9 +12,10 @@ use Rattle.icu_locale.specs.LikelySubtags.{LikelySubtags}
 use Rattle.icu_locale_core.specs.Maps.{value_at}
 use Rattle.icu_locale_core.specs.TextSet.{empty}
 use Rattle.icu_locale_core.specs.declared.langid.LanguageIdentifier.{LanguageIdentifier}
-use Rattle.icu_provider.specs.SortedMaps.{Holds}
 use Rattle.icu_provider.specs.Requests.{key_order}
 use Rattle.icu_provider.specs.laws.Requests.{same_key, key_itself}
+use Rattle.icu_provider.specs.laws.SortedMaps.{found_inserted, others_inserted}
+use Rattle.icu_provider.specs.contracts.names.NameKeyOrd.TheImpl.Laws as name_key_laws
 use Rattle.icu_provider.specs.contracts.names.NameKeyOrd.TheImpl as name_key
 use Rattle.icu_provider.specs.declared.names.NameKey.{NameKey}
 use Rattle.icu_locale_matching.specs.Nearest.{Question, IsSpelledFirst, IsFormedFirst, form_of}
@@ -74,19 +76,21 @@ module _ (xs : List LanguageIdentifier) (n : ℕ) (y : LanguageIdentifier) (stan
   }
 
   pub more_spelled : (old new : List (NameKey × ℕ)) → ((a b : NameKey) → name_key.ghosts.cmp a b ≡ key_order a b)
-      → y.variants ≡ empty → Holds name_key.ghosts.cmp old new (key_of y) n → AreSpelled xs (n + 1) old → AreSpelled xs n new
-  more_spelled old new ordered bare holds known = record {
+      → y.variants ≡ empty → new ≡ insert_entry name_key.ghosts.cmp old (key_of y) n → AreSpelled xs (n + 1) old → AreSpelled xs n new
+  more_spelled old new ordered bare rows known =
+      let found : place_at new y ≡ Some n = found_inserted name_key_laws.total-law old new (key_of y) n rows in
+      let others = others_inserted name_key_laws.total-law old new (key_of y) n rows in record {
     each = λ x j plain noted. ⊎_elim
         (λ tied.
         let same : y ≡ x = same_spelled y x bare plain (same_key (key_of y) (key_of x) (sym (ordered (key_of y) (key_of x)) ∙ tied)) in
-        let place : j ≡ n = same_Some j n (sym noted ∙ ap (place_at new) (sym same) ∙ holds.found) in
+        let place : j ≡ n = same_Some j n (sym noted ∙ ap (place_at new) (sym same) ∙ found) in
         record {
           from = omega (arith, place);
           at = ap (slice_get xs) place ∙ stands ∙ ap Some same;
           first = λ k from is. omega (arith, place, from);
         })
         (λ other.
-        let later = known.each x j plain (sym (holds.others (key_of x) other) ∙ noted) in record {
+        let later = known.each x j plain (sym (others (key_of x) other) ∙ noted) in record {
           from = omega (arith, later.from);
           at = later.at;
           first = λ k from is. ⊎_elim
@@ -98,10 +102,10 @@ module _ (xs : List LanguageIdentifier) (n : ℕ) (y : LanguageIdentifier) (stan
     every = λ x k plain from is. ⊎_elim
         (λ tied.
         let same : key_of y ≡ key_of x = same_key (key_of y) (key_of x) (sym (ordered (key_of y) (key_of x)) ∙ tied) in
-        noted_by (place_at new x) n (ap (value_at name_key.ghosts.cmp new) (sym same) ∙ holds.found))
+        noted_by (place_at new x) n (ap (value_at name_key.ghosts.cmp new) (sym same) ∙ found))
         (λ other. ⊎_elim
         (λ here. absurd (other (tied_same y x (same_Some y x (sym stands ∙ ap (slice_get xs) (sym here) ∙ is)) ordered)))
-        (λ after. subst IsSome (sym (holds.others (key_of x) other)) (known.every x k plain after is))
+        (λ after. subst IsSome (sym (others (key_of x) other)) (known.every x k plain after is))
         (at_or_after n k from))
         (tie_or_not (name_key.ghosts.cmp (key_of y) (key_of x)));
   }

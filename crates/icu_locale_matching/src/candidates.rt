@@ -4,7 +4,7 @@ ghost use Rattle.std.specs.List.{filter};
 ghost use Rattle.icu_locale_core.specs.TextSet.{text_cmp};
 ghost use Rattle.icu_locale.specs.LikelyTable.{likely};
 ghost use Rattle.icu_locale.specs.LikelySubtags.{maximal_locale, subtags_of};
-ghost use Rattle.icu_provider.specs.SortedMaps.{Holds};
+ghost use Rattle.std.specs.BTreeMap.{insert_entry};
 ghost use Rattle.icu_locale_matching.specs.Nearest.{alone, without_region, same_form, form_of, unlikeliness, paradigms_of, is_among, identifiers_of};
 ghost use Rattle.icu_locale_matching.specs.inner.Made.{candidate_of, candidates_of, has_language, in_form, IsGrouped};
 ghost use Rattle.icu_locale_matching.specs.Made.{IsMadeOver};
@@ -170,7 +170,7 @@ fn put(
     language: Language,
     group: Vec<Candidate>,
 ) -> Result<(), AllocError>
-    ensures { OnOk result (Holds text_cmp groups.old groups.new language group) }
+    ensures { OnOk result (groups.new ≡ insert_entry text_cmp groups.old language group) }
 {
     match groups.insert(language, group) {
         Ok(()) => Ok(()),

@@ -4,13 +4,14 @@ use Rattle.std.specs.List.{All}
 use Rattle.std.specs.declared.cmp.Ordering.{Ordering}
 use Rattle.std.specs.Ordering.{ordering_then}
 use Rattle.std.specs.Option.{option_map}
+use Rattle.std.specs.BTreeMap.{insert_entry}
 use Rattle.std.specs.Global.{Global}
 use Rattle.std.specs.String.{string_bytes}
 use Rattle.icu_locale_core.specs.TextSet.{text_cmp}
 use Rattle.icu_locale_core.specs.Maps.{value_at}
 use Rattle.icu_provider.specs.declared.error.DataError.{DataError}
 use Rattle.icu_provider.specs.declared.error.DataErrorKind.TheVariants.{Memory}
-pub use Rattle.icu_locale_core.specs.Maps.{IsSortedMap, TiesEqualAlone, Holds}
+pub use Rattle.icu_locale_core.specs.Maps.{IsSortedMap, TiesEqualAlone}
 
 -- pairs of texts in the order of the first and then of the second
 abbrev pub pair_cmp : (List ℕ × List ℕ) → (List ℕ × List ℕ) → Ordering
@@ -38,10 +39,11 @@ pub record RefusesMemory {Rows : Type 0} (old new : Rows) (result : Result (Unit
   pub memory : IfErr result (λ e. e.kind ≡ Memory)
   pub unchanged : OnErr result (new ≡ old)
 
--- the value is put at the key, and memory is asked for only where the key is new
+-- the row is put among the others, in the place of one with its key, and memory is asked for only where
+-- the key is new
 pub record Inserts {K V : Type 0} (compare : K → K → Ordering) (old new : List (K × V)) (key : K)
     (value : V) (result : Result (Unit {0}) DataError) : Type 0 where
-  pub holds : OnOk result (Holds compare old new key value)
+  pub rows : OnOk result (new ≡ insert_entry compare old key value)
   pub refuses : RefusesMemory old new result
   pub present : IsSome (value_at compare old key) → IsOk result
 

@@ -1,7 +1,9 @@
 //! Laws of requests and of tables. Each function here takes nothing, answers nothing and carries a proved fact.
-ghost use Rattle.std.specs.Prelude.{◌≡◌};
+ghost use Rattle.std.specs.Prelude.{◌≡◌, List, Some};
+ghost use Rattle.std.specs.BTreeMap.{insert_entry};
 ghost use Rattle.std.specs.Ordering.{nat_cmp};
 ghost use Rattle.icu_locale_core.specs.Agreement.{TellsEquality};
+ghost use Rattle.icu_locale_core.specs.Maps.{IsSortedMap, SetsOnly};
 ghost use Rattle.icu_locale_core.specs.TextSet.{text_cmp};
 ghost use Rattle.icu_provider.specs.declared.data_locale.DataLocale.{DataLocale};
 ghost use Rattle.icu_provider.specs.declared.exemplars.ExemplarMarker.{ExemplarMarker};
@@ -47,4 +49,12 @@ pub fn equality_is_told()
     ensures menus { TellsEquality ⟦<MenuMarker as PartialEq>⟧.eq }
     ensures names { TellsEquality ⟦<NameMarker as PartialEq>⟧.eq }
     ensures keys { TellsEquality ⟦<NameKey as PartialEq>⟧.eq }
+{}
+
+/// Where a row is inserted, its key finds its value, each other key what it found before, and the keys still rise.
+pub fn inserted_rows_are_found<K: Ord, V>()
+    ensures found { (rows : List (K × V)) (key : K) (value : V)
+        → SetsOnly K.cmp rows (insert_entry K.cmp rows key value) key (Some value) }
+    ensures sorted { (rows : List (K × V)) (key : K) (value : V) → IsSortedMap K.cmp rows
+        → IsSortedMap K.cmp (insert_entry K.cmp rows key value) }
 {}

@@ -24,7 +24,7 @@ use Rattle.icu_provider.specs.declared.error.DataError.{DataError}
 use Rattle.icu_provider.specs.declared.names.NameKey.{NameKey}
 use Rattle.icu_provider.specs.declared.names.NameMarker.{NameMarker}
 use Rattle.icu_tables.specs.Groups.{NameGroup, RiseInGroups, flat_names, group_cmp, key_cmp, request_of}
-use Rattle.icu_provider.specs.laws.SortedMaps.{IsSortedMap-insert_entry, insert_entry-same, inserts_from_rows}
+use Rattle.icu_provider.specs.laws.SortedMaps.{IsSortedMap-insert_entry, insert_entry-same, inserts_from_rows, found_inserted}
 use Rattle.icu_tables.proofs.Groups.{each-insert_entry, flat_rises, insert_entry-flat, value_at-flat}
 
 abbrev Names : Type 0
@@ -116,14 +116,17 @@ module _ (groups : Groups) (g : NameGroup) (key : NameKey) (rise : Rise groups) 
     -- after an insert into a group that is there, its names still rise
     pub names_after : (old names : Names) (result : Result (Unit {0}) DataError) → value_at group_cmp groups g ≡ Some old
         → Inserts key_cmp old names key name result → IsGroup names
-    names_after old names (Ok done) there inserts = (inserts.holds.sorted, some_found names key name inserts.holds.found)
+    names_after old names (Ok done) there inserts = (
+      (inserts_from_rows key_total old names key name (of_group (IsSortedMap key_cmp) old rise.keys_rise there) inserts.rows).sorted,
+      some_found names key name (found_inserted key_total old names key name inserts.rows),
+    )
     names_after old names (Err e) there inserts =
         subst IsGroup (sym inserts.refuses.unchanged)
         (of_group (IsSortedMap key_cmp) old rise.keys_rise there, of_group (λ rows. rows ≢ []) old rise.none_empty there)
 
     -- a group of one name is put among groups that rise
     pub rise_new : (new : Groups) (result : Result (Unit {0}) DataError) → Inserts group_cmp groups new g ((key, name) ∷ []) result → Rise new
-    rise_new new (Ok done) inserts = subst Rise (sym inserts.holds.rows) (rise_after groups g _ rise (one_rises key name, λ empty. absurd (omega (arith, ap length empty))))
+    rise_new new (Ok done) inserts = subst Rise (sym inserts.rows) (rise_after groups g _ rise (one_rises key name, λ empty. absurd (omega (arith, ap length empty))))
     rise_new new (Err e) inserts = subst Rise (sym inserts.refuses.unchanged) rise
 
     -- what an insert into the one list says
@@ -138,7 +141,7 @@ module _ (groups : Groups) (g : NameGroup) (key : NameKey) (rise : Rise groups) 
           let here = ap (λ held. insert_entry group_cmp groups g (insert_entry key_cmp (unwrap_or held []) key name)) (sym there) in
           let flat = insert_entry-flat request_of key_cmp name_cmp group_total (λ g h k l. refl) (same_group ties key) groups g key name rise.groups_rise in
           record {
-            holds = inserts_from_rows name_total (flat_names groups) _ (request_of g key) name (names_rise groups rise) (ap flat_names (is ∙ here) ∙ sym flat);
+            rows = ap flat_names (is ∙ here) ∙ sym flat;
             refuses = record { memory = tt; unchanged = tt };
             present = λ found. refl;
           }
@@ -146,12 +149,12 @@ module _ (groups : Groups) (g : NameGroup) (key : NameKey) (rise : Rise groups) 
       -- an insert into a group that is there
       pub inserts_there : (old names : Names) (result : Result (Unit {0}) DataError) → value_at group_cmp groups g ≡ Some old
           → Inserts key_cmp old names key name result → Put (insert_entry group_cmp groups g names) result
-      inserts_there old names (Ok done) there inserts = put _ (Some old) there (ap (insert_entry group_cmp groups g) inserts.holds.rows)
+      inserts_there old names (Ok done) there inserts = put _ (Some old) there (ap (insert_entry group_cmp groups g) inserts.rows)
       inserts_there old names (Err e) there inserts =
           let same = same_groups groups g old names rise there inserts.refuses.unchanged in
           let whole = name_in_groups ∙ ap (option_and_then (λ rows. value_at key_cmp rows key)) there in
           record {
-            holds = tt;
+            rows = tt;
             refuses = record { memory = inserts.refuses.memory; unchanged = ap flat_names same };
             present = λ found. inserts.present (subst IsSome whole found);
           }
@@ -159,9 +162,9 @@ module _ (groups : Groups) (g : NameGroup) (key : NameKey) (rise : Rise groups) 
       -- an insert of a group of one name
       pub inserts_new : (new : Groups) (result : Result (Unit {0}) DataError) → value_at group_cmp groups g ≡ None
           → Inserts group_cmp groups new g ((key, name) ∷ []) result → Put new result
-      inserts_new new (Ok done) none inserts = put new None none inserts.holds.rows
+      inserts_new new (Ok done) none inserts = put new None none inserts.rows
       inserts_new new (Err e) none inserts = record {
-        holds = tt;
+        rows = tt;
         refuses = record { memory = inserts.refuses.memory; unchanged = ap flat_names inserts.refuses.unchanged };
         present = λ found. absurd (false≢true (subst IsSome (name_missing none) found));
       }

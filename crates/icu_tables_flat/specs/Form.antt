@@ -83,8 +83,9 @@ said p = record {
 -- a character of the texts begins at a place, or the texts end there
 unfoldable pub is_boundary : List ℕ → ℕ → Bool
 is_boundary texts at =
-    nat_le at (length texts)
-    && (nat_lt (slice_index texts at) 128 || nat_le 192 (slice_index texts at))
+    at == length texts
+    || (nat_lt at (length texts)
+    && (nat_lt (slice_index texts at) 128 || nat_le 192 (slice_index texts at)))
 
 -- the piece at a place, of a length, lies in the texts and cuts no character
 unfoldable pub is_piece : List ℕ → ℕ → ℕ → Bool

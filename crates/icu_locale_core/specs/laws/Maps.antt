@@ -1,25 +1,22 @@
--- What putting a value into a finite map changes, that a sorted map is told by its answers, and equality of rows.
+-- What putting a value into a finite map changes, that a sorted map is told by its answers.
 use Rattle.std.specs.Prelude.{◌≡◌, Bool, true, false, ◌&&◌, cond, T, if◌then◌else◌, List, [], ◌∷◌, Some}
 use Rattle.std.proofs.Common.{refl, ap, sym, ◌∙◌, subst}
 use Rattle.std.specs.FinMap.{find, is_sorted}
 use Rattle.std.specs.FinMap.Entries.{below_all, same_entries}
-use Rattle.std.specs.List.{AllByRecursion, Contains}
+use Rattle.std.specs.List.{AllByRecursion}
 use Rattle.std.specs.Map.{keys_of, remove_entry}
 use Rattle.std.proofs.lemmas.Map.{lookup-none}
 use Rattle.std.proofs.lemmas.Map.Entries.{none_below_head}
 use Rattle.std.proofs.lemmas.Map.Keys.{sorted_head, sorted_tail}
-use Rattle.std.proofs.lemmas.Map.Views.{Contains-from_lookup}
 use Rattle.std.proofs.lemmas.Option.{none-some, same_Some}
 use Rattle.std.specs.declared.cmp.Ordering.{Ordering}
 use Rattle.std.specs.declared.cmp.Ordering.TheVariants.{Less, Equal, Greater}
 use Rattle.std.specs.Ordering.{match_ordering, is_eq, is_lt, eq_by_cmp}
 use Rattle.std.specs.BTreeMap.{is_at, insert_entry}
-use Rattle.std.specs.Cmp.{IsTotalOrder, Equal-is, IsEquivalence, and_equiv, on_equiv, nat_eq_equiv}
+use Rattle.std.specs.Cmp.{IsTotalOrder, Equal-is}
 use Rattle.std.proofs.lemmas.Bool.{false≢true}
 use Rattle.std.proofs.lemmas.Cmp.{alike_right, eq_by_cmp_equiv, tied_itself}
-use Rattle.std.specs.Cmp.Lexicographic.{lists_equiv}
 use Rattle.icu_locale_core.specs.Maps.{IsSortedMap, value_at, SetsOnly}
-use Rattle.icu_locale_core.specs.Keywords.{row_eq}
 
 same_test : {X : Type 0} (a b : Bool) (x y z : X) → a ≡ b → cond b x z ≡ cond a x (cond b y z)
 same_test true true x y z e = refl
@@ -92,12 +89,6 @@ module _ {K V : Type 0} {compare : K → K → Ordering} (total : IsTotalOrder c
   -- ---- keys that tie are equal
 
   module _ (same : (x y : K) → compare x y ≡ Equal → x ≡ y) where
-    -- what is found at a key is among the rows
-    pub stands_where_found : (rows : List (K × V)) (key : K) (value : V)
-        → value_at compare rows key ≡ Some value → Contains rows (key, value)
-    stands_where_found rows key value =
-        Contains-from_lookup (λ x y tied. same x y ((Equal-is (compare x y)).0 tied)) key value rows
-
     below : (key : K) (rows : List (K × V))
         → AllByRecursion (λ other. compare key other ≡ Less) (keys_of rows)
         → T (below_all compare key rows)
@@ -167,9 +158,3 @@ module _ {K V : Type 0} {compare : K → K → Ordering} (total : IsTotalOrder c
             ≡ row ∷ insert_entry compare rest key value = rw greater in
             ap (λ r. insert_entry compare r key value) removed ∙ step
             ∙ ap (λ r. row ∷ r) (behind later)
-
--- it is an equivalence
-pub rows_equiv : IsEquivalence row_eq
-rows_equiv =
-    and_equiv (on_equiv (λ p. p.0) (lists_equiv nat_eq_equiv))
-    (on_equiv (λ p. p.1) (lists_equiv (lists_equiv nat_eq_equiv)))

@@ -19,10 +19,15 @@ use Rattle.std.proofs.lemmas.Map.Entries.{lookup_from_place, length-keys_of, non
 use Rattle.std.proofs.lemmas.Map.Views.{All-keys-insert_entry, All-map-remove_entry}
 use Rattle.std.proofs.lemmas.List.{get_or-map, get_or_default}
 use Rattle.std.proofs.lemmas.List.Sorted.{searchable_from_sorted}
-use Rattle.icu_locale_core.specs.Maps.{IsSortedMap, Holds}
-use Rattle.icu_locale_core.specs.Maps.{SetsOnly, add_first, value_at}
+use Rattle.icu_locale_core.specs.Maps.{IsSortedMap, SetsOnly, add_first, value_at}
 use Rattle.icu_locale_core.specs.Places.{IsAt, IsGapFor, IsNearest}
-use Rattle.icu_locale_core.specs.laws.Maps.{SetsOnly-insert_entry, found_at_key, stands_where_found}
+use Rattle.icu_locale_core.specs.laws.Maps.{SetsOnly-insert_entry, found_at_key}
+
+-- what follows where new is old with the value inserted at the key
+pub record Inserted {K V : Type 0} (compare : K → K → Ordering) (old new : List (K × V)) (key : K) (value : V) : Type 0 where
+  pub rows : new ≡ insert_entry compare old key value
+  pub sets : SetsOnly compare old new key (Some value)
+  pub sorted : IsSortedMap compare new
 
 -- a fact holds where it holds at each answer of a comparison
 pub by_answer : {P : Type 0} (answer : Ordering) → (answer ≡ Less → P) → (answer ≡ Equal → P) → (answer ≡ Greater → P) → P
@@ -186,28 +191,35 @@ module _ {K V : Type 0} {compare : K → K → Ordering} (total : IsTotalOrder c
       (λ is. step Equal is ∙ ap (λ (v : V). (row.0, v) ∷ rows) (sym (same_Some row.1 value (first Equal is))))
       (λ is. step Greater is ∙ ap (λ rest. row ∷ rest) (insert_entry-same rows key value (sorted_tail compare _ _ sorted) (first Greater is)))
 
+  -- a look-up at the key finds the value
+  pub found_inserted : (old new : List (K × V)) (key : K) (value : V) → new ≡ insert_entry compare old key value
+      → value_at compare new key ≡ Some value
+  found_inserted old new key value rows = rw rows (found_at_key total old key value)
+
+  -- and at another key what it found before
+  pub others_inserted : (old new : List (K × V)) (key : K) (value : V) → new ≡ insert_entry compare old key value
+      → (other : K) → compare key other ≢ Equal → value_at compare new other ≡ value_at compare old other
+  others_inserted old new key value rows other apart =
+      let sets : SetsOnly compare old new key (Some value) = λ q. rw rows (SetsOnly-insert_entry total old key value q) in
+      sets other ∙ ap (λ tied. if tied then Some value else value_at compare old other) (not_tied (compare key other) apart)
+
   -- rows with the value inserted stay in order, and find it
   pub inserts_from_rows : (old new : List (K × V)) (key : K) (value : V) → IsSortedMap compare old
-      → new ≡ insert_entry compare old key value → Holds compare old new key value
-  inserts_from_rows old new key value sorted rows =
-      let sets : SetsOnly compare old new key (Some value) = λ q. rw rows (SetsOnly-insert_entry total old key value q) in
-      let found : value_at compare new key ≡ Some value = rw rows (found_at_key total old key value) in
-      record {
-        rows = rows;
-        sets = sets;
-        sorted = rw rows (IsSortedMap-insert_entry total old key value sorted);
-        found = found;
-        others = λ other apart. sets other ∙ ap (λ tied. if tied then Some value else value_at compare old other) (not_tied (compare key other) apart);
-      }
+      → new ≡ insert_entry compare old key value → Inserted compare old new key value
+  inserts_from_rows old new key value sorted rows = record {
+    rows = rows;
+    sets = λ q. rw rows (SetsOnly-insert_entry total old key value q);
+    sorted = rw rows (IsSortedMap-insert_entry total old key value sorted);
+  }
 
   -- a value that is written over the key's row
   pub inserts_at : (rows : List (K × V)) (key : K) (value : V) (at : ℕ) (row : K × V) → IsSortedMap compare rows → IsAt compare rows key at
-      → row ≡ get_or rows at row → Holds compare rows (set rows at (row.0, value)) key value
+      → row ≡ get_or rows at row → Inserted compare rows (set rows at (row.0, value)) key value
   inserts_at rows key value at row sorted is here = inserts_from_rows rows _ key value sorted (insert_entry-at rows key value at row sorted is here)
 
   -- a new row in the gap
   pub inserts_in_gap : (rows : List (K × V)) (key : K) (value : V) (at : ℕ) → IsSortedMap compare rows → IsGapFor compare rows key at
-      → Holds compare rows (insert rows at (key, value)) key value
+      → Inserted compare rows (insert rows at (key, value)) key value
   inserts_in_gap rows key value at sorted gap = inserts_from_rows rows _ key value sorted (insert_entry-in_gap rows key value at gap)
 
 module _ {K V : Type 0} {compare : K → K → Ordering} (total : IsTotalOrder compare) where

@@ -10,7 +10,7 @@ pub returns-in-Ok : goal.returns-in-Ok
 returns-in-Ok g c =
     let inserted = inserts_at g.met.K.Ord.total _ c.args.key _ _ _ c.self.invariant (rw c.self.view_is c.in-Ok.ensures) c.index_mut.ensures.value in
     record {
-      holds = rw (← c.self.view_is) inserted;
+      rows = rw (← c.self.view_is) inserted.rows;
       refuses = record { memory = tt; unchanged = tt };
       present = λ found. refl;
     }
@@ -24,7 +24,7 @@ pub returns-in_ok-insert-in-Err : goal.returns-in_ok-insert-in-Err
 returns-in_ok-insert-in-Err g c =
     let inserted = inserts_in_gap g.met.K.Ord.total _ c.args.key c.args.value c.in-Err.at c.self.invariant (rw c.self.view_is c.in-Err.ensures) in
     record {
-      holds = rw (c.in_ok-insert-in-Err.ensures.items, ← c.self.view_is) inserted;
+      rows = rw (c.in_ok-insert-in-Err.ensures.items, ← c.self.view_is) inserted.rows;
       refuses = record { memory = tt; unchanged = tt };
       present = λ found. refl;
     }
@@ -32,7 +32,7 @@ returns-in_ok-insert-in-Err g c =
 -- memory is refused only to a new row
 pub returns-in_err-insert-in-Err : goal.returns-in_err-insert-in-Err
 returns-in_err-insert-in-Err g c = record {
-  holds = search rules;
+  rows = search rules;
   refuses = search rules;
   present = λ found. grind (arith, lookup_in_gap g.met.K.Ord.total _ _ _ c.in-Err.ensures);
 }

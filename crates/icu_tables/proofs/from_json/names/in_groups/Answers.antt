@@ -18,7 +18,7 @@ loop-marker-preserved c =
     let whole : c.args.map.entries ≡ rows ++ row ∷ rest = c.loop-marker.invariant
     ∙ ap (λ left. c.loop-marker.rows ++ left) c.in-Some.ensures.steps ∙ ap (λ now. now ++ row ∷ rest) (sym c.enter_group.ensures.names) in
     let rises = subst (IsSortedMap name_cmp) whole c.into_iter-marker-iterator.ensures.into_iter_gives.5 in
-    let put : c.put.new.self ≡ rows ++ row ∷ [] = c.in-Ok.ensures.holds.rows ∙ insert_entry-behind name_total rows rest row rises in
+    let put : c.put.new.self ≡ rows ++ row ∷ [] = c.in-Ok.ensures.rows ∙ insert_entry-behind name_total rows rest row rises in
     whole ∙ sym (append_assoc rows (row ∷ []) rest) ∙ ap (λ now. now ++ rest) (sym put)
 
 -- no row is left, so all are in
