@@ -173,9 +173,6 @@ pub record WithinBefore (longest : Option ℕ) (text rest : List ℕ) : Type 0 w
   pub whole : EndsLines done
   pub within : AreWithin longest done
 
-pub WithinBefore-start : (longest : Option ℕ) (text : List ℕ) → WithinBefore longest text text
-WithinBefore-start longest text = record { done = []; parted = refl; whole = inl refl; within = within_none longest }
-
 -- one more line is
 pub WithinBefore-more : (longest : Option ℕ) (text rest : List ℕ) → EndsLines text → rest ≢ [] → WithinBefore longest text rest
     → exceeds longest (first_line rest) ≡ false → WithinBefore longest text (after_first_line rest)

@@ -1,6 +1,6 @@
 -- First lines of texts that come by parts.
-use Rattle.std.proofs.Common.{◌≡◌, ◌≢◌, ◌⊎◌, ◌<◌, ◌≤◌, ℕ, suc, ◌+◌, not, true, false, ◌||◌, List, [], ◌∷◌, ◌++◌, length, inl, inr, refl, ap, sym, subst}
-use Rattle.std.proofs.Common.{◌∙◌, length-append, length-drop, take, drop, cond, arith}
+use Rattle.std.proofs.Common.{◌≡◌, ◌≢◌, ◌⊎◌, ◌≤◌, ℕ, suc, ◌+◌, not, true, false, ◌||◌, List, [], ◌∷◌, ◌++◌, length, inl, inr, refl, ap, sym, subst}
+use Rattle.std.proofs.Common.{◌∙◌, length-append, take, drop, cond, arith}
 use Rattle.std.specs.List.{list_any, position_or_len}
 use Rattle.std.proofs.lemmas.Bool.{or_parts}
 use Rattle.std.proofs.lemmas.Bool.Decides.{nat_tests}
@@ -114,13 +114,6 @@ first_line-grows (c ∷ a) b = (elim (is_line_feed c) as (λ f. is_line_feed c �
       let rest = first_line-grows a b in
       omega (arith, one, two, rest)
 ]) refl
-
--- what follows a first line is shorter
-pub after_first_line-shorter : (t : List ℕ) → t ≢ [] → length (after_first_line t) < length t
-after_first_line-shorter [] some = absurd (some refl)
-after_first_line-shorter (c ∷ t) some =
-    let left = length-drop (position_or_len is_line_feed (c ∷ t) + 1) (c ∷ t) in
-    omega (arith, left)
 
 -- of a text that is empty both parts are
 pub none_front : (a b : List ℕ) → a ++ b ≡ [] → a ≡ []

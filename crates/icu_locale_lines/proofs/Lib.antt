@@ -28,6 +28,5 @@ mod StreamEnds
 mod SubtagLists
 mod ToldLines
 mod WholesAlike
-mod WordEnds
 mod WorkParts
 mod Works

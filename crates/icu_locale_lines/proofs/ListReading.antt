@@ -14,7 +14,7 @@ use Rattle.icu_locale_extensions.specs.Syntaxes.{ReadsBy, SpellsBy, IsFaultBy, m
 use Rattle.icu_locale_extensions.specs.declared.identifier.LocaleIdentifier.{LocaleIdentifier}
 use Rattle.icu_locale_extensions.specs.declared.syntax.Syntax.{Syntax}
 use Rattle.icu_locale_extensions.specs.declared.syntax.Syntax.TheVariants.{Unicode, Bcp47, Posix}
-use Rattle.icu_locale_lines.specs.Lists.{is_space, listed, ids_of, IsAvailable, SpellsAll, SpellsIn, SpellsWanted, IsFault, IsFaultAt, IsFaultIn, IsFirstFault, TellsFault}
+use Rattle.icu_locale_lines.specs.Lists.{is_space, listed, ids_of, SpellsAll, SpellsIn, SpellsWanted, IsFault, IsFaultAt, IsFaultIn, IsFirstFault}
 
 -- one more at the end of both lists
 pub AllZip-push : {A B : Type 0} (P : A → B → Type 0) (xs : List A) (ys : List B) (x : A) (y : B) → AllZip P xs ys → P x y
@@ -116,12 +116,6 @@ pub refused_here : (syntax : Option Syntax) (texts : List (List ℕ)) (n : ℕ) 
 refused_here syntax texts n identifiers spelled low t here e why =
     elim (fault_here syntax texts n identifiers spelled low t here e why) [ inl memory ↦ inl memory | inr at ↦ inr at.0 ]
 
--- the place of a text that is refused for another reason than memory
-pub fault_told : (syntax : Option Syntax) (texts : List (List ℕ)) (place : ℕ) (e : ParseError) → ¬ (e ≡ Memory)
-    → (e ≡ Memory) ⊎ IsFaultAt syntax texts place e → TellsFault syntax texts (Some place)
-fault_told syntax texts place e other (inl memory) = absurd (other memory)
-fault_told syntax texts place e other (inr at) = (e, at)
-
 -- ---- the locale identifiers of texts
 
 -- one more text is read
@@ -144,9 +138,3 @@ wanted_spelled syntax [] [] each = tt
 wanted_spelled syntax [] (x ∷ xs) each = absurd each
 wanted_spelled syntax (t ∷ ts) [] each = absurd each
 wanted_spelled syntax (t ∷ ts) (x ∷ xs) each = (wanted_in syntax t x each.0, wanted_spelled syntax ts xs each.1)
-
--- what is available is spelled
-pub some_spelled : (syntax : Option Syntax) (texts : List (List ℕ)) (xs : List LanguageIdentifier) (ws : List LocaleIdentifier)
-    → IsAvailable syntax texts xs ws → (ys : List LanguageIdentifier) × SpellsAll syntax texts ys
-some_spelled None texts xs ws is = (xs, is.0)
-some_spelled (Some s) texts xs ws is = (ids_of ws, wanted_spelled (Some s) texts ws is.0)

@@ -1,14 +1,12 @@
 -- Why a run stops before its first line, and the words of each refusal.
 use Rattle.std.specs.Prelude.{◌≡◌, ℕ, List, Err, codes, ◌++◌, Option}
-use Rattle.icu_locale.specs.LikelySubtags.{LikelySubtags, AreSettled}
 use Rattle.icu_tables.specs.File.{rows_in}
 use Rattle.icu_tables.specs.Supplement as further
 use Rattle.icu_locale_lines.specs.declared.error.CliError.{CliError}
 use Rattle.icu_locale_lines.specs.declared.error.CliError.TheVariants.{Tables, Supplement, Data, Memory, Available, NotSettled, Usage, Read, Write}
-use Rattle.icu_locale_lines.specs.Lists.{listed, SpellsAll, IsFirstFault}
+use Rattle.icu_locale_lines.specs.Lists.{listed, IsFirstFault}
 use Rattle.icu_locale_extensions.specs.declared.syntax.Syntax.{Syntax}
 use Rattle.icu_locale_core.specs.Identifier.{parse_error_name}
-use Rattle.icu_locale_core.specs.declared.langid.LanguageIdentifier.{LanguageIdentifier}
 use Rattle.icu_provider.specs.Provider.{kind_name}
 use Rattle.icu_tables.specs.declared.error.TableError.{TableError}
 use Rattle.icu_tables.specs.declared.error.TableError.TheVariants.{Json, Shape}
@@ -31,12 +29,6 @@ abbrev pub IsFaultyList : Option Syntax → List ℕ → CliError → Type 0
 IsFaultyList syntax line (Available e) = IsFirstFault syntax (listed line) e
 IsFaultyList syntax line Memory = Unit {0}
 IsFaultyList syntax line e = ⊥
-
--- why a line gives no negotiator: it lists none, or the tables are not settled
-abbrev pub IsRefusedList : Option Syntax → LikelySubtags → List ℕ → CliError → Type 0
-IsRefusedList syntax likely line NotSettled =
-    ¬ (AreSettled likely) × (list : List LanguageIdentifier) × SpellsAll syntax (listed line) list
-IsRefusedList syntax likely line e = IsFaultyList syntax line e
 
 -- the name of a refusal of tables
 abbrev pub table_error_name : TableError → List ℕ

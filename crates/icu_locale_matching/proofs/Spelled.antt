@@ -80,35 +80,35 @@ module _ (xs : List LanguageIdentifier) (n : ℕ) (y : LanguageIdentifier) (stan
   more_spelled old new ordered bare rows known =
       let found : place_at new y ≡ Some n = found_inserted name_key_laws.total-law old new (key_of y) n rows in
       let others = others_inserted name_key_laws.total-law old new (key_of y) n rows in record {
-    each = λ x j plain noted. ⊎_elim
-        (λ tied.
-        let same : y ≡ x = same_spelled y x bare plain (same_key (key_of y) (key_of x) (sym (ordered (key_of y) (key_of x)) ∙ tied)) in
-        let place : j ≡ n = same_Some j n (sym noted ∙ ap (place_at new) (sym same) ∙ found) in
-        record {
-          from = omega (arith, place);
-          at = ap (slice_get xs) place ∙ stands ∙ ap Some same;
-          first = λ k from is. omega (arith, place, from);
-        })
-        (λ other.
-        let later = known.each x j plain (sym (others (key_of x) other) ∙ noted) in record {
-          from = omega (arith, later.from);
-          at = later.at;
-          first = λ k from is. ⊎_elim
-              (λ here. absurd (other (tied_same y x (same_Some y x (sym stands ∙ ap (slice_get xs) (sym here) ∙ is)) ordered)))
-              (λ after. later.first k after is)
-              (at_or_after n k from);
-        })
-        (tie_or_not (name_key.ghosts.cmp (key_of y) (key_of x)));
-    every = λ x k plain from is. ⊎_elim
-        (λ tied.
-        let same : key_of y ≡ key_of x = same_key (key_of y) (key_of x) (sym (ordered (key_of y) (key_of x)) ∙ tied) in
-        noted_by (place_at new x) n (ap (value_at name_key.ghosts.cmp new) (sym same) ∙ found))
-        (λ other. ⊎_elim
-        (λ here. absurd (other (tied_same y x (same_Some y x (sym stands ∙ ap (slice_get xs) (sym here) ∙ is)) ordered)))
-        (λ after. subst IsSome (sym (others (key_of x) other)) (known.every x k plain after is))
-        (at_or_after n k from))
-        (tie_or_not (name_key.ghosts.cmp (key_of y) (key_of x)));
-  }
+        each = λ x j plain noted. ⊎_elim
+            (λ tied.
+            let same : y ≡ x = same_spelled y x bare plain (same_key (key_of y) (key_of x) (sym (ordered (key_of y) (key_of x)) ∙ tied)) in
+            let place : j ≡ n = same_Some j n (sym noted ∙ ap (place_at new) (sym same) ∙ found) in
+            record {
+              from = omega (arith, place);
+              at = ap (slice_get xs) place ∙ stands ∙ ap Some same;
+              first = λ k from is. omega (arith, place, from);
+            })
+            (λ other.
+            let later = known.each x j plain (sym (others (key_of x) other) ∙ noted) in record {
+              from = omega (arith, later.from);
+              at = later.at;
+              first = λ k from is. ⊎_elim
+                  (λ here. absurd (other (tied_same y x (same_Some y x (sym stands ∙ ap (slice_get xs) (sym here) ∙ is)) ordered)))
+                  (λ after. later.first k after is)
+                  (at_or_after n k from);
+            })
+            (tie_or_not (name_key.ghosts.cmp (key_of y) (key_of x)));
+        every = λ x k plain from is. ⊎_elim
+            (λ tied.
+            let same : key_of y ≡ key_of x = same_key (key_of y) (key_of x) (sym (ordered (key_of y) (key_of x)) ∙ tied) in
+            noted_by (place_at new x) n (ap (value_at name_key.ghosts.cmp new) (sym same) ∙ found))
+            (λ other. ⊎_elim
+            (λ here. absurd (other (tied_same y x (same_Some y x (sym stands ∙ ap (slice_get xs) (sym here) ∙ is)) ordered)))
+            (λ after. subst IsSome (sym (others (key_of x) other)) (known.every x k plain after is))
+            (at_or_after n k from))
+            (tie_or_not (name_key.ghosts.cmp (key_of y) (key_of x)));
+      }
 
 -- the place that is noted for the first request, if it may be served
 pub spelled_at : (q : Question) (x : LanguageIdentifier) (j : ℕ) (rows : List (NameKey × ℕ)) (o : Option ℕ) → slice_get q.requests 0 ≡ Some x

@@ -1,5 +1,6 @@
 mod Bases
 mod FirstFaults
+mod FirstPlaces
 mod Lies
 mod Ones
 mod Spelled

@@ -6,13 +6,8 @@ use Rattle.std.proofs.lemmas.Option.{none-some, same_Some}
 use Rattle.icu_locale_core.specs.Identifier.{is_separator, pieces}
 use Rattle.icu_locale_extensions.specs.Extensions.{any_piece}
 use Rattle.icu_locale_extensions.specs.Syntaxes.{ends_base}
-use Rattle.icu_locale_validity.specs.Places.{base_of, begins, behind, belongs, marks_behind, part_bytes, place_of, span_of, stand, value_bytes}
+use Rattle.icu_locale_validity.specs.Places.{base_of, begins, behind, belongs, marks_behind, part_bytes, place_of, spaced, span_of, stand, value_bytes}
 use Rattle.icu_locale_validity.specs.declared.part.PartKind.{PartKind}
-
--- how many bytes pieces have, with a separator after each
-abbrev spaced : List (List ℕ) → ℕ
-spaced [] = 0
-spaced (p ∷ ps) = suc (length p + spaced ps)
 
 -- a piece follows each separator, and the first one
 pub record HasFirst (ps : List (List ℕ)) : Type 0 where

@@ -15,11 +15,11 @@ use Rattle.icu_locale_validity.proofs.Lies.{HasFirst, has_first}
 
 module _ (kind : PartKind) where
   -- the pieces that belong to a part
-  abbrev own : ℕ → List (List ℕ) → List (List ℕ)
+  abbrev pub own : ℕ → List (List ℕ) → List (List ℕ)
   own long [] = []
   own long (p ∷ ps) = if belongs kind long p then p ∷ own long ps else []
 
-  abbrev kept : List (List ℕ) → List (List ℕ)
+  abbrev pub kept : List (List ℕ) → List (List ℕ)
   kept ps = filter (λ q. not (is_left_out kind q)) ps
 
   none_left : (ws : List (List ℕ)) → not (any_piece ws) ≡ pointwise is_spelled [] ws
@@ -27,7 +27,7 @@ module _ (kind : PartKind) where
   none_left (w ∷ ws) = refl
 
   -- they spell others where those that are kept are these
-  own_spells : (long : ℕ) (ws ps : List (List ℕ)) → spells_value kind long ws ps ≡ pointwise is_spelled (kept (own long ps)) ws
+  pub own_spells : (long : ℕ) (ws ps : List (List ℕ)) → spells_value kind long ws ps ≡ pointwise is_spelled (kept (own long ps)) ws
   own_spells long ws [] = none_left ws
   own_spells long ws (p ∷ ps) = by (belongs kind long p) (is_left_out kind p) refl (λ vs. own_spells long vs ps)
     where

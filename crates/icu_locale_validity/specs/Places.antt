@@ -1,7 +1,7 @@
 -- Where a part lies in a text that spells a locale.
-use Rattle.std.specs.Prelude.{ℕ, ◌+◌, suc, Bool, true, false, ◌&&◌, not, List, [], ◌∷◌, length, take, drop, filter, ◌-◌, codes, nat_lt, Option, Some, None, if◌then◌else◌}
+use Rattle.std.specs.Prelude.{◌≡◌, ◌⊎◌, ◌≤◌, ◌++◌, ℕ, ◌+◌, suc, Bool, true, false, ◌&&◌, not, List, [], ◌∷◌, length, take, drop, filter, ◌-◌, codes, nat_lt, Option, Some, None, if◌then◌else◌}
 use Rattle.std.specs.Cmp.Lexicographic.{pointwise}
-use Rattle.std.specs.List.{before_first}
+use Rattle.std.specs.List.{before_first, list_all}
 use Rattle.std.specs.Option.{option_map}
 use Rattle.icu_locale_core.specs.Identifier.{pieces}
 use Rattle.icu_locale_core.specs.Subtag.{lowercase}
@@ -121,3 +121,61 @@ place_of t kind marks wanted =
 -- the bytes of a text at a place
 abbrev pub bytes_at : List ℕ → ℕ × ℕ → List ℕ
 bytes_at t place = take (place.1 - place.0) (drop place.0 t)
+
+-- ---- its place, told by the pieces of the text
+
+-- pieces pass marks: one of them spells the first mark, and those behind it pass the other marks
+abbrev pub PassMarks : (ps marks : List (List ℕ)) → Type 0
+PassMarks ps [] = Unit {0}
+PassMarks ps (m ∷ ms) =
+    (front : List (List ℕ)) × (p : List ℕ) × (others : List (List ℕ))
+    × (ps ≡ front ++ (p ∷ others)) × (is_spelled p m ≡ true) × PassMarks others ms
+
+-- how many bytes pieces have, with a separator after each
+abbrev pub spaced : List (List ℕ) → ℕ
+spaced [] = 0
+spaced (p ∷ ps) = suc (length p + spaced ps)
+
+-- a part lies among pieces: its first and its value stand between those before and those after
+pub record LiesAmong (kind : PartKind) (marks wanted ps : List (List ℕ))
+    (before : List (List ℕ)) (first : List ℕ) (value after : List (List ℕ)) : Type 0 where
+  -- these are all of the pieces, in this order
+  pub split : ps ≡ before ++ ((first ∷ value) ++ after)
+  -- the pieces before it pass all marks
+  pub passed : PassMarks before marks
+  -- its own pieces spell the part
+  pub spelled : spells_part kind wanted (first ∷ value) ≡ true
+  -- each of them behind its first belongs to it
+  pub belong : list_all (belongs kind (length first)) value ≡ true
+  -- the piece after it does not belong to it, if there is one
+  pub ended : (p : List ℕ) (ps : List (List ℕ)) → after ≡ p ∷ ps
+      → belongs kind (length first) p ≡ false
+
+-- a part lies at the bytes of its own pieces, and nowhere sooner among all pieces
+pub record LiesFirstAt (kind : PartKind) (marks wanted ps : List (List ℕ)) (place : ℕ × ℕ)
+    : Type 0 where
+  pub before : List (List ℕ)
+  pub first : List ℕ
+  pub value : List (List ℕ)
+  pub after : List (List ℕ)
+  pub lies : LiesAmong kind marks wanted ps before first value after
+  -- it begins behind the pieces before it and their separators
+  pub begins_at : place.0 ≡ spaced before
+  -- it ends with its last piece, before the separator of that
+  pub ends_at : suc place.1 ≡ spaced (before ++ (first ∷ value))
+  -- wherever else it lies, as many bytes are before it or more
+  pub soonest : (others : List (List ℕ)) (p : List ℕ) (vs qs : List (List ℕ))
+      → LiesAmong kind marks wanted ps others p vs qs → place.0 ≤ spaced others
+
+-- a part lies nowhere among pieces
+abbrev pub LiesNowhere : PartKind → (marks wanted ps : List (List ℕ)) → Type 0
+LiesNowhere kind marks wanted ps =
+    (before : List (List ℕ)) (first : List ℕ) (value after : List (List ℕ))
+    → ¬ (LiesAmong kind marks wanted ps before first value after)
+
+-- the place of a part in t: where it lies first, and all of t where it lies nowhere
+abbrev pub IsPlaceOf : (t : List ℕ) → PartKind → (marks : List (List ℕ)) (wanted : List ℕ)
+    → ℕ × ℕ → Type 0
+IsPlaceOf t kind marks wanted place =
+    LiesFirstAt kind marks (pieces wanted) (pieces (base_of t)) place
+    ⊎ (LiesNowhere kind marks (pieces wanted) (pieces (base_of t)) × (place ≡ (0, length t)))

@@ -3,7 +3,7 @@ ghost use Rattle.std.specs.Prelude.{◌≡◌, ◌↔◌, ◌⊎◌, ◌≤◌, 
 ghost use Rattle.icu_locale_core.specs.Identifier.{pieces};
 ghost use Rattle.icu_locale_extensions.specs.declared.identifier.LocaleIdentifier.{LocaleIdentifier};
 ghost use Rattle.icu_locale_validity.specs.Parts.{IsValid, is_valid};
-ghost use Rattle.icu_locale_validity.specs.Places.{base_of, bytes_at, place_of, spells_part};
+ghost use Rattle.icu_locale_validity.specs.Places.{IsPlaceOf, base_of, bytes_at, place_of, spells_part};
 ghost use Rattle.icu_locale_validity.specs.Reports.{report_of};
 ghost use Rattle.icu_locale_validity.specs.declared.part.PartKind.{PartKind};
 ghost use Rattle.icu_locale_validity.specs.declared.table.Validity.{Validity};
@@ -48,4 +48,12 @@ pub fn places_lie_in_texts()
     ensures { (t : List ℕ) (kind : PartKind) (marks : List (List ℕ)) (wanted : List ℕ)
         → ((place_of t kind marks wanted).0 ≤ (place_of t kind marks wanted).1)
         × ((place_of t kind marks wanted).1 ≤ length t) }
+{}
+
+/// The place of a part is where it lies first among the pieces of the text, behind those that pass
+/// all marks. It is all of the text where the part lies nowhere. No other bytes are its place.
+pub fn places_are_where_parts_lie()
+    ensures { (t : List ℕ) (kind : PartKind) (marks : List (List ℕ)) (wanted : List ℕ)
+        (place : ℕ × ℕ)
+        → (place_of t kind marks wanted ≡ place) ↔ IsPlaceOf t kind marks wanted place }
 {}

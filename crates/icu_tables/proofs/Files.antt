@@ -13,7 +13,6 @@ use Rattle.icu_tables.specs.declared.error.TableError.{TableError}
 use Rattle.icu_tables.specs.declared.tables.Tables.{Tables}
 use Rattle.icu_tables.specs.File.{file, json_of, or_json, or_shape, rows_in}
 use Rattle.icu_provider.specs.declared.aliases.Aliases.{Aliases}
-use Rattle.icu_tables.specs.inner.OnePass.{IsSaidBy}
 use Rattle.icu_tables.specs.inner.Reads.{Reads, language_seen, script_region_seen, extended_seen, alias_seen, file_seen}
 use Rattle.icu_tables.specs.Rows.{alias_rows, direction_rows, rows_of, seen_rows, rule, variants_rule}
 use Rattle.icu_tables.proofs.Members.{seen_rows-same}
@@ -104,7 +103,3 @@ pub rows_from_reads : (text : List ℕ) (value : Data) (result : Result Tables T
     → Reads file_seen result (file value) → IfOk result (λ tables. rows_in text ≡ Ok (rows_of tables))
 rows_from_reads text value (Ok tables) is reads = ap (or_json file) is ∙ ap or_shape reads ∙ ap (λ rows. Ok rows) (file_seen-is tables)
 rows_from_reads text value (Err e) is reads = tt
-
--- and so is what one pass read
-pub rows_from_said : (text : List ℕ) (tables : Tables) → IsSaidBy text file (file_seen tables) → rows_in text ≡ Ok (rows_of tables)
-rows_from_said text tables said = rows_from_reads text said.datum (Ok tables) said.json said.says

@@ -13,12 +13,9 @@ mod Members
 mod NameGroups
 mod NamedKeys
 mod Once
-mod OnePass
-mod OnePassFields
-mod OnePassNames
-mod OnePassRows
-mod OnePassValues
 mod Puts
+mod Rising
+mod StableRows
 mod Supplements
 mod ToFlat
 mod ValidityRows

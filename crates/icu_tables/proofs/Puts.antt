@@ -1,5 +1,7 @@
--- Rows that members put into a map, one after another.
-use Rattle.std.proofs.Common.{◌≡◌, ℕ, List, [], ◌∷◌, ◌++◌, Option, Some, None, option_map, Ok, refl, sym, ap, ◌∙◌, string_bytes}
+-- Rows that members add to a list, one after another, and the map of them.
+use Rattle.std.proofs.Common.{◌≡◌, ℕ, List, [], ◌∷◌, ◌++◌, Option, Some, None, option_map, Ok, refl, sym, ap, ◌∙◌, string_bytes, append_assoc}
+use Rattle.std.proofs.lemmas.List.{append-nil, map-append}
+use Rattle.std.proofs.lemmas.Iterator.Adapters.{option_map_id}
 use Rattle.std.proofs.lemmas.Option.{none-some, same_Some}
 use Rattle.std.specs.declared.cmp.Ordering.{Ordering}
 use Rattle.std.specs.declared.cmp.Ordering.TheVariants.{Less, Equal, Greater}
@@ -10,31 +12,46 @@ use Rattle.serde_json.specs.Find.{as_str}
 use Rattle.serde_json.specs.View.{view, members_view}
 use Rattle.serde_json.proofs.Views.{Entry}
 use Rattle.icu_tables.specs.Puts.{put_all, each_put}
-use Rattle.icu_tables.specs.inner.Reads.{Puts}
+use Rattle.icu_tables.specs.inner.Reads.{Appends, Refuses}
 use Rattle.icu_tables.specs.Rows.{seen_rows}
 use Rattle.icu_tables.specs.Shape.{Shape, applied}
 use Rattle.icu_tables.specs.Supplement.{alias_row}
+use Rattle.icu_tables.specs.declared.error.TableError.{TableError}
+use Rattle.icu_tables.specs.declared.error.TableError.TheVariants as refusal
 
-module _ {K V : Type 0} (compare : K → K → Ordering) where
-  pub put_all-append : (old first second : List (K × V)) → put_all compare old (first ++ second) ≡ put_all compare (put_all compare old first) second
-  put_all-append old [] second = refl
-  put_all-append old (row ∷ first) second = put_all-append (insert_entry compare old row.0 row.1) first second
+module _ {R : Type 0} where
+  -- what is left of the members decides what the list becomes
+  abbrev pub becomes : (List ℕ → Shape (List R)) → List R → List Entry → Option (List R)
+  becomes says list left = option_map (λ rows. list ++ rows) (each_put says (members_view left))
 
-  -- what is left of the members decides what the map becomes
-  abbrev pub becomes : (List ℕ → Shape (List (K × V))) → List (K × V) → List Entry → Option (List (K × V))
-  becomes says map left = option_map (put_all compare map) (each_put says (members_view left))
+  after : (now next : List R) (said more : Option (List R)) → option_map (λ rows. now ++ rows) said ≡ Some next
+      → option_map (λ rows. now ++ rows) (applied (option_map (λ rows more. rows ++ more) said) more) ≡ option_map (λ rows. next ++ rows) more
+  after now next None more added = absurd (none-some next added)
+  after now next (Some rows) None added = refl
+  after now next (Some rows) (Some more) added =
+      ap (λ list. Some list) (sym (append_assoc now rows more) ∙ ap (λ list. list ++ more) (same_Some (now ++ rows) next added))
 
-  after : (now next : List (K × V)) (said more : Option (List (K × V))) → option_map (put_all compare now) said ≡ Some next
-      → option_map (put_all compare now) (applied (option_map (λ rows more. rows ++ more) said) more) ≡ option_map (put_all compare next) more
-  after now next None more put = absurd (none-some next put)
-  after now next (Some rows) None put = refl
-  after now next (Some rows) (Some more) put = ap (λ map. Some map) (put_all-append now rows more
-      ∙ ap (λ map. put_all compare map more) (same_Some (put_all compare now rows) next put))
+  -- a member has added its rows
+  pub becomes-more : (says : List ℕ → Shape (List R)) (now next : List R) (e : Entry) (left : List Entry)
+      → option_map (λ rows. now ++ rows) (says (string_bytes e.0) (view e.1)) ≡ Some next → becomes says now (e ∷ left) ≡ becomes says next left
+  becomes-more says now next e left added = after now next (says (string_bytes e.0) (view e.1)) (each_put says (members_view left)) added
 
-  -- a member has put its rows
-  pub becomes-more : (says : List ℕ → Shape (List (K × V))) (now next : List (K × V)) (e : Entry) (left : List Entry)
-      → option_map (put_all compare now) (says (string_bytes e.0) (view e.1)) ≡ Some next → becomes says now (e ∷ left) ≡ becomes says next left
-  becomes-more says now next e left put = after now next (says (string_bytes e.0) (view e.1)) (each_put says (members_view left)) put
+  -- no member is left
+  pub becomes-end : (says : List ℕ → Shape (List R)) (now : List R) → becomes says now [] ≡ Some now
+  becomes-end says now = ap (λ list. Some list) (append-nil now)
+
+  -- nothing was added
+  pub none_added : (old : List R) (said : Option (List R)) → said ≡ Some [] → Appends (Ok tt) old old said
+  none_added old said is = ap (option_map (λ rows. old ++ rows)) is ∙ ap (λ list. Some list) (append-nil old)
+
+module _ {K V W : Type 0} (seen : V → W) where
+  -- one row is added
+  pub row_added : (old new : List (K × V)) (key : K) (value : V) (said : Option (List (K × W))) → new ≡ old ++ (key, value) ∷ []
+      → said ≡ Some ((key, seen value) ∷ []) → Appends (Ok tt) (seen_rows seen old) (seen_rows seen new) said
+  row_added old new key value said adds is =
+      ap (option_map (λ rows. seen_rows seen old ++ rows)) is
+      ∙ ap (λ rows. Some rows) (sym (map-append (λ row. (row.0, seen row.1)) old ((key, value) ∷ [])))
+      ∙ ap (λ rows. Some (seen_rows seen rows)) (sym adds)
 
 module _ {K V W : Type 0} (compare : K → K → Ordering) (seen : V → W) where
   -- a row is seen where it was put
@@ -52,13 +69,37 @@ module _ {K V W : Type 0} (compare : K → K → Ordering) (seen : V → W) wher
       by Equal later = refl
       by Greater later = ap (λ rest. (row.0, seen row.1) ∷ rest) later
 
-  -- one row is put
-  pub row_put : (old new : List (K × V)) (key : K) (value : V) (said : Option (List (K × W))) → new ≡ insert_entry compare old key value
-      → said ≡ Some ((key, seen value) ∷ []) → Puts compare (Ok tt) (seen_rows seen old) (seen_rows seen new) said
-  row_put old new key value said inserts is =
-      ap (option_map (put_all compare (seen_rows seen old))) is
-      ∙ ap (λ rows. Some rows) (sym (seen_rows-insert_entry old key value))
-      ∙ ap (λ rows. Some (seen_rows seen rows)) (sym inserts)
+  -- the map of what is said
+  seen_rows-put_all : (old rows : List (K × V)) → seen_rows seen (put_all compare old rows) ≡ put_all compare (seen_rows seen old) (seen_rows seen rows)
+  seen_rows-put_all old [] = refl
+  seen_rows-put_all old (row ∷ rows) =
+      seen_rows-put_all (insert_entry compare old row.0 row.1) rows
+      ∙ ap (λ now. put_all compare now (seen_rows seen rows)) (seen_rows-insert_entry old row.0 row.1)
+
+  -- rows that were read and then settled are the map of what is said
+  pub map_settled : (said : Option (List (K × W))) (rows map : List (K × V)) → said ≡ Some (seen_rows seen rows) → map ≡ put_all compare [] rows
+      → option_map (put_all compare []) said ≡ Some (seen_rows seen map)
+  map_settled said rows map is settles =
+      ap (option_map (put_all compare [])) is ∙ ap (λ rows. Some rows) (sym (seen_rows-put_all [] rows))
+      ∙ ap (λ rows. Some (seen_rows seen rows)) (sym settles)
+
+-- what was added to no rows is what is said
+pub added_to_none : {R : Type 0} (old new : List R) (said : Option (List R)) → old ≡ [] → Appends (Ok tt) old new said → said ≡ Some new
+added_to_none old new said empty adds = sym (option_map_id said) ∙ ap (λ list. option_map (λ rows. list ++ rows) said) (sym empty) ∙ adds
+
+-- what refuses a change of what is said refuses that itself
+pub refused_said : {A B : Type 0} (e : TableError) (f : A → B) (said : Option A) → Refuses e (option_map f said) → Refuses e said
+refused_said refusal.Json f said none = none
+refused_said refusal.Shape f None none = refl
+refused_said refusal.Shape f (Some x) none = absurd (none-some (f x) (sym none))
+refused_said refusal.Memory f said none = tt
+
+-- where no rows are said, no map is
+pub map_refused : {K W : Type 0} (compare : K → K → Ordering) (e : TableError) (said : Option (List (K × W))) → Refuses e said
+    → Refuses e (option_map (put_all compare []) said)
+map_refused compare refusal.Json said none = none
+map_refused compare refusal.Shape said none = ap (option_map (put_all compare [])) none
+map_refused compare refusal.Memory said none = tt
 
 -- the row of an alias, where its name and its text are values
 pub alias_said : {V : Type 0} (reads : List ℕ → Option V) (name : List ℕ) (value : Data) (t : List ℕ) (key preferred : V)

@@ -13,7 +13,6 @@ use Rattle.icu_tables.specs.Supplement.{rule_rows, matching_rows, rows_of, rows_
 use Rattle.icu_tables.specs.declared.error.TableError.{TableError}
 use Rattle.icu_tables.specs.declared.supplement.Supplement.{Supplement}
 use Rattle.icu_tables.specs.inner.Further.{rules_seen, matching_seen, names_seen, key_types_seen, validity_seen, supplement_seen}
-use Rattle.icu_tables.specs.inner.OnePass.{IsSaidBy}
 use Rattle.icu_tables.specs.inner.Reads.{Reads}
 use Rattle.icu_tables.proofs.Files.{map-same, lists_seen-same, option_map-same, option_map-seen}
 use Rattle.icu_tables.proofs.Members.{seen_rows-same}
@@ -91,7 +90,3 @@ pub rows_from_reads : (text : List ℕ) (value : Data) (result : Result Suppleme
     → Reads supplement_seen result (supplement value) → IfOk result (λ s. rows_in text ≡ Ok (rows_of s))
 rows_from_reads text value (Ok s) is reads = ap (or_json supplement) is ∙ ap or_shape reads ∙ ap (λ rows. Ok rows) (supplement_seen-is s)
 rows_from_reads text value (Err e) is reads = tt
-
--- and so is what one pass read
-pub rows_from_said : (text : List ℕ) (s : Supplement) → IsSaidBy text supplement (supplement_seen s) → rows_in text ≡ Ok (rows_of s)
-rows_from_said text s said = rows_from_reads text said.datum (Ok s) said.json said.says

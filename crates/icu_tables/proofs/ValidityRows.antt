@@ -1,18 +1,16 @@
--- Codes that are put into a table, one after another.
+-- Codes that are added to rows, one after another.
 use Rattle.std.proofs.Common.{◌≡◌, ◌≤◌, ℕ, suc, if◌then◌else◌, get_or, ◌+◌, ◌-◌, Bool, true, false, List, [], ◌∷◌, ◌++◌, length, map, Option, Some, None, option_map, Ok, refl, sym, ap, ◌∙◌, append_assoc, arith}
 use Rattle.std.proofs.lemmas.List.{append-nil, length_push, take_at, get_or-append_right}
 use Rattle.std.proofs.lemmas.Str.{IsUtf8-from_is_utf8, is_utf8-from_IsUtf8}
-use Rattle.std.specs.declared.cmp.Ordering.{Ordering}
 use Rattle.std.specs.Str.{IsUtf8, is_utf8}
 use Rattle.icu_locale_validity.specs.declared.table.Status.{Status}
 use Rattle.serde_json.specs.Data.{Data}
 use Rattle.serde_json.specs.Find.{as_str}
 use Rattle.icu_tables.specs.Names.{named_in}
-use Rattle.icu_tables.specs.Puts.{put_all}
 use Rattle.icu_tables.specs.Rows.{seen_rows}
 use Rattle.icu_tables.specs.Shape.{with_row}
 use Rattle.icu_tables.specs.Validity.{numbers, endings, stem, last_of, codes_up_to, codes_of_word, codes_of_words, codes_listed, codes_by_status, statuses, if_text, rows_of_codes}
-use Rattle.icu_tables.specs.inner.Reads.{Puts}
+use Rattle.icu_tables.specs.inner.Reads.{Appends}
 use Rattle.icu_tables.proofs.Members.{seen_rows-same}
 
 -- ---- the codes of a range
@@ -85,13 +83,12 @@ module _ {K : Type 0} (reads : List ℕ → Option K) (status : Status) where
       ∙ sym (append_assoc now (rows ((s ++ c ∷ []) ∷ [])) (rows (endings s (c + 1) last)))
       ∙ ap (λ before. before ++ rows (endings s (c + 1) last)) (sym added)
 
-  module _ (compare : K → K → Ordering) where
-    -- the codes that a member lists are put
-    pub listed_put : (old new put : List (K × Status)) (said : Option (List (K × Status))) → new ≡ put_all compare old put → said ≡ Some put
-        → Puts compare (Ok tt) (seen_rows (λ s. s) old) (seen_rows (λ s. s) new) said
-    listed_put old new put said is says =
-        ap (option_map (put_all compare (seen_rows (λ s. s) old))) says
-        ∙ ap (λ rows. Some rows) (ap (λ map. put_all compare map put) (seen_rows-same old) ∙ sym is ∙ sym (seen_rows-same new))
+  -- the codes that a member lists are added
+  pub listed_added : (old new more : List (K × Status)) (said : Option (List (K × Status))) → new ≡ old ++ more → said ≡ Some more
+      → Appends (Ok tt) (seen_rows (λ s. s) old) (seen_rows (λ s. s) new) said
+  listed_added old new more said adds says =
+      ap (option_map (λ rows. seen_rows (λ s. s) old ++ rows)) says
+      ∙ ap (λ rows. Some rows) (ap (λ list. list ++ more) (seen_rows-same old) ∙ sym adds ∙ sym (seen_rows-same new))
 
 -- bytes that are no text are read as none
 by_utf8 : {K : Type 0} (reads : List ℕ → Option K) (t : List ℕ) (test : Bool) → is_utf8 t ≡ test → (IsUtf8 t → ⊥) → None ≡ (if test then reads t else None)

@@ -20,7 +20,8 @@ pub(crate) mod matching;
 pub(crate) mod members;
 pub(crate) mod names;
 pub(crate) mod objects;
-pub(crate) mod preferred;
+mod preferred;
+pub(crate) mod rows;
 pub(crate) mod subtags;
 mod supplements;
 pub(crate) mod validity;
@@ -32,7 +33,6 @@ use crate::from_json::marked::Marked;
 use crate::from_json::members::RowByRow;
 use crate::from_json::objects::{MemberReader, only_members};
 use crate::from_json::values::FromValue;
-use crate::one_pass::in_one_pass;
 use crate::{Supplement, TableError, Tables};
 use serde_json::Value;
 use std::alloc::Global;
@@ -45,8 +45,7 @@ impl Tables {
     ///
     /// Values are read in any case. A key is one subtag in its written form, or two with one `-`
     /// between them, or a locale: a language, with a script if any and a region if any. A row whose
-    /// key is not of this form is skipped. It takes memory for the tables, for as many bytes as the text
-    /// has, and, where members are not in the order of their names, for the JSON value.
+    /// key is not of this form is skipped. It takes memory for the tables and for the JSON value.
     ///
     /// # Errors
     ///
@@ -60,9 +59,6 @@ impl Tables {
         ensures refused { IfErr result (λ e. e ≢ TableError.Memory
             → rows_in text.now ≡ Err e) }
     {
-        if let Some(tables) = in_one_pass(alloc, text) {
-            return Ok(alone(alloc, tables));
-        }
         let value = parse(alloc, text)?;
         match Tables::from_value(alloc, &value) {
             Ok(tables) => Ok(alone(alloc, tables)),
@@ -130,7 +126,7 @@ impl FromValue for Tables {
             .fill("aliases", &mut tables.aliases)
             .fill("direction", &mut tables.script_direction)
             .fill_by("exemplars", &MarkedExemplars, &mut tables.exemplars)
-            .fill_names(&mut tables.names)
+            .fill_by("names", &Marked, &mut tables.names)
             .fill_by("menus", &Marked, &mut tables.menus)
             .fill_by(
                 "essentials",

@@ -10,7 +10,6 @@ mod locale_names;
 mod locale_tables;
 mod name_rows;
 mod named_keys;
-mod one_pass;
 mod supplement;
 mod tables;
 mod to_flat;

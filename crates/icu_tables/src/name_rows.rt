@@ -7,7 +7,6 @@ ghost use Rattle.icu_provider.specs.Requests.{name_cmp};
 ghost use Rattle.icu_tables.specs.Groups.{RiseInGroups, flat_names, group_cmp, key_cmp, name_in_group};
 
 use crate::LocaleNames;
-use crate::from_json::members::in_one_list;
 use crate::named_keys::named_keys;
 use icu_provider::laws::keys_are_told_apart;
 use icu_provider::{
@@ -56,19 +55,6 @@ impl NameRows {
         NameRows {
             groups: SortedMap::new(alloc),
         }
-    }
-
-    // Names whose groups are those of a map.
-    pub(crate) fn from_groups(
-        alloc: Global,
-        groups: BTreeMap<(NameMarker, DataLocale), Names>,
-    ) -> Option<NameRows>
-        requires { RiseInGroups group_cmp key_cmp groups.entries }
-        ensures { IfSome result (λ names. names ≡ flat_names groups.entries) }
-    {
-        Some(NameRows {
-            groups: in_one_list(alloc, groups).ok()?,
-        })
     }
 
     // The names of each marker and locale that have some.

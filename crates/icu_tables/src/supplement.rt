@@ -5,7 +5,6 @@ ghost use Rattle.icu_tables.specs.Supplement.{no_supplement, rows_in, rows_of};
 use crate::TableError;
 use crate::from_json::parse;
 use crate::from_json::values::FromValue;
-use crate::one_pass::in_one_pass;
 use icu_locale_core::{Key, Value};
 use icu_locale_extensions::{FieldKey, Subtags};
 use icu_locale_validity::Validity;
@@ -66,8 +65,8 @@ impl Supplement {
     /// The supplement of a JSON text: an object with the members `parents`, `matching`, `keywords`, `fields`,
     /// `extension_names`, `cldr` and `validity`, any of which may be left out. `specs/Supplement.antt` says what is in
     /// each, and `specs/Validity.antt` what a table of validity has. A row whose key is not in written form is skipped,
-    /// and so are an alias of what is no value, and a code that is none. It takes memory for the tables, for as many bytes as
-    /// the text has, and, where members are not in the order of their names, for the JSON value.
+    /// and so are an alias of what is no value, and a code that is none. It takes memory for the tables and for the
+    /// JSON value.
     ///
     /// # Errors
     ///
@@ -78,9 +77,6 @@ impl Supplement {
         ensures refused { IfErr result (λ e. e ≢ TableError.Memory
             → rows_in text.now ≡ Err e) }
     {
-        if let Some(supplement) = in_one_pass(alloc, text) {
-            return Ok(supplement);
-        }
         let value = parse(alloc, text)?;
         Supplement::from_value(alloc, &value)
     }

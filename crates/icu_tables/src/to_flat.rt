@@ -12,7 +12,7 @@ ghost use Rattle.icu_tables.specs.inner.Told.{AreToldBy, IsToldBy};
 use crate::NameRows;
 use crate::from_json::locales::locale_named;
 use crate::from_json::marked::{MarkedKey, Marker};
-use crate::from_json::members::in_one_list;
+use crate::from_json::rows::in_one_list;
 use crate::kinds::is_of_kind;
 use crate::lent_names::{group_text, key_text, lent_name};
 use crate::name_rows::Names;

@@ -1,6 +1,5 @@
 -- Lists that have the same elements at each place are the same.
 use Rattle.std.proofs.Common.{◌≡◌, ℕ, zero, suc, ◌+◌, ◌<◌, List, [], ◌∷◌, ◌++◌, length, get_or, take, slice_get, Some, sym, ap, ◌∙◌, add-one}
-use Rattle.std.proofs.Math.Seq.{take-length}
 use Rattle.std.proofs.lemmas.Option.{none-some, same_Some, slice_get-get_or}
 
 module _ {X : Type 0} where
@@ -17,8 +16,3 @@ module _ {X : Type 0} where
       ap (λ n. take n xs) (add-one i)
       ∙ take_got xs i y here ∙ ap (λ l. l ++ y ∷ []) front ∙ sym (take_got ys i y other)
       ∙ ap (λ n. take n ys) (sym (add-one i))
-
-  -- as many as there are on either side are all
-  pub same_all : (xs ys : List X) → length xs ≡ length ys → take (length ys) xs ≡ take (length ys) ys → xs ≡ ys
-  same_all xs ys len front =
-      sym (take-length xs) ∙ ap (λ n. take n xs) len ∙ front ∙ take-length ys

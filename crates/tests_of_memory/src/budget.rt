@@ -126,6 +126,31 @@ pub fn asks_nothing<C: Call>(rt: &impl Abort, alloc: Global, call: &C) {
     assert!(rt; by_budget(alloc, call).expect(rt, "memory").is_whole());
 }
 
+// The least budget at which a call answers whole.
+fn first_whole<C: Call>(alloc: Global, call: &C) -> usize {
+    for number in 0..BUDGETS {
+        let bytes = number.saturating_mul(STEP);
+        if let Ok(filler) = Vec::<u8>::with_capacity(alloc, MOST_BYTES.saturating_sub(bytes)) {
+            let answered = call.answer(alloc);
+            drop(filler);
+            if answered == Answered::Whole {
+                return bytes;
+            }
+        }
+    }
+    MOST_BYTES
+}
+
+/// The least budget at which a call answers whole, in steps of 16 bytes.
+pub fn least_budget<C: Call>(alloc: Global, call: &C) -> Result<usize, AllocError> {
+    let spare = Vec::<u8>::with_capacity(alloc, MOST_BYTES)?;
+    let held = take_all(alloc)?;
+    drop(spare);
+    let least = first_whole(alloc, call);
+    drop(held);
+    Ok(least)
+}
+
 /// What a call answers at one budget.
 pub fn at_budget<C: Call>(alloc: Global, call: &C, bytes: usize) -> Result<Answered, AllocError> {
     let spare = Vec::<u8>::with_capacity(alloc, bytes)?;

@@ -1,5 +1,5 @@
 //! What is served, and the nearest.
-use crate::budget::{Answered, Call, asks_nothing, stands};
+use crate::budget::{Answered, Call, asks_nothing, least_budget, stands};
 use icu_locale::{CanonicalizerRef, LocaleExpander, ReadRules};
 use icu_locale_core::LanguageIdentifier;
 use icu_locale_extensions::LocaleIdentifier;
@@ -27,16 +27,16 @@ impl Call for Serve<'_> {
 
 // Making a list of what is available.
 #[derive(Drop)]
-struct Make<'d>(CanonicalizerRef<'d>, &'d LanguageMatching);
+struct Make<'d>(CanonicalizerRef<'d>, &'d LanguageMatching, &'d [&'d str]);
 
 impl Call for Make<'_> {
     fn answer(&self, alloc: Global) -> Answered {
-        let Some(available) = identifiers(alloc, &["en-US", "en-GB", "de-1996"]) else {
+        let Some(available) = identifiers(alloc, self.2) else {
             return Answered::Refused;
         };
         match ServedLocales::try_new(alloc, &self.0, self.1, available) {
             Ok(served) => {
-                if served.identifiers().len() == 3 {
+                if served.identifiers().len() == self.2.len() {
                     Answered::Whole
                 } else {
                     Answered::Wrong
@@ -79,13 +79,44 @@ impl Call for Resolve {
     }
 }
 
+// Identifiers of eight languages, each with a variant, so that no spelling and no form is noted.
+const EIGHT: [&str; 8] = [
+    "aa-fonipa",
+    "ab-fonipa",
+    "ae-fonipa",
+    "af-fonipa",
+    "ak-fonipa",
+    "am-fonipa",
+    "an-fonipa",
+    "ar-fonipa",
+];
+
+// Groups of eight languages are noted, and those of fewer are not: the eighth takes more memory than the seventh did.
+fn groups_are_noted(
+    rt: &impl Abort,
+    alloc: Global,
+    rules: CanonicalizerRef<'_>,
+    matching: &LanguageMatching,
+) {
+    let six = least_budget(alloc, &Make(rules, matching, &EIGHT[..6])).expect(rt, "memory");
+    let seven = least_budget(alloc, &Make(rules, matching, &EIGHT[..7])).expect(rt, "memory");
+    let eight = least_budget(alloc, &Make(rules, matching, &EIGHT)).expect(rt, "memory");
+    let more = eight.saturating_sub(seven);
+    assert!(rt; more >= seven.saturating_sub(six).saturating_add(128));
+}
+
 fn over_tables(rt: &impl Abort, alloc: Global, tables: &Tables) {
     let expander = LocaleExpander::try_new_common_unstable(tables).expect(rt, "tables");
     let aliases = tables.load_aliases().expect(rt, "aliases");
     let read = ReadRules::read(alloc, aliases).expect(rt, "tables");
     let rules = CanonicalizerRef::over(&read, aliases, expander);
     let matching = LanguageMatching::new(alloc, 80, 50, 4);
-    stands(rt, alloc, &Make(rules, &matching));
+    stands(
+        rt,
+        alloc,
+        &Make(rules, &matching, &["en-US", "en-GB", "de-1996"]),
+    );
+    groups_are_noted(rt, alloc, rules, &matching);
     let available = identifiers(alloc, &["en-US", "en-GB", "de"]).expect(rt, "identifiers");
     let served = ServedLocales::try_new(alloc, &rules, &matching, available);
     let served = served.expect(rt, "memory");

@@ -1,17 +1,16 @@
 -- A text that is cut after a line feed, its parts answered apart: what they give, joined in order,
 -- is an output of the whole. So runs over parts may go side by side.
-use Rattle.std.specs.Prelude.{◌≡◌, ◌↔◌, ℕ, Bool, true, false, ◌&&◌, cond, List, [], ◌∷◌, ◌++◌, Some}
+use Rattle.std.specs.Prelude.{◌≡◌, ◌↔◌, ℕ, Bool, true, false, ◌&&◌, cond, List, [], ◌∷◌, ◌++◌}
 use Rattle.std.specs.List.{AllZip, slice_split, onto_first}
 use Rattle.std.proofs.Common.{refl, ap, sym, subst, ◌∙◌, append-nil}
 use Rattle.std.proofs.lemmas.Bool.{false≢true}
 use Rattle.std.proofs.lemmas.List.Folds.{list_all-append}
-use Rattle.std.proofs.lemmas.Grind.{flat_map-append}
 use Rattle.icu_locale_lines.specs.declared.runs.Status.{Status}
 use Rattle.icu_locale_lines.specs.declared.runs.Status.TheVariants.{Accepted}
 use Rattle.icu_locale_lines.specs.declared.work.Work.{Work}
 use Rattle.icu_locale_lines.specs.Answers.{IsAnswer}
 use Rattle.icu_locale_lines.specs.Lines.{is_line_feed, without_empty_last, lines}
-use Rattle.icu_locale_lines.specs.Runs.{AreAnswers, all_accepted, WritesAll}
+use Rattle.icu_locale_lines.specs.Runs.{AreAnswers, all_accepted}
 
 -- the pieces of a text
 abbrev pieces : List ℕ → List (List ℕ)
@@ -116,19 +115,3 @@ status_of_parts xs ys one two both of_one of_two are =
       λ e. let at = are.0 e in all ∙ each.1 (of_one.0 at.0, of_two.0 at.1),
       λ e. let at = each.0 (sym all ∙ e) in are.1 (of_one.1 at.0, of_two.1 at.1),
     )
-
--- what runs over two parts write, one after the other, is what a run over the whole may write: it
--- accepts every line exactly where they do
-pub outputs_of_parts : (work : Work) (a b one two : List ℕ) (of_one of_two whole : Status)
-    → WritesAll work (a ++ 10 ∷ []) (Some []) (Some one) of_one
-    → WritesAll work b (Some []) (Some two) of_two
-    → (whole ≡ Accepted) ↔ ((of_one ≡ Accepted) × (of_two ≡ Accepted))
-    → WritesAll work (a ++ 10 ∷ b) (Some []) (Some (one ++ two)) whole
-outputs_of_parts work a b one two of_one of_two whole first second both = record {
-  answers = first.answers ++ second.answers;
-  each = answers_of_parts work a b first.answers second.answers first.each second.each;
-  written = (λ i. first.written i ++ second.written i)
-      ∙ sym (flat_map-append (λ (t : List ℕ × Bool). t.0) first.answers second.answers);
-  status_is = status_of_parts first.answers second.answers of_one of_two whole first.status_is
-      second.status_is both;
-}

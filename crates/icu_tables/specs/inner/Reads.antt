@@ -1,12 +1,10 @@
 -- What a reader answers beside what a value says: what only the readers' own functions cite.
-use Rattle.std.specs.Prelude.{◌≡◌, ℕ, Bool, true, false, List, map, string_bytes, Option, Some, None, option_map, Result, Ok, Err}
+use Rattle.std.specs.Prelude.{◌≡◌, ℕ, Bool, true, false, List, ◌++◌, map, string_bytes, Option, Some, None, option_map, Result, Ok, Err}
 use Rattle.std.specs.Borrow.{Bor}
 use Rattle.icu_provider.specs.declared.aliases.Aliases.{Aliases}
 use Rattle.icu_provider.specs.declared.likely.extended.LikelySubtagsExtended.{LikelySubtagsExtended}
 use Rattle.icu_provider.specs.declared.likely.language.LikelySubtagsForLanguage.{LikelySubtagsForLanguage}
 use Rattle.icu_provider.specs.declared.likely.script_region.LikelySubtagsForScriptRegion.{LikelySubtagsForScriptRegion}
-use Rattle.std.specs.declared.cmp.Ordering.{Ordering}
-use Rattle.icu_tables.specs.Puts.{put_all}
 use Rattle.icu_tables.specs.Rows.{AliasRows, FileRows, seen_rows, rule, variants_rule, direction_rows}
 use Rattle.icu_tables.specs.declared.error.TableError.{TableError}
 use Rattle.icu_tables.specs.declared.error.TableError.TheVariants.{Json, Shape, Memory}
@@ -28,10 +26,10 @@ abbrev pub Fills : {A : Type 0} → Result (Unit {0}) TableError → A → Optio
 Fills (Ok done) new said = said ≡ Some new
 Fills (Err e) new said = Refuses e said
 
--- rows are put into a map, or what says them is refused
-abbrev pub Puts : {K V : Type 0} → (K → K → Ordering) → Result (Unit {0}) TableError
-    → (old new : List (K × V)) → Option (List (K × V)) → Type 0
-Puts compare result old new said = Fills result new (option_map (put_all compare old) said)
+-- rows are added to others, or what says them is refused
+abbrev pub Appends : {R : Type 0} → Result (Unit {0}) TableError → (old new : List R)
+    → Option (List R) → Type 0
+Appends result old new said = Fills result new (option_map (λ rows. old ++ rows) said)
 
 -- a test holds, or it fails and the refusal is `Shape`
 abbrev pub Accepts : Result (Unit {0}) TableError → Bool → Type 0

@@ -5,13 +5,12 @@ ghost use Rattle.icu_tables.specs.Shape.{bound};
 use crate::TableError;
 use crate::from_json::locales::locale_named;
 use crate::from_json::marked::{Marker, named_among};
-use crate::from_json::members::{NamesKeys, PutsRows, RowByRow, put_members};
+use crate::from_json::members::{AddsRows, NamesKeys, RowByRow, add_members};
 use crate::from_json::objects::{only_members, required};
 use crate::from_json::values::FromValue;
 use icu_provider::{DataLocale, ExemplarCharactersData, ExemplarMarker};
 use serde_json::Value;
 use std::alloc::Global;
-use std::collections::BTreeMap;
 
 // A bound of characters.
 impl FromValue for u32 {
@@ -55,7 +54,7 @@ impl FromValue for ExemplarCharactersData {
 #[derive(Clone, Copy)]
 pub(crate) struct MarkedExemplars;
 
-impl PutsRows<(ExemplarMarker, DataLocale), ExemplarCharactersData> for MarkedExemplars {
+impl AddsRows<(ExemplarMarker, DataLocale), ExemplarCharactersData> for MarkedExemplars {
     ghost use Rattle.icu_tables.specs.NamedRows.{marked_exemplars};
     ghost use Rattle.icu_provider.specs.declared.exemplars.ExemplarCharactersData.{ExemplarCharactersData};
 
@@ -65,19 +64,19 @@ impl PutsRows<(ExemplarMarker, DataLocale), ExemplarCharactersData> for MarkedEx
 
     ghost says = { λ _. marked_exemplars };
 
-    fn put(
+    fn add(
         &self,
         alloc: Global,
         name: &str,
         value: &Value,
-        map: &mut BTreeMap<(ExemplarMarker, DataLocale), ExemplarCharactersData>,
+        rows: &mut Vec<((ExemplarMarker, DataLocale), ExemplarCharactersData)>,
     ) -> Result<(), TableError> {
         match ExemplarMarker::marker_named(name) {
             Some(marker) => {
-                let rows = RowByRow {
+                let how = RowByRow {
                     keys: ExemplarsOf { marker },
                 };
-                put_members(alloc, value, &rows, map)
+                add_members(alloc, value, &how, rows)
             }
             None => Err(TableError::Shape),
         }

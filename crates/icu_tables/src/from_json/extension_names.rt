@@ -3,13 +3,12 @@ ghost use Rattle.std.specs.Prelude.{◌≡◌};
 ghost use Rattle.icu_tables.specs.inner.Further.{names_seen};
 
 use crate::TableError;
-use crate::from_json::members::{PutsRows, in_one_list, put_members};
+use crate::from_json::members::{AddsRows, map_in};
 use crate::from_json::objects::{MemberReader, only_members, required};
 use crate::from_json::values::FromValue;
 use icu_provider::{ExtensionNames, SortedMap, TableText};
 use serde_json::Value;
 use std::alloc::Global;
-use std::collections::BTreeMap;
 
 // A text of any content.
 impl FromValue for TableText {
@@ -30,11 +29,11 @@ impl FromValue for TableText {
     }
 }
 
-// Puts one row for each member, whose name is a text of any content.
+// Adds one row for each member, whose name is a text of any content.
 #[derive(Clone, Copy)]
 pub(crate) struct ByText;
 
-impl<V: FromValue> PutsRows<TableText, V> for ByText {
+impl<V: FromValue> AddsRows<TableText, V> for ByText {
     ghost use Rattle.icu_tables.specs.Supplement.{row_by_text};
 
     ghost Seen = { V.Seen };
@@ -43,16 +42,16 @@ impl<V: FromValue> PutsRows<TableText, V> for ByText {
 
     ghost says = { λ _. row_by_text V.shape };
 
-    fn put(
+    fn add(
         &self,
         alloc: Global,
         name: &str,
         value: &Value,
-        map: &mut BTreeMap<TableText, V>,
+        rows: &mut Vec<(TableText, V)>,
     ) -> Result<(), TableError> {
         let held = V::from_value(alloc, value)?;
         let key = TableText::of(alloc, name)?;
-        let _ = map.insert(key, held)?;
+        rows.push((key, held))?;
         Ok(())
     }
 }
@@ -69,9 +68,7 @@ impl FromValue for SortedMap<TableText, TableText> {
     ghost shape = { names_by_text };
 
     fn from_value(alloc: Global, value: &Value) -> Result<Self, TableError> {
-        let mut rows = BTreeMap::new(alloc);
-        put_members(alloc, value, &ByText, &mut rows)?;
-        Ok(in_one_list(alloc, rows)?)
+        map_in(alloc, value, &ByText)
     }
 }
 

@@ -6,13 +6,12 @@ ghost use Rattle.icu_tables.specs.inner.Reads.{names_of};
 
 use crate::TableError;
 use crate::from_json::locales::locale_named;
-use crate::from_json::members::{NamesKeys, PutsRows, RowByRow, put_members};
+use crate::from_json::members::{AddsRows, NamesKeys, RowByRow, add_members};
 use crate::from_json::values::FromValue;
 use icu_provider::DataLocale;
 use serde_json::Value;
 use std::alloc::Global;
 use std::cmp::Ord;
-use std::collections::BTreeMap;
 
 // A marker that a member is named by.
 pub(crate) trait Marker: Copy + Ord + Drop {
@@ -52,7 +51,7 @@ pub(crate) trait MarkedKey<M>: Ord + Drop {
 #[derive(Clone, Copy)]
 pub(crate) struct Marked;
 
-impl<M: Marker, K: MarkedKey<M>, V: FromValue> PutsRows<(M, DataLocale, K), V> for Marked {
+impl<M: Marker, K: MarkedKey<M>, V: FromValue> AddsRows<(M, DataLocale, K), V> for Marked {
     ghost use Rattle.icu_tables.specs.NamedRows.{marked_rows};
 
     ghost Seen = { V.Seen };
@@ -61,15 +60,15 @@ impl<M: Marker, K: MarkedKey<M>, V: FromValue> PutsRows<(M, DataLocale, K), V> f
 
     ghost says = { λ _. marked_rows M.markers K.marked_key V.shape };
 
-    fn put(
+    fn add(
         &self,
         alloc: Global,
         name: &str,
         value: &Value,
-        map: &mut BTreeMap<(M, DataLocale, K), V>,
+        rows: &mut Vec<((M, DataLocale, K), V)>,
     ) -> Result<(), TableError> {
         match M::marker_named(name) {
-            Some(marker) => put_members(alloc, value, &RowsOf { marker }, map),
+            Some(marker) => add_members(alloc, value, &RowsOf { marker }, rows),
             None => Err(TableError::Shape),
         }
     }
@@ -81,7 +80,7 @@ pub(crate) struct RowsOf<M> {
     pub(crate) marker: M,
 }
 
-impl<M: Marker, K: MarkedKey<M>, V: FromValue> PutsRows<(M, DataLocale, K), V> for RowsOf<M> {
+impl<M: Marker, K: MarkedKey<M>, V: FromValue> AddsRows<(M, DataLocale, K), V> for RowsOf<M> {
     ghost use Rattle.icu_tables.specs.NamedRows.{rows_of_marker};
 
     ghost Seen = { V.Seen };
@@ -90,20 +89,20 @@ impl<M: Marker, K: MarkedKey<M>, V: FromValue> PutsRows<(M, DataLocale, K), V> f
 
     ghost says = { λ of. rows_of_marker K.marked_key V.shape of.marker };
 
-    fn put(
+    fn add(
         &self,
         alloc: Global,
         name: &str,
         value: &Value,
-        map: &mut BTreeMap<(M, DataLocale, K), V>,
+        rows: &mut Vec<((M, DataLocale, K), V)>,
     ) -> Result<(), TableError> {
-        let rows = RowByRow {
+        let how = RowByRow {
             keys: KeysIn {
                 marker: self.marker,
                 locale: locale_named(name),
             },
         };
-        put_members(alloc, value, &rows, map)
+        add_members(alloc, value, &how, rows)
     }
 }
 

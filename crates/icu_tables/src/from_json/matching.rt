@@ -6,8 +6,8 @@ ghost use Rattle.icu_tables.specs.inner.Further.{pattern_seen, rules_seen, match
 
 use crate::TableError;
 use crate::from_json::locales::locale_named;
-use crate::from_json::members::in_one_list;
 use crate::from_json::objects::{MemberReader, only_members, required};
+use crate::from_json::rows::in_one_list;
 use crate::from_json::values::FromValue;
 use icu_locale_core::{Region, Script};
 use icu_provider::{

@@ -1,90 +1,60 @@
 //! Markers, keys and values of names, and of names in menus.
-ghost use Rattle.std.specs.Prelude.{◌≡◌, [], codes, Some, IfOk, IfErr};
-ghost use Rattle.serde_json.specs.Find.{get};
-ghost use Rattle.serde_json.specs.View.{view};
-ghost use Rattle.icu_provider.specs.Requests.{name_cmp};
-ghost use Rattle.icu_tables.specs.Fields.{said_or};
-ghost use Rattle.icu_tables.specs.NamedRows.{marked_names};
-ghost use Rattle.icu_tables.specs.Puts.{map_by};
-ghost use Rattle.icu_tables.specs.Rows.{seen_rows};
-ghost use Rattle.icu_tables.specs.inner.Members.{GoesOn};
-ghost use Rattle.icu_tables.specs.inner.Reads.{Fills};
+ghost use Rattle.std.specs.Prelude.{◌≡◌};
 
 use crate::from_json::keys::RowKey;
 use crate::from_json::locales::locale_named;
-use crate::from_json::marked::{Marked, MarkedKey, Marker, named_among};
-use crate::from_json::members::rows_said;
-use crate::from_json::objects::MemberReader;
+use crate::from_json::marked::{MarkedKey, Marker, named_among};
+use crate::from_json::rows::FromRows;
 use crate::from_json::values::FromValue;
 use crate::kinds::{names_languages, names_regions, names_scripts};
 use crate::{NameRows, TableError};
 use icu_locale_core::{Language, Region, Script, Variant};
 use icu_provider::{DataLocale, MenuMarker, MenuNameParts, NameKey, NameMarker, TableText};
 use serde_json::Value;
-use std::alloc::Global;
-use std::collections::BTreeMap;
+use std::alloc::{AllocError, Global};
 
-impl<'v> MemberReader<'v> {
-    // Fills names with those of the member of that name, and with none if it is not there.
-    pub(crate) fn fill_names(mut self, names: &mut NameRows) -> MemberReader<'v>
-        ensures { GoesOn self.entry result (seen_rows (λ v. v) names.new)
-            (λ object. said_or (Some []) (map_by name_cmp marked_names)
-            (get (codes "names") object)) }
+impl FromRows<(NameMarker, DataLocale, NameKey), TableText> for NameRows {
+    ghost use Rattle.std.specs.Prelude.{◌≡◌, IfOk};
+    ghost use Rattle.icu_provider.specs.Requests.{name_cmp};
+    ghost use Rattle.icu_provider.specs.SortedMaps.{IsSortedMap};
+
+    ghost kept = { λ names. names };
+
+    // Rows come in order, so that none has to make room, and a group is noted when the next begins.
+    fn from_rows(
+        alloc: Global,
+        rows: Vec<((NameMarker, DataLocale, NameKey), TableText)>,
+    ) -> Result<Self, AllocError>
+        requires { IsSortedMap name_cmp rows.items }
+        ensures { IfOk result (λ names. names ≡ rows.items) }
     {
-        if self.outcome.is_ok() {
-            self.outcome = fill_names(self.alloc, self.object, names);
+        let mut names = NameRows::new(alloc);
+        let mut group = None;
+        for ((marker, locale, key), name) in rows {
+            enter_group(alloc, &mut names, &mut group, &marker, &locale)?;
+            let Ok(()) = names.put(alloc, marker, locale, key, name) else {
+                return Err(AllocError);
+            };
         }
-        self
+        note_group(alloc, &mut names, group)?;
+        Ok(names)
     }
-}
-
-// Puts the names of a file in place of what is there, and none where the file has no such member.
-fn fill_names(alloc: Global, object: &Value, names: &mut NameRows) -> Result<(), TableError>
-    ensures { let found = get (codes "names") (view object.now) in
-        Fills result (seen_rows (λ v. v) names.new)
-        (said_or (Some []) (map_by name_cmp marked_names) found) }
-{
-    let rows = rows_said(alloc, object, "names", &Marked)?;
-    *names = in_groups(alloc, rows)?;
-    Ok(())
-}
-
-// The names of a map, each after the others. Rows come in order, so that none has to make room, and a group is noted when
-// the next begins.
-fn in_groups(
-    alloc: Global,
-    map: BTreeMap<(NameMarker, DataLocale, NameKey), TableText>,
-) -> Result<NameRows, TableError>
-    ensures rows { IfOk result (λ rows. rows ≡ map.entries) }
-    ensures refused { IfErr result (λ e. e ≡ TableError.Memory) }
-{
-    let mut rows = NameRows::new(alloc);
-    let mut group = None;
-    for ((marker, locale, key), name) in map {
-        enter_group(alloc, &mut rows, &mut group, &marker, &locale)?;
-        let Ok(()) = rows.put(alloc, marker, locale, key, name) else {
-            return Err(TableError::Memory);
-        };
-    }
-    note_group(alloc, &mut rows, group)?;
-    Ok(rows)
 }
 
 // Goes on to the group of a marker and a locale, and notes the one before, where that is another.
 fn enter_group(
     alloc: Global,
-    rows: &mut NameRows,
+    names: &mut NameRows,
     group: &mut Option<(NameMarker, DataLocale)>,
     marker: &NameMarker,
     locale: &DataLocale,
-) -> Result<(), TableError>
-    ensures names { rows.new ≡ rows.old }
-    ensures refused { IfErr result (λ e. e ≡ TableError.Memory) }
+) -> Result<(), AllocError>
+    ensures { names.new ≡ names.old }
 {
     if is_group(group, marker, locale) {
         return Ok(());
     }
-    note_group(alloc, rows, *group)?;
+    note_group(alloc, names, *group)?;
     *group = Some((*marker, *locale));
     Ok(())
 }
@@ -104,18 +74,17 @@ fn is_group(
 // Notes where the names of a group are, once they are all there.
 fn note_group(
     alloc: Global,
-    rows: &mut NameRows,
+    names: &mut NameRows,
     group: Option<(NameMarker, DataLocale)>,
-) -> Result<(), TableError>
-    ensures names { rows.new ≡ rows.old }
-    ensures refused { IfErr result (λ e. e ≡ TableError.Memory) }
+) -> Result<(), AllocError>
+    ensures { names.new ≡ names.old }
 {
     let Some((marker, locale)) = group else {
         return Ok(());
     };
-    match rows.note(alloc, marker, locale) {
+    match names.note(alloc, marker, locale) {
         Ok(()) => Ok(()),
-        Err(_) => Err(TableError::Memory),
+        Err(_) => Err(AllocError),
     }
 }
 

@@ -8,7 +8,7 @@ ghost use Rattle.icu_tables.specs.inner.Reads.{Reads};
 
 use crate::TableError;
 use crate::from_json::keys::RowKey;
-use crate::from_json::members::{NamesKeys, PutsRows, in_one_list, put_members};
+use crate::from_json::members::{AddsRows, NamesKeys, map_in};
 use crate::from_json::subtags::FromText;
 use crate::from_json::values::FromValue;
 use icu_locale_core::{Key, ParseError, Value};
@@ -17,7 +17,6 @@ use icu_provider::SortedMap;
 use serde_json::Value as Json;
 use std::alloc::{AllocError, Global};
 use std::cmp::Ord;
-use std::collections::BTreeMap;
 
 // A value that is read from a text in any case, or a subtag in written form. The pieces of a value may take memory.
 pub(crate) trait ReadsValue: Ord + Drop {
@@ -68,22 +67,22 @@ impl<T: FromText> ReadsValue for T {
     }
 }
 
-// Puts the value that is preferred to the one that a member is named by.
+// Adds the value that is preferred to the one that a member is named by.
 pub(crate) struct Preferred;
 
-impl<T: ReadsValue> PutsRows<T, T> for Preferred {
+impl<T: ReadsValue> AddsRows<T, T> for Preferred {
     ghost Seen = { T };
 
     ghost seen = { λ v. v };
 
     ghost says = { λ _. alias_row T.reads };
 
-    fn put(
+    fn add(
         &self,
         alloc: Global,
         name: &str,
         value: &Json,
-        map: &mut BTreeMap<T, T>,
+        rows: &mut Vec<(T, T)>,
     ) -> Result<(), TableError> {
         let Some(text) = value.as_str() else {
             return Err(TableError::Shape);
@@ -92,7 +91,7 @@ impl<T: ReadsValue> PutsRows<T, T> for Preferred {
             return Err(TableError::Shape);
         };
         if let Some(aliased) = T::read(alloc, name)? {
-            let _ = map.insert(aliased, preferred)?;
+            rows.push((aliased, preferred))?;
         }
         Ok(())
     }
@@ -103,9 +102,7 @@ fn aliases_in<T: ReadsValue>(alloc: Global, value: &Json) -> Result<SortedMap<T,
     ensures { Reads (seen_rows (λ v. v)) result
         (map_by T.cmp (alias_row T.reads) (view value.now)) }
 {
-    let mut rows = BTreeMap::new(alloc);
-    put_members(alloc, value, &Preferred, &mut rows)?;
-    Ok(in_one_list(alloc, rows)?)
+    map_in(alloc, value, &Preferred)
 }
 
 // The aliases of the values of a keyword.

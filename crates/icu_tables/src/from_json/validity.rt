@@ -6,7 +6,7 @@ ghost use Rattle.icu_tables.specs.inner.Further.{key_types_seen, validity_seen};
 
 use crate::TableError;
 use crate::from_json::marked::named_among;
-use crate::from_json::members::{PutsRows, RowByRow, put_rows};
+use crate::from_json::members::{AddsRows, RowByRow};
 use crate::from_json::objects::{MemberReader, only_members};
 use crate::from_json::preferred::{FieldKeys, KeywordKeys, ReadsValue};
 use crate::from_json::values::FromValue;
@@ -14,7 +14,6 @@ use icu_locale_validity::{CodeKind, KeyTypes, Status, Validity};
 use icu_provider::SortedMap;
 use serde_json::Value;
 use std::alloc::{AllocError, Global};
-use std::collections::BTreeMap;
 
 const STATUSES: [(&str, Status); 7] = [
     ("regular", Status::Regular),
@@ -101,11 +100,11 @@ impl FromValue for bool {
     }
 }
 
-// Puts the codes that a member lists, with the status that it is named by.
+// Adds the codes that a member lists, with the status that it is named by.
 #[derive(Clone, Copy)]
 pub(crate) struct Codes;
 
-impl<K: ReadsValue> PutsRows<K, Status> for Codes {
+impl<K: ReadsValue> AddsRows<K, Status> for Codes {
     ghost use Rattle.icu_locale_validity.specs.declared.table.Status.{Status};
     ghost use Rattle.icu_tables.specs.Validity.{codes_by_status};
 
@@ -115,12 +114,12 @@ impl<K: ReadsValue> PutsRows<K, Status> for Codes {
 
     ghost says = { λ _. codes_by_status K.reads };
 
-    fn put(
+    fn add(
         &self,
         alloc: Global,
         name: &str,
         value: &Value,
-        map: &mut BTreeMap<K, Status>,
+        rows: &mut Vec<(K, Status)>,
     ) -> Result<(), TableError> {
         let Some(status) = status_named(name) else {
             return Err(TableError::Shape);
@@ -128,9 +127,7 @@ impl<K: ReadsValue> PutsRows<K, Status> for Codes {
         let Some(text) = value.as_str() else {
             return Err(TableError::Shape);
         };
-        let mut rows = Vec::new(alloc);
-        add_listed(alloc, text, status, &mut rows)?;
-        put_rows(rows, map)?;
+        add_listed(alloc, text, status, rows)?;
         Ok(())
     }
 }

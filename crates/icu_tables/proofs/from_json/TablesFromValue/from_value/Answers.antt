@@ -12,6 +12,6 @@ returns c =
     and_fills (rw empty at c.fill-4.ensures)
     and_fills (rw empty at c.fill-5.ensures)
     and_fills c.fill_by.ensures
-    and_fills c.fill_names.ensures
     and_fills c.fill_by-2.ensures
-    and_fills c.fill_by-3.ensures) c.finish.ensures)
+    and_fills c.fill_by-3.ensures
+    and_fills c.fill_by-4.ensures) c.finish.ensures)

@@ -40,7 +40,7 @@ pub returns-in_err-names-in-None : goal.returns-in_err-names-in-None
 returns-in_err-names-in-None c =
     let none = name_missing _ (c.args.marker, c.args.locale) c.args.key c.self.invariant (sym c.in-None.ensures.value) in
     record {
-      holds = search rules;
+      rows = search rules;
       refuses = search rules;
       present = λ found. absurd (false≢true (subst IsSome none (rw (← c.self.view_is) at found)));
     }

@@ -1,4 +1,4 @@
-use Rattle.std.proofs.Common.{option_copied, sym, ap, ◌∙◌}
+use Rattle.std.proofs.Common.{sym, ◌∙◌}
 use Rattle.std.specs.Option.{option_or}
 use Rattle.icu_locale_core.specs.Maps.{value_at}
 use Rattle.icu_provider.specs.Requests.{name_cmp}

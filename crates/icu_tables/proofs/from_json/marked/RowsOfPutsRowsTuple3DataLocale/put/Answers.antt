@@ -1,5 +1,0 @@
-use Rattle.icu_tables.proofs.from_json.marked.RowsOfPutsRowsTuple3DataLocale.put.Goals as goal
-
--- the member's name is that of a locale, or of none
-pub returns : goal.returns
-returns g c = rw (← c.locale_named.ensures) c.put_members.ensures

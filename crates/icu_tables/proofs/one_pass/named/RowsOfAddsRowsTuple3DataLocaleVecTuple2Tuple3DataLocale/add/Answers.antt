@@ -1,5 +1,0 @@
-use Rattle.icu_tables.proofs.one_pass.named.RowsOfAddsRowsTuple3DataLocaleVecTuple2Tuple3DataLocale.add.Goals as goal
-
--- the member's name is that of a locale, or of none
-pub returns : goal.returns
-returns g c = rw (← c.locale_named.ensures) c.add_members.ensures
