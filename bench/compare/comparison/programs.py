@@ -113,6 +113,14 @@ def this_program():
     return Program("this program", [str(path)], COMMANDS, takes_tables=True)
 
 
+def the_stream():
+    """The program of streams of this repository: its path."""
+    path = Path(os.environ.get("STREAM", ROOT / "icu_locale_stream")).resolve()
+    if not path.exists():
+        raise Stop(f"missing: {path}, which `make` builds (or STREAM=PATH)")
+    return path
+
+
 def compiled(path, source, *words):
     """A program in C, built: its path."""
     subprocess.run(["cc", "-D_GNU_SOURCE", "-std=c11", "-O2", source, *words, "-o", path], check=True)

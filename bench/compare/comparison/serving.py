@@ -29,13 +29,19 @@ class Question:
 
 def questions(locales):
     """All that is measured."""
-    every = f"`en-AU` among all {len(locales.all)} locales of CLDR"
+    every = f"all {len(locales.all)} locales of CLDR"
     return [
         Question("one request among 36", "nearest", wishes.SITES, locales.requests),
         Question("one request among 1,000", "nearest", locales.many(1000), locales.requests),
-        Question(every, "nearest", locales.all, lambda count: ["en-AU"] * count),
         Question("a header of five ranges among 36", "serve", wishes.SITES, wishes.headers_of_five),
+        always("en-AQ", "36", wishes.SITES),
+        *(always(tag, every, locales.all) for tag in ("en-AU", "en-ZZ", "en-AQ")),
     ]
+
+
+def always(tag, among, available):
+    """One request, again and again."""
+    return Question(f"`{tag}` among {among}", "nearest", available, lambda count: [tag] * count)
 
 
 class Measured:
@@ -70,16 +76,36 @@ def ratio(here, there):
     return f"{middle:.1f}" if low == high else f"{middle:.1f} ({low:.1f} to {high:.1f})"
 
 
-def told(unit, here, there):
-    print(f"  {unit}: {median(here):,.0f} here, {median(there):,.0f} in ICU4C, which is {ratio(here, there)} times as much")
+def told(here, there):
+    return f"{median(here):,.0f} | {ratio(here, there)}"
 
 
 def report(asked, work, lines, rounds):
-    """Measures each question, and prints what a line costs."""
+    """The lines of a table: what a line of each question costs."""
+    yield "| question | here, nanoseconds | ICU4C's are so many times as much | here, instructions | ICU4C's, as before |"
+    yield "|---|---|---|---|---|"
     for question in questions(wishes.Locales(asked.matching())):
-        print(f"{question.title}:", flush=True)
         timed = Measured(asked, work, question, lines)
-        told("nanoseconds", *timed.a_line(cost_of, lambda cost: cost.seconds * 1e9, rounds))
+        cells = [question.title, told(*timed.a_line(cost_of, lambda cost: cost.seconds * 1e9, rounds))]
         if has_valgrind():
             counted = Measured(asked, work, question, lines // SHARE)
-            told("instructions", *counted.a_line(counts_of, lambda counts: counts.instructions, 1))
+            cells.append(told(*counted.a_line(counts_of, lambda counts: counts.instructions, 1)))
+        else:
+            cells.append("– | –")
+        yield f"| {' | '.join(cells)} |"
+
+
+def making(asked, work):
+    """The lines of a table: what it takes to make a list of what is available, beyond an empty one."""
+    locales = wishes.Locales(asked.matching())
+    lists = {"none": [], "36": wishes.SITES, f"all {len(locales.all)} locales of CLDR": locales.all,
+             **{f"{count:,} of one language": wishes.of_one_language(count) for count in (1000, 10_000)}}
+    yield "| a list of | millions of instructions beyond an empty list, with one request |"
+    yield "|---|---|"
+    counted = {}
+    for title, available in lists.items():
+        question = Question(title, "nearest", available, lambda count: ["en-AQ"] * count)
+        program, command, path = Measured(asked, work, question, 10).runs[1]
+        counted[title] = counts_of(program, command, path).instructions
+        if available:
+            yield f"| {title} | {(counted[title] - counted['none']) / 1e6:.2f} |"

@@ -47,6 +47,11 @@ def headers():
     return [header(pattern, own, sequence) for pattern in PATTERNS for own in READERS] + RARE
 
 
+def of_one_language(count):
+    """So many locales of one language, each with a variant of its own."""
+    return [f"en-v{number:04}" for number in range(count)]
+
+
 def headers_of_five(count):
     """Headers of five ranges."""
     sequence = random.Random(SEED)
