@@ -27,21 +27,50 @@ impl Call for Serve<'_> {
 
 // Making a list of what is available.
 #[derive(Drop)]
-struct Make<'d>(CanonicalizerRef<'d>, &'d LanguageMatching, &'d [&'d str]);
+struct Make<'d>(CanonicalizerRef<'d>, &'d LanguageMatching);
 
 impl Call for Make<'_> {
     fn answer(&self, alloc: Global) -> Answered {
-        let Some(available) = identifiers(alloc, self.2) else {
+        let Some(available) = identifiers(alloc, &["en-US", "en-GB", "de-1996"]) else {
             return Answered::Refused;
         };
         match ServedLocales::try_new(alloc, &self.0, self.1, available) {
             Ok(served) => {
-                if served.identifiers().len() == self.2.len() {
+                if served.identifiers().len() == 3 {
                     Answered::Whole
                 } else {
                     Answered::Wrong
                 }
             }
+            Err(_) => Answered::Refused,
+        }
+    }
+}
+
+// Identifiers of eight languages, each with a variant, so that no spelling and no form is noted.
+const EIGHT: [&str; 8] = [
+    "aa-fonipa",
+    "ab-fonipa",
+    "ae-fonipa",
+    "af-fonipa",
+    "ak-fonipa",
+    "am-fonipa",
+    "an-fonipa",
+    "ar-fonipa",
+];
+
+// Making a list of so many of these.
+#[derive(Drop)]
+struct MakeOf<'d>(CanonicalizerRef<'d>, &'d LanguageMatching, usize);
+
+impl Call for MakeOf<'_> {
+    fn answer(&self, alloc: Global) -> Answered {
+        let Some(mut available) = identifiers(alloc, &EIGHT) else {
+            return Answered::Refused;
+        };
+        available.truncate(self.2);
+        match ServedLocales::try_new(alloc, &self.0, self.1, available) {
+            Ok(_) => Answered::Whole,
             Err(_) => Answered::Refused,
         }
     }
@@ -79,44 +108,13 @@ impl Call for Resolve {
     }
 }
 
-// Identifiers of eight languages, each with a variant, so that no spelling and no form is noted.
-const EIGHT: [&str; 8] = [
-    "aa-fonipa",
-    "ab-fonipa",
-    "ae-fonipa",
-    "af-fonipa",
-    "ak-fonipa",
-    "am-fonipa",
-    "an-fonipa",
-    "ar-fonipa",
-];
-
-// Groups of eight languages are noted, and those of fewer are not: the eighth takes more memory than the seventh did.
-fn groups_are_noted(
-    rt: &impl Abort,
-    alloc: Global,
-    rules: CanonicalizerRef<'_>,
-    matching: &LanguageMatching,
-) {
-    let six = least_budget(alloc, &Make(rules, matching, &EIGHT[..6])).expect(rt, "memory");
-    let seven = least_budget(alloc, &Make(rules, matching, &EIGHT[..7])).expect(rt, "memory");
-    let eight = least_budget(alloc, &Make(rules, matching, &EIGHT)).expect(rt, "memory");
-    let more = eight.saturating_sub(seven);
-    assert!(rt; more >= seven.saturating_sub(six).saturating_add(128));
-}
-
 fn over_tables(rt: &impl Abort, alloc: Global, tables: &Tables) {
     let expander = LocaleExpander::try_new_common_unstable(tables).expect(rt, "tables");
     let aliases = tables.load_aliases().expect(rt, "aliases");
     let read = ReadRules::read(alloc, aliases).expect(rt, "tables");
     let rules = CanonicalizerRef::over(&read, aliases, expander);
     let matching = LanguageMatching::new(alloc, 80, 50, 4);
-    stands(
-        rt,
-        alloc,
-        &Make(rules, &matching, &["en-US", "en-GB", "de-1996"]),
-    );
-    groups_are_noted(rt, alloc, rules, &matching);
+    stands(rt, alloc, &Make(rules, &matching));
     let available = identifiers(alloc, &["en-US", "en-GB", "de"]).expect(rt, "identifiers");
     let served = ServedLocales::try_new(alloc, &rules, &matching, available);
     let served = served.expect(rt, "memory");
@@ -128,6 +126,27 @@ fn over_tables(rt: &impl Abort, alloc: Global, tables: &Tables) {
     let requests = identifiers(alloc, &["fr-1694acad", "de-CH-1996"]).expect(rt, "identifiers");
     let server = LocaleServer::over(rules, &matching, MatchLimits::default(), &served);
     asks_nothing(rt, alloc, &Nearest(server, &requests));
+}
+
+// Groups of eight languages are noted, and those of fewer are not: the eighth takes more memory than the seventh did.
+fn over_languages(rt: &impl Abort, alloc: Global, tables: &Tables) {
+    let expander = LocaleExpander::try_new_common_unstable(tables).expect(rt, "tables");
+    let aliases = tables.load_aliases().expect(rt, "aliases");
+    let read = ReadRules::read(alloc, aliases).expect(rt, "tables");
+    let rules = CanonicalizerRef::over(&read, aliases, expander);
+    let matching = LanguageMatching::new(alloc, 80, 50, 4);
+    let six = least_budget(alloc, &MakeOf(rules, &matching, 6)).expect(rt, "memory");
+    let seven = least_budget(alloc, &MakeOf(rules, &matching, 7)).expect(rt, "memory");
+    let eight = least_budget(alloc, &MakeOf(rules, &matching, 8)).expect(rt, "memory");
+    let more = eight.saturating_sub(seven);
+    assert!(rt; more >= seven.saturating_sub(six).saturating_add(128));
+}
+
+#[test]
+fn groups_are_noted(rt: HostRuntime) {
+    let alloc = rt.alloc();
+    let tables = sample(alloc).expect(&rt, "sample");
+    over_languages(&rt, alloc, &tables);
 }
 
 #[test]
