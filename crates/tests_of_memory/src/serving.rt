@@ -108,13 +108,28 @@ impl Call for Resolve {
     }
 }
 
+// Groups of eight languages are noted, and those of fewer are not: the eighth takes more memory than the seventh did.
+fn lists_are_made<'d>(
+    rt: &impl Abort,
+    alloc: Global,
+    rules: CanonicalizerRef<'d>,
+    matching: &'d LanguageMatching,
+) {
+    stands(rt, alloc, &Make(rules, matching));
+    let six = least_budget(alloc, &MakeOf(rules, matching, 6)).expect(rt, "memory");
+    let seven = least_budget(alloc, &MakeOf(rules, matching, 7)).expect(rt, "memory");
+    let eight = least_budget(alloc, &MakeOf(rules, matching, 8)).expect(rt, "memory");
+    let more = eight.saturating_sub(seven);
+    assert!(rt; more >= seven.saturating_sub(six).saturating_add(128));
+}
+
 fn over_tables(rt: &impl Abort, alloc: Global, tables: &Tables) {
     let expander = LocaleExpander::try_new_common_unstable(tables).expect(rt, "tables");
     let aliases = tables.load_aliases().expect(rt, "aliases");
     let read = ReadRules::read(alloc, aliases).expect(rt, "tables");
     let rules = CanonicalizerRef::over(&read, aliases, expander);
     let matching = LanguageMatching::new(alloc, 80, 50, 4);
-    stands(rt, alloc, &Make(rules, &matching));
+    lists_are_made(rt, alloc, rules, &matching);
     let available = identifiers(alloc, &["en-US", "en-GB", "de"]).expect(rt, "identifiers");
     let served = ServedLocales::try_new(alloc, &rules, &matching, available);
     let served = served.expect(rt, "memory");
@@ -126,27 +141,6 @@ fn over_tables(rt: &impl Abort, alloc: Global, tables: &Tables) {
     let requests = identifiers(alloc, &["fr-1694acad", "de-CH-1996"]).expect(rt, "identifiers");
     let server = LocaleServer::over(rules, &matching, MatchLimits::default(), &served);
     asks_nothing(rt, alloc, &Nearest(server, &requests));
-}
-
-// Groups of eight languages are noted, and those of fewer are not: the eighth takes more memory than the seventh did.
-fn over_languages(rt: &impl Abort, alloc: Global, tables: &Tables) {
-    let expander = LocaleExpander::try_new_common_unstable(tables).expect(rt, "tables");
-    let aliases = tables.load_aliases().expect(rt, "aliases");
-    let read = ReadRules::read(alloc, aliases).expect(rt, "tables");
-    let rules = CanonicalizerRef::over(&read, aliases, expander);
-    let matching = LanguageMatching::new(alloc, 80, 50, 4);
-    let six = least_budget(alloc, &MakeOf(rules, &matching, 6)).expect(rt, "memory");
-    let seven = least_budget(alloc, &MakeOf(rules, &matching, 7)).expect(rt, "memory");
-    let eight = least_budget(alloc, &MakeOf(rules, &matching, 8)).expect(rt, "memory");
-    let more = eight.saturating_sub(seven);
-    assert!(rt; more >= seven.saturating_sub(six).saturating_add(128));
-}
-
-#[test]
-fn groups_are_noted(rt: HostRuntime) {
-    let alloc = rt.alloc();
-    let tables = sample(alloc).expect(&rt, "sample");
-    over_languages(&rt, alloc, &tables);
 }
 
 #[test]
