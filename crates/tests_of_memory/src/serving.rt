@@ -123,31 +123,50 @@ fn lists_are_made<'d>(
     assert!(rt; more >= seven.saturating_sub(six).saturating_add(128));
 }
 
-fn over_tables(rt: &impl Abort, alloc: Global, tables: &Tables) {
+fn lists_over(rt: &impl Abort, alloc: Global, tables: &Tables) {
     let expander = LocaleExpander::try_new_common_unstable(tables).expect(rt, "tables");
     let aliases = tables.load_aliases().expect(rt, "aliases");
     let read = ReadRules::read(alloc, aliases).expect(rt, "tables");
     let rules = CanonicalizerRef::over(&read, aliases, expander);
     let matching = LanguageMatching::new(alloc, 80, 50, 4);
     lists_are_made(rt, alloc, rules, &matching);
+}
+
+// What is served of three locales, and the nearest to requests, which asks for memory or does not.
+fn over_tables(rt: &impl Abort, alloc: Global, tables: &Tables, texts: &[&str], is_free: bool) {
+    let expander = LocaleExpander::try_new_common_unstable(tables).expect(rt, "tables");
+    let aliases = tables.load_aliases().expect(rt, "aliases");
+    let read = ReadRules::read(alloc, aliases).expect(rt, "tables");
+    let rules = CanonicalizerRef::over(&read, aliases, expander);
+    let matching = LanguageMatching::new(alloc, 80, 50, 4);
     let available = identifiers(alloc, &["en-US", "en-GB", "de"]).expect(rt, "identifiers");
     let served = ServedLocales::try_new(alloc, &rules, &matching, available);
     let served = served.expect(rt, "memory");
     let server = LocaleServer::over(rules, &matching, MatchLimits::default(), &served);
     stands(rt, alloc, &Serve(server));
-    let requests = identifiers(alloc, &["fr-polytoni", "de-CH-1996"]).expect(rt, "identifiers");
+    let requests = identifiers(alloc, texts).expect(rt, "identifiers");
     let server = LocaleServer::over(rules, &matching, MatchLimits::default(), &served);
-    stands(rt, alloc, &Nearest(server, &requests));
-    let requests = identifiers(alloc, &["fr-1694acad", "de-CH-1996"]).expect(rt, "identifiers");
-    let server = LocaleServer::over(rules, &matching, MatchLimits::default(), &served);
-    asks_nothing(rt, alloc, &Nearest(server, &requests));
+    let nearest = Nearest(server, &requests);
+    if is_free {
+        asks_nothing(rt, alloc, &nearest);
+    } else {
+        stands(rt, alloc, &nearest);
+    }
+}
+
+#[test]
+fn listed_without_memory(rt: HostRuntime) {
+    let alloc = rt.alloc();
+    let tables = sample(alloc).expect(&rt, "sample");
+    lists_over(&rt, alloc, &tables);
 }
 
 #[test]
 fn served_without_memory(rt: HostRuntime) {
     let alloc = rt.alloc();
     let tables = sample(alloc).expect(&rt, "sample");
-    over_tables(&rt, alloc, &tables);
+    over_tables(&rt, alloc, &tables, &["fr-polytoni", "de-CH-1996"], false);
+    over_tables(&rt, alloc, &tables, &["fr-1694acad", "de-CH-1996"], true);
 }
 
 #[test]
